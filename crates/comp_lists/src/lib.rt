@@ -1,0 +1,21 @@
+//! Owned lists and texts that contracts see as lists, and nothing else of the memory behind them.
+//!
+//! Every crate of this repository stands on this one. A struct or an enum whose fields are [`Seq`],
+//! [`Text`] and [`Bytes`] is itself the value that definitions speak of: equality of values is
+//! equality of lists, and no second copy of a type stands in `specs/`.
+//!
+//! In reading order: `try_clone` (copies that may lack memory), `seq` (lists), `text` (texts).
+//! `specs/Found.antt` has look-ups by name in a list of pairs; `proofs/` has the lemmas on lists that
+//! the standard library lacks, for every crate above.
+#![tactic(auto)]
+
+mod seq;
+mod text;
+mod try_clone;
+
+pub use seq::{Bytes, Seq};
+pub use text::Text;
+pub use try_clone::TryClone;
+
+#[cfg(test)]
+mod tests;

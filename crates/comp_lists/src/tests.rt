@@ -1,0 +1,51 @@
+//! What no clause says: the printed form of a text, and that each call succeeds.
+
+use crate::seq::Seq;
+use crate::text::Text;
+use crate::try_clone::TryClone;
+use std::alloc::{AllocError, Global};
+use std::collections::HashMap;
+
+#[test]
+fn a_text_is_displayed_in_quotes(rt: HostRuntime) {
+    let text = Text::from_str(rt.alloc(), "a\"b\\c\n\u{7f}é").expect(&rt, "memory");
+    let shown = format!(in rt.alloc(); "{text}").expect(&rt, "memory");
+    assert_eq!(rt; shown.as_str(), "\"a\\\"b\\\\c\\0a\\7fé\"");
+}
+
+#[test]
+fn a_list_grows_at_its_end(rt: HostRuntime) {
+    let alloc = rt.alloc();
+    let mut list: Seq<u32> = Seq::new(alloc);
+    assert!(rt; list.is_empty());
+    list.push(7).expect(&rt, "memory");
+    let mut more: Seq<u32> = Seq::new(alloc);
+    more.push(8).expect(&rt, "memory");
+    list.append(more).expect(&rt, "memory");
+    let copy = list.clone(alloc).expect(&rt, "memory");
+    assert!(rt; copy == list);
+    assert_eq!(rt; list.len(), 2);
+    let items = list.into_vec();
+    assert_eq!(rt; items.as_slice(), [7, 8].as_slice());
+    assert_eq!(rt; Seq::from_vec(items).as_slice(), [7, 8].as_slice());
+}
+
+/// What a map finds at an equal text.
+fn found_by_copy(alloc: Global, name: Text) -> Result<Option<u32>, AllocError> {
+    let mut places: HashMap<Text, u32> = HashMap::new(alloc);
+    let copy = Some(name.clone(alloc)?).try_clone(alloc)?;
+    places.insert(name, 3)?;
+    match copy {
+        Some(text) => Ok(places.get(&text).map(|place| *place)),
+        None => Ok(None),
+    }
+}
+
+#[test]
+fn texts_are_keys(rt: HostRuntime) {
+    let alloc = rt.alloc();
+    let name = Text::from_string(String::from_str(alloc, "f").expect(&rt, "memory"));
+    assert!(rt; name.is("f") && !name.is("g") && name.len() == 1 && !name.is_empty());
+    assert_eq!(rt; found_by_copy(alloc, name).expect(&rt, "memory"), Some(3));
+    assert!(rt; Text::new(alloc).into_string().is_empty());
+}
