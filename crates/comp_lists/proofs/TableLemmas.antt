@@ -1,5 +1,5 @@
 -- Tables as lists of their entries: what adding an entry gives.
-use Rattle.std.proofs.Common.{◌≡◌, ℕ, Bool, true, false, List, [], ◌∷◌, ◌++◌, Option, None, Some, cond, if◌then◌else◌, refl, sym, ap, subst, ◌∙◌, true≢false, is_some}
+use Rattle.std.proofs.Common.{◌≡◌, Bool, true, false, List, [], ◌∷◌, ◌++◌, None, Some, cond, if◌then◌else◌, refl, sym, ap, subst, ◌∙◌, true≢false, is_some}
 use Rattle.std.specs.Cmp.{IsEquivalence}
 use Rattle.std.specs.List.{IsDistinct, AllByRecursion}
 use Rattle.std.specs.Map.{lookup, keys_of}
@@ -27,8 +27,8 @@ module _ {K X : Type 0} (eq : K → K → Bool) where
   absent_before : IsEquivalence eq → (done : List (K × X)) (e : K × X) (rest : List (K × X)) → IsDistinct eq (keys_of (done ++ e ∷ rest)) → lookup (eq e.0) done ≡ None
   absent_before laws [] e rest d = refl
   absent_before laws (x ∷ done) e rest d =
-    ap (λ b. cond b (Some x.1) (lookup (eq e.0) done)) (laws.symm e.0 x.0 ∙ at_entry (λ y. eq x.0 y ≡ false) done e rest (IsDistinct-head eq x.0 (keys_of (done ++ e ∷ rest)) d))
-    ∙ absent_before laws done e rest (IsDistinct-tail eq x.0 (keys_of (done ++ e ∷ rest)) d)
+      ap (λ b. cond b (Some x.1) (lookup (eq e.0) done)) (laws.symm e.0 x.0 ∙ at_entry (λ y. eq x.0 y ≡ false) done e rest (IsDistinct-head eq x.0 (keys_of (done ++ e ∷ rest)) d))
+      ∙ absent_before laws done e rest (IsDistinct-tail eq x.0 (keys_of (done ++ e ∷ rest)) d)
 
   pub absent : IsEquivalence eq → (done rest table : List (K × X)) (k : K) (v : X) → done ++ (k, v) ∷ rest ≡ table → IsDistinct eq (keys_of table) → lookup (eq k) done ≡ None
   absent laws done rest table k v is d = absent_before laws done (k, v) rest (subst (λ t. IsDistinct eq (keys_of t)) (sym is) d)
