@@ -3,6 +3,8 @@ use Rattle.std.specs.Prelude.{ℕ, ◌≡◌, List, [], ◌∷◌, map, Bool, tr
 use Rattle.comp_bytes.specs.Spelling.{Spelling, Fits, ◌⊕◌, raw, octet, number, signed_leb, each, listed, named, optional, Entry, component}
 use Rattle.comp_bytes.specs.declared.space.ExportKind.{ExportKind}
 use Rattle.comp_bytes.specs.declared.space.ExportKind.TheVariants as kinds
+use Rattle.comp_bytes.specs.declared.space.ComponentExportKind.{ComponentExportKind}
+use Rattle.comp_bytes.specs.declared.space.ComponentExportKind.TheVariants as exports
 use Rattle.comp_bytes.specs.declared.space.Sort.{Sort}
 use Rattle.comp_bytes.specs.declared.space.Sort.TheVariants as sorts
 use Rattle.comp_bytes.specs.declared.types.Primitive.{Primitive}
@@ -43,6 +45,12 @@ kind_byte kinds.Func = 0x00
 kind_byte kinds.Table = 0x01
 kind_byte kinds.Memory = 0x02
 kind_byte kinds.Global = 0x03
+
+abbrev pub export_byte : ComponentExportKind → ℕ
+export_byte exports.Func = 0x01
+export_byte exports.Type = 0x03
+export_byte exports.Component = 0x04
+export_byte exports.Instance = 0x05
 
 abbrev pub sort_bytes : Sort → Spelling
 sort_bytes (sorts.Core kind) = octet 0x00 ⊕ octet (kind_byte kind)
@@ -118,7 +126,7 @@ description_bytes descriptions.SubResource = octet 0x03 ⊕ octet 0x01
 description_bytes (descriptions.Instance index) = octet 0x05 ⊕ number index
 
 abbrev pub alias_bytes : Alias → Spelling
-alias_bytes (aliases.Export sort instance name) = sort_bytes sort ⊕ octet 0x00 ⊕ number instance ⊕ named name
+alias_bytes (aliases.Export kind instance name) = octet (export_byte kind) ⊕ octet 0x00 ⊕ number instance ⊕ named name
 alias_bytes (aliases.CoreExport kind instance name) = octet 0x00 ⊕ octet (kind_byte kind) ⊕ octet 0x01 ⊕ number instance ⊕ named name
 alias_bytes (aliases.Outer count index) = octet 0x03 ⊕ octet 0x02 ⊕ number count ⊕ number index
 
@@ -198,7 +206,7 @@ entry id text = record { id = id; text = text }
 abbrev pub item : Item → Entry
 item (items.CoreModule bytes) = entry 1 (raw bytes)
 item (items.CoreInstantiate made args) = entry 2 (octet 0x00 ⊕ number made ⊕ listed core_arg args)
-item (items.CoreExports exports) = entry 2 (octet 0x01 ⊕ listed core_export_item exports)
+item (items.CoreExports entries) = entry 2 (octet 0x01 ⊕ listed core_export_item entries)
 item (items.Instantiate made args) = entry 5 (octet 0x00 ⊕ number made ⊕ listed arg args)
 item (items.Alias a) = entry 6 (alias_bytes a)
 item (items.Type t) = entry 7 (type_def t)

@@ -2,6 +2,8 @@
 use Rattle.std.specs.Prelude.{ℕ, ◌==◌, Bool, true, false, List, [], ◌∷◌, Option, Some, None, count_by}
 use Rattle.comp_bytes.specs.declared.space.ExportKind.{ExportKind}
 use Rattle.comp_bytes.specs.declared.space.ExportKind.TheVariants as kinds
+use Rattle.comp_bytes.specs.declared.space.ComponentExportKind.{ComponentExportKind}
+use Rattle.comp_bytes.specs.declared.space.ComponentExportKind.TheVariants as exports
 use Rattle.comp_bytes.specs.declared.space.Sort.{Sort}
 use Rattle.comp_bytes.specs.declared.space.Sort.TheVariants as sorts
 use Rattle.comp_bytes.specs.declared.types.Description.{Description}
@@ -21,6 +23,12 @@ kind_space kinds.Table = spaces.CoreTable
 kind_space kinds.Memory = spaces.CoreMemory
 kind_space kinds.Global = spaces.CoreGlobal
 
+abbrev pub export_space : ComponentExportKind → Space
+export_space exports.Func = spaces.Func
+export_space exports.Type = spaces.Type
+export_space exports.Component = spaces.Component
+export_space exports.Instance = spaces.Instance
+
 abbrev pub sort_space : Sort → Space
 sort_space (sorts.Core kind) = kind_space kind
 sort_space sorts.Func = spaces.Func
@@ -35,7 +43,7 @@ description_space descriptions.SubResource = spaces.Type
 description_space (descriptions.Instance index) = spaces.Instance
 
 abbrev pub alias_space : Alias → Space
-alias_space (aliases.Export sort instance name) = sort_space sort
+alias_space (aliases.Export kind instance name) = export_space kind
 alias_space (aliases.CoreExport kind instance name) = kind_space kind
 alias_space (aliases.Outer count index) = spaces.Type
 
@@ -43,7 +51,7 @@ alias_space (aliases.Outer count index) = spaces.Type
 abbrev pub item_space : Item → Option Space
 item_space (items.CoreModule bytes) = Some spaces.CoreModule
 item_space (items.CoreInstantiate made args) = Some spaces.CoreInstance
-item_space (items.CoreExports exports) = Some spaces.CoreInstance
+item_space (items.CoreExports entries) = Some spaces.CoreInstance
 item_space (items.Instantiate made args) = Some spaces.Instance
 item_space (items.Alias a) = Some (alias_space a)
 item_space (items.Type t) = Some spaces.Type

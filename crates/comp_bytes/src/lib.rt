@@ -38,7 +38,7 @@ pub use def::{Argument, CoreArgument, CoreInlineExport, Def, Defs, Item};
 pub use fault::{BuildFault, Excess, count_of};
 pub use laws::{one_name, one_number};
 pub use name::Name;
-pub use space::{ExportKind, Sort, Space};
+pub use space::{ComponentExportKind, ExportKind, Sort, Space};
 pub use types::{
     Alias, Case, ComponentValType, DefinedType, Description, ExternName, Field, FuncTypeDef,
     InstanceType, Member, Primitive, TypeDef,

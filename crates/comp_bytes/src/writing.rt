@@ -4,13 +4,13 @@
 ghost use Rattle.std.specs.Prelude.{◌≡◌, ◌++◌, List, ℕ, OnOk, if◌then◌else◌};
 ghost use Rattle.comp_bytes.specs.Spelling.{leb, signed_leb, raw, octet, number, quantity, each, listed, named, optional, Spelling, Fits, ◌⊕◌};
 ghost use Rattle.comp_bytes.specs.Written.{Writes};
-ghost use Rattle.comp_bytes.specs.Grammar.{kind_byte, sort_bytes, primitive_byte, value_type, field, case_of, defined_type, function_result, function_type, resource_type, type_def, extern_name, description_bytes, alias_bytes, member, instance_type, option_bytes, intrinsic_bytes, flag, context_byte, core_arg, core_export_item, arg};
+ghost use Rattle.comp_bytes.specs.Grammar.{kind_byte, export_byte, sort_bytes, primitive_byte, value_type, field, case_of, defined_type, function_result, function_type, resource_type, type_def, extern_name, description_bytes, alias_bytes, member, instance_type, option_bytes, intrinsic_bytes, flag, context_byte, core_arg, core_export_item, arg};
 
 use crate::canon::{CanonicalOption, ContextType, Intrinsic};
 use crate::def::{Argument, CoreArgument, CoreInlineExport};
 use crate::fault::BuildFault;
 use crate::number::{Spell, put_bytes, put_index, put_name, put_tagged, put_type_index};
-use crate::space::{ExportKind, Sort};
+use crate::space::{ComponentExportKind, ExportKind, Sort};
 use crate::types::{
     Alias, Case, ComponentValType, DefinedType, Description, ExternName, Field, FuncTypeDef,
     InstanceType, Member, Primitive, TypeDef,
@@ -25,6 +25,17 @@ fn byte_of_kind(kind: ExportKind) -> u8
         ExportKind::Table => 0x01,
         ExportKind::Memory => 0x02,
         ExportKind::Global => 0x03,
+    }
+}
+
+fn byte_of_export(kind: ComponentExportKind) -> u8
+    ensures { result ≡ export_byte kind }
+{
+    match kind {
+        ComponentExportKind::Func => 0x01,
+        ComponentExportKind::Type => 0x03,
+        ComponentExportKind::Component => 0x04,
+        ComponentExportKind::Instance => 0x05,
     }
 }
 
@@ -236,12 +247,11 @@ impl Spell for Alias {
     fn put(&self, out: &mut Vec<u8>) -> Result<(), BuildFault> {
         match self {
             Alias::Export {
-                sort,
+                kind,
                 instance,
                 name,
             } => {
-                sort.put(out)?;
-                put_bytes(out, &[0x00])?;
+                put_bytes(out, &[byte_of_export(*kind), 0x00])?;
                 put_index(out, *instance)?;
                 name.put(out)?;
             }
