@@ -4,3 +4,4 @@ pub mod Runs
 pub mod Labels
 pub mod Unique
 pub mod Places
+pub mod Worked

@@ -8,3 +8,6 @@ pub mod Names
 pub mod Laws
 pub mod Core
 pub mod Places
+pub mod References
+pub mod Scopes
+pub mod ScopeNames

@@ -10,6 +10,8 @@ use Rattle.comp_bytes.specs.declared.types.Description.{Description}
 use Rattle.comp_bytes.specs.declared.types.Description.TheVariants as descriptions
 use Rattle.comp_bytes.specs.declared.types.Alias.{Alias}
 use Rattle.comp_bytes.specs.declared.types.Alias.TheVariants as aliases
+use Rattle.comp_bytes.specs.declared.types.Member.{Member}
+use Rattle.comp_bytes.specs.declared.types.Member.TheVariants as members
 use Rattle.comp_bytes.specs.declared.def.Item.{Item}
 use Rattle.comp_bytes.specs.declared.def.Item.TheVariants as items
 use Rattle.comp_bytes.specs.declared.def.Def.{Def}
@@ -47,7 +49,13 @@ alias_space (aliases.Export kind instance name) = export_space kind
 alias_space (aliases.CoreExport kind instance name) = kind_space kind
 alias_space (aliases.Outer count index) = spaces.Type
 
--- the space in which a definition makes an item
+-- the space in which a member of an instance type makes an item, in the scope of that type
+abbrev pub member_space : Member → Option Space
+member_space (members.Type t) = Some spaces.Type
+member_space (members.Alias a) = Some (alias_space a)
+member_space (members.Export name description) = Some (description_space description)
+
+-- the space in which an item is made; a custom section makes none
 abbrev pub item_space : Item → Option Space
 item_space (items.CoreModule bytes) = Some spaces.CoreModule
 item_space (items.CoreInstantiate made args) = Some spaces.CoreInstance
@@ -63,6 +71,7 @@ item_space (items.Import name description) = Some (description_space description
 item_space (items.Export name sort index description) = Some (sort_space sort)
 item_space (items.Custom name contents) = None
 
+-- the space in which a definition makes an item
 abbrev pub space_of : Def → Option Space
 space_of (defs.Item i) = item_space i
 space_of (defs.Component inner) = Some spaces.Component
