@@ -5,3 +5,4 @@ pub mod Labels
 pub mod Unique
 pub mod Places
 pub mod Worked
+pub mod Scopes

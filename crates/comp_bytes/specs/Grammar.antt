@@ -1,6 +1,7 @@
 -- Each definition as bytes.
 use Rattle.std.specs.Prelude.{ℕ, ◌≡◌, List, [], ◌∷◌, map, Bool, true, false, Option, Some, None, if◌then◌else◌}
-use Rattle.comp_bytes.specs.Spelling.{Spelling, Fits, ◌⊕◌, raw, octet, number, signed_leb, each, listed, named, optional, Entry, component}
+use Rattle.comp_bytes.specs.Spelling.{Spelling, Fits, ◌⊕◌, raw, octet, number, signed_leb, each, listed, named, optional}
+use Rattle.comp_bytes.specs.Sections.{Entry, component}
 use Rattle.comp_bytes.specs.declared.space.ExportKind.{ExportKind}
 use Rattle.comp_bytes.specs.declared.space.ExportKind.TheVariants as kinds
 use Rattle.comp_bytes.specs.declared.space.ComponentExportKind.{ComponentExportKind}

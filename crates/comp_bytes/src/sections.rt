@@ -2,7 +2,8 @@
 #![tactic(auto, using(crate::proofs::Pieces::writing))]
 
 ghost use Rattle.std.specs.Prelude.{◌≡◌, ◌++◌, ◌<◌, ◌≤◌, ◌∷◌, List, ℕ, Bool, OnOk, length, take, drop, map, if◌then◌else◌};
-ghost use Rattle.comp_bytes.specs.Spelling.{leb, raw, octet, number, quantity, each, listed, named, optional, sized, Spelling, Fits, ◌⊕◌, Entry, shares, contents, section, sections, section_of, component};
+ghost use Rattle.comp_bytes.specs.Spelling.{leb, raw, octet, number, quantity, each, listed, named, optional, sized, Spelling, Fits, ◌⊕◌};
+ghost use Rattle.comp_bytes.specs.Sections.{Entry, shares, contents, section, sections, component, section_of};
 ghost use Rattle.comp_bytes.specs.Written.{Writes};
 ghost use Rattle.comp_bytes.specs.Grammar.{item, definition, core_arg, core_export_item, arg, alias_bytes, option_bytes, extern_name, sort_bytes, description_bytes};
 
