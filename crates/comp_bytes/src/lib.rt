@@ -45,4 +45,6 @@ pub use types::{
 };
 
 #[cfg(test)]
+mod every_kind;
+#[cfg(test)]
 mod tests;
