@@ -1,4 +1,5 @@
 -- Index spaces, and which definition makes an item of which.
+-- Component model, binary format: index spaces.
 use Rattle.std.specs.Prelude.{ℕ, ◌==◌, Bool, true, false, List, [], ◌∷◌, Option, Some, None, count_by}
 use Rattle.comp_bytes.specs.declared.space.ExportKind.{ExportKind}
 use Rattle.comp_bytes.specs.declared.space.ExportKind.TheVariants as kinds
@@ -19,12 +20,14 @@ use Rattle.comp_bytes.specs.declared.def.Def.TheVariants as defs
 use Rattle.comp_bytes.specs.declared.space.Space.{Space}
 use Rattle.comp_bytes.specs.declared.space.Space.TheVariants as spaces
 
+-- the space of a kind of core item
 abbrev pub kind_space : ExportKind → Space
 kind_space kinds.Func = spaces.CoreFunc
 kind_space kinds.Table = spaces.CoreTable
 kind_space kinds.Memory = spaces.CoreMemory
 kind_space kinds.Global = spaces.CoreGlobal
 
+-- the space of a kind of item that an instance exports
 abbrev pub export_space : ComponentExportKind → Space
 export_space exports.Func = spaces.Func
 export_space exports.Type = spaces.Type
@@ -38,6 +41,7 @@ sort_space sorts.Type = spaces.Type
 sort_space sorts.Component = spaces.Component
 sort_space sorts.Instance = spaces.Instance
 
+-- the space of what an import or an export is said to be
 abbrev pub description_space : Description → Space
 description_space (descriptions.Func index) = spaces.Func
 description_space (descriptions.TypeEqual index) = spaces.Type
@@ -76,6 +80,7 @@ abbrev pub space_of : Def → Option Space
 space_of (defs.Item i) = item_space i
 space_of (defs.Component inner) = Some spaces.Component
 
+-- the place of a space in the order of the bytes of their sorts
 abbrev pub place : Space → ℕ
 place spaces.CoreFunc = 0
 place spaces.CoreTable = 1
@@ -88,6 +93,7 @@ place spaces.Type = 7
 place spaces.Component = 8
 place spaces.Instance = 9
 
+-- whether an item is made in this space
 abbrev pub is_space : Space → Option Space → Bool
 is_space s None = false
 is_space s (Some t) = place t == place s

@@ -4,7 +4,7 @@
 ghost use Rattle.std.specs.Prelude.{◌≡◌, ◌++◌, List, ℕ, OnOk, if◌then◌else◌};
 ghost use Rattle.comp_bytes.specs.Spelling.{signed_leb, raw, octet, number, quantity, each, listed, named, optional, Spelling, Fits, ◌⊕◌};
 ghost use Rattle.comp_bytes.specs.Written.{Writes};
-ghost use Rattle.comp_bytes.specs.Grammar.{kind_byte, export_byte, sort_bytes, primitive_byte, value_type, field, case_of, defined_type, function_result, function_type, resource_type, type_def, extern_name, description_bytes, alias_bytes, member, instance_type, option_bytes, intrinsic_bytes, flag, context_byte, core_arg, core_export_item, arg};
+ghost use Rattle.comp_bytes.specs.Grammar.{kind_byte, export_byte, sort_bytes, primitive_byte, value_type, field, case_of, defined_type, function_result, function_type, resource_type, type_def, extern_name, description_bytes, alias_bytes, member, instance_type, option_bytes, intrinsic_bytes, flag, context_byte, core_argument, core_inline_export, argument};
 
 use crate::canon::{CanonicalOption, ContextType, Intrinsic};
 use crate::def::{Argument, CoreArgument, CoreInlineExport};
@@ -422,7 +422,7 @@ impl Spell for Intrinsic {
 }
 
 impl Spell for CoreArgument {
-    ghost spelling = { core_arg };
+    ghost spelling = { core_argument };
 
     fn put(&self, out: &mut Vec<u8>) -> Result<(), BuildFault> {
         self.name.put(out)?;
@@ -433,7 +433,7 @@ impl Spell for CoreArgument {
 }
 
 impl Spell for CoreInlineExport {
-    ghost spelling = { core_export_item };
+    ghost spelling = { core_inline_export };
 
     fn put(&self, out: &mut Vec<u8>) -> Result<(), BuildFault> {
         self.name.put(out)?;
@@ -444,7 +444,7 @@ impl Spell for CoreInlineExport {
 }
 
 impl Spell for Argument {
-    ghost spelling = { arg };
+    ghost spelling = { argument };
 
     fn put(&self, out: &mut Vec<u8>) -> Result<(), BuildFault> {
         self.name.put(out)?;
