@@ -1,11 +1,10 @@
 -- Where an appended definition stands, and that appending moves no item.
-use Rattle.std.proofs.Common.{◌≡◌, sym, subst, ℕ, zero, suc, ◌<◌, ◌+◌, Bool, true, false, List, [], ◌∷◌, ◌++◌, length, refl, Option, Some, None, Result, Ok, Err, cond, filter, arith, count_by}
+use Rattle.std.proofs.Common.{◌≡◌, sym, subst, ℕ, zero, suc, ◌<◌, true, List, [], ◌∷◌, ◌++◌, length, refl, Option, Some, Result, Ok, Err, arith}
 use Rattle.std.proofs.lemmas.List.Elements.{filter-append}
 use Rattle.std.proofs.lemmas.List.Sums.{length-filter}
 use Rattle.std.specs.List.{slice_get}
-use Rattle.std.specs.Prelude.{◌==◌, IfOk}
 use Rattle.comp_lists.proofs.Lists.{slice_get-append, slice_get-end}
-use Rattle.comp_bytes.specs.Spaces.{place, is_space, space_of, items_in}
+use Rattle.comp_bytes.specs.Spaces.{is_space, space_of, items_in}
 use Rattle.comp_bytes.specs.Places.{in_space, IsAt}
 use Rattle.comp_bytes.specs.Built.{Built, Adds}
 use Rattle.comp_bytes.specs.declared.def.Def.{Def}

@@ -1,5 +1,5 @@
 -- Scopes of a list that grows at its end.
-use Rattle.std.proofs.Common.{◌≡◌, ℕ, ◌<◌, ◌==◌, length, List, [], ◌∷◌, ◌++◌, refl, subst, sym, append_assoc, append-nil, Option, Some, Bool, true, false}
+use Rattle.std.proofs.Common.{ℕ, ◌==◌, length, List, [], ◌∷◌, ◌++◌, subst, sym, append_assoc, append-nil, Option, Bool, true, false}
 use Rattle.std.specs.Prelude.{if◌then◌else◌}
 use Rattle.comp_bytes.specs.Spaces.{space_of}
 use Rattle.comp_bytes.specs.Scopes.{Scope, scope_of, EachIn, DefScoped, Scoped, InScope}

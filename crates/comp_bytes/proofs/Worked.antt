@@ -1,8 +1,8 @@
 -- Worked examples: a component that imports a function and exports another, through a core module.
-use Rattle.std.proofs.Common.{◌≡◌, ℕ, zero, suc, ◌<◌, List, [], ◌∷◌, ◌++◌, refl, Option, Some, None, Bool, true, false, map, arith}
+use Rattle.std.proofs.Common.{◌≡◌, ℕ, List, [], ◌∷◌, refl, None, false, map, arith}
 use Rattle.comp_bytes.specs.Spelling.{leb128}
 use Rattle.comp_bytes.specs.Grammar.{spelling_of}
-use Rattle.comp_bytes.specs.References.{Reference, own, references}
+use Rattle.comp_bytes.specs.References.{own, references}
 use Rattle.comp_bytes.specs.Scopes.{Scoped}
 use Rattle.comp_bytes.specs.ScopeNames.{names}
 use Rattle.comp_bytes.specs.declared.space.ExportKind.TheVariants as kinds

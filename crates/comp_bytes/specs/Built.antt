@@ -1,7 +1,7 @@
 -- What a builder of a component holds, and what its calls answer: definitions count their items up in each index
 -- space. Component model, binary format: index spaces.
-use Rattle.std.specs.Prelude.{ℕ, ◌≡◌, ◌+◌, ◌≤◌, ◌^◌, List, [], ◌∷◌, ◌++◌, Option, Some, None, Result, Ok, Err, get_or, map}
-use Rattle.comp_bytes.specs.Spaces.{place, items_in, space_of}
+use Rattle.std.specs.Prelude.{ℕ, ◌≡◌, ◌+◌, ◌≤◌, ◌^◌, List, [], ◌∷◌, ◌++◌, Option, Some, None, Result, Ok, Err, get_or}
+use Rattle.comp_bytes.specs.Spaces.{place, items_in}
 use Rattle.comp_bytes.specs.declared.def.Def.{Def}
 use Rattle.comp_bytes.specs.declared.name.Name.{Name}
 use Rattle.comp_bytes.specs.declared.space.Space.{Space}

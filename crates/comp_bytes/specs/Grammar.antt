@@ -2,8 +2,8 @@
 -- Component model, binary format; the names beside the definitions are those of its grammar. Where it isn't settled,
 -- these are this project's own: the version suffix of a name, `43` for an async function, the type of a context
 -- slot, and the `00` of the two waits.
-use Rattle.std.specs.Prelude.{ℕ, ◌≡◌, List, [], ◌∷◌, map, Bool, true, false, Option, Some, None, if◌then◌else◌}
-use Rattle.comp_bytes.specs.Spelling.{Spelling, Fits, ◌⊕◌, raw, octet, number, signed_leb, each, listed, named, optional}
+use Rattle.std.specs.Prelude.{ℕ, ◌≡◌, List, map, Bool, Option, Some, None, if◌then◌else◌}
+use Rattle.comp_bytes.specs.Spelling.{Spelling, Fits, ◌⊕◌, raw, octet, number, signed_leb, listed, named, optional}
 use Rattle.comp_bytes.specs.Sections.{Entry, component}
 use Rattle.comp_bytes.specs.declared.space.ExportKind.{ExportKind}
 use Rattle.comp_bytes.specs.declared.space.ExportKind.TheVariants as kinds

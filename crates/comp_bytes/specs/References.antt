@@ -8,10 +8,8 @@ use Rattle.comp_bytes.specs.declared.space.Space.TheVariants as spaces
 use Rattle.comp_bytes.specs.declared.types.ComponentValType.{ComponentValType}
 use Rattle.comp_bytes.specs.declared.types.ComponentValType.TheVariants as values
 use Rattle.comp_bytes.specs.declared.types.Field.{Field}
-use Rattle.comp_bytes.specs.declared.types.Case.{Case}
 use Rattle.comp_bytes.specs.declared.types.DefinedType.{DefinedType}
 use Rattle.comp_bytes.specs.declared.types.DefinedType.TheVariants as defined
-use Rattle.comp_bytes.specs.declared.types.FuncTypeDef.{FuncTypeDef}
 use Rattle.comp_bytes.specs.declared.types.TypeDef.{TypeDef}
 use Rattle.comp_bytes.specs.declared.types.TypeDef.TheVariants as types
 use Rattle.comp_bytes.specs.declared.types.Description.{Description}

@@ -1,7 +1,7 @@
 -- The lists of names of a component in each of which a name must stand once.
 -- Component model, explainer: names of imports and of exports are distinct in their scope, and so are
 -- those of the arguments of an instantiation and of the entries of an instance made of items at hand.
-use Rattle.std.specs.Prelude.{ℕ, List, [], ◌∷◌, ◌++◌, map}
+use Rattle.std.specs.Prelude.{ℕ, List, [], ◌∷◌, map}
 use Rattle.std.specs.List.{flat_map}
 use Rattle.comp_bytes.specs.declared.types.Member.{Member}
 use Rattle.comp_bytes.specs.declared.types.Member.TheVariants as members

@@ -4,7 +4,7 @@
 use Rattle.std.specs.Prelude.{ℕ, ◌<◌, List, [], ◌∷◌, ◌++◌, Option, count_by, get_or}
 use Rattle.std.specs.List.{AllByRecursion}
 use Rattle.comp_bytes.specs.Spaces.{is_space, member_space, item_space, space_of}
-use Rattle.comp_bytes.specs.References.{Reference, member_references, item_references, references}
+use Rattle.comp_bytes.specs.References.{Reference, member_references, item_references}
 use Rattle.comp_bytes.specs.declared.space.Space.{Space}
 use Rattle.comp_bytes.specs.declared.types.Member.{Member}
 use Rattle.comp_bytes.specs.declared.def.Item.{Item}

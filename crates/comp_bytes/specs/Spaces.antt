@@ -1,6 +1,6 @@
 -- Index spaces, and which definition makes an item of which.
 -- Component model, binary format: index spaces.
-use Rattle.std.specs.Prelude.{ℕ, ◌==◌, Bool, true, false, List, [], ◌∷◌, Option, Some, None, count_by}
+use Rattle.std.specs.Prelude.{ℕ, ◌==◌, Bool, false, List, Option, Some, None, count_by}
 use Rattle.comp_bytes.specs.declared.space.ExportKind.{ExportKind}
 use Rattle.comp_bytes.specs.declared.space.ExportKind.TheVariants as kinds
 use Rattle.comp_bytes.specs.declared.space.ComponentExportKind.{ComponentExportKind}
