@@ -18,7 +18,7 @@ fn plain_name(alloc: Global, name: &str) -> Result<ExternName, BuildFault> {
     })
 }
 
-fn row_1(alloc: Global) -> Result<Vec<u8>, BuildFault> {
+fn whole_component(alloc: Global) -> Result<Vec<u8>, BuildFault> {
     let mut builder = ComponentBuilder::new(alloc);
     let ty = builder.type_function(
         None,
@@ -53,7 +53,7 @@ fn row_1(alloc: Global) -> Result<Vec<u8>, BuildFault> {
     builder.finish()
 }
 
-fn row_r1_1(alloc: Global) -> Result<Vec<u8>, BuildFault> {
+fn only_a_module(alloc: Global) -> Result<Vec<u8>, BuildFault> {
     let mut builder = ComponentBuilder::new(alloc);
     let module = builder.core_module_raw(
         Some("main"),
@@ -66,7 +66,9 @@ fn row_r1_1(alloc: Global) -> Result<Vec<u8>, BuildFault> {
 
 #[test]
 fn empty_module(rt: HostRuntime) -> Result<(), Fail> {
-    let bytes = row_r1_1(rt.alloc()).ok().ok_or("the component is built")?;
+    let bytes = only_a_module(rt.alloc())
+        .ok()
+        .ok_or("the component is built")?;
     assert_eq!(rt;
         bytes.as_slice(),
         [
@@ -83,7 +85,9 @@ fn empty_module(rt: HostRuntime) -> Result<(), Fail> {
 
 #[test]
 fn one_import_one_export(rt: HostRuntime) -> Result<(), Fail> {
-    let bytes = row_1(rt.alloc()).ok().ok_or("the component is built")?;
+    let bytes = whole_component(rt.alloc())
+        .ok()
+        .ok_or("the component is built")?;
     let mut wanted = Vec::new(rt.alloc());
     wanted.extend_from_slice(&[
         0x00, 0x61, 0x73, 0x6d, 0x0d, 0x00, 0x01, 0x00, 0x07, 0x05, 0x01, 0x40, 0x00, 0x01, 0x00,
