@@ -10,8 +10,7 @@ use crate::entries::{CoreExport, CoreImport, EntityType, ExportKind, ExportedIte
 use crate::fault::SectionFault;
 use crate::reading::{ReadFault, read_all};
 use crate::sections::{Content, PREAMBLE, sections_of};
-use comp_lists::{Seq, Text};
-use comp_tables::Keyed;
+use comp_lists::{Keyed, Seq, Text};
 use std::alloc::{AllocError, Global};
 
 /// The types, imports, functions and exports of a core module.

@@ -1,0 +1,32 @@
+//! The validated world: what a component is to import and export, and what each import and export of
+//! its core modules is for.
+//!
+//! Values alone, and the trait [`Lower`] by which a lower layer makes them; what is encoded from them
+//! is the business of the crates above. The promise upward is `specs/Worlds.antt`: `IsWorld`, what
+//! holds of every world that a lower layer answers.
+//!
+//! In reading order: `wit` (the world's items), `encoding` (string encodings), `imports` and `exports`
+//! (what the imports and exports of a core module are for), `metadata` (the encodings of functions),
+//! `world` (the validated world), `options` (what the encoder was asked for), `gathered` (what was
+//! gathered before the world is prepared), `lower` (the trait).
+#![tactic(auto)]
+
+mod encoding;
+mod exports;
+mod gathered;
+mod imports;
+mod lower;
+mod metadata;
+mod options;
+mod wit;
+mod world;
+
+pub use encoding::StringEncoding;
+pub use exports::{Export, ExportMap};
+pub use gathered::{ExportKey, Gathered, Merged, Part};
+pub use imports::{Import, ImportInstance, ImportMap};
+pub use lower::Lower;
+pub use metadata::{FunctionKey, ModuleMetadata};
+pub use options::EncoderOptions;
+pub use wit::{AbiVariant, Function, World, WorldItem, WorldKey};
+pub use world::{ComponentWorld, ValidatedModule};

@@ -1,0 +1,81 @@
+//! The lower layer: it takes what is said of a module from the module's bytes, joins what several
+//! say, and prepares the validated world.
+
+ghost use Rattle.std.specs.Prelude.{◌≡◌, ℕ, List, Bool, false, IfOk, IfErr, IsSome, IsOk};
+ghost use Rattle.comp_worlds.specs.Worlds.{IsWorld};
+ghost use Rattle.comp_worlds.specs.declared.world.ComponentWorld.{ComponentWorld};
+ghost use Rattle.comp_worlds.specs.declared.gathered.Gathered.{Gathered};
+ghost use Rattle.comp_worlds.specs.declared.gathered.Merged.{Merged};
+
+use crate::gathered::{Gathered, Merged};
+use crate::world::ComponentWorld;
+use comp_lists::Bytes;
+use std::alloc::Global;
+use std::error::Error;
+
+/// A lower layer. The ghost members say what it means: `decoded`, `merged` and `prepared` are its own
+/// definitions, the causes say when a fault is right. A fault of memory needs no cause; a call of
+/// which a cause holds answers no `Ok`.
+pub trait Lower {
+    /// What modules say, in a form of the layer's own.
+    type Bindgen: Drop;
+
+    type Fault: Error;
+
+    /// What a module says that says nothing.
+    ghost empty_is: { Self → Self.Bindgen };
+
+    /// The bytes of a module without what the layer took from them, and what that said.
+    ghost decoded: { Self → List ℕ → List ℕ × Self.Bindgen };
+
+    /// What two say together, and the keys that the second exports.
+    ghost merged: { Self → Self.Bindgen → Self.Bindgen → Merged Self.Bindgen };
+
+    /// The world of what was gathered.
+    ghost prepared: { Self → Gathered Self.Bindgen → ComponentWorld };
+
+    ghost decode_cause: { Self → List ℕ → Self.Fault → Type 0 };
+
+    ghost merge_cause: { Self → Self.Bindgen → Self.Bindgen → Self.Fault → Type 0 };
+
+    ghost prepare_cause: { Self → Gathered Self.Bindgen → Self.Fault → Type 0 };
+
+    /// The faults of memory.
+    ghost memory_fault: { Self → Self.Fault → Bool };
+
+    fn empty(&self, alloc: Global) -> Self::Bindgen
+        ensures { result ≡ empty_is self.now };
+
+    /// Takes from a module's bytes what is said of it.
+    fn decode(&self, alloc: Global, bytes: &[u8]) -> Result<(Bytes, Self::Bindgen), Self::Fault>
+        ensures ok { IfOk result (λ p. p ≡ decoded self.now bytes.now) }
+        ensures refused { IsOk result → (f : Self.Fault) → ¬ decode_cause self.now bytes.now f }
+        ensures cause { IfErr result (λ f. memory_fault self.now f ≡ false → decode_cause self.now bytes.now f) };
+
+    /// Joins what modules said so far with what a further one says.
+    fn merge(
+        &self,
+        alloc: Global,
+        first: &Self::Bindgen,
+        second: &Self::Bindgen,
+    ) -> Result<Merged<Self::Bindgen>, Self::Fault>
+        ensures ok { IfOk result (λ m. m ≡ merged self.now first.now second.now) }
+        ensures refused { IsOk result → (f : Self.Fault) → ¬ merge_cause self.now first.now second.now f }
+        ensures cause { IfErr result (λ f. memory_fault self.now f ≡ false → merge_cause self.now first.now second.now f) };
+
+    /// The validated world of what was gathered.
+    fn prepare(
+        &self,
+        alloc: Global,
+        gathered: &Gathered<Self::Bindgen>,
+    ) -> Result<ComponentWorld, Self::Fault>
+        requires { IsSome gathered.now.main }
+        ensures ok { IfOk result (λ w. w ≡ prepared self.now gathered.now) }
+        ensures valid { IfOk result IsWorld }
+        ensures refused { IsOk result → (f : Self.Fault) → ¬ prepare_cause self.now gathered.now f }
+        ensures cause { IfErr result (λ f. memory_fault self.now f ≡ false → prepare_cause self.now gathered.now f) };
+
+    /// Whether a fault says that memory was refused.
+    fn is_memory(&self, fault: &Self::Fault) -> bool
+        ensures { result ≡ memory_fault self.now fault.now };
+}
