@@ -14,7 +14,7 @@ use comp_lists::{Keyed, Seq, Text};
 use std::alloc::{AllocError, Global};
 
 /// The types, imports, functions and exports of a core module.
-#[derive(Debug, Drop)]
+#[derive(Drop)]
 pub struct CoreModule {
     pub types: Seq<FuncType>,
     pub imports: Seq<CoreImport>,
@@ -186,7 +186,7 @@ fn add_all(
     let mut all = table;
     for export in exports {
         let CoreExport { name, item } = export;
-        if !is_exportable(count, &item) || all.contains_key(&name) {
+        if !is_exportable(count, &item) || all.contains(&name) {
             return Err(ReadFault::Malformed);
         }
         all.add(name, item)?;
