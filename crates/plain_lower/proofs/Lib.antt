@@ -1,0 +1,4 @@
+pub mod Arrays
+pub mod Escaping
+pub mod Loop
+pub mod Texts

@@ -1,0 +1,5 @@
+pub mod Faults
+pub mod Paths
+pub mod Reading
+pub mod Roles
+pub mod RecordFormat
