@@ -3,3 +3,4 @@ pub mod Paths
 pub mod Reading
 pub mod Roles
 pub mod RecordFormat
+pub mod Joining

@@ -2,13 +2,16 @@
 #![tactic(auto)]
 
 mod assigning;
+mod bindgen;
 mod fault;
 mod functions;
+mod joining;
 mod members;
 mod paths;
 mod reading;
 mod record;
 mod roles;
 
+pub use bindgen::Bindgen;
 pub use fault::PlainFault;
 pub use roles::{ImportName, Role};
