@@ -8,7 +8,7 @@ use crate::bindgen::Bindgen;
 use crate::fault::{Failure, Refusal};
 use crate::record::Record;
 use crate::roles::{Assigned, ImportName, Role};
-use comp_lists::{Bytes, Keyed, Seq, Text};
+use comp_lists::{Bytes, Keyed, Seq, Text, TryClone};
 use comp_worlds::{ExportKey, Merged, StringEncoding};
 use core_sections::strip;
 use std::alloc::{AllocError, Global};
@@ -192,15 +192,15 @@ pub(crate) fn decode(alloc: Global, bytes: &[u8]) -> Result<(Bytes, Bindgen), Fa
 
 /// A copy of a table.
 #[tactic(auto, using(comp_lists::proofs::TableLemmas::absent))]
-fn copy(
+fn copy<K: TryClone + Eq + Hash>(
     alloc: Global,
-    table: &Keyed<Text, StringEncoding>,
-) -> Result<Keyed<Text, StringEncoding>, AllocError>
+    table: &Keyed<K, StringEncoding>,
+) -> Result<Keyed<K, StringEncoding>, AllocError>
     ensures { IfOk result (λ t. t ≡ table.now) }
 {
     let mut copied = Keyed::new(alloc);
     for (name, encoding) in table.entries() {
-        copied.add(name.clone(alloc)?, *encoding)?;
+        copied.add(name.try_clone(alloc)?, *encoding)?;
     }
     Ok(copied)
 }
