@@ -4,3 +4,5 @@ pub mod Reading
 pub mod Roles
 pub mod RecordFormat
 pub mod Joining
+pub mod Preparing
+pub mod Grouping

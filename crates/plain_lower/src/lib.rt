@@ -3,8 +3,11 @@
 
 mod assigning;
 mod bindgen;
+mod exporting;
 mod fault;
+mod fitting;
 mod functions;
+mod importing;
 mod joining;
 mod members;
 mod paths;
