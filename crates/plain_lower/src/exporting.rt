@@ -1,8 +1,11 @@
 //! What the exports of main are for, and those that it has to have.
 
-ghost use Rattle.std.specs.Prelude.{◌≡◌, [], ℕ, List, IfOk};
+ghost use Rattle.std.specs.Prelude.{◌≡◌, [], ℕ, List, IfOk, OnOk};
 ghost use Rattle.std.specs.Option.{option_copied};
+ghost use Rattle.std.specs.Str.{bytes_eq};
 ghost use Rattle.comp_lists.specs.Found.{found};
+ghost use Rattle.comp_lists.specs.Tables.{with_first};
+ghost use Rattle.comp_worlds.specs.Worlds.{exported_text};
 ghost use Rattle.plain_lower.specs.Faults.{Gives};
 ghost use Rattle.plain_lower.specs.Preparing.{with_export, export_of_role, exports_after, by_function, required_key, required_after};
 
@@ -46,7 +49,7 @@ fn add_with_role(
     item: &ExportedItem,
     role: Option<&Role>,
 ) -> Result<(), Failure>
-    ensures { Gives (λ _. all.new) result (export_of_role table.now core.now all.old name.now item.now (option_copied role)) }
+    ensures { Gives (λ _. all.new) result (export_of_role table.now core.now all.old name.now item.now (option_copied role.entry)) }
 {
     match role {
         None => Ok(()),
@@ -77,6 +80,22 @@ pub(crate) fn read_exports(
     Ok(all)
 }
 
+/// Adds a core export under the function that it is for, unless one is there.
+fn index_export(
+    alloc: Global,
+    functions: &mut Keyed<Text, Text>,
+    name: &Text,
+    export: &Export,
+) -> Result<(), AllocError>
+    ensures { OnOk result (functions.new ≡ with_first bytes_eq functions.old (exported_text export.now) name.now) }
+{
+    match export {
+        Export::WorldFunc(key, _, _) => {
+            functions.add_first(key.text().clone(alloc)?, name.clone(alloc)?)
+        }
+    }
+}
+
 /// The core exports by the function that they are for, of which the first counts.
 fn index_functions(
     alloc: Global,
@@ -86,11 +105,7 @@ fn index_functions(
 {
     let mut functions = Keyed::new(alloc);
     for (name, export) in all.entries() {
-        match export {
-            Export::WorldFunc(key, _, _) => {
-                functions.add_first(key.text().clone(alloc)?, name.clone(alloc)?)?;
-            }
-        }
+        index_export(alloc, &mut functions, name, export)?;
     }
     Ok(functions)
 }
