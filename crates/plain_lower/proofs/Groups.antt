@@ -1,14 +1,15 @@
 -- Groups of imports, and where the group of each module stands.
 use Rattle.std.proofs.Common.{◌≡◌, ℕ, zero, suc, ◌+◌, ◌<◌, Bool, true, false, cond, List, [], ◌∷◌, ◌++◌, length, get_or, Option, Some, None, Result, Ok, Err, refl, sym, ap, subst, ◌∙◌, arith}
 use Rattle.std.specs.Prelude.{slice_set, IfOk, if◌then◌else◌}
-use Rattle.std.specs.List.{slice_get}
+use Rattle.std.specs.List.{slice_get, IsDistinct}
+use Rattle.std.specs.Map.{keys_of}
 use Rattle.std.specs.Str.{bytes_eq}
 use Rattle.comp_lists.specs.Found.{found}
 use Rattle.comp_worlds.specs.declared.imports.Import.{Import}
 use Rattle.plain_lower.specs.declared.importing.Group.{Group}
 use Rattle.plain_lower.specs.declared.importing.Grouping.{Grouping}
 use Rattle.plain_lower.specs.Grouping.{places_of}
-use Rattle.plain_lower.specs.Preparing.{fields_in, with_field}
+use Rattle.plain_lower.specs.Preparing.{fields_in, with_field, instances_of}
 
 abbrev pub with_fields : Group → List (List ℕ × Import) → Group
 with_fields g fs = record { name = g.name; fields = fs }
@@ -162,3 +163,12 @@ has_at places gs m k g known placed is =
     let at : found m (places_of 0 gs) ≡ Some k = ap (found m) (sym placed) ∙ sym known in
     let t = group_at gs m k at in
     t.fields ∙ ap (λ (x : Group). x.fields) (sym (is ∙ at_index gs k t.group g t.there))
+
+keys-places : (i : ℕ) (gs : List Group) → keys_of (places_of i gs) ≡ keys_of (instances_of gs)
+keys-places i [] = refl
+keys-places i (g ∷ gs) = ap (λ (r : List (List ℕ)). g.name ∷ r) (keys-places (i + 1) gs)
+
+-- no two groups are of one module
+pub groups_apart : (places : List (List ℕ × ℕ)) (gs : List Group) → places ≡ places_of 0 gs → IsDistinct bytes_eq (keys_of places) → IsDistinct bytes_eq (keys_of (instances_of gs))
+groups_apart places gs placed apart =
+    subst (λ (ks : List (List ℕ)). IsDistinct bytes_eq ks) (ap (λ (p : List (List ℕ × ℕ)). keys_of p) placed ∙ keys-places 0 gs) apart

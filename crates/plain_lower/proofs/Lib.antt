@@ -1,6 +1,7 @@
 pub mod Arrays
 pub mod Escaping
-pub mod Indexing
 pub mod Groups
+pub mod Indexing
+pub mod Keys
 pub mod Loop
 pub mod Texts

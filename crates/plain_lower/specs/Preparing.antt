@@ -28,6 +28,7 @@ use Rattle.comp_worlds.specs.declared.gathered.ExportKey.TheVariants as export_k
 use Rattle.comp_worlds.specs.declared.gathered.Part.{Part}
 use Rattle.comp_worlds.specs.declared.gathered.Gathered.{Gathered}
 use Rattle.comp_worlds.specs.declared.metadata.FunctionKey.{FunctionKey}
+use Rattle.comp_worlds.specs.declared.world.ValidatedModule.{ValidatedModule}
 use Rattle.comp_worlds.specs.declared.world.ComponentWorld.{ComponentWorld}
 use Rattle.comp_worlds.specs.Worlds.{exported_text}
 use Rattle.core_sections.specs.declared.core_module.CoreModule.{CoreModule}
@@ -170,15 +171,18 @@ world_items table = map (λ e. (keys.Name e.0, items.Function (record { name = e
 abbrev pub encodings_of : Table → List (FunctionKey × StringEncoding)
 encodings_of table = map (λ e. (record { key = keys.Name e.0; function = e.0 }, e.1)) table
 
+abbrev pub main_of : Part Bindgen → List Group → List (List ℕ × Export) → ValidatedModule
+main_of main groups exported = record {
+  bytes = main.bytes;
+  imports = record { modules = instances_of groups };
+  exports = record { exports = exported };
+  metadata = record { import_encodings = encodings_of main.own.imports; export_encodings = encodings_of main.own.exports };
+}
+
 unfoldable pub world_of : Bindgen → Part Bindgen → List Group → List (List ℕ × Export) → List WorldKey → ComponentWorld
 world_of joint main groups exported required = record {
   world = record { imports = world_items joint.imports; exports = world_items joint.exports };
-  main = record {
-    bytes = main.bytes;
-    imports = record { modules = instances_of groups };
-    exports = record { exports = exported };
-    metadata = record { import_encodings = encodings_of main.own.imports; export_encodings = encodings_of main.own.exports };
-  };
+  main = main_of main groups exported;
   main_exports = required;
 }
 

@@ -3,6 +3,7 @@
 ghost use Rattle.std.specs.Prelude.{◌≡◌, ◌<◌, [], ◌∷◌, ◌++◌, IfOk, Err, None, Some, is_some, slice_get, slice_set, length};
 ghost use Rattle.std.specs.Map.{keys_of};
 ghost use Rattle.std.specs.List.{IsDistinct};
+ghost use Rattle.std.specs.Str.{bytes_eq};
 ghost use Rattle.comp_lists.specs.Found.{found};
 ghost use Rattle.plain_lower.specs.declared.importing.Group.{Group as GroupRecord};
 ghost use Rattle.plain_lower.specs.Faults.{Gives};
@@ -198,4 +199,36 @@ fn group_imports(
         grouping = add_import(alloc, table, own, core, grouping, import)?;
     }
     Ok(grouping)
+}
+
+/// No two places are of one module.
+fn places_are_apart(places: &Keyed<Text, usize>)
+    ensures { IsDistinct bytes_eq (keys_of places.now) }
+{
+    let _entries = places.entries();
+}
+
+/// The groups alone.
+#[tactic(auto, using(crate::proofs::Groups::groups_apart))]
+fn into_groups(grouping: Grouping) -> Vec<Group>
+    requires { grouping.places ≡ places_of 0 grouping.groups.items }
+    ensures same { result ≡ grouping.groups }
+    ensures apart { IsDistinct bytes_eq (keys_of (instances_of result.items)) }
+{
+    places_are_apart(&grouping.places);
+    grouping.groups
+}
+
+/// What the core imports are for, in groups of one module each.
+pub(crate) fn read_imports(
+    alloc: Global,
+    table: &Keyed<Text, StringEncoding>,
+    own: &Bindgen,
+    core: &CoreModule,
+) -> Result<Vec<Group>, Failure>
+    ensures exact { Gives (λ g. g.items) result (groups_after table.now own.now core.now [] core.now.imports) }
+    ensures apart { IfOk result (λ g. IsDistinct bytes_eq (keys_of (instances_of g.items))) }
+{
+    let grouping = group_imports(alloc, table, own, core)?;
+    Ok(into_groups(grouping))
 }

@@ -11,6 +11,7 @@ mod importing;
 mod joining;
 mod members;
 mod paths;
+mod preparing;
 mod reading;
 mod record;
 mod roles;
