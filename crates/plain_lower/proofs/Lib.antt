@@ -5,3 +5,4 @@ pub mod Indexing
 pub mod Keys
 pub mod Loop
 pub mod Texts
+pub mod Valid

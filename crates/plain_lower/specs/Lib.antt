@@ -6,3 +6,4 @@ pub mod RecordFormat
 pub mod Joining
 pub mod Preparing
 pub mod Grouping
+pub mod Layer

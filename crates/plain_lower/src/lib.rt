@@ -9,6 +9,7 @@ mod fitting;
 mod functions;
 mod importing;
 mod joining;
+mod lower;
 mod members;
 mod paths;
 mod preparing;
@@ -18,4 +19,5 @@ mod roles;
 
 pub use bindgen::Bindgen;
 pub use fault::PlainFault;
+pub use lower::PlainLower;
 pub use roles::{ImportName, Role};
