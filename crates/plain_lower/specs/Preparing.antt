@@ -195,9 +195,9 @@ preparing_main joint main = do
   Ok (world_of joint main groups exported required)
 
 -- nothing at all is no module
+abbrev pub preparing_if : Bindgen → Option (Part Bindgen) → Result ComponentWorld Failure
+preparing_if joint None = Err (failures.Refused refusals.NotModule)
+preparing_if joint (Some main) = preparing_main joint main
+
 abbrev pub preparing : Gathered Bindgen → Result ComponentWorld Failure
-preparing g = prepare_part g.main
-  where
-    prepare_part : Option (Part Bindgen) → Result ComponentWorld Failure
-    prepare_part None = Err (failures.Refused refusals.NotModule)
-    prepare_part (Some main) = preparing_main g.joint main
+preparing g = preparing_if g.joint g.main
