@@ -21,3 +21,6 @@ pub use bindgen::Bindgen;
 pub use fault::PlainFault;
 pub use lower::PlainLower;
 pub use roles::{ImportName, Role};
+
+#[cfg(test)]
+mod tests;
