@@ -4,5 +4,6 @@ pub mod Groups
 pub mod Indexing
 pub mod Keys
 pub mod Loop
+pub mod Refusing
 pub mod Texts
 pub mod Valid

@@ -7,3 +7,4 @@ pub mod Joining
 pub mod Preparing
 pub mod Grouping
 pub mod Layer
+pub mod Causes
