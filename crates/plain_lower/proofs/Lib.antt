@@ -4,6 +4,8 @@ pub mod Groups
 pub mod Indexing
 pub mod Keys
 pub mod Loop
+pub mod Merging
 pub mod Refusing
+pub mod Telling
 pub mod Texts
 pub mod Valid

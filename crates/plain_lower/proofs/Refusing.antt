@@ -1,6 +1,6 @@
 -- When preparing a world is refused: the definition refuses exactly where a cause holds.
 use Rattle.std.proofs.Common.{◌≡◌, ◌⊎◌, inl, inr, ℕ, Bool, true, false, cond, ◌&&◌, List, [], ◌∷◌, ◌++◌, length, ◌<◌, Option, Some, None, Result, Ok, Err, refl, sym, ap, subst, ◌∙◌, append_assoc, arith, true≢false}
-use Rattle.std.specs.Prelude.{ok_or, is_some, Contains, if◌then◌else◌}
+use Rattle.std.specs.Prelude.{◌≢◌, ok_or, is_some, Contains, if◌then◌else◌}
 use Rattle.std.specs.List.{AllByRecursion}
 use Rattle.std.specs.Map.{lookup}
 use Rattle.std.specs.Str.{bytes_eq}
@@ -21,6 +21,7 @@ use Rattle.comp_worlds.specs.declared.gathered.ExportKey.TheVariants as export_k
 use Rattle.comp_worlds.specs.declared.gathered.Part.{Part}
 use Rattle.comp_worlds.specs.declared.gathered.Gathered.{Gathered}
 use Rattle.comp_worlds.specs.declared.world.ComponentWorld.{ComponentWorld}
+use Rattle.core_sections.specs.declared.fault.SectionFault.{SectionFault}
 use Rattle.core_sections.specs.declared.core_module.CoreModule.{CoreModule}
 use Rattle.core_sections.specs.declared.entries.CoreImport.{CoreImport}
 use Rattle.core_sections.specs.declared.entries.ExportedItem.{ExportedItem}
@@ -33,7 +34,8 @@ use Rattle.plain_lower.specs.declared.fault.PlainFault.{PlainFault}
 use Rattle.plain_lower.specs.declared.roles.Role.{Role}
 use Rattle.plain_lower.specs.declared.bindgen.Bindgen.{Bindgen}
 use Rattle.plain_lower.specs.declared.importing.Group.{Group}
-use Rattle.plain_lower.specs.Faults.{◌>>=◌, lifted, flat_refusal}
+use Rattle.plain_lower.specs.Faults.{◌>>=◌, lifted, flat, flat_refusal}
+use Rattle.plain_lower.specs.Layer.{is_memory}
 use Rattle.plain_lower.specs.Roles.{function_of, is_same_name}
 use Rattle.plain_lower.specs.Preparing.{Table, no_role as missing_role, unfit, not_exported, fits_import, fits_export, imported_by, fitting, import_of, with_field, fields_in, group_after, groups_after, with_export, export_of_role, exports_after, by_function, required_key, required_after, world_of, preparing_main, preparing_if, preparing}
 use Rattle.plain_lower.specs.Causes.{IsMain, role_of_import, AreExports, IsMissing, key_name, PrepareCause, unread, no_role, not_imported, unfit_import, twice, unfit_export, missing}
@@ -425,3 +427,75 @@ main_prepared g main w e =
     let c = bind_ok (exports_after g.joint.exports main.own a.0 [] (let core : CoreModule = a.0 in core.exports)) (after_exports g main a.0 b.0) w b.2 in
     let d = bind_ok (required_after g.joint.exports c.0 [] main.required) (λ required. Ok (world_of g.joint main b.0 c.0 required)) w c.2 in
     record { core = a.0; read = unlifted_ok main a.0 a.1; groups = b.0; grouped = b.1; exported = c.0; exports_are = c.1; required = d.0; required_are = d.1 }
+
+-- what was prepared of main, whose entries are these
+record Facts (g : Gathered Bindgen) (main : Part Bindgen) (core : CoreModule) : Type 0 where
+  groups : List Group
+  grouped : groups_after g.joint.imports main.own core [] core.imports ≡ Ok groups
+  exported : List (List ℕ × Export)
+  exports_are : exports_after g.joint.exports main.own core [] core.exports ≡ Ok exported
+  required : List WorldKey
+  required_are : required_after g.joint.exports exported [] main.required ≡ Ok required
+
+same_ok : (m : Result CoreModule SectionFault) (x y : CoreModule) → m ≡ Ok x → m ≡ Ok y → x ≡ y
+same_ok m x y a b = cc
+
+of_main : (g : Gathered Bindgen) (w : ComponentWorld) (main : Part Bindgen) → preparing g ≡ Ok w → g.main ≡ Some main → preparing_main g.joint main ≡ Ok w
+of_main g w main e is = ap (preparing_if g.joint) (sym is) ∙ e
+
+facts : (g : Gathered Bindgen) (w : ComponentWorld) (main : Part Bindgen) (core : CoreModule) → preparing g ≡ Ok w → IsMain g main core → Facts g main core
+facts g w main core e m =
+    let p = main_prepared g main w (of_main g w main e m.is) in
+    let same : p.core ≡ core = same_ok (module_of main.bytes) p.core core p.read m.read in
+    let here : Facts g main p.core = record { groups = p.groups; grouped = p.grouped; exported = p.exported; exports_are = p.exports_are; required = p.required; required_are = p.required_are } in
+    subst (λ (x : CoreModule). Facts g main x) same here
+
+passes_at : (g : Gathered Bindgen) (w : ComponentWorld) (main : Part Bindgen) (core : CoreModule) (i : CoreImport) → preparing g ≡ Ok w → IsMain g main core → Contains core.imports i → Passes g.joint.imports main core i
+passes_at g w main core i e m c =
+    let p = facts g w main core e m in
+    AllByRecursion-contains (Passes g.joint.imports main core) core.imports i (each_passes g.joint.imports main core [] p.groups core.imports p.grouped) c
+
+same_some : {A : Type 0} (o : Option A) (x y : A) → o ≡ Some x → o ≡ Some y → x ≡ y
+same_some o x y a b = cc
+
+-- a world that is answered has no cause of a refusal
+pub no_cause : (g : Gathered Bindgen) (w : ComponentWorld) → preparing g ≡ Ok w → (f : PlainFault) → PrepareCause g f → ⊥
+no_cause g w e f (unread main r is x) =
+    let p = main_prepared g main w (of_main g w main e is) in
+    let clash : Ok p.core ≡ refused r = sym (ap lifted p.read) ∙ x in cc
+no_cause g w e f (no_role main core i m c none) =
+    let p = passes_at g w main core i e m c in
+    let clash : Some p.role ≡ None = sym p.has ∙ none in cc
+no_cause g w e f (not_imported main core i role m c has none) =
+    let p = passes_at g w main core i e m c in
+    let same : p.role ≡ role = same_some (role_of_import main i) p.role role p.has has in
+    true≢false (sym p.there ∙ ap (λ (x : Role). is_some (found (function_of x) g.joint.imports)) same ∙ none)
+no_cause g w e f (unfit_import main core i role m c has unfits) =
+    let p = passes_at g w main core i e m c in
+    true≢false (sym p.fits ∙ unfits)
+no_cause g w e f (twice main core i j before between after m whole module_is field_is) =
+    let p = facts g w main core e m in
+    let regrouped : core.imports ≡ before ++ (i ∷ (between ++ j ∷ after)) = whole ∙ append_assoc before (i ∷ between) (j ∷ after) in
+    no_twice g.joint.imports main core [] p.groups before between after i j module_is field_is
+      (ap (groups_after g.joint.imports main.own core []) (sym regrouped) ∙ p.grouped)
+no_cause g w e f (unfit_export main core name item role m c has there unfits) =
+    let p = facts g w main core e m in
+    let fits = AllByRecursion-contains (ExportFits g main core) core.exports (name, item) (exports_fit g main core [] p.exported core.exports p.exports_are) c in
+    true≢false (sym (fits role has there) ∙ unfits)
+no_cause g w e f (missing main core exported key m x c lacks) =
+    let p = facts g w main core e m in
+    let same : p.exported ≡ exported = same_exports (exports_after g.joint.exports main.own core [] core.exports) p.exported exported p.exports_are x in
+    let there = AllByRecursion-contains (λ k. IsMissing g p.exported k → ⊥) main.required key (required_there g p.exported main.required [] p.required p.required_are) c in
+    there (subst (λ (all : List (List ℕ × Export)). IsMissing g all key) (sym same) lacks)
+  where
+    same_exports : (r : Result (List (List ℕ × Export)) Failure) (a b : List (List ℕ × Export)) → r ≡ Ok a → r ≡ Ok b → a ≡ b
+    same_exports r a b x y = cc
+
+-- a refusal has its cause
+caused : (g : Gathered Bindgen) (main : Option (Part Bindgen)) (r : Refusal) → is_some g.main ≡ true → g.main ≡ main → preparing_if g.joint main ≡ refused r → PrepareCause g (flat_refusal r)
+caused g None r some is e = absurd (true≢false (sym some ∙ ap (λ (o : Option (Part Bindgen)). is_some o) is))
+caused g (Some main) r some is e = main_refused g main r is e
+
+pub has_cause : (g : Gathered Bindgen) (d : Failure) → is_some g.main ≡ true → (d ≢ failures.Memory → preparing g ≡ Err d) → is_memory (flat d) ≡ false → PrepareCause g (flat d)
+has_cause g failures.Memory some h other = absurd (true≢false other)
+has_cause g (failures.Refused r) some h other = caused g g.main r some refl (h (λ m. cc))

@@ -22,8 +22,8 @@ impl PlainLower {
 }
 
 impl Lower for PlainLower {
-    ghost use Rattle.plain_lower.specs.Joining.{nothing_said, decoding, merging};
-    ghost use Rattle.plain_lower.specs.Preparing.{preparing};
+    ghost use Rattle.plain_lower.specs.Joining.{nothing_said, decoding};
+    ghost use Rattle.plain_lower.specs.Causes.{MergeCause, PrepareCause};
     ghost use Rattle.plain_lower.specs.Layer.{is_memory, decoded, merged, prepared, Refuses};
 
     type Bindgen = Bindgen;
@@ -40,9 +40,9 @@ impl Lower for PlainLower {
 
     ghost decode_cause = { λ _ bytes fault. Refuses (decoding bytes) fault };
 
-    ghost merge_cause = { λ _ first second fault. Refuses (merging first second) fault };
+    ghost merge_cause = { λ _ first second fault. MergeCause first second fault };
 
-    ghost prepare_cause = { λ _ gathered fault. Refuses (preparing gathered) fault };
+    ghost prepare_cause = { λ _ gathered fault. PrepareCause gathered fault };
 
     ghost memory_fault = { λ _ fault. is_memory fault };
 
