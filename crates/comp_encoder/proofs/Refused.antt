@@ -1,0 +1,14 @@
+-- Refusals of the encoding state as refusals of the encoder.
+use Rattle.std.proofs.Common.{◌≡◌, refl, tt, subst, sym, rw}
+use Rattle.comp_worlds.specs.declared.world.ComponentWorld.{ComponentWorld}
+use Rattle.comp_worlds.specs.declared.lower.Lower as lower
+use Rattle.comp_encoder.specs.Encoder.{Encoder, IsWorldOf}
+use Rattle.comp_encoder.specs.Standing.{IsStateRefusal}
+use Rattle.comp_encoder.specs.Refusals.{of_state, IsEncodeRefusal}
+use Rattle.comp_encoder.specs.declared.standing.StateFault.{StateFault}
+use Rattle.comp_encoder.specs.declared.standing.StateFault.TheVariants as state
+
+module _ {L B F : Type 0} (l : lower.Ghosts L B F) where
+  pub from_state : (e : Encoder L B) (w : ComponentWorld) (s : StateFault) → IsWorldOf l e w → IsStateRefusal w s → IsEncodeRefusal l e (of_state s)
+  from_state e w state.Memory is h = tt
+  from_state e w (state.NoEncoding place) is h = subst (λ x. IsStateRefusal x (state.NoEncoding place)) is.prepared h

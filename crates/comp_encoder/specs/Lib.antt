@@ -1,0 +1,4 @@
+pub mod Encoder
+pub mod Refusals
+pub mod Component
+pub mod Standing
