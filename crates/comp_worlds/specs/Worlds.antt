@@ -5,7 +5,7 @@ use Rattle.std.specs.List.{flat_map, IsDistinct, AllByRecursion}
 use Rattle.std.specs.Str.{bytes_eq}
 use Rattle.comp_lists.specs.Found.{found}
 use Rattle.comp_worlds.specs.declared.wit.WorldKey.{WorldKey}
-use Rattle.comp_worlds.specs.declared.wit.WorldKey.TheVariants as keys
+use Rattle.comp_worlds.specs.Keys.{key_text}
 use Rattle.comp_worlds.specs.declared.wit.WorldItem.{WorldItem}
 use Rattle.comp_worlds.specs.declared.wit.WorldItem.TheVariants as items
 use Rattle.comp_worlds.specs.declared.wit.AbiVariant.TheVariants.{GuestImport, GuestExport}
@@ -16,10 +16,6 @@ use Rattle.comp_worlds.specs.declared.imports.ImportInstance.TheVariants as inst
 use Rattle.comp_worlds.specs.declared.exports.Export.{Export}
 use Rattle.comp_worlds.specs.declared.exports.Export.TheVariants as exports
 use Rattle.comp_worlds.specs.declared.world.ComponentWorld.{ComponentWorld}
-
--- the text of a key
-abbrev pub key_text : WorldKey → List ℕ
-key_text (keys.Name text) = text
 
 -- the name of an item's function
 abbrev pub function_name : WorldItem → List ℕ

@@ -1,12 +1,53 @@
 //! What a world imports and exports.
 
 use comp_lists::{Keyed, Text};
+use std::hash::{Hash, Hasher};
 
 /// The key of an import or an export of a world.
-#[derive(Debug, Drop, PartialEq, Eq, Hash)]
+#[derive(Debug, Drop)]
 pub enum WorldKey {
     /// A plain name.
     Name(Text),
+}
+
+impl PartialEq for WorldKey {
+    ghost use Rattle.std.proofs.Common.{rules};
+    ghost use Rattle.std.specs.Cmp.Rules.{comparing};
+    ghost use Rattle.comp_worlds.specs.Keys.{is_same_key};
+
+    ghost eq = { is_same_key };
+
+    ghost laws = { Prim.search (comparing, rules) };
+
+    fn eq(&self, other: &Self) -> bool {
+        match (self, other) {
+            (WorldKey::Name(text), WorldKey::Name(other)) => text == other,
+        }
+    }
+}
+
+impl Eq for WorldKey {
+    ghost use Rattle.std.proofs.Common.{rules};
+    ghost use Rattle.std.specs.Cmp.Rules.{comparing};
+
+    ghost laws = { Prim.search (comparing, rules) };
+}
+
+impl Hash for WorldKey {
+    ghost use Rattle.std.proofs.Common.{rules};
+    ghost use Rattle.std.specs.Cmp.Rules.{hashing};
+    ghost use Rattle.comp_worlds.specs.Keys.{key_text};
+    ghost use Rattle.std.specs.Hash as fed;
+
+    ghost hash_input = { λ key. fed.str (key_text key) };
+
+    ghost respects_eq = { Prim.search (hashing, rules) };
+
+    fn hash<H: Hasher>(&self, state: &mut H) {
+        match self {
+            WorldKey::Name(text) => text.hash(state),
+        }
+    }
 }
 
 /// A function of a world. It is synchronous, and has no parameter and no result.

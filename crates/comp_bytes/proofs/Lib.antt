@@ -1,0 +1,6 @@
+pub mod Pieces
+pub mod Numbers
+pub mod Runs
+pub mod Labels
+pub mod Unique
+pub mod Places

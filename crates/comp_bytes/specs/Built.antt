@@ -1,0 +1,37 @@
+-- What a builder holds: the definitions, and the debug names of their items.
+use Rattle.std.specs.Prelude.{ℕ, ◌≡◌, ◌+◌, ◌≤◌, ◌^◌, List, [], ◌∷◌, ◌++◌, Option, Some, None, Result, Ok, Err, get_or, map}
+use Rattle.comp_bytes.specs.Spaces.{place, items_in, space_of}
+use Rattle.comp_bytes.specs.declared.def.Def.{Def}
+use Rattle.comp_bytes.specs.declared.name.Name.{Name}
+use Rattle.comp_bytes.specs.declared.space.Space.{Space}
+use Rattle.comp_bytes.specs.declared.fault.BuildFault.{BuildFault}
+use Rattle.comp_bytes.specs.declared.fault.BuildFault.TheVariants.{Memory, TooMany}
+
+pub record Built : Type 0 where
+  pub defs : List Def
+  pub names : List Name
+
+abbrev pub nothing_built : Built
+nothing_built = record { defs = []; names = [] }
+
+abbrev pub name_of : Space → ℕ → Option (List ℕ) → List Name
+name_of s index None = []
+name_of s index (Some text) = record { space = s; index = index; text = text } ∷ []
+
+-- one definition more, with the debug name of its item
+abbrev pub and_then : Built → Space → Def → Option (List ℕ) → Built
+and_then b s d debug = record { defs = b.defs ++ d ∷ []; names = b.names ++ name_of s (items_in s b.defs) debug }
+
+-- each counter is the number of items of its space
+abbrev pub Counts : List ℕ → List Def → Type 0
+Counts counts ds = (s : Space) → get_or counts (place s) 0 ≡ items_in s ds
+
+-- the space had all the items that it can have
+abbrev pub Full : Space → List Def → BuildFault → Type 0
+Full s ds Memory = Unit {0}
+Full s ds (TooMany n) = (2 ^ 32 ≤ n) × (n ≡ items_in s ds + 1)
+
+-- What a builder's call answers: the count of the space before it, and one definition more. An error changes nothing.
+abbrev pub Adds : Built → Built → Result ℕ BuildFault → Space → Def → Option (List ℕ) → Type 0
+Adds old new (Ok index) s d debug = (index ≡ items_in s old.defs) × (new ≡ and_then old s d debug)
+Adds old new (Err e) s d debug = (new ≡ old) × Full s old.defs e

@@ -1,0 +1,10 @@
+pub mod Spelling
+pub mod Written
+pub mod Grammar
+pub mod Spaces
+pub mod Built
+pub mod Optional
+pub mod Names
+pub mod Laws
+pub mod Core
+pub mod Places

@@ -1,0 +1,80 @@
+-- Index spaces, and which definition makes an item of which.
+use Rattle.std.specs.Prelude.{ℕ, ◌==◌, Bool, true, false, List, [], ◌∷◌, Option, Some, None, count_by}
+use Rattle.comp_bytes.specs.declared.space.ExportKind.{ExportKind}
+use Rattle.comp_bytes.specs.declared.space.ExportKind.TheVariants as kinds
+use Rattle.comp_bytes.specs.declared.space.Sort.{Sort}
+use Rattle.comp_bytes.specs.declared.space.Sort.TheVariants as sorts
+use Rattle.comp_bytes.specs.declared.types.Description.{Description}
+use Rattle.comp_bytes.specs.declared.types.Description.TheVariants as descriptions
+use Rattle.comp_bytes.specs.declared.types.Alias.{Alias}
+use Rattle.comp_bytes.specs.declared.types.Alias.TheVariants as aliases
+use Rattle.comp_bytes.specs.declared.def.Item.{Item}
+use Rattle.comp_bytes.specs.declared.def.Item.TheVariants as items
+use Rattle.comp_bytes.specs.declared.def.Def.{Def}
+use Rattle.comp_bytes.specs.declared.def.Def.TheVariants as defs
+use Rattle.comp_bytes.specs.declared.space.Space.{Space}
+use Rattle.comp_bytes.specs.declared.space.Space.TheVariants as spaces
+
+abbrev pub kind_space : ExportKind → Space
+kind_space kinds.Func = spaces.CoreFunc
+kind_space kinds.Table = spaces.CoreTable
+kind_space kinds.Memory = spaces.CoreMemory
+kind_space kinds.Global = spaces.CoreGlobal
+
+abbrev pub sort_space : Sort → Space
+sort_space (sorts.Core kind) = kind_space kind
+sort_space sorts.Func = spaces.Func
+sort_space sorts.Type = spaces.Type
+sort_space sorts.Component = spaces.Component
+sort_space sorts.Instance = spaces.Instance
+
+abbrev pub description_space : Description → Space
+description_space (descriptions.Func index) = spaces.Func
+description_space (descriptions.TypeEqual index) = spaces.Type
+description_space descriptions.SubResource = spaces.Type
+description_space (descriptions.Instance index) = spaces.Instance
+
+abbrev pub alias_space : Alias → Space
+alias_space (aliases.Export sort instance name) = sort_space sort
+alias_space (aliases.CoreExport kind instance name) = kind_space kind
+alias_space (aliases.Outer count index) = spaces.Type
+
+-- the space in which a definition makes an item
+abbrev pub item_space : Item → Option Space
+item_space (items.CoreModule bytes) = Some spaces.CoreModule
+item_space (items.CoreInstantiate made args) = Some spaces.CoreInstance
+item_space (items.CoreExports exports) = Some spaces.CoreInstance
+item_space (items.Instantiate made args) = Some spaces.Instance
+item_space (items.Alias a) = Some (alias_space a)
+item_space (items.Type t) = Some spaces.Type
+item_space (items.InstanceType t) = Some spaces.Type
+item_space (items.Lift func options ty) = Some spaces.Func
+item_space (items.Lower func options) = Some spaces.CoreFunc
+item_space (items.Intrinsic i) = Some spaces.CoreFunc
+item_space (items.Import name description) = Some (description_space description)
+item_space (items.Export name sort index description) = Some (sort_space sort)
+item_space (items.Custom name contents) = None
+
+abbrev pub space_of : Def → Option Space
+space_of (defs.Item i) = item_space i
+space_of (defs.Component inner) = Some spaces.Component
+
+abbrev pub place : Space → ℕ
+place spaces.CoreFunc = 0
+place spaces.CoreTable = 1
+place spaces.CoreMemory = 2
+place spaces.CoreGlobal = 3
+place spaces.CoreModule = 4
+place spaces.CoreInstance = 5
+place spaces.Func = 6
+place spaces.Type = 7
+place spaces.Component = 8
+place spaces.Instance = 9
+
+abbrev pub is_space : Space → Option Space → Bool
+is_space s None = false
+is_space s (Some t) = place t == place s
+
+-- how many items of a space the definitions make
+abbrev pub items_in : Space → List Def → ℕ
+items_in s ds = count_by (λ d. is_space s (space_of d)) ds

@@ -1,0 +1,149 @@
+//! A component that is being built: its definitions, the debug names of its items, and how many
+//! items each index space has.
+
+ghost use Rattle.std.specs.Prelude.{◌≡◌, ◌+◌, ◌<◌, ◌≤◌, ◌^◌, ◌++◌, ◌∷◌, [], List, ℕ, length, IfOk, IfErr, OnOk, OnErr, MatchResult, Some, None, Option, option_to_list};
+ghost use Rattle.comp_bytes.specs.Spaces.{place, items_in, space_of};
+ghost use Rattle.comp_bytes.specs.Built.{Built, nothing_built, and_then, name_of, Counts, Full, Adds};
+ghost use Rattle.comp_bytes.specs.Places.{IsAt};
+ghost use Rattle.comp_bytes.specs.Grammar.{Spells, spelling_of};
+ghost use Rattle.comp_bytes.specs.Written.{Refused};
+ghost use Rattle.comp_bytes.specs.Names.{AddsNames};
+ghost use Rattle.comp_bytes.specs.Optional.{option_now};
+
+use crate::def::{Def, Item};
+use crate::fault::{BuildFault, counted};
+use crate::name::Name;
+use crate::naming::put_names;
+use crate::sections::put_component;
+use crate::space::Space;
+use comp_lists::{Seq, Text};
+use std::alloc::{AllocError, Global};
+use std::marker::Model;
+
+/// A component that is being built, definition by definition.
+///
+/// Each call that adds a definition answers the index of the item that it makes: the number of items
+/// of its space before it. A refusal leaves the builder as it was.
+#[derive(Drop)]
+pub struct ComponentBuilder {
+    defs: Vec<Def>,
+    names: Vec<Name>,
+    counts: [u32; 10],
+}
+
+impl Model for ComponentBuilder {
+    ghost use Rattle.comp_bytes.specs.Built.{Built, Counts};
+
+    ghost Value = { Built };
+
+    ghost view = { λ b. record { defs = b.defs.items; names = b.names.items } };
+
+    ghost invariant = { λ b. Counts b.counts b.defs.items };
+}
+
+/// Adds to both lists, or to none.
+fn push_both(
+    defs: &mut Vec<Def>,
+    names: &mut Vec<Name>,
+    def: Def,
+    name: Option<Name>,
+) -> Result<(), AllocError>
+    ensures ok { OnOk result ((defs.new.items ≡ defs.old.items ++ def ∷ []) × (names.new.items ≡ names.old.items ++ option_to_list name)) }
+    ensures err { OnErr result ((defs.new.items ≡ defs.old.items) × (names.new.items ≡ names.old.items)) }
+{
+    match name {
+        None => {
+            defs.push(def)?;
+            Ok(())
+        }
+        Some(name) => {
+            names.push(name)?;
+            if defs.push(def).is_err() {
+                let _ = names.pop();
+                return Err(AllocError);
+            }
+            Ok(())
+        }
+    }
+}
+
+/// The debug name of an item, where it gets one.
+fn named_item(
+    alloc: Global,
+    space: Space,
+    index: u32,
+    debug: Option<&str>,
+) -> Result<Option<Name>, AllocError>
+    ensures { IfOk result (λ n. option_to_list n ≡ name_of space index (option_now debug.entry)) }
+{
+    match debug {
+        None => Ok(None),
+        Some(text) => Ok(Some(Name {
+            space,
+            index,
+            text: Text::from_str(alloc, text)?,
+        })),
+    }
+}
+
+impl ComponentBuilder {
+    /// A component with no definition. It takes no memory.
+    pub fn new(alloc: Global) -> ComponentBuilder
+        ensures { result ≡ nothing_built }
+    {
+        ComponentBuilder {
+            defs: Vec::new(alloc),
+            names: Vec::new(alloc),
+            counts: [0; 10],
+        }
+    }
+
+    /// The allocator that the component grows in.
+    pub(crate) fn allocator(&self) -> Global {
+        *self.defs.allocator()
+    }
+
+    /// Adds a definition that makes an item of this space, with its debug name.
+    pub(crate) fn define(
+        &mut self,
+        debug: Option<&str>,
+        space: Space,
+        def: Def,
+    ) -> Result<u32, BuildFault>
+        requires { space_of def ≡ Some space }
+        ensures adds { Adds self.old self.new result space def (option_now debug.entry) }
+        ensures at { IfOk result (λ index. IsAt self.new.defs space index def) }
+    {
+        let index = self.counts[space.place()];
+        let next = counted(index as u128 + 1)?;
+        let name = named_item(self.allocator(), space, index, debug)?;
+        push_both(&mut self.defs, &mut self.names, def, name)?;
+        self.counts[space.place()] = next;
+        Ok(index)
+    }
+
+    /// Appends the custom section `component-name` with the debug names, where there are any.
+    pub fn append_names(&mut self) -> Result<(), BuildFault>
+        ensures { AddsNames self.old self.new result }
+    {
+        if self.names.is_empty() {
+            return Ok(());
+        }
+        let mut contents = Vec::new(self.allocator());
+        put_names(&mut contents, self.names.as_slice())?;
+        let name = Text::from_str(self.allocator(), "component-name")?;
+        let contents = Seq::from_vec(contents);
+        self.defs.push(Def::Item(Item::Custom { name, contents }))?;
+        Ok(())
+    }
+
+    /// The bytes of the component: its preamble and its sections.
+    pub fn finish(self) -> Result<Vec<u8>, BuildFault>
+        ensures ok { IfOk result (λ v. Spells v.items self.defs) }
+        ensures err { IfErr result (Refused (spelling_of self.defs).counts) }
+    {
+        let mut out = Vec::new(self.allocator());
+        put_component(&mut out, self.defs.as_slice())?;
+        Ok(out)
+    }
+}

@@ -1,0 +1,255 @@
+//! The calls of [`ComponentBuilder`] that add a definition, one a form of definition.
+//!
+//! Component model, binary format: `core:instance`, `instance`, `alias`, `deftype`, `canon`, `import`,
+//! `export`.
+
+ghost use Rattle.std.specs.Prelude.{◌≡◌, IfOk, None};
+ghost use Rattle.comp_bytes.specs.Spaces.{kind_space, sort_space, description_space};
+ghost use Rattle.comp_bytes.specs.Built.{Adds};
+ghost use Rattle.comp_bytes.specs.Places.{IsAt};
+ghost use Rattle.comp_bytes.specs.Core.{IsCoreModule};
+ghost use Rattle.comp_bytes.specs.Optional.{option_now};
+
+use crate::builder::ComponentBuilder;
+use crate::canon::{CanonicalOption, Intrinsic};
+use crate::def::{Argument, CoreArgument, CoreInlineExport, Def, Item};
+use crate::fault::BuildFault;
+use crate::space::{ExportKind, Sort, Space};
+use crate::types::{
+    Alias, DefinedType, Description, ExternName, FuncTypeDef, InstanceType, TypeDef,
+};
+use comp_lists::{Seq, Text};
+
+impl ComponentBuilder {
+    /// A core module, by its bytes, which begin with the core preamble.
+    pub fn core_module_raw(&mut self, debug: Option<&str>, bytes: &[u8]) -> Result<u32, BuildFault>
+        requires { IsCoreModule bytes.now }
+        ensures adds { Adds self.old self.new result Space.CoreModule (Def.Item (Item.CoreModule bytes.now)) (option_now debug.entry) }
+        ensures at { IfOk result (λ answer. IsAt self.new.defs Space.CoreModule answer (Def.Item (Item.CoreModule bytes.now))) }
+    {
+        let module = Seq::from_vec(Vec::from_slice(self.allocator(), bytes)?);
+        self.define(
+            debug,
+            Space::CoreModule,
+            Def::Item(Item::CoreModule(module)),
+        )
+    }
+
+    /// An instance of a core module.
+    pub fn core_instantiate(
+        &mut self,
+        debug: Option<&str>,
+        module: u32,
+        args: Seq<CoreArgument>,
+    ) -> Result<u32, BuildFault>
+        ensures adds { Adds self.old self.new result Space.CoreInstance (Def.Item (Item.CoreInstantiate «module» args)) (option_now debug.entry) }
+        ensures at { IfOk result (λ answer. IsAt self.new.defs Space.CoreInstance answer (Def.Item (Item.CoreInstantiate «module» args))) }
+    {
+        self.define(
+            debug,
+            Space::CoreInstance,
+            Def::Item(Item::CoreInstantiate { module, args }),
+        )
+    }
+
+    /// A core instance that is made of core items at hand.
+    pub fn core_instantiate_exports(
+        &mut self,
+        debug: Option<&str>,
+        exports: Seq<CoreInlineExport>,
+    ) -> Result<u32, BuildFault>
+        ensures adds { Adds self.old self.new result Space.CoreInstance (Def.Item (Item.CoreExports exports)) (option_now debug.entry) }
+        ensures at { IfOk result (λ answer. IsAt self.new.defs Space.CoreInstance answer (Def.Item (Item.CoreExports exports))) }
+    {
+        self.define(
+            debug,
+            Space::CoreInstance,
+            Def::Item(Item::CoreExports(exports)),
+        )
+    }
+
+    /// An export of a core instance.
+    pub fn core_alias_export(
+        &mut self,
+        debug: Option<&str>,
+        instance: u32,
+        name: &str,
+        kind: ExportKind,
+    ) -> Result<u32, BuildFault>
+        ensures adds { Adds self.old self.new result (kind_space kind) (Def.Item (Item.Alias (Alias.CoreExport kind instance name.now))) (option_now debug.entry) }
+        ensures at { IfOk result (λ answer. IsAt self.new.defs (kind_space kind) answer (Def.Item (Item.Alias (Alias.CoreExport kind instance name.now)))) }
+    {
+        let name = Text::from_str(self.allocator(), name)?;
+        let alias = Alias::CoreExport {
+            kind,
+            instance,
+            name,
+        };
+        self.define(debug, kind.space(), Def::Item(Item::Alias(alias)))
+    }
+
+    /// An export of an instance.
+    pub fn alias_export(&mut self, instance: u32, name: &str, sort: Sort) -> Result<u32, BuildFault>
+        ensures adds { Adds self.old self.new result (sort_space sort) (Def.Item (Item.Alias (Alias.Export sort instance name.now))) None }
+        ensures at { IfOk result (λ answer. IsAt self.new.defs (sort_space sort) answer (Def.Item (Item.Alias (Alias.Export sort instance name.now)))) }
+    {
+        let name = Text::from_str(self.allocator(), name)?;
+        let alias = Alias::Export {
+            sort,
+            instance,
+            name,
+        };
+        self.define(None, sort.space(), Def::Item(Item::Alias(alias)))
+    }
+
+    /// A nested component, by its definitions.
+    pub fn component(&mut self, debug: Option<&str>, items: Seq<Item>) -> Result<u32, BuildFault>
+        ensures adds { Adds self.old self.new result Space.Component (Def.Component items) (option_now debug.entry) }
+        ensures at { IfOk result (λ answer. IsAt self.new.defs Space.Component answer (Def.Component items)) }
+    {
+        self.define(debug, Space::Component, Def::Component(items))
+    }
+
+    /// An instance of a component.
+    pub fn instantiate(
+        &mut self,
+        debug: Option<&str>,
+        component: u32,
+        args: Seq<Argument>,
+    ) -> Result<u32, BuildFault>
+        ensures adds { Adds self.old self.new result Space.Instance (Def.Item (Item.Instantiate component args)) (option_now debug.entry) }
+        ensures at { IfOk result (λ answer. IsAt self.new.defs Space.Instance answer (Def.Item (Item.Instantiate component args))) }
+    {
+        self.define(
+            debug,
+            Space::Instance,
+            Def::Item(Item::Instantiate { component, args }),
+        )
+    }
+
+    /// A function type.
+    pub fn type_function(&mut self, debug: Option<&str>, ty: FuncTypeDef) -> Result<u32, BuildFault>
+        ensures adds { Adds self.old self.new result Space.Type (Def.Item (Item.Type (TypeDef.Func ty))) (option_now debug.entry) }
+        ensures at { IfOk result (λ answer. IsAt self.new.defs Space.Type answer (Def.Item (Item.Type (TypeDef.Func ty)))) }
+    {
+        self.define(debug, Space::Type, Def::Item(Item::Type(TypeDef::Func(ty))))
+    }
+
+    /// A type of values.
+    pub fn type_defined(&mut self, debug: Option<&str>, ty: DefinedType) -> Result<u32, BuildFault>
+        ensures adds { Adds self.old self.new result Space.Type (Def.Item (Item.Type (TypeDef.Defined ty))) (option_now debug.entry) }
+        ensures at { IfOk result (λ answer. IsAt self.new.defs Space.Type answer (Def.Item (Item.Type (TypeDef.Defined ty)))) }
+    {
+        self.define(
+            debug,
+            Space::Type,
+            Def::Item(Item::Type(TypeDef::Defined(ty))),
+        )
+    }
+
+    /// A type of instances.
+    pub fn type_instance(
+        &mut self,
+        debug: Option<&str>,
+        ty: InstanceType,
+    ) -> Result<u32, BuildFault>
+        ensures adds { Adds self.old self.new result Space.Type (Def.Item (Item.InstanceType ty)) (option_now debug.entry) }
+        ensures at { IfOk result (λ answer. IsAt self.new.defs Space.Type answer (Def.Item (Item.InstanceType ty))) }
+    {
+        self.define(debug, Space::Type, Def::Item(Item::InstanceType(ty)))
+    }
+
+    /// A resource type, with the core function that is its destructor.
+    pub fn type_resource(
+        &mut self,
+        debug: Option<&str>,
+        destructor: Option<u32>,
+    ) -> Result<u32, BuildFault>
+        ensures adds { Adds self.old self.new result Space.Type (Def.Item (Item.Type (TypeDef.Resource destructor))) (option_now debug.entry) }
+        ensures at { IfOk result (λ answer. IsAt self.new.defs Space.Type answer (Def.Item (Item.Type (TypeDef.Resource destructor)))) }
+    {
+        self.define(
+            debug,
+            Space::Type,
+            Def::Item(Item::Type(TypeDef::Resource(destructor))),
+        )
+    }
+
+    /// An import.
+    pub fn import(&mut self, name: ExternName, description: Description) -> Result<u32, BuildFault>
+        ensures adds { Adds self.old self.new result (description_space description) (Def.Item (Item.Import name description)) None }
+        ensures at { IfOk result (λ answer. IsAt self.new.defs (description_space description) answer (Def.Item (Item.Import name description))) }
+    {
+        self.define(
+            None,
+            description.space(),
+            Def::Item(Item::Import { name, description }),
+        )
+    }
+
+    /// An export of the item with this sort and index, which is an item of its own too.
+    pub fn export(
+        &mut self,
+        name: ExternName,
+        sort: Sort,
+        index: u32,
+        description: Option<Description>,
+    ) -> Result<u32, BuildFault>
+        ensures adds { Adds self.old self.new result (sort_space sort) (Def.Item (Item.Export name sort index description)) None }
+        ensures at { IfOk result (λ answer. IsAt self.new.defs (sort_space sort) answer (Def.Item (Item.Export name sort index description))) }
+    {
+        self.define(
+            None,
+            sort.space(),
+            Def::Item(Item::Export {
+                name,
+                sort,
+                index,
+                description,
+            }),
+        )
+    }
+
+    /// A core function for a function.
+    pub fn lower_func(
+        &mut self,
+        debug: Option<&str>,
+        func: u32,
+        options: Seq<CanonicalOption>,
+    ) -> Result<u32, BuildFault>
+        ensures adds { Adds self.old self.new result Space.CoreFunc (Def.Item (Item.Lower func options)) (option_now debug.entry) }
+        ensures at { IfOk result (λ answer. IsAt self.new.defs Space.CoreFunc answer (Def.Item (Item.Lower func options))) }
+    {
+        self.define(
+            debug,
+            Space::CoreFunc,
+            Def::Item(Item::Lower { func, options }),
+        )
+    }
+
+    /// A function, of this type, for a core function.
+    pub fn lift_func(
+        &mut self,
+        debug: Option<&str>,
+        func: u32,
+        ty: u32,
+        options: Seq<CanonicalOption>,
+    ) -> Result<u32, BuildFault>
+        ensures adds { Adds self.old self.new result Space.Func (Def.Item (Item.Lift func options ty)) (option_now debug.entry) }
+        ensures at { IfOk result (λ answer. IsAt self.new.defs Space.Func answer (Def.Item (Item.Lift func options ty))) }
+    {
+        self.define(
+            debug,
+            Space::Func,
+            Def::Item(Item::Lift { func, options, ty }),
+        )
+    }
+
+    /// A core function that the runtime has.
+    pub fn intrinsic(&mut self, intrinsic: Intrinsic) -> Result<u32, BuildFault>
+        ensures adds { Adds self.old self.new result Space.CoreFunc (Def.Item (Item.Intrinsic intrinsic)) None }
+        ensures at { IfOk result (λ answer. IsAt self.new.defs Space.CoreFunc answer (Def.Item (Item.Intrinsic intrinsic))) }
+    {
+        self.define(None, Space::CoreFunc, Def::Item(Item::Intrinsic(intrinsic)))
+    }
+}

@@ -1,0 +1,48 @@
+//! Components as lists of definitions, and the bytes that spell them.
+//!
+//! A component of the component model is, to this crate, a list of definitions ([`Defs`]): plain
+//! values, with one variant a form of the binary format. Their bytes are one function of that list,
+//! `specs/Grammar.antt`, to be read beside the binary format of the component model; with the bytes it
+//! lists every count and size that is written, so that one definition says what is written and what
+//! must be refused.
+//!
+//! Upward this crate promises: what [`ComponentBuilder::finish`] answers spells the definitions that
+//! were added (`Spells`), each call of the builder adds exactly one definition and answers the index of
+//! the item that it makes (`Adds`, `IsAt`), and a refusal other than want of memory names a count or a
+//! size that passes 2^32 - 1 (`Refused`, `Full`).
+//!
+//! In reading order: `space` (sorts of items and their index spaces), `types` (types and names),
+//! `canon` (canonical functions), `def` (definitions), `name` (debug names), `fault` (counts and
+//! refusals), `number` (numbers, names, lists, options), `writing` (each value), `sections`
+//! (definitions in sections), `naming` (the custom section of debug names), `builder` and `defining`
+//! (a component, definition by definition), `laws` (what holds of all spellings).
+#![tactic(auto)]
+
+mod builder;
+mod canon;
+mod def;
+mod defining;
+mod fault;
+mod laws;
+mod name;
+mod naming;
+mod number;
+mod sections;
+mod space;
+mod types;
+mod writing;
+
+pub use builder::ComponentBuilder;
+pub use canon::{CanonicalOption, ContextType, Intrinsic};
+pub use def::{Argument, CoreArgument, CoreInlineExport, Def, Defs, Item};
+pub use fault::{BuildFault, Excess, count_of};
+pub use laws::{one_name, one_number};
+pub use name::Name;
+pub use space::{ExportKind, Sort, Space};
+pub use types::{
+    Alias, Case, ComponentValType, DefinedType, Description, ExternName, Field, FuncTypeDef,
+    InstanceType, Member, Primitive, TypeDef,
+};
+
+#[cfg(test)]
+mod tests;

@@ -1,0 +1,124 @@
+//! Numbers, names and lists at the end of a buffer.
+
+ghost use Rattle.std.specs.Prelude.{◌≡◌, ◌+◌, ◌<◌, ◌≤◌, ◌^◌, ◌++◌, length, OnOk, List, ℕ};
+ghost use Rattle.comp_bytes.specs.Spelling.{leb, signed_leb, raw, octet, number as a_number, quantity, each, listed, named, optional, Spelling, Fits, ◌⊕◌};
+ghost use Rattle.comp_bytes.specs.Written.{Writes};
+
+use crate::fault::{BuildFault, counted};
+use comp_lists::Seq;
+use std::alloc::AllocError;
+
+/// Writes a number.
+pub(crate) fn put_number(out: &mut Vec<u8>, number: u32) -> Result<(), AllocError>
+    ensures { OnOk result (out.new.items ≡ out.old.items ++ leb number) }
+{
+    let mut rest = number;
+    while rest >= 128 {
+        out.push((128 + rest % 128) as u8)?;
+        rest /= 128;
+    }
+    out.push(rest as u8)?;
+    Ok(())
+}
+
+/// Writes an index.
+pub(crate) fn put_index(out: &mut Vec<u8>, index: u32) -> Result<(), BuildFault>
+    ensures { Writes out.old.items out.new.items result (a_number index) }
+{
+    put_number(out, index)?;
+    Ok(())
+}
+
+/// Writes an index where a negative number could stand.
+pub(crate) fn put_type_index(out: &mut Vec<u8>, index: u32) -> Result<(), BuildFault>
+    ensures { Writes out.old.items out.new.items result (raw (signed_leb index)) }
+{
+    let mut rest = index;
+    while rest >= 64 {
+        out.push((128 + rest % 128) as u8)?;
+        rest /= 128;
+    }
+    out.push(rest as u8)?;
+    Ok(())
+}
+
+/// Writes a count or a size.
+pub(crate) fn put_count(out: &mut Vec<u8>, len: usize) -> Result<(), BuildFault>
+    ensures { Writes out.old.items out.new.items result (quantity len) }
+{
+    let len = counted(len as u128)?;
+    put_number(out, len)?;
+    Ok(())
+}
+
+pub(crate) fn put_bytes(out: &mut Vec<u8>, bytes: &[u8]) -> Result<(), BuildFault>
+    ensures { Writes out.old.items out.new.items result (raw bytes.now) }
+{
+    out.extend_from_slice(bytes)?;
+    Ok(())
+}
+
+pub(crate) fn put_name(out: &mut Vec<u8>, text: &str) -> Result<(), BuildFault>
+    ensures { Writes out.old.items out.new.items result (named text.now) }
+{
+    put_count(out, text.len())?;
+    put_bytes(out, text.as_bytes())?;
+    Ok(())
+}
+
+/// A value that is written one way.
+pub(crate) trait Spell {
+    ghost spelling: { Self → Spelling };
+
+    fn put(&self, out: &mut Vec<u8>) -> Result<(), BuildFault>
+        ensures { Writes out.old.items out.new.items result (spelling self.now) };
+}
+
+pub(crate) fn put_each<T: Spell>(out: &mut Vec<u8>, items: &[T]) -> Result<(), BuildFault>
+    ensures { Writes out.old.items out.new.items result (each T.spelling items.now) }
+{
+    for item in items {
+        item.put(out)?;
+    }
+    Ok(())
+}
+
+impl Spell for u32 {
+    ghost spelling = { a_number };
+
+    fn put(&self, out: &mut Vec<u8>) -> Result<(), BuildFault> {
+        put_index(out, *self)
+    }
+}
+
+#[tactic(auto, using(crate::proofs::Pieces::writing))]
+impl<T: Spell> Spell for Seq<T> {
+    ghost spelling = { listed T.spelling };
+
+    fn put(&self, out: &mut Vec<u8>) -> Result<(), BuildFault> {
+        put_count(out, self.len())?;
+        put_each(out, self.as_slice())?;
+        Ok(())
+    }
+}
+
+/// Writes a byte that says what follows, and what follows.
+#[tactic(auto, using(crate::proofs::Pieces::writing))]
+pub(crate) fn put_tagged<T: Spell>(out: &mut Vec<u8>, tag: u8, x: &T) -> Result<(), BuildFault>
+    ensures { Writes out.old.items out.new.items result (octet tag ⊕ T.spelling x.now) }
+{
+    put_bytes(out, &[tag])?;
+    x.put(out)?;
+    Ok(())
+}
+
+impl<T: Spell> Spell for Option<T> {
+    ghost spelling = { optional T.spelling };
+
+    fn put(&self, out: &mut Vec<u8>) -> Result<(), BuildFault> {
+        match self {
+            None => put_bytes(out, &[0]),
+            Some(x) => put_tagged(out, 1, x),
+        }
+    }
+}

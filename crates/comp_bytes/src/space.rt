@@ -1,0 +1,78 @@
+//! Sorts of items, and the index spaces that they count up in.
+//!
+//! Component model, binary format: `core:sort`, `sort`.
+
+ghost use Rattle.std.specs.Prelude.{◌≡◌};
+ghost use Rattle.comp_bytes.specs.Spaces.{place, kind_space, sort_space};
+
+/// A kind of core item that a core instance exports.
+#[derive(Clone, Copy, Debug, PartialEq, Eq)]
+pub enum ExportKind {
+    Func,
+    Table,
+    Memory,
+    Global,
+}
+
+/// A sort of item that an instance has, or that an instantiation is given.
+#[derive(Clone, Copy, Debug, PartialEq, Eq)]
+pub enum Sort {
+    Core(ExportKind),
+    Func,
+    Type,
+    Component,
+    Instance,
+}
+
+/// An index space of a component, in the order of the bytes of their sorts.
+#[derive(Clone, Copy, Debug, PartialEq, Eq)]
+pub enum Space {
+    CoreFunc,
+    CoreTable,
+    CoreMemory,
+    CoreGlobal,
+    CoreModule,
+    CoreInstance,
+    Func,
+    Type,
+    Component,
+    Instance,
+}
+
+impl Space {
+    /// Its place in that order.
+    pub(crate) fn place(self) -> usize
+        ensures { result ≡ place self }
+    {
+        self as usize
+    }
+}
+
+impl ExportKind {
+    /// The space in which an item of this kind is counted.
+    pub fn space(self) -> Space
+        ensures { result ≡ kind_space self }
+    {
+        match self {
+            ExportKind::Func => Space::CoreFunc,
+            ExportKind::Table => Space::CoreTable,
+            ExportKind::Memory => Space::CoreMemory,
+            ExportKind::Global => Space::CoreGlobal,
+        }
+    }
+}
+
+impl Sort {
+    /// The space in which an item of this sort is counted.
+    pub fn space(self) -> Space
+        ensures { result ≡ sort_space self }
+    {
+        match self {
+            Sort::Core(kind) => kind.space(),
+            Sort::Func => Space::Func,
+            Sort::Type => Space::Type,
+            Sort::Component => Space::Component,
+            Sort::Instance => Space::Instance,
+        }
+    }
+}

@@ -1,0 +1,466 @@
+//! Each definition at the end of a buffer.
+#![tactic(auto, using(crate::proofs::Pieces::writing))]
+
+ghost use Rattle.std.specs.Prelude.{◌≡◌, ◌++◌, List, ℕ, OnOk, if◌then◌else◌};
+ghost use Rattle.comp_bytes.specs.Spelling.{leb, signed_leb, raw, octet, number, quantity, each, listed, named, optional, Spelling, Fits, ◌⊕◌};
+ghost use Rattle.comp_bytes.specs.Written.{Writes};
+ghost use Rattle.comp_bytes.specs.Grammar.{kind_byte, sort_bytes, primitive_byte, value_type, field, case_of, defined_type, function_result, function_type, resource_type, type_def, extern_name, description_bytes, alias_bytes, member, instance_type, option_bytes, intrinsic_bytes, flag, context_byte, core_arg, core_export_item, arg};
+
+use crate::canon::{CanonicalOption, ContextType, Intrinsic};
+use crate::def::{Argument, CoreArgument, CoreInlineExport};
+use crate::fault::BuildFault;
+use crate::number::{Spell, put_bytes, put_index, put_name, put_tagged, put_type_index};
+use crate::space::{ExportKind, Sort};
+use crate::types::{
+    Alias, Case, ComponentValType, DefinedType, Description, ExternName, Field, FuncTypeDef,
+    InstanceType, Member, Primitive, TypeDef,
+};
+use comp_lists::{Seq, Text};
+
+fn byte_of_kind(kind: ExportKind) -> u8
+    ensures { result ≡ kind_byte kind }
+{
+    match kind {
+        ExportKind::Func => 0x00,
+        ExportKind::Table => 0x01,
+        ExportKind::Memory => 0x02,
+        ExportKind::Global => 0x03,
+    }
+}
+
+fn byte_of_primitive(primitive: Primitive) -> u8
+    ensures { result ≡ primitive_byte primitive }
+{
+    match primitive {
+        Primitive::Bool => 0x7f,
+        Primitive::S8 => 0x7e,
+        Primitive::U8 => 0x7d,
+        Primitive::S16 => 0x7c,
+        Primitive::U16 => 0x7b,
+        Primitive::S32 => 0x7a,
+        Primitive::U32 => 0x79,
+        Primitive::S64 => 0x78,
+        Primitive::U64 => 0x77,
+        Primitive::F32 => 0x76,
+        Primitive::F64 => 0x75,
+        Primitive::Char => 0x74,
+        Primitive::String => 0x73,
+        Primitive::ErrorContext => 0x64,
+    }
+}
+
+impl Spell for Text {
+    ghost spelling = { named };
+
+    fn put(&self, out: &mut Vec<u8>) -> Result<(), BuildFault> {
+        put_name(out, self.as_str())
+    }
+}
+
+impl Spell for Sort {
+    ghost spelling = { sort_bytes };
+
+    fn put(&self, out: &mut Vec<u8>) -> Result<(), BuildFault> {
+        match *self {
+            Sort::Core(kind) => put_bytes(out, &[0x00, byte_of_kind(kind)]),
+            Sort::Func => put_bytes(out, &[0x01]),
+            Sort::Type => put_bytes(out, &[0x03]),
+            Sort::Component => put_bytes(out, &[0x04]),
+            Sort::Instance => put_bytes(out, &[0x05]),
+        }
+    }
+}
+
+impl Spell for ComponentValType {
+    ghost spelling = { value_type };
+
+    fn put(&self, out: &mut Vec<u8>) -> Result<(), BuildFault> {
+        match *self {
+            ComponentValType::Primitive(primitive) => {
+                put_bytes(out, &[byte_of_primitive(primitive)])
+            }
+            ComponentValType::Defined(index) => put_type_index(out, index),
+        }
+    }
+}
+
+impl Spell for Field {
+    ghost spelling = { field };
+
+    fn put(&self, out: &mut Vec<u8>) -> Result<(), BuildFault> {
+        self.name.put(out)?;
+        self.ty.put(out)?;
+        Ok(())
+    }
+}
+
+impl Spell for Case {
+    ghost spelling = { case_of };
+
+    fn put(&self, out: &mut Vec<u8>) -> Result<(), BuildFault> {
+        self.name.put(out)?;
+        self.ty.put(out)?;
+        put_bytes(out, &[0x00])?;
+        Ok(())
+    }
+}
+
+impl Spell for DefinedType {
+    ghost spelling = { defined_type };
+
+    fn put(&self, out: &mut Vec<u8>) -> Result<(), BuildFault> {
+        match self {
+            DefinedType::Primitive(primitive) => put_bytes(out, &[byte_of_primitive(*primitive)]),
+            DefinedType::Record(fields) => put_tagged(out, 0x72, fields),
+            DefinedType::Variant(cases) => put_tagged(out, 0x71, cases),
+            DefinedType::List(ty) => put_tagged(out, 0x70, ty),
+            DefinedType::Tuple(types) => put_tagged(out, 0x6f, types),
+            DefinedType::Flags(names) => put_tagged(out, 0x6e, names),
+            DefinedType::Enum(names) => put_tagged(out, 0x6d, names),
+            DefinedType::Option(ty) => put_tagged(out, 0x6b, ty),
+            DefinedType::Result { ok, err } => put_result_type(out, ok, err),
+            DefinedType::Own(index) => put_tagged(out, 0x69, index),
+            DefinedType::Borrow(index) => put_tagged(out, 0x68, index),
+            DefinedType::Stream(ty) => put_tagged(out, 0x66, ty),
+            DefinedType::Future(ty) => put_tagged(out, 0x65, ty),
+        }
+    }
+}
+
+fn put_result_type(
+    out: &mut Vec<u8>,
+    ok: &Option<ComponentValType>,
+    err: &Option<ComponentValType>,
+) -> Result<(), BuildFault>
+    ensures { Writes out.old.items out.new.items result (octet 0x6a ⊕ optional value_type ok.now ⊕ optional value_type err.now) }
+{
+    put_tagged(out, 0x6a, ok)?;
+    err.put(out)?;
+    Ok(())
+}
+
+fn put_result(out: &mut Vec<u8>, ty: &Option<ComponentValType>) -> Result<(), BuildFault>
+    ensures { Writes out.old.items out.new.items result (function_result ty.now) }
+{
+    match ty {
+        None => put_bytes(out, &[0x01, 0x00])?,
+        Some(ty) => {
+            put_bytes(out, &[0x00])?;
+            ty.put(out)?;
+        }
+    }
+    Ok(())
+}
+
+impl Spell for FuncTypeDef {
+    ghost spelling = { function_type };
+
+    fn put(&self, out: &mut Vec<u8>) -> Result<(), BuildFault> {
+        put_bytes(out, &[if self.async_ { 0x43 } else { 0x40 }])?;
+        self.params.put(out)?;
+        put_result(out, &self.result)?;
+        Ok(())
+    }
+}
+
+fn put_resource(out: &mut Vec<u8>, destructor: Option<u32>) -> Result<(), BuildFault>
+    ensures { Writes out.old.items out.new.items result (resource_type destructor) }
+{
+    match destructor {
+        None => put_bytes(out, &[0x3f, 0x7f, 0x00])?,
+        Some(index) => {
+            put_bytes(out, &[0x3f, 0x7f, 0x01])?;
+            put_index(out, index)?;
+        }
+    }
+    Ok(())
+}
+
+impl Spell for TypeDef {
+    ghost spelling = { type_def };
+
+    fn put(&self, out: &mut Vec<u8>) -> Result<(), BuildFault> {
+        match self {
+            TypeDef::Func(func) => func.put(out),
+            TypeDef::Resource(destructor) => put_resource(out, *destructor),
+            TypeDef::Defined(ty) => ty.put(out),
+        }
+    }
+}
+
+impl Spell for ExternName {
+    ghost spelling = { extern_name };
+
+    fn put(&self, out: &mut Vec<u8>) -> Result<(), BuildFault> {
+        match &self.version_suffix {
+            None => {
+                put_bytes(out, &[0x00])?;
+                self.name.put(out)?;
+            }
+            Some(suffix) => {
+                put_bytes(out, &[0x01])?;
+                self.name.put(out)?;
+                suffix.put(out)?;
+            }
+        }
+        Ok(())
+    }
+}
+
+impl Spell for Description {
+    ghost spelling = { description_bytes };
+
+    fn put(&self, out: &mut Vec<u8>) -> Result<(), BuildFault> {
+        match *self {
+            Description::Func(index) => {
+                put_bytes(out, &[0x01])?;
+                put_index(out, index)?;
+            }
+            Description::TypeEqual(index) => {
+                put_bytes(out, &[0x03, 0x00])?;
+                put_index(out, index)?;
+            }
+            Description::SubResource => put_bytes(out, &[0x03, 0x01])?,
+            Description::Instance(index) => {
+                put_bytes(out, &[0x05])?;
+                put_index(out, index)?;
+            }
+        }
+        Ok(())
+    }
+}
+
+impl Spell for Alias {
+    ghost spelling = { alias_bytes };
+
+    fn put(&self, out: &mut Vec<u8>) -> Result<(), BuildFault> {
+        match self {
+            Alias::Export {
+                sort,
+                instance,
+                name,
+            } => {
+                sort.put(out)?;
+                put_bytes(out, &[0x00])?;
+                put_index(out, *instance)?;
+                name.put(out)?;
+            }
+            Alias::CoreExport {
+                kind,
+                instance,
+                name,
+            } => {
+                put_bytes(out, &[0x00, byte_of_kind(*kind), 0x01])?;
+                put_index(out, *instance)?;
+                name.put(out)?;
+            }
+            Alias::Outer { count, index } => {
+                put_bytes(out, &[0x03, 0x02])?;
+                put_index(out, *count)?;
+                put_index(out, *index)?;
+            }
+        }
+        Ok(())
+    }
+}
+
+pub(crate) fn put_extern(
+    out: &mut Vec<u8>,
+    name: &ExternName,
+    description: Description,
+) -> Result<(), BuildFault>
+    ensures { Writes out.old.items out.new.items result (extern_name name.now ⊕ description_bytes description) }
+{
+    name.put(out)?;
+    description.put(out)?;
+    Ok(())
+}
+
+fn put_tagged_extern(
+    out: &mut Vec<u8>,
+    name: &ExternName,
+    description: Description,
+) -> Result<(), BuildFault>
+    ensures { Writes out.old.items out.new.items result (octet 0x04 ⊕ extern_name name.now ⊕ description_bytes description) }
+{
+    put_bytes(out, &[0x04])?;
+    put_extern(out, name, description)?;
+    Ok(())
+}
+
+impl Spell for Member {
+    ghost spelling = { member };
+
+    fn put(&self, out: &mut Vec<u8>) -> Result<(), BuildFault> {
+        match self {
+            Member::Type(ty) => put_tagged(out, 0x01, ty),
+            Member::Alias(alias) => put_tagged(out, 0x02, alias),
+            Member::Export { name, description } => put_tagged_extern(out, name, *description),
+        }
+    }
+}
+
+impl Spell for CanonicalOption {
+    ghost spelling = { option_bytes };
+
+    fn put(&self, out: &mut Vec<u8>) -> Result<(), BuildFault> {
+        match self {
+            CanonicalOption::Utf8 => put_bytes(out, &[0x00]),
+            CanonicalOption::Utf16 => put_bytes(out, &[0x01]),
+            CanonicalOption::CompactUtf16 => put_bytes(out, &[0x02]),
+            CanonicalOption::Memory(index) => put_tagged(out, 0x03, index),
+            CanonicalOption::Realloc(index) => put_tagged(out, 0x04, index),
+            CanonicalOption::PostReturn(index) => put_tagged(out, 0x05, index),
+            CanonicalOption::Async => put_bytes(out, &[0x06]),
+            CanonicalOption::Callback(index) => put_tagged(out, 0x07, index),
+        }
+    }
+}
+
+fn put_task_return(
+    out: &mut Vec<u8>,
+    ty: &Option<ComponentValType>,
+    options: &Seq<CanonicalOption>,
+) -> Result<(), BuildFault>
+    ensures { Writes out.old.items out.new.items result (octet 0x09 ⊕ function_result ty.now ⊕ listed option_bytes options.now) }
+{
+    put_bytes(out, &[0x09])?;
+    put_result(out, ty)?;
+    options.put(out)?;
+    Ok(())
+}
+
+fn put_with_options(
+    out: &mut Vec<u8>,
+    tag: u8,
+    index: u32,
+    options: &Seq<CanonicalOption>,
+) -> Result<(), BuildFault>
+    ensures { Writes out.old.items out.new.items result (octet tag ⊕ number index ⊕ listed option_bytes options.now) }
+{
+    put_tagged(out, tag, &index)?;
+    options.put(out)?;
+    Ok(())
+}
+
+fn byte_of_flag(set: bool) -> u8
+    ensures { result ≡ (if set then 0x01 else 0x00) }
+{
+    if set { 0x01 } else { 0x00 }
+}
+
+fn byte_of_context(ty: ContextType) -> u8
+    ensures { result ≡ context_byte ty }
+{
+    match ty {
+        ContextType::I32 => 0x7f,
+        ContextType::I64 => 0x7e,
+    }
+}
+
+fn put_context(out: &mut Vec<u8>, tag: u8, ty: ContextType, slot: u32) -> Result<(), BuildFault>
+    ensures { Writes out.old.items out.new.items result (octet tag ⊕ octet (context_byte ty) ⊕ number slot) }
+{
+    put_bytes(out, &[tag, byte_of_context(ty)])?;
+    put_index(out, slot)?;
+    Ok(())
+}
+
+fn put_with_flag(out: &mut Vec<u8>, tag: u8, index: u32, set: bool) -> Result<(), BuildFault>
+    ensures { Writes out.old.items out.new.items result (octet tag ⊕ number index ⊕ flag set) }
+{
+    put_tagged(out, tag, &index)?;
+    put_bytes(out, &[byte_of_flag(set)])?;
+    Ok(())
+}
+
+fn put_memory_call(out: &mut Vec<u8>, tag: u8, index: u32) -> Result<(), BuildFault>
+    ensures { Writes out.old.items out.new.items result (octet tag ⊕ octet 0x00 ⊕ number index) }
+{
+    put_bytes(out, &[tag, 0x00])?;
+    put_index(out, index)?;
+    Ok(())
+}
+
+impl Spell for Intrinsic {
+    ghost spelling = { intrinsic_bytes };
+
+    fn put(&self, out: &mut Vec<u8>) -> Result<(), BuildFault> {
+        match self {
+            Intrinsic::ResourceNew(index) => put_tagged(out, 0x02, index),
+            Intrinsic::ResourceDrop(index) => put_tagged(out, 0x03, index),
+            Intrinsic::ResourceRep(index) => put_tagged(out, 0x04, index),
+            Intrinsic::TaskCancel => put_bytes(out, &[0x05]),
+            Intrinsic::SubtaskCancel { async_ } => put_bytes(out, &[0x06, byte_of_flag(*async_)]),
+            Intrinsic::TaskReturn { result, options } => put_task_return(out, result, options),
+            Intrinsic::ContextGet { ty, slot } => put_context(out, 0x0a, *ty, *slot),
+            Intrinsic::ContextSet { ty, slot } => put_context(out, 0x0b, *ty, *slot),
+            Intrinsic::SubtaskDrop => put_bytes(out, &[0x0d]),
+            Intrinsic::StreamNew(index) => put_tagged(out, 0x0e, index),
+            Intrinsic::StreamRead { ty, options } => put_with_options(out, 0x0f, *ty, options),
+            Intrinsic::StreamWrite { ty, options } => put_with_options(out, 0x10, *ty, options),
+            Intrinsic::StreamCancelRead { ty, async_ } => put_with_flag(out, 0x11, *ty, *async_),
+            Intrinsic::StreamCancelWrite { ty, async_ } => put_with_flag(out, 0x12, *ty, *async_),
+            Intrinsic::StreamDropReadable(index) => put_tagged(out, 0x13, index),
+            Intrinsic::StreamDropWritable(index) => put_tagged(out, 0x14, index),
+            Intrinsic::FutureNew(index) => put_tagged(out, 0x15, index),
+            Intrinsic::FutureRead { ty, options } => put_with_options(out, 0x16, *ty, options),
+            Intrinsic::FutureWrite { ty, options } => put_with_options(out, 0x17, *ty, options),
+            Intrinsic::FutureCancelRead { ty, async_ } => put_with_flag(out, 0x18, *ty, *async_),
+            Intrinsic::FutureCancelWrite { ty, async_ } => put_with_flag(out, 0x19, *ty, *async_),
+            Intrinsic::FutureDropReadable(index) => put_tagged(out, 0x1a, index),
+            Intrinsic::FutureDropWritable(index) => put_tagged(out, 0x1b, index),
+            Intrinsic::ErrorContextNew { options } => put_tagged(out, 0x1c, options),
+            Intrinsic::ErrorContextDebugMessage { options } => put_tagged(out, 0x1d, options),
+            Intrinsic::ErrorContextDrop => put_bytes(out, &[0x1e]),
+            Intrinsic::WaitableSetNew => put_bytes(out, &[0x1f]),
+            Intrinsic::WaitableSetWait { memory } => put_memory_call(out, 0x20, *memory),
+            Intrinsic::WaitableSetPoll { memory } => put_memory_call(out, 0x21, *memory),
+            Intrinsic::WaitableSetDrop => put_bytes(out, &[0x22]),
+            Intrinsic::WaitableJoin => put_bytes(out, &[0x23]),
+            Intrinsic::BackpressureInc => put_bytes(out, &[0x24]),
+            Intrinsic::BackpressureDec => put_bytes(out, &[0x25]),
+        }
+    }
+}
+
+impl Spell for CoreArgument {
+    ghost spelling = { core_arg };
+
+    fn put(&self, out: &mut Vec<u8>) -> Result<(), BuildFault> {
+        self.name.put(out)?;
+        put_bytes(out, &[0x12])?;
+        put_index(out, self.instance)?;
+        Ok(())
+    }
+}
+
+impl Spell for CoreInlineExport {
+    ghost spelling = { core_export_item };
+
+    fn put(&self, out: &mut Vec<u8>) -> Result<(), BuildFault> {
+        self.name.put(out)?;
+        put_bytes(out, &[byte_of_kind(self.kind)])?;
+        put_index(out, self.index)?;
+        Ok(())
+    }
+}
+
+impl Spell for Argument {
+    ghost spelling = { arg };
+
+    fn put(&self, out: &mut Vec<u8>) -> Result<(), BuildFault> {
+        self.name.put(out)?;
+        self.sort.put(out)?;
+        put_index(out, self.index)?;
+        Ok(())
+    }
+}
+
+impl Spell for InstanceType {
+    ghost spelling = { instance_type };
+
+    fn put(&self, out: &mut Vec<u8>) -> Result<(), BuildFault> {
+        put_tagged(out, 0x42, &self.members)
+    }
+}
