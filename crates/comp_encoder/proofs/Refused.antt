@@ -1,5 +1,7 @@
 -- Refusals of the encoding state as refusals of the encoder.
-use Rattle.std.proofs.Common.{◌≡◌, refl, tt, subst, sym, rw}
+use Rattle.std.proofs.Common.{◌≡◌, refl, subst, sym, Result, Ok, Err}
+use Rattle.std.specs.Prelude.{IfErr}
+use Rattle.std.specs.Result.{IsErrAnd}
 use Rattle.comp_worlds.specs.declared.world.ComponentWorld.{ComponentWorld}
 use Rattle.comp_worlds.specs.declared.lower.Lower as lower
 use Rattle.comp_encoder.specs.Encoder.{Encoder, IsWorldOf}
@@ -12,3 +14,8 @@ module _ {L B F : Type 0} (l : lower.Ghosts L B F) where
   pub from_state : (e : Encoder L B) (w : ComponentWorld) (s : StateFault) → IsWorldOf l e w → IsStateRefusal w s → IsEncodeRefusal l e (of_state s)
   from_state e w state.Memory is h = tt
   from_state e w (state.NoEncoding place) is h = subst (λ x. IsStateRefusal x (state.NoEncoding place)) is.prepared h
+  from_state e w (state.TooMany excess) is h = subst (λ x. IsStateRefusal x (state.TooMany excess)) is.prepared h
+
+pub refused_as : {X E : Type 0} (r : Result X E) (e : E) (P : E → Type 0) → IsErrAnd r (λ x. x ≡ e) → P e → IfErr r P
+refused_as (Ok x) e P h k = absurd h
+refused_as (Err x) e P h k = subst P (sym h) k

@@ -5,7 +5,7 @@ use Rattle.comp_worlds.specs.declared.lower.Lower as lower
 use Rattle.comp_encoder.specs.Encoder.{Encoder, main_bytes}
 use Rattle.comp_encoder.specs.Standing.{HasEncodings, IsStateRefusal}
 use Rattle.comp_encoder.specs.declared.fault.EncodeFault.{EncodeFault}
-use Rattle.comp_encoder.specs.declared.fault.EncodeFault.TheVariants.{Memory, NoModule, Lower, NoEncoding}
+use Rattle.comp_encoder.specs.declared.fault.EncodeFault.TheVariants.{Memory, NoModule, Lower, NoEncoding, TooMany}
 use Rattle.comp_encoder.specs.declared.standing.StateFault.{StateFault}
 use Rattle.comp_encoder.specs.declared.standing.StateFault.TheVariants as state
 
@@ -13,6 +13,7 @@ use Rattle.comp_encoder.specs.declared.standing.StateFault.TheVariants as state
 abbrev pub of_state : {F : Type 0} → StateFault → EncodeFault F
 of_state state.Memory = Memory
 of_state (state.NoEncoding place) = NoEncoding place
+of_state (state.TooMany excess) = TooMany excess
 
 module _ {L B F : Type 0} (l : lower.Ghosts L B F) where
   -- why the lower layer refuses a module: its bytes, or what they say beside what was said before
@@ -25,6 +26,7 @@ module _ {L B F : Type 0} (l : lower.Ghosts L B F) where
   IsModuleRefusal e bytes (Lower f) = (l.memory_fault e.lower f ≡ false) × ModuleCause e bytes f
   IsModuleRefusal e bytes NoModule = ⊥
   IsModuleRefusal e bytes (NoEncoding place) = ⊥
+  IsModuleRefusal e bytes (TooMany excess) = ⊥
 
   -- a refusal of `encode` is memory, or has its cause
   abbrev pub IsEncodeRefusal : Encoder L B → EncodeFault F → Type 0
@@ -32,6 +34,7 @@ module _ {L B F : Type 0} (l : lower.Ghosts L B F) where
   IsEncodeRefusal e NoModule = main_bytes e.gathered.main ≡ []
   IsEncodeRefusal e (Lower f) = (l.memory_fault e.lower f ≡ false) × l.prepare_cause e.lower e.gathered f
   IsEncodeRefusal e (NoEncoding place) = IsStateRefusal (l.prepared e.lower e.gathered) (state.NoEncoding place)
+  IsEncodeRefusal e (TooMany excess) = IsStateRefusal (l.prepared e.lower e.gathered) (state.TooMany excess)
 
   -- nothing stands against the world of what was gathered
   pub record NoWorldCause (e : Encoder L B) : Type 0 where

@@ -4,6 +4,7 @@ ghost use Rattle.std.specs.Prelude.{◌≡◌};
 ghost use Rattle.comp_encoder.specs.declared.fault.EncodeFault.TheVariants.{Memory};
 
 use crate::standing::StateFault;
+use comp_bytes::Excess;
 use comp_lists::Text;
 use std::alloc::{AllocError, AllocFailed};
 use std::fmt::Display;
@@ -27,6 +28,9 @@ pub enum EncodeFault<F> {
     /// import, and the function's name for an export (Canonical ABI, `string-encoding`).
     #[error("E9 NoEncoding place={place}")]
     NoEncoding { place: Text },
+    /// A count, or the size of a section, a module or a component, would pass 2^32 - 1.
+    #[error("E16 TooMany excess={excess}")]
+    TooMany { excess: Excess },
 }
 
 impl<F> From<AllocError> for EncodeFault<F> {
@@ -54,6 +58,7 @@ impl<F> From<StateFault> for EncodeFault<F> {
         match fault {
             StateFault::Memory => EncodeFault::Memory,
             StateFault::NoEncoding { place } => EncodeFault::NoEncoding { place },
+            StateFault::TooMany { excess } => EncodeFault::TooMany { excess },
         }
     }
 }

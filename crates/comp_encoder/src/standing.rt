@@ -5,6 +5,7 @@ ghost use Rattle.comp_worlds.specs.Worlds.{IsWorld};
 ghost use Rattle.comp_encoder.specs.Standing.{IsWhole, HasEncodings, IsStateRefusal};
 ghost use Rattle.comp_encoder.specs.declared.standing.StateFault.TheVariants.{Memory};
 
+use comp_bytes::Excess;
 use comp_lists::Text;
 use comp_worlds::ComponentWorld;
 use std::alloc::{AllocError, Global};
@@ -13,6 +14,7 @@ use std::alloc::{AllocError, Global};
 pub enum StateFault {
     Memory,
     NoEncoding { place: Text },
+    TooMany { excess: Excess },
 }
 
 impl From<AllocError> for StateFault {
