@@ -18,11 +18,6 @@ abbrev pub of_put : {F : Type 0} → List ℕ → StoreFault → RunFault F
 of_put name store_faults.Device = Write name
 of_put name store_faults.Memory = no_memory
 
--- what the answer to a put is to the run
-abbrev pub after_put : {F : Type 0} → List ℕ → Result ⊤ StoreFault → Result ⊤ (RunFault F)
-after_put name (Ok x) = Ok x
-after_put name (Err f) = Err (of_put name f)
-
 -- 1 where the fault is a refusal of the device
 abbrev pub told_faults : {F : Type 0} → Result ⊤ (RunFault F) → ℕ
 told_faults (Err (Read name)) = 1

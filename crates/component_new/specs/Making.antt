@@ -6,10 +6,11 @@ use Rattle.comp_encoder.specs.Encoder.{Encoder, fresh, after_module}
 use Rattle.comp_encoder.specs.Refusals.{ModuleCause, IsModuleRefusal, NoEncodeCause, IsEncodeRefusal}
 use Rattle.comp_encoder.specs.Component.{IsEncoding}
 use Rattle.comp_encoder.specs.declared.fault.EncodeFault.{EncodeFault}
-use Rattle.component_new.specs.Events.{Event, read_gave, put_gave}
-use Rattle.component_new.specs.Faults.{no_memory, of_read, after_put}
+use Rattle.component_new.specs.Faults.{no_memory}
 use Rattle.component_new.specs.declared.arguments.Arguments.{Arguments}
 use Rattle.component_new.specs.declared.fault.RunFault.{RunFault}
+use Rattle.component_new.specs.declared.store.Event.{Event}
+use Rattle.component_new.specs.declared.store.Event.TheVariants.{Read, NotRead, Put, NotPut}
 use Rattle.component_new.specs.declared.fault.RunFault.TheVariants as faults
 
 module _ {L B F : Type 0} (l : lower.Ghosts L B F) where
@@ -32,10 +33,14 @@ module _ {L B F : Type 0} (l : lower.Ghosts L B F) where
   IsRefused layer bytes _ = ⊥
 
   -- What was read and put, and how the run ended: MAIN is read, once; OUT is put, once and last,
-  -- where what was read has a component, which is what is put; nothing else is read or put.
+  -- where what was read has a component, which is what is put; nothing else is read or put. The
+  -- first case is want of memory before MAIN was read.
   abbrev pub Made : L → Arguments → List Event → Result ⊤ (RunFault F) → Type 0
-  Made layer names (read_gave name (Err f) ∷ []) r = (name ≡ names.main) × (r ≡ Err (of_read names.main f))
-  Made layer names (read_gave name (Ok bytes) ∷ []) r = (name ≡ names.main) × IsRefused layer bytes r
-  Made layer names (read_gave name (Ok bytes) ∷ put_gave to component answer ∷ []) r =
-    (name ≡ names.main) × (to ≡ names.out) × IsMade layer bytes component × (r ≡ after_put names.out answer)
+  Made layer names [] r = r ≡ Err no_memory
+  Made layer names (NotRead name ∷ []) r = (name ≡ names.main) × (r ≡ Err (faults.Read names.main))
+  Made layer names (Read name bytes ∷ []) r = (name ≡ names.main) × IsRefused layer bytes r
+  Made layer names (Read name bytes ∷ Put to component ∷ []) r =
+    (name ≡ names.main) × (to ≡ names.out) × IsMade layer bytes component × (r ≡ Ok tt)
+  Made layer names (Read name bytes ∷ NotPut to component ∷ []) r =
+    (name ≡ names.main) × (to ≡ names.out) × IsMade layer bytes component × (r ≡ Err (faults.Write names.out))
   Made layer names _ r = ⊥

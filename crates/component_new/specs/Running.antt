@@ -1,12 +1,13 @@
 -- What a run of the program does. (The program's own.)
-use Rattle.std.specs.Prelude.{◌≡◌, ℕ, List, [], ⊤, ◌⊎◌, Option, Some, None, Result, Ok, Err}
+use Rattle.std.specs.Prelude.{◌≡◌, ℕ, List, [], ⊤, Option, Some, None, Result, Ok, Err}
 use Rattle.comp_worlds.specs.declared.lower.Lower as lower
 use Rattle.component_new.specs.Arguments.{names_of}
-use Rattle.component_new.specs.Events.{Event, come, device_faults}
-use Rattle.component_new.specs.Faults.{no_memory, status_of, told_faults}
+use Rattle.component_new.specs.Events.{happen, device_faults}
+use Rattle.component_new.specs.Faults.{status_of, told_faults}
 use Rattle.component_new.specs.Making.{Made}
 use Rattle.component_new.specs.Telling.{IsLineOf, Says}
 use Rattle.component_new.specs.declared.fault.RunFault.{RunFault}
+use Rattle.component_new.specs.declared.store.Event.{Event}
 use Rattle.component_new.specs.declared.fault.RunFault.TheVariants.{Usage}
 
 -- what is said of how a run ended: nothing of success, a line of a failure
@@ -15,16 +16,15 @@ Told before after (Ok x) = after ≡ before
 Told before after (Err f) = Says before after (IsLineOf f)
 
 module _ {L B F : Type 0} (l : lower.Ghosts L B F) where
-  -- With wrong arguments nothing is read or put. With right ones the component is made, unless there
-  -- is no memory for their copies.
+  -- With wrong arguments nothing is read or put; with right ones the component is made.
   abbrev pub Did : L → Option (List ℕ × List ℕ) → List Event → Result ⊤ (RunFault F) → Type 0
   Did layer None es r = (es ≡ []) × (r ≡ Err Usage)
-  Did layer (Some names) es r = ((es ≡ []) × (r ≡ Err no_memory)) ⊎ Made l layer (record { out = names.0; main = names.1 }) es r
+  Did layer (Some names) es r = Made l layer (record { out = names.0; main = names.1 }) es r
 
   -- What was asked for was done, and this was the end of it: these events came, each refusal of the device was told.
   pub record Performed (layer : L) (names : Option (List ℕ × List ℕ)) (before after : Option (List Event)) (ended : Result ⊤ (RunFault F)) : Type 0 where
     pub events : List Event
-    pub came : after ≡ come before events
+    pub happened : after ≡ happen before events
     pub did : Did layer names events ended
     pub counted : device_faults events ≡ told_faults ended
 

@@ -1,7 +1,8 @@
 //! From a file to a file.
 
 ghost use Rattle.std.specs.Prelude.{◌≡◌, List, IfOk, IfErr};
-ghost use Rattle.component_new.specs.Events.{Event, come};
+ghost use Rattle.component_new.specs.Events.{happen};
+ghost use Rattle.component_new.specs.declared.store.Event.{Event};
 ghost use Rattle.component_new.specs.Making.{IsMade, IsMakeRefusal, Made};
 
 use crate::arguments::Arguments;
@@ -32,7 +33,7 @@ pub(crate) fn make<L: Lower + Drop, S: Store>(
     arguments: Arguments,
     store: &mut S,
 ) -> Result<(), RunFault<L::Fault>>
-    ensures { (es : List Event) × (S.events store.new ≡ come (S.events store.old) es) × Made L.Lower lower arguments es result }
+    ensures { (es : List Event) × (S.events store.new ≡ happen (S.events store.old) es) × Made L.Lower lower arguments es result }
 {
     let Arguments { out, main } = arguments;
     let bytes = match store.read(alloc, main.as_str()) {

@@ -1,9 +1,9 @@
 use Rattle.std.proofs.Common.{Err, refl, ap}
-use Rattle.component_new.proofs.Steps.{two_came}
+use Rattle.component_new.proofs.Steps.{two_happened, not_read, not_put}
 use Rattle.component_new.proofs.making.make.Goals as goal
 
 pub returns-in-Err : goal.returns-in-Err
-returns-in-Err g c = (_, c.in-Err.ensures, (c.as_str.ensures, ap (λ x. Err x) c.read_fault.ensures))
+returns-in-Err g c = (_, c.in-Err.ensures, not_read g.L.Lower c.args.lower c.args.arguments _ _ _ c.as_str.ensures c.read_fault.ensures)
 
 pub returns-in-Err-component_of : goal.returns-in-Err-component_of
 returns-in-Err-component_of g c =
@@ -11,8 +11,9 @@ returns-in-Err-component_of g c =
 
 pub returns-in-Ok-put : goal.returns-in-Ok-put
 returns-in-Ok-put g c =
-    (_, two_came _ _ _ _ _ c.in-Ok.ensures c.in-Ok-put.ensures, (c.as_str.ensures, c.as_str-2.ensures, rw (c.deref-2.ensures.value, ← c.deref.ensures.value) c.in-Ok-component_of.ensures.ok, refl))
+    (_, two_happened _ _ _ _ _ c.in-Ok.ensures c.in-Ok-put.ensures, (c.as_str.ensures, c.as_str-2.ensures, rw (c.deref-2.ensures.value, ← c.deref.ensures.value) c.in-Ok-component_of.ensures.ok, refl))
 
 pub returns-in-Err-put : goal.returns-in-Err-put
 returns-in-Err-put g c =
-    (_, two_came _ _ _ _ _ c.in-Ok.ensures c.in-Err-put.ensures, (c.as_str.ensures, c.as_str-2.ensures, rw (c.deref-2.ensures.value, ← c.deref.ensures.value) c.in-Ok-component_of.ensures.ok, ap (λ x. Err x) c.put_fault.ensures))
+    (_, two_happened _ _ _ _ _ c.in-Ok.ensures c.in-Err-put.ensures,
+        not_put g.L.Lower c.args.lower c.args.arguments _ _ _ _ _ _ c.as_str.ensures c.as_str-2.ensures (rw (c.deref-2.ensures.value, ← c.deref.ensures.value) c.in-Ok-component_of.ensures.ok) c.put_fault.ensures)
