@@ -3,6 +3,7 @@ use Rattle.std.proofs.Common.{get_or, take, ◌≡◌, ℕ, zero, suc, ◌+◌, 
 use Rattle.std.proofs.lemmas.Option.{same_Some, none-some}
 use Rattle.std.proofs.lemmas.List.{take_more}
 use Rattle.std.specs.List.{slice_get, AllZip, AllByRecursion}
+use Rattle.std.specs.Prelude.{Contains, slice_index_or}
 
 pub slice_get-append : {X : Type 0} (xs ys : List X) (i : ℕ) (x : X) → slice_get xs i ≡ Some x → slice_get (xs ++ ys) i ≡ Some x
 slice_get-append [] ys i x e = cc
@@ -57,3 +58,20 @@ pub AllZip-more : {A B : Type 0} (R : A → B → Type 0) (xs new : List A) (ys 
     new ≡ xs ++ x ∷ [] → i < length ys → y ≡ get_or ys i y → AllZip R xs (take i ys) → R x y → AllZip R new (take (i + 1) ys)
 AllZip-more R xs new ys i x y pushed l is h k =
     rw (pushed, take_more ys i y l, ← is) (AllZip-end R xs (take i ys) x y h k)
+
+pub AllByRecursion-front : {X : Type 0} (P : X → Type 0) (xs ys : List X) → AllByRecursion P (xs ++ ys) → AllByRecursion P xs
+AllByRecursion-front P [] ys h = tt
+AllByRecursion-front P (x ∷ xs) ys h = (h.0, AllByRecursion-front P xs ys h.1)
+
+pub AllByRecursion-back : {X : Type 0} (P : X → Type 0) (xs ys : List X) → AllByRecursion P (xs ++ ys) → AllByRecursion P ys
+AllByRecursion-back P [] ys h = h
+AllByRecursion-back P (x ∷ xs) ys h = AllByRecursion-back P xs ys h.1
+
+all_at : {X : Type 0} (P : X → Type 0) (xs : List X) (k : ℕ) (x : X) → AllByRecursion P xs → k < length xs → slice_index_or xs k x ≡ x → P x
+all_at P [] k x h l e = absurd (omega arith)
+all_at P (y ∷ ys) zero x h l e = subst P e h.0
+all_at P (y ∷ ys) (suc k) x h l e = all_at P ys k x h.1 (omega arith) e
+
+-- what holds of all holds of each
+pub AllByRecursion-contains : {X : Type 0} (P : X → Type 0) (xs : List X) (x : X) → AllByRecursion P xs → Contains xs x → P x
+AllByRecursion-contains P xs x h m = all_at P xs m.0 x h m.1 m.2

@@ -1,5 +1,5 @@
 -- Look-ups by name in a list of pairs.
-use Rattle.std.proofs.Common.{◌≡◌, ℕ, ◌+◌, ◌<◌, ◌⊎◌, inl, inr, List, [], ◌∷◌, ◌++◌, length, get_or, drop, refl, sym, add-one, map, Option, Some, None, cond, Bool, true, false, IsSome, ◌||◌, Bor}
+use Rattle.std.proofs.Common.{◌∙◌, ap, append_assoc, is_some, true≢false, if◌then◌else◌, ◌≡◌, ℕ, ◌+◌, ◌<◌, ◌⊎◌, inl, inr, List, [], ◌∷◌, ◌++◌, length, get_or, drop, refl, sym, add-one, map, Option, Some, None, cond, Bool, true, false, IsSome, ◌||◌, Bor}
 use Rattle.std.proofs.Math.Seq.{drop-cons}
 use Rattle.std.proofs.lemmas.Option.{cond_some, same_Some}
 use Rattle.std.proofs.Math.Bool.{or-true}
@@ -7,6 +7,7 @@ use Rattle.std.specs.List.{list_any}
 use Rattle.std.proofs.lemmas.Slice.Eq.{bytes_eq-Decides}
 use Rattle.std.specs.Str.{bytes_eq}
 use Rattle.std.specs.Option.{option_copied}
+use Rattle.comp_lists.specs.Tables.{with_first}
 use Rattle.comp_lists.specs.Found.{found}
 
 -- a loop that looks for a name: the entry at i, or one after it
@@ -74,3 +75,32 @@ IsSome-copied (Some b) x h = refl
 pub some_of : {X : Type 0} (o : Option X) → IsSome o → (x : X) × (o ≡ Some x)
 some_of None h = cc
 some_of (Some x) h = (x, refl)
+
+-- an entry of another name is passed over
+pub found-skip : {X : Type 0} (name k : List ℕ) (v : X) (table rest : List (List ℕ × X)) → bytes_eq name k ≡ false → found name (table ++ (k, v) ∷ rest) ≡ found name (table ++ rest)
+found-skip name k v [] rest apart = ap (λ b. cond b (Some v) (found name rest)) apart
+found-skip name k v (e ∷ es) rest apart = ap (λ o. cond (bytes_eq name e.0) (Some e.1) o) (found-skip name k v es rest apart)
+
+-- what is found at the front doesn't depend on what follows
+pub found-front : {X : Type 0} (name : List ℕ) (table more : List (List ℕ × X)) → is_some (found name table) ≡ true → found name (table ++ more) ≡ found name table
+found-front name [] more h = absurd (true≢false (sym h))
+found-front {X} name (e ∷ es) more h = by (bytes_eq name e.0) (found-front name es more) h
+  where
+    by : (b : Bool) → (is_some (found name es) ≡ true → found name (es ++ more) ≡ found name es) →
+        is_some (cond b (Some e.1) (found name es)) ≡ true → cond b (Some e.1) (found name (es ++ more)) ≡ cond b (Some e.1) (found name es)
+    by true rest h = refl
+    by false rest h = rest h
+
+-- an entry that is added unless its name is there finds what an entry at the end finds
+pub found-with_first : {X : Type 0} (name k : List ℕ) (v : X) (table rest : List (List ℕ × X)) → found name (with_first bytes_eq table k v ++ rest) ≡ found name (table ++ (k, v) ∷ rest)
+found-with_first name k v table rest = by (is_some (found k table)) refl
+  where
+    same : (c : Bool) → bytes_eq name k ≡ c → is_some (found k table) ≡ true → found name (table ++ rest) ≡ found name (table ++ (k, v) ∷ rest)
+    same false apart h = sym (found-skip name k v table rest apart)
+    same true alike h =
+        let e : name ≡ k = (bytes_eq-Decides name k).0 alike in
+        let there : is_some (found name table) ≡ true = rw e h in
+        found-front name table rest there ∙ sym (found-front name table ((k, v) ∷ rest) there)
+    by : (b : Bool) → is_some (found k table) ≡ b → found name ((if b then table else table ++ (k, v) ∷ []) ++ rest) ≡ found name (table ++ (k, v) ∷ rest)
+    by false h = ap (found name) (append_assoc table ((k, v) ∷ []) rest)
+    by true h = same (bytes_eq name k) refl h

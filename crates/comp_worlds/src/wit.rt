@@ -1,6 +1,7 @@
 //! What a world imports and exports.
 
-use comp_lists::{Keyed, Text};
+use comp_lists::{Keyed, Text, TryClone};
+use std::alloc::{AllocError, Global};
 use std::hash::{Hash, Hasher};
 
 /// The key of an import or an export of a world.
@@ -8,6 +9,28 @@ use std::hash::{Hash, Hasher};
 pub enum WorldKey {
     /// A plain name.
     Name(Text),
+}
+
+impl WorldKey {
+    ghost use Rattle.std.specs.Prelude.{◌≡◌};
+    ghost use Rattle.comp_worlds.specs.Keys.{key_text};
+
+    /// The key as a text.
+    pub fn text(&self) -> &Text
+        ensures { result.now ≡ key_text self.now }
+    {
+        match self {
+            WorldKey::Name(text) => text,
+        }
+    }
+}
+
+impl TryClone for WorldKey {
+    fn try_clone(&self, alloc: Global) -> Result<WorldKey, AllocError> {
+        match self {
+            WorldKey::Name(text) => Ok(WorldKey::Name(text.clone(alloc)?)),
+        }
+    }
 }
 
 impl PartialEq for WorldKey {
