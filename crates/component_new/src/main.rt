@@ -17,6 +17,9 @@ mod running;
 mod store;
 mod telling;
 
+#[cfg(test)]
+mod tests;
+
 use files::Files;
 use running::run;
 use std::env::{self, Env};

@@ -1,0 +1,4 @@
+//! Runs over a store in memory: what no clause says of them, the printed lines above all.
+
+mod runs;
+mod store;
