@@ -5,16 +5,16 @@ use Rattle.std.specs.Result.{IsErrAnd}
 use Rattle.comp_worlds.specs.declared.world.ComponentWorld.{ComponentWorld}
 use Rattle.comp_worlds.specs.declared.lower.Lower as lower
 use Rattle.comp_encoder.specs.Encoder.{Encoder, IsWorldOf}
-use Rattle.comp_encoder.specs.Standing.{IsStateRefusal}
+use Rattle.comp_state.specs.Causes.{IsCause, LacksEncoding}
 use Rattle.comp_encoder.specs.Refusals.{of_state, IsEncodeRefusal}
-use Rattle.comp_encoder.specs.declared.standing.StateFault.{StateFault}
-use Rattle.comp_encoder.specs.declared.standing.StateFault.TheVariants as state
+use Rattle.comp_state.specs.declared.fault.StateFault.{StateFault}
+use Rattle.comp_state.specs.declared.fault.StateFault.TheVariants as state
 
 module _ {L B F : Type 0} (l : lower.Ghosts L B F) where
-  pub from_state : (e : Encoder L B) (w : ComponentWorld) (s : StateFault) → IsWorldOf l e w → IsStateRefusal w s → IsEncodeRefusal l e (of_state s)
+  pub from_state : (e : Encoder L B) (w : ComponentWorld) (s : StateFault) → IsWorldOf l e w → IsCause w s → IsEncodeRefusal l e (of_state s)
   from_state e w state.Memory is h = tt
-  from_state e w (state.NoEncoding place) is h = subst (λ x. IsStateRefusal x (state.NoEncoding place)) is.prepared h
-  from_state e w (state.TooMany excess) is h = subst (λ x. IsStateRefusal x (state.TooMany excess)) is.prepared h
+  from_state e w (state.NoEncoding place) is h = subst (λ x. LacksEncoding x place) is.prepared h
+  from_state e w (state.TooMany excess) is h = h
 
 pub refused_as : {X E : Type 0} (r : Result X E) (e : E) (P : E → Type 0) → IsErrAnd r (λ x. x ≡ e) → P e → IfErr r P
 refused_as (Ok x) e P h k = absurd h

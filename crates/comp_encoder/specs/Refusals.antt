@@ -1,13 +1,13 @@
 -- When the encoder's calls refuse. The rules are this project's own; the string encoding that a
 -- function needs is the Canonical ABI's `string-encoding`.
-use Rattle.std.specs.Prelude.{◌≡◌, ◌≢◌, ℕ, List, [], ⊤, false, ◌⊎◌, Option, None}
+use Rattle.std.specs.Prelude.{◌≡◌, ◌≢◌, ◌≤◌, ◌^◌, ℕ, List, [], ⊤, false, ◌⊎◌}
 use Rattle.comp_worlds.specs.declared.lower.Lower as lower
 use Rattle.comp_encoder.specs.Encoder.{Encoder, main_bytes}
-use Rattle.comp_encoder.specs.Standing.{HasEncodings, IsStateRefusal}
+use Rattle.comp_state.specs.Causes.{LacksEncoding}
+use Rattle.comp_state.specs.declared.fault.StateFault.{StateFault}
+use Rattle.comp_state.specs.declared.fault.StateFault.TheVariants as state
 use Rattle.comp_encoder.specs.declared.fault.EncodeFault.{EncodeFault}
 use Rattle.comp_encoder.specs.declared.fault.EncodeFault.TheVariants.{Memory, NoModule, Lower, NoEncoding, TooMany}
-use Rattle.comp_encoder.specs.declared.standing.StateFault.{StateFault}
-use Rattle.comp_encoder.specs.declared.standing.StateFault.TheVariants as state
 
 -- a fault of the encoding state as one of the encoder
 abbrev pub of_state : {F : Type 0} → StateFault → EncodeFault F
@@ -33,8 +33,8 @@ module _ {L B F : Type 0} (l : lower.Ghosts L B F) where
   IsEncodeRefusal e Memory = ⊤
   IsEncodeRefusal e NoModule = main_bytes e.gathered.main ≡ []
   IsEncodeRefusal e (Lower f) = (l.memory_fault e.lower f ≡ false) × l.prepare_cause e.lower e.gathered f
-  IsEncodeRefusal e (NoEncoding place) = IsStateRefusal (l.prepared e.lower e.gathered) (state.NoEncoding place)
-  IsEncodeRefusal e (TooMany excess) = IsStateRefusal (l.prepared e.lower e.gathered) (state.TooMany excess)
+  IsEncodeRefusal e (NoEncoding place) = LacksEncoding (l.prepared e.lower e.gathered) place
+  IsEncodeRefusal e (TooMany excess) = 2 ^ 32 ≤ excess
 
   -- nothing stands against the world of what was gathered
   pub record NoWorldCause (e : Encoder L B) : Type 0 where
@@ -44,4 +44,4 @@ module _ {L B F : Type 0} (l : lower.Ghosts L B F) where
   -- no cause of a refusal of `encode` holds, memory aside
   pub record NoEncodeCause (e : Encoder L B) : Type 0 where
     pub world : NoWorldCause e
-    pub encodings : HasEncodings (l.prepared e.lower e.gathered)
+    pub encodings : (place : List ℕ) → ¬ LacksEncoding (l.prepared e.lower e.gathered) place

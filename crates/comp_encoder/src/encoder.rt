@@ -6,7 +6,7 @@ ghost use Rattle.comp_encoder.specs.Refusals.{ModuleCause, IsModuleRefusal, NoWo
 ghost use Rattle.comp_encoder.specs.Component.{IsEncoding};
 
 use crate::fault::EncodeFault;
-use crate::standing::encode_world;
+use comp_state::encode_world;
 use comp_worlds::{ComponentWorld, EncoderOptions, Gathered, Lower, Part};
 use std::alloc::Global;
 use std::marker::Model;

@@ -3,9 +3,9 @@
 ghost use Rattle.std.specs.Prelude.{◌≡◌};
 ghost use Rattle.comp_encoder.specs.declared.fault.EncodeFault.TheVariants.{Memory};
 
-use crate::standing::StateFault;
 use comp_bytes::Excess;
 use comp_lists::Text;
+use comp_state::StateFault;
 use std::alloc::{AllocError, AllocFailed};
 use std::fmt::Display;
 use thiserror::Error;

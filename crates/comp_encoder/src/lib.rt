@@ -13,8 +13,8 @@
 
 mod encoder;
 mod fault;
-mod standing;
 
+pub use comp_state::EncodingState;
 pub use comp_worlds::Lower;
 pub use encoder::ComponentEncoder;
 pub use fault::EncodeFault;
