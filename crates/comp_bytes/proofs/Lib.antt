@@ -4,3 +4,5 @@ pub mod Runs
 pub mod Labels
 pub mod Unique
 pub mod Places
+pub mod Worked
+pub mod Scopes

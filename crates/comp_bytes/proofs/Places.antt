@@ -1,11 +1,10 @@
 -- Where an appended definition stands, and that appending moves no item.
-use Rattle.std.proofs.Common.{◌≡◌, ◌∙◌, ap, sym, ℕ, zero, suc, ◌<◌, ◌+◌, Bool, true, false, List, [], ◌∷◌, ◌++◌, length, refl, Option, Some, None, Result, Ok, Err, cond, filter, arith, count_by}
+use Rattle.std.proofs.Common.{◌≡◌, sym, subst, ℕ, zero, suc, ◌<◌, true, List, [], ◌∷◌, ◌++◌, length, refl, Option, Some, Result, Ok, Err, arith}
 use Rattle.std.proofs.lemmas.List.Elements.{filter-append}
 use Rattle.std.proofs.lemmas.List.Sums.{length-filter}
 use Rattle.std.specs.List.{slice_get}
-use Rattle.std.specs.Prelude.{◌==◌, IfOk}
 use Rattle.comp_lists.proofs.Lists.{slice_get-append, slice_get-end}
-use Rattle.comp_bytes.specs.Spaces.{place, is_space, space_of, items_in}
+use Rattle.comp_bytes.specs.Spaces.{is_space, space_of, items_in}
 use Rattle.comp_bytes.specs.Places.{in_space, IsAt}
 use Rattle.comp_bytes.specs.Built.{Built, Adds}
 use Rattle.comp_bytes.specs.declared.def.Def.{Def}
@@ -49,3 +48,9 @@ in_range {definitions} {space} {index} {definition} at = rw (← length-filter (
 -- what a call that adds a definition answers
 pub at_added : (old new : List Def) (space : Space) (index : ℕ) (definition : Def) → space_of definition ≡ Some space → index ≡ items_in space old → new ≡ old ++ definition ∷ [] → IsAt new space index definition
 at_added old new space index definition e i a = rw (i, a) (IsAt-end old space definition e)
+
+-- an item stays what it is, whatever a call that adds a definition answers
+pub kept : (old new : Built) (answer : Result ℕ BuildFault) (made : Space) (added : Def) (debug : Option (List ℕ)) {space : Space} {index : ℕ} {definition : Def} →
+    Adds old new answer made added debug → IsAt old.defs space index definition → IsAt new.defs space index definition
+kept old new (Ok n) made added debug {space} {index} {definition} a at = subst (λ (b : Built). IsAt b.defs space index definition) (sym a.1) (IsAt-append (added ∷ []) at)
+kept old new (Err e) made added debug {space} {index} {definition} a at = subst (λ (b : Built). IsAt b.defs space index definition) (sym a.0) at

@@ -1,12 +1,14 @@
--- What a builder holds: the definitions, and the debug names of their items.
-use Rattle.std.specs.Prelude.{ℕ, ◌≡◌, ◌+◌, ◌≤◌, ◌^◌, List, [], ◌∷◌, ◌++◌, Option, Some, None, Result, Ok, Err, get_or, map}
-use Rattle.comp_bytes.specs.Spaces.{place, items_in, space_of}
+-- What a builder of a component holds, and what its calls answer: definitions count their items up in each index
+-- space. Component model, binary format: index spaces.
+use Rattle.std.specs.Prelude.{ℕ, ◌≡◌, ◌+◌, ◌≤◌, ◌^◌, List, [], ◌∷◌, ◌++◌, Option, Some, None, Result, Ok, Err, get_or}
+use Rattle.comp_bytes.specs.Spaces.{place, items_in}
 use Rattle.comp_bytes.specs.declared.def.Def.{Def}
 use Rattle.comp_bytes.specs.declared.name.Name.{Name}
 use Rattle.comp_bytes.specs.declared.space.Space.{Space}
 use Rattle.comp_bytes.specs.declared.fault.BuildFault.{BuildFault}
 use Rattle.comp_bytes.specs.declared.fault.BuildFault.TheVariants.{Memory, TooMany}
 
+-- the definitions, and the debug names of their items
 pub record Built : Type 0 where
   pub defs : List Def
   pub names : List Name
@@ -14,6 +16,7 @@ pub record Built : Type 0 where
 abbrev pub nothing_built : Built
 nothing_built = record { defs = []; names = [] }
 
+-- the debug name of an item, where it gets one
 abbrev pub name_of : Space → ℕ → Option (List ℕ) → List Name
 name_of s index None = []
 name_of s index (Some text) = record { space = s; index = index; text = text } ∷ []

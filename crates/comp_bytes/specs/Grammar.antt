@@ -1,8 +1,14 @@
--- Each definition as bytes.
-use Rattle.std.specs.Prelude.{ℕ, ◌≡◌, List, [], ◌∷◌, map, Bool, true, false, Option, Some, None, if◌then◌else◌}
-use Rattle.comp_bytes.specs.Spelling.{Spelling, Fits, ◌⊕◌, raw, octet, number, signed_leb, each, listed, named, optional, Entry, component}
+-- Each definition as bytes, form by form.
+-- Component model, binary format; the names beside the definitions are those of its grammar. Where it isn't settled,
+-- these are this project's own: the version suffix of a name, `43` for an async function, the type of a context
+-- slot, and the `00` of the two waits.
+use Rattle.std.specs.Prelude.{ℕ, ◌≡◌, List, map, Bool, Option, Some, None, if◌then◌else◌}
+use Rattle.comp_bytes.specs.Spelling.{Spelling, Fits, ◌⊕◌, raw, octet, number, signed_leb, listed, named, optional}
+use Rattle.comp_bytes.specs.Sections.{Entry, component}
 use Rattle.comp_bytes.specs.declared.space.ExportKind.{ExportKind}
 use Rattle.comp_bytes.specs.declared.space.ExportKind.TheVariants as kinds
+use Rattle.comp_bytes.specs.declared.space.ComponentExportKind.{ComponentExportKind}
+use Rattle.comp_bytes.specs.declared.space.ComponentExportKind.TheVariants as exports
 use Rattle.comp_bytes.specs.declared.space.Sort.{Sort}
 use Rattle.comp_bytes.specs.declared.space.Sort.TheVariants as sorts
 use Rattle.comp_bytes.specs.declared.types.Primitive.{Primitive}
@@ -38,12 +44,21 @@ use Rattle.comp_bytes.specs.declared.def.Item.TheVariants as items
 use Rattle.comp_bytes.specs.declared.def.Def.{Def}
 use Rattle.comp_bytes.specs.declared.def.Def.TheVariants as defs
 
+-- core:sort, of the kinds that a core instance exports
 abbrev pub kind_byte : ExportKind → ℕ
 kind_byte kinds.Func = 0x00
 kind_byte kinds.Table = 0x01
 kind_byte kinds.Memory = 0x02
 kind_byte kinds.Global = 0x03
 
+-- sort, of the kinds that an instance exports
+abbrev pub export_byte : ComponentExportKind → ℕ
+export_byte exports.Func = 0x01
+export_byte exports.Type = 0x03
+export_byte exports.Component = 0x04
+export_byte exports.Instance = 0x05
+
+-- sort
 abbrev pub sort_bytes : Sort → Spelling
 sort_bytes (sorts.Core kind) = octet 0x00 ⊕ octet (kind_byte kind)
 sort_bytes sorts.Func = octet 0x01
@@ -51,6 +66,7 @@ sort_bytes sorts.Type = octet 0x03
 sort_bytes sorts.Component = octet 0x04
 sort_bytes sorts.Instance = octet 0x05
 
+-- primvaltype
 abbrev pub primitive_byte : Primitive → ℕ
 primitive_byte primitives.Bool = 0x7f
 primitive_byte primitives.S8 = 0x7e
@@ -67,16 +83,20 @@ primitive_byte primitives.Char = 0x74
 primitive_byte primitives.String = 0x73
 primitive_byte primitives.ErrorContext = 0x64
 
+-- valtype: a type index is a signed number, since a primitive type is a negative one
 abbrev pub value_type : ComponentValType → Spelling
 value_type (values.Primitive p) = octet (primitive_byte p)
 value_type (values.Defined index) = raw (signed_leb index)
 
+-- labelvaltype
 abbrev pub field : Field → Spelling
 field f = named f.name ⊕ value_type f.ty
 
+-- case; the `00` stands where a case once named another
 abbrev pub case_of : Case → Spelling
 case_of c = named c.name ⊕ optional value_type c.ty ⊕ octet 0x00
 
+-- defvaltype
 abbrev pub defined_type : DefinedType → Spelling
 defined_type (defined.Primitive p) = octet (primitive_byte p)
 defined_type (defined.Record fields) = octet 0x72 ⊕ listed field fields
@@ -92,44 +112,53 @@ defined_type (defined.Borrow index) = octet 0x68 ⊕ number index
 defined_type (defined.Stream t) = octet 0x66 ⊕ optional value_type t
 defined_type (defined.Future t) = octet 0x65 ⊕ optional value_type t
 
--- the result of a function: `00 t`, or `01 00` for none
+-- resultlist: `00 t`, or `01 00` for none
 abbrev pub function_result : Option ComponentValType → Spelling
 function_result None = octet 0x01 ⊕ octet 0x00
 function_result (Some t) = octet 0x00 ⊕ value_type t
 
+-- functype
 abbrev pub function_type : FuncTypeDef → Spelling
 function_type f = octet (if f.async_ then 0x43 else 0x40) ⊕ listed field f.params ⊕ function_result f.result
 
+-- resourcetype, represented by an i32, with its destructor
 abbrev pub resource_type : Option ℕ → Spelling
 resource_type destructor = octet 0x3f ⊕ octet 0x7f ⊕ optional number destructor
 
+-- deftype, but for an instance type
 abbrev pub type_def : TypeDef → Spelling
 type_def (types.Func f) = function_type f
 type_def (types.Resource destructor) = resource_type destructor
 type_def (types.Defined t) = defined_type t
 
+-- importname', exportname'
 abbrev pub extern_name : ExternName → Spelling
 extern_name n = elim n.version_suffix [ None ↦ octet 0x00 ⊕ named n.name | Some suffix ↦ octet 0x01 ⊕ named n.name ⊕ named suffix ]
 
+-- externdesc
 abbrev pub description_bytes : Description → Spelling
 description_bytes (descriptions.Func index) = octet 0x01 ⊕ number index
 description_bytes (descriptions.TypeEqual index) = octet 0x03 ⊕ octet 0x00 ⊕ number index
 description_bytes descriptions.SubResource = octet 0x03 ⊕ octet 0x01
 description_bytes (descriptions.Instance index) = octet 0x05 ⊕ number index
 
+-- alias
 abbrev pub alias_bytes : Alias → Spelling
-alias_bytes (aliases.Export sort instance name) = sort_bytes sort ⊕ octet 0x00 ⊕ number instance ⊕ named name
+alias_bytes (aliases.Export kind instance name) = octet (export_byte kind) ⊕ octet 0x00 ⊕ number instance ⊕ named name
 alias_bytes (aliases.CoreExport kind instance name) = octet 0x00 ⊕ octet (kind_byte kind) ⊕ octet 0x01 ⊕ number instance ⊕ named name
 alias_bytes (aliases.Outer count index) = octet 0x03 ⊕ octet 0x02 ⊕ number count ⊕ number index
 
+-- instancedecl
 abbrev pub member : Member → Spelling
 member (members.Type t) = octet 0x01 ⊕ type_def t
 member (members.Alias a) = octet 0x02 ⊕ alias_bytes a
 member (members.Export name description) = octet 0x04 ⊕ extern_name name ⊕ description_bytes description
 
+-- instancetype
 abbrev pub instance_type : InstanceType → Spelling
 instance_type t = octet 0x42 ⊕ listed member t.members
 
+-- canonopt
 abbrev pub option_bytes : CanonicalOption → Spelling
 option_bytes canonical.Utf8 = octet 0x00
 option_bytes canonical.Utf16 = octet 0x01
@@ -140,13 +169,16 @@ option_bytes (canonical.PostReturn index) = octet 0x05 ⊕ number index
 option_bytes canonical.Async = octet 0x06
 option_bytes (canonical.Callback index) = octet 0x07 ⊕ number index
 
+-- async?
 abbrev pub flag : Bool → Spelling
 flag b = octet (if b then 0x01 else 0x00)
 
+-- the core type of a context slot
 abbrev pub context_byte : ContextType → ℕ
 context_byte contexts.I32 = 0x7f
 context_byte contexts.I64 = 0x7e
 
+-- canon, but for lift and lower
 abbrev pub intrinsic_bytes : Intrinsic → Spelling
 intrinsic_bytes (intrinsics.ResourceNew index) = octet 0x02 ⊕ number index
 intrinsic_bytes (intrinsics.ResourceDrop index) = octet 0x03 ⊕ number index
@@ -182,24 +214,27 @@ intrinsic_bytes intrinsics.WaitableJoin = octet 0x23
 intrinsic_bytes intrinsics.BackpressureInc = octet 0x24
 intrinsic_bytes intrinsics.BackpressureDec = octet 0x25
 
-abbrev pub core_arg : CoreArgument → Spelling
-core_arg a = named a.name ⊕ octet 0x12 ⊕ number a.instance
+-- core:instantiatearg
+abbrev pub core_argument : CoreArgument → Spelling
+core_argument a = named a.name ⊕ octet 0x12 ⊕ number a.instance
 
-abbrev pub core_export_item : CoreInlineExport → Spelling
-core_export_item e = named e.name ⊕ octet (kind_byte e.kind) ⊕ number e.index
+-- core:inlineexport
+abbrev pub core_inline_export : CoreInlineExport → Spelling
+core_inline_export e = named e.name ⊕ octet (kind_byte e.kind) ⊕ number e.index
 
-abbrev pub arg : Argument → Spelling
-arg a = named a.name ⊕ sort_bytes a.sort ⊕ number a.index
+-- instantiatearg
+abbrev pub argument : Argument → Spelling
+argument a = named a.name ⊕ sort_bytes a.sort ⊕ number a.index
 
 abbrev pub entry : ℕ → Spelling → Entry
 entry id text = record { id = id; text = text }
 
--- a definition: the id of its section, and its bytes there
+-- section: the id of a definition's section, and what is written of it there
 abbrev pub item : Item → Entry
 item (items.CoreModule bytes) = entry 1 (raw bytes)
-item (items.CoreInstantiate made args) = entry 2 (octet 0x00 ⊕ number made ⊕ listed core_arg args)
-item (items.CoreExports exports) = entry 2 (octet 0x01 ⊕ listed core_export_item exports)
-item (items.Instantiate made args) = entry 5 (octet 0x00 ⊕ number made ⊕ listed arg args)
+item (items.CoreInstantiate made args) = entry 2 (octet 0x00 ⊕ number made ⊕ listed core_argument args)
+item (items.CoreExports entries) = entry 2 (octet 0x01 ⊕ listed core_inline_export entries)
+item (items.Instantiate made args) = entry 5 (octet 0x00 ⊕ number made ⊕ listed argument args)
 item (items.Alias a) = entry 6 (alias_bytes a)
 item (items.Type t) = entry 7 (type_def t)
 item (items.InstanceType t) = entry 7 (instance_type t)
@@ -210,6 +245,7 @@ item (items.Import name description) = entry 10 (extern_name name ⊕ descriptio
 item (items.Export name sort index description) = entry 11 (extern_name name ⊕ sort_bytes sort ⊕ number index ⊕ optional description_bytes description)
 item (items.Custom name contents) = entry 0 (named name ⊕ raw contents)
 
+-- the same of a definition, which may be a nested component
 abbrev pub definition : Def → Entry
 definition (defs.Item i) = item i
 definition (defs.Component inner) = entry 4 (component (map item inner))

@@ -7,7 +7,7 @@ ghost use Rattle.comp_bytes.specs.Built.{Built, nothing_built, and_then, name_of
 ghost use Rattle.comp_bytes.specs.Places.{IsAt};
 ghost use Rattle.comp_bytes.specs.Grammar.{Spells, spelling_of};
 ghost use Rattle.comp_bytes.specs.Written.{Refused};
-ghost use Rattle.comp_bytes.specs.Names.{AddsNames};
+ghost use Rattle.comp_bytes.specs.DebugNames.{AddsNames};
 ghost use Rattle.comp_bytes.specs.Optional.{option_now};
 
 use crate::def::{Def, Item};

@@ -4,7 +4,7 @@
 //! `export`.
 
 ghost use Rattle.std.specs.Prelude.{◌≡◌, IfOk, None};
-ghost use Rattle.comp_bytes.specs.Spaces.{kind_space, sort_space, description_space};
+ghost use Rattle.comp_bytes.specs.Spaces.{kind_space, export_space, sort_space, description_space};
 ghost use Rattle.comp_bytes.specs.Built.{Adds};
 ghost use Rattle.comp_bytes.specs.Places.{IsAt};
 ghost use Rattle.comp_bytes.specs.Core.{IsCoreModule};
@@ -14,7 +14,7 @@ use crate::builder::ComponentBuilder;
 use crate::canon::{CanonicalOption, Intrinsic};
 use crate::def::{Argument, CoreArgument, CoreInlineExport, Def, Item};
 use crate::fault::BuildFault;
-use crate::space::{ExportKind, Sort, Space};
+use crate::space::{ComponentExportKind, ExportKind, Sort, Space};
 use crate::types::{
     Alias, DefinedType, Description, ExternName, FuncTypeDef, InstanceType, TypeDef,
 };
@@ -89,17 +89,22 @@ impl ComponentBuilder {
     }
 
     /// An export of an instance.
-    pub fn alias_export(&mut self, instance: u32, name: &str, sort: Sort) -> Result<u32, BuildFault>
-        ensures adds { Adds self.old self.new result (sort_space sort) (Def.Item (Item.Alias (Alias.Export sort instance name.now))) None }
-        ensures at { IfOk result (λ answer. IsAt self.new.defs (sort_space sort) answer (Def.Item (Item.Alias (Alias.Export sort instance name.now)))) }
+    pub fn alias_export(
+        &mut self,
+        instance: u32,
+        name: &str,
+        kind: ComponentExportKind,
+    ) -> Result<u32, BuildFault>
+        ensures adds { Adds self.old self.new result (export_space kind) (Def.Item (Item.Alias (Alias.Export kind instance name.now))) None }
+        ensures at { IfOk result (λ answer. IsAt self.new.defs (export_space kind) answer (Def.Item (Item.Alias (Alias.Export kind instance name.now)))) }
     {
         let name = Text::from_str(self.allocator(), name)?;
         let alias = Alias::Export {
-            sort,
+            kind,
             instance,
             name,
         };
-        self.define(None, sort.space(), Def::Item(Item::Alias(alias)))
+        self.define(None, kind.space(), Def::Item(Item::Alias(alias)))
     }
 
     /// A nested component, by its definitions.

@@ -38,7 +38,7 @@ impl Excess {
 
 impl fmt::Display for Excess {
     fn fmt<W: fmt::Write>(&self, f: &mut fmt::Formatter<W>) -> fmt::Result {
-        write!(f, "{}", self.value)
+        write!(f, "{}", self.get())
     }
 }
 

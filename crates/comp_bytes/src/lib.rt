@@ -36,13 +36,15 @@ pub use builder::ComponentBuilder;
 pub use canon::{CanonicalOption, ContextType, Intrinsic};
 pub use def::{Argument, CoreArgument, CoreInlineExport, Def, Defs, Item};
 pub use fault::{BuildFault, Excess, count_of};
-pub use laws::{one_name, one_number};
+pub use laws::{one_name, one_number, one_type_index};
 pub use name::Name;
-pub use space::{ExportKind, Sort, Space};
+pub use space::{ComponentExportKind, ExportKind, Sort, Space};
 pub use types::{
     Alias, Case, ComponentValType, DefinedType, Description, ExternName, Field, FuncTypeDef,
     InstanceType, Member, Primitive, TypeDef,
 };
 
+#[cfg(test)]
+mod every_kind;
 #[cfg(test)]
 mod tests;

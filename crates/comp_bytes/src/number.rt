@@ -1,19 +1,20 @@
 //! Numbers, names and lists at the end of a buffer.
 
 ghost use Rattle.std.specs.Prelude.{◌≡◌, ◌+◌, ◌<◌, ◌≤◌, ◌^◌, ◌++◌, length, OnOk, List, ℕ};
-ghost use Rattle.comp_bytes.specs.Spelling.{leb, signed_leb, raw, octet, number as a_number, quantity, each, listed, named, optional, Spelling, Fits, ◌⊕◌};
+ghost use Rattle.comp_bytes.specs.Spelling.{leb128, leb, signed_leb, raw, octet, number as a_number, quantity, each, listed, named, optional, Spelling, Fits, ◌⊕◌};
 ghost use Rattle.comp_bytes.specs.Written.{Writes};
 
 use crate::fault::{BuildFault, counted};
 use comp_lists::Seq;
 use std::alloc::AllocError;
 
-/// Writes a number.
-pub(crate) fn put_number(out: &mut Vec<u8>, number: u32) -> Result<(), AllocError>
-    ensures { OnOk result (out.new.items ≡ out.old.items ++ leb number) }
+/// Writes a number in groups of seven bits, the last of them below `end`.
+fn put_groups(out: &mut Vec<u8>, number: u32, end: u32) -> Result<(), AllocError>
+    requires { (64 ≤ end) × (end ≤ 128) }
+    ensures { OnOk result (out.new.items ≡ out.old.items ++ leb128 end number) }
 {
     let mut rest = number;
-    while rest >= 128 {
+    while rest >= end {
         out.push((128 + rest % 128) as u8)?;
         rest /= 128;
     }
@@ -25,20 +26,15 @@ pub(crate) fn put_number(out: &mut Vec<u8>, number: u32) -> Result<(), AllocErro
 pub(crate) fn put_index(out: &mut Vec<u8>, index: u32) -> Result<(), BuildFault>
     ensures { Writes out.old.items out.new.items result (a_number index) }
 {
-    put_number(out, index)?;
+    put_groups(out, index, 128)?;
     Ok(())
 }
 
-/// Writes an index where a negative number could stand.
+/// Writes a type index where a primitive type, which is a negative number, could stand.
 pub(crate) fn put_type_index(out: &mut Vec<u8>, index: u32) -> Result<(), BuildFault>
     ensures { Writes out.old.items out.new.items result (raw (signed_leb index)) }
 {
-    let mut rest = index;
-    while rest >= 64 {
-        out.push((128 + rest % 128) as u8)?;
-        rest /= 128;
-    }
-    out.push(rest as u8)?;
+    put_groups(out, index, 64)?;
     Ok(())
 }
 
@@ -47,7 +43,7 @@ pub(crate) fn put_count(out: &mut Vec<u8>, len: usize) -> Result<(), BuildFault>
     ensures { Writes out.old.items out.new.items result (quantity len) }
 {
     let len = counted(len as u128)?;
-    put_number(out, len)?;
+    put_groups(out, len, 128)?;
     Ok(())
 }
 

@@ -2,9 +2,10 @@
 #![tactic(auto, using(crate::proofs::Pieces::writing))]
 
 ghost use Rattle.std.specs.Prelude.{◌≡◌, ◌++◌, ◌<◌, ◌≤◌, ◌∷◌, List, ℕ, Bool, OnOk, length, take, drop, map, if◌then◌else◌};
-ghost use Rattle.comp_bytes.specs.Spelling.{leb, raw, octet, number, quantity, each, listed, named, optional, sized, Spelling, Fits, ◌⊕◌, Entry, shares, contents, section, sections, section_of, component};
+ghost use Rattle.comp_bytes.specs.Spelling.{leb, raw, octet, number, quantity, each, listed, named, optional, sized, Spelling, Fits, ◌⊕◌};
+ghost use Rattle.comp_bytes.specs.Sections.{Entry, shares, contents, section, sections, component, section_of};
 ghost use Rattle.comp_bytes.specs.Written.{Writes};
-ghost use Rattle.comp_bytes.specs.Grammar.{item, definition, core_arg, core_export_item, arg, alias_bytes, option_bytes, extern_name, sort_bytes, description_bytes};
+ghost use Rattle.comp_bytes.specs.Grammar.{item, definition, core_argument, core_inline_export, argument, alias_bytes, option_bytes, extern_name, sort_bytes, description_bytes};
 
 use crate::canon::CanonicalOption;
 use crate::def::{Argument, CoreArgument, Def, Item};
@@ -121,7 +122,7 @@ fn put_core_instantiate(
     module: u32,
     args: &Seq<CoreArgument>,
 ) -> Result<(), BuildFault>
-    ensures { Writes out.old.items out.new.items result (octet 0x00 ⊕ number «module» ⊕ listed core_arg args.now) }
+    ensures { Writes out.old.items out.new.items result (octet 0x00 ⊕ number «module» ⊕ listed core_argument args.now) }
 {
     put_tagged(out, 0x00, &module)?;
     args.put(out)?;
@@ -133,7 +134,7 @@ fn put_instantiate(
     component: u32,
     args: &Seq<Argument>,
 ) -> Result<(), BuildFault>
-    ensures { Writes out.old.items out.new.items result (octet 0x00 ⊕ number component ⊕ listed arg args.now) }
+    ensures { Writes out.old.items out.new.items result (octet 0x00 ⊕ number component ⊕ listed argument args.now) }
 {
     put_tagged(out, 0x00, &component)?;
     args.put(out)?;

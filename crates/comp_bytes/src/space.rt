@@ -3,7 +3,7 @@
 //! Component model, binary format: `core:sort`, `sort`.
 
 ghost use Rattle.std.specs.Prelude.{◌≡◌};
-ghost use Rattle.comp_bytes.specs.Spaces.{place, kind_space, sort_space};
+ghost use Rattle.comp_bytes.specs.Spaces.{place, kind_space, export_space, sort_space};
 
 /// A kind of core item that a core instance exports.
 #[derive(Clone, Copy, Debug, PartialEq, Eq)]
@@ -14,7 +14,16 @@ pub enum ExportKind {
     Global,
 }
 
-/// A sort of item that an instance has, or that an instantiation is given.
+/// A kind of item that an instance exports.
+#[derive(Clone, Copy, Debug, PartialEq, Eq)]
+pub enum ComponentExportKind {
+    Func,
+    Type,
+    Component,
+    Instance,
+}
+
+/// A sort of item that a component exports, or that an instantiation is given.
 #[derive(Clone, Copy, Debug, PartialEq, Eq)]
 pub enum Sort {
     Core(ExportKind),
@@ -58,6 +67,20 @@ impl ExportKind {
             ExportKind::Table => Space::CoreTable,
             ExportKind::Memory => Space::CoreMemory,
             ExportKind::Global => Space::CoreGlobal,
+        }
+    }
+}
+
+impl ComponentExportKind {
+    /// The space in which an item of this kind is counted.
+    pub fn space(self) -> Space
+        ensures { result ≡ export_space self }
+    {
+        match self {
+            ComponentExportKind::Func => Space::Func,
+            ComponentExportKind::Type => Space::Type,
+            ComponentExportKind::Component => Space::Component,
+            ComponentExportKind::Instance => Space::Instance,
         }
     }
 }

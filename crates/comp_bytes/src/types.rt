@@ -5,7 +5,7 @@
 ghost use Rattle.std.specs.Prelude.{◌≡◌};
 ghost use Rattle.comp_bytes.specs.Spaces.{description_space};
 
-use crate::space::{ExportKind, Sort, Space};
+use crate::space::{ComponentExportKind, ExportKind, Space};
 use comp_lists::{Seq, Text};
 
 /// A value type that needs no definition.
@@ -123,7 +123,7 @@ impl Description {
 #[derive(Debug, Drop, PartialEq, Eq)]
 pub enum Alias {
     Export {
-        sort: Sort,
+        kind: ComponentExportKind,
         instance: u32,
         name: Text,
     },

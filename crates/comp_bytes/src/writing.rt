@@ -2,15 +2,15 @@
 #![tactic(auto, using(crate::proofs::Pieces::writing))]
 
 ghost use Rattle.std.specs.Prelude.{◌≡◌, ◌++◌, List, ℕ, OnOk, if◌then◌else◌};
-ghost use Rattle.comp_bytes.specs.Spelling.{leb, signed_leb, raw, octet, number, quantity, each, listed, named, optional, Spelling, Fits, ◌⊕◌};
+ghost use Rattle.comp_bytes.specs.Spelling.{signed_leb, raw, octet, number, quantity, each, listed, named, optional, Spelling, Fits, ◌⊕◌};
 ghost use Rattle.comp_bytes.specs.Written.{Writes};
-ghost use Rattle.comp_bytes.specs.Grammar.{kind_byte, sort_bytes, primitive_byte, value_type, field, case_of, defined_type, function_result, function_type, resource_type, type_def, extern_name, description_bytes, alias_bytes, member, instance_type, option_bytes, intrinsic_bytes, flag, context_byte, core_arg, core_export_item, arg};
+ghost use Rattle.comp_bytes.specs.Grammar.{kind_byte, export_byte, sort_bytes, primitive_byte, value_type, field, case_of, defined_type, function_result, function_type, resource_type, type_def, extern_name, description_bytes, alias_bytes, member, instance_type, option_bytes, intrinsic_bytes, flag, context_byte, core_argument, core_inline_export, argument};
 
 use crate::canon::{CanonicalOption, ContextType, Intrinsic};
 use crate::def::{Argument, CoreArgument, CoreInlineExport};
 use crate::fault::BuildFault;
 use crate::number::{Spell, put_bytes, put_index, put_name, put_tagged, put_type_index};
-use crate::space::{ExportKind, Sort};
+use crate::space::{ComponentExportKind, ExportKind, Sort};
 use crate::types::{
     Alias, Case, ComponentValType, DefinedType, Description, ExternName, Field, FuncTypeDef,
     InstanceType, Member, Primitive, TypeDef,
@@ -25,6 +25,17 @@ fn byte_of_kind(kind: ExportKind) -> u8
         ExportKind::Table => 0x01,
         ExportKind::Memory => 0x02,
         ExportKind::Global => 0x03,
+    }
+}
+
+fn byte_of_export(kind: ComponentExportKind) -> u8
+    ensures { result ≡ export_byte kind }
+{
+    match kind {
+        ComponentExportKind::Func => 0x01,
+        ComponentExportKind::Type => 0x03,
+        ComponentExportKind::Component => 0x04,
+        ComponentExportKind::Instance => 0x05,
     }
 }
 
@@ -127,6 +138,15 @@ impl Spell for DefinedType {
     }
 }
 
+/// Writes two bytes that say what follows, and an index.
+fn put_twice_tagged(out: &mut Vec<u8>, first: u8, second: u8, index: u32) -> Result<(), BuildFault>
+    ensures { Writes out.old.items out.new.items result (octet first ⊕ octet second ⊕ number index) }
+{
+    put_bytes(out, &[first, second])?;
+    put_index(out, index)?;
+    Ok(())
+}
+
 fn put_result_type(
     out: &mut Vec<u8>,
     ok: &Option<ComponentValType>,
@@ -143,13 +163,9 @@ fn put_result(out: &mut Vec<u8>, ty: &Option<ComponentValType>) -> Result<(), Bu
     ensures { Writes out.old.items out.new.items result (function_result ty.now) }
 {
     match ty {
-        None => put_bytes(out, &[0x01, 0x00])?,
-        Some(ty) => {
-            put_bytes(out, &[0x00])?;
-            ty.put(out)?;
-        }
+        None => put_bytes(out, &[0x01, 0x00]),
+        Some(ty) => put_tagged(out, 0x00, ty),
     }
-    Ok(())
 }
 
 impl Spell for FuncTypeDef {
@@ -163,16 +179,11 @@ impl Spell for FuncTypeDef {
     }
 }
 
-fn put_resource(out: &mut Vec<u8>, destructor: Option<u32>) -> Result<(), BuildFault>
-    ensures { Writes out.old.items out.new.items result (resource_type destructor) }
+fn put_resource(out: &mut Vec<u8>, destructor: &Option<u32>) -> Result<(), BuildFault>
+    ensures { Writes out.old.items out.new.items result (resource_type destructor.now) }
 {
-    match destructor {
-        None => put_bytes(out, &[0x3f, 0x7f, 0x00])?,
-        Some(index) => {
-            put_bytes(out, &[0x3f, 0x7f, 0x01])?;
-            put_index(out, index)?;
-        }
-    }
+    put_bytes(out, &[0x3f, 0x7f])?;
+    destructor.put(out)?;
     Ok(())
 }
 
@@ -182,10 +193,18 @@ impl Spell for TypeDef {
     fn put(&self, out: &mut Vec<u8>) -> Result<(), BuildFault> {
         match self {
             TypeDef::Func(func) => func.put(out),
-            TypeDef::Resource(destructor) => put_resource(out, *destructor),
+            TypeDef::Resource(destructor) => put_resource(out, destructor),
             TypeDef::Defined(ty) => ty.put(out),
         }
     }
+}
+
+fn put_versioned(out: &mut Vec<u8>, name: &Text, suffix: &Text) -> Result<(), BuildFault>
+    ensures { Writes out.old.items out.new.items result (octet 0x01 ⊕ named name.now ⊕ named suffix.now) }
+{
+    put_tagged(out, 0x01, name)?;
+    suffix.put(out)?;
+    Ok(())
 }
 
 impl Spell for ExternName {
@@ -193,17 +212,9 @@ impl Spell for ExternName {
 
     fn put(&self, out: &mut Vec<u8>) -> Result<(), BuildFault> {
         match &self.version_suffix {
-            None => {
-                put_bytes(out, &[0x00])?;
-                self.name.put(out)?;
-            }
-            Some(suffix) => {
-                put_bytes(out, &[0x01])?;
-                self.name.put(out)?;
-                suffix.put(out)?;
-            }
+            None => put_tagged(out, 0x00, &self.name),
+            Some(suffix) => put_versioned(out, &self.name, suffix),
         }
-        Ok(())
     }
 }
 
@@ -211,23 +222,31 @@ impl Spell for Description {
     ghost spelling = { description_bytes };
 
     fn put(&self, out: &mut Vec<u8>) -> Result<(), BuildFault> {
-        match *self {
-            Description::Func(index) => {
-                put_bytes(out, &[0x01])?;
-                put_index(out, index)?;
-            }
-            Description::TypeEqual(index) => {
-                put_bytes(out, &[0x03, 0x00])?;
-                put_index(out, index)?;
-            }
-            Description::SubResource => put_bytes(out, &[0x03, 0x01])?,
-            Description::Instance(index) => {
-                put_bytes(out, &[0x05])?;
-                put_index(out, index)?;
-            }
+        match self {
+            Description::Func(index) => put_tagged(out, 0x01, index),
+            Description::TypeEqual(index) => put_twice_tagged(out, 0x03, 0x00, *index),
+            Description::SubResource => put_bytes(out, &[0x03, 0x01]),
+            Description::Instance(index) => put_tagged(out, 0x05, index),
         }
-        Ok(())
     }
+}
+
+/// Writes what an alias names in an instance.
+fn put_alias(out: &mut Vec<u8>, tags: &[u8], instance: u32, name: &Text) -> Result<(), BuildFault>
+    ensures { Writes out.old.items out.new.items result (raw tags.now ⊕ number instance ⊕ named name.now) }
+{
+    put_bytes(out, tags)?;
+    put_index(out, instance)?;
+    name.put(out)?;
+    Ok(())
+}
+
+fn put_outer(out: &mut Vec<u8>, count: u32, index: u32) -> Result<(), BuildFault>
+    ensures { Writes out.old.items out.new.items result (octet 0x03 ⊕ octet 0x02 ⊕ number count ⊕ number index) }
+{
+    put_twice_tagged(out, 0x03, 0x02, count)?;
+    put_index(out, index)?;
+    Ok(())
 }
 
 impl Spell for Alias {
@@ -236,31 +255,17 @@ impl Spell for Alias {
     fn put(&self, out: &mut Vec<u8>) -> Result<(), BuildFault> {
         match self {
             Alias::Export {
-                sort,
+                kind,
                 instance,
                 name,
-            } => {
-                sort.put(out)?;
-                put_bytes(out, &[0x00])?;
-                put_index(out, *instance)?;
-                name.put(out)?;
-            }
+            } => put_alias(out, &[byte_of_export(*kind), 0x00], *instance, name),
             Alias::CoreExport {
                 kind,
                 instance,
                 name,
-            } => {
-                put_bytes(out, &[0x00, byte_of_kind(*kind), 0x01])?;
-                put_index(out, *instance)?;
-                name.put(out)?;
-            }
-            Alias::Outer { count, index } => {
-                put_bytes(out, &[0x03, 0x02])?;
-                put_index(out, *count)?;
-                put_index(out, *index)?;
-            }
+            } => put_alias(out, &[0x00, byte_of_kind(*kind), 0x01], *instance, name),
+            Alias::Outer { count, index } => put_outer(out, *count, *index),
         }
-        Ok(())
     }
 }
 
@@ -374,14 +379,6 @@ fn put_with_flag(out: &mut Vec<u8>, tag: u8, index: u32, set: bool) -> Result<()
     Ok(())
 }
 
-fn put_memory_call(out: &mut Vec<u8>, tag: u8, index: u32) -> Result<(), BuildFault>
-    ensures { Writes out.old.items out.new.items result (octet tag ⊕ octet 0x00 ⊕ number index) }
-{
-    put_bytes(out, &[tag, 0x00])?;
-    put_index(out, index)?;
-    Ok(())
-}
-
 impl Spell for Intrinsic {
     ghost spelling = { intrinsic_bytes };
 
@@ -414,8 +411,8 @@ impl Spell for Intrinsic {
             Intrinsic::ErrorContextDebugMessage { options } => put_tagged(out, 0x1d, options),
             Intrinsic::ErrorContextDrop => put_bytes(out, &[0x1e]),
             Intrinsic::WaitableSetNew => put_bytes(out, &[0x1f]),
-            Intrinsic::WaitableSetWait { memory } => put_memory_call(out, 0x20, *memory),
-            Intrinsic::WaitableSetPoll { memory } => put_memory_call(out, 0x21, *memory),
+            Intrinsic::WaitableSetWait { memory } => put_twice_tagged(out, 0x20, 0x00, *memory),
+            Intrinsic::WaitableSetPoll { memory } => put_twice_tagged(out, 0x21, 0x00, *memory),
             Intrinsic::WaitableSetDrop => put_bytes(out, &[0x22]),
             Intrinsic::WaitableJoin => put_bytes(out, &[0x23]),
             Intrinsic::BackpressureInc => put_bytes(out, &[0x24]),
@@ -425,7 +422,7 @@ impl Spell for Intrinsic {
 }
 
 impl Spell for CoreArgument {
-    ghost spelling = { core_arg };
+    ghost spelling = { core_argument };
 
     fn put(&self, out: &mut Vec<u8>) -> Result<(), BuildFault> {
         self.name.put(out)?;
@@ -436,7 +433,7 @@ impl Spell for CoreArgument {
 }
 
 impl Spell for CoreInlineExport {
-    ghost spelling = { core_export_item };
+    ghost spelling = { core_inline_export };
 
     fn put(&self, out: &mut Vec<u8>) -> Result<(), BuildFault> {
         self.name.put(out)?;
@@ -447,7 +444,7 @@ impl Spell for CoreInlineExport {
 }
 
 impl Spell for Argument {
-    ghost spelling = { arg };
+    ghost spelling = { argument };
 
     fn put(&self, out: &mut Vec<u8>) -> Result<(), BuildFault> {
         self.name.put(out)?;

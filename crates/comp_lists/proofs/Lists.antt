@@ -1,5 +1,5 @@
 -- Lists, place by place.
-use Rattle.std.proofs.Common.{get_or, take, ◌≡◌, ℕ, zero, suc, ◌+◌, ◌<◌, List, [], ◌∷◌, ◌++◌, length, refl, ap, subst, Some, arith}
+use Rattle.std.proofs.Common.{map, get_or, take, ◌≡◌, ℕ, zero, suc, ◌+◌, ◌<◌, List, [], ◌∷◌, ◌++◌, length, refl, ap, subst, Some, arith}
 use Rattle.std.proofs.lemmas.Option.{same_Some, none-some}
 use Rattle.std.proofs.lemmas.List.{take_more}
 use Rattle.std.specs.List.{slice_get, AllZip, AllByRecursion}
@@ -67,11 +67,21 @@ pub AllByRecursion-back : {X : Type 0} (P : X → Type 0) (xs ys : List X) → A
 AllByRecursion-back P [] ys h = h
 AllByRecursion-back P (x ∷ xs) ys h = AllByRecursion-back P xs ys h.1
 
-all_at : {X : Type 0} (P : X → Type 0) (xs : List X) (k : ℕ) (x : X) → AllByRecursion P xs → k < length xs → slice_index_or xs k x ≡ x → P x
-all_at P [] k x h l e = absurd (omega arith)
-all_at P (y ∷ ys) zero x h l e = subst P e h.0
-all_at P (y ∷ ys) (suc k) x h l e = all_at P ys k x h.1 (omega arith) e
+-- what holds of all holds of the one at a place
+pub AllByRecursion-at : {X : Type 0} (P : X → Type 0) (xs : List X) (k : ℕ) (x : X) → AllByRecursion P xs → k < length xs → slice_index_or xs k x ≡ x → P x
+AllByRecursion-at P [] k x h l e = absurd (omega arith)
+AllByRecursion-at P (y ∷ ys) zero x h l e = subst P e h.0
+AllByRecursion-at P (y ∷ ys) (suc k) x h l e = AllByRecursion-at P ys k x h.1 (omega arith) e
 
 -- what holds of all holds of each
 pub AllByRecursion-contains : {X : Type 0} (P : X → Type 0) (xs : List X) (x : X) → AllByRecursion P xs → Contains xs x → P x
-AllByRecursion-contains P xs x h m = all_at P xs m.0 x h m.1 m.2
+AllByRecursion-contains P xs x h m = AllByRecursion-at P xs m.0 x h m.1 m.2
+
+mapped_at : {A B : Type 0} (f : A → B) (xs : List A) (k : ℕ) (x : A) → k < length xs → slice_index_or xs k x ≡ x → (k < length (map f xs)) × (slice_index_or (map f xs) k (f x) ≡ f x)
+mapped_at f [] k x l e = absurd (omega arith)
+mapped_at f (y ∷ ys) zero x l e = (omega arith, ap f e)
+mapped_at f (y ∷ ys) (suc k) x l e = let h = mapped_at f ys k x (omega arith) e in (let m = h.0 in omega (arith, m), h.1)
+
+-- what a list has, its image has
+pub Contains-map : {A B : Type 0} (f : A → B) (xs : List A) (x : A) → Contains xs x → Contains (map f xs) (f x)
+Contains-map f xs x m = let h = mapped_at f xs m.0 x m.1 m.2 in (m.0, h.0, h.1)

@@ -17,6 +17,20 @@ pub enum ImportInstance {
     Names(Keyed<Text, Import>),
 }
 
+impl ImportInstance {
+    ghost use Rattle.std.specs.Prelude.{◌≡◌};
+    ghost use Rattle.comp_worlds.specs.Worlds.{fields_of};
+
+    /// Each field with what it is for.
+    pub fn fields(&self) -> &Keyed<Text, Import>
+        ensures { result.now ≡ fields_of self.now }
+    {
+        match self {
+            ImportInstance::Names(fields) => fields,
+        }
+    }
+}
+
 /// What the imports of a core module are for: by module, in the order of first mention.
 #[derive(Drop)]
 pub struct ImportMap {

@@ -1,4 +1,4 @@
-use Rattle.std.proofs.Common.{◌≡◌, ◌∙◌, ap, sym, rules}
+use Rattle.std.proofs.Common.{rules}
 use Rattle.comp_bytes.proofs.Places.{at_added}
 use Rattle.comp_bytes.proofs.builder.ComponentBuilder.define.Goals as goal
 

@@ -1,0 +1,36 @@
+-- What an import of a core module is to be given, and what a required export is to be lifted from
+-- (Canonical ABI: `canon lower`, `canon lift` and their options). A target names modules, functions and
+-- exports, and never an index.
+use Rattle.std.specs.Prelude.{ℕ, List}
+use Rattle.comp_worlds.specs.declared.encoding.StringEncoding.{StringEncoding}
+
+-- a user module: main, or an adapter by its name
+pub data UserModule : Type 0 where
+  Main : UserModule
+  Adapter : (name : List ℕ) → UserModule
+
+-- an export of a user module
+pub record ExportPlace : Type 0 where
+  pub of : UserModule
+  pub name : List ℕ
+
+-- a function of the world: the key of its item, and its name there
+pub record WorldFunction : Type 0 where
+  pub key : List ℕ
+  pub name : List ℕ
+
+-- an option of a lowering or a lift. The memory is main's, and no function here has options of its own
+pub data TargetOption : Type 0 where
+  Memory : TargetOption
+  Realloc : (place : ExportPlace) → TargetOption
+  Encoding : (encoding : StringEncoding) → TargetOption
+  Async : TargetOption
+  PostReturn : (place : ExportPlace) → TargetOption
+  Callback : (place : ExportPlace) → TargetOption
+
+-- what stands behind an import of a core module, or behind an export of the component
+pub data Target : Type 0 where
+  Lowered : (function : WorldFunction) (options : List TargetOption) → Target
+  ExportOf : (place : ExportPlace) → Target
+  MainMemory : Target
+  Lifted : (entry : ExportPlace) (options : List TargetOption) → Target

@@ -1,0 +1,57 @@
+-- The steps in their order build a whole component.
+use Rattle.std.proofs.Common.{◌≡◌, ◌∙◌, ℕ, ◌==◌, Bool, true, false, List, [], ◌∷◌, ◌++◌, length, refl, sym, ap, subst, append-nil, Option, Some, None, IsSome, is_some, inl, inr, true≢false, if◌then◌else◌}
+use Rattle.comp_lists.proofs.Lists.{AllByRecursion-contains}
+use Rattle.comp_bytes.specs.Built.{Built}
+use Rattle.comp_bytes.specs.Names.{with_names, names_text}
+use Rattle.comp_bytes.specs.declared.def.Def.{Def}
+use Rattle.comp_bytes.specs.declared.def.Def.TheVariants as defs
+use Rattle.comp_bytes.specs.declared.def.Item.TheVariants as items
+use Rattle.std.specs.Prelude.{codes}
+use Rattle.comp_worlds.specs.Worlds.{CoreImport, core_imports}
+use Rattle.comp_worlds.specs.declared.wit.WorldKey.{WorldKey}
+use Rattle.comp_worlds.specs.declared.world.ComponentWorld.{ComponentWorld}
+use Rattle.comp_state.specs.Causes.{IsEncoded, LacksEncoding}
+use Rattle.comp_state.specs.Roles.{import_encoding, export_encoding}
+use Rattle.comp_state.specs.Rules.{Grows, RightAfter, Landmark, ModuleIs, InstanceOf, landmarks, imports_marked, exports_marked, expected, IsBuilt}
+use Rattle.comp_state.proofs.Growth.{Grows-none, Grows-by, Grows-then}
+
+-- a list that grew from nothing
+pub built_from : (w : ComponentWorld) (old new : List Def) → old ≡ [] → Grows w old new (expected w) → IsBuilt w new
+built_from w old new empty g =
+    let same : new ≡ g.more = g.extended ∙ ap (λ l. l ++ g.more) empty in
+    let right : RightAfter w [] g.more = subst (λ l. RightAfter w l g.more) empty g.right in
+    record { right = subst (λ l. RightAfter w [] l) (sym same) right; marked = ap landmarks same ∙ g.marked }
+
+pub built_by_steps : (w : ComponentWorld) (a b c d e : List Def) → a ≡ [] → Grows w a b (imports_marked w) → Grows w b c (ModuleIs w.main.bytes ∷ []) → Grows w c d (InstanceOf 0 ∷ []) →
+    Grows w d e (exports_marked w) → IsBuilt w e
+built_by_steps w a b c d e empty imports main instance exports = built_from w a e empty (Grows-then imports (Grows-then main (Grows-then instance exports)))
+
+-- the landmarks of what grew from nothing
+pub marked_from : (w : ComponentWorld) (old new : List Def) (m : List Landmark) → old ≡ [] → Grows w old new m → landmarks new ≡ m
+marked_from w old new m empty g = ap landmarks (g.extended ∙ ap (λ l. l ++ g.more) empty) ∙ g.marked
+
+-- a whole component stays one when what follows has no landmark
+pub built_more : (w : ComponentWorld) (old new : List Def) → IsBuilt w old → Grows w old new [] → IsBuilt w new
+built_more w old new h g =
+    let first : Grows w [] old (expected w) = record { more = old; extended = refl; right = h.right; marked = h.marked } in
+    let both : Grows w [] new (expected w ++ []) = Grows-then first g in
+    built_from w [] new refl (subst (λ m. Grows w [] new m) (append-nil (expected w)) both)
+
+-- the names of the items have no landmark
+pub names_grow : (w : ComponentWorld) (old new : Built) → new ≡ with_names old → Grows w old.defs new.defs []
+names_grow w old new same = subst (λ (b : Built). Grows w old.defs b.defs []) (sym same) (named (length old.names == 0) (names_text old.names).bytes)
+  where
+    named : (b : Bool) (contents : List ℕ) →
+        Grows w old.defs (if b then old else record { defs = old.defs ++ defs.Item (items.Custom (codes "component-name") contents) ∷ []; names = old.names }).defs []
+    named true contents = Grows-none w old.defs
+    named false contents = Grows-by (defs.Item (items.Custom (codes "component-name") contents)) refl tt
+
+lacks_none : {X : Type 0} (o : Option X) → IsSome o → o ≡ None → ⊥
+lacks_none None h e = true≢false (sym h)
+lacks_none (Some x) h e = true≢false (ap is_some e)
+
+-- where everything has an encoding, nothing lacks one
+pub encoded_lacks : (w : ComponentWorld) → IsEncoded w → (place : List ℕ) → LacksEncoding w place → ⊥
+encoded_lacks w h place (inl l) =
+    lacks_none (import_encoding w l.given.role) (AllByRecursion-contains (λ (i : CoreImport). IsSome (import_encoding w i.role)) (core_imports w) l.given h.imports l.stands) l.none
+encoded_lacks w h place (inr l) = lacks_none (export_encoding w l.key) (AllByRecursion-contains (λ (k : WorldKey). IsSome (export_encoding w k)) w.main_exports l.key h.exports l.stands) l.none

@@ -1,0 +1,7 @@
+pub mod Building
+pub mod Exporting
+pub mod Extending
+pub mod Growth
+pub mod Importing
+pub mod Indexing
+pub mod Serving

@@ -1,0 +1,27 @@
+use Rattle.std.proofs.Common.{◌≡◌, ◌∙◌, List, [], ◌∷◌, subst, sym}
+use Rattle.comp_bytes.specs.declared.def.CoreInlineExport.{CoreInlineExport}
+use Rattle.comp_worlds.specs.declared.imports.Import.{Import}
+use Rattle.comp_state.proofs.Serving.{FieldsSoFar, fields_start, fields_step}
+use Rattle.comp_state.proofs.state.EncodingState.encode_fields.Goals as goal
+use Rattle.std.proofs.Common.{ℕ}
+
+pub loop-field-init : goal.loop-field-init
+loop-field-init c =
+    let items : c.into_iter-field-iterator.result ≡ c.args.fields.now = c.into_iter-field-iterator.ensures.into_iter_gives ∙ c.entries-field-items.ensures.rest in
+    let none : c.new-entries.result ≡ [] = c.new-entries.ensures in (
+      tt,
+      tt,
+      subst (λ (es : List CoreInlineExport). FieldsSoFar c.args.self.now c.args.self.now es c.args.fields.now c.into_iter-field-iterator.result) (sym none)
+          (subst (λ (fs : List (List ℕ × Import)). FieldsSoFar c.args.self.now c.args.self.now [] c.args.fields.now fs) (sym items) (fields_start c.args.self.now c.args.fields.now c.requires)),
+    )
+
+pub loop-field-preserved : goal.loop-field-preserved
+loop-field-preserved c =
+    let entry : List ℕ × Import = (c.in-Some.field.now, c.in-Some.import.now) in
+    let before : FieldsSoFar c.args.self.now c.loop-field.self c.loop-field.entries c.args.fields.now (entry ∷ c.next.new.self) =
+    subst (λ (fs : List (List ℕ × Import)). FieldsSoFar c.args.self.now c.loop-field.self c.loop-field.entries c.args.fields.now fs) c.in-Some.ensures.steps c.loop-field.invariant.2 in (
+      tt,
+      tt,
+      fields_step c.args.self.now c.loop-field.self c.encode_field.new.self c.loop-field.entries c.push.new.self c.in_ok-entry.entry c.args.fields.now c.next.new.self entry before
+          c.in_ok-entry.ensures.same c.in_ok-entry.ensures.extends c.in_ok-entry.ensures.grows c.in_ok-entry.ensures.serves c.in_ok-push.ensures.ok,
+    )

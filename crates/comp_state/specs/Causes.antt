@@ -1,0 +1,76 @@
+-- When the encoding of a world is refused.
+use Rattle.std.specs.Prelude.{◌≡◌, ◌≤◌, ◌^◌, ◌⊎◌, ℕ, List, None, Contains, IsSome}
+use Rattle.std.specs.List.{AllByRecursion}
+use Rattle.comp_worlds.specs.Keys.{key_text}
+use Rattle.comp_worlds.specs.Worlds.{CoreImport, core_imports}
+use Rattle.comp_worlds.specs.declared.wit.WorldKey.{WorldKey}
+use Rattle.comp_worlds.specs.declared.imports.Import.{Import}
+use Rattle.comp_worlds.specs.declared.world.ComponentWorld.{ComponentWorld}
+use Rattle.comp_bytes.specs.declared.fault.BuildFault.{BuildFault}
+use Rattle.comp_bytes.specs.declared.fault.BuildFault.TheVariants as build
+use Rattle.comp_state.specs.declared.fault.StateFault.{StateFault}
+use Rattle.comp_state.specs.declared.fault.StateFault.TheVariants as faults
+use Rattle.comp_state.specs.Roles.{import_encoding, export_encoding, place_of}
+
+-- what a refusal of the builder comes up as
+abbrev pub of_build : BuildFault → StateFault
+of_build build.Memory = faults.Memory
+of_build (build.TooMany excess) = faults.TooMany excess
+
+-- a core import at this place has no string encoding
+pub record LacksImportEncoding (w : ComponentWorld) (place : List ℕ) : Type 0 where
+  pub given : CoreImport
+  pub stands : Contains (core_imports w) given
+  pub none : import_encoding w given.role ≡ None
+  pub at : place ≡ place_of given.module_name given.field
+
+-- a required export of this name has no string encoding
+pub record LacksExportEncoding (w : ComponentWorld) (place : List ℕ) : Type 0 where
+  pub key : WorldKey
+  pub stands : Contains w.main_exports key
+  pub none : export_encoding w key ≡ None
+  pub at : place ≡ key_text key
+
+abbrev pub LacksEncoding : ComponentWorld → List ℕ → Type 0
+LacksEncoding w place = LacksImportEncoding w place ⊎ LacksExportEncoding w place
+
+-- what makes a refusal right
+abbrev pub IsCause : ComponentWorld → StateFault → Type 0
+IsCause w faults.Memory = Unit {0}
+IsCause w (faults.NoEncoding place) = LacksEncoding w place
+IsCause w (faults.TooMany excess) = 2 ^ 32 ≤ excess
+
+-- what makes a refusal of the builder right
+abbrev pub IsBuildRefusal : BuildFault → Type 0
+IsBuildRefusal build.Memory = Unit {0}
+IsBuildRefusal (build.TooMany excess) = 2 ^ 32 ≤ excess
+
+-- what makes the refusal of one import right
+abbrev pub IsImportRefusal : ComponentWorld → List ℕ → List ℕ → Import → StateFault → Type 0
+IsImportRefusal w module_name field role faults.Memory = Unit {0}
+IsImportRefusal w module_name field role (faults.NoEncoding place) = (place ≡ place_of module_name field) × (import_encoding w role ≡ None)
+IsImportRefusal w module_name field role (faults.TooMany excess) = 2 ^ 32 ≤ excess
+
+-- an import from this module that has no string encoding
+pub record LacksFieldEncoding (w : ComponentWorld) (module_name : List ℕ) (fields : List (List ℕ × Import)) (place : List ℕ) : Type 0 where
+  pub field : List ℕ × Import
+  pub stands : Contains fields field
+  pub none : import_encoding w field.1 ≡ None
+  pub at : place ≡ place_of module_name field.0
+
+-- what makes the refusal of the imports from one module right
+abbrev pub IsFieldsRefusal : ComponentWorld → List ℕ → List (List ℕ × Import) → StateFault → Type 0
+IsFieldsRefusal w module_name fields faults.Memory = Unit {0}
+IsFieldsRefusal w module_name fields (faults.NoEncoding place) = LacksFieldEncoding w module_name fields place
+IsFieldsRefusal w module_name fields (faults.TooMany excess) = 2 ^ 32 ≤ excess
+
+-- what makes the refusal of one required export right
+abbrev pub IsExportRefusal : ComponentWorld → WorldKey → StateFault → Type 0
+IsExportRefusal w key faults.Memory = Unit {0}
+IsExportRefusal w key (faults.NoEncoding place) = (place ≡ key_text key) × (export_encoding w key ≡ None)
+IsExportRefusal w key (faults.TooMany excess) = 2 ^ 32 ≤ excess
+
+-- each core import and each required export has a string encoding
+pub record IsEncoded (w : ComponentWorld) : Type 0 where
+  pub imports : AllByRecursion (λ i. IsSome (import_encoding w i.role)) (core_imports w)
+  pub exports : AllByRecursion (λ key. IsSome (export_encoding w key)) w.main_exports

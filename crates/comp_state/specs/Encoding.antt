@@ -1,0 +1,52 @@
+-- What contracts see of a state of encoding.
+use Rattle.std.specs.Prelude.{◌≡◌, ◌++◌, ℕ, List, Option, Some, IsSome, IsTrue}
+use Rattle.std.specs.List.{AllByRecursion}
+use Rattle.comp_lists.specs.Found.{found}
+use Rattle.comp_bytes.specs.Built.{Built}
+use Rattle.comp_bytes.specs.declared.def.Def.{Def}
+use Rattle.comp_bytes.specs.declared.name.Name.{Name}
+use Rattle.comp_worlds.specs.Worlds.{IsWorld, imported_text, core_name_of}
+use Rattle.comp_worlds.specs.declared.imports.Import.{Import}
+use Rattle.comp_worlds.specs.declared.world.ComponentWorld.{ComponentWorld}
+use Rattle.comp_state.specs.Facts.{IsFunctionType, IsImported, IsAliased, IsMain}
+use Rattle.comp_state.specs.Roles.{is_used}
+
+-- the world, what was built so far, the root functions that were imported, and main's instance
+pub record Encoding : Type 0 where
+  pub world : ComponentWorld
+  pub built : Built
+  pub functions : List (List ℕ × ℕ)
+  pub main : Option ℕ
+
+-- the world is a valid one, what is found is what it says, and main's instance is one
+pub record IsEncoding (w : ComponentWorld) (ds : List Def) (function_type : Option ℕ) (functions aliases : List (List ℕ × ℕ)) (core_names : List (List ℕ × List ℕ)) (main : Option ℕ) : Type 0 where
+  pub valid : IsWorld w
+  pub typed : (index : ℕ) → function_type ≡ Some index → IsFunctionType ds index
+  pub imported : (text : List ℕ) (index : ℕ) → found text functions ≡ Some index → IsImported ds index text
+  pub aliased : (name : List ℕ) (index : ℕ) → found name aliases ≡ Some index → IsAliased ds index name
+  pub named : (text : List ℕ) → found text core_names ≡ core_name_of w text
+  pub made : (index : ℕ) → main ≡ Some index → IsMain ds index
+
+-- definitions and debug names only grew at their ends
+pub record Extends (old new : Built) : Type 0 where
+  pub more_defs : List Def
+  pub more_names : List Name
+  pub defs : new.defs ≡ old.defs ++ more_defs
+  pub names : new.names ≡ old.names ++ more_names
+
+-- what was found before is still found
+pub record FindsMore (old new : List (List ℕ × ℕ)) : Type 0 where
+  pub each : (text : List ℕ) → IsSome (found text old) → IsSome (found text new)
+
+-- each root function that a core import is was imported
+pub record FindsUsed (w : ComponentWorld) (functions : List (List ℕ × ℕ)) : Type 0 where
+  pub each : (text : List ℕ) → IsTrue (is_used w text) → IsSome (found text functions)
+
+-- each root function that one of these fields is was imported
+abbrev pub FindsFields : List (List ℕ × ℕ) → List (List ℕ × Import) → Type 0
+FindsFields functions fields = AllByRecursion (λ f. IsSome (found (imported_text f.1) functions)) fields
+
+-- some root function is the core export of this name
+pub record IsOffered (w : ComponentWorld) (name : List ℕ) : Type 0 where
+  pub function : List ℕ
+  pub role : core_name_of w function ≡ Some name

@@ -1,0 +1,92 @@
+-- What an item of a component is, by the definitions that made it (component model: core instances,
+-- aliases, `canon lower` and `canon lift`).
+use Rattle.std.specs.Prelude.{◌≡◌, ℕ, false, List, [], Some, None, IsSome}
+use Rattle.std.specs.List.{AllZip}
+use Rattle.comp_bytes.specs.Places.{IsAt}
+use Rattle.comp_bytes.specs.declared.space.Space.TheVariants as spaces
+use Rattle.comp_bytes.specs.declared.space.ExportKind.TheVariants as kinds
+use Rattle.comp_bytes.specs.declared.types.ExternName.{ExternName}
+use Rattle.comp_bytes.specs.declared.types.FuncTypeDef.{FuncTypeDef}
+use Rattle.comp_bytes.specs.declared.types.TypeDef.TheVariants as types
+use Rattle.comp_bytes.specs.declared.types.Alias.TheVariants as aliases
+use Rattle.comp_bytes.specs.declared.types.Description.TheVariants as descriptions
+use Rattle.comp_bytes.specs.declared.def.CoreArgument.{CoreArgument}
+use Rattle.comp_bytes.specs.declared.def.CoreInlineExport.{CoreInlineExport}
+use Rattle.comp_bytes.specs.declared.def.Item.TheVariants as items
+use Rattle.comp_bytes.specs.declared.def.Def.{Def}
+use Rattle.comp_bytes.specs.declared.def.Def.TheVariants as defs
+use Rattle.comp_worlds.specs.Keys.{key_text}
+use Rattle.comp_worlds.specs.Worlds.{imported_text, core_name_of, fields_of}
+use Rattle.comp_worlds.specs.declared.wit.WorldKey.{WorldKey}
+use Rattle.comp_worlds.specs.declared.imports.Import.{Import}
+use Rattle.comp_worlds.specs.declared.imports.ImportInstance.{ImportInstance}
+use Rattle.comp_worlds.specs.declared.world.ComponentWorld.{ComponentWorld}
+use Rattle.comp_state.specs.Roles.{import_encoding, export_encoding}
+
+-- a name without a version suffix
+abbrev pub plain_name : List ℕ → ExternName
+plain_name text = record { name = text; version_suffix = None }
+
+-- the type of synchronous functions with no parameter and no result
+abbrev pub plain_function : FuncTypeDef
+plain_function = record { async_ = false; params = []; result = None }
+
+-- the type is that of plain functions
+pub record IsFunctionType (ds : List Def) (index : ℕ) : Type 0 where
+  pub made : IsAt ds spaces.Type index (defs.Item (items.Type (types.Func plain_function)))
+
+-- the function is the import of this name
+pub record IsImported (ds : List Def) (index : ℕ) (text : List ℕ) : Type 0 where
+  pub kind : ℕ
+  pub made : IsAt ds spaces.Func index (defs.Item (items.Import (plain_name text) (descriptions.Func kind)))
+  pub typed : IsFunctionType ds kind
+
+-- the core function lowers the import of this name
+pub record IsLowered (ds : List Def) (index : ℕ) (text : List ℕ) : Type 0 where
+  pub function : ℕ
+  pub made : IsAt ds spaces.CoreFunc index (defs.Item (items.Lower function []))
+  pub of : IsImported ds function text
+
+-- the entry of a bag serves the import of this field
+pub record IsEntryFor (w : ComponentWorld) (ds : List Def) (e : CoreInlineExport) (field : List ℕ × Import) : Type 0 where
+  pub named : e.name ≡ field.0
+  pub kind : e.kind ≡ kinds.Func
+  pub lowered : IsLowered ds e.index (imported_text field.1)
+  pub encoded : IsSome (import_encoding w field.1)
+
+-- the core instance is a bag with an entry for each field, in order
+pub record IsBagFor (w : ComponentWorld) (ds : List Def) (index : ℕ) (fields : List (List ℕ × Import)) : Type 0 where
+  pub entries : List CoreInlineExport
+  pub made : IsAt ds spaces.CoreInstance index (defs.Item (items.CoreExports entries))
+  pub each : AllZip (IsEntryFor w ds) entries fields
+
+-- the argument serves the imports from this module
+pub record IsArgumentFor (w : ComponentWorld) (ds : List Def) (a : CoreArgument) (group : List ℕ × ImportInstance) : Type 0 where
+  pub named : a.name ≡ group.0
+  pub serves : IsBagFor w ds a.instance (fields_of group.1)
+
+-- the first core module is main's
+pub record IsFirstModule (w : ComponentWorld) (ds : List Def) : Type 0 where
+  pub made : IsAt ds spaces.CoreModule 0 (defs.Item (items.CoreModule w.main.bytes))
+
+-- the core instance is one of main
+pub record IsMain (ds : List Def) (index : ℕ) : Type 0 where
+  pub arguments : List CoreArgument
+  pub made : IsAt ds spaces.CoreInstance index (defs.Item (items.CoreInstantiate 0 arguments))
+
+-- the core function is main's export of this name
+pub record IsAliased (ds : List Def) (index : ℕ) (name : List ℕ) : Type 0 where
+  pub instance : ℕ
+  pub made : IsAt ds spaces.CoreFunc index (defs.Item (items.Alias (aliases.CoreExport kinds.Func instance name)))
+  pub of : IsMain ds instance
+
+-- the function is lifted from the core export that is the root function of this key
+pub record IsLiftFor (w : ComponentWorld) (ds : List Def) (index : ℕ) (key : WorldKey) : Type 0 where
+  pub core : ℕ
+  pub kind : ℕ
+  pub name : List ℕ
+  pub made : IsAt ds spaces.Func index (defs.Item (items.Lift core [] kind))
+  pub typed : IsFunctionType ds kind
+  pub aliased : IsAliased ds core name
+  pub role : core_name_of w (key_text key) ≡ Some name
+  pub encoded : IsSome (export_encoding w key)

@@ -1,0 +1,5 @@
+pub mod Causes
+pub mod Encoding
+pub mod Facts
+pub mod Roles
+pub mod Rules

@@ -1,0 +1,67 @@
+//! The steps in their order.
+#![tactic(auto, using(crate::proofs::Extending::extending))]
+
+ghost use Rattle.std.specs.Prelude.{◌≡◌, [], ◌∷◌, ◌++◌, List, ℕ, IfOk, IfErr, OnOk, IsOk};
+ghost use Rattle.comp_bytes.specs.Grammar.{Spells};
+ghost use Rattle.comp_bytes.specs.Names.{with_names};
+ghost use Rattle.comp_bytes.specs.declared.def.Def.{Def};
+ghost use Rattle.comp_worlds.specs.Worlds.{IsWorld};
+ghost use Rattle.comp_state.specs.Causes.{IsCause, IsBuildRefusal, LacksEncoding, IsEncoded};
+ghost use Rattle.comp_state.specs.Encoding.{Extends};
+ghost use Rattle.comp_state.specs.Rules.{Grows, IsBuilt, expected};
+
+use crate::fault::StateFault;
+use crate::state::EncodingState;
+use comp_bytes::{BuildFault, ComponentBuilder};
+use comp_worlds::ComponentWorld;
+use std::alloc::Global;
+
+/// The bytes of a component, with the names of its items.
+fn write_component(mut component: ComponentBuilder) -> Result<Vec<u8>, BuildFault>
+    ensures ok { IfOk result (λ bytes. Spells bytes.items (with_names component).defs) }
+    ensures cause { IfErr result IsBuildRefusal }
+{
+    component.append_names()?;
+    component.finish()
+}
+
+impl EncodingState<'_> {
+    /// The bytes of the component, with the names of its items.
+    pub fn finish(self) -> Result<Vec<u8>, StateFault>
+        ensures ok { IfOk result (λ bytes. Spells bytes.items (with_names self.entry.built).defs) }
+        ensures cause { IfErr result (IsCause self.entry.world) }
+    {
+        let bytes = write_component(self.component)?;
+        Ok(bytes)
+    }
+
+    /// All steps before the end, from nothing.
+    fn encode_all(&mut self) -> Result<(), StateFault>
+        requires { self.old.built.defs ≡ [] }
+        ensures world { self.new.world ≡ self.old.world }
+        ensures built { OnOk result (IsBuilt self.old.world self.new.built.defs) }
+        ensures encoded { OnOk result (IsEncoded self.old.world) }
+        ensures cause { IfErr result (IsCause self.old.world) }
+    {
+        self.encode_imports()?;
+        self.encode_core_modules()?;
+        self.instantiate()?;
+        self.encode_exports()?;
+        Ok(())
+    }
+}
+
+/// The component of a validated world.
+///
+/// Refused where memory is refused, where a function that is imported or exported has no string
+/// encoding (`E9`, with its place), and where a count or a size would pass 2^32 - 1 (`E16`).
+pub fn encode_world(alloc: Global, world: &ComponentWorld) -> Result<Vec<u8>, StateFault>
+    requires { IsWorld world.now }
+    ensures ok { IfOk result (λ bytes. (ds : List Def) × Spells bytes.items ds × IsBuilt world.now ds) }
+    ensures refused { IsOk result → (place : List ℕ) → LacksEncoding world.now place → ⊥ }
+    ensures cause { IfErr result (IsCause world.now) }
+{
+    let mut state = EncodingState::new(alloc, world)?;
+    state.encode_all()?;
+    state.finish()
+}

@@ -1,0 +1,52 @@
+//! Why a world is not encoded.
+
+ghost use Rattle.std.specs.Prelude.{◌≡◌};
+ghost use Rattle.comp_state.specs.Causes.{of_build};
+ghost use Rattle.comp_state.specs.declared.fault.StateFault.TheVariants.{Memory};
+
+use comp_bytes::{BuildFault, Excess};
+use comp_lists::Text;
+use std::alloc::{AllocError, AllocFailed};
+use thiserror::Error;
+
+/// Why a step of the encoding is refused.
+#[derive(Debug, Drop, Error)]
+pub enum StateFault {
+    /// A growth was refused.
+    #[error("E1 Memory")]
+    Memory,
+    /// The world has no string encoding for the function that stands at this place: `module::field` of
+    /// a core import, or the name of a function that is lifted.
+    #[error("E9 NoEncoding place={place}")]
+    NoEncoding { place: Text },
+    /// A count or a size would pass 2^32 - 1.
+    #[error("E16 TooMany excess={excess}")]
+    TooMany { excess: Excess },
+}
+
+impl From<AllocError> for StateFault {
+    ghost from_gives = { λ _ e. e ≡ Memory };
+
+    fn from(_fault: AllocError) -> StateFault {
+        StateFault::Memory
+    }
+}
+
+impl<T: Drop> From<AllocFailed<T>> for StateFault {
+    ghost from_gives = { λ _ e. e ≡ Memory };
+
+    fn from(_fault: AllocFailed<T>) -> StateFault {
+        StateFault::Memory
+    }
+}
+
+impl From<BuildFault> for StateFault {
+    ghost from_gives = { λ fault e. e ≡ of_build fault };
+
+    fn from(fault: BuildFault) -> StateFault {
+        match fault {
+            BuildFault::Memory => StateFault::Memory,
+            BuildFault::TooMany { excess } => StateFault::TooMany { excess },
+        }
+    }
+}

@@ -1,0 +1,107 @@
+//! The types of functions, and the root functions that are imported.
+
+#![tactic(auto, using(crate::proofs::Extending::extending))]
+
+ghost use Rattle.std.specs.Prelude.{◌≡◌, [], ◌∷◌, List, ℕ, IfOk, IfErr, OnOk, IsTrue, IsSome, is_some, map, filter};
+ghost use Rattle.comp_lists.specs.Found.{found};
+ghost use Rattle.comp_worlds.specs.Keys.{key_text};
+ghost use Rattle.comp_state.specs.Causes.{IsCause, IsBuildRefusal};
+ghost use Rattle.comp_state.specs.Encoding.{Extends, FindsMore, FindsUsed};
+ghost use Rattle.comp_state.specs.Roles.{is_used};
+ghost use Rattle.comp_state.specs.Facts.{IsFunctionType, IsImported};
+ghost use Rattle.comp_state.specs.Rules.{Grows, ImportNamed, names_marked, imports_marked};
+
+use crate::fault::StateFault;
+use crate::indexes::used_functions;
+use crate::state::EncodingState;
+use comp_bytes::{BuildFault, Description, ExternName, FuncTypeDef};
+use comp_lists::{Keyed, Seq, Text};
+use comp_worlds::WorldItem;
+
+impl EncodingState<'_> {
+    /// Appends the type of functions with no parameter and no result.
+    fn add_function_type(&mut self) -> Result<u32, BuildFault>
+        ensures same { self.new ≡ record self.old { built = self.new.built } }
+        ensures extends { Extends self.old.built self.new.built }
+        ensures grows { OnOk result (Grows self.old.world self.old.built.defs self.new.built.defs []) }
+        ensures typed { IfOk result (IsFunctionType self.new.built.defs) }
+        ensures cause { IfErr result IsBuildRefusal }
+    {
+        let ty = FuncTypeDef {
+            async_: false,
+            params: Seq::new(self.alloc),
+            result: None,
+        };
+        let index = self.component.type_function(None, ty)?;
+        self.function_type = Some(index);
+        Ok(index)
+    }
+
+    /// The type of functions with no parameter and no result: the one that there is, or a new one.
+    pub(crate) fn encode_function_type(&mut self) -> Result<u32, BuildFault>
+        ensures same { self.new ≡ record self.old { built = self.new.built } }
+        ensures extends { Extends self.old.built self.new.built }
+        ensures grows { OnOk result (Grows self.old.world self.old.built.defs self.new.built.defs []) }
+        ensures typed { IfOk result (IsFunctionType self.new.built.defs) }
+        ensures cause { IfErr result IsBuildRefusal }
+    {
+        match self.function_type {
+            Some(index) => Ok(index),
+            None => self.add_function_type(),
+        }
+    }
+
+    /// Imports a root function under its name.
+    fn import_function(&mut self, name: &Text) -> Result<u32, StateFault>
+        ensures same { self.new ≡ record self.old { built = self.new.built } }
+        ensures extends { Extends self.old.built self.new.built }
+        ensures grows { OnOk result (Grows self.old.world self.old.built.defs self.new.built.defs (ImportNamed name.now ∷ [])) }
+        ensures imported { IfOk result (λ index. IsImported self.new.built.defs index name.now) }
+        ensures cause { IfErr result (IsCause self.old.world) }
+    {
+        let name = ExternName {
+            name: name.clone(self.alloc)?,
+            version_suffix: None,
+        };
+        let kind = self.encode_function_type()?;
+        let index = self.component.import(name, Description::Func(kind))?;
+        Ok(index)
+    }
+
+    /// Imports a root function, unless no import of main is it.
+    fn import_used(&mut self, used: &Keyed<Text, ()>, name: &Text) -> Result<(), StateFault>
+        requires used { (text : List ℕ) → is_some (found text used.now) ≡ is_used self.old.world text }
+        ensures same { self.new ≡ record self.old { built = self.new.built; functions = self.new.functions } }
+        ensures extends { Extends self.old.built self.new.built }
+        ensures grows { OnOk result (Grows self.old.world self.old.built.defs self.new.built.defs (names_marked self.old.world (name.now ∷ []))) }
+        ensures finds { FindsMore self.old.functions self.new.functions }
+        ensures found { OnOk result (IsTrue (is_used self.old.world name.now) → IsSome (found name.now self.new.functions)) }
+        ensures cause { IfErr result (IsCause self.old.world) }
+    {
+        if !used.contains(name) {
+            return Ok(());
+        }
+        let index = self.import_function(name)?;
+        let name = name.clone(self.alloc)?;
+        self.functions.add_first(name, index)?;
+        Ok(())
+    }
+
+    /// Imports the root functions that imports of main are, in the order of the world.
+    pub fn encode_imports(&mut self) -> Result<(), StateFault>
+        ensures same { self.new ≡ record self.old { built = self.new.built; functions = self.new.functions } }
+        ensures extends { Extends self.old.built self.new.built }
+        ensures grows { OnOk result (Grows self.old.world self.old.built.defs self.new.built.defs (imports_marked self.old.world)) }
+        ensures found { OnOk result (FindsUsed self.old.world self.new.functions) }
+        ensures cause { IfErr result (IsCause self.old.world) }
+    {
+        let world = self.world;
+        let used = used_functions(self.alloc, world)?;
+        for (key, item) in world.world.imports.entries() {
+            match item {
+                WorldItem::Function(_) => self.import_used(&used, key.text())?,
+            }
+        }
+        Ok(())
+    }
+}

@@ -1,0 +1,63 @@
+//! Look-ups by the name of a root function, made once from the roles of main.
+
+ghost use Rattle.std.specs.Prelude.{◌≡◌, ◌||◌, ℕ, List, IfOk, OnOk, is_some, map};
+ghost use Rattle.std.specs.List.{list_any};
+ghost use Rattle.comp_lists.specs.Found.{found};
+ghost use Rattle.comp_worlds.specs.Worlds.{exported_text, core_name_of};
+ghost use Rattle.comp_state.specs.Roles.{is_used, is_any_import, uses_from};
+
+use comp_lists::{Keyed, Text};
+use comp_worlds::{ComponentWorld, Export, Import};
+use std::alloc::{AllocError, Global};
+
+/// Adds the functions that these imports are.
+#[tactic(auto, using(crate::proofs::Indexing::used_step))]
+fn add_used(
+    alloc: Global,
+    used: &mut Keyed<Text, ()>,
+    fields: &Keyed<Text, Import>,
+) -> Result<(), AllocError>
+    ensures { OnOk result ((text : List ℕ) → is_some (found text used.new) ≡ (is_some (found text used.old) || is_any_import text fields.now)) }
+{
+    for (_, import) in fields.entries() {
+        match import {
+            Import::WorldFunc(key, _, _) => {
+                used.add_first(key.text().clone(alloc)?, ())?;
+            }
+        }
+    }
+    Ok(())
+}
+
+/// The root functions that imports of main are.
+pub(crate) fn used_functions(
+    alloc: Global,
+    world: &ComponentWorld,
+) -> Result<Keyed<Text, ()>, AllocError>
+    ensures { IfOk result (λ used. (text : List ℕ) → is_some (found text used) ≡ is_used world.now text) }
+{
+    let mut used = Keyed::new(alloc);
+    for (_, instance) in world.main.imports.modules.entries() {
+        add_used(alloc, &mut used, instance.fields())?;
+    }
+    Ok(used)
+}
+
+/// The names of main's exports that are root functions, by the function.
+#[tactic(auto, using(crate::proofs::Indexing::names_step))]
+pub(crate) fn core_names(
+    alloc: Global,
+    exports: &Keyed<Text, Export>,
+) -> Result<Keyed<Text, Text>, AllocError>
+    ensures { IfOk result (λ names. (text : List ℕ) → found text names ≡ found text (map (λ e. (exported_text e.1, e.0)) exports.now)) }
+{
+    let mut names = Keyed::new(alloc);
+    for (name, export) in exports.entries() {
+        match export {
+            Export::WorldFunc(key, _, _) => {
+                names.add_first(key.text().clone(alloc)?, name.clone(alloc)?)?;
+            }
+        }
+    }
+    Ok(names)
+}
