@@ -34,3 +34,8 @@ module _ {L B F : Type 0} (l : lower.Ghosts L B F) where
     pub performed : Performed layer (names_of words) before after ended
     pub tells : status ≡ status_of ended
     pub told : Told said_before said_after ended
+
+  -- a run over some lower layer of the kind
+  pub record RanOver (words : List (List ℕ)) (before after : Option (List Event)) (said_before said_after : Option (List ℕ)) (status : ℕ) : Type 0 where
+    pub layer : L
+    pub ran : Ran layer words before after said_before said_after status

@@ -2,7 +2,7 @@
 
 ghost use Rattle.std.specs.Prelude.{◌≡◌, map, string_bytes};
 ghost use Rattle.component_new.specs.Arguments.{names_of};
-ghost use Rattle.component_new.specs.Running.{Performed, Ran, Told};
+ghost use Rattle.component_new.specs.Running.{Performed, Ran, RanOver, Told};
 ghost use Rattle.component_new.specs.Faults.{status_of};
 
 use crate::arguments::{Arguments, names_of};
@@ -12,7 +12,7 @@ use crate::store::Store;
 use crate::telling::tell;
 use comp_encoder::EncodeFault;
 use comp_worlds::Lower;
-use stub_lower::StubLower;
+use plain_lower::PlainLower;
 use std::alloc::Global;
 use std::fmt::Display;
 use std::io::Write;
@@ -75,7 +75,8 @@ pub fn run_with<L: Lower + Drop, S: Store, W: Write, E: Write>(
     status_of(&done)
 }
 
-/// Runs the program.
+/// Runs the program. `words` are the arguments after the program's name; the answer is the exit
+/// status.
 pub fn run<S: Store, W: Write, E: Write>(
     alloc: Global,
     words: &[String],
@@ -83,6 +84,8 @@ pub fn run<S: Store, W: Write, E: Write>(
     out: &mut W,
     err: &mut E,
 ) -> u8
+    ensures ran { RanOver ⟦<PlainLower as Lower>⟧ (map string_bytes words.now) (S.events store.old) (S.events store.new) (E.contents err.old) (E.contents err.new) result }
+    ensures quiet { W.contents out.new ≡ W.contents out.old }
 {
-    run_with(alloc, StubLower::NoEncoding, words, store, out, err)
+    run_with(alloc, PlainLower::new(), words, store, out, err)
 }

@@ -9,3 +9,6 @@ mod stub;
 mod worlds;
 
 pub use stub::{StubFault, StubLower};
+
+#[cfg(test)]
+mod tests;

@@ -1,12 +1,11 @@
 //! Runs of the program.
 
 use super::store::{Closed, OneFile};
-use crate::running::run_with;
+use super::modules::{COMPONENT, EMPTY, EMPTY_COMPONENT, MODULE, RECORD, with_record};
+use crate::running::run;
 use crate::store::{Event, StoreFault};
 use std::alloc::{AllocError, Global};
-use stub_lower::StubLower;
-
-const CORE: &[u8] = b"\0asm\x01\0\0\0";
+use std::test::Fail;
 
 /// What a run answered, and wrote to its two writers.
 #[derive(Drop)]
@@ -28,13 +27,13 @@ fn run_on(alloc: Global, words: &[&str], store: &mut OneFile) -> Result<Answer, 
     let words = texts(alloc, words)?;
     let mut out = Vec::new(alloc);
     let mut err = Vec::new(alloc);
-    let status = run_with(alloc, StubLower::NoEncoding, &words, store, &mut out, &mut err);
+    let status = run(alloc, &words, store, &mut out, &mut err);
     Ok(Answer { status, out, err })
 }
 
 /// A run on the file `main.wasm` with one call of the store refused.
 fn refused(alloc: Global, calls: u32, fault: StoreFault) -> Result<Answer, AllocError> {
-    let mut store = OneFile::new(alloc, "main.wasm", CORE)?;
+    let mut store = OneFile::new(alloc, "main.wasm", &EMPTY)?;
     store.refusal = Some((calls, fault));
     run_on(alloc, &["new", "out.wasm", "main.wasm"], &mut store)
 }
@@ -51,7 +50,7 @@ fn wrong_arguments_are_told_before_anything_is_read(rt: HostRuntime) {
         &["new", "--ref", "out.wasm", "main.wasm"],
     ];
     for words in wrong {
-        let mut store = OneFile::new(alloc, "main.wasm", CORE).expect(&rt, "memory");
+        let mut store = OneFile::new(alloc, "main.wasm", &EMPTY).expect(&rt, "memory");
         let answer = run_on(alloc, words, &mut store).expect(&rt, "memory");
         assert_eq!(rt; answer.status, 2);
         assert_eq!(rt; answer.err.as_slice(), b"usage: component_new new OUT MAIN [options] | defs FILE\n".as_slice());
@@ -79,7 +78,7 @@ fn a_refusal_of_the_store_is_told(rt: HostRuntime) {
 #[test]
 fn a_name_is_told_in_quotes(rt: HostRuntime) {
     let alloc = rt.alloc();
-    let mut store = OneFile::new(alloc, "main.wasm", CORE).expect(&rt, "memory");
+    let mut store = OneFile::new(alloc, "main.wasm", &EMPTY).expect(&rt, "memory");
     let answer = run_on(alloc, &["new", "out.wasm", "a \"b\"\n"], &mut store).expect(&rt, "memory");
     assert_eq!(rt; answer.status, 1);
     assert_eq!(rt; answer.err.as_slice(), b"error: read \"a \\\"b\\\"\\0a\"\n".as_slice());
@@ -88,8 +87,57 @@ fn a_name_is_told_in_quotes(rt: HostRuntime) {
 #[test]
 fn the_status_tells_where_no_line_can(rt: HostRuntime) {
     let alloc = rt.alloc();
-    let mut store = OneFile::new(alloc, "main.wasm", CORE).expect(&rt, "memory");
+    let mut store = OneFile::new(alloc, "main.wasm", &EMPTY).expect(&rt, "memory");
     let words = texts(alloc, &["new", "out.wasm", "other.wasm"]).expect(&rt, "memory");
-    let status = run_with(alloc, StubLower::NoEncoding, &words, &mut store, &mut Closed, &mut Closed);
+    let status = run(alloc, &words, &mut store, &mut Closed, &mut Closed);
     assert_eq!(rt; status, 1);
+}
+
+/// What a run on the file `main.wasm` printed, where it made no component.
+fn told(alloc: Global, main: &[u8]) -> Result<String, Fail> {
+    let mut store = OneFile::new(alloc, "main.wasm", main)?;
+    let answer = run_on(alloc, &["new", "out.wasm", "main.wasm"], &mut store)?;
+    match store.log.as_slice() {
+        [Event::Read { .. }] if answer.status == 1 && answer.out.is_empty() => {}
+        _ => return Err(Fail::from("more than MAIN was read")),
+    }
+    match String::from_utf8(answer.err) {
+        Ok(line) => Ok(line),
+        Err(_) => Err(Fail::from("not a text")),
+    }
+}
+
+#[test]
+fn refusals_of_the_encoder_are_told(rt: HostRuntime) -> Result<(), Fail> {
+    let alloc = rt.alloc();
+    let package = with_record(alloc, &MODULE, b"\0asm\x0d\0\x01\0")?;
+    let open = with_record(alloc, &MODULE, b"{")?;
+    assert_eq!(rt; told(alloc, b"")?.as_str(), "error: E3 Lower: P2 NotModule\n");
+    assert_eq!(rt; told(alloc, &package)?.as_str(), "error: E3 Lower: P4 PackageBinary\n");
+    assert_eq!(rt; told(alloc, &open)?.as_str(), "error: E3 Lower: P5 Json\n");
+    Ok(())
+}
+
+/// Whether a run on this module says nothing, and puts this component after it read the module.
+fn puts(alloc: Global, main: &[u8], component: &[u8]) -> Result<bool, Fail> {
+    let mut store = OneFile::new(alloc, "main.wasm", main)?;
+    let answer = run_on(alloc, &["new", "out.wasm", "main.wasm"], &mut store)?;
+    match store.log.as_slice() {
+        [Event::Read { name, .. }, Event::Put { name: out, bytes }] => Ok(name.is("main.wasm")
+            && out.is("out.wasm")
+            && bytes.as_slice() == component
+            && answer.status == 0
+            && answer.out.is_empty()
+            && answer.err.is_empty()),
+        _ => Ok(false),
+    }
+}
+
+#[test]
+fn a_component_is_put_and_nothing_is_said(rt: HostRuntime) -> Result<(), Fail> {
+    let alloc = rt.alloc();
+    let main = with_record(alloc, &MODULE, RECORD.as_bytes())?;
+    assert!(rt; puts(alloc, &main, &COMPONENT)?);
+    assert!(rt; puts(alloc, &EMPTY, &EMPTY_COMPONENT)?);
+    Ok(())
 }
