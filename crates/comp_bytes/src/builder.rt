@@ -23,7 +23,8 @@ use std::marker::Model;
 /// A component that is being built, definition by definition.
 ///
 /// Each call that adds a definition answers the index of the item that it makes: the number of items
-/// of its space before it. A refusal leaves the builder as it was.
+/// of its space before it. A refusal leaves the builder as it was. Whether an index that a definition
+/// names is one of an item at hand is for the caller to see to: definitions are added as they stand.
 #[derive(Drop)]
 pub struct ComponentBuilder {
     defs: Vec<Def>,
@@ -122,7 +123,10 @@ impl ComponentBuilder {
         Ok(index)
     }
 
-    /// Appends the custom section `component-name` with the debug names, where there are any.
+    /// Appends the custom section `component-name` with the debug names, where there are any: for each
+    /// space with names, in the order of the bytes of their sorts, the names by index. It refuses with
+    /// [`BuildFault::TooMany`] only where a count or a size in that section would pass 2^32 - 1; then
+    /// the builder is as it was.
     pub fn append_names(&mut self) -> Result<(), BuildFault>
         ensures { AddsNames self.old self.new result }
     {
@@ -137,7 +141,9 @@ impl ComponentBuilder {
         Ok(())
     }
 
-    /// The bytes of the component: its preamble and its sections.
+    /// The bytes of the component: its preamble and its sections. It refuses with
+    /// [`BuildFault::TooMany`] only where a count or a size that would be written passes 2^32 - 1, and
+    /// tells that one.
     pub fn finish(self) -> Result<Vec<u8>, BuildFault>
         ensures ok { IfOk result (λ v. Spells v.items self.defs) }
         ensures err { IfErr result (Refused (spelling_of self.defs).counts) }

@@ -1,7 +1,9 @@
-//! The calls of [`ComponentBuilder`] that add a definition, one a form of definition.
+//! The calls of [`ComponentBuilder`] that add a definition, one a form of definition of the component
+//! model's binary format, whose words stand in parentheses.
 //!
-//! Component model, binary format: `core:instance`, `instance`, `alias`, `deftype`, `canon`, `import`,
-//! `export`.
+//! Each answers the index of the item that it makes, and refuses with [`BuildFault::TooMany`] exactly
+//! where that item's space would have more than 2^32 - 1 items, and with [`BuildFault::Memory`] where
+//! a growth was refused; then the builder is as it was. `debug` is the item's debug name.
 
 ghost use Rattle.std.specs.Prelude.{◌≡◌, IfOk, None};
 ghost use Rattle.comp_bytes.specs.Spaces.{kind_space, export_space, sort_space, description_space};
@@ -21,7 +23,7 @@ use crate::types::{
 use comp_lists::{Seq, Text};
 
 impl ComponentBuilder {
-    /// A core module, by its bytes, which begin with the core preamble.
+    /// A core module, by its bytes, which begin with the core preamble and are copied (`core:module`).
     pub fn core_module_raw(&mut self, debug: Option<&str>, bytes: &[u8]) -> Result<u32, BuildFault>
         requires { IsCoreModule bytes.now }
         ensures adds { Adds self.old self.new result Space.CoreModule (Def.Item (Item.CoreModule bytes.now)) (option_now debug.entry) }
@@ -35,7 +37,8 @@ impl ComponentBuilder {
         )
     }
 
-    /// An instance of a core module.
+    /// An instance of the core module with this index, given a core instance for each name that it
+    /// imports from (`core:instance`, `00`).
     pub fn core_instantiate(
         &mut self,
         debug: Option<&str>,
@@ -52,7 +55,7 @@ impl ComponentBuilder {
         )
     }
 
-    /// A core instance that is made of core items at hand.
+    /// A core instance that is made of core items at hand, each under a name (`core:instance`, `01`).
     pub fn core_instantiate_exports(
         &mut self,
         debug: Option<&str>,
@@ -68,7 +71,7 @@ impl ComponentBuilder {
         )
     }
 
-    /// An export of a core instance.
+    /// The item of this kind that a core instance exports under this name (`alias`, target `01`).
     pub fn core_alias_export(
         &mut self,
         debug: Option<&str>,
@@ -88,7 +91,7 @@ impl ComponentBuilder {
         self.define(debug, kind.space(), Def::Item(Item::Alias(alias)))
     }
 
-    /// An export of an instance.
+    /// The item of this kind that an instance exports under this name (`alias`, target `00`).
     pub fn alias_export(
         &mut self,
         instance: u32,
@@ -107,7 +110,7 @@ impl ComponentBuilder {
         self.define(None, kind.space(), Def::Item(Item::Alias(alias)))
     }
 
-    /// A nested component, by its definitions.
+    /// A nested component, by its definitions, which have no debug names (`component`).
     pub fn component(&mut self, debug: Option<&str>, items: Seq<Item>) -> Result<u32, BuildFault>
         ensures adds { Adds self.old self.new result Space.Component (Def.Component items) (option_now debug.entry) }
         ensures at { IfOk result (λ answer. IsAt self.new.defs Space.Component answer (Def.Component items)) }
@@ -115,7 +118,8 @@ impl ComponentBuilder {
         self.define(debug, Space::Component, Def::Component(items))
     }
 
-    /// An instance of a component.
+    /// An instance of the component with this index, given an item for each name that it imports
+    /// (`instance`).
     pub fn instantiate(
         &mut self,
         debug: Option<&str>,
@@ -132,7 +136,7 @@ impl ComponentBuilder {
         )
     }
 
-    /// A function type.
+    /// A type of functions (`functype`).
     pub fn type_function(&mut self, debug: Option<&str>, ty: FuncTypeDef) -> Result<u32, BuildFault>
         ensures adds { Adds self.old self.new result Space.Type (Def.Item (Item.Type (TypeDef.Func ty))) (option_now debug.entry) }
         ensures at { IfOk result (λ answer. IsAt self.new.defs Space.Type answer (Def.Item (Item.Type (TypeDef.Func ty)))) }
@@ -140,7 +144,7 @@ impl ComponentBuilder {
         self.define(debug, Space::Type, Def::Item(Item::Type(TypeDef::Func(ty))))
     }
 
-    /// A type of values.
+    /// A type of values (`defvaltype`).
     pub fn type_defined(&mut self, debug: Option<&str>, ty: DefinedType) -> Result<u32, BuildFault>
         ensures adds { Adds self.old self.new result Space.Type (Def.Item (Item.Type (TypeDef.Defined ty))) (option_now debug.entry) }
         ensures at { IfOk result (λ answer. IsAt self.new.defs Space.Type answer (Def.Item (Item.Type (TypeDef.Defined ty)))) }
@@ -152,7 +156,7 @@ impl ComponentBuilder {
         )
     }
 
-    /// A type of instances.
+    /// A type of instances (`instancetype`).
     pub fn type_instance(
         &mut self,
         debug: Option<&str>,
@@ -164,7 +168,7 @@ impl ComponentBuilder {
         self.define(debug, Space::Type, Def::Item(Item::InstanceType(ty)))
     }
 
-    /// A resource type, with the core function that is its destructor.
+    /// A type of resources, with the core function that is its destructor (`resourcetype`).
     pub fn type_resource(
         &mut self,
         debug: Option<&str>,
@@ -180,7 +184,7 @@ impl ComponentBuilder {
         )
     }
 
-    /// An import.
+    /// An import, which is an item of what it is said to be (`import`).
     pub fn import(&mut self, name: ExternName, description: Description) -> Result<u32, BuildFault>
         ensures adds { Adds self.old self.new result (description_space description) (Def.Item (Item.Import name description)) None }
         ensures at { IfOk result (λ answer. IsAt self.new.defs (description_space description) answer (Def.Item (Item.Import name description))) }
@@ -192,7 +196,8 @@ impl ComponentBuilder {
         )
     }
 
-    /// An export of the item with this sort and index, which is an item of its own too.
+    /// An export of the item with this sort and index. It is an item of its own too, of what it is said
+    /// to be, or of the type of what it exports (`export`).
     pub fn export(
         &mut self,
         name: ExternName,
@@ -215,7 +220,7 @@ impl ComponentBuilder {
         )
     }
 
-    /// A core function for a function.
+    /// A core function that calls the function with this index (`canon lower`).
     pub fn lower_func(
         &mut self,
         debug: Option<&str>,
@@ -232,7 +237,7 @@ impl ComponentBuilder {
         )
     }
 
-    /// A function, of this type, for a core function.
+    /// A function of this type that calls the core function with this index (`canon lift`).
     pub fn lift_func(
         &mut self,
         debug: Option<&str>,
@@ -250,7 +255,7 @@ impl ComponentBuilder {
         )
     }
 
-    /// A core function that the runtime has.
+    /// A core function that the runtime has (`canon`, all other forms).
     pub fn intrinsic(&mut self, intrinsic: Intrinsic) -> Result<u32, BuildFault>
         ensures adds { Adds self.old self.new result Space.CoreFunc (Def.Item (Item.Intrinsic intrinsic)) None }
         ensures at { IfOk result (λ answer. IsAt self.new.defs Space.CoreFunc answer (Def.Item (Item.Intrinsic intrinsic))) }

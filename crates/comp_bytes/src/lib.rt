@@ -11,6 +11,12 @@
 //! the item that it makes (`Adds`, `IsAt`), and a refusal other than want of memory names a count or a
 //! size that passes 2^32 - 1 (`Refused`, `Full`).
 //!
+//! For those above that speak of indices and names: `specs/References.antt` (what a definition names by
+//! index), `specs/Scopes.antt` (that all of it stands before it), `specs/ScopeNames.antt` (the lists of
+//! names in each of which a name stands once), `specs/Places.antt` (which definition made which item);
+//! with their laws in `proofs/Places.antt` and `proofs/Scopes.antt`, and worked examples in
+//! `proofs/Worked.antt`.
+//!
 //! In reading order: `space` (sorts of items and their index spaces), `types` (types and names),
 //! `canon` (canonical functions), `def` (definitions), `name` (debug names), `fault` (counts and
 //! refusals), `number` (numbers, names, lists, options), `writing` (each value), `sections`

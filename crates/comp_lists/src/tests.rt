@@ -1,5 +1,6 @@
 //! What no clause says: the printed form of a text, and that each call succeeds.
 
+use crate::keyed::Keyed;
 use crate::seq::Seq;
 use crate::text::Text;
 use crate::try_clone::TryClone;
@@ -48,4 +49,26 @@ fn texts_are_keys(rt: HostRuntime) {
     assert!(rt; name.is("f") && !name.is("g") && name.len() == 1 && !name.is_empty());
     assert_eq!(rt; found_by_copy(alloc, name).expect(&rt, "memory"), Some(3));
     assert!(rt; Text::new(alloc).into_string().is_empty());
+}
+
+/// The values of a table in its order, after an entry was kept and one was added at its end.
+fn kept_in_order(alloc: Global) -> Result<Seq<u32>, AllocError> {
+    let mut table: Keyed<Text, u32> = Keyed::new(alloc);
+    table.add_first(Text::from_str(alloc, "b")?, 1)?;
+    table.add_first(Text::from_str(alloc, "b")?, 2)?;
+    table.add_first(Text::from_str(alloc, "a")?, 3)?;
+    let mut values = Seq::new(alloc);
+    if table.contains(&Text::from_str(alloc, "c")?) {
+        return Ok(values);
+    }
+    for (_, value) in table.entries() {
+        values.push(*value)?;
+    }
+    Ok(values)
+}
+
+#[test]
+fn tables_keep_their_order(rt: HostRuntime) {
+    let values = kept_in_order(rt.alloc()).expect(&rt, "memory");
+    assert_eq!(rt; values.as_slice(), [1, 3].as_slice());
 }

@@ -2,7 +2,7 @@
 use Rattle.std.proofs.Common.{◌≡◌, ◌∙◌, ℕ, ◌==◌, Bool, true, false, List, [], ◌∷◌, ◌++◌, length, refl, sym, ap, subst, append-nil, Option, Some, None, IsSome, is_some, inl, inr, true≢false, if◌then◌else◌}
 use Rattle.comp_lists.proofs.Lists.{AllByRecursion-contains}
 use Rattle.comp_bytes.specs.Built.{Built}
-use Rattle.comp_bytes.specs.Names.{with_names, names_text}
+use Rattle.comp_bytes.specs.DebugNames.{with_names, names_text}
 use Rattle.comp_bytes.specs.declared.def.Def.{Def}
 use Rattle.comp_bytes.specs.declared.def.Def.TheVariants as defs
 use Rattle.comp_bytes.specs.declared.def.Item.TheVariants as items

@@ -4,4 +4,5 @@ pub mod Extending
 pub mod Growth
 pub mod Importing
 pub mod Indexing
+pub mod Scoping
 pub mod Serving

@@ -18,6 +18,7 @@ use Rattle.comp_bytes.specs.declared.space.Space.TheVariants as spaces
 use Rattle.comp_bytes.specs.Built.{Built}
 use Rattle.comp_bytes.specs.declared.space.Sort.{Sort}
 use Rattle.comp_bytes.specs.declared.space.Sort.TheVariants as sorts
+use Rattle.comp_bytes.specs.declared.space.ComponentExportKind.TheVariants as exports
 use Rattle.comp_bytes.specs.declared.space.ExportKind.TheVariants as kinds
 use Rattle.comp_bytes.specs.declared.types.Alias.{Alias}
 use Rattle.comp_bytes.specs.declared.types.Alias.TheVariants as aliases
@@ -190,7 +191,10 @@ sort_apart sorts.Component = refl
 sort_apart sorts.Instance = refl
 
 alias_apart : (a : Alias) → is_space spaces.CoreModule (Some (alias_space a)) ≡ false
-alias_apart (aliases.Export sort instance name) = sort_apart sort
+alias_apart (aliases.Export exports.Func instance name) = refl
+alias_apart (aliases.Export exports.Type instance name) = refl
+alias_apart (aliases.Export exports.Component instance name) = refl
+alias_apart (aliases.Export exports.Instance instance name) = refl
 alias_apart (aliases.CoreExport kind instance name) = sort_apart (sorts.Core kind)
 alias_apart (aliases.Outer count index) = refl
 

@@ -3,7 +3,8 @@
 
 ghost use Rattle.std.specs.Prelude.{◌≡◌, [], ◌∷◌, ◌++◌, List, ℕ, IfOk, IfErr, OnOk, IsOk};
 ghost use Rattle.comp_bytes.specs.Grammar.{Spells};
-ghost use Rattle.comp_bytes.specs.Names.{with_names};
+ghost use Rattle.comp_bytes.specs.DebugNames.{with_names};
+ghost use Rattle.comp_bytes.specs.Scopes.{Scoped};
 ghost use Rattle.comp_bytes.specs.declared.def.Def.{Def};
 ghost use Rattle.comp_worlds.specs.Worlds.{IsWorld};
 ghost use Rattle.comp_state.specs.Causes.{IsCause, IsBuildRefusal, LacksEncoding, IsEncoded};
@@ -57,7 +58,7 @@ impl EncodingState<'_> {
 /// encoding (`E9`, with its place), and where a count or a size would pass 2^32 - 1 (`E16`).
 pub fn encode_world(alloc: Global, world: &ComponentWorld) -> Result<Vec<u8>, StateFault>
     requires { IsWorld world.now }
-    ensures ok { IfOk result (λ bytes. (ds : List Def) × Spells bytes.items ds × IsBuilt world.now ds) }
+    ensures ok { IfOk result (λ bytes. (ds : List Def) × Spells bytes.items ds × Scoped ds × IsBuilt world.now ds) }
     ensures refused { IsOk result → (place : List ℕ) → LacksEncoding world.now place → ⊥ }
     ensures cause { IfErr result (IsCause world.now) }
 {

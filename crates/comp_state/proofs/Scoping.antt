@@ -1,0 +1,86 @@
+-- A list that keeps the rules names items that stand before, each by its index and space.
+use Rattle.std.proofs.Common.{◌≡◌, ℕ, ◌<◌, List, [], ◌∷◌, ◌++◌, sym, subst, Some, None}
+use Rattle.std.specs.List.{AllByRecursion, AllZip, flat_map}
+use Rattle.comp_bytes.specs.Spaces.{items_in, space_of, kind_space}
+use Rattle.comp_bytes.specs.References.{Reference, own, type_references, options_references, type_at}
+use Rattle.comp_bytes.specs.Scopes.{InScope, EachIn, DefScoped, Scoped, scope_of}
+use Rattle.comp_bytes.proofs.Places.{in_range}
+use Rattle.comp_bytes.specs.declared.canon.CanonicalOption.{CanonicalOption}
+use Rattle.comp_bytes.specs.declared.space.Space.TheVariants as spaces
+use Rattle.comp_bytes.specs.declared.space.ExportKind.TheVariants as kinds
+use Rattle.comp_bytes.specs.declared.space.Sort.TheVariants as sorts
+use Rattle.comp_bytes.specs.declared.types.TypeDef.{TypeDef}
+use Rattle.comp_bytes.specs.declared.types.TypeDef.TheVariants as types
+use Rattle.comp_bytes.specs.declared.types.Alias.TheVariants as aliases
+use Rattle.comp_bytes.specs.declared.types.Description.TheVariants as descriptions
+use Rattle.comp_bytes.specs.declared.def.CoreArgument.{CoreArgument}
+use Rattle.comp_bytes.specs.declared.def.CoreInlineExport.{CoreInlineExport}
+use Rattle.comp_bytes.specs.declared.def.Def.{Def}
+use Rattle.comp_bytes.specs.declared.def.Def.TheVariants as defs
+use Rattle.comp_bytes.specs.declared.def.Item.TheVariants as items
+use Rattle.comp_worlds.specs.declared.imports.ImportInstance.{ImportInstance}
+use Rattle.comp_worlds.specs.declared.world.ComponentWorld.{ComponentWorld}
+use Rattle.comp_state.specs.Facts.{IsArgumentFor, plain_function}
+use Rattle.comp_state.specs.Rules.{IsRight, RightAfter, IsEntry, IsBuilt}
+
+abbrev Within : List Def → Reference → Type 0
+Within earlier = InScope (scope_of space_of earlier ∷ [])
+
+arguments_within : (w : ComponentWorld) (earlier : List Def) (as' : List CoreArgument) (gs : List (List ℕ × ImportInstance)) → AllZip (IsArgumentFor w earlier) as' gs →
+    AllByRecursion (Within earlier) (flat_map (λ a. own spaces.CoreInstance a.instance ∷ []) as')
+arguments_within w earlier [] [] h = tt
+arguments_within w earlier (a ∷ as') (g ∷ gs) h = (in_range h.0.serves.made, arguments_within w earlier as' gs h.1)
+arguments_within w earlier [] (g ∷ gs) h = absurd h
+arguments_within w earlier (a ∷ as') [] h = absurd h
+
+entries_within : (earlier : List Def) (es : List CoreInlineExport) → AllByRecursion (IsEntry earlier) es → AllByRecursion (Within earlier) (flat_map (λ e. own (kind_space e.kind) e.index ∷ []) es)
+entries_within earlier [] h = tt
+entries_within earlier (e ∷ es) h = (subst (λ k. e.index < items_in (kind_space k) earlier) (sym h.0.kind) h.0.scoped, entries_within earlier es h.1)
+
+no_options : (earlier : List Def) (options : List CanonicalOption) → options ≡ [] → AllByRecursion (Within earlier) (options_references options)
+no_options earlier options none = subst (λ o. AllByRecursion (Within earlier) (options_references o)) (sym none) tt
+
+plain_within : (earlier : List Def) (t : TypeDef) → t ≡ types.Func plain_function → AllByRecursion (Within earlier) (type_references t)
+plain_within earlier t same = subst (λ u. AllByRecursion (Within earlier) (type_references u)) (sym same) tt
+
+within : (w : ComponentWorld) (earlier : List Def) (d : Def) → IsRight w earlier d → DefScoped (scope_of space_of earlier) d
+within w earlier (defs.Component inner) h = absurd h
+within w earlier (defs.Item (items.CoreModule bytes)) h = (tt, tt)
+within w earlier (defs.Item (items.CoreInstantiate number arguments)) h = ((h.scoped, arguments_within w earlier arguments w.main.imports.modules h.each), tt)
+within w earlier (defs.Item (items.CoreExports entries)) h = (entries_within earlier entries h, tt)
+within w earlier (defs.Item (items.Instantiate component arguments)) h = absurd h
+within w earlier (defs.Item (items.Alias (aliases.Export sort instance name))) h = absurd h
+within w earlier (defs.Item (items.Alias (aliases.CoreExport kinds.Func instance name))) h = ((in_range h.of.made, tt), tt)
+within w earlier (defs.Item (items.Alias (aliases.CoreExport kinds.Table instance name))) h = absurd h
+within w earlier (defs.Item (items.Alias (aliases.CoreExport kinds.Memory instance name))) h = absurd h
+within w earlier (defs.Item (items.Alias (aliases.CoreExport kinds.Global instance name))) h = absurd h
+within w earlier (defs.Item (items.Alias (aliases.Outer count index))) h = absurd h
+within w earlier (defs.Item (items.Type t)) h = (plain_within earlier t h, tt)
+within w earlier (defs.Item (items.InstanceType t)) h = absurd h
+within w earlier (defs.Item (items.Lift core options kind)) h =
+    ((h.0, subst (λ (o : List CanonicalOption). AllByRecursion (Within earlier) (options_references o ++ type_at kind)) (sym h.1) (h.2, tt)), tt)
+within w earlier (defs.Item (items.Lower function options)) h = ((h.0, no_options earlier options h.1), tt)
+within w earlier (defs.Item (items.Intrinsic i)) h = absurd h
+within w earlier (defs.Item (items.Import name (descriptions.Func kind))) h = ((in_range h.1.made, tt), tt)
+within w earlier (defs.Item (items.Import name (descriptions.TypeEqual index))) h = absurd h
+within w earlier (defs.Item (items.Import name descriptions.SubResource)) h = absurd h
+within w earlier (defs.Item (items.Import name (descriptions.Instance index))) h = absurd h
+within w earlier (defs.Item (items.Export name sorts.Func index None)) h = ((in_range h.lifted.made, tt), tt)
+within w earlier (defs.Item (items.Export name sorts.Func index (Some d))) h = absurd h
+within w earlier (defs.Item (items.Export name (sorts.Core kind) index None)) h = absurd h
+within w earlier (defs.Item (items.Export name (sorts.Core kind) index (Some d))) h = absurd h
+within w earlier (defs.Item (items.Export name sorts.Type index None)) h = absurd h
+within w earlier (defs.Item (items.Export name sorts.Type index (Some d))) h = absurd h
+within w earlier (defs.Item (items.Export name sorts.Component index None)) h = absurd h
+within w earlier (defs.Item (items.Export name sorts.Component index (Some d))) h = absurd h
+within w earlier (defs.Item (items.Export name sorts.Instance index None)) h = absurd h
+within w earlier (defs.Item (items.Export name sorts.Instance index (Some d))) h = absurd h
+within w earlier (defs.Item (items.Custom name contents)) h = (tt, tt)
+
+each_within : (w : ComponentWorld) (earlier ds : List Def) → RightAfter w earlier ds → EachIn space_of DefScoped earlier ds
+each_within w earlier [] h = tt
+each_within w earlier (d ∷ ds) h = (within w earlier d h.0, each_within w (earlier ++ d ∷ []) ds h.1)
+
+-- each index of a whole component names an earlier item of its space
+pub built_scoped : (w : ComponentWorld) (ds : List Def) → IsBuilt w ds → Scoped ds
+built_scoped w ds h = each_within w [] ds h.right
