@@ -1,6 +1,6 @@
 //! Modules through the encoder's calls, with the layer that the program uses.
 
-use super::modules::{COMPONENT, EMPTY, EMPTY_COMPONENT, MODULE, RECORD, with_record};
+use super::modules::{COMPONENT, CUT, EMPTY, EMPTY_COMPONENT, MAIN, OPEN, PACKAGE};
 use comp_encoder::{ComponentEncoder, EncodeFault};
 use plain_lower::{PlainFault, PlainLower};
 use std::alloc::{AllocError, Global};
@@ -23,9 +23,8 @@ fn fault_of(alloc: Global, bytes: &[u8]) -> Result<String, AllocError> {
 #[test]
 fn a_module_becomes_its_component(rt: HostRuntime) -> Result<(), Fail> {
     let alloc = rt.alloc();
-    let main = with_record(alloc, &MODULE, RECORD.as_bytes())?;
-    assert_eq!(rt; encoded(alloc, &main)?.as_slice(), COMPONENT.as_slice());
-    assert_eq!(rt; encoded(alloc, &EMPTY)?.as_slice(), EMPTY_COMPONENT.as_slice());
+    assert_eq!(rt; encoded(alloc, MAIN)?.as_slice(), COMPONENT);
+    assert_eq!(rt; encoded(alloc, EMPTY)?.as_slice(), EMPTY_COMPONENT);
     Ok(())
 }
 
@@ -43,27 +42,30 @@ fn without_a_module_there_is_none(rt: HostRuntime) -> Result<(), Fail> {
 #[test]
 fn a_refused_module_leaves_the_encoder_as_it_was(rt: HostRuntime) -> Result<(), Fail> {
     let alloc = rt.alloc();
-    let main = with_record(alloc, &MODULE, RECORD.as_bytes())?;
     let mut encoder = ComponentEncoder::new(alloc, PlainLower::new());
-    encoder.add_module(&main)?;
-    match encoder.add_module(&main) {
+    encoder.add_module(MAIN)?;
+    match encoder.add_module(MAIN) {
         Err(fault) => {
             let text = format!(in alloc; "{fault}")?;
             assert_eq!(rt; text.as_str(), "E3 Lower: P7 MergeConflict name=\"g\"");
         }
         Ok(()) => return Err(Fail::from("an export twice")),
     }
-    assert_eq!(rt; encoder.encode()?.as_slice(), COMPONENT.as_slice());
+    assert_eq!(rt; encoder.encode()?.as_slice(), COMPONENT);
     Ok(())
 }
 
 #[test]
 fn refusals_of_the_layer_are_told(rt: HostRuntime) -> Result<(), Fail> {
     let alloc = rt.alloc();
-    let package = with_record(alloc, &MODULE, b"\0asm\x0d\0\x01\0")?;
-    let open = with_record(alloc, &MODULE, b"{")?;
-    assert_eq!(rt; fault_of(alloc, b"")?.as_str(), "E3 Lower: P2 NotModule");
-    assert_eq!(rt; fault_of(alloc, &package)?.as_str(), "E3 Lower: P4 PackageBinary");
-    assert_eq!(rt; fault_of(alloc, &open)?.as_str(), "E3 Lower: P5 Json");
+    let told = [
+        (b"".as_slice(), "E3 Lower: P2 NotModule"),
+        (CUT, "E3 Lower: P3 Section place=8"),
+        (PACKAGE, "E3 Lower: P4 PackageBinary"),
+        (OPEN, "E3 Lower: P5 Json"),
+    ];
+    for (bytes, fault) in told {
+        assert_eq!(rt; fault_of(alloc, bytes)?.as_str(), fault);
+    }
     Ok(())
 }

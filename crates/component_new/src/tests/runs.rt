@@ -1,7 +1,7 @@
 //! Runs of the program.
 
 use super::store::{Closed, OneFile};
-use super::modules::{COMPONENT, EMPTY, EMPTY_COMPONENT, MODULE, RECORD, with_record};
+use super::modules::{COMPONENT, CUT, EMPTY, EMPTY_COMPONENT, MAIN, OPEN, PACKAGE};
 use crate::running::run;
 use crate::store::{Event, StoreFault};
 use std::alloc::{AllocError, Global};
@@ -33,7 +33,7 @@ fn run_on(alloc: Global, words: &[&str], store: &mut OneFile) -> Result<Answer, 
 
 /// A run on the file `main.wasm` with one call of the store refused.
 fn refused(alloc: Global, calls: u32, fault: StoreFault) -> Result<Answer, AllocError> {
-    let mut store = OneFile::new(alloc, "main.wasm", &EMPTY)?;
+    let mut store = OneFile::new(alloc, "main.wasm", EMPTY)?;
     store.refusal = Some((calls, fault));
     run_on(alloc, &["new", "out.wasm", "main.wasm"], &mut store)
 }
@@ -50,7 +50,7 @@ fn wrong_arguments_are_told_before_anything_is_read(rt: HostRuntime) {
         &["new", "--ref", "out.wasm", "main.wasm"],
     ];
     for words in wrong {
-        let mut store = OneFile::new(alloc, "main.wasm", &EMPTY).expect(&rt, "memory");
+        let mut store = OneFile::new(alloc, "main.wasm", EMPTY).expect(&rt, "memory");
         let answer = run_on(alloc, words, &mut store).expect(&rt, "memory");
         assert_eq!(rt; answer.status, 2);
         assert_eq!(rt; answer.err.as_slice(), b"usage: component_new new OUT MAIN [options] | defs FILE\n".as_slice());
@@ -78,7 +78,7 @@ fn a_refusal_of_the_store_is_told(rt: HostRuntime) {
 #[test]
 fn a_name_is_told_in_quotes(rt: HostRuntime) {
     let alloc = rt.alloc();
-    let mut store = OneFile::new(alloc, "main.wasm", &EMPTY).expect(&rt, "memory");
+    let mut store = OneFile::new(alloc, "main.wasm", EMPTY).expect(&rt, "memory");
     let answer = run_on(alloc, &["new", "out.wasm", "a \"b\"\n"], &mut store).expect(&rt, "memory");
     assert_eq!(rt; answer.status, 1);
     assert_eq!(rt; answer.err.as_slice(), b"error: read \"a \\\"b\\\"\\0a\"\n".as_slice());
@@ -87,7 +87,7 @@ fn a_name_is_told_in_quotes(rt: HostRuntime) {
 #[test]
 fn the_status_tells_where_no_line_can(rt: HostRuntime) {
     let alloc = rt.alloc();
-    let mut store = OneFile::new(alloc, "main.wasm", &EMPTY).expect(&rt, "memory");
+    let mut store = OneFile::new(alloc, "main.wasm", EMPTY).expect(&rt, "memory");
     let words = texts(alloc, &["new", "out.wasm", "other.wasm"]).expect(&rt, "memory");
     let status = run(alloc, &words, &mut store, &mut Closed, &mut Closed);
     assert_eq!(rt; status, 1);
@@ -110,11 +110,15 @@ fn told(alloc: Global, main: &[u8]) -> Result<String, Fail> {
 #[test]
 fn refusals_of_the_encoder_are_told(rt: HostRuntime) -> Result<(), Fail> {
     let alloc = rt.alloc();
-    let package = with_record(alloc, &MODULE, b"\0asm\x0d\0\x01\0")?;
-    let open = with_record(alloc, &MODULE, b"{")?;
-    assert_eq!(rt; told(alloc, b"")?.as_str(), "error: E3 Lower: P2 NotModule\n");
-    assert_eq!(rt; told(alloc, &package)?.as_str(), "error: E3 Lower: P4 PackageBinary\n");
-    assert_eq!(rt; told(alloc, &open)?.as_str(), "error: E3 Lower: P5 Json\n");
+    let lines = [
+        (b"".as_slice(), "error: E3 Lower: P2 NotModule\n"),
+        (CUT, "error: E3 Lower: P3 Section place=8\n"),
+        (PACKAGE, "error: E3 Lower: P4 PackageBinary\n"),
+        (OPEN, "error: E3 Lower: P5 Json\n"),
+    ];
+    for (main, line) in lines {
+        assert_eq!(rt; told(alloc, main)?.as_str(), line);
+    }
     Ok(())
 }
 
@@ -136,8 +140,7 @@ fn puts(alloc: Global, main: &[u8], component: &[u8]) -> Result<bool, Fail> {
 #[test]
 fn a_component_is_put_and_nothing_is_said(rt: HostRuntime) -> Result<(), Fail> {
     let alloc = rt.alloc();
-    let main = with_record(alloc, &MODULE, RECORD.as_bytes())?;
-    assert!(rt; puts(alloc, &main, &COMPONENT)?);
-    assert!(rt; puts(alloc, &EMPTY, &EMPTY_COMPONENT)?);
+    assert!(rt; puts(alloc, MAIN, COMPONENT)?);
+    assert!(rt; puts(alloc, EMPTY, EMPTY_COMPONENT)?);
     Ok(())
 }
