@@ -5,7 +5,7 @@ use comp_lists::{Seq, Text};
 use std::alloc::Global;
 use std::test::*;
 
-const M1: [u8; 44] = [
+const CORE_MODULE: [u8; 44] = [
     0x00, 0x61, 0x73, 0x6d, 0x01, 0x00, 0x00, 0x00, 0x01, 0x04, 0x01, 0x60, 0x00, 0x00, 0x02, 0x0b,
     0x01, 0x05, 0x24, 0x72, 0x6f, 0x6f, 0x74, 0x01, 0x66, 0x00, 0x00, 0x03, 0x02, 0x01, 0x00, 0x07,
     0x05, 0x01, 0x01, 0x67, 0x00, 0x01, 0x0a, 0x04, 0x01, 0x02, 0x00, 0x0b,
@@ -18,7 +18,7 @@ fn plain_name(alloc: Global, name: &str) -> Result<ExternName, BuildFault> {
     })
 }
 
-fn row_1(alloc: Global) -> Result<Vec<u8>, BuildFault> {
+fn whole_component(alloc: Global) -> Result<Vec<u8>, BuildFault> {
     let mut builder = ComponentBuilder::new(alloc);
     let ty = builder.type_function(
         None,
@@ -30,7 +30,7 @@ fn row_1(alloc: Global) -> Result<Vec<u8>, BuildFault> {
     )?;
     let name = plain_name(alloc, "f")?;
     let f = builder.import(name, Description::Func(ty))?;
-    let module = builder.core_module_raw(Some("main"), &M1)?;
+    let module = builder.core_module_raw(Some("main"), &CORE_MODULE)?;
     let lowered = builder.lower_func(Some("f"), f, Seq::new(alloc))?;
     let mut exports = Seq::new(alloc);
     exports.push(CoreInlineExport {
@@ -53,7 +53,7 @@ fn row_1(alloc: Global) -> Result<Vec<u8>, BuildFault> {
     builder.finish()
 }
 
-fn row_r1_1(alloc: Global) -> Result<Vec<u8>, BuildFault> {
+fn only_a_module(alloc: Global) -> Result<Vec<u8>, BuildFault> {
     let mut builder = ComponentBuilder::new(alloc);
     let module = builder.core_module_raw(
         Some("main"),
@@ -66,7 +66,9 @@ fn row_r1_1(alloc: Global) -> Result<Vec<u8>, BuildFault> {
 
 #[test]
 fn empty_module(rt: HostRuntime) -> Result<(), Fail> {
-    let bytes = row_r1_1(rt.alloc()).ok().ok_or("the component is built")?;
+    let bytes = only_a_module(rt.alloc())
+        .ok()
+        .ok_or("the component is built")?;
     assert_eq!(rt;
         bytes.as_slice(),
         [
@@ -83,13 +85,15 @@ fn empty_module(rt: HostRuntime) -> Result<(), Fail> {
 
 #[test]
 fn one_import_one_export(rt: HostRuntime) -> Result<(), Fail> {
-    let bytes = row_1(rt.alloc()).ok().ok_or("the component is built")?;
+    let bytes = whole_component(rt.alloc())
+        .ok()
+        .ok_or("the component is built")?;
     let mut wanted = Vec::new(rt.alloc());
     wanted.extend_from_slice(&[
         0x00, 0x61, 0x73, 0x6d, 0x0d, 0x00, 0x01, 0x00, 0x07, 0x05, 0x01, 0x40, 0x00, 0x01, 0x00,
         0x0a, 0x06, 0x01, 0x00, 0x01, 0x66, 0x01, 0x00, 0x01, 0x2c,
     ])?;
-    wanted.extend_from_slice(&M1)?;
+    wanted.extend_from_slice(&CORE_MODULE)?;
     wanted.extend_from_slice(&[
         0x08, 0x05, 0x01, 0x01, 0x00, 0x00, 0x00, 0x02, 0x12, 0x02, 0x01, 0x01, 0x01, 0x66, 0x00,
         0x00, 0x00, 0x00, 0x01, 0x05, 0x24, 0x72, 0x6f, 0x6f, 0x74, 0x12, 0x00, 0x06, 0x07, 0x01,
