@@ -1,0 +1,10 @@
+use Rattle.std.proofs.Common.{◌≡◌, ◌+◌, length, map, drop}
+use Rattle.core_sections.specs.Sections.{view}
+use Rattle.core_sections.specs.Entries.{entries_from, no_entries}
+use Rattle.core_sections.proofs.Places.{size_of}
+use Rattle.core_sections.proofs.core_module.read_module.Given as goal
+
+abbrev pub invariant-loop-section : goal.invariant-loop-section
+invariant-loop-section l =
+    (entries_from l.place l.entries (map view (drop l.section-index l.section-items)) ≡ entries_from 8 no_entries (map view l.section-items)) ×
+    (l.place + size_of (map view (drop l.section-index l.section-items)) ≡ length l.bytes)

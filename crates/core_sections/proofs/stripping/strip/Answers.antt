@@ -1,0 +1,13 @@
+use Rattle.std.proofs.Common.{map}
+use Rattle.core_sections.proofs.Modules.{is_found, is_only}
+use Rattle.core_sections.proofs.Cuts.{is_cut}
+use Rattle.core_sections.proofs.stripping.strip.Goals as goal
+
+pub returns-clause-found : goal.returns-clause-found
+returns-clause-found c = is_found (λ s. (s.bytes.items, map (λ x. x.now) s.records.items)) c.args.bytes.now c.strip_sections.result c.strip_sections.ensures
+
+pub returns-clause-only : goal.returns-clause-only
+returns-clause-only c = is_only (λ s. (s.bytes.items, map (λ x. x.now) s.records.items)) c.args.bytes.now c.strip_sections.result c.strip_sections.ensures
+
+pub returns-clause-cut : goal.returns-clause-cut
+returns-clause-cut c = is_cut (λ s. (s.bytes.items, map (λ x. x.now) s.records.items)) c.args.bytes.now c.strip_sections.result c.strip_sections.ensures

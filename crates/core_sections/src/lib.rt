@@ -1,0 +1,30 @@
+//! What the bytes of a core WebAssembly module say: its sections, which of them describe a
+//! component, and the contents of those that an encoder reads.
+//!
+//! Upward it promises two calls. [`strip`] takes a module apart at its section headers alone: what it
+//! keeps and what it hands out are the sections of the module, byte for byte, and its contract has
+//! the binary format apart from any way of reading it (`specs/Grammar.antt`). [`read_module`] reads
+//! types, imports, functions and exports, and passes over every other section. Nothing is reserved by
+//! a number that was only read. Component types themselves aren't looked into here.
+//!
+//! In reading order: `fault`, `numbers` (numbers and names), `sections` (headers), `stripping`;
+//! then `entries` (types, imports, exports), `reading` (lists of anything), `contents` (how each
+//! entry is spelled), `core_module` (a module's entries).
+#![tactic(auto)]
+
+mod contents;
+mod core_module;
+mod entries;
+mod fault;
+mod numbers;
+mod reading;
+mod sections;
+mod stripping;
+
+pub use core_module::{CoreModule, read_module};
+pub use entries::{
+    CoreExport, CoreImport, EntityType, ExportKind, ExportedItem, FuncType, Limits, ValType,
+};
+pub use fault::SectionFault;
+pub use stripping::{Stripped, strip};
+

@@ -1,0 +1,11 @@
+pub mod Arrays
+pub mod Escaping
+pub mod Groups
+pub mod Indexing
+pub mod Keys
+pub mod Loop
+pub mod Merging
+pub mod Refusing
+pub mod Telling
+pub mod Texts
+pub mod Valid

@@ -1,0 +1,48 @@
+-- What the calls of this layer give, and the causes of its faults.
+use Rattle.std.specs.Prelude.{◌≡◌, ℕ, Bool, true, false, List, [], Result, Ok, Err}
+use Rattle.std.specs.Result.{result_unwrap_or}
+use Rattle.comp_worlds.specs.declared.gathered.Gathered.{Gathered}
+use Rattle.comp_worlds.specs.declared.gathered.Merged.{Merged}
+use Rattle.comp_worlds.specs.declared.world.ComponentWorld.{ComponentWorld}
+use Rattle.plain_lower.specs.declared.fault.Failure.{Failure}
+use Rattle.plain_lower.specs.declared.fault.Failure.TheVariants as failures
+use Rattle.plain_lower.specs.declared.fault.Refusal.{Refusal}
+use Rattle.plain_lower.specs.declared.fault.PlainFault.{PlainFault}
+use Rattle.plain_lower.specs.declared.fault.PlainFault.TheVariants as faults
+use Rattle.plain_lower.specs.declared.bindgen.Bindgen.{Bindgen}
+use Rattle.plain_lower.specs.Faults.{flat_refusal}
+use Rattle.plain_lower.specs.Joining.{decoding, merging, nothing_said}
+use Rattle.plain_lower.specs.Preparing.{preparing}
+
+abbrev pub is_memory : PlainFault → Bool
+is_memory faults.Memory = true
+is_memory _ = false
+
+-- ---- what the calls give where they aren't refused
+
+abbrev pub decoded : List ℕ → List ℕ × Bindgen
+decoded bytes = result_unwrap_or (decoding bytes) ([], nothing_said)
+
+abbrev pub merged : Bindgen → Bindgen → Merged Bindgen
+merged a b = result_unwrap_or (merging a b) (record { joint = nothing_said; exports = [] })
+
+abbrev pub no_world : ComponentWorld
+no_world = record {
+  world = record { imports = []; exports = [] };
+  main = record {
+    bytes = [];
+    imports = record { modules = [] };
+    exports = record { exports = [] };
+    metadata = record { import_encodings = []; export_encodings = [] };
+  };
+  main_exports = [];
+}
+
+abbrev pub prepared : Gathered Bindgen → ComponentWorld
+prepared g = result_unwrap_or (preparing g) no_world
+
+-- ---- why they are refused
+
+-- what a definition gives is this refusal
+abbrev pub Refuses : {A : Type 0} → Result A Failure → PlainFault → Type 0
+Refuses outcome f = (r : Refusal) × (outcome ≡ Err (failures.Refused r)) × (f ≡ flat_refusal r)

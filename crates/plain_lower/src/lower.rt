@@ -1,0 +1,82 @@
+//! The lower layer.
+
+ghost use Rattle.std.specs.Prelude.{◌≡◌};
+
+use crate::bindgen::Bindgen;
+use crate::fault::PlainFault;
+use crate::joining::{decode, merge};
+use crate::preparing::prepare;
+use comp_lists::{Bytes, Keyed};
+use comp_worlds::{ComponentWorld, Gathered, Lower, Merged};
+use std::alloc::Global;
+
+/// A lower layer by records: what a module's component is to be stands as JSON in the custom sections
+/// whose name begins `component-type`.
+#[derive(Clone, Copy, Debug, PartialEq, Eq)]
+pub struct PlainLower {}
+
+impl PlainLower {
+    pub fn new() -> PlainLower {
+        PlainLower {}
+    }
+}
+
+impl Lower for PlainLower {
+    ghost use Rattle.plain_lower.specs.Joining.{nothing_said, decoding};
+    ghost use Rattle.plain_lower.specs.Causes.{MergeCause, PrepareCause};
+    ghost use Rattle.plain_lower.specs.Layer.{is_memory, decoded, merged, prepared, Refuses};
+
+    type Bindgen = Bindgen;
+
+    type Fault = PlainFault;
+
+    ghost empty_is = { λ _. nothing_said };
+
+    ghost decoded = { λ _ bytes. decoded bytes };
+
+    ghost merged = { λ _ first second. merged first second };
+
+    ghost prepared = { λ _ gathered. prepared gathered };
+
+    ghost decode_cause = { λ _ bytes fault. Refuses (decoding bytes) fault };
+
+    ghost merge_cause = { λ _ first second fault. MergeCause first second fault };
+
+    ghost prepare_cause = { λ _ gathered fault. PrepareCause gathered fault };
+
+    ghost memory_fault = { λ _ fault. is_memory fault };
+
+    fn empty(&self, alloc: Global) -> Bindgen {
+        Bindgen {
+            imports: Keyed::new(alloc),
+            exports: Keyed::new(alloc),
+            import_roles: Keyed::new(alloc),
+            export_roles: Keyed::new(alloc),
+        }
+    }
+
+    fn decode(&self, alloc: Global, bytes: &[u8]) -> Result<(Bytes, Bindgen), PlainFault> {
+        Ok(decode(alloc, bytes)?)
+    }
+
+    fn merge(
+        &self,
+        alloc: Global,
+        first: &Bindgen,
+        second: &Bindgen,
+    ) -> Result<Merged<Bindgen>, PlainFault> {
+        Ok(merge(alloc, first, second)?)
+    }
+
+    fn prepare(
+        &self,
+        alloc: Global,
+        gathered: &Gathered<Bindgen>,
+    ) -> Result<ComponentWorld, PlainFault> {
+        Ok(prepare(alloc, gathered)?)
+    }
+
+    fn is_memory(&self, fault: &PlainFault) -> bool {
+        matches!(fault, PlainFault::Memory)
+    }
+}

@@ -1,0 +1,209 @@
+//! The validated world.
+
+ghost use Rattle.std.specs.Prelude.{◌≡◌, IfOk, OnOk};
+ghost use Rattle.std.specs.List.{IsDistinct};
+ghost use Rattle.std.specs.Map.{keys_of};
+ghost use Rattle.std.specs.Str.{bytes_eq};
+ghost use Rattle.plain_lower.specs.Faults.{Gives};
+ghost use Rattle.plain_lower.specs.Preparing.{world_items, encodings_of, instances_of, main_of, world_of, preparing_main, preparing};
+
+use crate::bindgen::Bindgen;
+use crate::exporting::{read_exports, require_all};
+use crate::fault::{Failure, Refusal};
+use crate::importing::{Group, read_imports};
+use comp_lists::{Keyed, Seq, Text};
+use comp_worlds::{
+    ComponentWorld, Export, ExportMap, Function, FunctionKey, Gathered, ImportInstance, ImportMap,
+    ModuleMetadata, Part, StringEncoding, ValidatedModule, World, WorldItem, WorldKey,
+};
+use core_sections::read_module;
+use std::alloc::{AllocError, Global};
+use std::hash::Hash;
+
+/// A table of these entries, whose keys are apart.
+#[tactic(auto, using(comp_lists::proofs::TableLemmas::absent))]
+fn table_of<K: Eq + Hash + Drop, V: Drop>(
+    alloc: Global,
+    entries: Vec<(K, V)>,
+) -> Result<Keyed<K, V>, AllocError>
+    requires { IsDistinct K.eq (keys_of entries.items) }
+    ensures { IfOk result (λ t. t ≡ entries.items) }
+{
+    let mut table = Keyed::new(alloc);
+    for (key, value) in entries {
+        table.add(key, value)?;
+    }
+    Ok(table)
+}
+
+/// The functions of a world by their keys.
+fn items_of(
+    alloc: Global,
+    functions: &Keyed<Text, StringEncoding>,
+) -> Result<Vec<(WorldKey, WorldItem)>, AllocError>
+    ensures items { IfOk result (λ v. v.items ≡ world_items functions.now) }
+    ensures apart { IsDistinct bytes_eq (keys_of functions.now) }
+{
+    let mut items = Vec::new(alloc);
+    for (name, _) in functions.entries() {
+        let key = WorldKey::Name(name.clone(alloc)?);
+        let function = Function {
+            name: name.clone(alloc)?,
+        };
+        items.push((key, WorldItem::Function(function)))?;
+    }
+    Ok(items)
+}
+
+/// One side of a world.
+#[tactic(auto, using(crate::proofs::Keys::items_apart))]
+fn world_side(
+    alloc: Global,
+    functions: &Keyed<Text, StringEncoding>,
+) -> Result<Keyed<WorldKey, WorldItem>, AllocError>
+    ensures items { IfOk result (λ t. t ≡ world_items functions.now) }
+    ensures apart { IsDistinct bytes_eq (keys_of functions.now) }
+{
+    let items = items_of(alloc, functions)?;
+    table_of(alloc, items)
+}
+
+fn encodings_in(
+    alloc: Global,
+    functions: &Keyed<Text, StringEncoding>,
+) -> Result<Vec<(FunctionKey, StringEncoding)>, AllocError>
+    ensures items { IfOk result (λ v. v.items ≡ encodings_of functions.now) }
+    ensures apart { IsDistinct bytes_eq (keys_of functions.now) }
+{
+    let mut encodings = Vec::new(alloc);
+    for (name, encoding) in functions.entries() {
+        let key = FunctionKey {
+            key: WorldKey::Name(name.clone(alloc)?),
+            function: name.clone(alloc)?,
+        };
+        encodings.push((key, *encoding))?;
+    }
+    Ok(encodings)
+}
+
+/// The encodings of functions by their keys.
+#[tactic(auto, using(crate::proofs::Keys::encodings_apart))]
+fn encoding_table(
+    alloc: Global,
+    functions: &Keyed<Text, StringEncoding>,
+) -> Result<Keyed<FunctionKey, StringEncoding>, AllocError>
+    ensures { IfOk result (λ t. t ≡ encodings_of functions.now) }
+{
+    let encodings = encodings_in(alloc, functions)?;
+    table_of(alloc, encodings)
+}
+
+fn instances_in(
+    alloc: Global,
+    groups: Vec<Group>,
+) -> Result<Vec<(Text, ImportInstance)>, AllocError>
+    ensures { IfOk result (λ v. v.items ≡ instances_of groups.items) }
+{
+    let mut instances = Vec::new(alloc);
+    for group in groups {
+        instances.push((group.name, ImportInstance::Names(group.fields)))?;
+    }
+    Ok(instances)
+}
+
+/// Groups, of which no two are of one module, as a table.
+fn import_map(alloc: Global, groups: Vec<Group>) -> Result<ImportMap, AllocError>
+    requires { IsDistinct bytes_eq (keys_of (instances_of groups.items)) }
+    ensures { IfOk result (λ m. m.modules ≡ instances_of groups.items) }
+{
+    let instances = instances_in(alloc, groups)?;
+    Ok(ImportMap {
+        modules: table_of(alloc, instances)?,
+    })
+}
+
+/// Main, and what its imports and exports are for.
+fn validated(
+    alloc: Global,
+    main: &Part<Bindgen>,
+    groups: Vec<Group>,
+    exports: Keyed<Text, Export>,
+) -> Result<ValidatedModule, AllocError>
+    requires { IsDistinct bytes_eq (keys_of (instances_of groups.items)) }
+    ensures { IfOk result (λ m. m ≡ main_of main.now groups.items exports) }
+{
+    let bytes = main.bytes.clone(alloc)?;
+    let imports = import_map(alloc, groups)?;
+    let metadata = ModuleMetadata {
+        import_encodings: encoding_table(alloc, &main.own.imports)?,
+        export_encodings: encoding_table(alloc, &main.own.exports)?,
+    };
+    Ok(ValidatedModule {
+        bytes,
+        imports,
+        exports: ExportMap { exports },
+        metadata,
+    })
+}
+
+/// The world that is made of these.
+#[tactic(auto, unfolding(crate::specs::Preparing::world_of))]
+fn world_of(
+    alloc: Global,
+    joint: &Bindgen,
+    main: &Part<Bindgen>,
+    groups: Vec<Group>,
+    exports: Keyed<Text, Export>,
+    main_exports: Seq<WorldKey>,
+) -> Result<ComponentWorld, AllocError>
+    requires { IsDistinct bytes_eq (keys_of (instances_of groups.items)) }
+    ensures world { IfOk result (λ w. w ≡ world_of joint.now main.now groups.items exports main_exports) }
+    ensures imports { OnOk result (IsDistinct bytes_eq (keys_of joint.now.imports)) }
+    ensures exports { OnOk result (IsDistinct bytes_eq (keys_of joint.now.exports)) }
+    ensures modules { IfOk result (λ w. IsDistinct bytes_eq (keys_of w.main.imports.modules)) }
+{
+    let world = World {
+        imports: world_side(alloc, &joint.imports)?,
+        exports: world_side(alloc, &joint.exports)?,
+    };
+    Ok(ComponentWorld {
+        world,
+        main: validated(alloc, main, groups, exports)?,
+        main_exports,
+    })
+}
+
+/// The validated world of what all modules say and main.
+#[tactic(auto, unfolding(crate::specs::Preparing::preparing_main))]
+fn prepare_main(
+    alloc: Global,
+    joint: &Bindgen,
+    main: &Part<Bindgen>,
+) -> Result<ComponentWorld, Failure>
+    ensures exact { Gives (λ w. w) result (preparing_main joint.now main.now) }
+    ensures imports { OnOk result (IsDistinct bytes_eq (keys_of joint.now.imports)) }
+    ensures exports { OnOk result (IsDistinct bytes_eq (keys_of joint.now.exports)) }
+    ensures modules { IfOk result (λ w. IsDistinct bytes_eq (keys_of w.main.imports.modules)) }
+{
+    let core = read_module(alloc, main.bytes.as_slice())?;
+    let groups = read_imports(alloc, &joint.imports, &main.own, &core)?;
+    let exports = read_exports(alloc, &joint.exports, &main.own, &core)?;
+    let required = require_all(alloc, &joint.exports, &exports, main.required.as_slice())?;
+    Ok(world_of(alloc, joint, main, groups, exports, required)?)
+}
+
+/// The validated world of what was gathered.
+pub(crate) fn prepare(
+    alloc: Global,
+    gathered: &Gathered<Bindgen>,
+) -> Result<ComponentWorld, Failure>
+    ensures exact { Gives (λ w. w) result (preparing gathered.now) }
+    ensures imports { OnOk result (IsDistinct bytes_eq (keys_of gathered.now.joint.imports)) }
+    ensures exports { OnOk result (IsDistinct bytes_eq (keys_of gathered.now.joint.exports)) }
+    ensures modules { IfOk result (λ w. IsDistinct bytes_eq (keys_of w.main.imports.modules)) }
+{
+    match &gathered.main {
+        Some(main) => prepare_main(alloc, &gathered.joint, main),
+        None => Err(Failure::Refused(Refusal::NotModule)),
+    }
+}
