@@ -6,18 +6,29 @@ use plain_lower::{PlainFault, PlainLower};
 use std::alloc::{AllocError, Global};
 use std::test::Fail;
 
+/// The fault of a call, as it prints.
+fn fault_text<T>(
+    alloc: Global,
+    answer: &Result<T, EncodeFault<PlainFault>>,
+) -> Result<String, AllocError> {
+    match answer {
+        Ok(_) => String::from_str(alloc, "no fault"),
+        Err(fault) => format!(in alloc; "{fault}"),
+    }
+}
+
 /// What `encode` says after one module.
 fn encoded(alloc: Global, bytes: &[u8]) -> Result<Vec<u8>, EncodeFault<PlainFault>> {
     let mut encoder = ComponentEncoder::new(alloc, PlainLower::new());
     encoder.module(bytes)?.encode()
 }
 
-/// The fault of one module, as it prints.
-fn fault_of(alloc: Global, bytes: &[u8]) -> Result<String, AllocError> {
-    match encoded(alloc, bytes) {
-        Ok(_) => String::from_str(alloc, "no fault"),
-        Err(fault) => format!(in alloc; "{fault}"),
-    }
+/// The fault of a module that is given twice, and what `encode` says after that.
+fn given_twice(alloc: Global, bytes: &[u8]) -> Result<(String, Vec<u8>), Fail> {
+    let mut encoder = ComponentEncoder::new(alloc, PlainLower::new());
+    encoder.add_module(bytes)?;
+    let again = fault_text(alloc, &encoder.add_module(bytes))?;
+    Ok((again, encoder.encode()?))
 }
 
 #[test]
@@ -29,29 +40,10 @@ fn a_module_becomes_its_component(rt: HostRuntime) -> Result<(), Fail> {
 }
 
 #[test]
-fn without_a_module_there_is_none(rt: HostRuntime) -> Result<(), Fail> {
-    let alloc = rt.alloc();
-    let encoder = ComponentEncoder::new(alloc, PlainLower::new());
-    match encoder.encode() {
-        Err(fault) => assert_eq!(rt; format!(in alloc; "{fault}")?.as_str(), "E2 NoModule"),
-        Ok(_) => return Err(Fail::from("a component of nothing")),
-    }
-    Ok(())
-}
-
-#[test]
 fn a_refused_module_leaves_the_encoder_as_it_was(rt: HostRuntime) -> Result<(), Fail> {
-    let alloc = rt.alloc();
-    let mut encoder = ComponentEncoder::new(alloc, PlainLower::new());
-    encoder.add_module(MAIN)?;
-    match encoder.add_module(MAIN) {
-        Err(fault) => {
-            let text = format!(in alloc; "{fault}")?;
-            assert_eq!(rt; text.as_str(), "E3 Lower: P7 MergeConflict name=\"g\"");
-        }
-        Ok(()) => return Err(Fail::from("an export twice")),
-    }
-    assert_eq!(rt; encoder.encode()?.as_slice(), COMPONENT);
+    let (fault, component) = given_twice(rt.alloc(), MAIN)?;
+    assert_eq!(rt; fault.as_str(), "E3 Lower: P7 MergeConflict name=\"g\"");
+    assert_eq!(rt; component.as_slice(), COMPONENT);
     Ok(())
 }
 
@@ -65,7 +57,8 @@ fn refusals_of_the_layer_are_told(rt: HostRuntime) -> Result<(), Fail> {
         (OPEN, "E3 Lower: P5 Json"),
     ];
     for (bytes, fault) in told {
-        assert_eq!(rt; fault_of(alloc, bytes)?.as_str(), fault);
+        let text = fault_text(alloc, &encoded(alloc, bytes))?;
+        assert_eq!(rt; text.as_str(), fault);
     }
     Ok(())
 }
