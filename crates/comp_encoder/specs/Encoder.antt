@@ -1,0 +1,60 @@
+-- What an encoder holds, how it begins, and what an accepted module makes of it. The rules are this
+-- project's own: the component model's standard speaks of components, not of how they are made.
+use Rattle.std.specs.Prelude.{◌≡◌, ℕ, List, [], ◌++◌, Option, Some, None, true, false}
+use Rattle.comp_worlds.specs.declared.gathered.Gathered.{Gathered}
+use Rattle.comp_worlds.specs.declared.gathered.Part.{Part}
+use Rattle.comp_worlds.specs.declared.gathered.ExportKey.{ExportKey}
+use Rattle.comp_worlds.specs.declared.options.EncoderOptions.{EncoderOptions}
+use Rattle.comp_worlds.specs.declared.world.ComponentWorld.{ComponentWorld}
+use Rattle.comp_worlds.specs.declared.lower.Lower as lower
+use Rattle.comp_worlds.specs.Worlds.{IsWorld}
+
+-- the lower layer, and what was gathered
+pub record Encoder (L B : Type 0) : Type 0 where
+  pub lower : L
+  pub gathered : Gathered B
+
+-- the options of an encoder that was told of none
+abbrev pub default_options : EncoderOptions
+default_options = record {
+  validate = false;
+  debug_names = false;
+  shim_return_call_ref = false;
+  merge_imports_based_on_semver = true;
+  emit_canonical_names = false;
+  reject_legacy_names = false;
+  realloc_via_memory_grow = false;
+}
+
+-- the bytes of the main module, none where there is no module
+abbrev pub main_bytes : {B : Type 0} → Option (Part B) → List ℕ
+main_bytes None = []
+main_bytes (Some part) = part.bytes
+
+-- the keys that main has to export so far
+abbrev pub required_of : {B : Type 0} → Option (Part B) → List ExportKey
+required_of None = []
+required_of (Some part) = part.required
+
+module _ {L B F : Type 0} (l : lower.Ghosts L B F) where
+  -- an encoder that was given nothing
+  abbrev pub fresh : L → Encoder L B
+  fresh layer = record { lower = layer; gathered = record { main = None; joint = l.empty_is layer; options = default_options } }
+
+  -- What an accepted module leaves: it is main, its keys are required beside those of the modules
+  -- that were accepted before it, and what it says is joined to what they said.
+  abbrev pub after_module : Encoder L B → List ℕ → Encoder L B
+  after_module e bytes =
+      let decoded : List ℕ × B = l.decoded e.lower bytes in
+      let merged = l.merged e.lower e.gathered.joint decoded.1 in
+      record e {
+        gathered = record e.gathered {
+          main = Some (record { bytes = decoded.0; own = decoded.1; required = required_of e.gathered.main ++ merged.exports });
+          joint = merged.joint;
+        };
+      }
+
+  -- the validated world of what was gathered
+  pub record IsWorldOf (e : Encoder L B) (w : ComponentWorld) : Type 0 where
+    pub prepared : w ≡ l.prepared e.lower e.gathered
+    pub valid : IsWorld w

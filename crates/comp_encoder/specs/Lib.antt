@@ -1,0 +1,3 @@
+pub mod Encoder
+pub mod Refusals
+pub mod Component

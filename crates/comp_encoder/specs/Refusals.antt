@@ -1,0 +1,47 @@
+-- When the encoder's calls refuse. The rules are this project's own; the string encoding that a
+-- function needs is the Canonical ABI's `string-encoding`.
+use Rattle.std.specs.Prelude.{◌≡◌, ◌≢◌, ◌≤◌, ◌^◌, ℕ, List, [], ⊤, false, ◌⊎◌}
+use Rattle.comp_worlds.specs.declared.lower.Lower as lower
+use Rattle.comp_encoder.specs.Encoder.{Encoder, main_bytes}
+use Rattle.comp_state.specs.Causes.{LacksEncoding}
+use Rattle.comp_state.specs.declared.fault.StateFault.{StateFault}
+use Rattle.comp_state.specs.declared.fault.StateFault.TheVariants as state
+use Rattle.comp_encoder.specs.declared.fault.EncodeFault.{EncodeFault}
+use Rattle.comp_encoder.specs.declared.fault.EncodeFault.TheVariants.{Memory, NoModule, Lower, NoEncoding, TooMany}
+
+-- a fault of the encoding state as one of the encoder
+abbrev pub of_state : {F : Type 0} → StateFault → EncodeFault F
+of_state state.Memory = Memory
+of_state (state.NoEncoding place) = NoEncoding place
+of_state (state.TooMany excess) = TooMany excess
+
+module _ {L B F : Type 0} (l : lower.Ghosts L B F) where
+  -- why the lower layer refuses a module: its bytes, or what they say beside what was said before
+  abbrev pub ModuleCause : Encoder L B → List ℕ → F → Type 0
+  ModuleCause e bytes f = l.decode_cause e.lower bytes f ⊎ l.merge_cause e.lower e.gathered.joint (l.decoded e.lower bytes).1 f
+
+  -- a refusal of a module is memory, or has its cause
+  abbrev pub IsModuleRefusal : Encoder L B → List ℕ → EncodeFault F → Type 0
+  IsModuleRefusal e bytes Memory = ⊤
+  IsModuleRefusal e bytes (Lower f) = (l.memory_fault e.lower f ≡ false) × ModuleCause e bytes f
+  IsModuleRefusal e bytes NoModule = ⊥
+  IsModuleRefusal e bytes (NoEncoding place) = ⊥
+  IsModuleRefusal e bytes (TooMany excess) = ⊥
+
+  -- a refusal of `encode` is memory, or has its cause
+  abbrev pub IsEncodeRefusal : Encoder L B → EncodeFault F → Type 0
+  IsEncodeRefusal e Memory = ⊤
+  IsEncodeRefusal e NoModule = main_bytes e.gathered.main ≡ []
+  IsEncodeRefusal e (Lower f) = (l.memory_fault e.lower f ≡ false) × l.prepare_cause e.lower e.gathered f
+  IsEncodeRefusal e (NoEncoding place) = LacksEncoding (l.prepared e.lower e.gathered) place
+  IsEncodeRefusal e (TooMany excess) = 2 ^ 32 ≤ excess
+
+  -- nothing stands against the world of what was gathered
+  pub record NoWorldCause (e : Encoder L B) : Type 0 where
+    pub has_main : main_bytes e.gathered.main ≢ []
+    pub can_prepare : (f : F) → ¬ l.prepare_cause e.lower e.gathered f
+
+  -- no cause of a refusal of `encode` holds, memory aside
+  pub record NoEncodeCause (e : Encoder L B) : Type 0 where
+    pub world : NoWorldCause e
+    pub encodings : (place : List ℕ) → ¬ LacksEncoding (l.prepared e.lower e.gathered) place

@@ -1,0 +1,156 @@
+//! The encoder's calls.
+
+ghost use Rattle.std.specs.Prelude.{◌≡◌, ◌++◌, IfOk, IfErr, OnOk, OnErr, IsOk, if◌then◌else◌, ◌≢◌, [], MatchBool};
+ghost use Rattle.comp_encoder.specs.Encoder.{fresh, after_module, main_bytes, IsWorldOf};
+ghost use Rattle.comp_encoder.specs.Refusals.{ModuleCause, IsModuleRefusal, NoWorldCause, NoEncodeCause, IsEncodeRefusal};
+ghost use Rattle.comp_encoder.specs.Component.{IsEncoding};
+
+use crate::fault::EncodeFault;
+use comp_state::encode_world;
+use comp_worlds::{ComponentWorld, EncoderOptions, Gathered, Lower, Part};
+use std::alloc::Global;
+use std::marker::Model;
+
+/// What was gathered so far, and the lower layer that understands it.
+///
+/// An encoder makes a component of a main module. `module` gives it the module, `encode` answers the
+/// component's bytes, and no call changes an encoder when it refuses.
+#[derive(Drop)]
+pub struct ComponentEncoder<L: Lower> {
+    alloc: Global,
+    lower: L,
+    gathered: Gathered<L::Bindgen>,
+}
+
+impl<L: Lower> Model for ComponentEncoder<L> {
+    ghost use Rattle.comp_encoder.specs.Encoder.{Encoder};
+
+    ghost Value = { Encoder L L.Bindgen };
+
+    ghost view = { λ e. record { lower = e.lower; gathered = e.gathered } };
+}
+
+/// A fault of the lower layer as one of the encoder: want of memory is told as such.
+fn fault_of<L: Lower>(lower: &L, fault: L::Fault) -> EncodeFault<L::Fault>
+    ensures { result ≡ (if L.memory_fault lower.now fault then EncodeFault.Memory else EncodeFault.Lower fault) }
+{
+    if lower.is_memory(&fault) {
+        EncodeFault::Memory
+    } else {
+        EncodeFault::Lower(fault)
+    }
+}
+
+impl<L: Lower> ComponentEncoder<L> {
+    /// An encoder that was given nothing. All options are off but for the merging of imports whose
+    /// versions agree.
+    pub fn new(alloc: Global, lower: L) -> ComponentEncoder<L>
+        ensures { result ≡ fresh L.Lower lower }
+    {
+        let joint = lower.empty(alloc);
+        ComponentEncoder {
+            alloc,
+            lower,
+            gathered: Gathered {
+                main: None,
+                joint,
+                options: EncoderOptions {
+                    validate: false,
+                    debug_names: false,
+                    shim_return_call_ref: false,
+                    merge_imports_based_on_semver: true,
+                    emit_canonical_names: false,
+                    reject_legacy_names: false,
+                    realloc_via_memory_grow: false,
+                },
+            },
+        }
+    }
+
+    /// Takes the main module: a core module with what the lower layer reads from it. One that was
+    /// given before is replaced, but what it has to export is still required.
+    ///
+    /// It refuses for want of memory, and where the lower layer refuses the bytes, or what they say
+    /// beside what was said before. A refusal leaves the encoder as it was.
+    pub fn add_module(&mut self, bytes: &[u8]) -> Result<(), EncodeFault<L::Fault>>
+        ensures ok { OnOk result (self.new ≡ after_module L.Lower self.old bytes.now) }
+        ensures err { OnErr result (self.new ≡ self.old) }
+        ensures refused { IsOk result → (f : L.Fault) → ¬ ModuleCause L.Lower self.old bytes.now f }
+        ensures cause { IfErr result (IsModuleRefusal L.Lower self.old bytes.now) }
+    {
+        let (bytes, own) = self
+            .lower
+            .decode(self.alloc, bytes)
+            .map_err(|f| fault_of(&self.lower, f))?;
+        let merged = self
+            .lower
+            .merge(self.alloc, &self.gathered.joint, &own)
+            .map_err(|f| fault_of(&self.lower, f))?;
+        match &mut self.gathered.main {
+            Some(part) => {
+                part.required.append(merged.exports)?;
+                part.bytes = bytes;
+                part.own = own;
+            }
+            None => {
+                self.gathered.main = Some(Part {
+                    bytes,
+                    own,
+                    required: merged.exports,
+                });
+            }
+        }
+        self.gathered.joint = merged.joint;
+        Ok(())
+    }
+
+    /// [`add_module`](ComponentEncoder::add_module), answering the encoder, so that calls can be
+    /// chained. What a refusal leaves is said by that call's contract.
+    pub fn module(&mut self, bytes: &[u8]) -> Result<&mut Self, EncodeFault<L::Fault>>
+        ensures same_reference { IfOk result (λ r. r.ghost_name ≡ self.entry.ghost_name) }
+        ensures ok { IfOk result (λ r. r.now ≡ after_module L.Lower self.old bytes.now) }
+        ensures refused { IsOk result → (f : L.Fault) → ¬ ModuleCause L.Lower self.old bytes.now f }
+        ensures cause { IfErr result (IsModuleRefusal L.Lower self.old bytes.now) }
+    {
+        self.add_module(bytes)?;
+        Ok(self)
+    }
+
+    /// Whether there is a main module that has bytes.
+    fn has_main(&self) -> bool
+        ensures { MatchBool result (main_bytes self.now.gathered.main ≢ []) (main_bytes self.now.gathered.main ≡ []) }
+    {
+        match &self.gathered.main {
+            Some(part) => !part.bytes.is_empty(),
+            None => false,
+        }
+    }
+
+    /// The validated world of what was gathered.
+    fn world(&self) -> Result<ComponentWorld, EncodeFault<L::Fault>>
+        ensures ok { IfOk result (IsWorldOf L.Lower self.now) }
+        ensures refused { IsOk result → NoWorldCause L.Lower self.now }
+        ensures cause { IfErr result (IsEncodeRefusal L.Lower self.now) }
+    {
+        if !self.has_main() {
+            return Err(EncodeFault::NoModule);
+        }
+        self.lower
+            .prepare(self.alloc, &self.gathered)
+            .map_err(|f| fault_of(&self.lower, f))
+    }
+
+    /// The component of what was gathered, in the component model's binary format.
+    ///
+    /// It refuses for want of memory, where there is no main module or its bytes are empty, where
+    /// the lower layer can't prepare the world, where the world has no string encoding for a
+    /// function, and where a count or a size passes 2^32 - 1.
+    pub fn encode(&self) -> Result<Vec<u8>, EncodeFault<L::Fault>>
+        ensures ok { IfOk result (λ bytes. IsEncoding L.Lower self.now bytes.items) }
+        ensures refused { IsOk result → NoEncodeCause L.Lower self.now }
+        ensures cause { IfErr result (IsEncodeRefusal L.Lower self.now) }
+    {
+        let world = self.world()?;
+        Ok(encode_world(self.alloc, &world)?)
+    }
+}

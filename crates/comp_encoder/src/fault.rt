@@ -1,0 +1,64 @@
+//! Why a call of the encoder refuses.
+
+ghost use Rattle.std.specs.Prelude.{◌≡◌};
+ghost use Rattle.comp_encoder.specs.declared.fault.EncodeFault.TheVariants.{Memory};
+
+use comp_bytes::Excess;
+use comp_lists::Text;
+use comp_state::StateFault;
+use std::alloc::{AllocError, AllocFailed};
+use std::fmt::Display;
+use thiserror::Error;
+
+/// Why a call of the encoder refuses; `F` are the faults of its lower layer.
+#[derive(Debug, Drop, Error)]
+#[error_bound(F: Display)]
+pub enum EncodeFault<F> {
+    /// A growth was refused.
+    #[error("E1 Memory")]
+    Memory,
+    /// No module was given, or its bytes are empty.
+    #[error("E2 NoModule")]
+    NoModule,
+    /// The lower layer refuses, and its cause holds: of a module's bytes, of what it says beside
+    /// what those before it said, or of all that was gathered.
+    #[error("E3 Lower: {0}")]
+    Lower(F),
+    /// The world has no string encoding for a function. The place is `module::field` for a core
+    /// import, and the function's name for an export (Canonical ABI, `string-encoding`).
+    #[error("E9 NoEncoding place={place}")]
+    NoEncoding { place: Text },
+    /// A count, or the size of a section, a module or a component, would pass 2^32 - 1.
+    #[error("E16 TooMany excess={excess}")]
+    TooMany { excess: Excess },
+}
+
+impl<F> From<AllocError> for EncodeFault<F> {
+    ghost from_gives = { λ _ e. e ≡ Memory };
+
+    fn from(_error: AllocError) -> EncodeFault<F> {
+        EncodeFault::Memory
+    }
+}
+
+impl<F, T: Drop> From<AllocFailed<T>> for EncodeFault<F> {
+    ghost from_gives = { λ _ e. e ≡ Memory };
+
+    fn from(_error: AllocFailed<T>) -> EncodeFault<F> {
+        EncodeFault::Memory
+    }
+}
+
+impl<F> From<StateFault> for EncodeFault<F> {
+    ghost use Rattle.comp_encoder.specs.Refusals.{of_state};
+
+    ghost from_gives = { λ s e. e ≡ of_state s };
+
+    fn from(fault: StateFault) -> EncodeFault<F> {
+        match fault {
+            StateFault::Memory => EncodeFault::Memory,
+            StateFault::NoEncoding { place } => EncodeFault::NoEncoding { place },
+            StateFault::TooMany { excess } => EncodeFault::TooMany { excess },
+        }
+    }
+}

@@ -1,0 +1,31 @@
+-- Why a run fails, and with which exit status. (The program's own.)
+use Rattle.std.specs.Prelude.{ℕ, List, ⊤, Result, Ok, Err}
+use Rattle.comp_encoder.specs.declared.fault.EncodeFault.TheVariants as encode_faults
+use Rattle.component_new.specs.declared.store.StoreFault.{StoreFault}
+use Rattle.component_new.specs.declared.store.StoreFault.TheVariants as store_faults
+use Rattle.component_new.specs.declared.fault.RunFault.{RunFault}
+use Rattle.component_new.specs.declared.fault.RunFault.TheVariants.{Usage, Read, Write, Encode}
+
+-- want of memory, wherever it is met
+abbrev pub no_memory : {F : Type 0} → RunFault F
+no_memory = Encode encode_faults.Memory
+
+abbrev pub of_read : {F : Type 0} → List ℕ → StoreFault → RunFault F
+of_read name store_faults.Device = Read name
+of_read name store_faults.Memory = no_memory
+
+abbrev pub of_put : {F : Type 0} → List ℕ → StoreFault → RunFault F
+of_put name store_faults.Device = Write name
+of_put name store_faults.Memory = no_memory
+
+-- 1 where the fault is a refusal of the device
+abbrev pub told_faults : {F : Type 0} → Result ⊤ (RunFault F) → ℕ
+told_faults (Err (Read name)) = 1
+told_faults (Err (Write name)) = 1
+told_faults _ = 0
+
+-- the exit status
+abbrev pub status_of : {F : Type 0} → Result ⊤ (RunFault F) → ℕ
+status_of (Ok x) = 0
+status_of (Err Usage) = 2
+status_of (Err _) = 1

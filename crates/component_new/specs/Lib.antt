@@ -1,0 +1,6 @@
+pub mod Arguments
+pub mod Events
+pub mod Faults
+pub mod Making
+pub mod Telling
+pub mod Running

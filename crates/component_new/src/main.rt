@@ -1,0 +1,54 @@
+//! The program `component_new`: it writes the component of a core module.
+//!
+//! `component_new new OUT MAIN` reads the module from the file MAIN and puts its component into the
+//! file OUT. All that it does with files and what it says of a failure is in the contract of
+//! [`running::run`]; `main` only hands it the system's arguments, files and streams.
+//!
+//! In reading order: `arguments` (what is asked for), `store` (files by their names), `fault` (why a
+//! run fails), `making` (from a file to a file), `telling` (the line that tells a failure), `running`
+//! (a run), `files` (the files of the system).
+#![tactic(auto)]
+
+mod arguments;
+mod fault;
+mod files;
+mod making;
+mod running;
+mod store;
+mod telling;
+
+#[cfg(test)]
+mod tests;
+
+use files::Files;
+use running::run;
+use std::env::{self, Env};
+use std::io::{self, ErrorKind};
+use std::process::ExitCode;
+use telling::{MEMORY, USAGE, say};
+
+/// The arguments after the program's name.
+fn words<R: Env + AllocGlobal>(rt: &R) -> io::Result<Vec<String>> {
+    let words = env::args(rt)?;
+    Ok(words.skip(1).collect(rt.alloc())?)
+}
+
+fn main(rt: HostRuntime) -> ExitCode {
+    let mut out = rt.stdout();
+    let mut err = rt.stderr();
+    match words(&rt) {
+        Ok(words) => {
+            let mut files = Files::new(&rt);
+            let status = run(rt.alloc(), &words, &mut files, &mut out, &mut err);
+            ExitCode::from(status)
+        }
+        Err(e) if e.kind() == ErrorKind::OutOfMemory => {
+            say(&mut err, MEMORY);
+            ExitCode::from(1)
+        }
+        Err(_) => {
+            say(&mut err, USAGE);
+            ExitCode::from(2)
+        }
+    }
+}

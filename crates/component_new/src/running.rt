@@ -1,0 +1,91 @@
+//! A run of the program.
+
+ghost use Rattle.std.specs.Prelude.{◌≡◌, map, string_bytes};
+ghost use Rattle.component_new.specs.Arguments.{names_of};
+ghost use Rattle.component_new.specs.Running.{Performed, Ran, RanOver, Told};
+ghost use Rattle.component_new.specs.Faults.{status_of};
+
+use crate::arguments::{Arguments, names_of};
+use crate::fault::RunFault;
+use crate::making::make;
+use crate::store::Store;
+use crate::telling::tell;
+use comp_encoder::EncodeFault;
+use comp_worlds::Lower;
+use plain_lower::PlainLower;
+use std::alloc::Global;
+use std::fmt::Display;
+use std::io::Write;
+
+/// Does what the words after the program's name ask for.
+fn perform<L: Lower + Drop, S: Store>(
+    alloc: Global,
+    lower: L,
+    words: &[String],
+    store: &mut S,
+) -> Result<(), RunFault<L::Fault>>
+    ensures { Performed L.Lower lower (names_of (map string_bytes words.now)) (S.events store.old) (S.events store.new) result }
+{
+    match names_of(words) {
+        Some((out, main)) => match Arguments::new(alloc, out, main) {
+            Ok(arguments) => make(alloc, lower, arguments, store),
+            Err(_) => Err(RunFault::Encode(EncodeFault::Memory)),
+        },
+        None => Err(RunFault::Usage),
+    }
+}
+
+/// Tells how a run ended: nothing of success, a line of a failure.
+fn report<W: Write, F: Display>(alloc: Global, writer: &mut W, done: &Result<(), RunFault<F>>)
+    ensures { Told (W.contents writer.old) (W.contents writer.new) done.now }
+{
+    match done {
+        Ok(()) => {}
+        Err(fault) => tell(alloc, writer, fault),
+    }
+}
+
+/// The exit status: 0 after success, 2 where the arguments are wrong, else 1.
+fn status_of<F>(done: &Result<(), RunFault<F>>) -> u8
+    ensures { result ≡ status_of done.now }
+{
+    match done {
+        Ok(()) => 0,
+        Err(RunFault::Usage) => 2,
+        Err(_) => 1,
+    }
+}
+
+/// Runs the program over any lower layer. `words` are the arguments after the program's name; the
+/// answer is the exit status.
+pub fn run_with<L: Lower + Drop, S: Store, W: Write, E: Write>(
+    alloc: Global,
+    lower: L,
+    words: &[String],
+    store: &mut S,
+    out: &mut W,
+    err: &mut E,
+) -> u8
+    ensures ran { Ran L.Lower lower (map string_bytes words.now) (S.events store.old) (S.events store.new) (E.contents err.old) (E.contents err.new) result }
+    ensures quiet { W.contents out.new ≡ W.contents out.old }
+{
+    let _ = out;
+    let done = perform(alloc, lower, words, store);
+    report(alloc, err, &done);
+    status_of(&done)
+}
+
+/// Runs the program. `words` are the arguments after the program's name; the answer is the exit
+/// status.
+pub fn run<S: Store, W: Write, E: Write>(
+    alloc: Global,
+    words: &[String],
+    store: &mut S,
+    out: &mut W,
+    err: &mut E,
+) -> u8
+    ensures ran { RanOver ⟦<PlainLower as Lower>⟧ (map string_bytes words.now) (S.events store.old) (S.events store.new) (E.contents err.old) (E.contents err.new) result }
+    ensures quiet { W.contents out.new ≡ W.contents out.old }
+{
+    run_with(alloc, PlainLower::new(), words, store, out, err)
+}

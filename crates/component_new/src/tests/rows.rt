@@ -1,0 +1,64 @@
+//! Modules through the encoder's calls, with the layer that the program uses.
+
+use super::modules::{COMPONENT, CUT, EMPTY, EMPTY_COMPONENT, MAIN, OPEN, PACKAGE};
+use comp_encoder::{ComponentEncoder, EncodeFault};
+use plain_lower::{PlainFault, PlainLower};
+use std::alloc::{AllocError, Global};
+use std::test::Fail;
+
+/// The fault of a call, as it prints.
+fn fault_text<T>(
+    alloc: Global,
+    answer: &Result<T, EncodeFault<PlainFault>>,
+) -> Result<String, AllocError> {
+    match answer {
+        Ok(_) => String::from_str(alloc, "no fault"),
+        Err(fault) => format!(in alloc; "{fault}"),
+    }
+}
+
+/// What `encode` says after one module.
+fn encoded(alloc: Global, bytes: &[u8]) -> Result<Vec<u8>, EncodeFault<PlainFault>> {
+    let mut encoder = ComponentEncoder::new(alloc, PlainLower::new());
+    encoder.module(bytes)?.encode()
+}
+
+/// The fault of a module that is given twice, and what `encode` says after that.
+fn given_twice(alloc: Global, bytes: &[u8]) -> Result<(String, Vec<u8>), Fail> {
+    let mut encoder = ComponentEncoder::new(alloc, PlainLower::new());
+    encoder.add_module(bytes)?;
+    let again = fault_text(alloc, &encoder.add_module(bytes))?;
+    Ok((again, encoder.encode()?))
+}
+
+#[test]
+fn a_module_becomes_its_component(rt: HostRuntime) -> Result<(), Fail> {
+    let alloc = rt.alloc();
+    assert_eq!(rt; encoded(alloc, MAIN)?.as_slice(), COMPONENT);
+    assert_eq!(rt; encoded(alloc, EMPTY)?.as_slice(), EMPTY_COMPONENT);
+    Ok(())
+}
+
+#[test]
+fn a_refused_module_leaves_the_encoder_as_it_was(rt: HostRuntime) -> Result<(), Fail> {
+    let (fault, component) = given_twice(rt.alloc(), MAIN)?;
+    assert_eq!(rt; fault.as_str(), "E3 Lower: P7 MergeConflict name=\"g\"");
+    assert_eq!(rt; component.as_slice(), COMPONENT);
+    Ok(())
+}
+
+#[test]
+fn refusals_of_the_layer_are_told(rt: HostRuntime) -> Result<(), Fail> {
+    let alloc = rt.alloc();
+    let told = [
+        (b"".as_slice(), "E3 Lower: P2 NotModule"),
+        (CUT, "E3 Lower: P3 Section place=8"),
+        (PACKAGE, "E3 Lower: P4 PackageBinary"),
+        (OPEN, "E3 Lower: P5 Json"),
+    ];
+    for (bytes, fault) in told {
+        let text = fault_text(alloc, &encoded(alloc, bytes))?;
+        assert_eq!(rt; text.as_str(), fault);
+    }
+    Ok(())
+}

@@ -1,0 +1,146 @@
+//! Runs of the program.
+
+use super::store::{Closed, OneFile};
+use super::modules::{COMPONENT, CUT, EMPTY, EMPTY_COMPONENT, MAIN, OPEN, PACKAGE};
+use crate::running::run;
+use crate::store::{Event, StoreFault};
+use std::alloc::{AllocError, Global};
+use std::test::Fail;
+
+/// What a run answered, and wrote to its two writers.
+#[derive(Drop)]
+struct Answer {
+    status: u8,
+    out: Vec<u8>,
+    err: Vec<u8>,
+}
+
+fn texts(alloc: Global, words: &[&str]) -> Result<Vec<String>, AllocError> {
+    let mut texts = Vec::new(alloc);
+    for word in words {
+        texts.push(String::from_str(alloc, word)?)?;
+    }
+    Ok(texts)
+}
+
+fn run_on(alloc: Global, words: &[&str], store: &mut OneFile) -> Result<Answer, AllocError> {
+    let words = texts(alloc, words)?;
+    let mut out = Vec::new(alloc);
+    let mut err = Vec::new(alloc);
+    let status = run(alloc, &words, store, &mut out, &mut err);
+    Ok(Answer { status, out, err })
+}
+
+/// A run on the file `main.wasm` with one call of the store refused.
+fn refused(alloc: Global, calls: u32, fault: StoreFault) -> Result<Answer, AllocError> {
+    let mut store = OneFile::new(alloc, "main.wasm", EMPTY)?;
+    store.refusal = Some((calls, fault));
+    run_on(alloc, &["new", "out.wasm", "main.wasm"], &mut store)
+}
+
+#[test]
+fn wrong_arguments_are_told_before_anything_is_read(rt: HostRuntime) {
+    let alloc = rt.alloc();
+    let wrong: [&[&str]; 6] = [
+        &[],
+        &["new", "out.wasm"],
+        &["new", "out.wasm", "main.wasm", "--ref"],
+        &["New", "out.wasm", "main.wasm"],
+        &["defs", "main.wasm"],
+        &["new", "--ref", "out.wasm", "main.wasm"],
+    ];
+    for words in wrong {
+        let mut store = OneFile::new(alloc, "main.wasm", EMPTY).expect(&rt, "memory");
+        let answer = run_on(alloc, words, &mut store).expect(&rt, "memory");
+        assert_eq!(rt; answer.status, 2);
+        assert_eq!(rt; answer.err.as_slice(), b"usage: component_new new OUT MAIN [options] | defs FILE\n".as_slice());
+        assert!(rt; answer.out.is_empty() && store.log.is_empty());
+    }
+}
+
+#[test]
+fn a_refusal_of_the_store_is_told(rt: HostRuntime) {
+    let alloc = rt.alloc();
+    let told = [
+        (0, StoreFault::Device, "error: read \"main.wasm\"\n"),
+        (1, StoreFault::Device, "error: write \"out.wasm\"\n"),
+        (0, StoreFault::Memory, "error: E1 Memory\n"),
+        (1, StoreFault::Memory, "error: E1 Memory\n"),
+    ];
+    for (calls, fault, line) in told {
+        let answer = refused(alloc, calls, fault).expect(&rt, "memory");
+        assert_eq!(rt; answer.status, 1);
+        assert_eq!(rt; answer.err.as_slice(), line.as_bytes());
+        assert!(rt; answer.out.is_empty());
+    }
+}
+
+#[test]
+fn a_name_is_told_in_quotes(rt: HostRuntime) {
+    let alloc = rt.alloc();
+    let mut store = OneFile::new(alloc, "main.wasm", EMPTY).expect(&rt, "memory");
+    let answer = run_on(alloc, &["new", "out.wasm", "a \"b\"\n"], &mut store).expect(&rt, "memory");
+    assert_eq!(rt; answer.status, 1);
+    assert_eq!(rt; answer.err.as_slice(), b"error: read \"a \\\"b\\\"\\0a\"\n".as_slice());
+}
+
+#[test]
+fn the_status_tells_where_no_line_can(rt: HostRuntime) {
+    let alloc = rt.alloc();
+    let mut store = OneFile::new(alloc, "main.wasm", EMPTY).expect(&rt, "memory");
+    let words = texts(alloc, &["new", "out.wasm", "other.wasm"]).expect(&rt, "memory");
+    let status = run(alloc, &words, &mut store, &mut Closed, &mut Closed);
+    assert_eq!(rt; status, 1);
+}
+
+/// What a run on the file `main.wasm` printed, where it made no component.
+fn told(alloc: Global, main: &[u8]) -> Result<String, Fail> {
+    let mut store = OneFile::new(alloc, "main.wasm", main)?;
+    let answer = run_on(alloc, &["new", "out.wasm", "main.wasm"], &mut store)?;
+    match store.log.as_slice() {
+        [Event::Read { .. }] if answer.status == 1 && answer.out.is_empty() => {}
+        _ => return Err(Fail::from("more than MAIN was read")),
+    }
+    match String::from_utf8(answer.err) {
+        Ok(line) => Ok(line),
+        Err(_) => Err(Fail::from("not a text")),
+    }
+}
+
+#[test]
+fn refusals_of_the_encoder_are_told(rt: HostRuntime) -> Result<(), Fail> {
+    let alloc = rt.alloc();
+    let lines = [
+        (b"".as_slice(), "error: E3 Lower: P2 NotModule\n"),
+        (CUT, "error: E3 Lower: P3 Section place=8\n"),
+        (PACKAGE, "error: E3 Lower: P4 PackageBinary\n"),
+        (OPEN, "error: E3 Lower: P5 Json\n"),
+    ];
+    for (main, line) in lines {
+        assert_eq!(rt; told(alloc, main)?.as_str(), line);
+    }
+    Ok(())
+}
+
+/// Whether a run on this module says nothing, and puts this component after it read the module.
+fn puts(alloc: Global, main: &[u8], component: &[u8]) -> Result<bool, Fail> {
+    let mut store = OneFile::new(alloc, "main.wasm", main)?;
+    let answer = run_on(alloc, &["new", "out.wasm", "main.wasm"], &mut store)?;
+    match store.log.as_slice() {
+        [Event::Read { name, .. }, Event::Put { name: out, bytes }] => Ok(name.is("main.wasm")
+            && out.is("out.wasm")
+            && bytes.as_slice() == component
+            && answer.status == 0
+            && answer.out.is_empty()
+            && answer.err.is_empty()),
+        _ => Ok(false),
+    }
+}
+
+#[test]
+fn a_component_is_put_and_nothing_is_said(rt: HostRuntime) -> Result<(), Fail> {
+    let alloc = rt.alloc();
+    assert!(rt; puts(alloc, MAIN, COMPONENT)?);
+    assert!(rt; puts(alloc, EMPTY, EMPTY_COMPONENT)?);
+    Ok(())
+}

@@ -1,0 +1,43 @@
+-- The stub's world is a validated one, and the stub refuses no good module.
+use Rattle.std.proofs.Common.{◌≡◌, ℕ, List, refl, subst, sym, take, ◌⊎◌, inl, inr, [], ◌∷◌, arith}
+use Rattle.std.specs.Prelude.{◌≢◌, ⊤, codes}
+use Rattle.std.specs.List.{IsDistinct}
+use Rattle.std.specs.Str.{bytes_eq}
+use Rattle.comp_worlds.specs.declared.gathered.Gathered.{Gathered}
+use Rattle.comp_worlds.specs.declared.world.ComponentWorld.{ComponentWorld}
+use Rattle.comp_worlds.specs.Worlds.{IsWorld, core_preamble}
+use Rattle.comp_encoder.specs.Encoder.{main_bytes}
+use Rattle.stub_lower.specs.Stub.{stub_world, PrepareCause}
+use Rattle.stub_lower.specs.declared.stub.StubFault.{StubFault}
+use Rattle.stub_lower.specs.declared.stub.StubFault.TheVariants as faults
+use Rattle.stub_lower.specs.declared.stub.StubLower.TheVariants as layers
+
+alone : (x : List ℕ) → IsDistinct bytes_eq (x ∷ [])
+unfolding IsDistinct
+alone x = (tt, tt)
+
+none : IsDistinct bytes_eq []
+unfolding IsDistinct
+none = tt
+
+valid_of : (bytes : List ℕ) → take 8 bytes ≡ core_preamble → IsWorld (stub_world bytes)
+valid_of bytes core = record {
+  core = core;
+  imports_named = (refl, tt);
+  exports_named = tt;
+  import_keys_apart = alone (codes "f");
+  export_keys_apart = none;
+  modules_apart = alone (codes "$root");
+  fields_apart = (alone (codes "f"), tt);
+  import_roles = (((0, omega arith, refl), refl, refl), tt);
+  export_roles = tt;
+  required = tt;
+}
+
+pub valid : (w : ComponentWorld) (bytes : List ℕ) → w ≡ stub_world bytes → take 8 bytes ≡ core_preamble → IsWorld w
+valid w bytes is core = subst IsWorld (sym is) (valid_of bytes core)
+
+pub no_cause : (g : Gathered ⊤) (f : StubFault) → take 8 (main_bytes g.main) ≡ core_preamble → ¬ PrepareCause layers.NoEncoding g f
+no_cause g faults.Memory core h = h
+no_cause g faults.Refused core (inl h) = cc
+no_cause g faults.Refused core (inr h) = h core

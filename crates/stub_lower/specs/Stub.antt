@@ -1,0 +1,57 @@
+-- What the stub answers: the same world for every module. (For tests alone; no standard speaks of it.)
+use Rattle.std.specs.Prelude.{◌≡◌, ◌≢◌, ℕ, List, [], ◌∷◌, ⊤, Bool, true, false, ◌⊎◌, codes, take}
+use Rattle.comp_worlds.specs.declared.gathered.Gathered.{Gathered}
+use Rattle.comp_worlds.specs.declared.gathered.Merged.{Merged}
+use Rattle.comp_worlds.specs.declared.imports.ImportMap.{ImportMap}
+use Rattle.comp_worlds.specs.declared.imports.ImportInstance.TheVariants.{Names}
+use Rattle.comp_worlds.specs.declared.imports.Import.TheVariants as roles
+use Rattle.comp_worlds.specs.declared.wit.World.{World}
+use Rattle.comp_worlds.specs.declared.wit.WorldKey.TheVariants.{Name}
+use Rattle.comp_worlds.specs.declared.wit.WorldItem.TheVariants as items
+use Rattle.comp_worlds.specs.declared.wit.AbiVariant.TheVariants.{GuestImport}
+use Rattle.comp_worlds.specs.declared.world.ComponentWorld.{ComponentWorld}
+use Rattle.comp_worlds.specs.Worlds.{core_preamble}
+use Rattle.comp_encoder.specs.Encoder.{main_bytes}
+use Rattle.stub_lower.specs.declared.stub.StubLower.{StubLower}
+use Rattle.stub_lower.specs.declared.stub.StubLower.TheVariants as layers
+use Rattle.stub_lower.specs.declared.stub.StubFault.{StubFault}
+use Rattle.stub_lower.specs.declared.stub.StubFault.TheVariants as faults
+
+abbrev pub decoded_of : List ℕ → List ℕ × ⊤
+decoded_of bytes = (bytes, tt)
+
+abbrev pub merged_of : ⊤ → ⊤ → Merged ⊤
+merged_of first second = record { joint = tt; exports = [] }
+
+-- main imports `f` of `$root`, which is the root function `f`
+abbrev pub stub_imports : ImportMap
+stub_imports = record { modules = (codes "$root", Names ((codes "f", roles.WorldFunc (Name (codes "f")) (codes "f") GuestImport) ∷ [])) ∷ [] }
+
+-- the world imports the root function `f`, and exports nothing
+abbrev pub stub_items : World
+stub_items = record { imports = (Name (codes "f"), items.Function (record { name = codes "f" })) ∷ []; exports = [] }
+
+-- there is no string encoding for any function
+abbrev pub stub_world : List ℕ → ComponentWorld
+stub_world bytes = record {
+  world = stub_items;
+  main = record {
+    bytes = bytes;
+    imports = stub_imports;
+    exports = record { exports = [] };
+    metadata = record { import_encodings = []; export_encodings = [] };
+  };
+  main_exports = [];
+}
+
+abbrev pub world_of : Gathered ⊤ → ComponentWorld
+world_of gathered = stub_world (main_bytes gathered.main)
+
+-- it is the refusing one, or main is no core module
+abbrev pub PrepareCause : StubLower → Gathered ⊤ → StubFault → Type 0
+PrepareCause layer gathered faults.Memory = ⊥
+PrepareCause layer gathered faults.Refused = (layer ≡ layers.Refusing) ⊎ (take 8 (main_bytes gathered.main) ≢ core_preamble)
+
+abbrev pub is_memory : StubFault → Bool
+is_memory faults.Memory = true
+is_memory faults.Refused = false

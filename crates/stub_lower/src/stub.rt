@@ -1,0 +1,107 @@
+//! The layer.
+
+ghost use Rattle.std.specs.Prelude.{◌≡◌, ◌≢◌, IfOk, IfErr, IsOk, take};
+ghost use Rattle.comp_worlds.specs.Worlds.{IsWorld, core_preamble};
+ghost use Rattle.stub_lower.specs.Stub.{stub_world};
+ghost use Rattle.stub_lower.specs.declared.stub.StubFault.TheVariants.{Memory};
+
+use crate::worlds::world;
+use comp_lists::{Bytes, Seq};
+use comp_worlds::{ComponentWorld, Gathered, Lower, Merged};
+use std::alloc::{AllocError, Global};
+use thiserror::Error;
+
+/// Why the stub refuses.
+#[derive(Clone, Copy, Debug, PartialEq, Eq, Error)]
+pub enum StubFault {
+    /// A growth was refused.
+    #[error("S1 Memory")]
+    Memory,
+    /// It is the refusing one, or main is no core module.
+    #[error("S2 Refused")]
+    Refused,
+}
+
+impl From<AllocError> for StubFault {
+    ghost from_gives = { λ _ e. e ≡ Memory };
+
+    fn from(_error: AllocError) -> StubFault {
+        StubFault::Memory
+    }
+}
+
+/// A layer that takes nothing from a module.
+#[derive(Clone, Copy, Debug, PartialEq, Eq)]
+pub enum StubLower {
+    /// Its world imports the root function `f`, which main has as `f` of `$root`, and has no string
+    /// encoding for it.
+    NoEncoding,
+    /// It prepares no world.
+    Refusing,
+}
+
+/// The world of a core module.
+fn world_of_core(alloc: Global, bytes: &[u8]) -> Result<ComponentWorld, StubFault>
+    ensures ok { IfOk result (λ w. w ≡ stub_world bytes.now) }
+    ensures valid { IfOk result IsWorld }
+    ensures refused { IsOk result → take 8 bytes.now ≡ core_preamble }
+    ensures cause { IfErr result (λ f. f ≢ Memory → take 8 bytes.now ≢ core_preamble) }
+{
+    if bytes.starts_with(b"\0asm\x01\0\0\0") {
+        Ok(world(alloc, bytes)?)
+    } else {
+        Err(StubFault::Refused)
+    }
+}
+
+impl Lower for StubLower {
+    type Bindgen = ();
+
+    type Fault = StubFault;
+
+    ghost use Rattle.stub_lower.specs.Stub.{decoded_of, merged_of, world_of, PrepareCause, is_memory};
+
+    ghost empty_is = { λ _. tt };
+
+    ghost decoded = { λ _. decoded_of };
+
+    ghost merged = { λ _. merged_of };
+
+    ghost prepared = { λ _. world_of };
+
+    ghost decode_cause = { λ _ bytes f. ⊥ };
+
+    ghost merge_cause = { λ _ first second f. ⊥ };
+
+    ghost prepare_cause = { PrepareCause };
+
+    ghost memory_fault = { λ _. is_memory };
+
+    fn empty(&self, _alloc: Global) {}
+
+    fn decode(&self, alloc: Global, bytes: &[u8]) -> Result<(Bytes, ()), StubFault> {
+        Ok((Seq::from_vec(Vec::from_slice(alloc, bytes)?), ()))
+    }
+
+    fn merge(&self, alloc: Global, _first: &(), _second: &()) -> Result<Merged<()>, StubFault> {
+        Ok(Merged {
+            joint: (),
+            exports: Seq::new(alloc),
+        })
+    }
+
+    #[tactic(auto, using(crate::proofs::Stubs::no_cause))]
+    fn prepare(&self, alloc: Global, gathered: &Gathered<()>) -> Result<ComponentWorld, StubFault> {
+        match self {
+            StubLower::Refusing => Err(StubFault::Refused),
+            StubLower::NoEncoding => match &gathered.main {
+                Some(part) => world_of_core(alloc, part.bytes.as_slice()),
+                None => unreachable!(),
+            },
+        }
+    }
+
+    fn is_memory(&self, fault: &StubFault) -> bool {
+        *fault == StubFault::Memory
+    }
+}

@@ -1,0 +1,70 @@
+//! The world that the stub answers.
+
+ghost use Rattle.std.specs.Prelude.{◌≡◌, IfOk, take};
+ghost use Rattle.stub_lower.specs.Stub.{stub_imports, stub_items, stub_world};
+ghost use Rattle.comp_worlds.specs.Worlds.{IsWorld, core_preamble};
+
+use comp_lists::{Keyed, Seq, Text};
+use comp_worlds::{
+    AbiVariant, ComponentWorld, ExportMap, Function, Import, ImportInstance, ImportMap,
+    ModuleMetadata, ValidatedModule, World, WorldItem, WorldKey,
+};
+use std::alloc::{AllocError, Global};
+
+/// Main imports `f` of `$root`, which is the root function `f`.
+fn imports(alloc: Global) -> Result<ImportMap, AllocError>
+    ensures { IfOk result (λ m. m ≡ stub_imports) }
+{
+    let key = WorldKey::Name(Text::from_str(alloc, "f")?);
+    let name = Text::from_str(alloc, "f")?;
+    let role = Import::WorldFunc(key, name, AbiVariant::GuestImport);
+    let mut fields = Keyed::new(alloc);
+    fields.add_first(Text::from_str(alloc, "f")?, role)?;
+    let mut modules = Keyed::new(alloc);
+    modules.add_first(Text::from_str(alloc, "$root")?, ImportInstance::Names(fields))?;
+    Ok(ImportMap { modules })
+}
+
+/// The world imports the root function `f`, and exports nothing.
+fn items(alloc: Global) -> Result<World, AllocError>
+    ensures { IfOk result (λ w. w ≡ stub_items) }
+{
+    let key = WorldKey::Name(Text::from_str(alloc, "f")?);
+    let name = Text::from_str(alloc, "f")?;
+    let mut imports = Keyed::new(alloc);
+    imports.add_first(key, WorldItem::Function(Function { name }))?;
+    Ok(World {
+        imports,
+        exports: Keyed::new(alloc),
+    })
+}
+
+fn world_of(alloc: Global, bytes: &[u8]) -> Result<ComponentWorld, AllocError>
+    ensures { IfOk result (λ w. w ≡ stub_world bytes.now) }
+{
+    let bytes = Seq::from_vec(Vec::from_slice(alloc, bytes)?);
+    Ok(ComponentWorld {
+        world: items(alloc)?,
+        main: ValidatedModule {
+            bytes,
+            imports: imports(alloc)?,
+            exports: ExportMap {
+                exports: Keyed::new(alloc),
+            },
+            metadata: ModuleMetadata {
+                import_encodings: Keyed::new(alloc),
+                export_encodings: Keyed::new(alloc),
+            },
+        },
+        main_exports: Seq::new(alloc),
+    })
+}
+
+/// The world of a main module.
+pub(crate) fn world(alloc: Global, bytes: &[u8]) -> Result<ComponentWorld, AllocError>
+    requires { take 8 bytes.now ≡ core_preamble }
+    ensures ok { IfOk result (λ w. w ≡ stub_world bytes.now) }
+    ensures valid { IfOk result IsWorld }
+{
+    world_of(alloc, bytes)
+}
