@@ -28,3 +28,5 @@ pub use entries::{
 pub use fault::SectionFault;
 pub use stripping::{Stripped, strip};
 
+#[cfg(test)]
+mod tests;

@@ -15,15 +15,8 @@ use Rattle.plain_lower.specs.Faults.{◌>>=◌, flat, flat_refusal}
 use Rattle.plain_lower.specs.Joining.{with_firsts, apart, conflict, merging, export_keys}
 use Rattle.plain_lower.specs.Layer.{is_memory}
 use Rattle.plain_lower.specs.Preparing.{Table}
+use Rattle.plain_lower.proofs.Chains.{bind_ok, bind_err}
 use Rattle.plain_lower.specs.Causes.{MergeCause, exported_twice}
-
-bind_ok : {A B : Type 0} (r : Result A Failure) (f : A → Result B Failure) (y : B) → (r >>= f) ≡ Ok y → (x : A) × (r ≡ Ok x) × (f x ≡ Ok y)
-bind_ok (Ok x) f y e = (x, refl, e)
-bind_ok (Err d) f y e = absurd cc
-
-bind_err : {A B : Type 0} (r : Result A Failure) (f : A → Result B Failure) (d : Failure) → (r >>= f) ≡ Err d → (r ≡ Err d) ⊎ ((x : A) × (r ≡ Ok x) × (f x ≡ Err d))
-bind_err (Ok x) f d e = inr (x, refl, e)
-bind_err (Err c) f d e = inl cc
 
 -- which entry is refused
 pub record Clash (table es : Table) (r : Refusal) : Type 0 where
@@ -39,7 +32,7 @@ apart_refused table [] r e = absurd cc
 apart_refused table (x ∷ es) r e = by (is_some (found x.0 table)) refl e (λ later. apart_refused (table ++ x ∷ []) es r later)
   where
     by : (b : Bool) → is_some (found x.0 table) ≡ b → (if b then Err (conflict x.0) else apart (table ++ x ∷ []) es) ≡ Err (failures.Refused r)
-      → (apart (table ++ x ∷ []) es ≡ Err (failures.Refused r) → Clash (table ++ x ∷ []) es r) → Clash table (x ∷ es) r
+        → (apart (table ++ x ∷ []) es ≡ Err (failures.Refused r) → Clash (table ++ x ∷ []) es r) → Clash table (x ∷ es) r
     by true h e more = record {
       before = [];
       entry = x;
@@ -65,9 +58,11 @@ apart_taken table es joined before after entry e is there = in_turn table before
     first : (table : Table) (b : Bool) → is_some (found entry.0 table) ≡ b → (if b then Err (conflict entry.0) else apart (table ++ entry ∷ []) after) ≡ Ok joined → b ≡ true → ⊥
     first table true h e t = cc (e)
     first table false h e t = true≢false (sym t)
+
     next : (x : List ℕ × StringEncoding) (table before : Table) (b : Bool) → (if b then Err (conflict x.0) else apart (table ++ x ∷ []) (before ++ entry ∷ after)) ≡ Ok joined → apart (table ++ x ∷ []) (before ++ entry ∷ after) ≡ Ok joined
     next x table before true e = absurd cc
     next x table before false e = e
+
     in_turn : (table before : Table) → apart table (before ++ entry ∷ after) ≡ Ok joined → is_some (found entry.0 (table ++ before)) ≡ true → ⊥
     in_turn table [] e there = first table (is_some (found entry.0 table)) refl e (ap (λ (t : Table). is_some (found entry.0 t)) (sym (append-nil table)) ∙ there)
     in_turn table (x ∷ before) e there =
