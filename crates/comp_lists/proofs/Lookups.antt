@@ -101,6 +101,7 @@ found-with_first name k v table rest = by (is_some (found k table)) refl
         let e : name ≡ k = (bytes_eq-Decides name k).0 alike in
         let there : is_some (found name table) ≡ true = rw e h in
         found-front name table rest there ∙ sym (found-front name table ((k, v) ∷ rest) there)
+
     by : (b : Bool) → is_some (found k table) ≡ b → found name ((if b then table else table ++ (k, v) ∷ []) ++ rest) ≡ found name (table ++ (k, v) ∷ rest)
     by false h = ap (found name) (append_assoc table ((k, v) ∷ []) rest)
     by true h = same (bytes_eq name k) refl h

@@ -40,7 +40,7 @@ module _ {L B F : Type 0} (l : lower.Ghosts L B F) where
   Made layer names (NotRead name ∷ []) r = (name ≡ names.main) × (r ≡ Err (faults.Read names.main))
   Made layer names (Read name bytes ∷ []) r = (name ≡ names.main) × IsRefused layer bytes r
   Made layer names (Read name bytes ∷ Put to component ∷ []) r =
-    (name ≡ names.main) × (to ≡ names.out) × IsMade layer bytes component × (r ≡ Ok tt)
+      (name ≡ names.main) × (to ≡ names.out) × IsMade layer bytes component × (r ≡ Ok tt)
   Made layer names (Read name bytes ∷ NotPut to component ∷ []) r =
-    (name ≡ names.main) × (to ≡ names.out) × IsMade layer bytes component × (r ≡ Err (faults.Write names.out))
+      (name ≡ names.main) × (to ≡ names.out) × IsMade layer bytes component × (r ≡ Err (faults.Write names.out))
   Made layer names _ r = ⊥

@@ -16,7 +16,6 @@ mod making;
 mod running;
 mod store;
 mod telling;
-
 #[cfg(test)]
 mod tests;
 

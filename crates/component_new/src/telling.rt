@@ -11,8 +11,7 @@ use std::fmt::Display;
 use std::io::Write;
 
 /// What is said where the arguments are not those of the program.
-pub(crate) const USAGE: &[u8] =
-    b"usage: component_new new OUT MAIN [options] | defs FILE\n";
+pub(crate) const USAGE: &[u8] = b"usage: component_new new OUT MAIN [options] | defs FILE\n";
 
 /// What is said where memory is refused.
 pub(crate) const MEMORY: &[u8] = b"error: E1 Memory\n";

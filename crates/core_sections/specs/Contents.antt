@@ -25,20 +25,20 @@ byte_at (b ∷ rest) = Some (b, rest)
 -- how many values a number of so many bytes can have: each byte has seven bits
 abbrev pub span_of : ℕ → ℕ
 span_of n =
-  if n == 1 then 2 ^ 7
-  else if n == 2 then 2 ^ 14
-  else if n == 3 then 2 ^ 21
-  else if n == 4 then 2 ^ 28
-  else 2 ^ 35
+    if n == 1 then 2 ^ 7
+    else if n == 2 then 2 ^ 14
+    else if n == 3 then 2 ^ 21
+    else if n == 4 then 2 ^ 28
+    else 2 ^ 35
 
 -- A heap type is a signed number of 33 bits. Below half the span it is the index of a type. From there on it
 -- stands for itself less the span: -12 to -23 are the abstract heap types, and -16 is that of all functions.
 abbrev pub heap_of : ℕ → ℕ → Option Bool
 heap_of bits span =
-  if nat_lt bits (span / 2) then (if nat_lt bits (2 ^ 32) then Some false else None)
-  else if (span - bits) == 16 then Some true
-  else if nat_le 12 (span - bits) && nat_le (span - bits) 23 then Some false
-  else None
+    if nat_lt bits (span / 2) then (if nat_lt bits (2 ^ 32) then Some false else None)
+    else if (span - bits) == 16 then Some true
+    else if nat_le 12 (span - bits) && nat_le (span - bits) 23 then Some false
+    else None
 
 -- whether the heap type is that of all functions
 abbrev pub heap_at : List ℕ → Option (Bool × List ℕ)
@@ -61,21 +61,21 @@ never_null_at bytes = do
 -- a reference type, of which the first byte was read
 abbrev pub ref_type_at : ℕ → List ℕ → Option (ValType × List ℕ)
 ref_type_at b bytes =
-  if b == 112 then Some (vals.FuncRef, bytes)
-  else if nat_le 105 b && nat_le b 116 then Some (vals.OtherRef, bytes)
-  else if b == 99 then nullable_at bytes
-  else if b == 100 then never_null_at bytes
-  else None
+    if b == 112 then Some (vals.FuncRef, bytes)
+    else if nat_le 105 b && nat_le b 116 then Some (vals.OtherRef, bytes)
+    else if b == 99 then nullable_at bytes
+    else if b == 100 then never_null_at bytes
+    else None
 
 -- a value type, of which the first byte was read
 abbrev pub val_type_from : ℕ → List ℕ → Option (ValType × List ℕ)
 val_type_from b bytes =
-  if b == 127 then Some (vals.I32, bytes)
-  else if b == 126 then Some (vals.I64, bytes)
-  else if b == 125 then Some (vals.F32, bytes)
-  else if b == 124 then Some (vals.F64, bytes)
-  else if b == 123 then Some (vals.V128, bytes)
-  else ref_type_at b bytes
+    if b == 127 then Some (vals.I32, bytes)
+    else if b == 126 then Some (vals.I64, bytes)
+    else if b == 125 then Some (vals.F32, bytes)
+    else if b == 124 then Some (vals.F64, bytes)
+    else if b == 123 then Some (vals.V128, bytes)
+    else ref_type_at b bytes
 
 unfoldable pub val_type_at : List ℕ → Option (ValType × List ℕ)
 val_type_at bytes = do
@@ -119,13 +119,13 @@ limits_of is_long has_maximum is_wide bytes = do
 -- the flags: 1 says that there is a maximum, 2 that it is shared, 4 that its addresses have 64 bits
 abbrev pub limits_from : ℕ → List ℕ → Option (Limits × List ℕ)
 limits_from flags bytes =
-  if flags == 0 then limits_of false false false bytes
-  else if flags == 1 then limits_of false true false bytes
-  else if flags == 2 then limits_of false false true bytes
-  else if flags == 3 then limits_of false true true bytes
-  else if flags == 4 || (flags == 6) then limits_of true false true bytes
-  else if flags == 5 || (flags == 7) then limits_of true true true bytes
-  else None
+    if flags == 0 then limits_of false false false bytes
+    else if flags == 1 then limits_of false true false bytes
+    else if flags == 2 then limits_of false false true bytes
+    else if flags == 3 then limits_of false true true bytes
+    else if flags == 4 || (flags == 6) then limits_of true false true bytes
+    else if flags == 5 || (flags == 7) then limits_of true true true bytes
+    else None
 
 unfoldable pub limits_at : List ℕ → Option (Limits × List ℕ)
 limits_at bytes = do
@@ -174,12 +174,12 @@ tag_at bytes = do
 -- what stands after the byte of the kind
 abbrev pub entity_of_kind : ℕ → List ℕ → Option (EntityType × List ℕ)
 entity_of_kind b bytes =
-  if b == 0 then function_at bytes
-  else if b == 1 then table_at bytes
-  else if b == 2 then memory_at bytes
-  else if b == 3 then global_at bytes
-  else if b == 4 then tag_at bytes
-  else None
+    if b == 0 then function_at bytes
+    else if b == 1 then table_at bytes
+    else if b == 2 then memory_at bytes
+    else if b == 3 then global_at bytes
+    else if b == 4 then tag_at bytes
+    else None
 
 unfoldable pub entity_at : List ℕ → Option (EntityType × List ℕ)
 entity_at bytes = do
@@ -197,12 +197,12 @@ import_at bytes = do
 
 abbrev pub kind_of : ℕ → Option ExportKind
 kind_of b =
-  if b == 0 then Some kinds.Function
-  else if b == 1 then Some kinds.Table
-  else if b == 2 then Some kinds.Memory
-  else if b == 3 then Some kinds.Global
-  else if b == 4 then Some kinds.Tag
-  else None
+    if b == 0 then Some kinds.Function
+    else if b == 1 then Some kinds.Table
+    else if b == 2 then Some kinds.Memory
+    else if b == 3 then Some kinds.Global
+    else if b == 4 then Some kinds.Tag
+    else None
 
 unfoldable pub export_at : List ℕ → Option (CoreExport × List ℕ)
 export_at bytes = do

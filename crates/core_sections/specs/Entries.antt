@@ -53,7 +53,7 @@ is_exportable count e = is_kind e.kind
 abbrev pub with_exports : ℕ → List (List ℕ × ExportedItem) → List CoreExport → Option (List (List ℕ × ExportedItem))
 with_exports count table [] = Some table
 with_exports count table (e ∷ es) =
-  if is_exportable count e.item && is_none (found e.name table) then with_exports count (table ++ (e.name, e.item) ∷ []) es else None
+    if is_exportable count e.item && is_none (found e.name table) then with_exports count (table ++ (e.name, e.item) ∷ []) es else None
 
 -- ---- what a module has after a section with these contents
 
@@ -64,9 +64,9 @@ after_types m bytes = do
 
 abbrev pub imported : CoreModule → List CoreImport → Option CoreModule
 imported m is =
-  if list_all (λ i. has_type_below (length m.types) i.entity) is
-  then Some (record m { imports = m.imports ++ is; functions = m.functions ++ filter_map (λ i. function_of i.entity) is })
-  else None
+    if list_all (λ i. has_type_below (length m.types) i.entity) is
+    then Some (record m { imports = m.imports ++ is; functions = m.functions ++ filter_map (λ i. function_of i.entity) is })
+    else None
 
 unfoldable pub after_imports : CoreModule → List ℕ → Option CoreModule
 after_imports m bytes = do
@@ -89,11 +89,11 @@ after_exports m bytes = do
 
 abbrev pub after_section : CoreModule → ℕ → List ℕ → Option CoreModule
 after_section m id bytes =
-  if id == 1 then after_types m bytes
-  else if id == 2 then after_imports m bytes
-  else if id == 3 then after_functions m bytes
-  else if id == 7 then after_exports m bytes
-  else Some m
+    if id == 1 then after_types m bytes
+    else if id == 2 then after_imports m bytes
+    else if id == 3 then after_functions m bytes
+    else if id == 7 then after_exports m bytes
+    else Some m
 
 abbrev pub after_body : CoreModule → Body → Option CoreModule
 after_body m (custom name bytes) = Some m

@@ -27,4 +27,3 @@ pub use entries::{
 };
 pub use fault::SectionFault;
 pub use stripping::{Stripped, strip};
-

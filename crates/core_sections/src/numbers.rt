@@ -60,11 +60,7 @@ pub(crate) fn read_bytes(bytes: &[u8]) -> Option<(&[u8], &[u8])>
 }
 
 /// A text.
-#[tactic(
-    auto,
-    unfolding(crate::specs::Numbers::name_at),
-    using(crate::proofs::Texts::is_text, crate::proofs::Texts::no_text)
-)]
+#[tactic(auto, unfolding(crate::specs::Numbers::name_at), using(crate::proofs::Texts::is_text, crate::proofs::Texts::no_text))]
 pub(crate) fn read_name(bytes: &[u8]) -> Option<(&str, &[u8])>
     ensures value { option_map (λ x. (x.0.now, x.1.now)) result ≡ name_at bytes.now }
     ensures shorter { IfSome result (λ x. length x.1.now < length bytes.now) }

@@ -48,7 +48,7 @@ at_from i [] m k e = absurd cc
 at_from i (g ∷ gs) m k e = by (bytes_eq m g.name) refl e (λ later. at_from (i + 1) gs m k later)
   where
     by : (b : Bool) → bytes_eq m g.name ≡ b → cond b (Some i) (found m (places_of (i + 1) gs)) ≡ Some k
-      → (found m (places_of (i + 1) gs) ≡ Some k → (j : ℕ) × (k ≡ (i + 1) + j) × GroupAt gs m j) → (j : ℕ) × (k ≡ i + j) × GroupAt (g ∷ gs) m j
+        → (found m (places_of (i + 1) gs) ≡ Some k → (j : ℕ) × (k ≡ (i + 1) + j) × GroupAt gs m j) → (j : ℕ) × (k ≡ i + j) × GroupAt (g ∷ gs) m j
     by true h e more = let same : i ≡ k = cc in (0, omega arith, first_at g gs m h)
     by false h e more =
         let t = more e in
@@ -72,7 +72,7 @@ none_from i [] m e = record { fields = refl; put = λ f import. refl }
 none_from i (g ∷ gs) m e = by (bytes_eq m g.name) refl e (λ later. none_from (i + 1) gs m later)
   where
     by : (b : Bool) → bytes_eq m g.name ≡ b → cond b (Some i) (found m (places_of (i + 1) gs)) ≡ None
-      → (found m (places_of (i + 1) gs) ≡ None → NoGroup gs m) → NoGroup (g ∷ gs) m
+        → (found m (places_of (i + 1) gs) ≡ None → NoGroup gs m) → NoGroup (g ∷ gs) m
     by true h e more = absurd cc
     by false h e more =
         let t = more e in
@@ -111,7 +111,7 @@ put_known (Ok x) places gs m f f' k role known placed same kept set =
     let t = group_at gs m k at in
     let is : x.groups.items ≡ slice_set gs k (with_fields t.group (t.group.fields ++ (f', role) ∷ [])) = set t.group t.there in
     let put : x.groups.items ≡ with_field gs m f role =
-      is ∙ ap (λ (w : List ℕ). slice_set gs k (with_fields t.group (t.group.fields ++ (w, role) ∷ []))) same ∙ sym (t.put f role) in
+    is ∙ ap (λ (w : List ℕ). slice_set gs k (with_fields t.group (t.group.fields ++ (w, role) ∷ []))) same ∙ sym (t.put f role) in
     let places' : places_of 0 x.groups.items ≡ places_of 0 gs = ap (places_of 0) is ∙ t.kept 0 (t.group.fields ++ (f', role) ∷ []) in
     (put, kept ∙ placed ∙ sym places')
 
@@ -127,7 +127,7 @@ put_new (Ok x) places gs m m' f f' role known placed same same' kept set =
     let t = no_group gs m at in
     let made = λ (n w : List ℕ). let g : Group = record { name = n; fields = (w, role) ∷ [] } in g in
     let put : x.groups.items ≡ with_field gs m f role =
-      set ∙ ap (λ (n : List ℕ). gs ++ made n f' ∷ []) same' ∙ ap (λ (w : List ℕ). gs ++ made m w ∷ []) same ∙ sym (t.put f role) in
+    set ∙ ap (λ (n : List ℕ). gs ++ made n f' ∷ []) same' ∙ ap (λ (w : List ℕ). gs ++ made m w ∷ []) same ∙ sym (t.put f role) in
     let places' : places_of 0 x.groups.items ≡ places_of 0 gs ++ (m', length gs) ∷ [] = ap (places_of 0) set ∙ new_place gs (made m' f') in
     (put, kept ∙ ap (λ (p : List (List ℕ × ℕ)). p ++ (m', length gs) ∷ []) placed ∙ sym places')
 
@@ -136,10 +136,12 @@ pub lacks : (places : List (List ℕ × ℕ)) (gs : List Group) (m f f' : List �
     → found f (fields_in gs m) ≡ None → (k < length gs) × ((g : Group) → slice_get gs k ≡ Some g → found f' g.fields ≡ None)
 lacks places gs m f f' k known placed same none =
     let at : found m (places_of 0 gs) ≡ Some k = ap (found m) (sym placed) ∙ sym known in
-    let t = group_at gs m k at in
-    (t.below, λ g there.
-      let is : t.group ≡ g = got_group gs k t.group g t.there there in
-      ap (λ (w : List ℕ). found w g.fields) same ∙ ap (λ (x : Group). found f x.fields) (sym is) ∙ ap (found f) (sym t.fields) ∙ none)
+    let t = group_at gs m k at in (
+      t.below,
+      λ g there.
+          let is : t.group ≡ g = got_group gs k t.group g t.there there in
+          ap (λ (w : List ℕ). found w g.fields) same ∙ ap (λ (x : Group). found f x.fields) (sym is) ∙ ap (found f) (sym t.fields) ∙ none,
+    )
 
 pub has_none : (places : List (List ℕ × ℕ)) (gs : List Group) (m : List ℕ) → None ≡ found m places → places ≡ places_of 0 gs → fields_in gs m ≡ []
 has_none places gs m known placed =

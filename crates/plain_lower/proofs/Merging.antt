@@ -39,7 +39,7 @@ apart_refused table [] r e = absurd cc
 apart_refused table (x ∷ es) r e = by (is_some (found x.0 table)) refl e (λ later. apart_refused (table ++ x ∷ []) es r later)
   where
     by : (b : Bool) → is_some (found x.0 table) ≡ b → (if b then Err (conflict x.0) else apart (table ++ x ∷ []) es) ≡ Err (failures.Refused r)
-      → (apart (table ++ x ∷ []) es ≡ Err (failures.Refused r) → Clash (table ++ x ∷ []) es r) → Clash table (x ∷ es) r
+        → (apart (table ++ x ∷ []) es ≡ Err (failures.Refused r) → Clash (table ++ x ∷ []) es r) → Clash table (x ∷ es) r
     by true h e more = record {
       before = [];
       entry = x;
@@ -65,9 +65,11 @@ apart_taken table es joined before after entry e is there = in_turn table before
     first : (table : Table) (b : Bool) → is_some (found entry.0 table) ≡ b → (if b then Err (conflict entry.0) else apart (table ++ entry ∷ []) after) ≡ Ok joined → b ≡ true → ⊥
     first table true h e t = cc (e)
     first table false h e t = true≢false (sym t)
+
     next : (x : List ℕ × StringEncoding) (table before : Table) (b : Bool) → (if b then Err (conflict x.0) else apart (table ++ x ∷ []) (before ++ entry ∷ after)) ≡ Ok joined → apart (table ++ x ∷ []) (before ++ entry ∷ after) ≡ Ok joined
     next x table before true e = absurd cc
     next x table before false e = e
+
     in_turn : (table before : Table) → apart table (before ++ entry ∷ after) ≡ Ok joined → is_some (found entry.0 (table ++ before)) ≡ true → ⊥
     in_turn table [] e there = first table (is_some (found entry.0 table)) refl e (ap (λ (t : Table). is_some (found entry.0 t)) (sym (append-nil table)) ∙ there)
     in_turn table (x ∷ before) e there =

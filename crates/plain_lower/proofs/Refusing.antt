@@ -128,6 +128,7 @@ with_field_cases [] m f m' f' import h = by (bytes_eq m m') refl h
     one : (c : Bool) → bytes_eq f f' ≡ c → is_some (cond c (Some import) None) ≡ true → bytes_eq m m' ≡ true → (is_some (found f (fields_in [] m)) ≡ true) ⊎ ((m' ≡ m) × (f' ≡ f))
     one true k h e = inr (sym (bytes_same m m' e), sym (bytes_same f f' k))
     one false k h e = absurd (true≢false (sym h))
+
     by : (b : Bool) → bytes_eq m m' ≡ b → is_some (found f (if b then (f', import) ∷ [] else [])) ≡ true → (is_some (found f (fields_in [] m)) ≡ true) ⊎ ((m' ≡ m) × (f' ≡ f))
     by true e h = one (bytes_eq f f') refl h e
     by false e h = absurd (true≢false (sym h))
@@ -136,18 +137,21 @@ with_field_cases (g ∷ gs) m f m' f' import h = by (bytes_eq m' g.name) refl h 
     pushed : (found_there : Option Import) → found f (g.fields ++ (f', import) ∷ []) ≡ found_there → is_some found_there ≡ true → (is_some (found f g.fields) ≡ true) ⊎ (f' ≡ f)
     pushed None e h = absurd (true≢false (sym h))
     pushed (Some x) e h = elim (found-push_cases f f' import g.fields x e) [ inl k ↦ inl (ap (λ (o : Option Import). is_some o) k) | inr k ↦ inr (sym k.0) ]
+
     grown : (c : Bool) → bytes_eq m g.name ≡ c → bytes_eq m' g.name ≡ true → is_some (found f (if c then g.fields ++ (f', import) ∷ [] else fields_in gs m)) ≡ true
-      → (is_some (found f (if c then g.fields else fields_in gs m)) ≡ true) ⊎ ((m' ≡ m) × (f' ≡ f))
+        → (is_some (found f (if c then g.fields else fields_in gs m)) ≡ true) ⊎ ((m' ≡ m) × (f' ≡ f))
     grown true k e h = elim (pushed (found f (g.fields ++ (f', import) ∷ [])) refl h) [ inl p ↦ inl p | inr p ↦ inr (bytes_same m' g.name e ∙ sym (bytes_same m g.name k), p) ]
     grown false k e h = inl h
+
     passed_by : (c : Bool) → is_some (found f (if c then g.fields else fields_in (with_field gs m' f' import) m)) ≡ true
-      → (is_some (found f (fields_in (with_field gs m' f' import) m)) ≡ true → (is_some (found f (fields_in gs m)) ≡ true) ⊎ ((m' ≡ m) × (f' ≡ f)))
-      → (is_some (found f (if c then g.fields else fields_in gs m)) ≡ true) ⊎ ((m' ≡ m) × (f' ≡ f))
+        → (is_some (found f (fields_in (with_field gs m' f' import) m)) ≡ true → (is_some (found f (fields_in gs m)) ≡ true) ⊎ ((m' ≡ m) × (f' ≡ f)))
+        → (is_some (found f (if c then g.fields else fields_in gs m)) ≡ true) ⊎ ((m' ≡ m) × (f' ≡ f))
     passed_by true h more = inl h
     passed_by false h more = more h
+
     by : (b : Bool) → bytes_eq m' g.name ≡ b → is_some (found f (fields_in (if b then record { name = g.name; fields = g.fields ++ (f', import) ∷ [] } ∷ gs else g ∷ with_field gs m' f' import) m)) ≡ true
-      → (is_some (found f (fields_in (with_field gs m' f' import) m)) ≡ true → (is_some (found f (fields_in gs m)) ≡ true) ⊎ ((m' ≡ m) × (f' ≡ f)))
-      → (is_some (found f (if bytes_eq m g.name then g.fields else fields_in gs m)) ≡ true) ⊎ ((m' ≡ m) × (f' ≡ f))
+        → (is_some (found f (fields_in (with_field gs m' f' import) m)) ≡ true → (is_some (found f (fields_in gs m)) ≡ true) ⊎ ((m' ≡ m) × (f' ≡ f)))
+        → (is_some (found f (if bytes_eq m g.name then g.fields else fields_in gs m)) ≡ true) ⊎ ((m' ≡ m) × (f' ≡ f))
     by true e h more = grown (bytes_eq m g.name) refl e h
     by false e h more = passed_by (bytes_eq m g.name) h more
 
@@ -159,12 +163,14 @@ with_field_keeps (g ∷ gs) m f m' f' import h = by (bytes_eq m' g.name) (λ k. 
     grown : (c : Bool) → is_some (found f (if c then g.fields else fields_in gs m)) ≡ true → is_some (found f (if c then g.fields ++ (f', import) ∷ [] else fields_in gs m)) ≡ true
     grown true h = IsSome-found-append f g.fields ((f', import) ∷ []) h
     grown false h = h
+
     passed_by : (c : Bool) → is_some (found f (if c then g.fields else fields_in gs m)) ≡ true → (is_some (found f (fields_in gs m)) ≡ true → is_some (found f (fields_in (with_field gs m' f' import) m)) ≡ true)
-      → is_some (found f (if c then g.fields else fields_in (with_field gs m' f' import) m)) ≡ true
+        → is_some (found f (if c then g.fields else fields_in (with_field gs m' f' import) m)) ≡ true
     passed_by true h more = h
     passed_by false h more = more h
+
     by : (b : Bool) → (is_some (found f (fields_in gs m)) ≡ true → is_some (found f (fields_in (with_field gs m' f' import) m)) ≡ true)
-      → is_some (found f (fields_in (if b then record { name = g.name; fields = g.fields ++ (f', import) ∷ [] } ∷ gs else g ∷ with_field gs m' f' import) m)) ≡ true
+        → is_some (found f (fields_in (if b then record { name = g.name; fields = g.fields ++ (f', import) ∷ [] } ∷ gs else g ∷ with_field gs m' f' import) m)) ≡ true
     by true more = grown (bytes_eq m g.name) h
     by false more = passed_by (bytes_eq m g.name) h more
 
@@ -174,7 +180,7 @@ with_field_adds [] m f import = rw ((bytes_eq-Decides m m).1 refl, (bytes_eq-Dec
 with_field_adds (g ∷ gs) m f import = by (bytes_eq m g.name) refl (with_field_adds gs m f import)
   where
     by : (b : Bool) → bytes_eq m g.name ≡ b → is_some (found f (fields_in (with_field gs m f import) m)) ≡ true
-      → is_some (found f (fields_in (if b then record { name = g.name; fields = g.fields ++ (f, import) ∷ [] } ∷ gs else g ∷ with_field gs m f import) m)) ≡ true
+        → is_some (found f (fields_in (if b then record { name = g.name; fields = g.fields ++ (f, import) ∷ [] } ∷ gs else g ∷ with_field gs m f import) m)) ≡ true
     by true e more = rw e (found-pushed f import g.fields)
     by false e more = rw e more
 
@@ -186,8 +192,8 @@ unfolding group_after
 group_made t main core gs gs' i e = by (is_some (found i.field (fields_in gs i.«module»))) refl _ e
   where
     by : (b : Bool) → is_some (found i.field (fields_in gs i.«module»)) ≡ b → (d : Failure) →
-      (if b then Err d else (import_of t main.own core i >>= λ import. Ok (with_field gs i.«module» i.field import))) ≡ Ok gs'
-      → (import : Import) × (import_of t main.own core i ≡ Ok import) × (gs' ≡ with_field gs i.«module» i.field import) × (is_some (found i.field (fields_in gs i.«module»)) ≡ false)
+        (if b then Err d else (import_of t main.own core i >>= λ import. Ok (with_field gs i.«module» i.field import))) ≡ Ok gs'
+        → (import : Import) × (import_of t main.own core i ≡ Ok import) × (gs' ≡ with_field gs i.«module» i.field import) × (is_some (found i.field (fields_in gs i.«module»)) ≡ false)
     by true h d e = absurd cc
     by false h d e =
         let a = bind_ok (import_of t main.own core i) (λ import. Ok (with_field gs i.«module» i.field import)) gs' e in
@@ -229,8 +235,8 @@ unfolding group_after
 group_refused g main core seen after gs i r m split h e = by (is_some (found i.field (fields_in gs i.«module»))) refl e
   where
     by : (b : Bool) → is_some (found i.field (fields_in gs i.«module»)) ≡ b
-      → (if b then refused (refusals.ImportTwice i.«module» i.field) else (import_of g.joint.imports main.own core i >>= λ import. Ok (with_field gs i.«module» i.field import))) ≡ refused r
-      → PrepareCause g (flat_refusal r)
+        → (if b then refused (refusals.ImportTwice i.«module» i.field) else (import_of g.joint.imports main.own core i >>= λ import. Ok (with_field gs i.«module» i.field import))) ≡ refused r
+        → PrepareCause g (flat_refusal r)
     by true there e =
         let n = h i.«module» i.field there in
         let is_r : refusals.ImportTwice i.«module» i.field ≡ r = cc (e) in
@@ -332,7 +338,7 @@ key_refused : (g : Gathered Bindgen) (main : Part Bindgen) (core : CoreModule) (
 key_refused g main core all (export_keys.Name n) r m x c e =
     let f = failed (is_some (found n g.joint.exports) && is_some (found n (by_function all))) _ (not_exported n) (failures.Refused r) e in
     subst (λ (y : Refusal). PrepareCause g (flat_refusal y)) (same_refusal (refusals.ExportMissing n) r f.1)
-      (missing main core all (export_keys.Name n) m x c (one_false (is_some (found n g.joint.exports)) (is_some (found n (by_function all))) f.0))
+    (missing main core all (export_keys.Name n) m x c (one_false (is_some (found n g.joint.exports)) (is_some (found n (by_function all))) f.0))
   where
     one_false : (a b : Bool) → (a && b) ≡ false → (a ≡ false) ⊎ (b ≡ false)
     one_false true b h = inr h
@@ -477,7 +483,7 @@ no_cause g w e f (twice main core i j before between after m whole module_is fie
     let p = facts g w main core e m in
     let regrouped : core.imports ≡ before ++ (i ∷ (between ++ j ∷ after)) = whole ∙ append_assoc before (i ∷ between) (j ∷ after) in
     no_twice g.joint.imports main core [] p.groups before between after i j module_is field_is
-      (ap (groups_after g.joint.imports main.own core []) (sym regrouped) ∙ p.grouped)
+    (ap (groups_after g.joint.imports main.own core []) (sym regrouped) ∙ p.grouped)
 no_cause g w e f (unfit_export main core name item role m c has there unfits) =
     let p = facts g w main core e m in
     let fits = AllByRecursion-contains (ExportFits g main core) core.exports (name, item) (exports_fit g main core [] p.exported core.exports p.exports_are) c in

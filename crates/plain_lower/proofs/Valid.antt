@@ -108,7 +108,7 @@ with_field_good t [] m f import h lacks is = (record { apart = (tt, tt); roles =
 with_field_good t (g ∷ gs) m f import h lacks is = by (bytes_eq m g.name) lacks (λ later. with_field_good t gs m f import h.1 later is)
   where
     by : (b : Bool) → is_some (found f (if b then g.fields else fields_in gs m)) ≡ false → (is_some (found f (fields_in gs m)) ≡ false → AllByRecursion (IsGood t) (with_field gs m f import))
-      → AllByRecursion (IsGood t) (if b then record { name = g.name; fields = g.fields ++ (f, import) ∷ [] } ∷ gs else g ∷ with_field gs m f import)
+        → AllByRecursion (IsGood t) (if b then record { name = g.name; fields = g.fields ++ (f, import) ∷ [] } ∷ gs else g ∷ with_field gs m f import)
     by true lacks more = (grown_is_good t g f import h.0 lacks is, h.1)
     by false lacks more = (h.0, more lacks)
 
@@ -116,7 +116,7 @@ import_is_for : (t : Table) (own : Bindgen) (core : CoreModule) (i : CoreImport)
 unfolding import_of
 import_is_for t own core i import e =
     let role = bind_ok (ok_or (lookup (is_same_name (record { «module» = i.«module»; field = i.field })) own.import_roles) (no_role i.«module» i.field))
-        (λ r. imported_by t i.«module» i.field r >>= λ x. fitting core i x) import e in
+    (λ r. imported_by t i.«module» i.field r >>= λ x. fitting core i x) import e in
     let by = bind_ok (imported_by t i.«module» i.field role.0) (λ x. fitting core i x) import role.2 in
     let p = passed (is_some (found (function_of role.0) t)) (imports.WorldFunc (keys.Name (function_of role.0)) (function_of role.0) GuestImport) by.0 (no_role i.«module» i.field) by.1 in
     let q = passed (fits_import core i.entity) by.0 import (unfit i.field) by.2 in
@@ -127,7 +127,7 @@ unfolding group_after
 group_after_good t own core gs gs' i h e = by (is_some (found i.field (fields_in gs i.«module»))) refl _ e
   where
     by : (b : Bool) → is_some (found i.field (fields_in gs i.«module»)) ≡ b → (d : Failure) →
-      (if b then Err d else (import_of t own core i >>= λ import. Ok (with_field gs i.«module» i.field import))) ≡ Ok gs' → AllByRecursion (IsGood t) gs'
+        (if b then Err d else (import_of t own core i >>= λ import. Ok (with_field gs i.«module» i.field import))) ≡ Ok gs' → AllByRecursion (IsGood t) gs'
     by true lacks d e = absurd cc
     by false lacks d e =
         let a = bind_ok (import_of t own core i) (λ import. Ok (with_field gs i.«module» i.field import)) gs' e in
@@ -149,7 +149,7 @@ fields_are_apart t (g ∷ gs) h = (let good = h.0 in good.apart, fields_are_apar
 import_role : (w : ComponentWorld) (t : Table) → w.world.imports ≡ world_items t → (import : Import) → IsFor t import → IsImportRole w import
 import_role w t same import is =
     let there : Contains (map (λ e. key_text e.0) w.world.imports) is.function =
-      subst (λ items. Contains (map (λ e. key_text e.0) items) is.function) (sym same) (item_there t is.function is.there) in
+    subst (λ items. Contains (map (λ e. key_text e.0) items) is.function) (sym same) (item_there t is.function is.there) in
     subst (λ (x : Import). IsImportRole w x) (sym is.is) (there, refl, refl)
 
 AllByRecursion-append : {X : Type 0} (P : X → Type 0) (xs ys : List X) → AllByRecursion P xs → AllByRecursion P ys → AllByRecursion P (xs ++ ys)
@@ -170,7 +170,7 @@ all_roles w t same [] h = tt
 all_roles w t same (g ∷ gs) h =
     let good = h.0 in
     subst (λ (is : List WorldImport). AllByRecursion (λ i. IsImportRole w i.role) is) (sym (flat_map-cons imports_from (g.name, instances.Names g.fields) (instances_of gs)))
-      (AllByRecursion-append (λ i. IsImportRole w i.role) _ _ (group_roles w t same g.name g.fields good.roles) (all_roles w t same gs h.1))
+    (AllByRecursion-append (λ i. IsImportRole w i.role) _ _ (group_roles w t same g.name g.fields good.roles) (all_roles w t same gs h.1))
 
 -- ---- exports
 
@@ -212,7 +212,7 @@ exports_good t own core all all' (x ∷ es) h e =
 export_role : (w : ComponentWorld) (t : Table) → w.world.exports ≡ world_items t → (export : Export) → IsOf t export → IsExportRole w export
 export_role w t same export is =
     let there : Contains (map (λ e. key_text e.0) w.world.exports) is.function =
-      subst (λ items. Contains (map (λ e. key_text e.0) items) is.function) (sym same) (item_there t is.function is.there) in
+    subst (λ items. Contains (map (λ e. key_text e.0) items) is.function) (sym same) (item_there t is.function is.there) in
     subst (λ (x : Export). IsExportRole w x) (sym is.is) (there, refl, refl)
 
 export_roles : (w : ComponentWorld) (t : Table) → w.world.exports ≡ world_items t → (all : List (List ℕ × Export)) → AllOf t all → AllByRecursion (λ e. IsExportRole w e.1) all
@@ -249,9 +249,9 @@ keys_met t all so_far keys' (k ∷ ks) h e =
 required_of : (w : ComponentWorld) (t : Table) → w.world.exports ≡ world_items t → (all : List (List ℕ × Export)) → w.main.exports.exports ≡ all → (key : WorldKey) → IsMet t all key → IsRequired w key
 required_of w t same all exports_are key m =
     let there : Contains (map (λ e. key_text e.0) w.world.exports) m.function =
-      subst (λ items. Contains (map (λ e. key_text e.0) items) m.function) (sym same) (item_there t m.function m.there) in
+    subst (λ items. Contains (map (λ e. key_text e.0) items) m.function) (sym same) (item_there t m.function m.there) in
     let stands : is_some (found m.function (by_function w.main.exports.exports)) ≡ true =
-      ap (λ (xs : List (List ℕ × Export)). is_some (found m.function (by_function xs))) exports_are ∙ m.stands in
+    ap (λ (xs : List (List ℕ × Export)). is_some (found m.function (by_function xs))) exports_are ∙ m.stands in
     subst (λ (k : WorldKey). IsRequired w k) (sym m.is) (record { exported = there; stands = stands })
 
 all_required : (w : ComponentWorld) (t : Table) → w.world.exports ≡ world_items t → (all : List (List ℕ × Export)) → w.main.exports.exports ≡ all → (ks : List WorldKey)
@@ -278,13 +278,13 @@ pub main_is_world : (joint : Bindgen) (main : Part Bindgen) (w : ComponentWorld)
 unfolding preparing_main world_of
 main_is_world joint main w e imports_apart exports_apart modules_apart =
     let a = bind_ok (lifted (module_of main.bytes)) (λ core. groups_after joint.imports main.own core [] core.imports >>= λ groups. exports_after joint.exports main.own core [] core.exports >>= λ exported.
-      required_after joint.exports exported [] main.required >>= λ required. Ok (world_of joint main groups exported required)) w e in
+    required_after joint.exports exported [] main.required >>= λ required. Ok (world_of joint main groups exported required)) w e in
     let core : CoreModule = a.0 in
     let b = bind_ok (groups_after joint.imports main.own core [] core.imports) (λ groups. exports_after joint.exports main.own core [] core.exports >>= λ exported.
-      required_after joint.exports exported [] main.required >>= λ required. Ok (world_of joint main groups exported required)) w a.2 in
+    required_after joint.exports exported [] main.required >>= λ required. Ok (world_of joint main groups exported required)) w a.2 in
     let groups : List Group = b.0 in
     let c = bind_ok (exports_after joint.exports main.own core [] core.exports) (λ exported.
-      required_after joint.exports exported [] main.required >>= λ required. Ok (world_of joint main groups exported required)) w b.2 in
+    required_after joint.exports exported [] main.required >>= λ required. Ok (world_of joint main groups exported required)) w b.2 in
     let exported : List (List ℕ × Export) = c.0 in
     let d = bind_ok (required_after joint.exports exported [] main.required) (λ required. Ok (world_of joint main groups exported required)) w c.2 in
     let made : world_of joint main groups exported d.0 ≡ w = cc (d.2) in

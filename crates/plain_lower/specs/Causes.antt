@@ -30,7 +30,7 @@ use Rattle.plain_lower.specs.Preparing.{Table, fits_import, fits_export, exports
 -- The second has an export that the first has, or that stands before it in the second.
 pub data MergeCause (a b : Bindgen) : PlainFault → Type 0 where
   exported_twice : (name : List ℕ) (before after : Table) (entry : List ℕ × StringEncoding) → b.exports ≡ before ++ entry ∷ after → entry.0 ≡ name
-    → is_some (found name (a.exports ++ before)) ≡ true → MergeCause a b (faults.MergeConflict name)
+      → is_some (found name (a.exports ++ before)) ≡ true → MergeCause a b (faults.MergeConflict name)
 
 -- ---- preparing
 
@@ -60,20 +60,20 @@ pub data PrepareCause (g : Gathered Bindgen) : PlainFault → Type 0 where
   unread : (main : Part Bindgen) (r : Refusal) → g.main ≡ Some main → lifted (module_of main.bytes) ≡ Err (failures.Refused r) → PrepareCause g (flat_refusal r)
   -- a core import has no role
   no_role : (main : Part Bindgen) (core : CoreModule) (i : CoreImport) → IsMain g main core → Contains core.imports i
-    → role_of_import main i ≡ None → PrepareCause g (faults.RoleMissing i.«module» i.field)
+      → role_of_import main i ≡ None → PrepareCause g (faults.RoleMissing i.«module» i.field)
   -- its role is for a function that the world doesn't import
   not_imported : (main : Part Bindgen) (core : CoreModule) (i : CoreImport) (role : Role) → IsMain g main core → Contains core.imports i
-    → role_of_import main i ≡ Some role → is_some (found (function_of role) g.joint.imports) ≡ false → PrepareCause g (faults.RoleMissing i.«module» i.field)
+      → role_of_import main i ≡ Some role → is_some (found (function_of role) g.joint.imports) ≡ false → PrepareCause g (faults.RoleMissing i.«module» i.field)
   -- its type isn't that of its role
   unfit_import : (main : Part Bindgen) (core : CoreModule) (i : CoreImport) (role : Role) → IsMain g main core → Contains core.imports i
-    → role_of_import main i ≡ Some role → fits_import core i.entity ≡ false → PrepareCause g (faults.CoreType i.field)
+      → role_of_import main i ≡ Some role → fits_import core i.entity ≡ false → PrepareCause g (faults.CoreType i.field)
   -- two core imports have one module and field
   twice : (main : Part Bindgen) (core : CoreModule) (i j : CoreImport) (before between after : List CoreImport) → IsMain g main core
-    → core.imports ≡ before ++ i ∷ between ++ j ∷ after → i.«module» ≡ j.«module» → i.field ≡ j.field → PrepareCause g (faults.ImportTwice j.«module» j.field)
+      → core.imports ≡ before ++ i ∷ between ++ j ∷ after → i.«module» ≡ j.«module» → i.field ≡ j.field → PrepareCause g (faults.ImportTwice j.«module» j.field)
   -- the type of a core export isn't that of its role
   unfit_export : (main : Part Bindgen) (core : CoreModule) (name : List ℕ) (item : ExportedItem) (role : Role) → IsMain g main core → Contains core.exports (name, item)
-    → found name main.own.export_roles ≡ Some role → is_some (found (function_of role) g.joint.exports) ≡ true → fits_export core item ≡ false → PrepareCause g (faults.CoreType name)
+      → found name main.own.export_roles ≡ Some role → is_some (found (function_of role) g.joint.exports) ≡ true → fits_export core item ≡ false → PrepareCause g (faults.CoreType name)
   -- a required export isn't there
   missing : (main : Part Bindgen) (core : CoreModule) (exported : List (List ℕ × Export)) (key : ExportKey) → IsMain g main core → AreExports g main core exported
-    → Contains main.required key → IsMissing g exported key
-    → PrepareCause g (faults.ExportMissing (key_name key))
+      → Contains main.required key → IsMissing g exported key
+      → PrepareCause g (faults.ExportMissing (key_name key))

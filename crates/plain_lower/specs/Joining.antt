@@ -69,9 +69,9 @@ records_after a (text ∷ texts) = do
 -- a table of roles with one more: a name that is there has to have the same role
 abbrev pub with_role : {K : Type 0} → (K → K → Bool) → (K → List ℕ) → List (K × Role) → Assigned K → Result (List (K × Role)) Failure
 with_role eq field table a = option_map_or
-  (λ r. if is_same_role r a.role then Ok table else Err (conflict (field a.key)))
-  (lookup (eq a.key) table)
-  (Ok (table ++ (a.key, a.role) ∷ []))
+    (λ r. if is_same_role r a.role then Ok table else Err (conflict (field a.key)))
+    (lookup (eq a.key) table)
+    (Ok (table ++ (a.key, a.role) ∷ []))
 
 abbrev pub roles_after : {K : Type 0} → (K → K → Bool) → (K → List ℕ) → List (K × Role) → List (Assigned K) → Result (List (K × Role)) Failure
 roles_after eq field table [] = Ok table
@@ -81,7 +81,7 @@ roles_after eq field table (a ∷ more) = with_role eq field table a >>= λ t. r
 abbrev pub one_field_each : List (List ℕ × List ℕ) → List (List ℕ × Role) → Result ⊤ Failure
 one_field_each before [] = Ok tt
 one_field_each before (e ∷ es) =
-  if is_some (found (function_of e.1) before) then Err (conflict e.0) else one_field_each (before ++ (function_of e.1, e.0) ∷ []) es
+    if is_some (found (function_of e.1) before) then Err (conflict e.0) else one_field_each (before ++ (function_of e.1, e.0) ∷ []) es
 
 -- what the records of a module say, taken together
 unfoldable pub bindgen_of : Record → Result Bindgen Failure

@@ -90,9 +90,9 @@ fits_export core e = is_function e.kind && option_map_or (has_empty_type core) (
 -- the world's function that a role is for, if the world imports it
 abbrev pub imported_by : Table → List ℕ → List ℕ → Role → Result Import Failure
 imported_by table m f role =
-  if is_some (found (function_of role) table)
-  then Ok (imports.WorldFunc (keys.Name (function_of role)) (function_of role) GuestImport)
-  else Err (no_role m f)
+    if is_some (found (function_of role) table)
+    then Ok (imports.WorldFunc (keys.Name (function_of role)) (function_of role) GuestImport)
+    else Err (no_role m f)
 
 abbrev pub fitting : CoreModule → CoreImport → Import → Result Import Failure
 fitting core i import = if fits_import core i.entity then Ok import else Err (unfit i.field)
@@ -113,13 +113,13 @@ fields_in (g ∷ gs) m = if bytes_eq m g.name then g.fields else fields_in gs m
 abbrev pub with_field : List Group → List ℕ → List ℕ → Import → List Group
 with_field [] m f import = record { name = m; fields = (f, import) ∷ [] } ∷ []
 with_field (g ∷ gs) m f import =
-  if bytes_eq m g.name then record { name = g.name; fields = g.fields ++ (f, import) ∷ [] } ∷ gs else g ∷ with_field gs m f import
+    if bytes_eq m g.name then record { name = g.name; fields = g.fields ++ (f, import) ∷ [] } ∷ gs else g ∷ with_field gs m f import
 
 -- the groups with one core import more, which isn't there yet
 unfoldable pub group_after : Table → Bindgen → CoreModule → List Group → CoreImport → Result (List Group) Failure
 group_after table own core groups i =
-  if is_some (found i.field (fields_in groups i.«module»)) then Err (failures.Refused (refusals.ImportTwice i.«module» i.field))
-  else (import_of table own core i >>= λ import. Ok (with_field groups i.«module» i.field import))
+    if is_some (found i.field (fields_in groups i.«module»)) then Err (failures.Refused (refusals.ImportTwice i.«module» i.field))
+    else (import_of table own core i >>= λ import. Ok (with_field groups i.«module» i.field import))
 
 abbrev pub groups_after : Table → Bindgen → CoreModule → List Group → List CoreImport → Result (List Group) Failure
 groups_after table own core groups [] = Ok groups
@@ -136,18 +136,18 @@ export_as function = exports.WorldFunc (keys.Name function) function GuestExport
 -- a table of exports with one more, which is for this function
 abbrev pub with_export : CoreModule → List (List ℕ × Export) → List ℕ → ExportedItem → List ℕ → Result (List (List ℕ × Export)) Failure
 with_export core all name item function =
-  if fits_export core item then Ok (with_first bytes_eq all name (export_as function)) else Err (unfit name)
+    if fits_export core item then Ok (with_first bytes_eq all name (export_as function)) else Err (unfit name)
 
 -- a role is for a function that the world exports; without one, the export is for nothing
 abbrev pub export_of_role : Table → CoreModule → List (List ℕ × Export) → List ℕ → ExportedItem → Option Role → Result (List (List ℕ × Export)) Failure
 export_of_role table core all name item None = Ok all
 export_of_role table core all name item (Some role) =
-  if is_some (found (function_of role) table) then with_export core all name item (function_of role) else Ok all
+    if is_some (found (function_of role) table) then with_export core all name item (function_of role) else Ok all
 
 abbrev pub exports_after : Table → Bindgen → CoreModule → List (List ℕ × Export) → List (List ℕ × ExportedItem) → Result (List (List ℕ × Export)) Failure
 exports_after table own core all [] = Ok all
 exports_after table own core all (e ∷ es) =
-  export_of_role table core all e.0 e.1 (found e.0 own.export_roles) >>= λ more. exports_after table own core more es
+    export_of_role table core all e.0 e.1 (found e.0 own.export_roles) >>= λ more. exports_after table own core more es
 
 -- the core exports, each found by the function that it is for
 abbrev pub by_function : List (List ℕ × Export) → List (List ℕ × List ℕ)
@@ -156,7 +156,7 @@ by_function all = map (λ e. (exported_text e.1, e.0)) all
 -- a required export is a function that the world exports, and some core export is for it
 abbrev pub required_key : Table → List (List ℕ × Export) → ExportKey → Result WorldKey Failure
 required_key table all (export_keys.Name n) =
-  if is_some (found n table) && is_some (found n (by_function all)) then Ok (keys.Name n) else Err (not_exported n)
+    if is_some (found n table) && is_some (found n (by_function all)) then Ok (keys.Name n) else Err (not_exported n)
 required_key table all (export_keys.Interface id) = Err (not_exported id)
 
 abbrev pub required_after : Table → List (List ℕ × Export) → List WorldKey → List ExportKey → Result (List WorldKey) Failure

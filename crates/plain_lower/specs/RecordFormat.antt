@@ -109,7 +109,7 @@ item_of side d = if is_some (get (codes "func") d) then func_item d else other_i
 abbrev pub named_from : StringEncoding → ℕ → List (List ℕ × StringEncoding) → List (List ℕ) → Result (List (List ℕ × StringEncoding)) Failure
 named_from e i table [] = Ok table
 named_from e i table (n ∷ ns) =
-  if is_some (found n table) then Err (under_failure (decimal i) here) else named_from e (suc i) (table ++ (n, e) ∷ []) ns
+    if is_some (found n table) then Err (under_failure (decimal i) here) else named_from e (suc i) (table ++ (n, e) ∷ []) ns
 
 unfoldable pub functions_at : Side → StringEncoding → List ℕ → Data → Result (List (List ℕ × StringEncoding)) Failure
 functions_at side e key d = do
@@ -121,21 +121,21 @@ functions_at side e key d = do
 -- the kinds of roles that are known, and taken by a later version
 abbrev pub later_imports : List (List ℕ)
 later_imports =
-  codes "interface-func" ∷ codes "imported-drop" ∷ codes "exported-drop" ∷ codes "exported-rep" ∷ codes "exported-new" ∷
-  codes "task-return" ∷ codes "task-cancel" ∷ codes "backpressure-inc" ∷ codes "backpressure-dec" ∷
-  codes "waitable-set-new" ∷ codes "waitable-set-wait" ∷ codes "waitable-set-poll" ∷ codes "waitable-set-drop" ∷
-  codes "subtask-drop" ∷ codes "error-context-drop" ∷ codes "waitable-join" ∷ codes "subtask-cancel" ∷
-  codes "stream-new" ∷ codes "future-new" ∷ codes "stream-read" ∷ codes "stream-write" ∷ codes "future-read" ∷ codes "future-write" ∷
-  codes "stream-cancel-read" ∷ codes "stream-cancel-write" ∷ codes "future-cancel-read" ∷ codes "future-cancel-write" ∷
-  codes "stream-drop-readable" ∷ codes "stream-drop-writable" ∷ codes "future-drop-readable" ∷ codes "future-drop-writable" ∷
-  codes "error-context-new" ∷ codes "error-context-debug-message" ∷ codes "context-get" ∷ codes "context-set" ∷
-  codes "tls-get" ∷ codes "tls-set" ∷ codes "memory" ∷ codes "main-export" ∷ codes "adapter-export" ∷ []
+    codes "interface-func" ∷ codes "imported-drop" ∷ codes "exported-drop" ∷ codes "exported-rep" ∷ codes "exported-new" ∷
+    codes "task-return" ∷ codes "task-cancel" ∷ codes "backpressure-inc" ∷ codes "backpressure-dec" ∷
+    codes "waitable-set-new" ∷ codes "waitable-set-wait" ∷ codes "waitable-set-poll" ∷ codes "waitable-set-drop" ∷
+    codes "subtask-drop" ∷ codes "error-context-drop" ∷ codes "waitable-join" ∷ codes "subtask-cancel" ∷
+    codes "stream-new" ∷ codes "future-new" ∷ codes "stream-read" ∷ codes "stream-write" ∷ codes "future-read" ∷ codes "future-write" ∷
+    codes "stream-cancel-read" ∷ codes "stream-cancel-write" ∷ codes "future-cancel-read" ∷ codes "future-cancel-write" ∷
+    codes "stream-drop-readable" ∷ codes "stream-drop-writable" ∷ codes "future-drop-readable" ∷ codes "future-drop-writable" ∷
+    codes "error-context-new" ∷ codes "error-context-debug-message" ∷ codes "context-get" ∷ codes "context-set" ∷
+    codes "tls-get" ∷ codes "tls-set" ∷ codes "memory" ∷ codes "main-export" ∷ codes "adapter-export" ∷ []
 
 abbrev pub later_exports : List (List ℕ)
 later_exports =
-  codes "interface-func" ∷ codes "world-post-return" ∷ codes "world-callback" ∷ codes "interface-post-return" ∷
-  codes "interface-callback" ∷ codes "dtor" ∷ codes "memory" ∷ codes "realloc" ∷ codes "import-realloc" ∷
-  codes "export-realloc" ∷ codes "adapter-realloc" ∷ codes "initialize" ∷ codes "task-hook" ∷ []
+    codes "interface-func" ∷ codes "world-post-return" ∷ codes "world-callback" ∷ codes "interface-post-return" ∷
+    codes "interface-callback" ∷ codes "dtor" ∷ codes "memory" ∷ codes "realloc" ∷ codes "import-realloc" ∷
+    codes "export-realloc" ∷ codes "adapter-realloc" ∷ codes "initialize" ∷ codes "task-hook" ∷ []
 
 abbrev pub later_kinds : Side → List (List ℕ)
 later_kinds sides.Import = later_imports
@@ -148,9 +148,9 @@ later_abis sides.Export = codes "async" ∷ codes "stackful" ∷ []
 
 abbrev pub sync_only : Side → List ℕ → Result ⊤ Failure
 sync_only side abi =
-  if bytes_eq abi (codes "sync") then Ok tt
-  else if list_any (bytes_eq abi) (later_abis side) then Err (left_out abi)
-  else Err (at_member (codes "2"))
+    if bytes_eq abi (codes "sync") then Ok tt
+    else if list_any (bytes_eq abi) (later_abis side) then Err (left_out abi)
+    else Err (at_member (codes "2"))
 
 abbrev pub three_of : Items → Option (Data × Data × Data)
 three_of no_items = None
@@ -174,9 +174,9 @@ first_of (item d ds) = Some d
 
 abbrev pub role_of_kind : Side → List ℕ → Data → Result Role Failure
 role_of_kind side kind d =
-  if bytes_eq kind (codes "world-func") then world_func_of side d
-  else if list_any (bytes_eq kind) (later_kinds side) then Err (left_out kind)
-  else Err (at_member (codes "0"))
+    if bytes_eq kind (codes "world-func") then world_func_of side d
+    else if list_any (bytes_eq kind) (later_kinds side) then Err (left_out kind)
+    else Err (at_member (codes "0"))
 
 unfoldable pub role_of : Side → Data → Result Role Failure
 role_of side d = do
@@ -212,8 +212,8 @@ unknown_at i = Err (under_failure (decimal i) (under_failure (codes "role") (at_
 abbrev pub refer_from : {K : Type 0} → List (List ℕ × StringEncoding) → ℕ → List (Assigned K) → Result ⊤ Failure
 refer_from table i [] = Ok tt
 refer_from table i (a ∷ as') =
-  if is_some (found (function_of a.role) table) then refer_from table (suc i) as'
-  else unknown_at i
+    if is_some (found (function_of a.role) table) then refer_from table (suc i) as'
+    else unknown_at i
 
 abbrev pub roles_at : {K : Type 0} → (Data → Result (Assigned K) Failure) → List (List ℕ × StringEncoding) → List ℕ → Data → Result (List (Assigned K)) Failure
 roles_at read table key d = do
@@ -239,10 +239,10 @@ version_of d = version_from (option_and_then as_u64 (option_and_then as_number (
 
 abbrev pub encoding_from : List ℕ → Result StringEncoding Failure
 encoding_from s =
-  if bytes_eq s (codes "utf8") then Ok encodings.UTF8
-  else if bytes_eq s (codes "utf16") then Ok encodings.UTF16
-  else if bytes_eq s (codes "compact") then Ok encodings.CompactUTF16
-  else Err here
+    if bytes_eq s (codes "utf8") then Ok encodings.UTF8
+    else if bytes_eq s (codes "utf16") then Ok encodings.UTF16
+    else if bytes_eq s (codes "compact") then Ok encodings.CompactUTF16
+    else Err here
 
 abbrev pub encoding_of : Data → Result StringEncoding Failure
 encoding_of d = text_of d >>= encoding_from
@@ -254,7 +254,7 @@ encoding_if (Some v) = under (codes "encoding") (encoding_of v)
 -- the members that are known
 unfoldable pub only_known : Data → Result ⊤ Failure
 only_known d =
-  only (codes "version" ∷ codes "encoding" ∷ codes "context-slot-1" ∷ codes "interfaces" ∷ codes "imports" ∷ codes "exports" ∷ codes "core-imports" ∷ codes "core-exports" ∷ []) d
+    only (codes "version" ∷ codes "encoding" ∷ codes "context-slot-1" ∷ codes "interfaces" ∷ codes "imports" ∷ codes "exports" ∷ codes "core-imports" ∷ codes "core-exports" ∷ []) d
 
 -- the known members, none of which a later version takes
 unfoldable pub members_of : Data → Result ⊤ Failure

@@ -127,10 +127,7 @@ fn check_sync(alloc: Global, side: Side, abi: &str) -> Result<(), Failure>
 }
 
 /// The items of an array of three.
-#[tactic(
-    auto,
-    using(crate::proofs::Arrays::few_are_not_three, crate::proofs::Arrays::many_are_not_three)
-)]
+#[tactic(auto, using(crate::proofs::Arrays::few_are_not_three, crate::proofs::Arrays::many_are_not_three))]
 fn three_items(value: &Value) -> Option<(&Value, &Value, &Value)>
     ensures { option_map (λ v. (view v.0.now, view v.1.now, view v.2.now)) result ≡ option_and_then three_of (as_array (view value.now)) }
 {

@@ -206,10 +206,7 @@ fn copy<K: TryClone + Eq + Hash>(
 }
 
 /// The keys of exports.
-fn keys_of(
-    alloc: Global,
-    table: &Keyed<Text, StringEncoding>,
-) -> Result<Seq<ExportKey>, AllocError>
+fn keys_of(alloc: Global, table: &Keyed<Text, StringEncoding>) -> Result<Seq<ExportKey>, AllocError>
     ensures { IfOk result (λ ks. ks ≡ export_keys table.now) }
 {
     let mut keys = Seq::new(alloc);

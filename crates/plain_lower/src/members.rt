@@ -66,11 +66,7 @@ pub(crate) fn under<T>(alloc: Global, part: &str, read: Result<T, Failure>) -> R
 
 /// A member that must be there.
 #[tactic(auto, unfolding(crate::specs::Reading::required))]
-pub(crate) fn required<'v>(
-    alloc: Global,
-    value: &'v Value,
-    key: &str,
-) -> Result<&'v Value, Failure>
+pub(crate) fn required<'v>(alloc: Global, value: &'v Value, key: &str) -> Result<&'v Value, Failure>
     ensures { Gives (λ v. view v.now) result (required key.now (view value.now)) }
 {
     match value.get(key) {

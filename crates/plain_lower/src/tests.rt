@@ -14,7 +14,8 @@ const MODULE: [u8; 44] = [
     0x05, 0x01, 0x01, 0x67, 0x00, 0x01, 0x0a, 0x04, 0x01, 0x02, 0x00, 0x0b,
 ];
 
-const RECORD: &str = r#"{"version":1,"imports":[{"func":{"name":"f"}}],"exports":[{"func":{"name":"g"}}],"core-imports":[{"module":"$root","field":"f","role":["world-func","f","sync"]}],"core-exports":[{"field":"g","role":["world-func","g","sync"]}]}"#;
+const RECORD: &str =
+    r#"{"version":1,"imports":[{"func":{"name":"f"}}],"exports":[{"func":{"name":"g"}}],"core-imports":[{"module":"$root","field":"f","role":["world-func","f","sync"]}],"core-exports":[{"field":"g","role":["world-func","g","sync"]}]}"#;
 
 /// The module with a custom section, whose size is written in five bytes where that is asked for.
 fn with_section(
@@ -73,7 +74,10 @@ fn a_record_is_taken_off_its_module(rt: HostRuntime) -> Result<(), Fail> {
         match PlainLower::new().decode(alloc, cut) {
             Ok(_) => return Err(Fail::from("taken")),
             Err(fault) => {
-                assert_eq!(rt; format!(in alloc; "{fault}")?.as_str(), "P3 Section place=44");
+                assert_eq!(rt;
+                    format!(in alloc; "{fault}")?.as_str(),
+                    "P3 Section place=44"
+                );
             }
         }
     }
@@ -125,22 +129,70 @@ fn records_with_one_fault(rt: HostRuntime) -> Result<(), Fail> {
         ("ok", r#"{"version":2,"version":1}"#),
         ("P6 Record path=\"/x\"", r#"{"version":1,"x":0}"#),
         ("P6 Record path=\"/a~1b~0c\"", r#"{"version":1,"a/b~c":0}"#),
-        ("P6 Record path=\"/encoding\"", r#"{"version":1,"encoding":"utf9"}"#),
-        ("P6 Record path=\"/imports\"", r#"{"version":1,"imports":{}}"#),
-        ("P6 Record path=\"/imports/0/interface\"", r#"{"version":1,"imports":[{}]}"#),
-        ("P6 Record path=\"/exports/0/type\"", r#"{"version":1,"exports":[{"type":{"name":"t","type":"u8"}}]}"#),
-        ("P6 Record path=\"/imports/0/x\"", r#"{"version":1,"imports":[{"func":{"name":"f"},"x":1}]}"#),
-        ("P6 Record path=\"/imports/1/func/name\"", r#"{"version":1,"imports":[{"func":{"name":"f"}},{"func":{"name":7}}]}"#),
-        ("P6 Record path=\"/imports/0/func/kind\"", r#"{"version":1,"imports":[{"func":{"name":"f","kind":1}}]}"#),
-        ("P6 Record path=\"/imports/0/func/params\"", r#"{"version":1,"imports":[{"func":{"name":"f","params":1}}]}"#),
-        ("P6 Record path=\"/imports/0/func/async\"", r#"{"version":1,"imports":[{"func":{"name":"f","async":1}}]}"#),
-        ("P6 Record path=\"/imports/1\"", r#"{"version":1,"imports":[{"func":{"name":"f"}},{"func":{"name":"f"}}]}"#),
-        ("P6 Record path=\"/core-imports/0/role\"", r#"{"version":1,"core-imports":[{"module":"m","field":"f"}]}"#),
-        ("P6 Record path=\"/core-imports/0/role/0\"", r#"{"version":1,"core-imports":[{"module":"m","field":"f","role":["x"]}]}"#),
-        ("P6 Record path=\"/core-imports/0/role\"", r#"{"version":1,"core-imports":[{"module":"m","field":"f","role":["world-func","f"]}]}"#),
-        ("P6 Record path=\"/core-imports/0/role/1\"", r#"{"version":1,"core-imports":[{"module":"m","field":"f","role":["world-func","f","sync"]}]}"#),
-        ("P6 Record path=\"/core-imports/0/role/2\"", r#"{"version":1,"imports":[{"func":{"name":"f"}}],"core-imports":[{"module":"m","field":"f","role":["world-func","f","stackful"]}]}"#),
-        ("P6 Record path=\"/core-exports/0/module\"", r#"{"version":1,"core-exports":[{"field":"g","module":"m","role":["world-func","g","sync"]}]}"#),
+        (
+            "P6 Record path=\"/encoding\"",
+            r#"{"version":1,"encoding":"utf9"}"#,
+        ),
+        (
+            "P6 Record path=\"/imports\"",
+            r#"{"version":1,"imports":{}}"#,
+        ),
+        (
+            "P6 Record path=\"/imports/0/interface\"",
+            r#"{"version":1,"imports":[{}]}"#,
+        ),
+        (
+            "P6 Record path=\"/exports/0/type\"",
+            r#"{"version":1,"exports":[{"type":{"name":"t","type":"u8"}}]}"#,
+        ),
+        (
+            "P6 Record path=\"/imports/0/x\"",
+            r#"{"version":1,"imports":[{"func":{"name":"f"},"x":1}]}"#,
+        ),
+        (
+            "P6 Record path=\"/imports/1/func/name\"",
+            r#"{"version":1,"imports":[{"func":{"name":"f"}},{"func":{"name":7}}]}"#,
+        ),
+        (
+            "P6 Record path=\"/imports/0/func/kind\"",
+            r#"{"version":1,"imports":[{"func":{"name":"f","kind":1}}]}"#,
+        ),
+        (
+            "P6 Record path=\"/imports/0/func/params\"",
+            r#"{"version":1,"imports":[{"func":{"name":"f","params":1}}]}"#,
+        ),
+        (
+            "P6 Record path=\"/imports/0/func/async\"",
+            r#"{"version":1,"imports":[{"func":{"name":"f","async":1}}]}"#,
+        ),
+        (
+            "P6 Record path=\"/imports/1\"",
+            r#"{"version":1,"imports":[{"func":{"name":"f"}},{"func":{"name":"f"}}]}"#,
+        ),
+        (
+            "P6 Record path=\"/core-imports/0/role\"",
+            r#"{"version":1,"core-imports":[{"module":"m","field":"f"}]}"#,
+        ),
+        (
+            "P6 Record path=\"/core-imports/0/role/0\"",
+            r#"{"version":1,"core-imports":[{"module":"m","field":"f","role":["x"]}]}"#,
+        ),
+        (
+            "P6 Record path=\"/core-imports/0/role\"",
+            r#"{"version":1,"core-imports":[{"module":"m","field":"f","role":["world-func","f"]}]}"#,
+        ),
+        (
+            "P6 Record path=\"/core-imports/0/role/1\"",
+            r#"{"version":1,"core-imports":[{"module":"m","field":"f","role":["world-func","f","sync"]}]}"#,
+        ),
+        (
+            "P6 Record path=\"/core-imports/0/role/2\"",
+            r#"{"version":1,"imports":[{"func":{"name":"f"}}],"core-imports":[{"module":"m","field":"f","role":["world-func","f","stackful"]}]}"#,
+        ),
+        (
+            "P6 Record path=\"/core-exports/0/module\"",
+            r#"{"version":1,"core-exports":[{"field":"g","module":"m","role":["world-func","g","sync"]}]}"#,
+        ),
     ] {
         assert_eq!(rt; decoded(rt.alloc(), record)?.as_str(), said);
     }
@@ -150,16 +202,46 @@ fn records_with_one_fault(rt: HostRuntime) -> Result<(), Fail> {
 #[test]
 fn records_of_later_versions(rt: HostRuntime) -> Result<(), Fail> {
     for (said, record) in [
-        ("P8 LeftOut what=\"interfaces\"", r#"{"version":1,"interfaces":[]}"#),
-        ("P8 LeftOut what=\"context-slot-1\"", r#"{"version":1,"context-slot-1":false}"#),
-        ("P8 LeftOut what=\"type\"", r#"{"version":1,"imports":[{"type":{"name":"t","type":"u8"}}]}"#),
-        ("P8 LeftOut what=\"interface\"", r#"{"version":1,"exports":[{"name":"t","interface":0}]}"#),
-        ("P8 LeftOut what=\"params\"", r#"{"version":1,"imports":[{"func":{"name":"f","params":[["x","u32"]]}}]}"#),
-        ("P8 LeftOut what=\"result\"", r#"{"version":1,"imports":[{"func":{"name":"f","result":"u32"}}]}"#),
-        ("P8 LeftOut what=\"async\"", r#"{"version":1,"imports":[{"func":{"name":"f","async":true}}]}"#),
-        ("ok", r#"{"version":1,"imports":[{"func":{"name":"[method]r.f","params":[],"result":null,"async":false}}]}"#),
-        ("P8 LeftOut what=\"waitable-join\"", r#"{"version":1,"core-imports":[{"module":"m","field":"f","role":["waitable-join"]}]}"#),
-        ("P8 LeftOut what=\"stackful\"", r#"{"version":1,"exports":[{"func":{"name":"f"}}],"core-exports":[{"field":"f","role":["world-func","f","stackful"]}]}"#),
+        (
+            "P8 LeftOut what=\"interfaces\"",
+            r#"{"version":1,"interfaces":[]}"#,
+        ),
+        (
+            "P8 LeftOut what=\"context-slot-1\"",
+            r#"{"version":1,"context-slot-1":false}"#,
+        ),
+        (
+            "P8 LeftOut what=\"type\"",
+            r#"{"version":1,"imports":[{"type":{"name":"t","type":"u8"}}]}"#,
+        ),
+        (
+            "P8 LeftOut what=\"interface\"",
+            r#"{"version":1,"exports":[{"name":"t","interface":0}]}"#,
+        ),
+        (
+            "P8 LeftOut what=\"params\"",
+            r#"{"version":1,"imports":[{"func":{"name":"f","params":[["x","u32"]]}}]}"#,
+        ),
+        (
+            "P8 LeftOut what=\"result\"",
+            r#"{"version":1,"imports":[{"func":{"name":"f","result":"u32"}}]}"#,
+        ),
+        (
+            "P8 LeftOut what=\"async\"",
+            r#"{"version":1,"imports":[{"func":{"name":"f","async":true}}]}"#,
+        ),
+        (
+            "ok",
+            r#"{"version":1,"imports":[{"func":{"name":"[method]r.f","params":[],"result":null,"async":false}}]}"#,
+        ),
+        (
+            "P8 LeftOut what=\"waitable-join\"",
+            r#"{"version":1,"core-imports":[{"module":"m","field":"f","role":["waitable-join"]}]}"#,
+        ),
+        (
+            "P8 LeftOut what=\"stackful\"",
+            r#"{"version":1,"exports":[{"func":{"name":"f"}}],"core-exports":[{"field":"f","role":["world-func","f","stackful"]}]}"#,
+        ),
     ] {
         assert_eq!(rt; decoded(rt.alloc(), record)?.as_str(), said);
     }
@@ -169,10 +251,22 @@ fn records_of_later_versions(rt: HostRuntime) -> Result<(), Fail> {
 #[test]
 fn records_that_contradict_themselves(rt: HostRuntime) -> Result<(), Fail> {
     for (said, record) in [
-        ("ok", r#"{"version":1,"imports":[{"func":{"name":"f"}}],"core-imports":[{"module":"m","field":"x","role":["world-func","f","sync"]},{"module":"m","field":"x","role":["world-func","f","sync"]}]}"#),
-        ("P7 MergeConflict name=\"x\"", r#"{"version":1,"imports":[{"func":{"name":"f"}},{"func":{"name":"h"}}],"core-imports":[{"module":"m","field":"x","role":["world-func","f","sync"]},{"module":"m","field":"x","role":["world-func","h","sync"]}]}"#),
-        ("P7 MergeConflict name=\"x\"", r#"{"version":1,"exports":[{"func":{"name":"f"}},{"func":{"name":"h"}}],"core-exports":[{"field":"x","role":["world-func","f","sync"]},{"field":"x","role":["world-func","h","sync"]}]}"#),
-        ("P7 MergeConflict name=\"y\"", r#"{"version":1,"exports":[{"func":{"name":"f"}}],"core-exports":[{"field":"x","role":["world-func","f","sync"]},{"field":"y","role":["world-func","f","sync"]}]}"#),
+        (
+            "ok",
+            r#"{"version":1,"imports":[{"func":{"name":"f"}}],"core-imports":[{"module":"m","field":"x","role":["world-func","f","sync"]},{"module":"m","field":"x","role":["world-func","f","sync"]}]}"#,
+        ),
+        (
+            "P7 MergeConflict name=\"x\"",
+            r#"{"version":1,"imports":[{"func":{"name":"f"}},{"func":{"name":"h"}}],"core-imports":[{"module":"m","field":"x","role":["world-func","f","sync"]},{"module":"m","field":"x","role":["world-func","h","sync"]}]}"#,
+        ),
+        (
+            "P7 MergeConflict name=\"x\"",
+            r#"{"version":1,"exports":[{"func":{"name":"f"}},{"func":{"name":"h"}}],"core-exports":[{"field":"x","role":["world-func","f","sync"]},{"field":"x","role":["world-func","h","sync"]}]}"#,
+        ),
+        (
+            "P7 MergeConflict name=\"y\"",
+            r#"{"version":1,"exports":[{"func":{"name":"f"}}],"core-exports":[{"field":"x","role":["world-func","f","sync"]},{"field":"y","role":["world-func","f","sync"]}]}"#,
+        ),
     ] {
         assert_eq!(rt; decoded(rt.alloc(), record)?.as_str(), said);
     }
@@ -226,11 +320,22 @@ fn changed(alloc: Global, place: usize, bytes: &[u8]) -> Result<Vec<u8>, AllocEr
 fn worlds_are_prepared(rt: HostRuntime) -> Result<(), Fail> {
     let alloc = rt.alloc();
     assert_eq!(rt; prepared(alloc, &MODULE, RECORD)?.as_str(), "1 required");
-    assert_eq!(rt; prepared(alloc, &MODULE[..8], r#"{"version":1}"#)?.as_str(), "0 required");
-    let no_import = r#"{"version":1,"exports":[{"func":{"name":"g"}}],"core-exports":[{"field":"g","role":["world-func","g","sync"]}]}"#;
-    assert_eq!(rt; prepared(alloc, &MODULE, no_import)?.as_str(), "P9 RoleMissing module=\"$root\" field=\"f\"");
-    let no_export = r#"{"version":1,"imports":[{"func":{"name":"f"}}],"exports":[{"func":{"name":"g"}}],"core-imports":[{"module":"$root","field":"f","role":["world-func","f","sync"]}]}"#;
-    assert_eq!(rt; prepared(alloc, &MODULE, no_export)?.as_str(), "P10 ExportMissing function=\"g\"");
+    assert_eq!(rt;
+        prepared(alloc, &MODULE[..8], r#"{"version":1}"#)?.as_str(),
+        "0 required"
+    );
+    let no_import =
+        r#"{"version":1,"exports":[{"func":{"name":"g"}}],"core-exports":[{"field":"g","role":["world-func","g","sync"]}]}"#;
+    assert_eq!(rt;
+        prepared(alloc, &MODULE, no_import)?.as_str(),
+        "P9 RoleMissing module=\"$root\" field=\"f\""
+    );
+    let no_export =
+        r#"{"version":1,"imports":[{"func":{"name":"f"}}],"exports":[{"func":{"name":"g"}}],"core-imports":[{"module":"$root","field":"f","role":["world-func","f","sync"]}]}"#;
+    assert_eq!(rt;
+        prepared(alloc, &MODULE, no_export)?.as_str(),
+        "P10 ExportMissing function=\"g\""
+    );
     Ok(())
 }
 
@@ -238,26 +343,76 @@ fn worlds_are_prepared(rt: HostRuntime) -> Result<(), Fail> {
 fn core_modules_that_do_not_fit(rt: HostRuntime) -> Result<(), Fail> {
     let alloc = rt.alloc();
     // A type with a result.
-    let result = changed(alloc, 8, &[1, 5, 1, 0x60, 0, 1, 0x7f, 2, 11, 1, 5, 0x24, 0x72, 0x6f, 0x6f, 0x74, 1, 0x66, 0, 0])?;
-    assert_eq!(rt; prepared(alloc, &result, RECORD)?.as_str(), "P11 CoreType name=\"f\"");
+    let result = changed(
+        alloc,
+        8,
+        &[
+            1, 5, 1, 0x60, 0, 1, 0x7f, 2, 11, 1, 5, 0x24, 0x72, 0x6f, 0x6f, 0x74, 1, 0x66, 0, 0,
+        ],
+    )?;
+    assert_eq!(rt;
+        prepared(alloc, &result, RECORD)?.as_str(),
+        "P11 CoreType name=\"f\""
+    );
     // An export with a parameter.
-    let param = changed(alloc, 8, &[1, 8, 2, 0x60, 0, 0, 0x60, 1, 0x7f, 0, 2, 11, 1, 5, 0x24, 0x72, 0x6f, 0x6f, 0x74, 1, 0x66, 0, 0, 3, 2, 1, 1, 7, 5, 1, 1, 0x67, 0, 1])?;
-    assert_eq!(rt; prepared(alloc, &param, RECORD)?.as_str(), "P11 CoreType name=\"g\"");
+    let param = changed(
+        alloc,
+        8,
+        &[
+            1, 8, 2, 0x60, 0, 0, 0x60, 1, 0x7f, 0, 2, 11, 1, 5, 0x24, 0x72, 0x6f, 0x6f, 0x74, 1,
+            0x66, 0, 0, 3, 2, 1, 1, 7, 5, 1, 1, 0x67, 0, 1,
+        ],
+    )?;
+    assert_eq!(rt;
+        prepared(alloc, &param, RECORD)?.as_str(),
+        "P11 CoreType name=\"g\""
+    );
     // An import that is a global.
-    let global = changed(alloc, 14, &[2, 12, 1, 5, 0x24, 0x72, 0x6f, 0x6f, 0x74, 1, 0x66, 3, 0x7f, 0])?;
-    assert_eq!(rt; prepared(alloc, &global, RECORD)?.as_str(), "P11 CoreType name=\"f\"");
+    let global = changed(
+        alloc,
+        14,
+        &[
+            2, 12, 1, 5, 0x24, 0x72, 0x6f, 0x6f, 0x74, 1, 0x66, 3, 0x7f, 0,
+        ],
+    )?;
+    assert_eq!(rt;
+        prepared(alloc, &global, RECORD)?.as_str(),
+        "P11 CoreType name=\"f\""
+    );
     // One import twice.
-    let twice = changed(alloc, 14, &[2, 21, 2, 5, 0x24, 0x72, 0x6f, 0x6f, 0x74, 1, 0x66, 0, 0, 5, 0x24, 0x72, 0x6f, 0x6f, 0x74, 1, 0x66, 0, 0])?;
-    assert_eq!(rt; prepared(alloc, &twice, RECORD)?.as_str(), "P12 ImportTwice module=\"$root\" field=\"f\"");
+    let twice = changed(
+        alloc,
+        14,
+        &[
+            2, 21, 2, 5, 0x24, 0x72, 0x6f, 0x6f, 0x74, 1, 0x66, 0, 0, 5, 0x24, 0x72, 0x6f, 0x6f,
+            0x74, 1, 0x66, 0, 0,
+        ],
+    )?;
+    assert_eq!(rt;
+        prepared(alloc, &twice, RECORD)?.as_str(),
+        "P12 ImportTwice module=\"$root\" field=\"f\""
+    );
     // No function type; an index of a function that isn't there; a name that stands twice; a type that isn't there.
     let no_type = changed(alloc, 8, &[1, 3, 1, 0x61, 0])?;
-    assert_eq!(rt; prepared(alloc, &no_type, RECORD)?.as_str(), "P3 Section place=8");
+    assert_eq!(rt;
+        prepared(alloc, &no_type, RECORD)?.as_str(),
+        "P3 Section place=8"
+    );
     let no_function = changed(alloc, 31, &[7, 5, 1, 1, 0x67, 0, 7])?;
-    assert_eq!(rt; prepared(alloc, &no_function, RECORD)?.as_str(), "P3 Section place=31");
+    assert_eq!(rt;
+        prepared(alloc, &no_function, RECORD)?.as_str(),
+        "P3 Section place=31"
+    );
     let two_exports = changed(alloc, 31, &[7, 9, 2, 1, 0x67, 0, 1, 1, 0x67, 0, 1])?;
-    assert_eq!(rt; prepared(alloc, &two_exports, RECORD)?.as_str(), "P3 Section place=31");
+    assert_eq!(rt;
+        prepared(alloc, &two_exports, RECORD)?.as_str(),
+        "P3 Section place=31"
+    );
     let no_such_type = changed(alloc, 27, &[3, 2, 1, 5])?;
-    assert_eq!(rt; prepared(alloc, &no_such_type, RECORD)?.as_str(), "P3 Section place=27");
+    assert_eq!(rt;
+        prepared(alloc, &no_such_type, RECORD)?.as_str(),
+        "P3 Section place=27"
+    );
     Ok(())
 }
 
@@ -273,7 +428,10 @@ fn an_export_of_two_modules_is_refused(rt: HostRuntime) -> Result<(), Fail> {
         Ok(_) => return Err(Fail::from("merged")),
         Err(fault) => {
             assert!(rt; !lower.is_memory(&fault));
-            assert_eq!(rt; format!(in alloc; "{fault}")?.as_str(), "P7 MergeConflict name=\"g\"");
+            assert_eq!(rt;
+                format!(in alloc; "{fault}")?.as_str(),
+                "P7 MergeConflict name=\"g\""
+            );
         }
     }
     Ok(())

@@ -41,7 +41,11 @@ fn the_refusals_of_encode_are_told(rt: HostRuntime) {
     let told = [
         (StubLower::NoEncoding, b"".as_slice(), "E2 NoModule"),
         (StubLower::NoEncoding, b"\0asm", "E3 Lower: S2 Refused"),
-        (StubLower::NoEncoding, CORE, "E9 NoEncoding place=\"$root::f\""),
+        (
+            StubLower::NoEncoding,
+            CORE,
+            "E9 NoEncoding place=\"$root::f\"",
+        ),
         (StubLower::Refusing, CORE, "E3 Lower: S2 Refused"),
     ];
     for (lower, bytes, fault) in told {

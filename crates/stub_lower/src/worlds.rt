@@ -21,7 +21,10 @@ fn imports(alloc: Global) -> Result<ImportMap, AllocError>
     let mut fields = Keyed::new(alloc);
     fields.add_first(Text::from_str(alloc, "f")?, role)?;
     let mut modules = Keyed::new(alloc);
-    modules.add_first(Text::from_str(alloc, "$root")?, ImportInstance::Names(fields))?;
+    modules.add_first(
+        Text::from_str(alloc, "$root")?,
+        ImportInstance::Names(fields),
+    )?;
     Ok(ImportMap { modules })
 }
 

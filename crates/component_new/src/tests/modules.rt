@@ -4,12 +4,14 @@
 pub(crate) const EMPTY: &[u8] = b"\0asm\x01\0\0\0";
 
 /// Its component: the module, an instance of it, and names.
-pub(crate) const EMPTY_COMPONENT: &[u8] = b"\0asm\x0d\0\x01\0\x01\x08\0asm\x01\0\0\0\x02\x04\x01\0\0\0\0%\x0ecomponent-name\
+pub(crate) const EMPTY_COMPONENT: &[u8] =
+    b"\0asm\x0d\0\x01\0\x01\x08\0asm\x01\0\0\0\x02\x04\x01\0\0\0\0%\x0ecomponent-name\
     \x01\x09\0\x11\x01\0\x04main\x01\x09\0\x12\x01\0\x04main";
 
 /// A module that imports `f` of `$root` and exports `g`, with a record that makes its import a root
 /// function of the world, and its export another.
-pub(crate) const MAIN: &[u8] = b"\0asm\x01\0\0\0\x01\x04\x01`\0\0\x02\x0b\x01\x05$root\x01f\0\0\x03\x02\x01\0\x07\
+pub(crate) const MAIN: &[u8] =
+    b"\0asm\x01\0\0\0\x01\x04\x01`\0\0\x02\x0b\x01\x05$root\x01f\0\0\x03\x02\x01\0\x07\
     \x05\x01\x01g\0\x01\x0a\x04\x01\x02\0\x0b\0\xf1\x01\x0ecomponent-type{\"version\
     \":1,\"imports\":[{\"func\":{\"name\":\"f\"}}],\"exports\":[{\"func\":{\"name\":\
     \"g\"}}],\"core-imports\":[{\"module\":\"$root\",\"field\":\"f\",\"role\":[\"wor\
@@ -17,7 +19,8 @@ pub(crate) const MAIN: &[u8] = b"\0asm\x01\0\0\0\x01\x04\x01`\0\0\x02\x0b\x01\x0
     -func\",\"g\",\"sync\"]}]}";
 
 /// Its component.
-pub(crate) const COMPONENT: &[u8] = b"\0asm\x0d\0\x01\0\x07\x05\x01@\0\x01\0\x0a\x06\x01\0\x01f\x01\0\x01,\0asm\x01\0\
+pub(crate) const COMPONENT: &[u8] =
+    b"\0asm\x0d\0\x01\0\x07\x05\x01@\0\x01\0\x0a\x06\x01\0\x01f\x01\0\x01,\0asm\x01\0\
     \0\0\x01\x04\x01`\0\0\x02\x0b\x01\x05$root\x01f\0\0\x03\x02\x01\0\x07\x05\x01\
     \x01g\0\x01\x0a\x04\x01\x02\0\x0b\x08\x05\x01\x01\0\0\0\x02\x12\x02\x01\x01\x01f\
     \0\0\0\0\x01\x05$root\x12\0\x06\x07\x01\0\0\x01\x01\x01g\x08\x06\x01\0\0\x01\0\0\

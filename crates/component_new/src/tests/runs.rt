@@ -1,7 +1,7 @@
 //! Runs of the program.
 
-use super::store::{Closed, OneFile};
 use super::modules::{COMPONENT, CUT, EMPTY, EMPTY_COMPONENT, MAIN, OPEN, PACKAGE};
+use super::store::{Closed, OneFile};
 use crate::running::run;
 use crate::store::{Event, StoreFault};
 use std::alloc::{AllocError, Global};
@@ -53,7 +53,10 @@ fn wrong_arguments_are_told_before_anything_is_read(rt: HostRuntime) {
         let mut store = OneFile::new(alloc, "main.wasm", EMPTY).expect(&rt, "memory");
         let answer = run_on(alloc, words, &mut store).expect(&rt, "memory");
         assert_eq!(rt; answer.status, 2);
-        assert_eq!(rt; answer.err.as_slice(), b"usage: component_new new OUT MAIN [options] | defs FILE\n".as_slice());
+        assert_eq!(rt;
+            answer.err.as_slice(),
+            b"usage: component_new new OUT MAIN [options] | defs FILE\n".as_slice()
+        );
         assert!(rt; answer.out.is_empty() && store.log.is_empty());
     }
 }
@@ -81,7 +84,10 @@ fn a_name_is_told_in_quotes(rt: HostRuntime) {
     let mut store = OneFile::new(alloc, "main.wasm", EMPTY).expect(&rt, "memory");
     let answer = run_on(alloc, &["new", "out.wasm", "a \"b\"\n"], &mut store).expect(&rt, "memory");
     assert_eq!(rt; answer.status, 1);
-    assert_eq!(rt; answer.err.as_slice(), b"error: read \"a \\\"b\\\"\\0a\"\n".as_slice());
+    assert_eq!(rt;
+        answer.err.as_slice(),
+        b"error: read \"a \\\"b\\\"\\0a\"\n".as_slice()
+    );
 }
 
 #[test]
@@ -127,12 +133,14 @@ fn puts(alloc: Global, main: &[u8], component: &[u8]) -> Result<bool, Fail> {
     let mut store = OneFile::new(alloc, "main.wasm", main)?;
     let answer = run_on(alloc, &["new", "out.wasm", "main.wasm"], &mut store)?;
     match store.log.as_slice() {
-        [Event::Read { name, .. }, Event::Put { name: out, bytes }] => Ok(name.is("main.wasm")
-            && out.is("out.wasm")
-            && bytes.as_slice() == component
-            && answer.status == 0
-            && answer.out.is_empty()
-            && answer.err.is_empty()),
+        [Event::Read { name, .. }, Event::Put { name: out, bytes }] => Ok(
+            name.is("main.wasm")
+                && out.is("out.wasm")
+                && bytes.as_slice() == component
+                && answer.status == 0
+                && answer.out.is_empty()
+                && answer.err.is_empty(),
+        ),
         _ => Ok(false),
     }
 }

@@ -14,6 +14,8 @@ returns-in-Ok-put g c =
     (_, two_happened _ _ _ _ _ c.in-Ok.ensures c.in-Ok-put.ensures, (c.as_str.ensures, c.as_str-2.ensures, rw (c.deref-2.ensures.value, ← c.deref.ensures.value) c.in-Ok-component_of.ensures.ok, refl))
 
 pub returns-in-Err-put : goal.returns-in-Err-put
-returns-in-Err-put g c =
-    (_, two_happened _ _ _ _ _ c.in-Ok.ensures c.in-Err-put.ensures,
-        not_put g.L.Lower c.args.lower c.args.arguments _ _ _ _ _ _ c.as_str.ensures c.as_str-2.ensures (rw (c.deref-2.ensures.value, ← c.deref.ensures.value) c.in-Ok-component_of.ensures.ok) c.put_fault.ensures)
+returns-in-Err-put g c = (
+  _,
+  two_happened _ _ _ _ _ c.in-Ok.ensures c.in-Err-put.ensures,
+  not_put g.L.Lower c.args.lower c.args.arguments _ _ _ _ _ _ c.as_str.ensures c.as_str-2.ensures (rw (c.deref-2.ensures.value, ← c.deref.ensures.value) c.in-Ok-component_of.ensures.ok) c.put_fault.ensures,
+)

@@ -13,4 +13,4 @@ returns-clause-refused c = λ _ f k. no_cause c.args.gathered.now _ c.in_ok-prep
 pub returns-in_err-prepare-clause-cause : goal.returns-in_err-prepare-clause-cause
 returns-in_err-prepare-clause-cause c =
     told (λ f. PrepareCause c.args.gathered.now f) c.from_residual.result c.in_err-prepare.field-0.0 c.from_residual.ensures.1
-      (has_cause c.args.gathered.now c.in_err-prepare.field-0.0 c.requires c.in_err-prepare.ensures.exact)
+    (has_cause c.args.gathered.now c.in_err-prepare.field-0.0 c.requires c.in_err-prepare.ensures.exact)
