@@ -1,15 +1,16 @@
 //! Modules through the encoder's calls, with the layer that the program uses.
 
 use super::modules::{COMPONENT, CUT, EMPTY, EMPTY_COMPONENT, MAIN, OPEN, PACKAGE};
-use comp_encoder::{ComponentEncoder, EncodeFault};
+use comp_encoder::{ComponentEncoder, EncodeFault, Lower};
 use plain_lower::{PlainFault, PlainLower};
 use std::alloc::{AllocError, Global};
+use std::fmt::Display;
 use std::test::Fail;
 
 /// The fault of a call, as it prints.
-fn fault_text<T>(
+fn fault_text<T, F: Display>(
     alloc: Global,
-    answer: &Result<T, EncodeFault<PlainFault>>,
+    answer: &Result<T, EncodeFault<F>>,
 ) -> Result<String, AllocError> {
     match answer {
         Ok(_) => String::from_str(alloc, "no fault"),
@@ -24,8 +25,12 @@ fn encoded(alloc: Global, bytes: &[u8]) -> Result<Vec<u8>, EncodeFault<PlainFaul
 }
 
 /// The fault of a module that is given twice, and what `encode` says after that.
-fn given_twice(alloc: Global, bytes: &[u8]) -> Result<(String, Vec<u8>), Fail> {
-    let mut encoder = ComponentEncoder::new(alloc, PlainLower::new());
+fn given_twice<L: Lower + Drop>(
+    alloc: Global,
+    lower: L,
+    bytes: &[u8],
+) -> Result<(String, Vec<u8>), Fail> {
+    let mut encoder = ComponentEncoder::new(alloc, lower);
     encoder.add_module(bytes)?;
     let again = fault_text(alloc, &encoder.add_module(bytes))?;
     Ok((again, encoder.encode()?))
@@ -41,7 +46,7 @@ fn a_module_becomes_its_component(rt: HostRuntime) -> Result<(), Fail> {
 
 #[test]
 fn a_refused_module_leaves_the_encoder_as_it_was(rt: HostRuntime) -> Result<(), Fail> {
-    let (fault, component) = given_twice(rt.alloc(), MAIN)?;
+    let (fault, component) = given_twice(rt.alloc(), PlainLower::new(), MAIN)?;
     assert_eq!(rt; fault.as_str(), "E3 Lower: P7 MergeConflict name=\"g\"");
     assert_eq!(rt; component.as_slice(), COMPONENT);
     Ok(())
