@@ -161,91 +161,10 @@ P6 Record path="/core-exports/0/module" <- {"version":1,"core-exports":[{"field"
 
 #[test]
 fn records_with_one_fault(rt: HostRuntime) -> Result<(), Fail> {
-<<<<<<< HEAD
-    for (said, record) in [
-        ("ok", RECORD),
-        ("P5 Json", "{"),
-        ("P5 Json", "{\"version\":1} x"),
-        ("P6 Record path=\"\"", "[]"),
-        ("P6 Record path=\"/version\"", "{}"),
-        ("P6 Record path=\"/version\"", r#"{"version":2}"#),
-        ("P6 Record path=\"/version\"", r#"{"version":1.0}"#),
-        ("ok", r#"{"version":2,"version":1}"#),
-        ("P6 Record path=\"/x\"", r#"{"version":1,"x":0}"#),
-        ("P6 Record path=\"/a~1b~0c\"", r#"{"version":1,"a/b~c":0}"#),
-        (
-            "P6 Record path=\"/encoding\"",
-            r#"{"version":1,"encoding":"utf9"}"#,
-        ),
-        (
-            "P6 Record path=\"/imports\"",
-            r#"{"version":1,"imports":{}}"#,
-        ),
-        (
-            "P6 Record path=\"/imports/0/interface\"",
-            r#"{"version":1,"imports":[{}]}"#,
-        ),
-        (
-            "P6 Record path=\"/exports/0/type\"",
-            r#"{"version":1,"exports":[{"type":{"name":"t","type":"u8"}}]}"#,
-        ),
-        (
-            "P6 Record path=\"/imports/0/x\"",
-            r#"{"version":1,"imports":[{"func":{"name":"f"},"x":1}]}"#,
-        ),
-        (
-            "P6 Record path=\"/imports/1/func/name\"",
-            r#"{"version":1,"imports":[{"func":{"name":"f"}},{"func":{"name":7}}]}"#,
-        ),
-        (
-            "P6 Record path=\"/imports/0/func/kind\"",
-            r#"{"version":1,"imports":[{"func":{"name":"f","kind":1}}]}"#,
-        ),
-        (
-            "P6 Record path=\"/imports/0/func/params\"",
-            r#"{"version":1,"imports":[{"func":{"name":"f","params":1}}]}"#,
-        ),
-        (
-            "P6 Record path=\"/imports/0/func/async\"",
-            r#"{"version":1,"imports":[{"func":{"name":"f","async":1}}]}"#,
-        ),
-        (
-            "P6 Record path=\"/imports/1\"",
-            r#"{"version":1,"imports":[{"func":{"name":"f"}},{"func":{"name":"f"}}]}"#,
-        ),
-        (
-            "P6 Record path=\"/core-imports/0/role\"",
-            r#"{"version":1,"core-imports":[{"module":"m","field":"f"}]}"#,
-        ),
-        (
-            "P6 Record path=\"/core-imports/0/role/0\"",
-            r#"{"version":1,"core-imports":[{"module":"m","field":"f","role":["x"]}]}"#,
-        ),
-        (
-            "P6 Record path=\"/core-imports/0/role\"",
-            r#"{"version":1,"core-imports":[{"module":"m","field":"f","role":["world-func","f"]}]}"#,
-        ),
-        (
-            "P6 Record path=\"/core-imports/0/role/1\"",
-            r#"{"version":1,"core-imports":[{"module":"m","field":"f","role":["world-func","f","sync"]}]}"#,
-        ),
-        (
-            "P6 Record path=\"/core-imports/0/role/2\"",
-            r#"{"version":1,"imports":[{"func":{"name":"f"}}],"core-imports":[{"module":"m","field":"f","role":["world-func","f","stackful"]}]}"#,
-        ),
-        (
-            "P6 Record path=\"/core-exports/0/module\"",
-            r#"{"version":1,"core-exports":[{"field":"g","module":"m","role":["world-func","g","sync"]}]}"#,
-        ),
-    ] {
-        assert_eq!(rt; decoded(rt.alloc(), record)?.as_str(), said);
-    }
-=======
     assert_eq!(rt;
         first_other(rt.alloc(), RECORDS_WITH_ONE_FAULT)?.as_str(),
         ""
     );
->>>>>>> lower
     Ok(())
 }
 
@@ -264,57 +183,10 @@ P8 LeftOut what="stackful" <- {"version":1,"exports":[{"func":{"name":"f"}}],"co
 
 #[test]
 fn records_of_later_versions(rt: HostRuntime) -> Result<(), Fail> {
-<<<<<<< HEAD
-    for (said, record) in [
-        (
-            "P8 LeftOut what=\"interfaces\"",
-            r#"{"version":1,"interfaces":[]}"#,
-        ),
-        (
-            "P8 LeftOut what=\"context-slot-1\"",
-            r#"{"version":1,"context-slot-1":false}"#,
-        ),
-        (
-            "P8 LeftOut what=\"type\"",
-            r#"{"version":1,"imports":[{"type":{"name":"t","type":"u8"}}]}"#,
-        ),
-        (
-            "P8 LeftOut what=\"interface\"",
-            r#"{"version":1,"exports":[{"name":"t","interface":0}]}"#,
-        ),
-        (
-            "P8 LeftOut what=\"params\"",
-            r#"{"version":1,"imports":[{"func":{"name":"f","params":[["x","u32"]]}}]}"#,
-        ),
-        (
-            "P8 LeftOut what=\"result\"",
-            r#"{"version":1,"imports":[{"func":{"name":"f","result":"u32"}}]}"#,
-        ),
-        (
-            "P8 LeftOut what=\"async\"",
-            r#"{"version":1,"imports":[{"func":{"name":"f","async":true}}]}"#,
-        ),
-        (
-            "ok",
-            r#"{"version":1,"imports":[{"func":{"name":"[method]r.f","params":[],"result":null,"async":false}}]}"#,
-        ),
-        (
-            "P8 LeftOut what=\"waitable-join\"",
-            r#"{"version":1,"core-imports":[{"module":"m","field":"f","role":["waitable-join"]}]}"#,
-        ),
-        (
-            "P8 LeftOut what=\"stackful\"",
-            r#"{"version":1,"exports":[{"func":{"name":"f"}}],"core-exports":[{"field":"f","role":["world-func","f","stackful"]}]}"#,
-        ),
-    ] {
-        assert_eq!(rt; decoded(rt.alloc(), record)?.as_str(), said);
-    }
-=======
     assert_eq!(rt;
         first_other(rt.alloc(), RECORDS_OF_LATER_VERSIONS)?.as_str(),
         ""
     );
->>>>>>> lower
     Ok(())
 }
 
@@ -327,33 +199,10 @@ P7 MergeConflict name="y" <- {"version":1,"exports":[{"func":{"name":"f"}}],"cor
 
 #[test]
 fn records_that_contradict_themselves(rt: HostRuntime) -> Result<(), Fail> {
-<<<<<<< HEAD
-    for (said, record) in [
-        (
-            "ok",
-            r#"{"version":1,"imports":[{"func":{"name":"f"}}],"core-imports":[{"module":"m","field":"x","role":["world-func","f","sync"]},{"module":"m","field":"x","role":["world-func","f","sync"]}]}"#,
-        ),
-        (
-            "P7 MergeConflict name=\"x\"",
-            r#"{"version":1,"imports":[{"func":{"name":"f"}},{"func":{"name":"h"}}],"core-imports":[{"module":"m","field":"x","role":["world-func","f","sync"]},{"module":"m","field":"x","role":["world-func","h","sync"]}]}"#,
-        ),
-        (
-            "P7 MergeConflict name=\"x\"",
-            r#"{"version":1,"exports":[{"func":{"name":"f"}},{"func":{"name":"h"}}],"core-exports":[{"field":"x","role":["world-func","f","sync"]},{"field":"x","role":["world-func","h","sync"]}]}"#,
-        ),
-        (
-            "P7 MergeConflict name=\"y\"",
-            r#"{"version":1,"exports":[{"func":{"name":"f"}}],"core-exports":[{"field":"x","role":["world-func","f","sync"]},{"field":"y","role":["world-func","f","sync"]}]}"#,
-        ),
-    ] {
-        assert_eq!(rt; decoded(rt.alloc(), record)?.as_str(), said);
-    }
-=======
     assert_eq!(rt;
         first_other(rt.alloc(), RECORDS_THAT_CONTRADICT_THEMSELVES)?.as_str(),
         ""
     );
->>>>>>> lower
     Ok(())
 }
 
