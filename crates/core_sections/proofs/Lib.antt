@@ -5,3 +5,4 @@ pub mod Modules
 pub mod Cuts
 pub mod Items
 pub mod Places
+pub mod Refusals

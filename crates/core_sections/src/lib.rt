@@ -27,3 +27,6 @@ pub use entries::{
 };
 pub use fault::SectionFault;
 pub use stripping::{Stripped, strip};
+
+#[cfg(test)]
+mod tests;

@@ -1,6 +1,6 @@
 //! A module without its component types.
 
-ghost use Rattle.std.specs.Prelude.{◌≡◌, ◌++◌, ℕ, List, Ok, false, map, option_map, IfErr, IfOk, OnOk};
+ghost use Rattle.std.specs.Prelude.{◌≡◌, ◌++◌, ℕ, List, Ok, true, false, map, option_map, IfErr, IfOk, OnOk};
 ghost use Rattle.std.specs.List.{list_any};
 ghost use Rattle.core_sections.specs.Sections.{Gives, Piece, preamble, view};
 ghost use Rattle.core_sections.specs.Stripping.{record_of, kept, removed, is_package, stripped};
@@ -105,6 +105,10 @@ pub fn strip(alloc: Global, bytes: &[u8]) -> Result<Stripped<'_>, SectionFault>
         (Ok (preamble ++ kept ps, removed ps)) }
     // A place that is told is the first that no section begins at.
     ensures cut { IfErr result (λ e. (place : ℕ) → e ≡ SectionFault.Section place → IsCutAt bytes.now place) }
+    // Without the preamble of a core module it is no module.
+    ensures no_module { IfErr result (λ e. e ≡ SectionFault.NotModule → (rest : List ℕ) → bytes.now ≡ preamble ++ rest → ⊥) }
+    // A package that is told stands in a section of component types.
+    ensures package { IfErr result (λ e. e ≡ SectionFault.PackageBinary → (ps : List Piece) × IsModule bytes.now ps × (list_any is_package (removed ps) ≡ true)) }
     // Which fault it is.
     ensures exact { Gives (λ s. (s.bytes.items, map (λ x. x.now) s.records.items)) result (stripped bytes.now) }
 {

@@ -1,4 +1,6 @@
 pub mod Arrays
+pub mod Chains
+pub mod Decoding
 pub mod Escaping
 pub mod Groups
 pub mod Indexing

@@ -15,15 +15,8 @@ use Rattle.plain_lower.specs.Faults.{◌>>=◌, flat, flat_refusal}
 use Rattle.plain_lower.specs.Joining.{with_firsts, apart, conflict, merging, export_keys}
 use Rattle.plain_lower.specs.Layer.{is_memory}
 use Rattle.plain_lower.specs.Preparing.{Table}
+use Rattle.plain_lower.proofs.Chains.{bind_ok, bind_err}
 use Rattle.plain_lower.specs.Causes.{MergeCause, exported_twice}
-
-bind_ok : {A B : Type 0} (r : Result A Failure) (f : A → Result B Failure) (y : B) → (r >>= f) ≡ Ok y → (x : A) × (r ≡ Ok x) × (f x ≡ Ok y)
-bind_ok (Ok x) f y e = (x, refl, e)
-bind_ok (Err d) f y e = absurd cc
-
-bind_err : {A B : Type 0} (r : Result A Failure) (f : A → Result B Failure) (d : Failure) → (r >>= f) ≡ Err d → (r ≡ Err d) ⊎ ((x : A) × (r ≡ Ok x) × (f x ≡ Err d))
-bind_err (Ok x) f d e = inr (x, refl, e)
-bind_err (Err c) f d e = inl cc
 
 -- which entry is refused
 pub record Clash (table es : Table) (r : Refusal) : Type 0 where

@@ -38,39 +38,8 @@ use Rattle.plain_lower.specs.Faults.{◌>>=◌, lifted, flat, flat_refusal}
 use Rattle.plain_lower.specs.Layer.{is_memory}
 use Rattle.plain_lower.specs.Roles.{function_of, is_same_name}
 use Rattle.plain_lower.specs.Preparing.{Table, no_role as missing_role, unfit, not_exported, fits_import, fits_export, imported_by, fitting, import_of, with_field, fields_in, group_after, groups_after, with_export, export_of_role, exports_after, by_function, required_key, required_after, world_of, preparing_main, preparing_if, preparing}
+use Rattle.plain_lower.proofs.Chains.{refused, same_refusal, bind_ok, bind_err, missed, got, failed, passed}
 use Rattle.plain_lower.specs.Causes.{IsMain, role_of_import, AreExports, IsMissing, key_name, PrepareCause, unread, no_role, not_imported, unfit_import, twice, unfit_export, missing}
-
--- ---- chains
-
-pub bind_ok : {A B : Type 0} (r : Result A Failure) (f : A → Result B Failure) (y : B) → (r >>= f) ≡ Ok y → (x : A) × (r ≡ Ok x) × (f x ≡ Ok y)
-bind_ok (Ok x) f y e = (x, refl, e)
-bind_ok (Err d) f y e = absurd cc
-
-pub bind_err : {A B : Type 0} (r : Result A Failure) (f : A → Result B Failure) (d : Failure) → (r >>= f) ≡ Err d → (r ≡ Err d) ⊎ ((x : A) × (r ≡ Ok x) × (f x ≡ Err d))
-bind_err (Ok x) f d e = inr (x, refl, e)
-bind_err (Err c) f d e = inl cc
-
-abbrev refused : {A : Type 0} → Refusal → Result A Failure
-refused r = Err (failures.Refused r)
-
-missed : {A : Type 0} (o : Option A) (c d : Failure) → ok_or o c ≡ Err d → (o ≡ None) × (c ≡ d)
-missed None c d e = (refl, cc)
-missed (Some x) c d e = absurd cc
-
-got : {A : Type 0} (o : Option A) (d : Failure) (x : A) → ok_or o d ≡ Ok x → o ≡ Some x
-got None d x e = absurd cc
-got (Some y) d x e = cc
-
-failed : {A : Type 0} (b : Bool) (x : A) (c d : Failure) → (if b then Ok x else Err c) ≡ Err d → (b ≡ false) × (c ≡ d)
-failed true x c d e = absurd cc
-failed false x c d e = (refl, cc)
-
-passed : {A : Type 0} (b : Bool) (x y : A) (d : Failure) → (if b then Ok x else Err d) ≡ Ok y → (b ≡ true) × (x ≡ y)
-passed true x y d e = (refl, cc)
-passed false x y d e = absurd cc
-
-same_refusal : (a b : Refusal) → failures.Refused a ≡ failures.Refused b → a ≡ b
-same_refusal a b e = cc
 
 -- an element in the middle
 middle : {X : Type 0} (xs ys : List X) (x : X) → Contains (xs ++ x ∷ ys) x

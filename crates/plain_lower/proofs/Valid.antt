@@ -42,20 +42,8 @@ use Rattle.plain_lower.specs.declared.bindgen.Bindgen.{Bindgen}
 use Rattle.plain_lower.specs.declared.importing.Group.{Group}
 use Rattle.plain_lower.specs.Faults.{◌>>=◌, lifted}
 use Rattle.plain_lower.specs.Roles.{function_of, is_same_name}
+use Rattle.plain_lower.proofs.Chains.{bind_ok, passed, equivalence}
 use Rattle.plain_lower.specs.Preparing.{Table, no_role, unfit, not_exported, fits_import, fits_export, imported_by, fitting, import_of, world_items, with_field, fields_in, group_after, groups_after, instances_of, export_as, with_export, export_of_role, exports_after, by_function, required_key, required_after, world_of, preparing_main, preparing_if}
-
-bind_ok : {A B : Type 0} (r : Result A Failure) (f : A → Result B Failure) (y : B) → (r >>= f) ≡ Ok y → (x : A) × (r ≡ Ok x) × (f x ≡ Ok y)
-bind_ok (Ok x) f y e = (x, refl, e)
-bind_ok (Err d) f y e = absurd cc
-
--- where a test decides between an answer and a refusal, an answer passed it
-passed : {A : Type 0} (b : Bool) (x y : A) (d : Failure) → (if b then Ok x else Err d) ≡ Ok y → (b ≡ true) × (x ≡ y)
-passed true x y d e = (refl, cc)
-passed false x y d e = absurd cc
-
-got : {A : Type 0} (o : Option A) (d : Failure) (x : A) → ok_or o d ≡ Ok x → o ≡ Some x
-got None d x e = absurd cc
-got (Some y) d x e = cc
 
 -- ---- keys and items
 
@@ -90,9 +78,6 @@ none_is f (e ∷ es) h = by (bytes_eq f e.0) h (none_is f es)
     by : (b : Bool) → is_some (cond b (Some e.1) (found f es)) ≡ false → (is_some (found f es) ≡ false → list_any (bytes_eq f) (keys_of es) ≡ false) → (b || list_any (bytes_eq f) (keys_of es)) ≡ false
     by true h more = absurd (true≢false h)
     by false h more = more h
-
-equivalence : IsEquivalence bytes_eq
-equivalence = lists_equiv nat_eq_equiv
 
 -- a group with one field more, which it lacked
 grown_is_good : (t : Table) (g : Group) (f : List ℕ) (import : Import) → IsGood t g → is_some (found f g.fields) ≡ false → IsFor t import → IsGood t (record { name = g.name; fields = g.fields ++ (f, import) ∷ [] })

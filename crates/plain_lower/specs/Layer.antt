@@ -1,24 +1,18 @@
--- What the calls of this layer give, and the causes of its faults.
-use Rattle.std.specs.Prelude.{◌≡◌, ℕ, Bool, true, false, List, [], Result, Ok, Err}
+-- What the calls of this layer give where they are not refused, and the fault of memory.
+use Rattle.std.specs.Prelude.{ℕ, Bool, true, false, List, []}
 use Rattle.std.specs.Result.{result_unwrap_or}
 use Rattle.comp_worlds.specs.declared.gathered.Gathered.{Gathered}
 use Rattle.comp_worlds.specs.declared.gathered.Merged.{Merged}
 use Rattle.comp_worlds.specs.declared.world.ComponentWorld.{ComponentWorld}
-use Rattle.plain_lower.specs.declared.fault.Failure.{Failure}
-use Rattle.plain_lower.specs.declared.fault.Failure.TheVariants as failures
-use Rattle.plain_lower.specs.declared.fault.Refusal.{Refusal}
 use Rattle.plain_lower.specs.declared.fault.PlainFault.{PlainFault}
 use Rattle.plain_lower.specs.declared.fault.PlainFault.TheVariants as faults
 use Rattle.plain_lower.specs.declared.bindgen.Bindgen.{Bindgen}
-use Rattle.plain_lower.specs.Faults.{flat_refusal}
 use Rattle.plain_lower.specs.Joining.{decoding, merging, nothing_said}
 use Rattle.plain_lower.specs.Preparing.{preparing}
 
 abbrev pub is_memory : PlainFault → Bool
 is_memory faults.Memory = true
 is_memory _ = false
-
--- ---- what the calls give where they aren't refused
 
 abbrev pub decoded : List ℕ → List ℕ × Bindgen
 decoded bytes = result_unwrap_or (decoding bytes) ([], nothing_said)
@@ -40,9 +34,3 @@ no_world = record {
 
 abbrev pub prepared : Gathered Bindgen → ComponentWorld
 prepared g = result_unwrap_or (preparing g) no_world
-
--- ---- why they are refused
-
--- what a definition gives is this refusal
-abbrev pub Refuses : {A : Type 0} → Result A Failure → PlainFault → Type 0
-Refuses outcome f = (r : Refusal) × (outcome ≡ Err (failures.Refused r)) × (f ≡ flat_refusal r)

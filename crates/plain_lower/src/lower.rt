@@ -22,9 +22,9 @@ impl PlainLower {
 }
 
 impl Lower for PlainLower {
-    ghost use Rattle.plain_lower.specs.Joining.{nothing_said, decoding};
-    ghost use Rattle.plain_lower.specs.Causes.{MergeCause, PrepareCause};
-    ghost use Rattle.plain_lower.specs.Layer.{is_memory, decoded, merged, prepared, Refuses};
+    ghost use Rattle.plain_lower.specs.Joining.{nothing_said};
+    ghost use Rattle.plain_lower.specs.Causes.{DecodeCause, MergeCause, PrepareCause};
+    ghost use Rattle.plain_lower.specs.Layer.{is_memory, decoded, merged, prepared};
 
     type Bindgen = Bindgen;
 
@@ -38,7 +38,7 @@ impl Lower for PlainLower {
 
     ghost prepared = { λ _ gathered. prepared gathered };
 
-    ghost decode_cause = { λ _ bytes fault. Refuses (decoding bytes) fault };
+    ghost decode_cause = { λ _ bytes fault. DecodeCause bytes fault };
 
     ghost merge_cause = { λ _ first second fault. MergeCause first second fault };
 

@@ -1,5 +1,7 @@
 //! What no clause says: that good modules are taken, and the printed fault of bad ones.
 
+use crate::bindgen::Bindgen;
+use crate::fault::PlainFault;
 use crate::lower::PlainLower;
 use crate::roles::ImportName;
 use comp_lists::Text;
@@ -116,8 +118,50 @@ fn modules_without_records(rt: HostRuntime) -> Result<(), Fail> {
     Ok(())
 }
 
+/// The first line of which something else is said, or nothing. Each line has what is said, an arrow,
+/// and the record of which it is said.
+fn first_other(alloc: Global, lines: &str) -> Result<String, Fail> {
+    for line in lines.lines() {
+        let Some((said, record)) = line.split_once(" <- ") else {
+            return Ok(String::from_str(alloc, line)?);
+        };
+        if decoded(alloc, record)?.as_str() != said {
+            return Ok(String::from_str(alloc, line)?);
+        }
+    }
+    Ok(String::new(alloc))
+}
+
+/// What is said, and the record of which it is said, line by line.
+const RECORDS_WITH_ONE_FAULT: &str = r#"P5 Json <- {
+P5 Json <- {"version":1} x
+P6 Record path="" <- []
+P6 Record path="/version" <- {}
+P6 Record path="/version" <- {"version":2}
+P6 Record path="/version" <- {"version":1.0}
+ok <- {"version":2,"version":1}
+P6 Record path="/x" <- {"version":1,"x":0}
+P6 Record path="/a~1b~0c" <- {"version":1,"a/b~c":0}
+P6 Record path="/encoding" <- {"version":1,"encoding":"utf9"}
+P6 Record path="/imports" <- {"version":1,"imports":{}}
+P6 Record path="/imports/0/interface" <- {"version":1,"imports":[{}]}
+P6 Record path="/exports/0/type" <- {"version":1,"exports":[{"type":{"name":"t","type":"u8"}}]}
+P6 Record path="/imports/0/x" <- {"version":1,"imports":[{"func":{"name":"f"},"x":1}]}
+P6 Record path="/imports/1/func/name" <- {"version":1,"imports":[{"func":{"name":"f"}},{"func":{"name":7}}]}
+P6 Record path="/imports/0/func/kind" <- {"version":1,"imports":[{"func":{"name":"f","kind":1}}]}
+P6 Record path="/imports/0/func/params" <- {"version":1,"imports":[{"func":{"name":"f","params":1}}]}
+P6 Record path="/imports/0/func/async" <- {"version":1,"imports":[{"func":{"name":"f","async":1}}]}
+P6 Record path="/imports/1" <- {"version":1,"imports":[{"func":{"name":"f"}},{"func":{"name":"f"}}]}
+P6 Record path="/core-imports/0/role" <- {"version":1,"core-imports":[{"module":"m","field":"f"}]}
+P6 Record path="/core-imports/0/role/0" <- {"version":1,"core-imports":[{"module":"m","field":"f","role":["x"]}]}
+P6 Record path="/core-imports/0/role" <- {"version":1,"core-imports":[{"module":"m","field":"f","role":["world-func","f"]}]}
+P6 Record path="/core-imports/0/role/1" <- {"version":1,"core-imports":[{"module":"m","field":"f","role":["world-func","f","sync"]}]}
+P6 Record path="/core-imports/0/role/2" <- {"version":1,"imports":[{"func":{"name":"f"}}],"core-imports":[{"module":"m","field":"f","role":["world-func","f","stackful"]}]}
+P6 Record path="/core-exports/0/module" <- {"version":1,"core-exports":[{"field":"g","module":"m","role":["world-func","g","sync"]}]}"#;
+
 #[test]
 fn records_with_one_fault(rt: HostRuntime) -> Result<(), Fail> {
+<<<<<<< HEAD
     for (said, record) in [
         ("ok", RECORD),
         ("P5 Json", "{"),
@@ -196,11 +240,31 @@ fn records_with_one_fault(rt: HostRuntime) -> Result<(), Fail> {
     ] {
         assert_eq!(rt; decoded(rt.alloc(), record)?.as_str(), said);
     }
+=======
+    assert_eq!(rt;
+        first_other(rt.alloc(), RECORDS_WITH_ONE_FAULT)?.as_str(),
+        ""
+    );
+>>>>>>> lower
     Ok(())
 }
 
+/// What later versions take.
+const RECORDS_OF_LATER_VERSIONS: &str =
+    r#"P8 LeftOut what="interfaces" <- {"version":1,"interfaces":[]}
+P8 LeftOut what="context-slot-1" <- {"version":1,"context-slot-1":false}
+P8 LeftOut what="type" <- {"version":1,"imports":[{"type":{"name":"t","type":"u8"}}]}
+P8 LeftOut what="interface" <- {"version":1,"exports":[{"name":"t","interface":0}]}
+P8 LeftOut what="params" <- {"version":1,"imports":[{"func":{"name":"f","params":[["x","u32"]]}}]}
+P8 LeftOut what="result" <- {"version":1,"imports":[{"func":{"name":"f","result":"u32"}}]}
+P8 LeftOut what="async" <- {"version":1,"imports":[{"func":{"name":"f","async":true}}]}
+ok <- {"version":1,"imports":[{"func":{"name":"[method]r.f","params":[],"result":null,"async":false}}]}
+P8 LeftOut what="waitable-join" <- {"version":1,"core-imports":[{"module":"m","field":"f","role":["waitable-join"]}]}
+P8 LeftOut what="stackful" <- {"version":1,"exports":[{"func":{"name":"f"}}],"core-exports":[{"field":"f","role":["world-func","f","stackful"]}]}"#;
+
 #[test]
 fn records_of_later_versions(rt: HostRuntime) -> Result<(), Fail> {
+<<<<<<< HEAD
     for (said, record) in [
         (
             "P8 LeftOut what=\"interfaces\"",
@@ -245,11 +309,25 @@ fn records_of_later_versions(rt: HostRuntime) -> Result<(), Fail> {
     ] {
         assert_eq!(rt; decoded(rt.alloc(), record)?.as_str(), said);
     }
+=======
+    assert_eq!(rt;
+        first_other(rt.alloc(), RECORDS_OF_LATER_VERSIONS)?.as_str(),
+        ""
+    );
+>>>>>>> lower
     Ok(())
 }
 
+/// What can be said twice, and what can't.
+const RECORDS_THAT_CONTRADICT_THEMSELVES: &str =
+    r#"ok <- {"version":1,"imports":[{"func":{"name":"f"}}],"core-imports":[{"module":"m","field":"x","role":["world-func","f","sync"]},{"module":"m","field":"x","role":["world-func","f","sync"]}]}
+P7 MergeConflict name="x" <- {"version":1,"imports":[{"func":{"name":"f"}},{"func":{"name":"h"}}],"core-imports":[{"module":"m","field":"x","role":["world-func","f","sync"]},{"module":"m","field":"x","role":["world-func","h","sync"]}]}
+P7 MergeConflict name="x" <- {"version":1,"exports":[{"func":{"name":"f"}},{"func":{"name":"h"}}],"core-exports":[{"field":"x","role":["world-func","f","sync"]},{"field":"x","role":["world-func","h","sync"]}]}
+P7 MergeConflict name="y" <- {"version":1,"exports":[{"func":{"name":"f"}}],"core-exports":[{"field":"x","role":["world-func","f","sync"]},{"field":"y","role":["world-func","f","sync"]}]}"#;
+
 #[test]
 fn records_that_contradict_themselves(rt: HostRuntime) -> Result<(), Fail> {
+<<<<<<< HEAD
     for (said, record) in [
         (
             "ok",
@@ -270,6 +348,12 @@ fn records_that_contradict_themselves(rt: HostRuntime) -> Result<(), Fail> {
     ] {
         assert_eq!(rt; decoded(rt.alloc(), record)?.as_str(), said);
     }
+=======
+    assert_eq!(rt;
+        first_other(rt.alloc(), RECORDS_THAT_CONTRADICT_THEMSELVES)?.as_str(),
+        ""
+    );
+>>>>>>> lower
     Ok(())
 }
 
@@ -283,29 +367,40 @@ const OPTIONS: EncoderOptions = EncoderOptions {
     realloc_via_memory_grow: false,
 };
 
-/// What `prepare` says of a module with a record, as it is printed.
-fn prepared(alloc: Global, module: &[u8], record: &str) -> Result<String, Fail> {
+/// A module with a record, decoded and merged with nothing.
+fn gathered(alloc: Global, bytes: &[u8]) -> Result<Gathered<Bindgen>, PlainFault> {
     let lower = PlainLower::new();
-    let all = with_section(alloc, module, "component-type", record.as_bytes(), false)?;
-    let Ok((bytes, own)) = lower.decode(alloc, &all) else {
-        return Err(Fail::from("not decoded"));
-    };
-    let Ok(Merged { joint, exports }) = lower.merge(alloc, &lower.empty(alloc), &own) else {
-        return Err(Fail::from("not merged"));
-    };
+    let (bytes, own) = lower.decode(alloc, bytes)?;
+    let Merged { joint, exports } = lower.merge(alloc, &lower.empty(alloc), &own)?;
     let main = Some(Part {
         bytes,
         own,
         required: exports,
     });
-    let gathered = Gathered {
+    Ok(Gathered {
         main,
         joint,
         options: OPTIONS,
-    };
-    match lower.prepare(alloc, &gathered) {
+    })
+}
+
+/// What `prepare` says of what was gathered, as it is printed.
+fn as_prepared(alloc: Global, gathered: &Gathered<Bindgen>) -> Result<String, Fail> {
+    if gathered.main.is_none() {
+        return Err(Fail::from("no main"));
+    }
+    match PlainLower::new().prepare(alloc, gathered) {
         Ok(world) => Ok(format!(in alloc; "{} required", world.main_exports.len())?),
         Err(fault) => Ok(format!(in alloc; "{fault}")?),
+    }
+}
+
+/// What `prepare` says of a module with a record.
+fn prepared(alloc: Global, module: &[u8], record: &str) -> Result<String, Fail> {
+    let all = with_section(alloc, module, "component-type", record.as_bytes(), false)?;
+    match gathered(alloc, &all) {
+        Ok(gathered) => as_prepared(alloc, &gathered),
+        Err(_) => Err(Fail::from("not gathered")),
     }
 }
 

@@ -1,6 +1,7 @@
 use Rattle.std.proofs.Common.{map}
 use Rattle.core_sections.proofs.Modules.{is_found, is_only}
 use Rattle.core_sections.proofs.Cuts.{is_cut}
+use Rattle.core_sections.proofs.Refusals.{is_no_module, has_package}
 use Rattle.core_sections.proofs.stripping.strip.Goals as goal
 
 pub returns-clause-found : goal.returns-clause-found
@@ -11,3 +12,9 @@ returns-clause-only c = is_only (λ s. (s.bytes.items, map (λ x. x.now) s.recor
 
 pub returns-clause-cut : goal.returns-clause-cut
 returns-clause-cut c = is_cut (λ s. (s.bytes.items, map (λ x. x.now) s.records.items)) c.args.bytes.now c.strip_sections.result c.strip_sections.ensures
+
+pub returns-clause-no_module : goal.returns-clause-no_module
+returns-clause-no_module c = is_no_module (λ s. (s.bytes.items, map (λ x. x.now) s.records.items)) c.args.bytes.now c.strip_sections.result c.strip_sections.ensures
+
+pub returns-clause-package : goal.returns-clause-package
+returns-clause-package c = has_package (λ s. (s.bytes.items, map (λ x. x.now) s.records.items)) c.args.bytes.now c.strip_sections.result c.strip_sections.ensures
