@@ -1,1 +1,3 @@
 pub mod Targets
+pub mod Answers
+pub mod Store

@@ -14,10 +14,10 @@ pub record ExportPlace : Type 0 where
   pub of : UserModule
   pub name : List ℕ
 
--- a function of the world: the key of its item, and its name there
-pub record WorldFunction : Type 0 where
-  pub key : List ℕ
-  pub name : List ℕ
+-- a function that the world imports: at its root, or in an imported interface
+pub data WorldFunction : Type 0 where
+  OfRoot : (name : List ℕ) → WorldFunction
+  OfInterface : (interface name : List ℕ) → WorldFunction
 
 -- an option of a lowering or a lift. The memory is main's, and no function here has options of its own
 pub data TargetOption : Type 0 where

@@ -3,3 +3,5 @@ pub mod Encoding
 pub mod Facts
 pub mod Roles
 pub mod Rules
+pub mod Modules
+pub mod Links

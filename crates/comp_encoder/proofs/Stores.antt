@@ -1,0 +1,227 @@
+-- What the items of a run are, beside the definitions that made them.
+use Rattle.std.proofs.Common.{◌≡◌, ◌∙◌, ℕ, zero, suc, ◌+◌, ◌<◌, Bool, true, false, List, [], ◌∷◌, ◌++◌, length, map, filter, refl, sym, ap, subst, Option, Some, None, is_some, arith}
+use Rattle.std.proofs.lemmas.List.Elements.{filter-append}
+use Rattle.std.specs.List.{slice_get, flat_map, AllZip, AllByRecursion}
+use Rattle.std.specs.Option.{option_map}
+use Rattle.comp_lists.proofs.Lists.{slice_get-append, AllZip-weaker, AllByRecursion-weaker}
+use Rattle.comp_bytes.specs.Spaces.{kind_space, is_space, space_of}
+use Rattle.comp_bytes.specs.declared.space.Space.{Space}
+use Rattle.comp_bytes.specs.declared.space.Space.TheVariants as spaces
+use Rattle.comp_bytes.specs.declared.space.ExportKind.TheVariants as kinds
+use Rattle.comp_bytes.specs.declared.space.Sort.TheVariants as sorts
+use Rattle.comp_bytes.specs.declared.types.TypeDef.TheVariants as types
+use Rattle.comp_bytes.specs.declared.types.Alias.TheVariants as aliases
+use Rattle.comp_bytes.specs.declared.types.Description.TheVariants as descriptions
+use Rattle.comp_bytes.specs.declared.def.CoreInlineExport.{CoreInlineExport}
+use Rattle.comp_bytes.specs.declared.def.Item.{Item}
+use Rattle.comp_bytes.specs.declared.def.Item.TheVariants as items
+use Rattle.comp_bytes.specs.declared.def.Def.{Def}
+use Rattle.comp_bytes.specs.declared.def.Def.TheVariants as defs
+use Rattle.comp_bytes.specs.ScopeNames.{def_export}
+use Rattle.comp_worlds.specs.Worlds.{CoreImport, core_imports, core_name_of, imported_text}
+use Rattle.comp_worlds.specs.declared.world.ComponentWorld.{ComponentWorld}
+use Rattle.comp_shims.specs.Store.{Thing, Export, CoreItem, Lowering, OfUser, Function, Imported, Lifting, TypeItem, FunctionType, UserInstance, Store}
+use Rattle.comp_encoder.specs.Machine.{Scope, address_at, is_of, export_named}
+use Rattle.comp_encoder.specs.Linking.{def_instantiates}
+use Rattle.comp_encoder.proofs.Zips.{mapped_some}
+
+-- an export of this user instance
+abbrev pub IsUserExport : Store → ℕ → Export → Type 0
+IsUserExport s user e = (e.space ≡ spaces.CoreFunc) × (slice_get s.core e.address ≡ Some (OfUser user e.name))
+
+-- the user instance of this number is one of this module
+pub record IsInstanceOf (s : Store) (user number : ℕ) : Type 0 where
+  pub instance : UserInstance
+  pub stands : slice_get s.users user ≡ Some instance
+  pub of : instance.module_number ≡ number
+
+-- the core instance is a user instance of this module, with all that main exports
+pub record IsUserInstance (w : ComponentWorld) (s : Store) (number address : ℕ) : Type 0 where
+  pub exports : List Export
+  pub user : ℕ
+  pub stands : slice_get s.core_instances address ≡ Some exports
+  pub is : IsInstanceOf s user number
+  pub names : map (λ (e : Export). e.name) exports ≡ map (λ e. e.0) w.main.exports.exports
+  pub each : AllByRecursion (IsUserExport s user) exports
+
+-- the export is the entry's item under its name
+pub record IsNamedEntry (things : List Thing) (e : CoreInlineExport) (x : Export) : Type 0 where
+  pub named : x.name ≡ e.name
+  pub space : x.space ≡ kind_space e.kind
+  pub at : address_at (kind_space e.kind) e.index things ≡ Some x.address
+
+pub record IsBag (things : List Thing) (s : Store) (entries : List CoreInlineExport) (address : ℕ) : Type 0 where
+  pub exports : List Export
+  pub stands : slice_get s.core_instances address ≡ Some exports
+  pub each : AllZip (IsNamedEntry things) entries exports
+
+pub record IsLoweredItem (things : List Thing) (s : Store) (function address : ℕ) : Type 0 where
+  pub of : ℕ
+  pub at : address_at spaces.Func function things ≡ Some of
+  pub is : slice_get s.core address ≡ Some (Lowering of [])
+
+pub record IsLiftedItem (things : List Thing) (s : Store) (core address : ℕ) : Type 0 where
+  pub of : ℕ
+  pub at : address_at spaces.CoreFunc core things ≡ Some of
+  pub is : slice_get s.functions address ≡ Some (Lifting of [])
+
+pub record IsAliasedItem (things : List Thing) (s : Store) (instance : ℕ) (name : List ℕ) (address : ℕ) : Type 0 where
+  pub from : ℕ
+  pub exports : List Export
+  pub export : Export
+  pub at : address_at spaces.CoreInstance instance things ≡ Some from
+  pub stands : slice_get s.core_instances from ≡ Some exports
+  pub found : export_named name exports ≡ Some export
+  pub is : export.address ≡ address
+
+-- what stands at the address of a definition's item
+abbrev pub ItemIs : ComponentWorld → List Thing → Store → Item → ℕ → Type 0
+ItemIs w things s (items.CoreModule bytes) a = Unit {0}
+ItemIs w things s (items.CoreInstantiate number arguments) a = IsUserInstance w s 0 a
+ItemIs w things s (items.CoreExports entries) a = IsBag things s entries a
+ItemIs w things s (items.Alias (aliases.CoreExport kinds.Func instance name)) a = IsAliasedItem things s instance name a
+ItemIs w things s (items.Type t) a = slice_get s.types a ≡ Some FunctionType
+ItemIs w things s (items.Lift core options kind) a = IsLiftedItem things s core a
+ItemIs w things s (items.Lower function options) a = IsLoweredItem things s function a
+ItemIs w things s (items.Import name (descriptions.Func kind)) a = slice_get s.functions a ≡ Some (Imported (name.name ∷ []))
+ItemIs w things s (items.Export name sorts.Func index description) a = address_at spaces.Func index things ≡ Some a
+ItemIs w things s _ a = ⊥
+
+abbrev pub DefIs : ComponentWorld → List Thing → Store → Def → ℕ → Type 0
+DefIs w things s (defs.Item i) a = ItemIs w things s i a
+DefIs w things s (defs.Component inner) a = ⊥
+
+-- the item of a definition
+pub record Means (w : ComponentWorld) (things : List Thing) (s : Store) (d : Def) (t : Thing) : Type 0 where
+  pub space : space_of d ≡ Some t.space
+  pub is : DefIs w things s d t.address
+
+-- what makes an item
+abbrev pub makes : Def → Bool
+makes d = is_some (space_of d)
+
+-- the core function is a lowering of the root function of this name
+pub record IsServedBy (s : Store) (address : ℕ) (text : List ℕ) : Type 0 where
+  pub of : ℕ
+  pub is : slice_get s.core address ≡ Some (Lowering of [])
+  pub imported : slice_get s.functions of ≡ Some (Imported (text ∷ []))
+
+-- what an import is given, by the plan of the world
+abbrev pub IsPlanned : Store → Thing → CoreImport → Type 0
+IsPlanned s t i = (t.space ≡ spaces.CoreFunc) × IsServedBy s t.address (imported_text i.role)
+
+abbrev pub IsPlannedUser : ComponentWorld → Store → UserInstance → Type 0
+IsPlannedUser w s u = AllZip (IsPlanned s) u.given (core_imports w)
+
+-- the core function is main's export of this name
+pub record IsMainExport (s : Store) (address : ℕ) (name : List ℕ) : Type 0 where
+  pub user : ℕ
+  pub is : slice_get s.core address ≡ Some (OfUser user name)
+  pub of : IsInstanceOf s user 0
+
+-- the function is lifted from main's export of this name
+pub record IsLiftedFrom (s : Store) (address : ℕ) (name : List ℕ) : Type 0 where
+  pub core : ℕ
+  pub is : slice_get s.functions address ≡ Some (Lifting core [])
+  pub of : IsMainExport s core name
+
+-- the export is a lift of the core export that is for it
+pub record IsLiftedExport (w : ComponentWorld) (s : Store) (e : Export) : Type 0 where
+  pub name : List ℕ
+  pub space : e.space ≡ spaces.Func
+  pub role : core_name_of w e.name ≡ Some name
+  pub is : IsLiftedFrom s e.address name
+
+-- addresses from a number on, as many as are left to another
+abbrev pub NumberedFrom : ℕ → List Thing → ℕ → Type 0
+NumberedFrom k [] n = k ≡ n
+NumberedFrom k (t ∷ ts) n = (t.address ≡ k) × NumberedFrom (suc k) ts n
+
+-- the scope and the store are what these definitions make
+pub record Agrees (w : ComponentWorld) (earlier : List Def) (c : Scope) (s : Store) : Type 0 where
+  pub means : AllZip (Means w c.items s) (filter makes earlier) c.items
+  pub modules : NumberedFrom 0 (filter (is_of spaces.CoreModule) c.items) (length s.core_modules)
+  pub instances : map (λ (u : UserInstance). u.module_number) s.users ≡ flat_map def_instantiates earlier
+  pub served : AllByRecursion (IsPlannedUser w s) s.users
+  pub exports : map (λ (e : Export). e.name) c.exports ≡ flat_map def_export earlier
+  pub lifted : AllByRecursion (IsLiftedExport w s) c.exports
+
+-- what stood stands
+pub record Keeps (a b : List Thing) (s t : Store) : Type 0 where
+  pub things : (space : Space) (i x : ℕ) → address_at space i a ≡ Some x → address_at space i b ≡ Some x
+  pub core : (i : ℕ) (x : CoreItem) → slice_get s.core i ≡ Some x → slice_get t.core i ≡ Some x
+  pub instances : (i : ℕ) (x : List Export) → slice_get s.core_instances i ≡ Some x → slice_get t.core_instances i ≡ Some x
+  pub functions : (i : ℕ) (x : Function) → slice_get s.functions i ≡ Some x → slice_get t.functions i ≡ Some x
+  pub types : (i : ℕ) (x : TypeItem) → slice_get s.types i ≡ Some x → slice_get t.types i ≡ Some x
+  pub users : (i : ℕ) (x : UserInstance) → slice_get s.users i ≡ Some x → slice_get t.users i ≡ Some x
+
+-- the items of a scope that grew
+pub address_at-append : (a more : List Thing) (space : Space) (i x : ℕ) → address_at space i a ≡ Some x → address_at space i (a ++ more) ≡ Some x
+address_at-append a more space i x e =
+    let m : (t : Thing) × (slice_get (filter (is_of space) a) i ≡ Some t) × (t.address ≡ x) = mapped_some (λ (t : Thing). t.address) (slice_get (filter (is_of space) a) i) x e in
+    rw (filter-append (is_of space) a more, slice_get-append (filter (is_of space) a) (filter (is_of space) more) i m.0 m.1) (ap (λ (n : ℕ). Some n) m.2)
+
+module _ {a b : List Thing} {s t : Store} (k : Keeps a b s t) where
+  pub IsInstanceOf-kept : {user number : ℕ} → IsInstanceOf s user number → IsInstanceOf t user number
+  IsInstanceOf-kept {user} h = record { instance = h.instance; stands = k.users user h.instance h.stands; of = h.of }
+
+  exports-kept : (user : ℕ) (e : Export) → IsUserExport s user e → IsUserExport t user e
+  exports-kept user e h = (h.0, k.core e.address (OfUser user e.name) h.1)
+
+  entry-kept : (e : CoreInlineExport) (x : Export) → IsNamedEntry a e x → IsNamedEntry b e x
+  entry-kept e x h = record { named = h.named; space = h.space; at = k.things (kind_space e.kind) e.index x.address h.at }
+
+  IsPlanned-kept : (x : Thing) (i : CoreImport) → IsPlanned s x i → IsPlanned t x i
+  IsPlanned-kept x i h = (h.0, record { of = h.1.of; is = k.core x.address (Lowering h.1.of []) h.1.is; imported = k.functions h.1.of (Imported (imported_text i.role ∷ [])) h.1.imported })
+
+  pub IsMainExport-kept : {address : ℕ} {name : List ℕ} → IsMainExport s address name → IsMainExport t address name
+  IsMainExport-kept {address} {name} h = record { user = h.user; is = k.core address (OfUser h.user name) h.is; of = IsInstanceOf-kept h.of }
+
+module _ (w : ComponentWorld) {a b : List Thing} {s t : Store} (k : Keeps a b s t) where
+  instance-kept : (number address : ℕ) → IsUserInstance w s number address → IsUserInstance w t number address
+  instance-kept number address h = record {
+    exports = h.exports;
+    user = h.user;
+    stands = k.instances address h.exports h.stands;
+    is = IsInstanceOf-kept k h.is;
+    names = h.names;
+    each = AllByRecursion-weaker (exports-kept k h.user) h.exports h.each;
+  }
+
+  item-kept : (i : Item) (x : ℕ) → ItemIs w a s i x → ItemIs w b t i x
+  item-kept (items.CoreModule bytes) x h = tt
+  item-kept (items.CoreInstantiate number arguments) x h = instance-kept 0 x h
+  item-kept (items.CoreExports entries) x h = record { exports = h.exports; stands = k.instances x h.exports h.stands; each = AllZip-weaker (entry-kept k) entries h.exports h.each }
+  item-kept (items.Alias (aliases.CoreExport kinds.Func instance name)) x h = record {
+    from = h.from;
+    exports = h.exports;
+    export = h.export;
+    at = k.things spaces.CoreInstance instance h.from h.at;
+    stands = k.instances h.from h.exports h.stands;
+    found = h.found;
+    is = h.is;
+  }
+  item-kept (items.Type type) x h = k.types x FunctionType h
+  item-kept (items.Lift core options kind) x h = record { of = h.of; at = k.things spaces.CoreFunc core h.of h.at; is = k.functions x (Lifting h.of []) h.is }
+  item-kept (items.Lower function options) x h = record { of = h.of; at = k.things spaces.Func function h.of h.at; is = k.core x (Lowering h.of []) h.is }
+  item-kept (items.Import name (descriptions.Func kind)) x h = k.functions x (Imported (name.name ∷ [])) h
+  item-kept (items.Export name sorts.Func index description) x h = k.things spaces.Func index x h
+  item-kept _ x h = h
+
+  def-kept : (d : Def) (x : ℕ) → DefIs w a s d x → DefIs w b t d x
+  def-kept (defs.Item i) x h = item-kept i x h
+  def-kept (defs.Component inner) x h = h
+
+  pub Means-kept : (d : Def) (x : Thing) → Means w a s d x → Means w b t d x
+  Means-kept d x h = record { space = h.space; is = def-kept d x.address h.is }
+
+  pub IsPlannedUser-kept : (u : UserInstance) → IsPlannedUser w s u → IsPlannedUser w t u
+  IsPlannedUser-kept u h = AllZip-weaker (IsPlanned-kept k) u.given (core_imports w) h
+
+  pub IsLiftedExport-kept : (e : Export) → IsLiftedExport w s e → IsLiftedExport w t e
+  IsLiftedExport-kept e h = record {
+    name = h.name;
+    space = h.space;
+    role = h.role;
+    is = record { core = h.is.core; is = k.functions e.address (Lifting h.is.core []) h.is.is; of = IsMainExport-kept k h.is.of };
+  }

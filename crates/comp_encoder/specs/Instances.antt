@@ -1,0 +1,133 @@
+-- What is made where a module is instantiated, or an instance is imported (core standard: instantiation;
+-- component model, explainer: instance definitions, instance types).
+use Rattle.std.specs.Prelude.{ℕ, List, [], ◌∷◌, ◌++◌, Option, Some, None, length, map, slice_get, zero, suc, ◌+◌, if◌then◌else◌}
+use Rattle.std.specs.Option.{option_map, option_and_then}
+use Rattle.comp_lists.specs.Found.{found}
+use Rattle.comp_bytes.specs.Spaces.{kind_space, export_space, description_space}
+use Rattle.comp_bytes.specs.declared.space.Space.{Space}
+use Rattle.comp_bytes.specs.declared.space.Space.TheVariants as spaces
+use Rattle.comp_bytes.specs.declared.space.ExportKind.{ExportKind}
+use Rattle.comp_bytes.specs.declared.types.ExternName.{ExternName}
+use Rattle.comp_bytes.specs.declared.types.TypeDef.{TypeDef}
+use Rattle.comp_bytes.specs.declared.types.TypeDef.TheVariants as types
+use Rattle.comp_bytes.specs.declared.types.Alias.{Alias}
+use Rattle.comp_bytes.specs.declared.types.Alias.TheVariants as aliases
+use Rattle.comp_bytes.specs.declared.types.Description.{Description}
+use Rattle.comp_bytes.specs.declared.types.Description.TheVariants as descriptions
+use Rattle.comp_bytes.specs.declared.types.Member.{Member}
+use Rattle.comp_bytes.specs.declared.types.Member.TheVariants as members
+use Rattle.comp_shims.specs.Answers.{Instantiated}
+use Rattle.comp_shims.specs.Store.{Thing, Export, CoreItem, OfUser, Function, Imported, TypeItem, FunctionType, ValueType, ImportedResource, OwnResource, InstanceTypeOf, UserInstance, Store}
+use Rattle.comp_encoder.specs.Machine.{Scope, Machine, Outcome, Stuck, Next, with_some, all_some, address_at, export_named, export_in, export_of, with_item, new_core_instance, new_function, new_type, new_instance, asked}
+
+-- the type of a core module, as validation finds it: what it imports, in order, and what it exports
+pub record ImportType : Type 0 where
+  pub module_name : List ℕ
+  pub field : List ℕ
+  pub kind : ExportKind
+
+pub record ExportType : Type 0 where
+  pub name : List ℕ
+  pub kind : ExportKind
+
+-- what a core module is: one of the user's, by its type
+pub data ModuleMeaning : Type 0 where
+  OfType : (imports : List ImportType) (exports : List ExportType) → ModuleMeaning
+
+-- an argument by its name, with the exports of its core instance
+abbrev pub Arguments : Type 0
+Arguments = List (List ℕ × List Export)
+
+-- what an import is given: the export of its name, where that is of its kind
+abbrev pub of_kind : ExportKind → Export → Option Thing
+of_kind kind e = if export_in (kind_space kind) e then Some (record { space = e.space; address = e.address }) else None
+
+abbrev pub given_to : Arguments → ImportType → Option Thing
+given_to arguments i = option_and_then (of_kind i.kind) (option_and_then (export_named i.field) (found i.module_name arguments))
+
+-- what a user instance exports, each at an address of its own from this one on
+abbrev pub exported_from : ℕ → List ExportType → List Export
+exported_from address [] = []
+exported_from address (e ∷ es) = record { space = kind_space e.kind; name = e.name; address = address } ∷ exported_from (suc address) es
+
+-- the instance of a user module, and what its imports were given
+abbrev pub new_user : ℕ → List ExportType → List Thing → Machine → Machine
+new_user number exports given m =
+    let user = length m.store.users in
+    let items = exported_from (length m.store.core) exports in
+    new_core_instance items
+    (record m {
+      store = record m.store {
+        core = m.store.core ++ map (λ (e : ExportType). OfUser user e.name) exports;
+        users = m.store.users ++ record { module_number = number; given = given } ∷ [];
+      };
+    })
+
+-- a user module is instantiated by the outside, which answers with no value
+abbrev pub instantiate_module : ModuleMeaning → ℕ → Arguments → Machine → Next → Outcome
+instantiate_module (OfType imports exports) number arguments m next =
+    with_some (all_some (map (given_to arguments) imports)) (λ given. asked [] (Instantiated number) m (λ values after. next (new_user number exports given after)))
+
+-- the item that an alias names
+abbrev pub core_export_at : ExportKind → ℕ → List ℕ → Machine → Option Thing
+core_export_at kind instance name m =
+    option_and_then (of_kind kind)
+    (option_and_then (export_named name) (option_and_then (slice_get m.store.core_instances) (address_at spaces.CoreInstance instance m.scope.items)))
+
+abbrev pub aliased : Alias → Machine → Option Thing
+aliased (aliases.Export kind instance name) m =
+    option_map (λ (e : Export). record { space = e.space; address = e.address })
+    (option_and_then (export_of (export_space kind) name) (option_and_then (slice_get m.store.instances) (address_at spaces.Instance instance m.scope.items)))
+aliased (aliases.CoreExport kind instance name) m = core_export_at kind instance name m
+aliased (aliases.Outer count index) m =
+    option_map (λ (a : ℕ). record { space = spaces.Type; address = a }) (option_and_then (address_at spaces.Type index) (slice_get (m.scope.items ∷ m.scope.around) count))
+
+-- what a type is to a run
+abbrev pub type_item : TypeDef → Machine → Option TypeItem
+type_item (types.Func f) m = Some FunctionType
+type_item (types.Resource None) m = Some (OwnResource None)
+type_item (types.Resource (Some index)) m = option_map (λ (a : ℕ). OwnResource (Some a)) (address_at spaces.CoreFunc index m.scope.items)
+type_item (types.Defined t) m = Some ValueType
+
+-- where the type of this index is one of functions
+abbrev pub goes_on_with_function_type : Option TypeItem → Outcome → Outcome
+goes_on_with_function_type (Some FunctionType) rest = rest
+goes_on_with_function_type _ rest = Stuck
+
+abbrev pub type_at : ℕ → Machine → Option TypeItem
+type_at index m = option_and_then (slice_get m.store.types) (address_at spaces.Type index m.scope.items)
+
+abbrev pub with_function_type : ℕ → Machine → Outcome → Outcome
+with_function_type index m rest = goes_on_with_function_type (type_at index m) rest
+
+-- one export more
+abbrev pub announced : Space → List ℕ → ℕ → Machine → Machine
+announced space name address m = record m { scope = record m.scope { exports = m.scope.exports ++ record { space = space; name = name; address = address } ∷ [] } }
+
+-- An item that is described and not defined: an import, or an export of an instance type, by the names that
+-- lead to it. A type that equals one is that one; a resource type is one of its own.
+module _ (instance_of : List (List ℕ) → TypeItem → Machine → (ℕ → Next) → Outcome) where
+  abbrev pub described : List (List ℕ) → Description → Machine → (ℕ → Next) → Outcome
+  described path (descriptions.Func index) m next = with_function_type index m (next (length m.store.functions) (new_function (Imported path) m))
+  described path (descriptions.TypeEqual index) m next = with_some (address_at spaces.Type index m.scope.items) (λ a. next a (with_item spaces.Type a m))
+  described path descriptions.SubResource m next = next (length m.store.types) (new_type (ImportedResource path) m)
+  described path (descriptions.Instance index) m next = with_some (type_at index m) (λ t. instance_of path t m next)
+
+-- an instance type holds no instance
+abbrev pub no_instance : List (List ℕ) → TypeItem → Machine → (ℕ → Next) → Outcome
+no_instance path type m next = Stuck
+
+-- the members of an instance type, one after the other
+abbrev pub each_member : List (List ℕ) → List Member → Machine → Next → Outcome
+each_member path [] m next = next m
+each_member path (members.Type t ∷ rest) m next = with_some (type_item t m) (λ item. each_member path rest (new_type item m) next)
+each_member path (members.Alias a ∷ rest) m next = with_some (aliased a m) (λ thing. each_member path rest (with_item thing.space thing.address m) next)
+each_member path (members.Export name description ∷ rest) m next =
+    described no_instance (path ++ name.name ∷ []) description m (λ address after. each_member path rest (announced (description_space description) name.name address after) next)
+
+-- an instance of a type that stands elsewhere: it has what the type says, each a thing of its own
+abbrev pub instance_of_type : List (List ℕ) → TypeItem → Machine → (ℕ → Next) → Outcome
+instance_of_type path (InstanceTypeOf all around) m next =
+    each_member path all (record m { scope = record { items = []; around = around; exports = [] } })
+    (λ inner. next (length inner.store.instances) (new_instance inner.scope.exports (record inner { scope = m.scope })))
+instance_of_type path _ m next = Stuck

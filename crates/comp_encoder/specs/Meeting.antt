@@ -1,0 +1,74 @@
+-- What it means that an item meets a target (Canonical ABI: a lowering is a core function that calls a
+-- function; a lift is a function that calls a core function). What a target names is found in the store.
+use Rattle.std.specs.Prelude.{◌≡◌, ℕ, List, [], ◌∷◌, Some, slice_get}
+use Rattle.std.specs.List.{AllZip}
+use Rattle.comp_bytes.specs.declared.space.Space.{Space}
+use Rattle.comp_bytes.specs.declared.space.Space.TheVariants as spaces
+use Rattle.comp_worlds.specs.declared.world.ComponentWorld.{ComponentWorld}
+use Rattle.comp_shims.specs.Targets.{WorldFunction, OfRoot, OfInterface, ExportPlace, TargetOption, Realloc, Encoding, Async, PostReturn, Callback, Target, Lowered, ExportOf, Lifted}
+use Rattle.comp_shims.specs.Store.{Thing, HeldOption, HeldEncoding, HeldRealloc, HeldPostReturn, HeldAsync, HeldCallback, CoreItem, Lowering, OfUser, Function, Imported, Lifting, UserInstance, Store}
+use Rattle.comp_state.specs.Modules.{WorldModule, user_modules}
+
+-- the names that lead to a function of the world
+abbrev pub path_of : WorldFunction → List (List ℕ)
+path_of (OfRoot name) = name ∷ []
+path_of (OfInterface interface name) = interface ∷ name ∷ []
+
+-- the user instance of this number is one of this module, and this is the name
+pub record IsExportOf (w : ComponentWorld) (s : Store) (user : ℕ) (name : List ℕ) (place : ExportPlace) : Type 0 where
+  pub instance : UserInstance
+  pub world_module : WorldModule
+  pub stands : slice_get s.users user ≡ Some instance
+  pub made_of : slice_get (user_modules w) instance.module_number ≡ Some world_module
+  pub same_module : world_module.of ≡ place.of
+  pub same_name : name ≡ place.name
+
+-- the core function at this address is this export
+pub record IsCoreExport (w : ComponentWorld) (s : Store) (address : ℕ) (place : ExportPlace) : Type 0 where
+  pub user : ℕ
+  pub name : List ℕ
+  pub is : slice_get s.core address ≡ Some (OfUser user name)
+  pub of : IsExportOf w s user name place
+
+-- an option is the same one, and a function that it names is the export that it should be
+abbrev pub MeetsOption : ComponentWorld → Store → HeldOption → TargetOption → Type 0
+MeetsOption w s (HeldEncoding e) (Encoding e') = e ≡ e'
+MeetsOption w s HeldAsync Async = Unit {0}
+MeetsOption w s (HeldRealloc function) (Realloc place) = IsCoreExport w s function place
+MeetsOption w s (HeldPostReturn function) (PostReturn place) = IsCoreExport w s function place
+MeetsOption w s (HeldCallback function) (Callback place) = IsCoreExport w s function place
+MeetsOption w s _ _ = ⊥
+
+-- options are lists: as many, in one order
+abbrev pub MeetOptions : ComponentWorld → Store → List HeldOption → List TargetOption → Type 0
+MeetOptions w s held options = AllZip (MeetsOption w s) held options
+
+-- a core function meets a target
+abbrev pub CoreMeets : ComponentWorld → Store → CoreItem → Target → Type 0
+CoreMeets w s (Lowering function held) (Lowered of options) = (slice_get s.functions function ≡ Some (Imported (path_of of))) × MeetOptions w s held options
+CoreMeets w s (OfUser user name) (ExportOf place) = IsExportOf w s user name place
+CoreMeets w s _ _ = ⊥
+
+-- a function meets a target: it lifts the core function that it should
+abbrev pub FunctionMeets : ComponentWorld → Store → Function → Target → Type 0
+FunctionMeets w s (Lifting core held) (Lifted entry options) = IsCoreExport w s core entry × MeetOptions w s held options
+FunctionMeets w s _ _ = ⊥
+
+pub record CoreFunctionMeets (w : ComponentWorld) (s : Store) (address : ℕ) (target : Target) : Type 0 where
+  pub item : CoreItem
+  pub is : slice_get s.core address ≡ Some item
+  pub meets : CoreMeets w s item target
+
+pub record LiftedFunctionMeets (w : ComponentWorld) (s : Store) (address : ℕ) (target : Target) : Type 0 where
+  pub function : Function
+  pub is : slice_get s.functions address ≡ Some function
+  pub meets : FunctionMeets w s function target
+
+abbrev pub MeetsIn : ComponentWorld → Store → Space → ℕ → Target → Type 0
+MeetsIn w s spaces.CoreFunc address target = CoreFunctionMeets w s address target
+MeetsIn w s spaces.Func address target = LiftedFunctionMeets w s address target
+MeetsIn w s _ address target = ⊥
+
+-- an item meets a target
+abbrev pub Meets : ComponentWorld → Store → Thing → Target → Type 0
+Meets w s thing target = MeetsIn w s thing.space thing.address target

@@ -1,0 +1,33 @@
+-- The user modules of a world (core standard: modules, their imports and exports): main, then its
+-- adapters, each with its bytes, its imports and what it exports, as validation found them.
+use Rattle.std.specs.Prelude.{ℕ, List, [], ◌∷◌, map}
+use Rattle.comp_bytes.specs.declared.space.ExportKind.{ExportKind}
+use Rattle.comp_bytes.specs.declared.space.ExportKind.TheVariants as kinds
+use Rattle.comp_worlds.specs.Worlds.{CoreImport, core_imports}
+use Rattle.comp_worlds.specs.declared.imports.Import.{Import}
+use Rattle.comp_worlds.specs.declared.imports.Import.TheVariants as imports
+use Rattle.comp_worlds.specs.declared.exports.Export.{Export}
+use Rattle.comp_worlds.specs.declared.exports.Export.TheVariants as exports
+use Rattle.comp_worlds.specs.declared.wit.WorldKey.{WorldKey}
+use Rattle.comp_worlds.specs.declared.world.ComponentWorld.{ComponentWorld}
+use Rattle.comp_shims.specs.Targets.{UserModule, Main}
+
+pub record WorldModule : Type 0 where
+  pub of : UserModule
+  pub bytes : List ℕ
+  pub imports : List CoreImport
+  pub exports : List (List ℕ × Export)
+
+abbrev pub user_modules : ComponentWorld → List WorldModule
+user_modules w = record { of = Main; bytes = w.main.bytes; imports = core_imports w; exports = w.main.exports.exports } ∷ []
+
+-- the kind of an import, and of an export, by what it is for
+abbrev pub import_kind : Import → ExportKind
+import_kind (imports.WorldFunc key function abi) = kinds.Func
+
+abbrev pub kind_of_export : Export → ExportKind
+kind_of_export (exports.WorldFunc key function abi) = kinds.Func
+
+-- what has to be exported, by module
+abbrev pub required_exports : ComponentWorld → List (UserModule × WorldKey)
+required_exports w = map (λ key. (Main, key)) w.main_exports
