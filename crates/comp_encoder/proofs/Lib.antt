@@ -1,3 +1,5 @@
 mod Refused
 mod Zips
 mod Stores
+mod Given
+mod Steps

@@ -55,7 +55,7 @@ pub adds_lift : (w : ComponentWorld) (old new : Built) (core kind index : ℕ) (
     IsAliased old.defs core name → IsFunctionType old.defs kind → core_name_of w (key_text key) ≡ Some name → IsSome (export_encoding w key) →
     new.defs ≡ old.defs ++ defs.Item (items.Lift core options kind) ∷ [] → IsAt new.defs spaces.Func index (defs.Item (items.Lift core options kind)) → AddsLift w old.defs new.defs index key
 adds_lift w old new core kind index options name key none alias type' role encoded appended at =
-    let g : Grows w old.defs new.defs [] = Grows-by (defs.Item (items.Lift core options kind)) appended (in_range alias.made, none, in_range type'.made) in
+    let g : Grows w old.defs new.defs [] = Grows-by (defs.Item (items.Lift core options kind)) appended (in_range alias.made, none, type') in
     record {
       grows = g;
       lifted = record {

@@ -58,7 +58,7 @@ within w earlier (defs.Item (items.Alias (aliases.Outer count index))) h = absur
 within w earlier (defs.Item (items.Type t)) h = (plain_within earlier t h, tt)
 within w earlier (defs.Item (items.InstanceType t)) h = absurd h
 within w earlier (defs.Item (items.Lift core options kind)) h =
-    ((h.0, subst (λ (o : List CanonicalOption). AllByRecursion (Within earlier) (options_references o ++ type_at kind)) (sym h.1) (h.2, tt)), tt)
+    ((h.0, subst (λ (o : List CanonicalOption). AllByRecursion (Within earlier) (options_references o ++ type_at kind)) (sym h.1) (in_range h.2.made, tt)), tt)
 within w earlier (defs.Item (items.Lower function options)) h = ((h.0, no_options earlier options h.1), tt)
 within w earlier (defs.Item (items.Intrinsic i)) h = absurd h
 within w earlier (defs.Item (items.Import name (descriptions.Func kind))) h = ((in_range h.1.made, tt), tt)

@@ -1,0 +1,184 @@
+-- What the definitions so far have put into the store, and what main's imports find among the arguments.
+use Rattle.std.proofs.Common.{◌≡◌, ◌∙◌, ℕ, zero, suc, ◌+◌, ◌<◌, Bool, true, false, List, [], ◌∷◌, ◌++◌, length, map, filter, refl, sym, ap, subst, Option, Some, None, is_some, arith}
+use Rattle.std.proofs.lemmas.List.Sums.{length-filter}
+use Rattle.std.proofs.lemmas.Option.{same_Some}
+use Rattle.std.specs.Str.{bytes_eq}
+use Rattle.std.specs.List.{slice_get, flat_map, AllZip, AllByRecursion, IsDistinct}
+use Rattle.std.specs.Option.{option_map, option_and_then}
+use Rattle.comp_lists.specs.Found.{found}
+use Rattle.comp_lists.proofs.Lists.{AllZip-at, AllByRecursion-weaker, length-AllZip, there}
+use Rattle.comp_bytes.specs.Spaces.{kind_space, is_space, space_of, items_in}
+use Rattle.comp_bytes.specs.Places.{in_space, IsAt}
+use Rattle.comp_bytes.specs.declared.space.Space.{Space}
+use Rattle.comp_bytes.specs.declared.space.Space.TheVariants as spaces
+use Rattle.comp_bytes.specs.declared.space.ExportKind.TheVariants as kinds
+use Rattle.comp_bytes.specs.declared.types.Alias.TheVariants as aliases
+use Rattle.comp_bytes.specs.declared.types.Description.TheVariants as descriptions
+use Rattle.comp_bytes.specs.declared.def.CoreArgument.{CoreArgument}
+use Rattle.comp_bytes.specs.declared.def.CoreInlineExport.{CoreInlineExport}
+use Rattle.comp_bytes.specs.declared.def.Item.TheVariants as items
+use Rattle.comp_bytes.specs.declared.def.Def.{Def}
+use Rattle.comp_bytes.specs.declared.def.Def.TheVariants as defs
+use Rattle.comp_worlds.specs.Keys.{key_text}
+use Rattle.comp_worlds.specs.Worlds.{CoreImport, core_imports, imports_from, fields_of, imported_text, core_name_of}
+use Rattle.comp_worlds.specs.declared.wit.WorldKey.{WorldKey}
+use Rattle.comp_worlds.specs.declared.imports.Import.{Import}
+use Rattle.comp_worlds.specs.declared.imports.Import.TheVariants as imports
+use Rattle.comp_worlds.specs.declared.imports.ImportInstance.{ImportInstance}
+use Rattle.comp_worlds.specs.declared.world.ComponentWorld.{ComponentWorld}
+use Rattle.comp_shims.specs.Store.{Thing, Export, Lowering, OfUser, Imported, Lifting, UserInstance, Store}
+use Rattle.comp_state.specs.Facts.{IsImported, IsLowered, IsEntryFor, IsBagFor, IsArgumentFor, IsMain, IsAliased, IsLiftFor, plain_name}
+use Rattle.comp_state.specs.Modules.{import_kind}
+use Rattle.comp_encoder.specs.Machine.{Scope, Machine, address_at, is_of, export_named, export_in, all_some}
+use Rattle.comp_encoder.specs.Instances.{of_kind, given_to}
+use Rattle.comp_encoder.specs.Running.{core_argument}
+use Rattle.comp_encoder.specs.Linking.{import_type}
+use Rattle.comp_encoder.proofs.Zips.{AllZip-filter, filter-both, mapped_some, all_some-each, all_some-zip, found-along, FindsIn, found-each, AllByRecursion-join}
+use Rattle.comp_encoder.proofs.Stores.{IsUserExport, IsInstanceOf, IsUserInstance, IsNamedEntry, IsBag, IsLoweredItem, IsLiftedItem, IsAliasedItem, ItemIs, DefIs, Means, makes, IsServedBy, IsPlanned, IsMainExport, IsLiftedFrom, Agrees}
+
+makes-space : (space : Space) (d : Def) → is_space space (space_of d) ≡ true → makes d ≡ true
+makes-space space d e = by (space_of d) e
+  where
+    by : (o : Option Space) → is_space space o ≡ true → is_some o ≡ true
+    by None e = cc
+    by (Some t) e = refl
+
+-- the item of the argument serves this field
+pub record IsFieldExport (s : Store) (e : Export) (field : List ℕ × Import) : Type 0 where
+  pub named : e.name ≡ field.0
+  pub space : e.space ≡ spaces.CoreFunc
+  pub serves : IsServedBy s e.address (imported_text field.1)
+
+-- the argument has what the fields of this module are to be given
+pub record IsOffered (s : Store) (a : List ℕ × List Export) (group : List ℕ × ImportInstance) : Type 0 where
+  pub named : a.0 ≡ group.0
+  pub each : AllZip (IsFieldExport s) a.1 (fields_of group.1)
+
+-- an import is of a function
+function_import : (i : Import) → import_kind i ≡ kinds.Func
+function_import (imports.WorldFunc key function abi) = refl
+
+at_some : (e : Export) → e.space ≡ spaces.CoreFunc → of_kind kinds.Func e ≡ Some (record { space = e.space; address = e.address })
+at_some e h = rw h refl
+
+module _ {w : ComponentWorld} {earlier : List Def} {c : Scope} {s : Store} (a : Agrees w earlier c s) where
+  in_space-made : (space : Space) → filter (λ d. is_space space (space_of d)) (filter makes earlier) ≡ in_space space earlier
+  in_space-made space = filter-both (λ d. is_space space (space_of d)) makes (makes-space space) earlier
+
+  same_space : (space : Space) (d : Def) (t : Thing) → Means w c.items s d t → is_space space (space_of d) ≡ is_of space t
+  same_space space d t h = ap (is_space space) h.space
+
+  in_space-along : (space : Space) → AllZip (Means w c.items s) (in_space space earlier) (filter (is_of space) c.items)
+  in_space-along space =
+      subst (λ ds. AllZip (Means w c.items s) ds (filter (is_of space) c.items)) (in_space-made space)
+      (AllZip-filter (Means w c.items s) (λ d. is_space space (space_of d)) (is_of space) (same_space space) (filter makes earlier) c.items a.means)
+
+  -- the item of a definition is there
+  pub thing_there : {space : Space} {index : ℕ} {d : Def} → IsAt earlier space index d → (x : ℕ) × (address_at space index c.items ≡ Some x) × DefIs w c.items s d x
+  thing_there {space} {index} {d} h =
+      let z : (t : Thing) × (slice_get (filter (is_of space) c.items) index ≡ Some t) × Means w c.items s d t =
+      AllZip-at (Means w c.items s) (in_space space earlier) (filter (is_of space) c.items) index d (in_space-along space) h.made in
+      (z.0.address, ap (option_map (λ (t : Thing). t.address)) z.1, z.2.is)
+
+  -- an index below the count names an item
+  pub address_there : (space : Space) (index : ℕ) → index < items_in space earlier → (x : ℕ) × (address_at space index c.items ≡ Some x)
+  address_there space index l =
+      let same : length (in_space space earlier) ≡ length (filter (is_of space) c.items) = length-AllZip (Means w c.items s) (in_space space earlier) (filter (is_of space) c.items) (in_space-along space) in
+      let counted : length (in_space space earlier) ≡ items_in space earlier = length-filter (λ d. is_space space (space_of d)) earlier in
+      let t : (t : Thing) × (slice_get (filter (is_of space) c.items) index ≡ Some t) = there (filter (is_of space) c.items) index (omega (arith, same, counted)) in
+      (t.0.address, ap (option_map (λ (t : Thing). t.address)) t.1)
+
+  pub lowered_there : {index : ℕ} {text : List ℕ} → IsLowered earlier index text → (x : ℕ) × (address_at spaces.CoreFunc index c.items ≡ Some x) × IsServedBy s x text
+  lowered_there {index} {text} h =
+      let l : (x : ℕ) × (address_at spaces.CoreFunc index c.items ≡ Some x) × IsLoweredItem c.items s h.function x = thing_there h.made in
+      let f : (x : ℕ) × (address_at spaces.Func h.function c.items ≡ Some x) × (slice_get s.functions x ≡ Some (Imported (text ∷ []))) = thing_there h.of.made in
+      let same : f.0 ≡ l.2.of = same_Some f.0 l.2.of (sym f.1 ∙ l.2.at) in
+      (l.0, l.1, record { of = l.2.of; is = l.2.is; imported = subst (λ n. slice_get s.functions n ≡ Some (Imported (text ∷ []))) same f.2 })
+
+  pub main_there : {index : ℕ} → IsMain earlier index → (x : ℕ) × (address_at spaces.CoreInstance index c.items ≡ Some x) × IsUserInstance w s 0 x
+  main_there h = thing_there h.made
+
+  pub aliased_there : {index : ℕ} {name : List ℕ} → IsAliased earlier index name → (x : ℕ) × (address_at spaces.CoreFunc index c.items ≡ Some x) × IsMainExport s x name
+  aliased_there {index} {name} h =
+      let l : (x : ℕ) × (address_at spaces.CoreFunc index c.items ≡ Some x) × IsAliasedItem c.items s h.instance name x = thing_there h.made in
+      let m : (x : ℕ) × (address_at spaces.CoreInstance h.instance c.items ≡ Some x) × IsUserInstance w s 0 x = main_there h.of in
+      let same : m.0 ≡ l.2.from = same_Some m.0 l.2.from (sym m.1 ∙ l.2.at) in
+      let exports : m.2.exports ≡ l.2.exports = same_Some m.2.exports l.2.exports (sym m.2.stands ∙ (ap (slice_get s.core_instances) same ∙ l.2.stands)) in
+      let each : AllByRecursion (IsUserExport s m.2.user) l.2.exports = subst (AllByRecursion (IsUserExport s m.2.user)) exports m.2.each in
+      let e : (l.2.export.name ≡ name) × IsUserExport s m.2.user l.2.export = found-each (λ (e : Export). e.name) (IsUserExport s m.2.user) name l.2.exports l.2.export each l.2.found in
+      (l.0, l.1, record { user = m.2.user; is = rw (← l.2.is, e.1.1, e.0) refl; of = m.2.is })
+
+  pub lift_there : {index : ℕ} {key : WorldKey} (h : IsLiftFor w earlier index key) → (x : ℕ) × (address_at spaces.Func index c.items ≡ Some x) × IsLiftedFrom s x h.name
+  lift_there {index} {key} h =
+      let l : (x : ℕ) × (address_at spaces.Func index c.items ≡ Some x) × IsLiftedItem c.items s h.core x = thing_there h.made in
+      let f : (x : ℕ) × (address_at spaces.CoreFunc h.core c.items ≡ Some x) × IsMainExport s x h.name = aliased_there h.aliased in
+      let same : f.0 ≡ l.2.of = same_Some f.0 l.2.of (sym f.1 ∙ l.2.at) in
+      (l.0, l.1, record { core = l.2.of; is = l.2.is; of = subst (λ n. IsMainExport s n h.name) same f.2 })
+
+  -- the entries of a bag, as they were put there
+  fields_there : (es : List CoreInlineExport) (xs : List Export) (fs : List (List ℕ × Import)) → AllZip (IsEntryFor w earlier) es fs → AllZip (IsNamedEntry c.items) es xs → AllZip (IsFieldExport s) xs fs
+  fields_there [] [] [] h n = tt
+  fields_there (e ∷ es) (x ∷ xs) (f ∷ fs) h n =
+      let l : (y : ℕ) × (address_at spaces.CoreFunc e.index c.items ≡ Some y) × IsServedBy s y (imported_text f.1) = lowered_there h.0.lowered in
+      let kind : kind_space e.kind ≡ spaces.CoreFunc = ap kind_space h.0.kind in
+      let at : address_at spaces.CoreFunc e.index c.items ≡ Some x.address = subst (λ space. address_at space e.index c.items ≡ Some x.address) kind n.0.at in
+      let same : l.0 ≡ x.address = same_Some l.0 x.address (sym l.1 ∙ at) in
+      (record { named = n.0.named ∙ h.0.named; space = n.0.space ∙ kind; serves = subst (λ y. IsServedBy s y (imported_text f.1)) same l.2 }, fields_there es xs fs h.1 n.1)
+  fields_there [] (x ∷ xs) fs h n = absurd n
+  fields_there (e ∷ es) [] fs h n = absurd n
+  fields_there [] [] (f ∷ fs) h n = absurd h
+  fields_there (e ∷ es) (x ∷ xs) [] h n = absurd h
+
+  module _ (m : Machine) (items : m.scope.items ≡ c.items) (instances : m.store.core_instances ≡ s.core_instances) where
+    argument_there : (x : CoreArgument) (g : List ℕ × ImportInstance) → IsArgumentFor w earlier x g → (y : List ℕ × List Export) × (core_argument m x ≡ Some y) × IsOffered s y g
+    argument_there x g h =
+        let b : (y : ℕ) × (address_at spaces.CoreInstance x.instance c.items ≡ Some y) × IsBag c.items s h.serves.entries y = thing_there h.serves.made in
+        ((x.name, b.2.exports), rw (items, b.1, instances, b.2.stands) refl, record { named = h.named; each = fields_there h.serves.entries b.2.exports (fields_of g.1) h.serves.each b.2.each })
+
+    -- the arguments of main's instantiation
+    pub arguments_there : (xs : List CoreArgument) (gs : List (List ℕ × ImportInstance)) → AllZip (IsArgumentFor w earlier) xs gs →
+        (ys : List (List ℕ × List Export)) × (all_some (map (core_argument m) xs) ≡ Some ys) × AllZip (IsOffered s) ys gs
+    arguments_there xs gs h = all_some-zip (IsOffered s) (core_argument m) (IsArgumentFor w earlier) argument_there xs gs h
+
+module _ (s : Store) (arguments : List (List ℕ × List Export)) where
+  -- an import finds what was planned for it
+  abbrev IsGiven : CoreImport → Type 0
+  IsGiven i = (t : Thing) × (given_to arguments (import_type i) ≡ Some t) × IsPlanned s t i
+
+  along : (es : List Export) → List (List ℕ × Export)
+  along es = map (λ e. (e.name, e)) es
+
+  abbrev IsNamedField : List ℕ × Export → List ℕ × Import → Type 0
+  IsNamedField p f = (p.0 ≡ p.1.name) × IsFieldExport s p.1 f
+
+  fields_named : (es : List Export) (fs : List (List ℕ × Import)) → AllZip (IsFieldExport s) es fs → AllZip IsNamedField (map (λ e. (e.name, e)) es) fs
+  fields_named [] [] h = tt
+  fields_named (e ∷ es) (f ∷ fs) h = ((refl, h.0), fields_named es fs h.1)
+  fields_named [] (f ∷ fs) h = absurd h
+  fields_named (e ∷ es) [] h = absurd h
+
+  given_fields : (module_name : List ℕ) (es : List Export) → found module_name arguments ≡ Some es → (fs : List (List ℕ × Import)) →
+      AllByRecursion (FindsIn (λ f. f.0) IsNamedField (map (λ e. (e.name, e)) es)) fs →
+      AllByRecursion IsGiven (map (λ f. record { module_name = module_name; field = f.0; role = f.1 }) fs)
+  given_fields module_name es e [] h = tt
+  given_fields module_name es e (f ∷ fs) h =
+      let x : Export = h.0.0.1 in
+      let is : IsFieldExport s x f = h.0.2.1 in
+      ((record { space = x.space; address = x.address }, rw (e, h.0.1, function_import f.1) (at_some x is.space), (is.space, is.serves)), given_fields module_name es e fs h.1)
+
+  given_groups : (gs : List (List ℕ × ImportInstance)) → AllByRecursion (FindsIn (λ g. g.0) (IsOffered s) arguments) gs →
+      AllByRecursion (λ g. IsDistinct bytes_eq (map (λ f. f.0) (fields_of g.1))) gs → AllByRecursion IsGiven (flat_map imports_from gs)
+  given_groups [] h d = tt
+  given_groups (g ∷ gs) h d =
+      AllByRecursion-join IsGiven (imports_from g) (flat_map imports_from gs)
+      (given_fields g.0 h.0.0.1 h.0.1 (fields_of g.1)
+        (found-along (λ f. f.0) IsNamedField (λ p f k. k.0 ∙ k.1.named) (map (λ e. (e.name, e)) h.0.0.1) (fields_of g.1) (fields_named h.0.0.1 (fields_of g.1) h.0.2.each) d.0))
+      (given_groups gs h.1 d.1)
+
+-- each import of main finds what was planned for it
+pub given_there : (s : Store) (arguments : List (List ℕ × List Export)) (gs : List (List ℕ × ImportInstance)) → AllZip (IsOffered s) arguments gs → IsDistinct bytes_eq (map (λ g. g.0) gs) →
+    AllByRecursion (λ g. IsDistinct bytes_eq (map (λ f. f.0) (fields_of g.1))) gs →
+    (ts : List Thing) × (all_some (map (given_to arguments) (map import_type (flat_map imports_from gs))) ≡ Some ts) × AllZip (IsPlanned s) ts (flat_map imports_from gs)
+given_there s arguments gs h modules fields =
+    all_some-each (IsPlanned s) (given_to arguments) import_type (flat_map imports_from gs)
+    (given_groups s arguments gs (found-along (λ g. g.0) (IsOffered s) (λ x g k. k.named) arguments gs h modules) fields)

@@ -1,0 +1,292 @@
+-- A definition that keeps its rule runs, and the store agrees with the longer list.
+use Rattle.std.proofs.Common.{◌≡◌, ◌∙◌, ℕ, zero, suc, ◌+◌, ◌<◌, Bool, true, false, List, [], ◌∷◌, ◌++◌, length, map, filter, refl, sym, ap, subst, append-nil, length-append, Option, Some, None, is_some, IsTrue, arith, if◌then◌else◌}
+use Rattle.std.proofs.lemmas.List.{map-append}
+use Rattle.std.proofs.lemmas.List.Elements.{filter-append}
+use Rattle.std.proofs.lemmas.Grind.{flat_map-append}
+use Rattle.std.proofs.lemmas.Option.{same_Some, none-some}
+use Rattle.std.specs.Str.{bytes_eq}
+use Rattle.std.specs.List.{slice_get, flat_map, list_any, AllZip, AllByRecursion}
+use Rattle.std.specs.Option.{option_map}
+use Rattle.comp_lists.proofs.Lists.{slice_get-append, slice_get-end, AllZip-weaker, AllZip-end, AllByRecursion-weaker, AllByRecursion-push}
+use Rattle.comp_lists.proofs.Lookups.{found-named}
+use Rattle.comp_bytes.specs.Spaces.{kind_space, is_space, space_of, items_in}
+use Rattle.comp_bytes.specs.Places.{IsAt}
+use Rattle.comp_bytes.specs.ScopeNames.{def_export}
+use Rattle.comp_bytes.specs.declared.space.Space.{Space}
+use Rattle.comp_bytes.specs.declared.space.Space.TheVariants as spaces
+use Rattle.comp_bytes.specs.declared.space.ExportKind.TheVariants as kinds
+use Rattle.comp_bytes.specs.declared.space.Sort.TheVariants as sorts
+use Rattle.comp_bytes.specs.declared.types.ExternName.{ExternName}
+use Rattle.comp_bytes.specs.declared.types.TypeDef.{TypeDef}
+use Rattle.comp_bytes.specs.declared.types.TypeDef.TheVariants as types
+use Rattle.comp_bytes.specs.declared.types.Alias.TheVariants as aliases
+use Rattle.comp_bytes.specs.declared.types.Description.TheVariants as descriptions
+use Rattle.comp_bytes.specs.declared.def.CoreArgument.{CoreArgument}
+use Rattle.comp_bytes.specs.declared.def.CoreInlineExport.{CoreInlineExport}
+use Rattle.comp_bytes.specs.declared.def.Item.TheVariants as items
+use Rattle.comp_bytes.specs.declared.def.Def.{Def}
+use Rattle.comp_bytes.specs.declared.def.Def.TheVariants as defs
+use Rattle.comp_worlds.specs.Keys.{key_text}
+use Rattle.comp_worlds.specs.Worlds.{IsWorld, CoreImport, core_imports, exported_text, core_name_of}
+use Rattle.comp_worlds.specs.declared.exports.Export.{Export as WorldExport}
+use Rattle.comp_worlds.specs.declared.exports.Export.TheVariants as exports
+use Rattle.comp_worlds.specs.declared.world.ComponentWorld.{ComponentWorld}
+use Rattle.comp_shims.specs.Answers.{CoreType, Value, Answer, Gives, Traps, fit, Instantiated}
+use Rattle.comp_shims.specs.Store.{Thing, Export, CoreItem, Lowering, OfUser, Function, Imported, Lifting, TypeItem, FunctionType, UserInstance, Store, Now}
+use Rattle.comp_state.specs.Facts.{plain_name, plain_function, IsFunctionType}
+use Rattle.comp_state.specs.Modules.{kind_of_export}
+use Rattle.comp_state.specs.Rules.{InstantiatesMain, AliasesMain, ExportsRequired, IsEntry, IsRight, RightAfter}
+use Rattle.comp_encoder.specs.Machine.{Scope, Machine, Outcome, Done, Trapped, Open, Stuck, address_at, is_of, export_named, export_in, all_some, answered}
+use Rattle.comp_encoder.specs.Instances.{ImportType, ExportType, exported_from, with_function_type, goes_on_with_function_type}
+use Rattle.comp_encoder.specs.Running.{core_entry, effect, run}
+use Rattle.comp_encoder.specs.Linking.{def_instantiates, module_meanings, export_type, LetsRun}
+use Rattle.comp_encoder.proofs.Zips.{all_some-self, found-each, found-listed, slice_get-middle, map-map}
+use Rattle.comp_encoder.proofs.Stores.{IsUserExport, IsInstanceOf, IsUserInstance, IsNamedEntry, IsBag, IsLoweredItem, IsLiftedItem, IsAliasedItem, ItemIs, DefIs, Means, makes, IsServedBy, IsPlanned, IsPlannedUser, IsMainExport, IsLiftedFrom, IsLiftedExport, NumberedFrom, Agrees, Keeps, address_at-append, Means-kept, IsPlannedUser-kept, IsLiftedExport-kept}
+use Rattle.comp_encoder.proofs.Given.{address_there, lowered_there, main_there, aliased_there, lift_there, thing_there, arguments_there, given_there}
+
+-- the machine of a scope, a store, and what changes
+abbrev pub machine : Scope → Store → Now → Machine
+machine c s now = record { scope = c; store = s; now = now }
+
+-- with nothing seen yet, and no answer to come
+abbrev pub no_answers : Now
+no_answers = record { globals = []; answers = []; events = [] }
+
+-- a run ends with this scope and this store, or by an answer that doesn't let it
+abbrev pub IsGood : Scope → Store → List (List CoreType) → List Answer → Outcome → Type 0
+IsGood c s questions answers (Done m) = (m.scope ≡ c) × (m.store ≡ s)
+IsGood c s questions answers (Trapped m) = LetsRun questions answers → ⊥
+IsGood c s questions answers (Open m) = LetsRun questions answers → ⊥
+IsGood c s questions answers Stuck = ⊥
+
+-- what a definition asks the outside for
+abbrev pub asks : Def → List (List CoreType)
+asks d = map (λ n. []) (def_instantiates d)
+
+-- one question more
+one_more : (c : Scope) (s : Store) (questions : List (List CoreType)) (cell : ℕ) (answers : List Answer) (o : Outcome) → IsGood c s questions answers o → IsGood c s ([] ∷ questions) (Gives [] cell ∷ answers) o
+one_more c s questions cell answers (Done m) h = h
+one_more c s questions cell answers (Trapped m) h = λ l. h l.1
+one_more c s questions cell answers (Open m) h = λ l. h l.1
+one_more c s questions cell answers Stuck h = h
+
+pub good_answered : (c : Scope) (s : Store) (questions : List (List CoreType)) (answers : List Answer) (m : Machine) (next : List Value → Machine → Outcome) →
+    ((values : List Value) (cell : ℕ) (rest : List Answer) (after : Machine) → after.scope ≡ m.scope → after.store ≡ m.store → after.now.answers ≡ rest → IsGood c s questions rest (next values after)) →
+    IsGood c s ([] ∷ questions) answers (answered [] answers m next)
+good_answered c s questions [] m next h = λ l. l
+good_answered c s questions (Traps ∷ answers) m next h = λ l. l
+good_answered c s questions (Gives [] cell ∷ answers) m next h = one_more c s questions cell answers _ (h [] cell answers _ refl refl refl)
+good_answered c s questions (Gives (v ∷ values) cell ∷ answers) m next h = λ l. absurd (no l.0)
+  where
+    no : IsTrue false → ⊥
+    no e = cc
+
+-- a definition runs, and then the rest does from this scope and this store
+pub record Runs (w : ComponentWorld) (d : Def) (c : Scope) (s : Store) (c' : Scope) (s' : Store) : Type 0 where
+  pub goes : (e : Scope) (t : Store) (questions : List (List CoreType)) (rest : List Def) → ((now : Now) → IsGood e t questions now.answers (run (module_meanings w) rest (machine c' s' now))) →
+      (now : Now) → IsGood e t (asks d ++ questions) now.answers (run (module_meanings w) (d ∷ rest) (machine c s now))
+
+abbrev pub Steps : ComponentWorld → List Def → Scope → Store → Def → Type 0
+Steps w earlier c s d = (c' : Scope) × (s' : Store) × Runs w d c s c' s' × Agrees w (earlier ++ d ∷ []) c' s'
+
+filter-push : {X : Type 0} (p : X → Bool) (b : Bool) (xs : List X) (x : X) → p x ≡ b → filter p (xs ++ x ∷ []) ≡ (if b then filter p xs ++ x ∷ [] else filter p xs)
+filter-push p true xs x e = rw (filter-append p xs (x ∷ []), e) refl
+filter-push p false xs x e = rw (filter-append p xs (x ∷ []), e) (append-nil (filter p xs))
+
+made-push : (earlier : List Def) (d : Def) (space : Space) → space_of d ≡ Some space → filter makes (earlier ++ d ∷ []) ≡ filter makes earlier ++ d ∷ []
+made-push earlier d space e = filter-push makes true earlier d (ap is_some e)
+
+flat-push : {X A : Type 0} (f : X → List A) (xs : List X) (x : X) → flat_map f (xs ++ x ∷ []) ≡ flat_map f xs ++ f x
+flat-push f xs x = rw (flat_map-append f xs (x ∷ [])) (ap (λ l. flat_map f xs ++ l) (append-nil (f x)))
+
+-- one item more of a scope
+abbrev pub with_thing : Scope → Thing → Scope
+with_thing c t = record c { items = c.items ++ t ∷ [] }
+
+module _ {w : ComponentWorld} {earlier : List Def} {c : Scope} {s : Store} (a : Agrees w earlier c s) where
+  -- a definition that makes an item
+  agrees_with : (d : Def) (c' : Scope) (s' : Store) (t : Thing) → c'.items ≡ c.items ++ t ∷ [] → Keeps c.items c'.items s s' → Means w c'.items s' d t →
+      NumberedFrom 0 (filter (is_of spaces.CoreModule) c'.items) (length s'.core_modules) → map (λ (u : UserInstance). u.module_number) s'.users ≡ map (λ (u : UserInstance). u.module_number) s.users ++ def_instantiates d →
+      AllByRecursion (IsPlannedUser w s') s'.users → map (λ (e : Export). e.name) c'.exports ≡ map (λ (e : Export). e.name) c.exports ++ def_export d → AllByRecursion (IsLiftedExport w s') c'.exports →
+      Agrees w (earlier ++ d ∷ []) c' s'
+  agrees_with d c' s' t grew keeps means modules instances served exports lifted =
+      let kept : AllZip (Means w c'.items s') (filter makes earlier) c.items = AllZip-weaker (Means-kept w keeps) (filter makes earlier) c.items a.means in
+      let pushed : AllZip (Means w c'.items s') (filter makes earlier ++ d ∷ []) (c.items ++ t ∷ []) = AllZip-end (Means w c'.items s') (filter makes earlier) c.items d t kept means in
+      record {
+        means = subst (λ ds. AllZip (Means w c'.items s') ds c'.items) (sym (made-push earlier d t.space means.space)) (subst (λ ts. AllZip (Means w c'.items s') (filter makes earlier ++ d ∷ []) ts) (sym grew) pushed);
+        modules = modules;
+        instances = instances ∙ (ap (λ l. l ++ def_instantiates d) a.instances ∙ sym (flat-push def_instantiates earlier d));
+        served = served;
+        exports = exports ∙ (ap (λ l. l ++ def_export d) a.exports ∙ sym (flat-push def_export earlier d));
+        lifted = lifted;
+      }
+
+  -- one that is no module, no instantiation and no export
+  agrees_plain : (d : Def) (s' : Store) (t : Thing) → Keeps c.items (c.items ++ t ∷ []) s s' → Means w (c.items ++ t ∷ []) s' d t → is_of spaces.CoreModule t ≡ false →
+      s'.core_modules ≡ s.core_modules → s'.users ≡ s.users → def_instantiates d ≡ [] → def_export d ≡ [] → Agrees w (earlier ++ d ∷ []) (with_thing c t) s'
+  agrees_plain d s' t keeps means other modules users none no_export =
+      agrees_with d (with_thing c t) s' t refl keeps means
+      (rw (filter-push (is_of spaces.CoreModule) false c.items t other, modules) a.modules)
+      (rw (users, none) (sym (append-nil (map (λ (u : UserInstance). u.module_number) s.users))))
+      (subst (AllByRecursion (IsPlannedUser w s')) (sym users) (AllByRecursion-weaker (IsPlannedUser-kept w keeps) s.users a.served))
+      (rw no_export (sym (append-nil (map (λ (e : Export). e.name) c.exports))))
+      (AllByRecursion-weaker (IsLiftedExport-kept w keeps) c.exports a.lifted)
+
+  step_type : Steps w earlier c s (defs.Item (items.Type (types.Func plain_function)))
+  step_type =
+      let t : Thing = record { space = spaces.Type; address = length s.types } in
+      let s' : Store = record s { types = s.types ++ FunctionType ∷ [] } in
+      let k : Keeps c.items (c.items ++ t ∷ []) s s' = record {
+        things = λ space i x e. address_at-append c.items (t ∷ []) space i x e;
+        core = λ i x e. e;
+        instances = λ i x e. e;
+        functions = λ i x e. e;
+        types = λ i x e. slice_get-append s.types (FunctionType ∷ []) i x e;
+        users = λ i x e. e;
+      } in
+      (with_thing c t, s', record { goes = λ e u questions rest h now. h now },
+        agrees_plain (defs.Item (items.Type (types.Func plain_function))) s' t k (record { space = refl; is = slice_get-end s.types FunctionType }) refl refl refl refl refl)
+
+  -- the type of this index is one of functions
+  type_there : {index : ℕ} → IsFunctionType earlier index → (x : ℕ) × (address_at spaces.Type index c.items ≡ Some x) × (slice_get s.types x ≡ Some FunctionType)
+  type_there h = thing_there a h.made
+
+  step_import : (name : ExternName) (kind : ℕ) → IsFunctionType earlier kind → Steps w earlier c s (defs.Item (items.Import name (descriptions.Func kind)))
+  step_import name kind h =
+      let d : Def = defs.Item (items.Import name (descriptions.Func kind)) in
+      let t : Thing = record { space = spaces.Func; address = length s.functions } in
+      let s' : Store = record s { functions = s.functions ++ Imported (name.name ∷ []) ∷ [] } in
+      let k : Keeps c.items (c.items ++ t ∷ []) s s' = record {
+        things = λ space i x e. address_at-append c.items (t ∷ []) space i x e;
+        core = λ i x e. e;
+        instances = λ i x e. e;
+        functions = λ i x e. slice_get-append s.functions (Imported (name.name ∷ []) ∷ []) i x e;
+        types = λ i x e. e;
+        users = λ i x e. e;
+      } in
+      let y : (x : ℕ) × (address_at spaces.Type kind c.items ≡ Some x) × (slice_get s.types x ≡ Some FunctionType) = type_there h in
+      (with_thing c t, s', record { goes = λ e u questions rest g now. rw (y.1, y.2) (g now) },
+        agrees_plain d s' t k (record { space = refl; is = slice_get-end s.functions (Imported (name.name ∷ [])) }) refl refl refl refl refl)
+
+  step_lower : (function : ℕ) → function < items_in spaces.Func earlier → Steps w earlier c s (defs.Item (items.Lower function []))
+  step_lower function l =
+      let d : Def = defs.Item (items.Lower function []) in
+      let x : (x : ℕ) × (address_at spaces.Func function c.items ≡ Some x) = address_there a spaces.Func function l in
+      let t : Thing = record { space = spaces.CoreFunc; address = length s.core } in
+      let s' : Store = record s { core = s.core ++ Lowering x.0 [] ∷ [] } in
+      let k : Keeps c.items (c.items ++ t ∷ []) s s' = record {
+        things = λ space i y e. address_at-append c.items (t ∷ []) space i y e;
+        core = λ i y e. slice_get-append s.core (Lowering x.0 [] ∷ []) i y e;
+        instances = λ i y e. e;
+        functions = λ i y e. e;
+        types = λ i y e. e;
+        users = λ i y e. e;
+      } in
+      (with_thing c t, s', record { goes = λ e u questions rest g now. rw x.1 (g now) },
+        agrees_plain d s' t k (record { space = refl; is = record { of = x.0; at = address_at-append c.items (t ∷ []) spaces.Func function x.0 x.1; is = slice_get-end s.core (Lowering x.0 []) } }) refl refl refl refl refl)
+
+  step_lift : (core kind : ℕ) → core < items_in spaces.CoreFunc earlier → IsFunctionType earlier kind → Steps w earlier c s (defs.Item (items.Lift core [] kind))
+  step_lift core kind l h =
+      let d : Def = defs.Item (items.Lift core [] kind) in
+      let x : (x : ℕ) × (address_at spaces.CoreFunc core c.items ≡ Some x) = address_there a spaces.CoreFunc core l in
+      let y : (x : ℕ) × (address_at spaces.Type kind c.items ≡ Some x) × (slice_get s.types x ≡ Some FunctionType) = type_there h in
+      let t : Thing = record { space = spaces.Func; address = length s.functions } in
+      let s' : Store = record s { functions = s.functions ++ Lifting x.0 [] ∷ [] } in
+      let k : Keeps c.items (c.items ++ t ∷ []) s s' = record {
+        things = λ space i y e. address_at-append c.items (t ∷ []) space i y e;
+        core = λ i y e. e;
+        instances = λ i y e. e;
+        functions = λ i y e. slice_get-append s.functions (Lifting x.0 [] ∷ []) i y e;
+        types = λ i y e. e;
+        users = λ i y e. e;
+      } in
+      (with_thing c t, s', record { goes = λ e u questions rest g now. rw (x.1, y.1, y.2) (g now) },
+        agrees_plain d s' t k (record { space = refl; is = record { of = x.0; at = address_at-append c.items (t ∷ []) spaces.CoreFunc core x.0 x.1; is = slice_get-end s.functions (Lifting x.0 []) } }) refl refl refl refl refl)
+
+  step_bag : (entries : List CoreInlineExport) → AllByRecursion (IsEntry earlier) entries → Steps w earlier c s (defs.Item (items.CoreExports entries))
+  step_bag entries h =
+      let d : Def = defs.Item (items.CoreExports entries) in
+      let t : Thing = record { space = spaces.CoreInstance; address = length s.core_instances } in
+      let found : (xs : List Export) × (all_some (map (core_entry (machine c s no_answers)) entries) ≡ Some xs) × AllZip (IsNamedEntry c.items) entries xs =
+      all_some-self (IsNamedEntry c.items) (core_entry (machine c s no_answers)) (IsEntry earlier)
+      (λ e k.
+        let at : (x : ℕ) × (address_at spaces.CoreFunc e.index c.items ≡ Some x) = address_there a spaces.CoreFunc e.index k.scoped in
+        (record { space = spaces.CoreFunc; name = e.name; address = at.0 }, rw (k.kind, at.1) refl, record { named = refl; space = rw k.kind refl; at = rw k.kind at.1 }))
+      entries h in
+      let s' : Store = record s { core_instances = s.core_instances ++ found.0 ∷ [] } in
+      let k : Keeps c.items (c.items ++ t ∷ []) s s' = record {
+        things = λ space i y e. address_at-append c.items (t ∷ []) space i y e;
+        core = λ i y e. e;
+        instances = λ i y e. slice_get-append s.core_instances (found.0 ∷ []) i y e;
+        functions = λ i y e. e;
+        types = λ i y e. e;
+        users = λ i y e. e;
+      } in
+      (with_thing c t, s', record { goes = λ e u questions rest g now. rw found.1 (g now) },
+        agrees_plain d s' t k
+        (record {
+          space = refl;
+          is = record {
+            exports = found.0;
+            stands = slice_get-end s.core_instances found.0;
+            each = AllZip-weaker (λ e x n. record { named = n.named; space = n.space; at = address_at-append c.items (t ∷ []) (kind_space e.kind) e.index x.address n.at }) entries found.0 found.2;
+          };
+        })
+        refl refl refl refl refl)
+
+  step_alias : (instance : ℕ) (name : List ℕ) → AliasesMain w earlier instance name → Steps w earlier c s (defs.Item (items.Alias (aliases.CoreExport kinds.Func instance name)))
+  step_alias instance name h =
+      let d : Def = defs.Item (items.Alias (aliases.CoreExport kinds.Func instance name)) in
+      let m : (x : ℕ) × (address_at spaces.CoreInstance instance c.items ≡ Some x) × IsUserInstance w s 0 x = main_there a h.of in
+      let listed : list_any (bytes_eq name) (map (λ (e : Export). e.name) m.2.exports) ≡ true =
+      subst (λ names. list_any (bytes_eq name) names ≡ true) (sym m.2.names) (found-named (λ e. exported_text e.1) (λ e. e.0) h.key name w.main.exports.exports h.role) in
+      let x : (e : Export) × (export_named name m.2.exports ≡ Some e) = found-listed (λ (e : Export). e.name) name m.2.exports listed in
+      let is : (x.0.name ≡ name) × IsUserExport s m.2.user x.0 = found-each (λ (e : Export). e.name) (IsUserExport s m.2.user) name m.2.exports x.0 m.2.each x.1 in
+      let t : Thing = record { space = spaces.CoreFunc; address = x.0.address } in
+      let k : Keeps c.items (c.items ++ t ∷ []) s s = record {
+        things = λ space i y e. address_at-append c.items (t ∷ []) space i y e;
+        core = λ i y e. e;
+        instances = λ i y e. e;
+        functions = λ i y e. e;
+        types = λ i y e. e;
+        users = λ i y e. e;
+      } in
+      (with_thing c t, s, record { goes = λ e u questions rest g now. rw (m.1, m.2.stands, x.1, is.1.0) (g now) },
+        agrees_plain d s t k
+        (record {
+          space = refl;
+          is = record {
+            from = m.0;
+            exports = m.2.exports;
+            export = x.0;
+            at = address_at-append c.items (t ∷ []) spaces.CoreInstance instance m.0 m.1;
+            stands = m.2.stands;
+            found = x.1;
+            is = refl;
+          };
+        })
+        refl refl refl refl refl)
+
+  step_export : (name : ExternName) (index : ℕ) → ExportsRequired w earlier name index → Steps w earlier c s (defs.Item (items.Export name sorts.Func index None))
+  step_export name index h =
+      let d : Def = defs.Item (items.Export name sorts.Func index None) in
+      let f : (x : ℕ) × (address_at spaces.Func index c.items ≡ Some x) × IsLiftedFrom s x h.lifted.name = lift_there a h.lifted in
+      let t : Thing = record { space = spaces.Func; address = f.0 } in
+      let x : Export = record { space = spaces.Func; name = name.name; address = f.0 } in
+      let c' : Scope = record c { items = c.items ++ t ∷ []; exports = c.exports ++ x ∷ [] } in
+      let k : Keeps c.items (c.items ++ t ∷ []) s s = record {
+        things = λ space i y e. address_at-append c.items (t ∷ []) space i y e;
+        core = λ i y e. e;
+        instances = λ i y e. e;
+        functions = λ i y e. e;
+        types = λ i y e. e;
+        users = λ i y e. e;
+      } in
+      let text : name.name ≡ key_text h.key = ap (λ (n : ExternName). n.name) h.named in
+      (c', s, record { goes = λ e u questions rest g now. rw f.1 (g now) },
+        agrees_with d c' s t refl k (record { space = refl; is = address_at-append c.items (t ∷ []) spaces.Func index f.0 f.1 })
+        (rw (filter-push (is_of spaces.CoreModule) false c.items t refl) a.modules)
+        (sym (append-nil (map (λ (u : UserInstance). u.module_number) s.users)))
+        a.served
+        (map-append (λ (e : Export). e.name) c.exports (x ∷ []))
+        (AllByRecursion-push (IsLiftedExport w s) c.exports x a.lifted (record { name = h.lifted.name; space = refl; role = ap (core_name_of w) text ∙ h.lifted.role; is = f.2 })))
