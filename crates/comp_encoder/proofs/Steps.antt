@@ -1,5 +1,5 @@
 -- A definition that keeps its rule runs, and the store agrees with the longer list.
-use Rattle.std.proofs.Common.{◌≡◌, ◌∙◌, ℕ, zero, suc, ◌+◌, ◌<◌, Bool, true, false, List, [], ◌∷◌, ◌++◌, length, map, filter, refl, sym, ap, subst, append-nil, length-append, Option, Some, None, is_some, IsTrue, arith, if◌then◌else◌}
+use Rattle.std.proofs.Common.{◌≡◌, ◌∙◌, ℕ, zero, suc, ◌+◌, ◌<◌, Bool, true, false, List, [], ◌∷◌, ◌++◌, length, map, filter, refl, sym, ap, subst, append-nil, append_assoc, add-one, length-append, Option, Some, None, is_some, IsTrue, arith, if◌then◌else◌}
 use Rattle.std.proofs.lemmas.List.{map-append}
 use Rattle.std.proofs.lemmas.List.Elements.{filter-append}
 use Rattle.std.proofs.lemmas.Grind.{flat_map-append}
@@ -37,12 +37,12 @@ use Rattle.comp_state.specs.Facts.{plain_name, plain_function, IsFunctionType}
 use Rattle.comp_state.specs.Modules.{kind_of_export}
 use Rattle.comp_state.specs.Rules.{InstantiatesMain, AliasesMain, ExportsRequired, IsEntry, IsRight, RightAfter}
 use Rattle.comp_encoder.specs.Machine.{Scope, Machine, Outcome, Done, Trapped, Open, Stuck, address_at, is_of, export_named, export_in, all_some, answered}
-use Rattle.comp_encoder.specs.Instances.{ImportType, ExportType, exported_from, with_function_type, goes_on_with_function_type}
-use Rattle.comp_encoder.specs.Running.{core_entry, effect, run}
-use Rattle.comp_encoder.specs.Linking.{def_instantiates, module_meanings, export_type, LetsRun}
+use Rattle.comp_encoder.specs.Instances.{ImportType, ExportType, exported_from, given_to, new_user, with_function_type, goes_on_with_function_type}
+use Rattle.comp_encoder.specs.Running.{core_argument, core_entry, effect, run}
+use Rattle.comp_encoder.specs.Linking.{def_instantiates, module_meanings, import_type, export_type, LetsRun}
 use Rattle.comp_encoder.proofs.Zips.{all_some-self, found-each, found-listed, slice_get-middle, map-map}
 use Rattle.comp_encoder.proofs.Stores.{IsUserExport, IsInstanceOf, IsUserInstance, IsNamedEntry, IsBag, IsLoweredItem, IsLiftedItem, IsAliasedItem, ItemIs, DefIs, Means, makes, IsServedBy, IsPlanned, IsPlannedUser, IsMainExport, IsLiftedFrom, IsLiftedExport, NumberedFrom, Agrees, Keeps, address_at-append, Means-kept, IsPlannedUser-kept, IsLiftedExport-kept}
-use Rattle.comp_encoder.proofs.Given.{address_there, lowered_there, main_there, aliased_there, lift_there, thing_there, arguments_there, given_there}
+use Rattle.comp_encoder.proofs.Given.{IsOffered, address_there, lowered_there, main_there, aliased_there, lift_there, thing_there, arguments_there, given_there}
 
 -- the machine of a scope, a store, and what changes
 abbrev pub machine : Scope → Store → Now → Machine
@@ -58,6 +58,10 @@ IsGood c s questions answers (Done m) = (m.scope ≡ c) × (m.store ≡ s)
 IsGood c s questions answers (Trapped m) = LetsRun questions answers → ⊥
 IsGood c s questions answers (Open m) = LetsRun questions answers → ⊥
 IsGood c s questions answers Stuck = ⊥
+
+-- a machine by its parts
+after_is : (c : Scope) (s : Store) (m : Machine) → m.scope ≡ c → m.store ≡ s → machine c s m.now ≡ m
+after_is c s m scope store = rw (← scope, ← store) refl
 
 -- what a definition asks the outside for
 abbrev pub asks : Def → List (List CoreType)
@@ -102,6 +106,25 @@ flat-push f xs x = rw (flat_map-append f xs (x ∷ [])) (ap (λ l. flat_map f xs
 -- one item more of a scope
 abbrev pub with_thing : Scope → Thing → Scope
 with_thing c t = record c { items = c.items ++ t ∷ [] }
+
+numbered-push : (k : ℕ) (ts : List Thing) (n : ℕ) (t : Thing) → NumberedFrom k ts n → t.address ≡ n → NumberedFrom k (ts ++ t ∷ []) (suc n)
+numbered-push k [] n t h e = (e ∙ sym h, ap suc h)
+numbered-push k (x ∷ ts) n t h e = (h.0, numbered-push (suc k) ts n t h.1 e)
+
+-- what a user instance exports stands at the addresses that it was given
+user_exports : (s : Store) (user : ℕ) (before : List CoreItem) (es : List (List ℕ × WorldExport)) → s.core ≡ before ++ map (λ (e : ExportType). OfUser user e.name) (map export_type es) →
+    AllByRecursion (IsUserExport s user) (exported_from (length before) (map export_type es))
+user_exports s user before [] e = tt
+user_exports s user before ((name, exports.WorldFunc key function abi) ∷ es) e =
+    let more : List CoreItem = map (λ (x : ExportType). OfUser user x.name) (map export_type es) in
+    let next : s.core ≡ (before ++ OfUser user name ∷ []) ++ more = e ∙ sym (append_assoc before (OfUser user name ∷ []) more) in
+    let counted : length (before ++ OfUser user name ∷ []) ≡ suc (length before) = length-append before (OfUser user name ∷ []) ∙ add-one (length before) in
+    ((refl, ap (λ l. slice_get l (length before)) e ∙ slice_get-middle before (OfUser user name) more),
+      subst (λ n. AllByRecursion (IsUserExport s user) (exported_from n (map export_type es))) counted (user_exports s user (before ++ OfUser user name ∷ []) es next))
+
+export_names : (k : ℕ) (es : List (List ℕ × WorldExport)) → map (λ (e : Export). e.name) (exported_from k (map export_type es)) ≡ map (λ e. e.0) es
+export_names k [] = refl
+export_names k (e ∷ es) = ap (λ l. e.0 ∷ l) (export_names (suc k) es)
 
 module _ {w : ComponentWorld} {earlier : List Def} {c : Scope} {s : Store} (a : Agrees w earlier c s) where
   -- a definition that makes an item
@@ -290,3 +313,96 @@ module _ {w : ComponentWorld} {earlier : List Def} {c : Scope} {s : Store} (a : 
         a.served
         (map-append (λ (e : Export). e.name) c.exports (x ∷ []))
         (AllByRecursion-push (IsLiftedExport w s) c.exports x a.lifted (record { name = h.lifted.name; space = refl; role = ap (core_name_of w) text ∙ h.lifted.role; is = f.2 })))
+
+  step_module : (bytes : List ℕ) → Steps w earlier c s (defs.Item (items.CoreModule bytes))
+  step_module bytes =
+      let d : Def = defs.Item (items.CoreModule bytes) in
+      let t : Thing = record { space = spaces.CoreModule; address = length s.core_modules } in
+      let s' : Store = record s { core_modules = s.core_modules ++ bytes ∷ [] } in
+      let k : Keeps c.items (c.items ++ t ∷ []) s s' = record {
+        things = λ space i y e. address_at-append c.items (t ∷ []) space i y e;
+        core = λ i y e. e;
+        instances = λ i y e. e;
+        functions = λ i y e. e;
+        types = λ i y e. e;
+        users = λ i y e. e;
+      } in
+      (with_thing c t, s', record { goes = λ e u questions rest g now. g now },
+        agrees_with d (with_thing c t) s' t refl k (record { space = refl; is = tt })
+        (rw (filter-push (is_of spaces.CoreModule) true c.items t refl, length-append s.core_modules (bytes ∷ []), add-one (length s.core_modules)) (numbered-push 0 (filter (is_of spaces.CoreModule) c.items) (length s.core_modules) t a.modules refl))
+        (sym (append-nil (map (λ (u : UserInstance). u.module_number) s.users)))
+        (AllByRecursion-weaker (IsPlannedUser-kept w k) s.users a.served)
+        (sym (append-nil (map (λ (e : Export). e.name) c.exports)))
+        (AllByRecursion-weaker (IsLiftedExport-kept w k) c.exports a.lifted))
+
+  step_custom : (name contents : List ℕ) → Steps w earlier c s (defs.Item (items.Custom name contents))
+  step_custom name contents =
+      let d : Def = defs.Item (items.Custom name contents) in
+      (c, s, record { goes = λ e u questions rest g now. g now }, record {
+        means = subst (λ ds. AllZip (Means w c.items s) ds c.items) (sym (filter-push makes false earlier d refl)) a.means;
+        modules = a.modules;
+        instances = a.instances ∙ sym (flat-push def_instantiates earlier d ∙ append-nil (flat_map def_instantiates earlier));
+        served = a.served;
+        exports = a.exports ∙ sym (flat-push def_export earlier d ∙ append-nil (flat_map def_export earlier));
+        lifted = a.lifted;
+      })
+
+  -- the first core module has the first address
+  first_address : 0 < items_in spaces.CoreModule earlier → address_at spaces.CoreModule 0 c.items ≡ Some 0
+  first_address l = by (filter (is_of spaces.CoreModule) c.items) a.modules (address_there a spaces.CoreModule 0 l)
+    where
+      by : (ts : List Thing) → NumberedFrom 0 ts (length s.core_modules) → (x : ℕ) × (option_map (λ (t : Thing). t.address) (slice_get ts 0) ≡ Some x) → option_map (λ (t : Thing). t.address) (slice_get ts 0) ≡ Some 0
+      by [] h x = absurd (none-some x.0 x.1)
+      by (t ∷ ts) h x = ap (λ (n : ℕ). Some n) h.0
+
+  step_instantiate : IsWorld w → (number : ℕ) (arguments : List CoreArgument) → InstantiatesMain w earlier number arguments → Steps w earlier c s (defs.Item (items.CoreInstantiate number arguments))
+  step_instantiate ok number arguments h =
+      let d : Def = defs.Item (items.CoreInstantiate 0 arguments) in
+      let exports : List ExportType = map export_type w.main.exports.exports in
+      let user : ℕ = length s.users in
+      let args : (ys : List (List ℕ × List Export)) × (all_some (map (core_argument (machine c s no_answers)) arguments) ≡ Some ys) × AllZip (IsOffered s) ys w.main.imports.modules =
+      arguments_there a (machine c s no_answers) refl refl arguments w.main.imports.modules h.each in
+      let given : (ts : List Thing) × (all_some (map (given_to args.0) (map import_type (core_imports w))) ≡ Some ts) × AllZip (IsPlanned s) ts (core_imports w) =
+      given_there s args.0 w.main.imports.modules args.2 ok.modules_apart ok.fields_apart in
+      let instance : UserInstance = record { module_number = 0; given = given.0 } in
+      let own : List Export = exported_from (length s.core) exports in
+      let more : List CoreItem = map (λ (e : ExportType). OfUser user e.name) exports in
+      let t : Thing = record { space = spaces.CoreInstance; address = length s.core_instances } in
+      let s' : Store = record s { core = s.core ++ more; core_instances = s.core_instances ++ own ∷ []; users = s.users ++ instance ∷ [] } in
+      let k : Keeps c.items (c.items ++ t ∷ []) s s' = record {
+        things = λ space i y e. address_at-append c.items (t ∷ []) space i y e;
+        core = λ i y e. slice_get-append s.core more i y e;
+        instances = λ i y e. slice_get-append s.core_instances (own ∷ []) i y e;
+        functions = λ i y e. e;
+        types = λ i y e. e;
+        users = λ i y e. slice_get-append s.users (instance ∷ []) i y e;
+      } in
+      let scoped : 0 < items_in spaces.CoreModule earlier = subst (λ n. n < items_in spaces.CoreModule earlier) h.main h.scoped in
+      let planned : AllByRecursion (IsPlannedUser w s') (s.users ++ instance ∷ []) =
+      AllByRecursion-push (IsPlannedUser w s') s.users instance (AllByRecursion-weaker (IsPlannedUser-kept w k) s.users a.served) (IsPlannedUser-kept w k instance given.2) in
+      let steps : Steps w earlier c s d =
+      (with_thing c t, s', record {
+        goes = λ e u questions rest g now. rw (first_address scoped, args.1, given.1) (
+          good_answered e u questions now.answers _ _
+          (λ values cell left after scope store answers.
+            subst (λ (m : Machine). IsGood e u questions left (run (module_meanings w) rest (new_user 0 exports given.0 m))) (after_is c s after scope store)
+            (subst (λ l. IsGood e u questions l (run (module_meanings w) rest (machine (with_thing c t) s' after.now))) answers (g after.now))));
+      },
+        agrees_with d (with_thing c t) s' t refl k
+        (record {
+          space = refl;
+          is = record {
+            exports = own;
+            user = user;
+            stands = slice_get-end s.core_instances own;
+            is = record { instance = instance; stands = slice_get-end s.users instance; of = refl };
+            names = export_names (length s.core) w.main.exports.exports;
+            each = user_exports s' user s.core w.main.exports.exports refl;
+          };
+        })
+        (rw (filter-push (is_of spaces.CoreModule) false c.items t refl) a.modules)
+        (map-append (λ (u : UserInstance). u.module_number) s.users (instance ∷ []))
+        planned
+        (sym (append-nil (map (λ (e : Export). e.name) c.exports)))
+        (AllByRecursion-weaker (IsLiftedExport-kept w k) c.exports a.lifted)) in
+      subst (λ n. Steps w earlier c s (defs.Item (items.CoreInstantiate n arguments))) (sym h.main) steps
