@@ -3,3 +3,4 @@ mod Zips
 mod Stores
 mod Given
 mod Steps
+mod Runs

@@ -155,7 +155,7 @@ module _ {w : ComponentWorld} {earlier : List Def} {c : Scope} {s : Store} (a : 
       (rw no_export (sym (append-nil (map (λ (e : Export). e.name) c.exports))))
       (AllByRecursion-weaker (IsLiftedExport-kept w keeps) c.exports a.lifted)
 
-  step_type : Steps w earlier c s (defs.Item (items.Type (types.Func plain_function)))
+  pub step_type : Steps w earlier c s (defs.Item (items.Type (types.Func plain_function)))
   step_type =
       let t : Thing = record { space = spaces.Type; address = length s.types } in
       let s' : Store = record s { types = s.types ++ FunctionType ∷ [] } in
@@ -174,7 +174,7 @@ module _ {w : ComponentWorld} {earlier : List Def} {c : Scope} {s : Store} (a : 
   type_there : {index : ℕ} → IsFunctionType earlier index → (x : ℕ) × (address_at spaces.Type index c.items ≡ Some x) × (slice_get s.types x ≡ Some FunctionType)
   type_there h = thing_there a h.made
 
-  step_import : (name : ExternName) (kind : ℕ) → IsFunctionType earlier kind → Steps w earlier c s (defs.Item (items.Import name (descriptions.Func kind)))
+  pub step_import : (name : ExternName) (kind : ℕ) → IsFunctionType earlier kind → Steps w earlier c s (defs.Item (items.Import name (descriptions.Func kind)))
   step_import name kind h =
       let d : Def = defs.Item (items.Import name (descriptions.Func kind)) in
       let t : Thing = record { space = spaces.Func; address = length s.functions } in
@@ -191,7 +191,7 @@ module _ {w : ComponentWorld} {earlier : List Def} {c : Scope} {s : Store} (a : 
       (with_thing c t, s', record { goes = λ e u questions rest g now. rw (y.1, y.2) (g now) },
         agrees_plain d s' t k (record { space = refl; is = slice_get-end s.functions (Imported (name.name ∷ [])) }) refl refl refl refl refl)
 
-  step_lower : (function : ℕ) → function < items_in spaces.Func earlier → Steps w earlier c s (defs.Item (items.Lower function []))
+  pub step_lower : (function : ℕ) → function < items_in spaces.Func earlier → Steps w earlier c s (defs.Item (items.Lower function []))
   step_lower function l =
       let d : Def = defs.Item (items.Lower function []) in
       let x : (x : ℕ) × (address_at spaces.Func function c.items ≡ Some x) = address_there a spaces.Func function l in
@@ -208,7 +208,7 @@ module _ {w : ComponentWorld} {earlier : List Def} {c : Scope} {s : Store} (a : 
       (with_thing c t, s', record { goes = λ e u questions rest g now. rw x.1 (g now) },
         agrees_plain d s' t k (record { space = refl; is = record { of = x.0; at = address_at-append c.items (t ∷ []) spaces.Func function x.0 x.1; is = slice_get-end s.core (Lowering x.0 []) } }) refl refl refl refl refl)
 
-  step_lift : (core kind : ℕ) → core < items_in spaces.CoreFunc earlier → IsFunctionType earlier kind → Steps w earlier c s (defs.Item (items.Lift core [] kind))
+  pub step_lift : (core kind : ℕ) → core < items_in spaces.CoreFunc earlier → IsFunctionType earlier kind → Steps w earlier c s (defs.Item (items.Lift core [] kind))
   step_lift core kind l h =
       let d : Def = defs.Item (items.Lift core [] kind) in
       let x : (x : ℕ) × (address_at spaces.CoreFunc core c.items ≡ Some x) = address_there a spaces.CoreFunc core l in
@@ -226,7 +226,7 @@ module _ {w : ComponentWorld} {earlier : List Def} {c : Scope} {s : Store} (a : 
       (with_thing c t, s', record { goes = λ e u questions rest g now. rw (x.1, y.1, y.2) (g now) },
         agrees_plain d s' t k (record { space = refl; is = record { of = x.0; at = address_at-append c.items (t ∷ []) spaces.CoreFunc core x.0 x.1; is = slice_get-end s.functions (Lifting x.0 []) } }) refl refl refl refl refl)
 
-  step_bag : (entries : List CoreInlineExport) → AllByRecursion (IsEntry earlier) entries → Steps w earlier c s (defs.Item (items.CoreExports entries))
+  pub step_bag : (entries : List CoreInlineExport) → AllByRecursion (IsEntry earlier) entries → Steps w earlier c s (defs.Item (items.CoreExports entries))
   step_bag entries h =
       let d : Def = defs.Item (items.CoreExports entries) in
       let t : Thing = record { space = spaces.CoreInstance; address = length s.core_instances } in
@@ -257,7 +257,7 @@ module _ {w : ComponentWorld} {earlier : List Def} {c : Scope} {s : Store} (a : 
         })
         refl refl refl refl refl)
 
-  step_alias : (instance : ℕ) (name : List ℕ) → AliasesMain w earlier instance name → Steps w earlier c s (defs.Item (items.Alias (aliases.CoreExport kinds.Func instance name)))
+  pub step_alias : (instance : ℕ) (name : List ℕ) → AliasesMain w earlier instance name → Steps w earlier c s (defs.Item (items.Alias (aliases.CoreExport kinds.Func instance name)))
   step_alias instance name h =
       let d : Def = defs.Item (items.Alias (aliases.CoreExport kinds.Func instance name)) in
       let m : (x : ℕ) × (address_at spaces.CoreInstance instance c.items ≡ Some x) × IsUserInstance w s 0 x = main_there a h.of in
@@ -290,7 +290,7 @@ module _ {w : ComponentWorld} {earlier : List Def} {c : Scope} {s : Store} (a : 
         })
         refl refl refl refl refl)
 
-  step_export : (name : ExternName) (index : ℕ) → ExportsRequired w earlier name index → Steps w earlier c s (defs.Item (items.Export name sorts.Func index None))
+  pub step_export : (name : ExternName) (index : ℕ) → ExportsRequired w earlier name index → Steps w earlier c s (defs.Item (items.Export name sorts.Func index None))
   step_export name index h =
       let d : Def = defs.Item (items.Export name sorts.Func index None) in
       let f : (x : ℕ) × (address_at spaces.Func index c.items ≡ Some x) × IsLiftedFrom s x h.lifted.name = lift_there a h.lifted in
@@ -314,7 +314,7 @@ module _ {w : ComponentWorld} {earlier : List Def} {c : Scope} {s : Store} (a : 
         (map-append (λ (e : Export). e.name) c.exports (x ∷ []))
         (AllByRecursion-push (IsLiftedExport w s) c.exports x a.lifted (record { name = h.lifted.name; space = refl; role = ap (core_name_of w) text ∙ h.lifted.role; is = f.2 })))
 
-  step_module : (bytes : List ℕ) → Steps w earlier c s (defs.Item (items.CoreModule bytes))
+  pub step_module : (bytes : List ℕ) → Steps w earlier c s (defs.Item (items.CoreModule bytes))
   step_module bytes =
       let d : Def = defs.Item (items.CoreModule bytes) in
       let t : Thing = record { space = spaces.CoreModule; address = length s.core_modules } in
@@ -335,7 +335,7 @@ module _ {w : ComponentWorld} {earlier : List Def} {c : Scope} {s : Store} (a : 
         (sym (append-nil (map (λ (e : Export). e.name) c.exports)))
         (AllByRecursion-weaker (IsLiftedExport-kept w k) c.exports a.lifted))
 
-  step_custom : (name contents : List ℕ) → Steps w earlier c s (defs.Item (items.Custom name contents))
+  pub step_custom : (name contents : List ℕ) → Steps w earlier c s (defs.Item (items.Custom name contents))
   step_custom name contents =
       let d : Def = defs.Item (items.Custom name contents) in
       (c, s, record { goes = λ e u questions rest g now. g now }, record {
@@ -355,7 +355,7 @@ module _ {w : ComponentWorld} {earlier : List Def} {c : Scope} {s : Store} (a : 
       by [] h x = absurd (none-some x.0 x.1)
       by (t ∷ ts) h x = ap (λ (n : ℕ). Some n) h.0
 
-  step_instantiate : IsWorld w → (number : ℕ) (arguments : List CoreArgument) → InstantiatesMain w earlier number arguments → Steps w earlier c s (defs.Item (items.CoreInstantiate number arguments))
+  pub step_instantiate : IsWorld w → (number : ℕ) (arguments : List CoreArgument) → InstantiatesMain w earlier number arguments → Steps w earlier c s (defs.Item (items.CoreInstantiate number arguments))
   step_instantiate ok number arguments h =
       let d : Def = defs.Item (items.CoreInstantiate 0 arguments) in
       let exports : List ExportType = map export_type w.main.exports.exports in
