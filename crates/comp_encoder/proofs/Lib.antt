@@ -4,3 +4,4 @@ mod Stores
 mod Given
 mod Steps
 mod Runs
+mod Answered

@@ -1,4 +1,4 @@
--- What the bytes that `encode` answers are (component model, binary format).
+-- What the bytes that `encode` answers are (component model, binary format; explainer: component definitions).
 use Rattle.std.specs.Prelude.{ℕ, List}
 use Rattle.comp_bytes.specs.Grammar.{Spells}
 use Rattle.comp_bytes.specs.Scopes.{Scoped}
@@ -6,15 +6,16 @@ use Rattle.comp_bytes.specs.declared.def.Def.{Def}
 use Rattle.comp_worlds.specs.declared.world.ComponentWorld.{ComponentWorld}
 use Rattle.comp_worlds.specs.declared.lower.Lower as lower
 use Rattle.comp_encoder.specs.Encoder.{Encoder}
-use Rattle.comp_state.specs.Rules.{IsBuilt}
+use Rattle.comp_encoder.specs.Linking.{IsComposed, Links}
 
 -- These bytes are the component of a validated world: they spell a list of definitions, in which each
--- index names an earlier item, and which are those that the world asks for.
+-- index names an earlier item, which is composed of what the world says, and which links when it is run.
 pub record IsComponentOf (w : ComponentWorld) (bytes : List ℕ) : Type 0 where
   pub defs : List Def
   pub spells : Spells bytes defs
   pub scoped : Scoped defs
-  pub built : IsBuilt w defs
+  pub composed : IsComposed w defs
+  pub links : Links w defs
 
 module _ {L B F : Type 0} (l : lower.Ghosts L B F) where
   -- these bytes are the component of the world that the lower layer prepares of what was gathered

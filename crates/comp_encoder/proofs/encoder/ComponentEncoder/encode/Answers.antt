@@ -1,6 +1,7 @@
 use Rattle.std.proofs.Common.{refl}
 use Rattle.comp_encoder.specs.Refusals.{IsEncodeRefusal}
 use Rattle.comp_encoder.proofs.Refused.{from_state, refused_as, none_stands}
+use Rattle.comp_encoder.proofs.Answered.{component_of}
 use Rattle.comp_encoder.proofs.encoder.ComponentEncoder.encode.Goals as goal
 
 pub returns-in_err-encode_world-clause-cause : goal.returns-in_err-encode_world-clause-cause
@@ -11,3 +12,7 @@ returns-in_err-encode_world-clause-cause g c =
 pub returns-clause-refused : goal.returns-clause-refused
 returns-clause-refused g c =
     λ _. none_stands g.L.Lower c.args.self.now c.in_ok-world.world c.in_ok-world.ensures.ok (c.in_ok-world.ensures.refused refl) (c.in_ok-encode_world.ensures.refused refl)
+
+pub returns-clause-ok : goal.returns-clause-ok
+returns-clause-ok g c =
+    component_of g.L.Lower c.args.self.now c.in_ok-world.world _ c.in_ok-world.ensures.ok c.in_ok-encode_world.ensures.ok
