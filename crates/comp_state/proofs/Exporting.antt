@@ -22,6 +22,8 @@ use Rattle.comp_state.specs.declared.fault.StateFault.{StateFault}
 use Rattle.comp_state.specs.declared.fault.StateFault.TheVariants as faults
 use Rattle.comp_state.specs.Causes.{IsCause, IsExportRefusal}
 use Rattle.comp_state.specs.Encoding.{Encoding, Extends, IsOffered}
+use Rattle.std.specs.Option.{option_map}
+use Rattle.comp_shims.specs.Targets.{Main, Lifted}
 use Rattle.comp_state.specs.Facts.{IsFunctionType, IsMain, IsAliased, IsLiftFor, plain_name}
 use Rattle.comp_state.specs.Roles.{export_encoding}
 use Rattle.comp_state.specs.Rules.{Grows, ExportNamed}
@@ -65,7 +67,7 @@ adds_lift w old new core kind index options name key none alias type' role encod
         made = subst (λ o. IsAt new.defs spaces.Func index (defs.Item (items.Lift core o kind))) none at;
         typed = IsFunctionType-kept g type';
         aliased = IsAliased-kept g alias;
-        role = role;
+        said = ap (option_map (λ n. Lifted (record { of = Main; name = n }) [])) role;
         encoded = encoded;
       };
     }

@@ -1,5 +1,5 @@
 -- A list of definitions that grows at its end: what stands stays, and rules and landmarks add up.
-use Rattle.std.proofs.Common.{◌≡◌, ◌∙◌, ℕ, List, [], ◌∷◌, ◌++◌, refl, sym, ap, subst, append_assoc, append-nil, Option, Some, inl, inr}
+use Rattle.std.proofs.Common.{◌≡◌, ◌∙◌, ◌<◌, ℕ, List, [], ◌∷◌, ◌++◌, refl, sym, ap, subst, append_assoc, append-nil, Option, Some, inl, inr}
 use Rattle.std.proofs.lemmas.List.Elements.{filter_map-append}
 use Rattle.std.proofs.lemmas.Option.{same_Some}
 use Rattle.std.specs.Str.{bytes_eq}
@@ -14,11 +14,17 @@ use Rattle.comp_bytes.specs.declared.def.Def.{Def}
 use Rattle.comp_bytes.specs.declared.def.CoreInlineExport.{CoreInlineExport}
 use Rattle.comp_bytes.specs.declared.def.CoreArgument.{CoreArgument}
 use Rattle.comp_bytes.specs.declared.space.Space.{Space}
+use Rattle.comp_bytes.specs.declared.space.Space.TheVariants as spaces
+use Rattle.comp_bytes.specs.declared.space.ExportKind.{ExportKind}
+use Rattle.comp_bytes.specs.declared.space.ExportKind.TheVariants as kinds
+use Rattle.comp_bytes.specs.Spaces.{items_in}
 use Rattle.comp_worlds.specs.declared.wit.WorldKey.{WorldKey}
 use Rattle.comp_worlds.specs.declared.imports.Import.{Import}
 use Rattle.comp_worlds.specs.declared.imports.ImportInstance.{ImportInstance}
 use Rattle.comp_worlds.specs.declared.world.ComponentWorld.{ComponentWorld}
-use Rattle.comp_state.specs.Facts.{IsFunctionType, IsImported, IsLowered, IsEntryFor, IsBagFor, IsArgumentFor, IsMain, IsAliased, IsLiftFor}
+use Rattle.comp_shims.specs.Targets.{Main, Target, OfRoot, Lowered}
+use Rattle.comp_state.specs.Links.{link_of}
+use Rattle.comp_state.specs.Facts.{IsFunctionType, IsImported, IsLowered, IsCoreItemFor, IsEntryFor, IsBagFor, IsArgumentFor, IsMain, IsAliased, IsLiftFor}
 use Rattle.comp_state.specs.Rules.{IsRight, RightAfter, Landmark, landmark, landmarks, Grows, IsEntry}
 use Rattle.comp_state.specs.Encoding.{IsEncoding}
 
@@ -57,8 +63,12 @@ module _ {w : ComponentWorld} {old new : List Def} {m : List Landmark} (g : Grow
   pub IsLowered-kept : {i : ℕ} {text : List ℕ} → IsLowered old i text → IsLowered new i text
   IsLowered-kept h = record { function = h.function; made = kept g h.made; of = IsImported-kept h.of }
 
+  item-kept : (kind : ExportKind) (i : ℕ) (target : Target) → IsCoreItemFor old kind i target → IsCoreItemFor new kind i target
+  item-kept kinds.Func i (Lowered (OfRoot name) []) h = IsLowered-kept h
+  item-kept _ i _ h = h
+
   pub IsEntryFor-kept : {e : CoreInlineExport} {f : List ℕ × Import} → IsEntryFor w old e f → IsEntryFor w new e f
-  IsEntryFor-kept h = record { named = h.named; kind = h.kind; lowered = IsLowered-kept h.lowered; encoded = h.encoded }
+  IsEntryFor-kept {e} {f} h = record { named = h.named; serves = item-kept e.kind e.index (link_of w Main f.1) h.serves; encoded = h.encoded }
 
   pub IsBagFor-kept : {b : ℕ} {fields : List (List ℕ × Import)} → IsBagFor w old b fields → IsBagFor w new b fields
   IsBagFor-kept {b} {fields} h = record { entries = h.entries; made = kept g h.made; each = AllZip-weaker (λ x y. IsEntryFor-kept) h.entries fields h.each }
@@ -80,7 +90,7 @@ module _ {w : ComponentWorld} {old new : List Def} {m : List Landmark} (g : Grow
     made = kept g h.made;
     typed = IsFunctionType-kept h.typed;
     aliased = IsAliased-kept h.aliased;
-    role = h.role;
+    said = h.said;
     encoded = h.encoded;
   }
 
@@ -99,7 +109,14 @@ module _ {w : ComponentWorld} {old new : List Def} {m : List Landmark} (g : Grow
 -- the entries of a bag are core functions
 pub entries_in_range : (w : ComponentWorld) (ds : List Def) (es : List CoreInlineExport) (fs : List (List ℕ × Import)) → AllZip (IsEntryFor w ds) es fs → AllByRecursion (IsEntry ds) es
 entries_in_range w ds [] [] h = tt
-entries_in_range w ds (e ∷ es) (f ∷ fs) h = (record { kind = h.0.kind; scoped = in_range h.0.lowered.made }, entries_in_range w ds es fs h.1)
+entries_in_range w ds (e ∷ es) (f ∷ fs) h = (one e (link_of w Main f.1) h.0.serves, entries_in_range w ds es fs h.1)
+  where
+    by_kind : (kind : ExportKind) (index : ℕ) (target : Target) → IsCoreItemFor ds kind index target → (kind ≡ kinds.Func) × (index < items_in spaces.CoreFunc ds)
+    by_kind kinds.Func index (Lowered (OfRoot name) []) h = (refl, in_range h.made)
+    by_kind _ index _ h = absurd h
+
+    one : (e : CoreInlineExport) (target : Target) → IsCoreItemFor ds e.kind e.index target → IsEntry ds e
+    one e target h = let b = by_kind e.kind e.index target h in record { kind = b.0; scoped = b.1 }
 entries_in_range w ds [] (f ∷ fs) h = absurd h
 entries_in_range w ds (e ∷ es) [] h = absurd h
 

@@ -4,6 +4,7 @@ use Rattle.std.specs.Prelude.{◌≡◌, ℕ, false, List, [], Some, None, IsSom
 use Rattle.std.specs.List.{AllZip}
 use Rattle.comp_bytes.specs.Places.{IsAt}
 use Rattle.comp_bytes.specs.declared.space.Space.TheVariants as spaces
+use Rattle.comp_bytes.specs.declared.space.ExportKind.{ExportKind}
 use Rattle.comp_bytes.specs.declared.space.ExportKind.TheVariants as kinds
 use Rattle.comp_bytes.specs.declared.types.ExternName.{ExternName}
 use Rattle.comp_bytes.specs.declared.types.FuncTypeDef.{FuncTypeDef}
@@ -15,12 +16,13 @@ use Rattle.comp_bytes.specs.declared.def.CoreInlineExport.{CoreInlineExport}
 use Rattle.comp_bytes.specs.declared.def.Item.TheVariants as items
 use Rattle.comp_bytes.specs.declared.def.Def.{Def}
 use Rattle.comp_bytes.specs.declared.def.Def.TheVariants as defs
-use Rattle.comp_worlds.specs.Keys.{key_text}
-use Rattle.comp_worlds.specs.Worlds.{imported_text, core_name_of, fields_of}
+use Rattle.comp_worlds.specs.Worlds.{fields_of}
 use Rattle.comp_worlds.specs.declared.wit.WorldKey.{WorldKey}
 use Rattle.comp_worlds.specs.declared.imports.Import.{Import}
 use Rattle.comp_worlds.specs.declared.imports.ImportInstance.{ImportInstance}
 use Rattle.comp_worlds.specs.declared.world.ComponentWorld.{ComponentWorld}
+use Rattle.comp_shims.specs.Targets.{Main, Target, OfRoot, Lowered, Lifted}
+use Rattle.comp_state.specs.Links.{link_of, lift_of}
 use Rattle.comp_state.specs.Roles.{import_encoding, export_encoding}
 
 -- a name without a version suffix
@@ -47,11 +49,15 @@ pub record IsLowered (ds : List Def) (index : ℕ) (text : List ℕ) : Type 0 wh
   pub made : IsAt ds spaces.CoreFunc index (defs.Item (items.Lower function []))
   pub of : IsImported ds function text
 
+-- the core item of this kind and index is the one that a target of the link table names
+abbrev pub IsCoreItemFor : List Def → ExportKind → ℕ → Target → Type 0
+IsCoreItemFor ds kinds.Func index (Lowered (OfRoot name) []) = IsLowered ds index name
+IsCoreItemFor ds kind index target = ⊥
+
 -- the entry of a bag serves the import of this field
 pub record IsEntryFor (w : ComponentWorld) (ds : List Def) (e : CoreInlineExport) (field : List ℕ × Import) : Type 0 where
   pub named : e.name ≡ field.0
-  pub kind : e.kind ≡ kinds.Func
-  pub lowered : IsLowered ds e.index (imported_text field.1)
+  pub serves : IsCoreItemFor ds e.kind e.index (link_of w Main field.1)
   pub encoded : IsSome (import_encoding w field.1)
 
 -- the core instance is a bag with an entry for each field, in order
@@ -80,7 +86,7 @@ pub record IsAliased (ds : List Def) (index : ℕ) (name : List ℕ) : Type 0 wh
   pub made : IsAt ds spaces.CoreFunc index (defs.Item (items.Alias (aliases.CoreExport kinds.Func instance name)))
   pub of : IsMain ds instance
 
--- the function is lifted from the core export that is the root function of this key
+-- the function is the lift that the link table names for the root function of this key
 pub record IsLiftFor (w : ComponentWorld) (ds : List Def) (index : ℕ) (key : WorldKey) : Type 0 where
   pub core : ℕ
   pub kind : ℕ
@@ -88,5 +94,5 @@ pub record IsLiftFor (w : ComponentWorld) (ds : List Def) (index : ℕ) (key : W
   pub made : IsAt ds spaces.Func index (defs.Item (items.Lift core [] kind))
   pub typed : IsFunctionType ds kind
   pub aliased : IsAliased ds core name
-  pub role : core_name_of w (key_text key) ≡ Some name
+  pub said : lift_of w Main key ≡ Some (Lifted (record { of = Main; name = name }) [])
   pub encoded : IsSome (export_encoding w key)

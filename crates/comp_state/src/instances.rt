@@ -9,7 +9,9 @@ ghost use Rattle.comp_worlds.specs.Functions.{of_function};
 ghost use Rattle.comp_worlds.specs.Worlds.{core_imports, fields_of, imported_text};
 ghost use Rattle.comp_state.specs.Causes.{IsCause, IsBuildRefusal, IsImportRefusal, IsFieldsRefusal};
 ghost use Rattle.comp_state.specs.Encoding.{Extends, FindsUsed, FindsFields};
-ghost use Rattle.comp_state.specs.Facts.{IsLowered, IsEntryFor, IsArgumentFor, IsMain, IsFirstModule};
+ghost use Rattle.comp_shims.specs.Targets.{Main};
+ghost use Rattle.comp_state.specs.Links.{link_of};
+ghost use Rattle.comp_state.specs.Facts.{IsLowered, IsCoreItemFor, IsEntryFor, IsArgumentFor, IsMain, IsFirstModule};
 ghost use Rattle.comp_state.specs.Roles.{import_encoding, place_of};
 ghost use Rattle.comp_state.specs.Rules.{Grows, ModuleIs, InstanceOf, imports_marked, landmarks};
 
@@ -80,7 +82,7 @@ impl EncodingState<'_> {
         ensures same { self.new ≡ record self.old { built = self.new.built } }
         ensures extends { Extends self.old.built self.new.built }
         ensures grows { OnOk result (Grows self.old.world self.old.built.defs self.new.built.defs []) }
-        ensures lowered { IfOk result (λ item. (item.0 ≡ ExportKind.Func) × IsLowered self.new.built.defs item.1 (imported_text import.now)) }
+        ensures made { IfOk result (λ item. IsCoreItemFor self.new.built.defs item.0 item.1 (link_of self.old.world Main import.now)) }
         ensures encoded { OnOk result (IsSome (import_encoding self.old.world import.now)) }
         ensures cause { IfErr result (IsImportRefusal self.old.world «module».now field.now import.now) }
     {
