@@ -11,6 +11,7 @@ use Rattle.comp_bytes.specs.Spaces.{kind_space, is_space, space_of, items_in}
 use Rattle.comp_bytes.specs.Places.{in_space, IsAt}
 use Rattle.comp_bytes.specs.declared.space.Space.{Space}
 use Rattle.comp_bytes.specs.declared.space.Space.TheVariants as spaces
+use Rattle.comp_bytes.specs.declared.space.ExportKind.{ExportKind}
 use Rattle.comp_bytes.specs.declared.space.ExportKind.TheVariants as kinds
 use Rattle.comp_bytes.specs.declared.types.Alias.TheVariants as aliases
 use Rattle.comp_bytes.specs.declared.types.Description.TheVariants as descriptions
@@ -27,7 +28,9 @@ use Rattle.comp_worlds.specs.declared.imports.Import.TheVariants as imports
 use Rattle.comp_worlds.specs.declared.imports.ImportInstance.{ImportInstance}
 use Rattle.comp_worlds.specs.declared.world.ComponentWorld.{ComponentWorld}
 use Rattle.comp_shims.specs.Store.{Thing, Export, Lowering, OfUser, Imported, Lifting, UserInstance, Store}
-use Rattle.comp_state.specs.Facts.{IsImported, IsLowered, IsEntryFor, IsBagFor, IsArgumentFor, IsMain, IsAliased, IsLiftFor, plain_name}
+use Rattle.comp_shims.specs.Targets.{Main}
+use Rattle.comp_state.specs.Links.{link_of}
+use Rattle.comp_state.specs.Facts.{IsImported, IsLowered, IsCoreItemFor, IsEntryFor, IsBagFor, IsArgumentFor, IsMain, IsAliased, IsLiftFor, plain_name}
 use Rattle.comp_state.specs.Modules.{import_kind}
 use Rattle.comp_encoder.specs.Machine.{Scope, Machine, address_at, is_of, export_named, export_in, all_some}
 use Rattle.comp_encoder.specs.Instances.{of_kind, given_to}
@@ -115,12 +118,21 @@ module _ {w : ComponentWorld} {earlier : List Def} {c : Scope} {s : Store} (a : 
       let same : f.0 ≡ l.2.of = same_Some f.0 l.2.of (sym f.1 ∙ l.2.at) in
       (l.0, l.1, record { core = l.2.of; is = l.2.is; of = subst (λ n. IsMainExport s n h.name) same f.2 })
 
+  -- what the link table names is there
+  item_there : (kind : ExportKind) (index : ℕ) (role : Import) → IsCoreItemFor earlier kind index (link_of w Main role) →
+      (kind ≡ kinds.Func) × (x : ℕ) × (address_at spaces.CoreFunc index c.items ≡ Some x) × IsServedBy s x (imported_text role)
+  item_there kinds.Func index (imports.WorldFunc key function abi) h = let l = lowered_there h in (refl, l.0, l.1, l.2)
+  item_there kinds.Table index (imports.WorldFunc key function abi) h = absurd h
+  item_there kinds.Memory index (imports.WorldFunc key function abi) h = absurd h
+  item_there kinds.Global index (imports.WorldFunc key function abi) h = absurd h
+
   -- the entries of a bag, as they were put there
   fields_there : (es : List CoreInlineExport) (xs : List Export) (fs : List (List ℕ × Import)) → AllZip (IsEntryFor w earlier) es fs → AllZip (IsNamedEntry c.items) es xs → AllZip (IsFieldExport s) xs fs
   fields_there [] [] [] h n = tt
   fields_there (e ∷ es) (x ∷ xs) (f ∷ fs) h n =
-      let l : (y : ℕ) × (address_at spaces.CoreFunc e.index c.items ≡ Some y) × IsServedBy s y (imported_text f.1) = lowered_there h.0.lowered in
-      let kind : kind_space e.kind ≡ spaces.CoreFunc = ap kind_space h.0.kind in
+      let i : (e.kind ≡ kinds.Func) × (y : ℕ) × (address_at spaces.CoreFunc e.index c.items ≡ Some y) × IsServedBy s y (imported_text f.1) = item_there e.kind e.index f.1 h.0.serves in
+      let l : (y : ℕ) × (address_at spaces.CoreFunc e.index c.items ≡ Some y) × IsServedBy s y (imported_text f.1) = (i.1, i.2, i.3) in
+      let kind : kind_space e.kind ≡ spaces.CoreFunc = ap kind_space i.0 in
       let at : address_at spaces.CoreFunc e.index c.items ≡ Some x.address = subst (λ space. address_at space e.index c.items ≡ Some x.address) kind n.0.at in
       let same : l.0 ≡ x.address = same_Some l.0 x.address (sym l.1 ∙ at) in
       (record { named = n.0.named ∙ h.0.named; space = n.0.space ∙ kind; serves = subst (λ y. IsServedBy s y (imported_text f.1)) same l.2 }, fields_there es xs fs h.1 n.1)

@@ -253,7 +253,7 @@ module _ (w : ComponentWorld) (m : Machine) (names : map (λ (e : Export). e.nam
         address = x.0.address;
         target = Lifted (record { of = Main; name = is.1.name }) [];
         found = ap (export_named (key_text key)) functions_all ∙ (x.1 ∙ ap (λ (e : Export). Some e) whole);
-        said = ap (option_map (λ name. Lifted (record { of = Main; name = name }) [])) (ap (core_name_of w) (sym is.0) ∙ is.1.role);
+        said = ap (λ t. option_map (λ n. Lifted (record { of = Main; name = n }) []) (core_name_of w t)) (sym is.0) ∙ is.1.said;
         meets = record { function = Lifting is.1.is.core []; is = is.1.is.is; meets = (main_export w m.store is.1.is.core is.1.name is.1.is.of, tt) };
       }
 

@@ -32,6 +32,7 @@ use Rattle.comp_worlds.specs.declared.exports.Export.{Export as WorldExport}
 use Rattle.comp_worlds.specs.declared.exports.Export.TheVariants as exports
 use Rattle.comp_worlds.specs.declared.world.ComponentWorld.{ComponentWorld}
 use Rattle.comp_shims.specs.Answers.{CoreType, Value, Answer, Gives, Traps, fit, Instantiated}
+use Rattle.comp_shims.specs.Targets.{Main, Lifted}
 use Rattle.comp_shims.specs.Store.{Thing, Export, CoreItem, Lowering, OfUser, Function, Imported, Lifting, TypeItem, FunctionType, UserInstance, Store, Now}
 use Rattle.comp_state.specs.Facts.{plain_name, plain_function, IsFunctionType}
 use Rattle.comp_state.specs.Modules.{kind_of_export}
@@ -312,7 +313,7 @@ module _ {w : ComponentWorld} {earlier : List Def} {c : Scope} {s : Store} (a : 
         (sym (append-nil (map (λ (u : UserInstance). u.module_number) s.users)))
         a.served
         (map-append (λ (e : Export). e.name) c.exports (x ∷ []))
-        (AllByRecursion-push (IsLiftedExport w s) c.exports x a.lifted (record { name = h.lifted.name; space = refl; role = ap (core_name_of w) text ∙ h.lifted.role; is = f.2 })))
+        (AllByRecursion-push (IsLiftedExport w s) c.exports x a.lifted (record { name = h.lifted.name; space = refl; said = ap (λ t. option_map (λ n. Lifted (record { of = Main; name = n }) []) (core_name_of w t)) text ∙ h.lifted.said; is = f.2 })))
 
   pub step_module : (bytes : List ℕ) → Steps w earlier c s (defs.Item (items.CoreModule bytes))
   step_module bytes =

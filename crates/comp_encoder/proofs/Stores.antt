@@ -20,6 +20,7 @@ use Rattle.comp_bytes.specs.declared.def.Def.TheVariants as defs
 use Rattle.comp_bytes.specs.ScopeNames.{def_export}
 use Rattle.comp_worlds.specs.Worlds.{CoreImport, core_imports, core_name_of, imported_text}
 use Rattle.comp_worlds.specs.declared.world.ComponentWorld.{ComponentWorld}
+use Rattle.comp_shims.specs.Targets.{Main, Lifted}
 use Rattle.comp_shims.specs.Store.{Thing, Export, CoreItem, Lowering, OfUser, Function, Imported, Lifting, TypeItem, FunctionType, UserInstance, Store}
 use Rattle.comp_encoder.specs.Machine.{Scope, address_at, is_of, export_named}
 use Rattle.comp_encoder.specs.Linking.{def_instantiates}
@@ -129,7 +130,7 @@ pub record IsLiftedFrom (s : Store) (address : ℕ) (name : List ℕ) : Type 0 w
 pub record IsLiftedExport (w : ComponentWorld) (s : Store) (e : Export) : Type 0 where
   pub name : List ℕ
   pub space : e.space ≡ spaces.Func
-  pub role : core_name_of w e.name ≡ Some name
+  pub said : option_map (λ name. Lifted (record { of = Main; name = name }) []) (core_name_of w e.name) ≡ Some (Lifted (record { of = Main; name = name }) [])
   pub is : IsLiftedFrom s e.address name
 
 -- addresses from a number on, as many as are left to another
@@ -222,6 +223,6 @@ module _ (w : ComponentWorld) {a b : List Thing} {s t : Store} (k : Keeps a b s 
   IsLiftedExport-kept e h = record {
     name = h.name;
     space = h.space;
-    role = h.role;
+    said = h.said;
     is = record { core = h.is.core; is = k.functions e.address (Lifting h.is.core []) h.is.is; of = IsMainExport-kept k h.is.of };
   }
