@@ -5,3 +5,4 @@ mod Given
 mod Steps
 mod Runs
 mod Answered
+mod Worked

@@ -1,0 +1,261 @@
+-- Worked examples: worlds, lists of definitions, and how running them ends.
+use Rattle.std.proofs.Common.{◌≡◌, ℕ, List, [], ◌∷◌, refl, sym, ap, subst, ◌∙◌, Bool, true≢false, Option, Some, None, false, map, take, arith}
+use Rattle.std.proofs.lemmas.Option.{same_Some}
+use Rattle.std.specs.List.{slice_get}
+use Rattle.std.specs.Str.{bytes_eq}
+use Rattle.comp_bytes.proofs.Worked.{plain, f, g, root, core, one_import_one_export}
+use Rattle.comp_bytes.specs.declared.space.ExportKind.TheVariants as kinds
+use Rattle.comp_bytes.specs.declared.space.Sort.TheVariants as sorts
+use Rattle.comp_bytes.specs.declared.space.Space.TheVariants as spaces
+use Rattle.comp_bytes.specs.declared.types.TypeDef.TheVariants as types
+use Rattle.comp_bytes.specs.declared.types.Description.TheVariants as descriptions
+use Rattle.comp_bytes.specs.declared.types.Alias.TheVariants as aliases
+use Rattle.comp_bytes.specs.declared.def.CoreInlineExport.{CoreInlineExport}
+use Rattle.comp_bytes.specs.declared.def.Item.{Item}
+use Rattle.comp_bytes.specs.declared.def.Item.TheVariants as items
+use Rattle.comp_bytes.specs.declared.def.Def.{Def}
+use Rattle.comp_bytes.specs.declared.def.Def.TheVariants as defs
+use Rattle.comp_worlds.specs.Worlds.{core_preamble}
+use Rattle.comp_worlds.specs.declared.encoding.StringEncoding.{StringEncoding}
+use Rattle.comp_worlds.specs.declared.encoding.StringEncoding.TheVariants as encodings
+use Rattle.comp_worlds.specs.declared.wit.AbiVariant.TheVariants.{GuestImport, GuestExport}
+use Rattle.comp_worlds.specs.declared.wit.WorldKey.{WorldKey}
+use Rattle.comp_worlds.specs.declared.wit.WorldKey.TheVariants as keys
+use Rattle.comp_worlds.specs.declared.wit.WorldItem.{WorldItem}
+use Rattle.comp_worlds.specs.declared.wit.WorldItem.TheVariants as world_items
+use Rattle.comp_worlds.specs.declared.metadata.FunctionKey.{FunctionKey}
+use Rattle.comp_worlds.specs.declared.imports.Import.{Import}
+use Rattle.comp_worlds.specs.declared.imports.Import.TheVariants as imports
+use Rattle.comp_worlds.specs.declared.imports.ImportInstance.{ImportInstance}
+use Rattle.comp_worlds.specs.declared.imports.ImportInstance.TheVariants as instances
+use Rattle.comp_worlds.specs.declared.exports.Export.{Export as WorldExport}
+use Rattle.comp_worlds.specs.declared.exports.Export.TheVariants as exports
+use Rattle.comp_worlds.specs.declared.world.ComponentWorld.{ComponentWorld}
+use Rattle.comp_shims.specs.Answers.{Answer, Gives, Traps, Event, Instantiated, I32Value}
+use Rattle.comp_shims.specs.Store.{Thing, Export, CoreItem, Lowering, OfUser, Function, Imported, Lifting, UserInstance, Store}
+use Rattle.comp_bytes.specs.Places.{in_space}
+use Rattle.comp_state.specs.Facts.{IsFunctionType, IsImported, IsLowered, IsArgumentFor, IsMain, IsLiftFor}
+use Rattle.comp_state.specs.Rules.{IsBuilt}
+use Rattle.comp_encoder.specs.Machine.{Machine, Outcome, Done, Trapped, Open, Stuck}
+use Rattle.comp_shims.specs.Targets.{OfRoot, Lowered}
+use Rattle.comp_encoder.specs.Meeting.{CoreMeets, CoreFunctionMeets}
+use Rattle.comp_encoder.specs.Linking.{outcome, IsLinked}
+
+-- a world of root functions: those that it imports and exports, what main imports, and what main exports
+abbrev entry : List ℕ → WorldKey × WorldItem
+entry name = (keys.Name name, world_items.Function (record { name = name }))
+
+abbrev encoded : List ℕ → FunctionKey × StringEncoding
+encoded name = (record { key = keys.Name name; function = name }, encodings.UTF8)
+
+abbrev imported_as : List ℕ × List ℕ → List ℕ × Import
+imported_as field = (field.0, imports.WorldFunc (keys.Name field.1) field.1 GuestImport)
+
+abbrev group : List ℕ × List (List ℕ × List ℕ) → List ℕ × ImportInstance
+group g = (g.0, instances.Names (map imported_as g.1))
+
+abbrev exported_as : List ℕ × List ℕ → List ℕ × WorldExport
+exported_as e = (e.0, exports.WorldFunc (keys.Name e.1) e.1 GuestExport)
+
+abbrev world_of : (bytes : List ℕ) (imported exported : List (List ℕ)) (groups : List (List ℕ × List (List ℕ × List ℕ))) (core_exports : List (List ℕ × List ℕ)) → ComponentWorld
+world_of bytes imported exported groups core_exports = record {
+  world = record { imports = map entry imported; exports = map entry exported };
+  main = record {
+    bytes = bytes;
+    imports = record { modules = map group groups };
+    exports = record { exports = map exported_as core_exports };
+    metadata = record { import_encodings = map encoded imported; export_encodings = map encoded exported };
+  };
+  main_exports = map keys.Name exported;
+}
+
+-- how a run ended: the core items, the functions, what each user instance was given, the exports, the events
+pub record Ended : Type 0 where
+  pub core : List CoreItem
+  pub functions : List Function
+  pub users : List UserInstance
+  pub exported : List Export
+  pub events : List Event
+
+abbrev ended : Outcome → Option Ended
+ended (Done m) = Some (record { core = m.store.core; functions = m.store.functions; users = m.store.users; exported = m.scope.exports; events = m.now.events })
+ended _ = None
+
+abbrev made : List Answer
+made = Gives [] 0 ∷ []
+
+abbrev core_function : ℕ → Thing
+core_function address = record { space = spaces.CoreFunc; address = address }
+
+abbrev function_export : List ℕ → ℕ → Export
+function_export name address = record { space = spaces.Func; name = name; address = address }
+
+-- main imports f and exports g
+abbrev one_each : ComponentWorld
+one_each = world_of core (f ∷ []) (g ∷ []) ((root, (f, f) ∷ []) ∷ []) ((g, g) ∷ [])
+
+pub one_each_ends : ended (outcome one_each one_import_one_export made) ≡ Some (record {
+    core = Lowering 0 [] ∷ OfUser 0 g ∷ [];
+    functions = Imported (f ∷ []) ∷ Lifting 1 [] ∷ [];
+    users = record { module_number = 0; given = core_function 0 ∷ [] } ∷ [];
+    exported = function_export g 1 ∷ [];
+    events = Instantiated 0 ∷ [];
+  })
+one_each_ends = refl
+
+-- where the outside traps, has no answer left, or answers with a value, the run isn't done
+abbrev is_trapped : Outcome → Option ℕ
+is_trapped (Trapped m) = Some 0
+is_trapped (Open m) = Some 1
+is_trapped Stuck = Some 2
+is_trapped (Done m) = None
+
+pub one_each_traps : is_trapped (outcome one_each one_import_one_export (Traps ∷ [])) ≡ Some 0
+one_each_traps = refl
+
+pub one_each_open : is_trapped (outcome one_each one_import_one_export []) ≡ Some 1
+one_each_open = refl
+
+pub one_each_of_wrong_types : is_trapped (outcome one_each one_import_one_export (Gives (I32Value 0 ∷ []) 0 ∷ [])) ≡ Some 1
+one_each_of_wrong_types = refl
+
+-- a list that lacks an item is stuck
+pub nothing_to_lower : outcome one_each (defs.Item (items.Lower 0 []) ∷ []) made ≡ Stuck
+nothing_to_lower = refl
+
+-- the empty module, which imports and exports nothing
+abbrev empty_module : ComponentWorld
+empty_module = world_of core_preamble [] [] [] []
+
+pub empty_module_ends : ended (outcome empty_module (map defs.Item (items.CoreModule core_preamble ∷ items.CoreInstantiate 0 [] ∷ [])) made) ≡ Some (record {
+    core = [];
+    functions = [];
+    users = record { module_number = 0; given = [] } ∷ [];
+    exported = [];
+    events = Instantiated 0 ∷ [];
+  })
+empty_module_ends = refl
+
+-- two functions of one type, each imported from two modules, and two exports
+abbrev h : List ℕ
+h = 0x68 ∷ []
+
+abbrev k : List ℕ
+k = 0x6b ∷ []
+
+abbrev a : List ℕ
+a = 0x61 ∷ []
+
+abbrev b : List ℕ
+b = 0x62 ∷ []
+
+abbrev two_twice : ComponentWorld
+two_twice = world_of core (f ∷ h ∷ []) (g ∷ k ∷ []) ((a, (f, f) ∷ (h, h) ∷ []) ∷ (b, (h, f) ∷ (f, h) ∷ []) ∷ []) ((k, g) ∷ (g, k) ∷ [])
+
+abbrev bag : List ℕ → ℕ → List ℕ → ℕ → Item
+bag name index name' index' = items.CoreExports (record { name = name; kind = kinds.Func; index = index } ∷ record { name = name'; kind = kinds.Func; index = index' } ∷ [])
+
+-- the list, where the two lowerings of the first module have these functions
+abbrev two_twice_defs : ℕ → ℕ → List Def
+two_twice_defs first second = map defs.Item (
+    items.Type (types.Func (record { async_ = false; params = []; result = None }))
+    ∷ items.Import (plain f) (descriptions.Func 0)
+    ∷ items.Import (plain h) (descriptions.Func 0)
+    ∷ items.CoreModule core
+    ∷ items.Lower first []
+    ∷ items.Lower second []
+    ∷ bag f 0 h 1
+    ∷ items.Lower 0 []
+    ∷ items.Lower 1 []
+    ∷ bag h 2 f 3
+    ∷ items.CoreInstantiate 0 (record { name = a; instance = 0 } ∷ record { name = b; instance = 1 } ∷ [])
+    ∷ items.Alias (aliases.CoreExport kinds.Func 2 k)
+    ∷ items.Lift 4 [] 0
+    ∷ items.Export (plain g) sorts.Func 2 None
+    ∷ items.Alias (aliases.CoreExport kinds.Func 2 g)
+    ∷ items.Lift 5 [] 0
+    ∷ items.Export (plain k) sorts.Func 4 None
+    ∷ [])
+
+-- an exported name is a core item of the other name, as the roles say
+pub two_twice_ends : ended (outcome two_twice (two_twice_defs 0 1) made) ≡ Some (record {
+    core = Lowering 0 [] ∷ Lowering 1 [] ∷ Lowering 0 [] ∷ Lowering 1 [] ∷ OfUser 0 k ∷ OfUser 0 g ∷ [];
+    functions = Imported (f ∷ []) ∷ Imported (h ∷ []) ∷ Lifting 4 [] ∷ Lifting 5 [] ∷ [];
+    users = record { module_number = 0; given = core_function 0 ∷ core_function 1 ∷ core_function 2 ∷ core_function 3 ∷ [] } ∷ [];
+    exported = function_export g 2 ∷ function_export k 3 ∷ [];
+    events = Instantiated 0 ∷ [];
+  })
+two_twice_ends = refl
+
+abbrev machine_of : Outcome → Option Machine
+machine_of (Done m) = Some m
+machine_of _ = None
+
+abbrev linked_if_done : ComponentWorld → Option Machine → Type 0
+linked_if_done w (Some m) = IsLinked w m
+linked_if_done w None = ⊥
+
+abbrev is_h : Function → Bool
+is_h (Imported (name ∷ path)) = bytes_eq name h
+is_h _ = false
+
+-- a lowering of h is none of f
+another_function : (s : Store) → slice_get s.core 0 ≡ Some (Lowering 1 []) → slice_get s.functions 1 ≡ Some (Imported (h ∷ [])) → CoreFunctionMeets two_twice s 0 (Lowered (OfRoot f) []) → ⊥
+another_function s lowering functions m =
+    let same : m.item ≡ Lowering 1 [] = same_Some m.item (Lowering 1 []) (sym m.is ∙ lowering) in
+    let meets : CoreMeets two_twice s (Lowering 1 []) (Lowered (OfRoot f) []) = subst (λ x. CoreMeets two_twice s x (Lowered (OfRoot f) [])) same m.meets in
+    let path : Imported (h ∷ []) ≡ Imported (f ∷ []) = same_Some (Imported (h ∷ [])) (Imported (f ∷ [])) (sym functions ∙ meets.0) in
+    absurd (true≢false (ap is_h path))
+
+-- where the two are crossed, the run ends, but it isn't linked
+pub crossed_is_not_linked : linked_if_done two_twice (machine_of (outcome two_twice (two_twice_defs 1 0) made)) → ⊥
+crossed_is_not_linked l = another_function _ refl refl l.imports.0.0
+
+-- one list that keeps every rule, so that no rule is a contradiction
+abbrev ds : ℕ → List Def
+ds n = take n one_import_one_export
+
+function_typed : IsFunctionType (ds 1) 0
+function_typed = record { made = record { made = refl } }
+
+function_typed_later : IsFunctionType (ds 7) 0
+function_typed_later = record { made = record { made = refl } }
+
+f_imported : IsImported (ds 2) 0 f
+f_imported = record { kind = 0; made = record { made = refl }; typed = record { made = record { made = refl } } }
+
+f_lowered : IsLowered (ds 4) 0 f
+f_lowered = record { function = 0; made = record { made = refl }; of = record { kind = 0; made = record { made = refl }; typed = record { made = record { made = refl } } } }
+
+f_offered : IsArgumentFor one_each (ds 5) (record { name = root; instance = 0 }) (group (root, (f, f) ∷ []))
+f_offered = record {
+  named = refl;
+  serves = record {
+    entries = record { name = f; kind = kinds.Func; index = 0 } ∷ [];
+    made = record { made = refl };
+    each = (record { named = refl; serves = record { function = 0; made = record { made = refl }; of = record { kind = 0; made = record { made = refl }; typed = record { made = record { made = refl } } } }; encoded = refl }, tt);
+  };
+}
+
+main_made : (n : ℕ) → slice_get (in_space spaces.CoreInstance (ds n)) 1 ≡ Some (defs.Item (items.CoreInstantiate 0 (record { name = root; instance = 0 } ∷ []))) → IsMain (ds n) 1
+main_made n at = record { arguments = record { name = root; instance = 0 } ∷ []; made = record { made = at } }
+
+g_lifted : IsLiftFor one_each (ds 8) 1 (keys.Name g)
+g_lifted = record {
+  core = 1;
+  kind = 0;
+  name = g;
+  made = record { made = refl };
+  typed = record { made = record { made = refl } };
+  aliased = record { instance = 1; made = record { made = refl }; of = main_made 8 refl };
+  said = refl;
+  encoded = refl;
+}
+
+pub keeps_the_rules : IsBuilt one_each one_import_one_export
+keeps_the_rules = record {
+  right =
+      (refl, ((refl, function_typed), (tt, ((omega arith, refl), ((record { kind = refl; scoped = omega arith }, tt), (record { main = refl; scoped = omega arith; each = (f_offered, tt) },
+        (record { of = main_made 6 refl; key = g; role = refl }, ((omega arith, refl, function_typed_later), (record { key = keys.Name g; named = refl; lifted = g_lifted }, tt)))))))));
+  marked = refl;
+}
