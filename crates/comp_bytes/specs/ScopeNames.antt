@@ -2,7 +2,8 @@
 -- Component model, explainer: names of imports and of exports are distinct in their scope, and so are
 -- those of the arguments of an instantiation and of the entries of an instance made of items at hand.
 use Rattle.std.specs.Prelude.{ℕ, List, [], ◌∷◌, map}
-use Rattle.std.specs.List.{flat_map}
+use Rattle.std.specs.List.{flat_map, AllByRecursion, IsDistinct}
+use Rattle.std.specs.Str.{bytes_eq}
 use Rattle.comp_bytes.specs.declared.types.Member.{Member}
 use Rattle.comp_bytes.specs.declared.types.Member.TheVariants as members
 use Rattle.comp_bytes.specs.declared.def.Item.{Item}
@@ -53,3 +54,7 @@ def_names (defs.Component inner) = inner_names inner
 -- the lists of a component: its imports, its exports, and those of its definitions in turn
 abbrev pub names : List Def → List Names
 names definitions = flat_map def_import definitions ∷ flat_map def_export definitions ∷ flat_map def_names definitions
+
+-- No name stands twice in its list.
+abbrev pub NamesApart : List Def → Type 0
+NamesApart definitions = AllByRecursion (IsDistinct bytes_eq) (names definitions)

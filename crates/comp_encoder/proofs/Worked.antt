@@ -31,12 +31,12 @@ use Rattle.comp_worlds.specs.declared.imports.ImportInstance.TheVariants as inst
 use Rattle.comp_worlds.specs.declared.exports.Export.{Export as WorldExport}
 use Rattle.comp_worlds.specs.declared.exports.Export.TheVariants as exports
 use Rattle.comp_worlds.specs.declared.world.ComponentWorld.{ComponentWorld}
-use Rattle.comp_shims.specs.Answers.{Answer, Gives, Traps, Event, Instantiated, I32Value}
+use Rattle.comp_shims.specs.Answers.{Answer, Gives, Traps, Event, Instantiated, Called, I32Value}
 use Rattle.comp_shims.specs.Store.{Thing, Export, CoreItem, Lowering, OfUser, Function, Imported, Lifting, UserInstance, Store}
 use Rattle.comp_bytes.specs.Places.{in_space}
 use Rattle.comp_state.specs.Facts.{IsFunctionType, IsImported, IsLowered, IsArgumentFor, IsMain, IsLiftFor}
 use Rattle.comp_state.specs.Rules.{IsBuilt}
-use Rattle.comp_encoder.specs.Machine.{Machine, Outcome, Done, Trapped, Open, Stuck}
+use Rattle.comp_encoder.specs.Machine.{Machine, Outcome, Done, Trapped, Open, Stuck, acts}
 use Rattle.comp_shims.specs.Targets.{OfRoot, Lowered}
 use Rattle.comp_encoder.specs.Meeting.{CoreMeets, CoreFunctionMeets}
 use Rattle.comp_encoder.specs.Linking.{outcome, IsLinked}
@@ -103,6 +103,10 @@ pub one_each_ends : ended (outcome one_each one_import_one_export made) ≡ Some
   })
 one_each_ends = refl
 
+abbrev then_calls : ℕ → Outcome → Outcome
+then_calls function (Done m) = acts [] function [] m (λ results after. Done after)
+then_calls function o = o
+
 -- where the outside traps, has no answer left, or answers with a value, the run isn't done
 abbrev is_trapped : Outcome → Option ℕ
 is_trapped (Trapped m) = Some 0
@@ -118,6 +122,16 @@ one_each_open = refl
 
 pub one_each_of_wrong_types : is_trapped (outcome one_each one_import_one_export (Gives (I32Value 0 ∷ []) 0 ∷ [])) ≡ Some 1
 one_each_of_wrong_types = refl
+
+-- once it is done, a call of what main's import was given is seen, and nothing else
+pub one_each_called : ended (then_calls 0 (outcome one_each one_import_one_export (Gives [] 0 ∷ Gives [] 0 ∷ []))) ≡ Some (record {
+    core = Lowering 0 [] ∷ OfUser 0 g ∷ [];
+    functions = Imported (f ∷ []) ∷ Lifting 1 [] ∷ [];
+    users = record { module_number = 0; given = core_function 0 ∷ [] } ∷ [];
+    exported = function_export g 1 ∷ [];
+    events = Instantiated 0 ∷ Called 0 [] ∷ [];
+  })
+one_each_called = refl
 
 -- a list that lacks an item is stuck
 pub nothing_to_lower : outcome one_each (defs.Item (items.Lower 0 []) ∷ []) made ≡ Stuck

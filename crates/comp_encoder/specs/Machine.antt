@@ -6,7 +6,7 @@ use Rattle.comp_lists.specs.Found.{found}
 use Rattle.comp_bytes.specs.Spaces.{is_space}
 use Rattle.comp_bytes.specs.declared.space.Space.{Space}
 use Rattle.comp_bytes.specs.declared.space.Space.TheVariants as spaces
-use Rattle.comp_shims.specs.Answers.{CoreType, Value, I32Value, I64Value, fit, Answer, Gives, Traps, Event}
+use Rattle.comp_shims.specs.Answers.{CoreType, Value, I32Value, I64Value, fit, Answer, Gives, Traps, Event, Called}
 use Rattle.comp_shims.specs.Store.{Thing, Export, CoreItem, Function, TypeItem, ComponentItem, Store, Now}
 
 -- the items of the component so far, those of the scopes around it (innermost first), and its exports
@@ -101,6 +101,11 @@ answered types (Traps ∷ answers) m next = Trapped (record m { now = record m.n
 answered types (Gives values cell ∷ answers) m next =
     if fit types values then next values (record m { now = record m.now { globals = map (renewed cell) m.now.globals; answers = answers } }) else Open m
 
--- the outside does what is seen as this event
+-- the outside does what is seen as this event, and answers with values of these types
 abbrev pub asked : List CoreType → Event → Machine → (List Value → Next) → Outcome
 asked types event m next = answered types m.now.answers (record m { now = record m.now { events = m.now.events ++ event ∷ [] } }) next
+
+-- What a call of a core function does, by the types of its results: a lowering, an intrinsic and a function
+-- of a user module are opaque, so that the call is seen, and the outside answers it.
+abbrev pub acts : List CoreType → ℕ → List Value → Machine → (List Value → Next) → Outcome
+acts results function arguments m next = asked results (Called function arguments) m next

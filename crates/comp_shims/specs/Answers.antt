@@ -38,6 +38,8 @@ pub data Answer : Type 0 where
   Gives : (results : List Value) (cell : ℕ) → Answer
   Traps : Answer
 
--- what is seen of a run from the outside: the user module of this number is instantiated
+-- what is seen of a run from the outside: the user module of this number is instantiated, or an opaque
+-- core function is called, by its address, with these arguments
 pub data Event : Type 0 where
   Instantiated : (module_number : ℕ) → Event
+  Called : (function : ℕ) (arguments : List Value) → Event
