@@ -6,3 +6,6 @@ pub mod Unique
 pub mod Places
 pub mod Worked
 pub mod Scopes
+pub mod Readers
+pub mod Groups
+pub mod ValueReaders
