@@ -9,3 +9,6 @@ pub mod Scopes
 pub mod Readers
 pub mod Groups
 pub mod ValueReaders
+pub mod TypeReaders
+pub mod CanonReaders
+pub mod ItemReaders

@@ -72,6 +72,10 @@ abbrev pub tagged : {A : Type 0} → (ℕ → Reader A) → Reader A
 tagged after [] = None
 tagged after (b ∷ bs) = after b bs
 
+-- behind a byte that is known
+abbrev pub skipped : {A : Type 0} → Reader A → Reader A
+skipped r bs = tagged (λ b rest. r rest) bs
+
 -- what a reader doesn't read, another may
 abbrev pub or_else : {A : Type 0} → Read A → Read A → Read A
 or_else None q = q
