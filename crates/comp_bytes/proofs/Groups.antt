@@ -1,11 +1,11 @@
 -- A component's bytes spell at most one list of definitions, where the text of each definition in its section does.
-use Rattle.std.proofs.Common.{◌≡◌, ℕ, zero, suc, List, [], ◌∷◌, ◌++◌, length, map, Bool, true, false, refl, sym, ap, ap₂, ◌∙◌, subst}
+use Rattle.std.proofs.Common.{◌≡◌, ℕ, List, [], ◌∷◌, ◌++◌, length, map, Bool, true, false, refl, sym, ap, ap₂, ◌∙◌, subst}
 use Rattle.std.specs.Prelude.{◌==◌, ◌&&◌, if◌then◌else◌}
 use Rattle.std.specs.List.{flat_map, AllByRecursion}
 use Rattle.std.proofs.lemmas.List.{append-nil}
 use Rattle.std.proofs.lemmas.Bool.{eqb-true}
 use Rattle.comp_bytes.specs.Spelling.{Spelling}
-use Rattle.comp_bytes.specs.Sections.{Entry, Section, shares, before, sections, section, contents, section_of, first_id, component}
+use Rattle.comp_bytes.specs.Sections.{Entry, Section, shares, before, sections, section, contents, section_of, component}
 use Rattle.comp_bytes.proofs.Unique.{one_number, one_name}
 
 -- The bytes of two definitions of one section say which they are: where a section is shared, whatever follows.
@@ -96,8 +96,7 @@ contents_one f one id true s x xs y ys p q g h e =
 contents_one f one id false s x xs y ys p q g h e =
     let xs_none : xs ≡ [] = g.1 (ap shares p ∙ s) in
     let ys_none : ys ≡ [] = h.1 (ap shares q ∙ s) in
-    let alone : (f x).text.bytes ++ text_bytes f [] ≡ (f y).text.bytes ++ text_bytes f [] =
-        ap (λ l. (f x).text.bytes ++ text_bytes f l) (sym xs_none) ∙ e ∙ ap (λ l. (f y).text.bytes ++ text_bytes f l) ys_none in
+    let alone : (f x).text.bytes ++ text_bytes f [] ≡ (f y).text.bytes ++ text_bytes f [] = ap (λ l. (f x).text.bytes ++ text_bytes f l) (sym xs_none) ∙ e ∙ ap (λ l. (f y).text.bytes ++ text_bytes f l) ys_none in
     let same : x ≡ y = one.whole x y (p ∙ sym q) (ap shares p ∙ s) (sym (append-nil (f x).text.bytes) ∙ alone ∙ append-nil (f y).text.bytes) in
     ap₂ (λ z zs. z ∷ zs) same (xs_none ∙ sym ys_none)
 

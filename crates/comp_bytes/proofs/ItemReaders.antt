@@ -1,10 +1,8 @@
--- Readers of definitions, by the id of their section.
-use Rattle.std.proofs.Common.{◌≡◌, ℕ, List, [], ◌∷◌, ◌++◌, map, Bool, true, false, Option, Some, None, refl, sym, ap, ◌∙◌}
+-- Readers of what is written of an item in its section, by the section's id.
+use Rattle.std.proofs.Common.{◌≡◌, ℕ, List, ◌++◌, true, false, Option, Some, None, refl, ap}
 use Rattle.std.specs.Prelude.{nat_eq, if◌then◌else◌}
-use Rattle.comp_bytes.specs.Spelling.{Spelling, ◌⊕◌, raw, octet, number, listed, named, optional}
-use Rattle.comp_bytes.specs.Sections.{Entry, shares, component}
-use Rattle.comp_bytes.specs.Grammar.{kind_byte, sort_bytes, type_def, member, instance_type, alias_bytes, option_bytes, intrinsic_bytes, extern_name, description_bytes, core_argument, core_inline_export, argument, item, definition, Spells}
-use Rattle.comp_bytes.specs.Laws.{OneList}
+use Rattle.comp_bytes.specs.Sections.{shares}
+use Rattle.comp_bytes.specs.Grammar.{type_def, instance_type, intrinsic_bytes, core_argument, core_inline_export, argument, item}
 use Rattle.comp_bytes.specs.declared.types.TypeDef.{TypeDef}
 use Rattle.comp_bytes.specs.declared.types.InstanceType.{InstanceType}
 use Rattle.comp_bytes.specs.declared.canon.CanonicalOption.{CanonicalOption}
@@ -14,31 +12,28 @@ use Rattle.comp_bytes.specs.declared.def.CoreInlineExport.{CoreInlineExport}
 use Rattle.comp_bytes.specs.declared.def.Argument.{Argument}
 use Rattle.comp_bytes.specs.declared.def.Item.{Item}
 use Rattle.comp_bytes.specs.declared.def.Item.TheVariants as items
-use Rattle.comp_bytes.specs.declared.def.Def.{Def}
-use Rattle.comp_bytes.specs.declared.def.Def.TheVariants as defs
-use Rattle.comp_bytes.proofs.Readers.{Read, Reader, read_then, or_else, Reads, made_from, made, pair_from, pair_reads, as_reads, followed_from, followed_reads, tagged, skipped, number_from, number_reads, list_from, list_reads, name_from, name_reads, option_from, option_reads}
+use Rattle.comp_bytes.proofs.Readers.{Read, Reader, or_else, Reads, made_from, made, pair_from, pair_reads, as_reads, followed_from, followed_reads, tagged, skipped, number_from, number_reads, list_from, list_reads, name_from, name_reads, option_from, option_reads}
 use Rattle.comp_bytes.proofs.ValueReaders.{kind_from, kind_reads, sort_from, sort_reads, primitive_from, extern_from, extern_reads, description_from, description_reads}
 use Rattle.comp_bytes.proofs.TypeReaders.{defined_from, type_from, type_reads, alias_from, alias_reads, instance_type_from, instance_type_reads}
 use Rattle.comp_bytes.proofs.CanonReaders.{options_from, options_reads, intrinsic_from, intrinsic_reads}
-use Rattle.comp_bytes.proofs.Groups.{OneEntry, component_one}
 
 -- ---- what is given and exported
 
-unfoldable core_argument_from : Reader CoreArgument
+unfoldable pub core_argument_from : Reader CoreArgument
 core_argument_from bs = made_from (λ p. record { name = p.0; instance = p.1 }) (pair_from (followed_from name_from) number_from) bs
 
 core_argument_reads : Reads core_argument core_argument_from
 unfolding core_argument_from
 core_argument_reads = as_reads (pair_reads (followed_reads name_reads 0x12) number_reads) (λ (a : CoreArgument). (a.name, a.instance)) (λ p. record { name = p.0; instance = p.1 }) (λ a. refl)
 
-unfoldable core_inline_export_from : Reader CoreInlineExport
+unfoldable pub core_inline_export_from : Reader CoreInlineExport
 core_inline_export_from bs = made_from (λ p. record { name = p.0.0; kind = p.0.1; index = p.1 }) (pair_from (pair_from name_from kind_from) number_from) bs
 
 core_inline_export_reads : Reads core_inline_export core_inline_export_from
 unfolding core_inline_export_from
 core_inline_export_reads = as_reads (pair_reads (pair_reads name_reads kind_reads) number_reads) (λ (e : CoreInlineExport). ((e.name, e.kind), e.index)) (λ p. record { name = p.0.0; kind = p.0.1; index = p.1 }) (λ e. refl)
 
-unfoldable argument_from : Reader Argument
+unfoldable pub argument_from : Reader Argument
 argument_from bs = made_from (λ p. record { name = p.0.0; sort = p.0.1; index = p.1 }) (pair_from (pair_from name_from sort_from) number_from) bs
 
 argument_reads : Reads argument argument_from
@@ -63,7 +58,7 @@ canon_after b bs =
 abbrev canon_from : Reader Item
 canon_from bs = or_else (made_from (λ i. items.Intrinsic i) intrinsic_from bs) (tagged canon_after bs)
 
-abbrev item_from : ℕ → Reader Item
+abbrev pub item_from : ℕ → Reader Item
 item_from id bs =
     if nat_eq id 2 then tagged core_instance_after bs
     else if nat_eq id 5 then skipped (made_from (λ p. items.Instantiate p.0 p.1) (pair_from number_from (list_from argument_from))) bs
@@ -92,7 +87,7 @@ lower_again func options rest = made (pair_reads number_reads options_reads) (λ
 intrinsic_entry_again : (i : Intrinsic) (rest : List ℕ) → canon_from ((intrinsic_bytes i).bytes ++ rest) ≡ Some (items.Intrinsic i, rest)
 intrinsic_entry_again i rest = ap (λ o. or_else o (tagged canon_after ((intrinsic_bytes i).bytes ++ rest))) (made intrinsic_reads (λ i. items.Intrinsic i) i rest)
 
-item_again : (x : Item) (rest : List ℕ) → shares (item x).id ≡ true → item_from (item x).id ((item x).text.bytes ++ rest) ≡ Some (x, rest)
+pub item_again : (x : Item) (rest : List ℕ) → shares (item x).id ≡ true → item_from (item x).id ((item x).text.bytes ++ rest) ≡ Some (x, rest)
 item_again (items.CoreModule bytes) rest s = cc
 item_again (items.CoreInstantiate made_of args) rest s = made (pair_reads number_reads (list_reads core_argument_reads)) (λ p. items.CoreInstantiate p.0 p.1) (made_of, args) rest
 item_again (items.CoreExports entries) rest s = made (list_reads core_inline_export_reads) (λ es. items.CoreExports es) entries rest
@@ -114,10 +109,10 @@ abbrev custom_of : Read (List ℕ) → Option Item
 custom_of None = None
 custom_of (Some p) = Some (items.Custom p.0 p.1)
 
-abbrev whole_from : ℕ → List ℕ → Option Item
+abbrev pub whole_from : ℕ → List ℕ → Option Item
 whole_from id bs = if nat_eq id 1 then Some (items.CoreModule bs) else custom_of (name_from bs)
 
-whole_again : (x : Item) → shares (item x).id ≡ false → whole_from (item x).id (item x).text.bytes ≡ Some x
+pub whole_again : (x : Item) → shares (item x).id ≡ false → whole_from (item x).id (item x).text.bytes ≡ Some x
 whole_again (items.CoreModule bytes) s = refl
 whole_again (items.CoreInstantiate made_of args) s = cc
 whole_again (items.CoreExports entries) s = cc
@@ -131,58 +126,3 @@ whole_again (items.Intrinsic i) s = cc
 whole_again (items.Import name description) s = cc
 whole_again (items.Export name sort index description) s = cc
 whole_again (items.Custom name contents) s = ap custom_of (name_reads.again name contents)
-
--- ---- one definition
-
-item_shared : (x y : Item) (u v : List ℕ) → (item x).id ≡ (item y).id → shares (item x).id ≡ true → (item x).text.bytes ++ u ≡ (item y).text.bytes ++ v → (x ≡ y) × (u ≡ v)
-item_shared x y u v p s e =
-    let same : ◌≡◌ {A = Read Item} (Some (x, u)) (Some (y, v)) =
-        sym (item_again x u s) ∙ ap (item_from (item x).id) e ∙ ap (λ i. item_from i ((item y).text.bytes ++ v)) p ∙ item_again y v (ap shares (sym p) ∙ s) in
-    let pair : ◌≡◌ {A = Item × List ℕ} (x, u) (y, v) = cc in
-    (ap (λ p. p.0) pair, ap (λ p. p.1) pair)
-
-item_whole : (x y : Item) → (item x).id ≡ (item y).id → shares (item x).id ≡ false → (item x).text.bytes ≡ (item y).text.bytes → x ≡ y
-item_whole x y p s e =
-    let same : ◌≡◌ {A = Option Item} (Some x) (Some y) =
-        sym (whole_again x s) ∙ ap (whole_from (item x).id) e ∙ ap (λ i. whole_from i (item y).text.bytes) p ∙ whole_again y (ap shares (sym p) ∙ s) in
-    cc
-
-item_one : OneEntry item
-item_one = record { shared = item_shared; whole = item_whole }
-
--- no item stands in a section of components
-no_component : (i : Item) → (item i).id ≡ 4 → ⊥
-no_component (items.CoreModule bytes) p = cc
-no_component (items.CoreInstantiate made_of args) p = cc
-no_component (items.CoreExports entries) p = cc
-no_component (items.Instantiate made_of args) p = cc
-no_component (items.Alias a) p = cc
-no_component (items.Type t) p = cc
-no_component (items.InstanceType t) p = cc
-no_component (items.Lift func options ty) p = cc
-no_component (items.Lower func options) p = cc
-no_component (items.Intrinsic i) p = cc
-no_component (items.Import name description) p = cc
-no_component (items.Export name sort index description) p = cc
-no_component (items.Custom name contents) p = cc
-
-definition_shared : (x y : Def) (u v : List ℕ) → (definition x).id ≡ (definition y).id → shares (definition x).id ≡ true → (definition x).text.bytes ++ u ≡ (definition y).text.bytes ++ v → (x ≡ y) × (u ≡ v)
-definition_shared (defs.Item i) (defs.Item j) u v p s e =
-    let r = item_shared i j u v p s e in
-    (ap (λ z. defs.Item z) r.0, r.1)
-definition_shared (defs.Item i) (defs.Component b) u v p s e = absurd (no_component i p)
-definition_shared (defs.Component a) (defs.Item j) u v p s e = absurd (no_component j (sym p))
-definition_shared (defs.Component a) (defs.Component b) u v p s e = cc
-
-definition_whole : (x y : Def) → (definition x).id ≡ (definition y).id → shares (definition x).id ≡ false → (definition x).text.bytes ≡ (definition y).text.bytes → x ≡ y
-definition_whole (defs.Item i) (defs.Item j) p s e = ap (λ z. defs.Item z) (item_whole i j p s e)
-definition_whole (defs.Item i) (defs.Component b) p s e = absurd (no_component i p)
-definition_whole (defs.Component a) (defs.Item j) p s e = absurd (no_component j (sym p))
-definition_whole (defs.Component a) (defs.Component b) p s e = ap (λ z. defs.Component z) (component_one item item_one a b e)
-
-definition_one : OneEntry definition
-definition_one = record { shared = definition_shared; whole = definition_whole }
-
--- Bytes spell at most one list of definitions.
-pub one_list : OneList
-one_list bytes a b p q = component_one definition definition_one a b (sym p.1 ∙ q.1)

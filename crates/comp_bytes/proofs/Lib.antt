@@ -12,3 +12,4 @@ pub mod ValueReaders
 pub mod TypeReaders
 pub mod CanonReaders
 pub mod ItemReaders
+pub mod OneList

@@ -1,11 +1,10 @@
 -- Readers: each gives back what is spelled, whatever follows. Numbers, names, lists, options, and one after another.
-use Rattle.std.proofs.Common.{◌≡◌, ℕ, zero, suc, ◌+◌, ◌-◌, ◌*◌, ◌/◌, ◌%◌, ◌<◌, ◌≤◌, List, [], ◌∷◌, ◌++◌, length, take, drop, Bool, true, false, Option, Some, None, refl, sym, ap, ◌∙◌, arith, append_assoc, inl, inr}
+use Rattle.std.proofs.Common.{◌≡◌, ℕ, zero, suc, ◌+◌, ◌-◌, ◌*◌, ◌/◌, ◌%◌, ◌≤◌, List, [], ◌∷◌, ◌++◌, length, take, drop, Bool, true, false, Option, Some, None, refl, sym, ap, ◌∙◌, arith, append_assoc}
 use Rattle.std.specs.Prelude.{nat_lt, nat_eq, if◌then◌else◌}
 use Rattle.std.specs.List.{flat_map}
-use Rattle.std.proofs.lemmas.Bool.{cases_lt}
 use Rattle.std.proofs.lemmas.Bool.Decides.{nat_tests}
 use Rattle.std.proofs.Math.Seq.{take-append_seam, drop-append_seam}
-use Rattle.comp_bytes.specs.Spelling.{Spelling, ◌⊕◌, raw, octet, groups_of_seven, leb128, leb, signed_leb, number, each, listed, named, optional}
+use Rattle.comp_bytes.specs.Spelling.{Spelling, ◌⊕◌, raw, octet, groups_of_seven, leb128, leb, signed_leb, number, listed, named, optional}
 
 -- what a reader answers: a value and the rest
 abbrev pub Read : Type 0 → Type 0

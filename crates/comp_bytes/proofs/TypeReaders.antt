@@ -1,17 +1,15 @@
 -- Readers of type definitions, of aliases and of instance types.
 use Rattle.std.proofs.Common.{◌≡◌, ℕ, List, [], ◌∷◌, ◌++◌, Bool, true, false, Option, Some, None, refl, ap, ◌∙◌}
 use Rattle.std.specs.Prelude.{nat_eq, if◌then◌else◌}
-use Rattle.comp_bytes.specs.Spelling.{Spelling, ◌⊕◌, octet, number, listed, named, optional}
-use Rattle.comp_bytes.specs.Grammar.{kind_byte, export_byte, primitive_byte, value_type, field, case_of, defined_type, function_result, function_type, type_def, extern_name, description_bytes, alias_bytes, member, instance_type}
+use Rattle.comp_bytes.specs.Spelling.{◌⊕◌, octet, number, listed, named}
+use Rattle.comp_bytes.specs.Grammar.{kind_byte, export_byte, primitive_byte, defined_type, type_def, alias_bytes, member}
 use Rattle.comp_bytes.specs.declared.space.ExportKind.{ExportKind}
 use Rattle.comp_bytes.specs.declared.space.ComponentExportKind.{ComponentExportKind}
 use Rattle.comp_bytes.specs.declared.space.ComponentExportKind.TheVariants as exports
-use Rattle.comp_bytes.specs.declared.types.Primitive.{Primitive}
 use Rattle.comp_bytes.specs.declared.types.ComponentValType.{ComponentValType}
 use Rattle.comp_bytes.specs.declared.types.Field.{Field}
 use Rattle.comp_bytes.specs.declared.types.DefinedType.{DefinedType}
 use Rattle.comp_bytes.specs.declared.types.DefinedType.TheVariants as defined
-use Rattle.comp_bytes.specs.declared.types.FuncTypeDef.{FuncTypeDef}
 use Rattle.comp_bytes.specs.declared.types.TypeDef.{TypeDef}
 use Rattle.comp_bytes.specs.declared.types.TypeDef.TheVariants as types
 use Rattle.comp_bytes.specs.declared.types.Alias.{Alias}
@@ -19,7 +17,7 @@ use Rattle.comp_bytes.specs.declared.types.Alias.TheVariants as aliases
 use Rattle.comp_bytes.specs.declared.types.Member.{Member}
 use Rattle.comp_bytes.specs.declared.types.Member.TheVariants as members
 use Rattle.comp_bytes.specs.declared.types.InstanceType.{InstanceType}
-use Rattle.comp_bytes.proofs.Readers.{Read, Reader, read_then, or_else, Reads, made_from, made, pair_from, pair_reads, as_reads, tagged, skipped, number_from, number_reads, list_from, list_reads, name_from, name_reads, option_from, option_reads}
+use Rattle.comp_bytes.proofs.Readers.{Reader, read_then, or_else, Reads, made_from, made, pair_from, pair_reads, as_reads, tagged, skipped, number_from, number_reads, list_from, list_reads, name_from, name_reads, option_from, option_reads}
 use Rattle.comp_bytes.proofs.ValueReaders.{kind_from, kind_reads, export_from, export_reads, primitive_from, primitive_reads, value_from, value_reads, field_from, field_reads, case_from, case_reads, result_from, result_reads, extern_from, extern_reads, description_from, description_reads}
 
 -- ---- types of values

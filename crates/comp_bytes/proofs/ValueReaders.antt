@@ -1,8 +1,8 @@
 -- Readers of sorts, of value types, and of names and descriptions.
-use Rattle.std.proofs.Common.{◌≡◌, ℕ, ◌+◌, ◌/◌, ◌%◌, ◌<◌, ◌≤◌, List, [], ◌∷◌, ◌++◌, Bool, true, false, Option, Some, None, refl, sym, ap, ◌∙◌, arith, inl, inr}
+use Rattle.std.proofs.Common.{◌≡◌, ℕ, ◌+◌, ◌/◌, ◌%◌, List, [], ◌∷◌, ◌++◌, Bool, true, false, Option, Some, None, refl, ap, ◌∙◌, arith}
 use Rattle.std.specs.Prelude.{nat_lt, nat_eq, if◌then◌else◌}
 use Rattle.std.proofs.lemmas.Bool.Decides.{nat_tests}
-use Rattle.comp_bytes.specs.Spelling.{Spelling, ◌⊕◌, raw, octet, groups_of_seven, leb128, signed_leb, number, listed, named, optional}
+use Rattle.comp_bytes.specs.Spelling.{octet, groups_of_seven, leb128, signed_leb}
 use Rattle.comp_bytes.specs.Grammar.{kind_byte, export_byte, sort_bytes, primitive_byte, value_type, field, case_of, function_result, extern_name, description_bytes}
 use Rattle.comp_bytes.specs.declared.space.ExportKind.{ExportKind}
 use Rattle.comp_bytes.specs.declared.space.ExportKind.TheVariants as kinds
@@ -19,7 +19,7 @@ use Rattle.comp_bytes.specs.declared.types.Case.{Case}
 use Rattle.comp_bytes.specs.declared.types.ExternName.{ExternName}
 use Rattle.comp_bytes.specs.declared.types.Description.{Description}
 use Rattle.comp_bytes.specs.declared.types.Description.TheVariants as descriptions
-use Rattle.comp_bytes.proofs.Readers.{Read, Reader, read_then, Reads, made_from, made, pair_from, pair_reads, as_reads, followed_from, followed_reads, tagged, passed, number_from, number_reads, index_from, index_reads, list_from, list_reads, name_from, name_reads, option_from, option_reads}
+use Rattle.comp_bytes.proofs.Readers.{Reader, Reads, made_from, made, pair_from, pair_reads, as_reads, followed_from, followed_reads, tagged, passed, number_from, number_reads, index_from, index_reads, name_from, name_reads, option_from, option_reads}
 
 -- ---- sorts
 

@@ -1,5 +1,5 @@
-use Rattle.comp_bytes.proofs.ItemReaders as readers
+use Rattle.comp_bytes.proofs.OneList as unique
 use Rattle.comp_bytes.proofs.laws.one_list.Goals as goal
 
 pub returns : goal.returns
-returns c = readers.one_list
+returns c = unique.one_list
