@@ -6,3 +6,10 @@ pub mod Unique
 pub mod Places
 pub mod Worked
 pub mod Scopes
+pub mod Readers
+pub mod Groups
+pub mod ValueReaders
+pub mod TypeReaders
+pub mod CanonReaders
+pub mod ItemReaders
+pub mod OneList
