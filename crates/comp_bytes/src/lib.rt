@@ -42,7 +42,7 @@ pub use builder::ComponentBuilder;
 pub use canon::{CanonicalOption, ContextType, Intrinsic};
 pub use def::{Argument, CoreArgument, CoreInlineExport, Def, Defs, Item};
 pub use fault::{BuildFault, Excess, count_of};
-pub use laws::{one_name, one_number, one_type_index};
+pub use laws::{one_list, one_name, one_number, one_type_index};
 pub use name::Name;
 pub use space::{ComponentExportKind, ExportKind, Sort, Space};
 pub use types::{

@@ -150,6 +150,7 @@ fn laws_are_calls(_rt: HostRuntime) {
     one_number();
     one_type_index();
     one_name();
+    one_list();
 }
 
 #[test]

@@ -1,5 +1,5 @@
 -- What was built of a world is its component.
-use Rattle.std.proofs.Common.{◌≡◌, ℕ, List, subst}
+use Rattle.std.proofs.Common.{ℕ, List, subst}
 use Rattle.comp_bytes.specs.Grammar.{Spells}
 use Rattle.comp_bytes.specs.Scopes.{Scoped}
 use Rattle.comp_bytes.specs.declared.def.Def.{Def}

@@ -1,43 +1,38 @@
 -- What the definitions so far have put into the store, and what main's imports find among the arguments.
-use Rattle.std.proofs.Common.{◌≡◌, ◌∙◌, ℕ, zero, suc, ◌+◌, ◌<◌, Bool, true, false, List, [], ◌∷◌, ◌++◌, length, map, filter, refl, sym, ap, subst, Option, Some, None, is_some, arith}
+use Rattle.std.proofs.Common.{◌≡◌, ◌∙◌, ℕ, ◌<◌, true, List, [], ◌∷◌, length, map, filter, refl, sym, ap, subst, Option, Some, None, is_some, arith}
 use Rattle.std.proofs.lemmas.List.Sums.{length-filter}
 use Rattle.std.proofs.lemmas.Option.{same_Some}
 use Rattle.std.specs.Str.{bytes_eq}
 use Rattle.std.specs.List.{slice_get, flat_map, AllZip, AllByRecursion, IsDistinct}
-use Rattle.std.specs.Option.{option_map, option_and_then}
+use Rattle.std.specs.Option.{option_map}
 use Rattle.comp_lists.specs.Found.{found}
-use Rattle.comp_lists.proofs.Lists.{AllZip-at, AllByRecursion-weaker, length-AllZip, there}
+use Rattle.comp_lists.proofs.Lists.{AllZip-at, length-AllZip, there}
 use Rattle.comp_bytes.specs.Spaces.{kind_space, is_space, space_of, items_in}
 use Rattle.comp_bytes.specs.Places.{in_space, IsAt}
 use Rattle.comp_bytes.specs.declared.space.Space.{Space}
 use Rattle.comp_bytes.specs.declared.space.Space.TheVariants as spaces
 use Rattle.comp_bytes.specs.declared.space.ExportKind.{ExportKind}
 use Rattle.comp_bytes.specs.declared.space.ExportKind.TheVariants as kinds
-use Rattle.comp_bytes.specs.declared.types.Alias.TheVariants as aliases
-use Rattle.comp_bytes.specs.declared.types.Description.TheVariants as descriptions
 use Rattle.comp_bytes.specs.declared.def.CoreArgument.{CoreArgument}
 use Rattle.comp_bytes.specs.declared.def.CoreInlineExport.{CoreInlineExport}
-use Rattle.comp_bytes.specs.declared.def.Item.TheVariants as items
 use Rattle.comp_bytes.specs.declared.def.Def.{Def}
-use Rattle.comp_bytes.specs.declared.def.Def.TheVariants as defs
-use Rattle.comp_worlds.specs.Keys.{key_text}
-use Rattle.comp_worlds.specs.Worlds.{CoreImport, core_imports, imports_from, fields_of, imported_text, core_name_of}
+use Rattle.comp_worlds.specs.Worlds.{CoreImport, imports_from, fields_of, imported_text}
 use Rattle.comp_worlds.specs.declared.wit.WorldKey.{WorldKey}
 use Rattle.comp_worlds.specs.declared.imports.Import.{Import}
 use Rattle.comp_worlds.specs.declared.imports.Import.TheVariants as imports
 use Rattle.comp_worlds.specs.declared.imports.ImportInstance.{ImportInstance}
 use Rattle.comp_worlds.specs.declared.world.ComponentWorld.{ComponentWorld}
-use Rattle.comp_shims.specs.Store.{Thing, Export, Lowering, OfUser, Imported, Lifting, UserInstance, Store}
+use Rattle.comp_shims.specs.Store.{Thing, Export, Imported, Store}
 use Rattle.comp_shims.specs.Targets.{Main}
 use Rattle.comp_state.specs.Links.{link_of}
-use Rattle.comp_state.specs.Facts.{IsImported, IsLowered, IsCoreItemFor, IsEntryFor, IsBagFor, IsArgumentFor, IsMain, IsAliased, IsLiftFor, plain_name}
+use Rattle.comp_state.specs.Facts.{IsLowered, IsCoreItemFor, IsEntryFor, IsArgumentFor, IsMain, IsAliased, IsLiftFor}
 use Rattle.comp_state.specs.Modules.{import_kind}
-use Rattle.comp_encoder.specs.Machine.{Scope, Machine, address_at, is_of, export_named, export_in, all_some}
+use Rattle.comp_encoder.specs.Machine.{Scope, Machine, address_at, is_of, all_some}
 use Rattle.comp_encoder.specs.Instances.{of_kind, given_to}
 use Rattle.comp_encoder.specs.Running.{core_argument}
 use Rattle.comp_encoder.specs.Linking.{import_type}
-use Rattle.comp_encoder.proofs.Zips.{AllZip-filter, filter-both, mapped_some, all_some-each, all_some-zip, found-along, FindsIn, found-each, AllByRecursion-join}
-use Rattle.comp_encoder.proofs.Stores.{IsUserExport, IsInstanceOf, IsUserInstance, IsNamedEntry, IsBag, IsLoweredItem, IsLiftedItem, IsAliasedItem, ItemIs, DefIs, Means, makes, IsServedBy, IsPlanned, IsMainExport, IsLiftedFrom, Agrees}
+use Rattle.comp_encoder.proofs.Zips.{AllZip-filter, filter-both, all_some-each, all_some-zip, found-along, FindsIn, found-each, AllByRecursion-join}
+use Rattle.comp_encoder.proofs.Stores.{IsUserExport, IsUserInstance, IsNamedEntry, IsBag, IsLoweredItem, IsLiftedItem, IsAliasedItem, DefIs, Means, makes, IsServedBy, IsPlanned, IsMainExport, IsLiftedFrom, Agrees}
 
 makes-space : (space : Space) (d : Def) → is_space space (space_of d) ≡ true → makes d ≡ true
 makes-space space d e = by (space_of d) e
@@ -184,7 +179,7 @@ module _ (s : Store) (arguments : List (List ℕ × List Export)) where
   given_groups (g ∷ gs) h d =
       AllByRecursion-join IsGiven (imports_from g) (flat_map imports_from gs)
       (given_fields g.0 h.0.0.1 h.0.1 (fields_of g.1)
-        (found-along (λ f. f.0) IsNamedField (λ p f k. k.0 ∙ k.1.named) (map (λ e. (e.name, e)) h.0.0.1) (fields_of g.1) (fields_named h.0.0.1 (fields_of g.1) h.0.2.each) d.0))
+      (found-along (λ f. f.0) IsNamedField (λ p f k. k.0 ∙ k.1.named) (map (λ e. (e.name, e)) h.0.0.1) (fields_of g.1) (fields_named h.0.0.1 (fields_of g.1) h.0.2.each) d.0))
       (given_groups gs h.1 d.1)
 
 -- each import of main finds what was planned for it

@@ -1,5 +1,5 @@
 -- A list of right definitions runs, and is linked where it is done.
-use Rattle.std.proofs.Common.{◌≡◌, ◌∙◌, ℕ, zero, suc, Bool, true, false, List, [], ◌∷◌, ◌++◌, length, map, filter, refl, sym, ap, subst, append-nil, append_assoc, Option, Some, None, IsTrue}
+use Rattle.std.proofs.Common.{◌≡◌, ◌∙◌, ℕ, true, List, [], ◌∷◌, ◌++◌, map, filter, refl, sym, ap, subst, append-nil, append_assoc, Some, None}
 use Rattle.std.proofs.lemmas.List.{map-append}
 use Rattle.std.proofs.lemmas.Grind.{flat_map-append}
 use Rattle.std.specs.Str.{bytes_eq}
@@ -12,7 +12,6 @@ use Rattle.comp_bytes.specs.declared.space.Space.TheVariants as spaces
 use Rattle.comp_bytes.specs.declared.space.ExportKind.TheVariants as kinds
 use Rattle.comp_bytes.specs.declared.space.Sort.TheVariants as sorts
 use Rattle.comp_bytes.specs.declared.types.Alias.TheVariants as aliases
-use Rattle.comp_bytes.specs.declared.types.TypeDef.TheVariants as types
 use Rattle.comp_bytes.specs.declared.types.TypeDef.{TypeDef}
 use Rattle.comp_bytes.specs.declared.types.Description.TheVariants as descriptions
 use Rattle.comp_bytes.specs.declared.canon.CanonicalOption.{CanonicalOption}
@@ -25,21 +24,20 @@ use Rattle.comp_worlds.specs.declared.wit.WorldKey.{WorldKey}
 use Rattle.comp_worlds.specs.declared.imports.Import.{Import}
 use Rattle.comp_worlds.specs.declared.imports.Import.TheVariants as imports
 use Rattle.comp_worlds.specs.declared.world.ComponentWorld.{ComponentWorld}
-use Rattle.comp_shims.specs.Targets.{UserModule, Main, Target, OfRoot, Lowered, Lifted}
+use Rattle.comp_shims.specs.Targets.{Main, OfRoot, Lowered, Lifted}
 use Rattle.comp_shims.specs.Answers.{CoreType, Answer}
 use Rattle.comp_shims.specs.Store.{Thing, Export, Lowering, Lifting, UserInstance, Store, Now}
-use Rattle.comp_state.specs.Facts.{plain_function, IsFunctionType}
 use Rattle.comp_state.specs.Roles.{used_functions}
-use Rattle.comp_state.specs.Rules.{IsRight, RightAfter, Landmark, ImportNamed, ModuleIs, InstanceOf, ExportNamed, item_landmark, landmark, landmarks, imports_marked, exports_marked, expected, IsBuilt}
-use Rattle.comp_state.specs.Modules.{WorldModule, user_modules, required_exports}
-use Rattle.comp_state.specs.Links.{link_of, lift_of}
-use Rattle.comp_encoder.specs.Machine.{Scope, Machine, Outcome, Done, Trapped, Open, Stuck, export_named, export_in, export_of}
+use Rattle.comp_state.specs.Rules.{IsRight, RightAfter, Landmark, ImportNamed, ModuleIs, InstanceOf, ExportNamed, landmark, imports_marked, exports_marked, IsBuilt}
+use Rattle.comp_state.specs.Modules.{user_modules}
+use Rattle.comp_state.specs.Links.{link_of}
+use Rattle.comp_encoder.specs.Machine.{Scope, Machine, Outcome, Done, Trapped, Open, Stuck, export_named, export_in}
 use Rattle.comp_encoder.specs.Running.{run, fresh_machine}
-use Rattle.comp_encoder.specs.Meeting.{IsExportOf, IsCoreExport, Meets, MeetsIn}
-use Rattle.comp_encoder.specs.Linking.{def_module, def_instantiates, IsGenerated, IsComposed, module_meanings, outcome, questions, LetsRun, IsServed, IsProvided, IsLinked, Links}
+use Rattle.comp_encoder.specs.Meeting.{IsCoreExport, Meets, MeetsIn}
+use Rattle.comp_encoder.specs.Linking.{def_module, def_instantiates, IsComposed, module_meanings, outcome, questions, LetsRun, IsServed, IsProvided, IsLinked, Links}
 use Rattle.comp_encoder.proofs.Zips.{filter-all, found-each, found-listed, each_listed, map-map, flat_map-marked}
-use Rattle.comp_encoder.proofs.Stores.{IsInstanceOf, IsServedBy, IsPlanned, IsPlannedUser, IsMainExport, IsLiftedFrom, IsLiftedExport, Agrees}
-use Rattle.comp_encoder.proofs.Steps.{machine, IsGood, asks, Runs, Steps, step_type, step_import, step_lower, step_lift, step_bag, step_alias, step_export, step_module, step_custom, step_instantiate}
+use Rattle.comp_encoder.proofs.Stores.{IsServedBy, IsPlanned, IsPlannedUser, IsMainExport, IsLiftedExport, Agrees}
+use Rattle.comp_encoder.proofs.Steps.{machine, IsGood, asks, Steps, step_type, step_import, step_lower, step_lift, step_bag, step_alias, step_export, step_module, step_custom, step_instantiate}
 
 module _ {w : ComponentWorld} {earlier : List Def} {c : Scope} {s : Store} (a : Agrees w earlier c s) where
   step : IsWorld w → (d : Def) → IsRight w earlier d → Steps w earlier c s d
@@ -175,7 +173,7 @@ module _ (w : ComponentWorld) (ds : List Def) (built : IsBuilt w ds) where
   root_imports =
       read_marks def_import import_mark import_is
       ∙ rw (all_of import_mark ImportNamed (λ t. t) (λ t. refl) (used_functions w), none_of import_mark (λ key. ExportNamed (key_text key)) (λ key. refl) w.main_exports)
-        (append-nil (map (λ t. t) (used_functions w)) ∙ map_same (used_functions w))
+      (append-nil (map (λ t. t) (used_functions w)) ∙ map_same (used_functions w))
     where
       map_same : (ts : List (List ℕ)) → map (λ t. t) ts ≡ ts
       map_same [] = refl
@@ -296,6 +294,6 @@ links w ds ok built =
       never_stuck = λ answers. not_stuck all.0 all.1 (questions w) answers (outcome w ds answers) (good answers);
       ends = λ answers. is_done all.0 all.1 (questions w) answers (outcome w ds answers) (good answers);
       linked = λ answers m done.
-        let is : (m.scope ≡ all.0) × (m.store ≡ all.1) = done_with all.0 all.1 (questions w) answers (outcome w ds answers) m (good answers) done in
-        linked_at_end w ds m built (subst (λ s. Agrees w ds m.scope s) (sym is.1) (subst (λ c. Agrees w ds c all.1) (sym is.0) all.3));
+          let is : (m.scope ≡ all.0) × (m.store ≡ all.1) = done_with all.0 all.1 (questions w) answers (outcome w ds answers) m (good answers) done in
+          linked_at_end w ds m built (subst (λ s. Agrees w ds m.scope s) (sym is.1) (subst (λ c. Agrees w ds c all.1) (sym is.0) all.3));
     }

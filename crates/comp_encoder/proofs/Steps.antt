@@ -1,23 +1,21 @@
 -- A definition that keeps its rule runs, and the store agrees with the longer list.
-use Rattle.std.proofs.Common.{◌≡◌, ◌∙◌, ℕ, zero, suc, ◌+◌, ◌<◌, Bool, true, false, List, [], ◌∷◌, ◌++◌, length, map, filter, refl, sym, ap, subst, append-nil, append_assoc, add-one, length-append, Option, Some, None, is_some, IsTrue, arith, if◌then◌else◌}
+use Rattle.std.proofs.Common.{◌≡◌, ◌∙◌, ℕ, suc, ◌<◌, Bool, true, false, List, [], ◌∷◌, ◌++◌, length, map, filter, refl, sym, ap, subst, append-nil, append_assoc, add-one, length-append, Some, None, is_some, IsTrue, if◌then◌else◌}
 use Rattle.std.proofs.lemmas.List.{map-append}
 use Rattle.std.proofs.lemmas.List.Elements.{filter-append}
 use Rattle.std.proofs.lemmas.Grind.{flat_map-append}
-use Rattle.std.proofs.lemmas.Option.{same_Some, none-some}
+use Rattle.std.proofs.lemmas.Option.{none-some}
 use Rattle.std.specs.Str.{bytes_eq}
 use Rattle.std.specs.List.{slice_get, flat_map, list_any, AllZip, AllByRecursion}
 use Rattle.std.specs.Option.{option_map}
 use Rattle.comp_lists.proofs.Lists.{slice_get-append, slice_get-end, AllZip-weaker, AllZip-end, AllByRecursion-weaker, AllByRecursion-push}
 use Rattle.comp_lists.proofs.Lookups.{found-named}
-use Rattle.comp_bytes.specs.Spaces.{kind_space, is_space, space_of, items_in}
-use Rattle.comp_bytes.specs.Places.{IsAt}
+use Rattle.comp_bytes.specs.Spaces.{kind_space, space_of, items_in}
 use Rattle.comp_bytes.specs.ScopeNames.{def_export}
 use Rattle.comp_bytes.specs.declared.space.Space.{Space}
 use Rattle.comp_bytes.specs.declared.space.Space.TheVariants as spaces
 use Rattle.comp_bytes.specs.declared.space.ExportKind.TheVariants as kinds
 use Rattle.comp_bytes.specs.declared.space.Sort.TheVariants as sorts
 use Rattle.comp_bytes.specs.declared.types.ExternName.{ExternName}
-use Rattle.comp_bytes.specs.declared.types.TypeDef.{TypeDef}
 use Rattle.comp_bytes.specs.declared.types.TypeDef.TheVariants as types
 use Rattle.comp_bytes.specs.declared.types.Alias.TheVariants as aliases
 use Rattle.comp_bytes.specs.declared.types.Description.TheVariants as descriptions
@@ -27,23 +25,22 @@ use Rattle.comp_bytes.specs.declared.def.Item.TheVariants as items
 use Rattle.comp_bytes.specs.declared.def.Def.{Def}
 use Rattle.comp_bytes.specs.declared.def.Def.TheVariants as defs
 use Rattle.comp_worlds.specs.Keys.{key_text}
-use Rattle.comp_worlds.specs.Worlds.{IsWorld, CoreImport, core_imports, exported_text, core_name_of}
+use Rattle.comp_worlds.specs.Worlds.{IsWorld, core_imports, exported_text, core_name_of}
 use Rattle.comp_worlds.specs.declared.exports.Export.{Export as WorldExport}
 use Rattle.comp_worlds.specs.declared.exports.Export.TheVariants as exports
 use Rattle.comp_worlds.specs.declared.world.ComponentWorld.{ComponentWorld}
-use Rattle.comp_shims.specs.Answers.{CoreType, Value, Answer, Gives, Traps, fit, Instantiated}
+use Rattle.comp_shims.specs.Answers.{CoreType, Value, Answer, Gives, Traps}
 use Rattle.comp_shims.specs.Targets.{Main, Lifted}
-use Rattle.comp_shims.specs.Store.{Thing, Export, CoreItem, Lowering, OfUser, Function, Imported, Lifting, TypeItem, FunctionType, UserInstance, Store, Now}
-use Rattle.comp_state.specs.Facts.{plain_name, plain_function, IsFunctionType}
-use Rattle.comp_state.specs.Modules.{kind_of_export}
-use Rattle.comp_state.specs.Rules.{InstantiatesMain, AliasesMain, ExportsRequired, IsEntry, IsRight, RightAfter}
-use Rattle.comp_encoder.specs.Machine.{Scope, Machine, Outcome, Done, Trapped, Open, Stuck, address_at, is_of, export_named, export_in, all_some, answered}
-use Rattle.comp_encoder.specs.Instances.{ImportType, ExportType, exported_from, given_to, new_user, with_function_type, goes_on_with_function_type}
-use Rattle.comp_encoder.specs.Running.{core_argument, core_entry, effect, run}
+use Rattle.comp_shims.specs.Store.{Thing, Export, CoreItem, Lowering, OfUser, Imported, Lifting, FunctionType, UserInstance, Store, Now}
+use Rattle.comp_state.specs.Facts.{plain_function, IsFunctionType}
+use Rattle.comp_state.specs.Rules.{InstantiatesMain, AliasesMain, ExportsRequired, IsEntry}
+use Rattle.comp_encoder.specs.Machine.{Scope, Machine, Outcome, Done, Trapped, Open, Stuck, address_at, is_of, export_named, all_some, answered}
+use Rattle.comp_encoder.specs.Instances.{ExportType, exported_from, given_to, new_user}
+use Rattle.comp_encoder.specs.Running.{core_argument, core_entry, run}
 use Rattle.comp_encoder.specs.Linking.{def_instantiates, module_meanings, import_type, export_type, LetsRun}
-use Rattle.comp_encoder.proofs.Zips.{all_some-self, found-each, found-listed, slice_get-middle, map-map}
-use Rattle.comp_encoder.proofs.Stores.{IsUserExport, IsInstanceOf, IsUserInstance, IsNamedEntry, IsBag, IsLoweredItem, IsLiftedItem, IsAliasedItem, ItemIs, DefIs, Means, makes, IsServedBy, IsPlanned, IsPlannedUser, IsMainExport, IsLiftedFrom, IsLiftedExport, NumberedFrom, Agrees, Keeps, address_at-append, Means-kept, IsPlannedUser-kept, IsLiftedExport-kept}
-use Rattle.comp_encoder.proofs.Given.{IsOffered, address_there, lowered_there, main_there, aliased_there, lift_there, thing_there, arguments_there, given_there}
+use Rattle.comp_encoder.proofs.Zips.{all_some-self, found-each, found-listed, slice_get-middle}
+use Rattle.comp_encoder.proofs.Stores.{IsUserExport, IsUserInstance, IsNamedEntry, Means, makes, IsPlanned, IsPlannedUser, IsLiftedFrom, IsLiftedExport, NumberedFrom, Agrees, Keeps, address_at-append, Means-kept, IsPlannedUser-kept, IsLiftedExport-kept}
+use Rattle.comp_encoder.proofs.Given.{IsOffered, address_there, main_there, lift_there, thing_there, arguments_there, given_there}
 
 -- the machine of a scope, a store, and what changes
 abbrev pub machine : Scope → Store → Now → Machine
@@ -119,9 +116,10 @@ user_exports s user before [] e = tt
 user_exports s user before ((name, exports.WorldFunc key function abi) ∷ es) e =
     let more : List CoreItem = map (λ (x : ExportType). OfUser user x.name) (map export_type es) in
     let next : s.core ≡ (before ++ OfUser user name ∷ []) ++ more = e ∙ sym (append_assoc before (OfUser user name ∷ []) more) in
-    let counted : length (before ++ OfUser user name ∷ []) ≡ suc (length before) = length-append before (OfUser user name ∷ []) ∙ add-one (length before) in
-    ((refl, ap (λ l. slice_get l (length before)) e ∙ slice_get-middle before (OfUser user name) more),
-      subst (λ n. AllByRecursion (IsUserExport s user) (exported_from n (map export_type es))) counted (user_exports s user (before ++ OfUser user name ∷ []) es next))
+    let counted : length (before ++ OfUser user name ∷ []) ≡ suc (length before) = length-append before (OfUser user name ∷ []) ∙ add-one (length before) in (
+      (refl, ap (λ l. slice_get l (length before)) e ∙ slice_get-middle before (OfUser user name) more),
+      subst (λ n. AllByRecursion (IsUserExport s user) (exported_from n (map export_type es))) counted (user_exports s user (before ++ OfUser user name ∷ []) es next),
+    )
 
 export_names : (k : ℕ) (es : List (List ℕ × WorldExport)) → map (λ (e : Export). e.name) (exported_from k (map export_type es)) ≡ map (λ e. e.0) es
 export_names k [] = refl
@@ -167,9 +165,12 @@ module _ {w : ComponentWorld} {earlier : List Def} {c : Scope} {s : Store} (a : 
         functions = λ i x e. e;
         types = λ i x e. slice_get-append s.types (FunctionType ∷ []) i x e;
         users = λ i x e. e;
-      } in
-      (with_thing c t, s', record { goes = λ e u questions rest h now. h now },
-        agrees_plain (defs.Item (items.Type (types.Func plain_function))) s' t k (record { space = refl; is = slice_get-end s.types FunctionType }) refl refl refl refl refl)
+      } in (
+        with_thing c t,
+        s',
+        record { goes = λ e u questions rest h now. h now },
+        agrees_plain (defs.Item (items.Type (types.Func plain_function))) s' t k (record { space = refl; is = slice_get-end s.types FunctionType }) refl refl refl refl refl,
+      )
 
   -- the type of this index is one of functions
   type_there : {index : ℕ} → IsFunctionType earlier index → (x : ℕ) × (address_at spaces.Type index c.items ≡ Some x) × (slice_get s.types x ≡ Some FunctionType)
@@ -188,9 +189,12 @@ module _ {w : ComponentWorld} {earlier : List Def} {c : Scope} {s : Store} (a : 
         types = λ i x e. e;
         users = λ i x e. e;
       } in
-      let y : (x : ℕ) × (address_at spaces.Type kind c.items ≡ Some x) × (slice_get s.types x ≡ Some FunctionType) = type_there h in
-      (with_thing c t, s', record { goes = λ e u questions rest g now. rw (y.1, y.2) (g now) },
-        agrees_plain d s' t k (record { space = refl; is = slice_get-end s.functions (Imported (name.name ∷ [])) }) refl refl refl refl refl)
+      let y : (x : ℕ) × (address_at spaces.Type kind c.items ≡ Some x) × (slice_get s.types x ≡ Some FunctionType) = type_there h in (
+        with_thing c t,
+        s',
+        record { goes = λ e u questions rest g now. rw (y.1, y.2) (g now) },
+        agrees_plain d s' t k (record { space = refl; is = slice_get-end s.functions (Imported (name.name ∷ [])) }) refl refl refl refl refl,
+      )
 
   pub step_lower : (function : ℕ) → function < items_in spaces.Func earlier → Steps w earlier c s (defs.Item (items.Lower function []))
   step_lower function l =
@@ -205,9 +209,12 @@ module _ {w : ComponentWorld} {earlier : List Def} {c : Scope} {s : Store} (a : 
         functions = λ i y e. e;
         types = λ i y e. e;
         users = λ i y e. e;
-      } in
-      (with_thing c t, s', record { goes = λ e u questions rest g now. rw x.1 (g now) },
-        agrees_plain d s' t k (record { space = refl; is = record { of = x.0; at = address_at-append c.items (t ∷ []) spaces.Func function x.0 x.1; is = slice_get-end s.core (Lowering x.0 []) } }) refl refl refl refl refl)
+      } in (
+        with_thing c t,
+        s',
+        record { goes = λ e u questions rest g now. rw x.1 (g now) },
+        agrees_plain d s' t k (record { space = refl; is = record { of = x.0; at = address_at-append c.items (t ∷ []) spaces.Func function x.0 x.1; is = slice_get-end s.core (Lowering x.0 []) } }) refl refl refl refl refl,
+      )
 
   pub step_lift : (core kind : ℕ) → core < items_in spaces.CoreFunc earlier → IsFunctionType earlier kind → Steps w earlier c s (defs.Item (items.Lift core [] kind))
   step_lift core kind l h =
@@ -223,9 +230,12 @@ module _ {w : ComponentWorld} {earlier : List Def} {c : Scope} {s : Store} (a : 
         functions = λ i y e. slice_get-append s.functions (Lifting x.0 [] ∷ []) i y e;
         types = λ i y e. e;
         users = λ i y e. e;
-      } in
-      (with_thing c t, s', record { goes = λ e u questions rest g now. rw (x.1, y.1, y.2) (g now) },
-        agrees_plain d s' t k (record { space = refl; is = record { of = x.0; at = address_at-append c.items (t ∷ []) spaces.CoreFunc core x.0 x.1; is = slice_get-end s.functions (Lifting x.0 []) } }) refl refl refl refl refl)
+      } in (
+        with_thing c t,
+        s',
+        record { goes = λ e u questions rest g now. rw (x.1, y.1, y.2) (g now) },
+        agrees_plain d s' t k (record { space = refl; is = record { of = x.0; at = address_at-append c.items (t ∷ []) spaces.CoreFunc core x.0 x.1; is = slice_get-end s.functions (Lifting x.0 []) } }) refl refl refl refl refl,
+      )
 
   pub step_bag : (entries : List CoreInlineExport) → AllByRecursion (IsEntry earlier) entries → Steps w earlier c s (defs.Item (items.CoreExports entries))
   step_bag entries h =
@@ -234,8 +244,8 @@ module _ {w : ComponentWorld} {earlier : List Def} {c : Scope} {s : Store} (a : 
       let found : (xs : List Export) × (all_some (map (core_entry (machine c s no_answers)) entries) ≡ Some xs) × AllZip (IsNamedEntry c.items) entries xs =
       all_some-self (IsNamedEntry c.items) (core_entry (machine c s no_answers)) (IsEntry earlier)
       (λ e k.
-        let at : (x : ℕ) × (address_at spaces.CoreFunc e.index c.items ≡ Some x) = address_there a spaces.CoreFunc e.index k.scoped in
-        (record { space = spaces.CoreFunc; name = e.name; address = at.0 }, rw (k.kind, at.1) refl, record { named = refl; space = rw k.kind refl; at = rw k.kind at.1 }))
+      let at : (x : ℕ) × (address_at spaces.CoreFunc e.index c.items ≡ Some x) = address_there a spaces.CoreFunc e.index k.scoped in
+      (record { space = spaces.CoreFunc; name = e.name; address = at.0 }, rw (k.kind, at.1) refl, record { named = refl; space = rw k.kind refl; at = rw k.kind at.1 }))
       entries h in
       let s' : Store = record s { core_instances = s.core_instances ++ found.0 ∷ [] } in
       let k : Keeps c.items (c.items ++ t ∷ []) s s' = record {
@@ -245,18 +255,21 @@ module _ {w : ComponentWorld} {earlier : List Def} {c : Scope} {s : Store} (a : 
         functions = λ i y e. e;
         types = λ i y e. e;
         users = λ i y e. e;
-      } in
-      (with_thing c t, s', record { goes = λ e u questions rest g now. rw found.1 (g now) },
+      } in (
+        with_thing c t,
+        s',
+        record { goes = λ e u questions rest g now. rw found.1 (g now) },
         agrees_plain d s' t k
-        (record {
-          space = refl;
-          is = record {
-            exports = found.0;
-            stands = slice_get-end s.core_instances found.0;
-            each = AllZip-weaker (λ e x n. record { named = n.named; space = n.space; at = address_at-append c.items (t ∷ []) (kind_space e.kind) e.index x.address n.at }) entries found.0 found.2;
-          };
-        })
-        refl refl refl refl refl)
+            (record {
+              space = refl;
+              is = record {
+                exports = found.0;
+                stands = slice_get-end s.core_instances found.0;
+                each = AllZip-weaker (λ e x n. record { named = n.named; space = n.space; at = address_at-append c.items (t ∷ []) (kind_space e.kind) e.index x.address n.at }) entries found.0 found.2;
+              };
+            })
+            refl refl refl refl refl,
+      )
 
   pub step_alias : (instance : ℕ) (name : List ℕ) → AliasesMain w earlier instance name → Steps w earlier c s (defs.Item (items.Alias (aliases.CoreExport kinds.Func instance name)))
   step_alias instance name h =
@@ -274,22 +287,25 @@ module _ {w : ComponentWorld} {earlier : List Def} {c : Scope} {s : Store} (a : 
         functions = λ i y e. e;
         types = λ i y e. e;
         users = λ i y e. e;
-      } in
-      (with_thing c t, s, record { goes = λ e u questions rest g now. rw (m.1, m.2.stands, x.1, is.1.0) (g now) },
+      } in (
+        with_thing c t,
+        s,
+        record { goes = λ e u questions rest g now. rw (m.1, m.2.stands, x.1, is.1.0) (g now) },
         agrees_plain d s t k
-        (record {
-          space = refl;
-          is = record {
-            from = m.0;
-            exports = m.2.exports;
-            export = x.0;
-            at = address_at-append c.items (t ∷ []) spaces.CoreInstance instance m.0 m.1;
-            stands = m.2.stands;
-            found = x.1;
-            is = refl;
-          };
-        })
-        refl refl refl refl refl)
+            (record {
+              space = refl;
+              is = record {
+                from = m.0;
+                exports = m.2.exports;
+                export = x.0;
+                at = address_at-append c.items (t ∷ []) spaces.CoreInstance instance m.0 m.1;
+                stands = m.2.stands;
+                found = x.1;
+                is = refl;
+              };
+            })
+            refl refl refl refl refl,
+      )
 
   pub step_export : (name : ExternName) (index : ℕ) → ExportsRequired w earlier name index → Steps w earlier c s (defs.Item (items.Export name sorts.Func index None))
   step_export name index h =
@@ -306,14 +322,17 @@ module _ {w : ComponentWorld} {earlier : List Def} {c : Scope} {s : Store} (a : 
         types = λ i y e. e;
         users = λ i y e. e;
       } in
-      let text : name.name ≡ key_text h.key = ap (λ (n : ExternName). n.name) h.named in
-      (c', s, record { goes = λ e u questions rest g now. rw f.1 (g now) },
+      let text : name.name ≡ key_text h.key = ap (λ (n : ExternName). n.name) h.named in (
+        c',
+        s,
+        record { goes = λ e u questions rest g now. rw f.1 (g now) },
         agrees_with d c' s t refl k (record { space = refl; is = address_at-append c.items (t ∷ []) spaces.Func index f.0 f.1 })
-        (rw (filter-push (is_of spaces.CoreModule) false c.items t refl) a.modules)
-        (sym (append-nil (map (λ (u : UserInstance). u.module_number) s.users)))
-        a.served
-        (map-append (λ (e : Export). e.name) c.exports (x ∷ []))
-        (AllByRecursion-push (IsLiftedExport w s) c.exports x a.lifted (record { name = h.lifted.name; space = refl; said = ap (λ t. option_map (λ n. Lifted (record { of = Main; name = n }) []) (core_name_of w t)) text ∙ h.lifted.said; is = f.2 })))
+            (rw (filter-push (is_of spaces.CoreModule) false c.items t refl) a.modules)
+            (sym (append-nil (map (λ (u : UserInstance). u.module_number) s.users)))
+            a.served
+            (map-append (λ (e : Export). e.name) c.exports (x ∷ []))
+            (AllByRecursion-push (IsLiftedExport w s) c.exports x a.lifted (record { name = h.lifted.name; space = refl; said = ap (λ t. option_map (λ n. Lifted (record { of = Main; name = n }) []) (core_name_of w t)) text ∙ h.lifted.said; is = f.2 })),
+      )
 
   pub step_module : (bytes : List ℕ) → Steps w earlier c s (defs.Item (items.CoreModule bytes))
   step_module bytes =
@@ -327,26 +346,33 @@ module _ {w : ComponentWorld} {earlier : List Def} {c : Scope} {s : Store} (a : 
         functions = λ i y e. e;
         types = λ i y e. e;
         users = λ i y e. e;
-      } in
-      (with_thing c t, s', record { goes = λ e u questions rest g now. g now },
+      } in (
+        with_thing c t,
+        s',
+        record { goes = λ e u questions rest g now. g now },
         agrees_with d (with_thing c t) s' t refl k (record { space = refl; is = tt })
-        (rw (filter-push (is_of spaces.CoreModule) true c.items t refl, length-append s.core_modules (bytes ∷ []), add-one (length s.core_modules)) (numbered-push 0 (filter (is_of spaces.CoreModule) c.items) (length s.core_modules) t a.modules refl))
-        (sym (append-nil (map (λ (u : UserInstance). u.module_number) s.users)))
-        (AllByRecursion-weaker (IsPlannedUser-kept w k) s.users a.served)
-        (sym (append-nil (map (λ (e : Export). e.name) c.exports)))
-        (AllByRecursion-weaker (IsLiftedExport-kept w k) c.exports a.lifted))
+            (rw (filter-push (is_of spaces.CoreModule) true c.items t refl, length-append s.core_modules (bytes ∷ []), add-one (length s.core_modules)) (numbered-push 0 (filter (is_of spaces.CoreModule) c.items) (length s.core_modules) t a.modules refl))
+            (sym (append-nil (map (λ (u : UserInstance). u.module_number) s.users)))
+            (AllByRecursion-weaker (IsPlannedUser-kept w k) s.users a.served)
+            (sym (append-nil (map (λ (e : Export). e.name) c.exports)))
+            (AllByRecursion-weaker (IsLiftedExport-kept w k) c.exports a.lifted),
+      )
 
   pub step_custom : (name contents : List ℕ) → Steps w earlier c s (defs.Item (items.Custom name contents))
   step_custom name contents =
-      let d : Def = defs.Item (items.Custom name contents) in
-      (c, s, record { goes = λ e u questions rest g now. g now }, record {
-        means = subst (λ ds. AllZip (Means w c.items s) ds c.items) (sym (filter-push makes false earlier d refl)) a.means;
-        modules = a.modules;
-        instances = a.instances ∙ sym (flat-push def_instantiates earlier d ∙ append-nil (flat_map def_instantiates earlier));
-        served = a.served;
-        exports = a.exports ∙ sym (flat-push def_export earlier d ∙ append-nil (flat_map def_export earlier));
-        lifted = a.lifted;
-      })
+      let d : Def = defs.Item (items.Custom name contents) in (
+        c,
+        s,
+        record { goes = λ e u questions rest g now. g now },
+        record {
+          means = subst (λ ds. AllZip (Means w c.items s) ds c.items) (sym (filter-push makes false earlier d refl)) a.means;
+          modules = a.modules;
+          instances = a.instances ∙ sym (flat-push def_instantiates earlier d ∙ append-nil (flat_map def_instantiates earlier));
+          served = a.served;
+          exports = a.exports ∙ sym (flat-push def_export earlier d ∙ append-nil (flat_map def_export earlier));
+          lifted = a.lifted;
+        },
+      )
 
   -- the first core module has the first address
   first_address : 0 < items_in spaces.CoreModule earlier → address_at spaces.CoreModule 0 c.items ≡ Some 0
@@ -381,29 +407,32 @@ module _ {w : ComponentWorld} {earlier : List Def} {c : Scope} {s : Store} (a : 
       let scoped : 0 < items_in spaces.CoreModule earlier = subst (λ n. n < items_in spaces.CoreModule earlier) h.main h.scoped in
       let planned : AllByRecursion (IsPlannedUser w s') (s.users ++ instance ∷ []) =
       AllByRecursion-push (IsPlannedUser w s') s.users instance (AllByRecursion-weaker (IsPlannedUser-kept w k) s.users a.served) (IsPlannedUser-kept w k instance given.2) in
-      let steps : Steps w earlier c s d =
-      (with_thing c t, s', record {
-        goes = λ e u questions rest g now. rw (first_address scoped, args.1, given.1) (
-          good_answered e u questions now.answers _ _
-          (λ values cell left after scope store answers.
-            subst (λ (m : Machine). IsGood e u questions left (run (module_meanings w) rest (new_user 0 exports given.0 m))) (after_is c s after scope store)
-            (subst (λ l. IsGood e u questions l (run (module_meanings w) rest (machine (with_thing c t) s' after.now))) answers (g after.now))));
-      },
+      let steps : Steps w earlier c s d = (
+        with_thing c t,
+        s',
+        record {
+          goes = λ e u questions rest g now. rw (first_address scoped, args.1, given.1) (
+              good_answered e u questions now.answers _ _
+              (λ values cell left after scope store answers.
+              subst (λ (m : Machine). IsGood e u questions left (run (module_meanings w) rest (new_user 0 exports given.0 m))) (after_is c s after scope store)
+              (subst (λ l. IsGood e u questions l (run (module_meanings w) rest (machine (with_thing c t) s' after.now))) answers (g after.now))));
+        },
         agrees_with d (with_thing c t) s' t refl k
-        (record {
-          space = refl;
-          is = record {
-            exports = own;
-            user = user;
-            stands = slice_get-end s.core_instances own;
-            is = record { instance = instance; stands = slice_get-end s.users instance; of = refl };
-            names = export_names (length s.core) w.main.exports.exports;
-            each = user_exports s' user s.core w.main.exports.exports refl;
-          };
-        })
-        (rw (filter-push (is_of spaces.CoreModule) false c.items t refl) a.modules)
-        (map-append (λ (u : UserInstance). u.module_number) s.users (instance ∷ []))
-        planned
-        (sym (append-nil (map (λ (e : Export). e.name) c.exports)))
-        (AllByRecursion-weaker (IsLiftedExport-kept w k) c.exports a.lifted)) in
+            (record {
+              space = refl;
+              is = record {
+                exports = own;
+                user = user;
+                stands = slice_get-end s.core_instances own;
+                is = record { instance = instance; stands = slice_get-end s.users instance; of = refl };
+                names = export_names (length s.core) w.main.exports.exports;
+                each = user_exports s' user s.core w.main.exports.exports refl;
+              };
+            })
+            (rw (filter-push (is_of spaces.CoreModule) false c.items t refl) a.modules)
+            (map-append (λ (u : UserInstance). u.module_number) s.users (instance ∷ []))
+            planned
+            (sym (append-nil (map (λ (e : Export). e.name) c.exports)))
+            (AllByRecursion-weaker (IsLiftedExport-kept w k) c.exports a.lifted),
+      ) in
       subst (λ n. Steps w earlier c s (defs.Item (items.CoreInstantiate n arguments))) (sym h.main) steps

@@ -10,7 +10,6 @@ use Rattle.comp_bytes.specs.declared.space.Space.TheVariants as spaces
 use Rattle.comp_bytes.specs.declared.types.TypeDef.TheVariants as types
 use Rattle.comp_bytes.specs.declared.types.Description.TheVariants as descriptions
 use Rattle.comp_bytes.specs.declared.types.Alias.TheVariants as aliases
-use Rattle.comp_bytes.specs.declared.def.CoreInlineExport.{CoreInlineExport}
 use Rattle.comp_bytes.specs.declared.def.Item.{Item}
 use Rattle.comp_bytes.specs.declared.def.Item.TheVariants as items
 use Rattle.comp_bytes.specs.declared.def.Def.{Def}
@@ -95,12 +94,12 @@ abbrev one_each : ComponentWorld
 one_each = world_of core (f ∷ []) (g ∷ []) ((root, (f, f) ∷ []) ∷ []) ((g, g) ∷ [])
 
 pub one_each_ends : ended (outcome one_each one_import_one_export made) ≡ Some (record {
-    core = Lowering 0 [] ∷ OfUser 0 g ∷ [];
-    functions = Imported (f ∷ []) ∷ Lifting 1 [] ∷ [];
-    users = record { module_number = 0; given = core_function 0 ∷ [] } ∷ [];
-    exported = function_export g 1 ∷ [];
-    events = Instantiated 0 ∷ [];
-  })
+  core = Lowering 0 [] ∷ OfUser 0 g ∷ [];
+  functions = Imported (f ∷ []) ∷ Lifting 1 [] ∷ [];
+  users = record { module_number = 0; given = core_function 0 ∷ [] } ∷ [];
+  exported = function_export g 1 ∷ [];
+  events = Instantiated 0 ∷ [];
+})
 one_each_ends = refl
 
 abbrev then_calls : ℕ → Outcome → Outcome
@@ -125,12 +124,12 @@ one_each_of_wrong_types = refl
 
 -- once it is done, a call of what main's import was given is seen, and nothing else
 pub one_each_called : ended (then_calls 0 (outcome one_each one_import_one_export (Gives [] 0 ∷ Gives [] 0 ∷ []))) ≡ Some (record {
-    core = Lowering 0 [] ∷ OfUser 0 g ∷ [];
-    functions = Imported (f ∷ []) ∷ Lifting 1 [] ∷ [];
-    users = record { module_number = 0; given = core_function 0 ∷ [] } ∷ [];
-    exported = function_export g 1 ∷ [];
-    events = Instantiated 0 ∷ Called 0 [] ∷ [];
-  })
+  core = Lowering 0 [] ∷ OfUser 0 g ∷ [];
+  functions = Imported (f ∷ []) ∷ Lifting 1 [] ∷ [];
+  users = record { module_number = 0; given = core_function 0 ∷ [] } ∷ [];
+  exported = function_export g 1 ∷ [];
+  events = Instantiated 0 ∷ Called 0 [] ∷ [];
+})
 one_each_called = refl
 
 -- a list that lacks an item is stuck
@@ -142,12 +141,12 @@ abbrev empty_module : ComponentWorld
 empty_module = world_of core_preamble [] [] [] []
 
 pub empty_module_ends : ended (outcome empty_module (map defs.Item (items.CoreModule core_preamble ∷ items.CoreInstantiate 0 [] ∷ [])) made) ≡ Some (record {
-    core = [];
-    functions = [];
-    users = record { module_number = 0; given = [] } ∷ [];
-    exported = [];
-    events = Instantiated 0 ∷ [];
-  })
+  core = [];
+  functions = [];
+  users = record { module_number = 0; given = [] } ∷ [];
+  exported = [];
+  events = Instantiated 0 ∷ [];
+})
 empty_module_ends = refl
 
 -- two functions of one type, each imported from two modules, and two exports
@@ -193,12 +192,12 @@ two_twice_defs first second = map defs.Item (
 
 -- an exported name is a core item of the other name, as the roles say
 pub two_twice_ends : ended (outcome two_twice (two_twice_defs 0 1) made) ≡ Some (record {
-    core = Lowering 0 [] ∷ Lowering 1 [] ∷ Lowering 0 [] ∷ Lowering 1 [] ∷ OfUser 0 k ∷ OfUser 0 g ∷ [];
-    functions = Imported (f ∷ []) ∷ Imported (h ∷ []) ∷ Lifting 4 [] ∷ Lifting 5 [] ∷ [];
-    users = record { module_number = 0; given = core_function 0 ∷ core_function 1 ∷ core_function 2 ∷ core_function 3 ∷ [] } ∷ [];
-    exported = function_export g 2 ∷ function_export k 3 ∷ [];
-    events = Instantiated 0 ∷ [];
-  })
+  core = Lowering 0 [] ∷ Lowering 1 [] ∷ Lowering 0 [] ∷ Lowering 1 [] ∷ OfUser 0 k ∷ OfUser 0 g ∷ [];
+  functions = Imported (f ∷ []) ∷ Imported (h ∷ []) ∷ Lifting 4 [] ∷ Lifting 5 [] ∷ [];
+  users = record { module_number = 0; given = core_function 0 ∷ core_function 1 ∷ core_function 2 ∷ core_function 3 ∷ [] } ∷ [];
+  exported = function_export g 2 ∷ function_export k 3 ∷ [];
+  events = Instantiated 0 ∷ [];
+})
 two_twice_ends = refl
 
 abbrev machine_of : Outcome → Option Machine
@@ -268,8 +267,24 @@ g_lifted = record {
 
 pub keeps_the_rules : IsBuilt one_each one_import_one_export
 keeps_the_rules = record {
-  right =
-      (refl, ((refl, function_typed), (tt, ((omega arith, refl), ((record { kind = refl; scoped = omega arith }, tt), (record { main = refl; scoped = omega arith; each = (f_offered, tt) },
-        (record { of = main_made 6 refl; key = g; role = refl }, ((omega arith, refl, function_typed_later), (record { key = keys.Name g; named = refl; lifted = g_lifted }, tt)))))))));
+  right = (
+    refl,
+    (
+      (refl, function_typed),
+      (
+        tt,
+        (
+          (omega arith, refl),
+          (
+            (record { kind = refl; scoped = omega arith }, tt),
+            (
+              record { main = refl; scoped = omega arith; each = (f_offered, tt) },
+              (record { of = main_made 6 refl; key = g; role = refl }, ((omega arith, refl, function_typed_later), (record { key = keys.Name g; named = refl; lifted = g_lifted }, tt))),
+            ),
+          ),
+        ),
+      ),
+    ),
+  );
   marked = refl;
 }

@@ -1,12 +1,12 @@
 -- Lists that go along with each other, and look-ups in them.
-use Rattle.std.proofs.Common.{◌≡◌, ◌∙◌, ℕ, zero, suc, ◌<◌, Bool, true, false, true≢false, List, [], ◌∷◌, ◌++◌, length, map, filter, refl, sym, ap, subst, Option, Some, None, cond, if◌then◌else◌, ◌||◌, append_assoc, arith}
+use Rattle.std.proofs.Common.{◌≡◌, ◌∙◌, ℕ, suc, Bool, true, false, true≢false, List, [], ◌∷◌, ◌++◌, length, map, filter, refl, sym, ap, subst, Option, Some, None, cond, if◌then◌else◌, ◌||◌, append_assoc}
 use Rattle.std.proofs.lemmas.Option.{same_Some, none-some}
 use Rattle.std.proofs.lemmas.Bool.{false_from_ne_true}
 use Rattle.std.proofs.lemmas.Slice.Eq.{bytes_eq-Decides}
 use Rattle.std.proofs.lemmas.Map.Keys.{IsDistinct-head, IsDistinct-tail}
 use Rattle.std.specs.Str.{bytes_eq}
 use Rattle.std.specs.List.{slice_get, flat_map, filter_map, cons_option, list_any, AllZip, AllByRecursion, IsDistinct}
-use Rattle.std.specs.Option.{option_map, option_and_then}
+use Rattle.std.specs.Option.{option_map}
 use Rattle.comp_lists.specs.Found.{found}
 use Rattle.comp_encoder.specs.Machine.{all_some}
 
@@ -96,9 +96,10 @@ module _ {X Y : Type 0} (key : Y → List ℕ) (R : List ℕ × X → Y → Type
       AllByRecursion (FindsIn es) ys
   found-along named [] [] h d = tt
   found-along named (e ∷ es) (y ∷ ys) h d =
-      let same : e.0 ≡ key y = named e y h.0 in
-      ((e, rw (same, (bytes_eq-Decides (key y) (key y)).1 refl) refl, h.0),
-        not_first (key y) e es same ys (IsDistinct-head bytes_eq (key y) (map key ys) d) (found-along named es ys h.1 (IsDistinct-tail bytes_eq (key y) (map key ys) d)))
+      let same : e.0 ≡ key y = named e y h.0 in (
+        (e, rw (same, (bytes_eq-Decides (key y) (key y)).1 refl) refl, h.0),
+        not_first (key y) e es same ys (IsDistinct-head bytes_eq (key y) (map key ys) d) (found-along named es ys h.1 (IsDistinct-tail bytes_eq (key y) (map key ys) d)),
+      )
   found-along named [] (y ∷ ys) h d = absurd h
   found-along named (e ∷ es) [] h d = absurd h
 

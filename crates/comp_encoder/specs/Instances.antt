@@ -1,13 +1,12 @@
 -- What is made where a module is instantiated, or an instance is imported (core standard: instantiation;
 -- component model, explainer: instance definitions, instance types).
-use Rattle.std.specs.Prelude.{ℕ, List, [], ◌∷◌, ◌++◌, Option, Some, None, length, map, slice_get, zero, suc, ◌+◌, if◌then◌else◌}
+use Rattle.std.specs.Prelude.{ℕ, List, [], ◌∷◌, ◌++◌, Option, Some, None, length, map, slice_get, suc, if◌then◌else◌}
 use Rattle.std.specs.Option.{option_map, option_and_then}
 use Rattle.comp_lists.specs.Found.{found}
 use Rattle.comp_bytes.specs.Spaces.{kind_space, export_space, description_space}
 use Rattle.comp_bytes.specs.declared.space.Space.{Space}
 use Rattle.comp_bytes.specs.declared.space.Space.TheVariants as spaces
 use Rattle.comp_bytes.specs.declared.space.ExportKind.{ExportKind}
-use Rattle.comp_bytes.specs.declared.types.ExternName.{ExternName}
 use Rattle.comp_bytes.specs.declared.types.TypeDef.{TypeDef}
 use Rattle.comp_bytes.specs.declared.types.TypeDef.TheVariants as types
 use Rattle.comp_bytes.specs.declared.types.Alias.{Alias}
@@ -17,8 +16,8 @@ use Rattle.comp_bytes.specs.declared.types.Description.TheVariants as descriptio
 use Rattle.comp_bytes.specs.declared.types.Member.{Member}
 use Rattle.comp_bytes.specs.declared.types.Member.TheVariants as members
 use Rattle.comp_shims.specs.Answers.{Instantiated}
-use Rattle.comp_shims.specs.Store.{Thing, Export, CoreItem, OfUser, Function, Imported, TypeItem, FunctionType, ValueType, ImportedResource, OwnResource, InstanceTypeOf, UserInstance, Store}
-use Rattle.comp_encoder.specs.Machine.{Scope, Machine, Outcome, Stuck, Next, with_some, all_some, address_at, export_named, export_in, export_of, with_item, new_core_instance, new_function, new_type, new_instance, asked}
+use Rattle.comp_shims.specs.Store.{Thing, Export, OfUser, Imported, TypeItem, FunctionType, ValueType, ImportedResource, OwnResource, InstanceTypeOf}
+use Rattle.comp_encoder.specs.Machine.{Machine, Outcome, Stuck, Next, with_some, all_some, address_at, export_named, export_in, export_of, with_item, new_core_instance, new_function, new_type, new_instance, asked}
 
 -- the type of a core module, as validation finds it: what it imports, in order, and what it exports
 pub record ImportType : Type 0 where

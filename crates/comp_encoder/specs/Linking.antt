@@ -1,6 +1,6 @@
 -- The headline: what a list of definitions is to a validated world, as it stands and when it is run
 -- (component model, explainer: component definitions; Canonical ABI: `canon lift`, `canon lower`).
-use Rattle.std.specs.Prelude.{◌≡◌, ◌≢◌, ◌++◌, ℕ, List, [], ◌∷◌, Option, Some, None, length, map, zero, suc, IsTrue}
+use Rattle.std.specs.Prelude.{◌≡◌, ◌≢◌, ◌++◌, ℕ, List, [], ◌∷◌, Some, length, map, zero, suc, IsTrue}
 use Rattle.std.specs.List.{AllByRecursion, AllZip, flat_map}
 use Rattle.comp_bytes.specs.ScopeNames.{def_import, def_export}
 use Rattle.comp_bytes.specs.declared.space.Space.TheVariants as spaces

@@ -1,6 +1,6 @@
 -- What running a list of definitions does (component model, explainer: component definitions; Canonical ABI:
 -- `canon lift`, `canon lower`). One definition is run after the other; each adds the item that it defines.
-use Rattle.std.specs.Prelude.{ℕ, List, [], ◌∷◌, ◌++◌, Option, Some, None, length, map, slice_get}
+use Rattle.std.specs.Prelude.{ℕ, List, [], ◌∷◌, Option, Some, map, slice_get}
 use Rattle.std.specs.Option.{option_map, option_and_then}
 use Rattle.comp_bytes.specs.Spaces.{kind_space, sort_space, description_space}
 use Rattle.comp_bytes.specs.References.{Reference, intrinsic_references, where_some, description_references}

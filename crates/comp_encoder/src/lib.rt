@@ -5,7 +5,9 @@
 //!
 //! The promise upward: what an encoder holds after each call (`specs/Encoder.antt`), when a call
 //! refuses (`specs/Refusals.antt`), and what the bytes that `encode` answers are to the validated
-//! world (`IsComponentOf` in `specs/Component.antt`). A refusal leaves the encoder as it was.
+//! world (`IsComponentOf` in `specs/Component.antt`): they spell a list of definitions that links when
+//! it is run (`specs/Linking.antt`; the machine stands in `specs/Machine.antt`, `Instances` and
+//! `Running`). A refusal leaves the encoder as it was.
 //!
 //! In reading order: `fault` (why a call refuses), `encoder` (the calls). Nothing here knows of
 //! files, nor of how a lower layer learns what it answers.

@@ -1,6 +1,7 @@
-//! What the imports and exports of core modules are to meet.
+//! What the imports and exports of core modules are to meet, and what a run of a component has made.
 //!
 //! For now this crate holds definitions alone, which the crates above cite: `specs/Targets.antt` says
-//! what an import of a core module, or a required export, stands for. The modules that are generated
-//! where modules need one another in a circle, their shims and their fixups, come here too.
+//! what an import of a core module, or a required export, stands for; `specs/Store.antt` what a run
+//! has made so far, and `specs/Answers.antt` what the outside answers to it. The modules that are
+//! generated where modules need one another in a circle, their shims and their fixups, come here too.
 #![tactic(auto)]

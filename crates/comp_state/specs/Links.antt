@@ -1,7 +1,7 @@
 -- The link table of a world: what each import of a user module is to be given, and what each required
 -- export is to be lifted from (Canonical ABI: `canon lower`, `canon lift`). It reads what an import or an
 -- export is for, and nothing else.
-use Rattle.std.specs.Prelude.{ℕ, List, [], Option, Some, None}
+use Rattle.std.specs.Prelude.{List, [], Option, None}
 use Rattle.std.specs.Option.{option_map}
 use Rattle.comp_worlds.specs.Keys.{key_text}
 use Rattle.comp_worlds.specs.Worlds.{core_name_of}
