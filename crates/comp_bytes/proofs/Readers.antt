@@ -1,5 +1,5 @@
 -- Readers: each gives back what is spelled, whatever follows. Numbers, names, lists, options, and one after another.
-use Rattle.std.proofs.Common.{◌≡◌, ℕ, zero, suc, ◌+◌, ◌-◌, ◌*◌, ◌/◌, ◌%◌, ◌≤◌, List, [], ◌∷◌, ◌++◌, length, take, drop, Bool, true, false, Option, Some, None, refl, sym, ap, ◌∙◌, arith, append_assoc}
+use Rattle.std.proofs.Common.{◌≡◌, ℕ, zero, suc, ◌+◌, ◌-◌, ◌*◌, ◌/◌, ◌%◌, ◌≤◌, List, [], ◌∷◌, ◌++◌, length, take, drop, Bool, true, false, Option, Some, None, refl, ap, ◌∙◌, arith, append_assoc}
 use Rattle.std.specs.Prelude.{nat_lt, nat_eq, if◌then◌else◌}
 use Rattle.std.specs.List.{flat_map}
 use Rattle.std.proofs.lemmas.Bool.Decides.{nat_tests}
@@ -20,13 +20,6 @@ read_then (Some p) go = go p.0 p.1
 -- What is spelled is read again.
 pub record Reads {A : Type 0} (f : A → Spelling) (r : Reader A) : Type 0 where
   pub again : (x : A) (rest : List ℕ) → r ((f x).bytes ++ rest) ≡ Some (x, rest)
-
--- What is read again is spelled in one way only.
-pub one_form : {A : Type 0} {f : A → Spelling} {r : Reader A} → Reads f r → (a b : A) (x y : List ℕ) → (f a).bytes ++ x ≡ (f b).bytes ++ y → (a ≡ b) × (x ≡ y)
-one_form {A} {f} {r} h a b x y e =
-    let same : ◌≡◌ {A = Read A} (Some (a, x)) (Some (b, y)) = sym (h.again a x) ∙ ap r e ∙ h.again b y in
-    let pair : ◌≡◌ {A = A × List ℕ} (a, x) (b, y) = cc in
-    (ap (λ p. p.0) pair, ap (λ p. p.1) pair)
 
 -- a value that was read, made into another
 abbrev pub made_from : {A B : Type 0} → (A → B) → Reader A → Reader B
