@@ -1,4 +1,4 @@
--- Look-ups by name in a list of pairs.
+-- Look-ups by name in a list of pairs. (No standard speaks of them.)
 use Rattle.std.specs.Prelude.{ℕ, List, Option}
 use Rattle.std.specs.Str.{bytes_eq}
 use Rattle.std.specs.Map.{lookup}

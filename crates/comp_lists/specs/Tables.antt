@@ -1,4 +1,4 @@
--- Tables as lists of their entries.
+-- Tables as lists of their entries. (No standard speaks of them.)
 use Rattle.std.specs.Prelude.{Bool, List, [], ◌∷◌, ◌++◌, is_some, if◌then◌else◌}
 use Rattle.std.specs.Map.{lookup}
 

@@ -1,4 +1,5 @@
--- When the encoding of a world is refused.
+-- When the encoding of a world is refused: where memory is, where a function has no string encoding
+-- (Canonical ABI: `string-encoding`), and where a count passes 32 bits (core standard, binary format: vectors).
 use Rattle.std.specs.Prelude.{◌≡◌, ◌≤◌, ◌^◌, ◌⊎◌, ℕ, List, None, Contains, IsSome}
 use Rattle.std.specs.List.{AllByRecursion}
 use Rattle.comp_worlds.specs.Keys.{key_text}

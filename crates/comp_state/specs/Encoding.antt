@@ -1,4 +1,5 @@
--- What contracts see of a state of encoding.
+-- What contracts see of a state of encoding. (The rules are this project's own: the standard speaks of
+-- components, not of how they are made.)
 use Rattle.std.specs.Prelude.{◌≡◌, ◌++◌, ℕ, List, Option, Some, IsSome, IsTrue}
 use Rattle.std.specs.List.{AllByRecursion}
 use Rattle.comp_lists.specs.Found.{found}

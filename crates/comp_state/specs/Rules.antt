@@ -1,5 +1,6 @@
--- Rules that each definition keeps where it stands, and the landmarks of the whole list. They are what
--- the steps promise to the run of the list; no rule is part of a public promise.
+-- Rules that each definition keeps where it stands, and the landmarks of the whole list (component model,
+-- explainer: component definitions). They are what the steps promise to the run of the list; no rule is
+-- part of a public promise.
 use Rattle.std.specs.Prelude.{◌≡◌, ◌<◌, ℕ, List, [], ◌∷◌, ◌++◌, Option, Some, None, map, filter}
 use Rattle.std.specs.List.{AllByRecursion, AllZip, filter_map}
 use Rattle.comp_bytes.specs.Spaces.{items_in}

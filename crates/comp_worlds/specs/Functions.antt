@@ -1,4 +1,5 @@
--- Functions as a module names them: by the key of a world's item and the name of a function there.
+-- Functions as a module names them: by the key of a world's item and the name of a function there
+-- (component model: names of imports and exports).
 use Rattle.std.specs.Prelude.{ℕ, Bool, List, Option}
 use Rattle.std.specs.Map.{lookup}
 use Rattle.std.specs.Ordering.{on, eq_of_both}

@@ -1,4 +1,5 @@
--- When each fault is right: what of the bytes, of the records or of what was gathered is wrong.
+-- When each fault is right: what of the bytes, of the records or of what was gathered is wrong. (The record
+-- is this project's own; what is asked of the bytes is the core standard's binary format.)
 use Rattle.std.specs.Prelude.{◌≡◌, ◌⊎◌, ℕ, Bool, true, false, List, [], ◌∷◌, ◌++◌, Option, Some, None, Result, Ok, Err, Contains, is_some}
 use Rattle.std.specs.List.{AllZip, flat_map, list_any}
 use Rattle.std.specs.Map.{lookup}

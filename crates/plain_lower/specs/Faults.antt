@@ -1,4 +1,4 @@
--- Faults of this layer, and those of the layer below as this one's.
+-- Faults of this layer, and those of the layer below as this one's. (This project's own.)
 use Rattle.std.specs.Prelude.{◌≡◌, ◌≢◌, Result, Ok, Err}
 use Rattle.core_sections.specs.declared.fault.SectionFault.{SectionFault}
 use Rattle.core_sections.specs.declared.fault.SectionFault.TheVariants as section_faults

@@ -1,4 +1,5 @@
--- Groups of core imports by module, and where the group of each module stands.
+-- Groups of core imports by module, and where the group of each module stands (core standard: imports go by
+-- a module's name and a field's).
 use Rattle.std.specs.Prelude.{ℕ, ◌+◌, List, [], ◌∷◌}
 use Rattle.plain_lower.specs.declared.importing.Group.{Group}
 

@@ -1,4 +1,5 @@
--- Roles: what the imports and exports of a core module are for.
+-- Roles: what the imports and exports of a core module are for (component model: imports and exports of a
+-- world).
 use Rattle.std.specs.Prelude.{ℕ, Bool, List}
 use Rattle.std.specs.Ordering.{on, eq_of_both}
 use Rattle.std.specs.Str.{bytes_eq}
