@@ -51,9 +51,17 @@ fn with_section(
     Ok(all)
 }
 
-/// The layer's `decode`. It promises nothing here, so that no test's proof has to carry what it means.
+/// A layer's `decode`. It promises nothing here, so that no test's proof has to carry what it means.
+fn decode_by<L: Lower>(
+    lower: &L,
+    alloc: Global,
+    bytes: &[u8],
+) -> Result<(Bytes, L::Bindgen), L::Fault> {
+    lower.decode(alloc, bytes)
+}
+
 fn decode(alloc: Global, bytes: &[u8]) -> Result<(Bytes, Bindgen), PlainFault> {
-    PlainLower::new().decode(alloc, bytes)
+    decode_by(&PlainLower::new(), alloc, bytes)
 }
 
 /// What `decode` says of these bytes: how many of them stay, or the printed fault.
