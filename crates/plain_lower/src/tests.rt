@@ -4,8 +4,8 @@ use crate::bindgen::Bindgen;
 use crate::fault::PlainFault;
 use crate::lower::PlainLower;
 use crate::roles::ImportName;
-use comp_lists::Text;
-use comp_worlds::{EncoderOptions, Gathered, Lower, Merged, Part};
+use comp_lists::{Bytes, Text};
+use comp_worlds::{ComponentWorld, EncoderOptions, Gathered, Lower, Merged, Part};
 use std::alloc::{AllocError, Global};
 use std::test::Fail;
 
@@ -19,6 +19,20 @@ const MODULE: [u8; 44] = [
 const RECORD: &str =
     r#"{"version":1,"imports":[{"func":{"name":"f"}}],"exports":[{"func":{"name":"g"}}],"core-imports":[{"module":"$root","field":"f","role":["world-func","f","sync"]}],"core-exports":[{"field":"g","role":["world-func","g","sync"]}]}"#;
 
+/// The beginning of a package in binary form.
+const PACKAGE: [u8; 8] = [0, 0x61, 0x73, 0x6d, 0x0d, 0, 1, 0];
+
+/// Adds a size in two bytes, or in five where that is asked for.
+fn push_size(all: &mut Vec<u8>, size: usize, long: bool) -> Result<(), AllocError> {
+    let low = (size % 128 + 128) as u8;
+    let high = (size / 128 % 128) as u8;
+    if long {
+        all.extend_from_slice(&[low, high + 128, 128, 128, 0])
+    } else {
+        all.extend_from_slice(&[low, high])
+    }
+}
+
 /// The module with a custom section, whose size is written in five bytes where that is asked for.
 fn with_section(
     alloc: Global,
@@ -27,105 +41,121 @@ fn with_section(
     bytes: &[u8],
     long: bool,
 ) -> Result<Vec<u8>, AllocError> {
-    let mut all = Vec::from_slice(alloc, module)?;
     let size = 1 + name.len().min(100) + bytes.len().min(10_000);
+    let mut all = Vec::from_slice(alloc, module)?;
     all.push(0)?;
-    all.push((size % 128 + 128) as u8)?;
-    if long {
-        all.push((size / 128 % 128 + 128) as u8)?;
-        all.push(128)?;
-        all.push(128)?;
-        all.push(0)?;
-    } else {
-        all.push((size / 128 % 128) as u8)?;
-    }
+    push_size(&mut all, size, long)?;
     all.push((name.len() % 128) as u8)?;
     all.extend_from_slice(name.as_bytes())?;
     all.extend_from_slice(bytes)?;
     Ok(all)
 }
 
-/// What `decode` says of a module with a record, as it is printed.
-fn decoded(alloc: Global, record: &str) -> Result<String, Fail> {
-    let bytes = with_section(alloc, &MODULE, "component-type", record.as_bytes(), false)?;
-    match PlainLower::new().decode(alloc, &bytes) {
-        Ok(_) => Ok(String::from_str(alloc, "ok")?),
+/// A layer's `decode`. It promises nothing here, so that no test's proof has to carry what it means.
+fn decode_by<L: Lower>(
+    lower: &L,
+    alloc: Global,
+    bytes: &[u8],
+) -> Result<(Bytes, L::Bindgen), L::Fault> {
+    lower.decode(alloc, bytes)
+}
+
+fn decode(alloc: Global, bytes: &[u8]) -> Result<(Bytes, Bindgen), PlainFault> {
+    decode_by(&PlainLower::new(), alloc, bytes)
+}
+
+/// What `decode` says of these bytes: how many of them stay, or the printed fault.
+fn decoded(alloc: Global, bytes: &[u8]) -> Result<String, Fail> {
+    match decode(alloc, bytes) {
+        Ok((kept, _)) => Ok(format!(in alloc; "{}", kept.len())?),
         Err(fault) => Ok(format!(in alloc; "{fault}")?),
+    }
+}
+
+/// Whether `f` is imported, and `g` exported.
+fn has_functions(alloc: Global, said: &Bindgen) -> Result<bool, AllocError> {
+    let f = Text::from_str(alloc, "f")?;
+    let g = Text::from_str(alloc, "g")?;
+    Ok(said.imports.contains(&f) && said.exports.contains(&g))
+}
+
+/// Whether there are roles for `f` of `$root`, and for `g`.
+fn has_roles(alloc: Global, said: &Bindgen) -> Result<bool, AllocError> {
+    let name = ImportName {
+        module: Text::from_str(alloc, "$root")?,
+        field: Text::from_str(alloc, "f")?,
+    };
+    let g = Text::from_str(alloc, "g")?;
+    Ok(said.import_roles.contains(&name) && said.export_roles.contains(&g))
+}
+
+/// Whether `decode` gives the module back, and all that the record says.
+fn is_taken_off(alloc: Global, bytes: &[u8]) -> Result<bool, AllocError> {
+    match decode(alloc, bytes) {
+        Ok((kept, said)) => {
+            let is_whole = kept.as_slice() == MODULE.as_slice();
+            Ok(is_whole && has_functions(alloc, &said)? && has_roles(alloc, &said)?)
+        }
+        Err(_) => Ok(false),
     }
 }
 
 #[test]
 fn a_record_is_taken_off_its_module(rt: HostRuntime) -> Result<(), Fail> {
-    let alloc = rt.alloc();
     for long in [false, true] {
-        let bytes = with_section(alloc, &MODULE, "component-type:x", RECORD.as_bytes(), long)?;
-        let Ok((kept, said)) = PlainLower::new().decode(alloc, &bytes) else {
-            return Err(Fail::from("refused"));
-        };
-        assert!(rt; kept.as_slice() == MODULE.as_slice());
-        let f = Text::from_str(alloc, "f")?;
-        let g = Text::from_str(alloc, "g")?;
-        assert!(rt; said.imports.contains(&f) && said.exports.contains(&g));
-        assert!(rt; said.export_roles.contains(&g));
-        let name = ImportName {
-            module: Text::from_str(alloc, "$root")?,
-            field: f,
-        };
-        assert!(rt; said.import_roles.contains(&name));
+        let record = RECORD.as_bytes();
+        let bytes = with_section(rt.alloc(), &MODULE, "component-type:x", record, long)?;
+        assert!(rt; is_taken_off(rt.alloc(), &bytes)?);
         let cut = &bytes[..bytes.len() - bytes.len().min(3)];
-        match PlainLower::new().decode(alloc, cut) {
-            Ok(_) => return Err(Fail::from("taken")),
-            Err(fault) => {
-                assert_eq!(rt;
-                    format!(in alloc; "{fault}")?.as_str(),
-                    "P3 Section place=44"
-                );
-            }
-        }
+        assert_eq!(rt; decoded(rt.alloc(), cut)?.as_str(), "P3 Section place=44");
     }
     Ok(())
+}
+
+/// Whether `decode` gives back these very bytes.
+fn is_kept(alloc: Global, bytes: &[u8]) -> bool {
+    match decode(alloc, bytes) {
+        Ok((kept, _)) => kept.as_slice() == bytes,
+        Err(_) => false,
+    }
 }
 
 #[test]
 fn other_sections_stay(rt: HostRuntime) -> Result<(), Fail> {
     for name in ["component-typ", "name"] {
         let bytes = with_section(rt.alloc(), &MODULE, name, b"abc", true)?;
-        match PlainLower::new().decode(rt.alloc(), &bytes) {
-            Ok((kept, _)) => assert!(rt; kept.as_slice() == bytes.as_slice()),
-            Err(_) => return Err(Fail::from("refused")),
-        }
+        assert!(rt; is_kept(rt.alloc(), &bytes));
     }
     Ok(())
 }
 
-/// What `decode` says of these bytes, as it is printed.
-fn decoded_bytes(alloc: Global, bytes: &[u8]) -> Result<String, Fail> {
-    match PlainLower::new().decode(alloc, bytes) {
-        Ok((kept, _)) => Ok(format!(in alloc; "{}", kept.len())?),
-        Err(fault) => Ok(format!(in alloc; "{fault}")?),
-    }
+#[test]
+fn a_package_is_refused(rt: HostRuntime) -> Result<(), Fail> {
+    let bytes = with_section(rt.alloc(), &MODULE, "component-type", &PACKAGE, false)?;
+    assert_eq!(rt; decoded(rt.alloc(), &bytes)?.as_str(), "P4 PackageBinary");
+    Ok(())
 }
 
 #[test]
 fn modules_without_records(rt: HostRuntime) -> Result<(), Fail> {
-    let alloc = rt.alloc();
-    let package = [0, 0x61, 0x73, 0x6d, 0x0d, 0, 1, 0];
-    let binary = with_section(alloc, &MODULE, "component-type", &package, false)?;
-    assert_eq!(rt; decoded_bytes(alloc, &binary)?.as_str(), "P4 PackageBinary");
-    assert_eq!(rt; decoded_bytes(alloc, &[])?.as_str(), "P2 NotModule");
-    assert_eq!(rt; decoded_bytes(alloc, &MODULE[..8])?.as_str(), "8");
-    assert_eq!(rt; decoded_bytes(alloc, &package)?.as_str(), "P2 NotModule");
+    assert_eq!(rt; decoded(rt.alloc(), &[])?.as_str(), "P2 NotModule");
+    assert_eq!(rt; decoded(rt.alloc(), &MODULE[..8])?.as_str(), "8");
+    assert_eq!(rt; decoded(rt.alloc(), &PACKAGE)?.as_str(), "P2 NotModule");
     Ok(())
+}
+
+/// What `decode` says of a module with a record.
+fn told(alloc: Global, record: &str) -> Result<String, Fail> {
+    let bytes = with_section(alloc, &MODULE, "component-type", record.as_bytes(), false)?;
+    decoded(alloc, &bytes)
 }
 
 /// The first line of which something else is said, or nothing. Each line has what is said, an arrow,
 /// and the record of which it is said.
 fn first_other(alloc: Global, lines: &str) -> Result<String, Fail> {
     for line in lines.lines() {
-        let Some((said, record)) = line.split_once(" <- ") else {
-            return Ok(String::from_str(alloc, line)?);
-        };
-        if decoded(alloc, record)?.as_str() != said {
+        let (said, record) = line.split_once(" <- ").unwrap_or(("", line));
+        if told(alloc, record)?.as_str() != said {
             return Ok(String::from_str(alloc, line)?);
         }
     }
@@ -139,7 +169,7 @@ P6 Record path="" <- []
 P6 Record path="/version" <- {}
 P6 Record path="/version" <- {"version":2}
 P6 Record path="/version" <- {"version":1.0}
-ok <- {"version":2,"version":1}
+44 <- {"version":2,"version":1}
 P6 Record path="/x" <- {"version":1,"x":0}
 P6 Record path="/a~1b~0c" <- {"version":1,"a/b~c":0}
 P6 Record path="/encoding" <- {"version":1,"encoding":"utf9"}
@@ -159,15 +189,6 @@ P6 Record path="/core-imports/0/role/1" <- {"version":1,"core-imports":[{"module
 P6 Record path="/core-imports/0/role/2" <- {"version":1,"imports":[{"func":{"name":"f"}}],"core-imports":[{"module":"m","field":"f","role":["world-func","f","stackful"]}]}
 P6 Record path="/core-exports/0/module" <- {"version":1,"core-exports":[{"field":"g","module":"m","role":["world-func","g","sync"]}]}"#;
 
-#[test]
-fn records_with_one_fault(rt: HostRuntime) -> Result<(), Fail> {
-    assert_eq!(rt;
-        first_other(rt.alloc(), RECORDS_WITH_ONE_FAULT)?.as_str(),
-        ""
-    );
-    Ok(())
-}
-
 /// What later versions take.
 const RECORDS_OF_LATER_VERSIONS: &str =
     r#"P8 LeftOut what="interfaces" <- {"version":1,"interfaces":[]}
@@ -177,32 +198,26 @@ P8 LeftOut what="interface" <- {"version":1,"exports":[{"name":"t","interface":0
 P8 LeftOut what="params" <- {"version":1,"imports":[{"func":{"name":"f","params":[["x","u32"]]}}]}
 P8 LeftOut what="result" <- {"version":1,"imports":[{"func":{"name":"f","result":"u32"}}]}
 P8 LeftOut what="async" <- {"version":1,"imports":[{"func":{"name":"f","async":true}}]}
-ok <- {"version":1,"imports":[{"func":{"name":"[method]r.f","params":[],"result":null,"async":false}}]}
+44 <- {"version":1,"imports":[{"func":{"name":"[method]r.f","params":[],"result":null,"async":false}}]}
 P8 LeftOut what="waitable-join" <- {"version":1,"core-imports":[{"module":"m","field":"f","role":["waitable-join"]}]}
 P8 LeftOut what="stackful" <- {"version":1,"exports":[{"func":{"name":"f"}}],"core-exports":[{"field":"f","role":["world-func","f","stackful"]}]}"#;
 
-#[test]
-fn records_of_later_versions(rt: HostRuntime) -> Result<(), Fail> {
-    assert_eq!(rt;
-        first_other(rt.alloc(), RECORDS_OF_LATER_VERSIONS)?.as_str(),
-        ""
-    );
-    Ok(())
-}
-
 /// What can be said twice, and what can't.
 const RECORDS_THAT_CONTRADICT_THEMSELVES: &str =
-    r#"ok <- {"version":1,"imports":[{"func":{"name":"f"}}],"core-imports":[{"module":"m","field":"x","role":["world-func","f","sync"]},{"module":"m","field":"x","role":["world-func","f","sync"]}]}
+    r#"44 <- {"version":1,"imports":[{"func":{"name":"f"}}],"core-imports":[{"module":"m","field":"x","role":["world-func","f","sync"]},{"module":"m","field":"x","role":["world-func","f","sync"]}]}
 P7 MergeConflict name="x" <- {"version":1,"imports":[{"func":{"name":"f"}},{"func":{"name":"h"}}],"core-imports":[{"module":"m","field":"x","role":["world-func","f","sync"]},{"module":"m","field":"x","role":["world-func","h","sync"]}]}
 P7 MergeConflict name="x" <- {"version":1,"exports":[{"func":{"name":"f"}},{"func":{"name":"h"}}],"core-exports":[{"field":"x","role":["world-func","f","sync"]},{"field":"x","role":["world-func","h","sync"]}]}
 P7 MergeConflict name="y" <- {"version":1,"exports":[{"func":{"name":"f"}}],"core-exports":[{"field":"x","role":["world-func","f","sync"]},{"field":"y","role":["world-func","f","sync"]}]}"#;
 
 #[test]
-fn records_that_contradict_themselves(rt: HostRuntime) -> Result<(), Fail> {
-    assert_eq!(rt;
-        first_other(rt.alloc(), RECORDS_THAT_CONTRADICT_THEMSELVES)?.as_str(),
-        ""
-    );
+fn records_are_told(rt: HostRuntime) -> Result<(), Fail> {
+    for lines in [
+        RECORDS_WITH_ONE_FAULT,
+        RECORDS_OF_LATER_VERSIONS,
+        RECORDS_THAT_CONTRADICT_THEMSELVES,
+    ] {
+        assert_eq!(rt; first_other(rt.alloc(), lines)?.as_str(), "");
+    }
     Ok(())
 }
 
@@ -216,11 +231,27 @@ const OPTIONS: EncoderOptions = EncoderOptions {
     realloc_via_memory_grow: false,
 };
 
+/// The layer's `merge`, which promises nothing here.
+fn merge(alloc: Global, first: &Bindgen, second: &Bindgen) -> Result<Merged<Bindgen>, PlainFault> {
+    PlainLower::new().merge(alloc, first, second)
+}
+
+/// The layer's `prepare`, where there is a main module. It promises nothing here.
+fn prepare(
+    alloc: Global,
+    gathered: &Gathered<Bindgen>,
+) -> Option<Result<ComponentWorld, PlainFault>> {
+    if gathered.main.is_none() {
+        return None;
+    }
+    Some(PlainLower::new().prepare(alloc, gathered))
+}
+
 /// A module with a record, decoded and merged with nothing.
 fn gathered(alloc: Global, bytes: &[u8]) -> Result<Gathered<Bindgen>, PlainFault> {
-    let lower = PlainLower::new();
-    let (bytes, own) = lower.decode(alloc, bytes)?;
-    let Merged { joint, exports } = lower.merge(alloc, &lower.empty(alloc), &own)?;
+    let (bytes, own) = decode(alloc, bytes)?;
+    let nothing = PlainLower::new().empty(alloc);
+    let Merged { joint, exports } = merge(alloc, &nothing, &own)?;
     let main = Some(Part {
         bytes,
         own,
@@ -233,14 +264,12 @@ fn gathered(alloc: Global, bytes: &[u8]) -> Result<Gathered<Bindgen>, PlainFault
     })
 }
 
-/// What `prepare` says of what was gathered, as it is printed.
+/// What `prepare` says of what was gathered: how many exports are required, or the printed fault.
 fn as_prepared(alloc: Global, gathered: &Gathered<Bindgen>) -> Result<String, Fail> {
-    if gathered.main.is_none() {
-        return Err(Fail::from("no main"));
-    }
-    match PlainLower::new().prepare(alloc, gathered) {
-        Ok(world) => Ok(format!(in alloc; "{} required", world.main_exports.len())?),
-        Err(fault) => Ok(format!(in alloc; "{fault}")?),
+    match prepare(alloc, gathered) {
+        Some(Ok(world)) => Ok(format!(in alloc; "{} required", world.main_exports.len())?),
+        Some(Err(fault)) => Ok(format!(in alloc; "{fault}")?),
+        None => Err(Fail::from("no main")),
     }
 }
 
@@ -260,123 +289,107 @@ fn changed(alloc: Global, place: usize, bytes: &[u8]) -> Result<Vec<u8>, AllocEr
     Ok(module)
 }
 
+/// What is said, and the record that the first bytes of the module have, so many of them.
+const WORLDS: [(&str, usize, &str); 4] = [
+    ("1 required", 44, RECORD),
+    ("0 required", 8, r#"{"version":1}"#),
+    (
+        "P9 RoleMissing module=\"$root\" field=\"f\"",
+        44,
+        r#"{"version":1,"exports":[{"func":{"name":"g"}}],"core-exports":[{"field":"g","role":["world-func","g","sync"]}]}"#,
+    ),
+    (
+        "P10 ExportMissing function=\"g\"",
+        44,
+        r#"{"version":1,"imports":[{"func":{"name":"f"}}],"exports":[{"func":{"name":"g"}}],"core-imports":[{"module":"$root","field":"f","role":["world-func","f","sync"]}]}"#,
+    ),
+];
+
 #[test]
 fn worlds_are_prepared(rt: HostRuntime) -> Result<(), Fail> {
-    let alloc = rt.alloc();
-    assert_eq!(rt; prepared(alloc, &MODULE, RECORD)?.as_str(), "1 required");
-    assert_eq!(rt;
-        prepared(alloc, &MODULE[..8], r#"{"version":1}"#)?.as_str(),
-        "0 required"
-    );
-    let no_import =
-        r#"{"version":1,"exports":[{"func":{"name":"g"}}],"core-exports":[{"field":"g","role":["world-func","g","sync"]}]}"#;
-    assert_eq!(rt;
-        prepared(alloc, &MODULE, no_import)?.as_str(),
-        "P9 RoleMissing module=\"$root\" field=\"f\""
-    );
-    let no_export =
-        r#"{"version":1,"imports":[{"func":{"name":"f"}}],"exports":[{"func":{"name":"g"}}],"core-imports":[{"module":"$root","field":"f","role":["world-func","f","sync"]}]}"#;
-    assert_eq!(rt;
-        prepared(alloc, &MODULE, no_export)?.as_str(),
-        "P10 ExportMissing function=\"g\""
-    );
+    for (said, count, record) in WORLDS {
+        let module = changed(rt.alloc(), count, &[])?;
+        assert_eq!(rt; prepared(rt.alloc(), &module, record)?.as_str(), said);
+    }
     Ok(())
 }
 
-#[test]
-fn core_modules_that_do_not_fit(rt: HostRuntime) -> Result<(), Fail> {
-    let alloc = rt.alloc();
-    // A type with a result.
-    let result = changed(
-        alloc,
+/// What is said, and the place from which the module has other bytes, which are these: a type with a
+/// result; an export with a parameter; an import that is a global; one import twice; no function type;
+/// an index of a function that isn't there; a name that stands twice; a type that isn't there.
+const CORE_MODULES: [(&str, usize, &[u8]); 8] = [
+    (
+        "P11 CoreType name=\"f\"",
         8,
         &[
             1, 5, 1, 0x60, 0, 1, 0x7f, 2, 11, 1, 5, 0x24, 0x72, 0x6f, 0x6f, 0x74, 1, 0x66, 0, 0,
         ],
-    )?;
-    assert_eq!(rt;
-        prepared(alloc, &result, RECORD)?.as_str(),
-        "P11 CoreType name=\"f\""
-    );
-    // An export with a parameter.
-    let param = changed(
-        alloc,
+    ),
+    (
+        "P11 CoreType name=\"g\"",
         8,
         &[
             1, 8, 2, 0x60, 0, 0, 0x60, 1, 0x7f, 0, 2, 11, 1, 5, 0x24, 0x72, 0x6f, 0x6f, 0x74, 1,
             0x66, 0, 0, 3, 2, 1, 1, 7, 5, 1, 1, 0x67, 0, 1,
         ],
-    )?;
-    assert_eq!(rt;
-        prepared(alloc, &param, RECORD)?.as_str(),
-        "P11 CoreType name=\"g\""
-    );
-    // An import that is a global.
-    let global = changed(
-        alloc,
+    ),
+    (
+        "P11 CoreType name=\"f\"",
         14,
         &[
             2, 12, 1, 5, 0x24, 0x72, 0x6f, 0x6f, 0x74, 1, 0x66, 3, 0x7f, 0,
         ],
-    )?;
-    assert_eq!(rt;
-        prepared(alloc, &global, RECORD)?.as_str(),
-        "P11 CoreType name=\"f\""
-    );
-    // One import twice.
-    let twice = changed(
-        alloc,
+    ),
+    (
+        "P12 ImportTwice module=\"$root\" field=\"f\"",
         14,
         &[
             2, 21, 2, 5, 0x24, 0x72, 0x6f, 0x6f, 0x74, 1, 0x66, 0, 0, 5, 0x24, 0x72, 0x6f, 0x6f,
             0x74, 1, 0x66, 0, 0,
         ],
-    )?;
-    assert_eq!(rt;
-        prepared(alloc, &twice, RECORD)?.as_str(),
-        "P12 ImportTwice module=\"$root\" field=\"f\""
-    );
-    // No function type; an index of a function that isn't there; a name that stands twice; a type that isn't there.
-    let no_type = changed(alloc, 8, &[1, 3, 1, 0x61, 0])?;
-    assert_eq!(rt;
-        prepared(alloc, &no_type, RECORD)?.as_str(),
-        "P3 Section place=8"
-    );
-    let no_function = changed(alloc, 31, &[7, 5, 1, 1, 0x67, 0, 7])?;
-    assert_eq!(rt;
-        prepared(alloc, &no_function, RECORD)?.as_str(),
-        "P3 Section place=31"
-    );
-    let two_exports = changed(alloc, 31, &[7, 9, 2, 1, 0x67, 0, 1, 1, 0x67, 0, 1])?;
-    assert_eq!(rt;
-        prepared(alloc, &two_exports, RECORD)?.as_str(),
-        "P3 Section place=31"
-    );
-    let no_such_type = changed(alloc, 27, &[3, 2, 1, 5])?;
-    assert_eq!(rt;
-        prepared(alloc, &no_such_type, RECORD)?.as_str(),
-        "P3 Section place=27"
-    );
+    ),
+    ("P3 Section place=8", 8, &[1, 3, 1, 0x61, 0]),
+    ("P3 Section place=31", 31, &[7, 5, 1, 1, 0x67, 0, 7]),
+    (
+        "P3 Section place=31",
+        31,
+        &[7, 9, 2, 1, 0x67, 0, 1, 1, 0x67, 0, 1],
+    ),
+    ("P3 Section place=27", 27, &[3, 2, 1, 5]),
+];
+
+#[test]
+fn core_modules_that_do_not_fit(rt: HostRuntime) -> Result<(), Fail> {
+    for (said, place, bytes) in CORE_MODULES {
+        let module = changed(rt.alloc(), place, bytes)?;
+        assert_eq!(rt; prepared(rt.alloc(), &module, RECORD)?.as_str(), said);
+    }
     Ok(())
+}
+
+/// What `merge` says of a module and itself.
+fn merged(alloc: Global, own: &Bindgen) -> Result<String, Fail> {
+    let Err(fault) = merge(alloc, own, own) else {
+        return Err(Fail::from("merged"));
+    };
+    if PlainLower::new().is_memory(&fault) {
+        return Err(Fail::from("no memory"));
+    }
+    Ok(format!(in alloc; "{fault}")?)
 }
 
 #[test]
 fn an_export_of_two_modules_is_refused(rt: HostRuntime) -> Result<(), Fail> {
     let alloc = rt.alloc();
-    let lower = PlainLower::new();
     let bytes = with_section(alloc, &MODULE, "component-type", RECORD.as_bytes(), false)?;
-    let Ok((_, own)) = lower.decode(alloc, &bytes) else {
-        return Err(Fail::from("not decoded"));
-    };
-    match lower.merge(alloc, &own, &own) {
-        Ok(_) => return Err(Fail::from("merged")),
-        Err(fault) => {
-            assert!(rt; !lower.is_memory(&fault));
+    match decode(alloc, &bytes) {
+        Ok((_, own)) => {
             assert_eq!(rt;
-                format!(in alloc; "{fault}")?.as_str(),
+                merged(alloc, &own)?.as_str(),
                 "P7 MergeConflict name=\"g\""
             );
         }
+        Err(_) => return Err(Fail::from("not decoded")),
     }
     Ok(())
 }
