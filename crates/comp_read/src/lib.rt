@@ -1,0 +1,7 @@
+//! Components read from their bytes.
+#![tactic(auto)]
+
+mod fault;
+mod number;
+
+pub use fault::ReadFault;
