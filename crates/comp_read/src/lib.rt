@@ -1,7 +1,10 @@
 //! Components read from their bytes.
 #![tactic(auto)]
 
+mod canon;
 mod fault;
 mod number;
+mod types;
+mod values;
 
 pub use fault::ReadFault;
