@@ -1,2 +1,3 @@
 pub mod Loop
 pub mod Utf8
+pub mod Exact
