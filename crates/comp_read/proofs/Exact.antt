@@ -9,6 +9,7 @@ use Rattle.std.proofs.lemmas.Str.{IsUtf8-from_is_utf8, is_utf8-from_IsUtf8}
 use Rattle.comp_bytes.specs.Spelling.{Spelling, Fits, ◌⊕◌, raw, octet, groups_of_seven, leb128, leb, signed_leb, number, quantity, each, listed, named, optional}
 use Rattle.comp_bytes.proofs.Pieces.{fits_append}
 use Rattle.comp_read.specs.Reading.{◌>>=◌, Read, Reader, made_at, then_at, byte_at, expect, behind, before_byte, tagged, digits_at, number_at, type_index_at, sized_at, name_at, items_at, list_at, option_at}
+use Rattle.comp_read.specs.Writable.{IsIndex, Optionally}
 
 -- ---- steps that did not fail
 
@@ -69,6 +70,10 @@ pub step : {A B : Type 0} {f : A → Spelling} {W : A → Type 0} {at : Reader A
 step {at} exact bytes go y e =
     let b = bind_some (at bytes) go y e in
     (b.0, exact.takes bytes b.0.0 b.0.1 b.1, b.2)
+
+-- of fewer values
+pub fewer : {A : Type 0} {f : A → Spelling} {V : A → Type 0} {at : Reader A} → IsExact f V at → (W : A → Type 0) → ((x : A) → W x → V x) → IsExact f W at
+fewer exact W less = record { takes = exact.takes; again = λ x rest w fits. exact.again x rest (less x w) fits }
 
 -- ---- values made of others, and one after another
 
@@ -166,6 +171,24 @@ pub other : {E : Type 0} (f : E → Spelling) (b t : ℕ) (bytes : List ℕ) (re
 other f b t bytes read others x rest e here there =
     elim (chosen (eqb b t) read others (Some (x, rest)) e) [ inl w ↦ here (eqb-true _ _ w.0) w.1 | inr w ↦ there w.1 ]
 
+pub tag_case : {A : Type 0} {P : Type 0} (b t : ℕ) (made others : Option A) (y : A) → cond (eqb b t) made others ≡ Some y → (b ≡ t → made ≡ Some y → P) → (others ≡ Some y → P) → P
+tag_case b t made others y e here there =
+    elim (chosen (eqb b t) made others (Some y) e) [ inl w ↦ here (eqb-true _ _ w.0) w.1 | inr w ↦ there w.1 ]
+
+pub took_byte : (b t : ℕ) (bytes : List ℕ) → b ≡ t → Took (octet t) (b ∷ bytes) bytes
+took_byte b t bytes is = record { parts = same_cons b t bytes bytes is refl; fits = tt }
+
+-- a value of what stands behind something that was taken
+pub after_takes : {A E : Type 0} {g : A → Spelling} {W : A → Type 0} {at : Reader A} → IsExact g W at → (f : E → Spelling) (make : A → E) (s : Spelling) (all bytes : List ℕ) → Took s all bytes → ((a : A) → f (make a) ≡ s ⊕ g a) → (x : E) (rest : List ℕ) → made_at make at bytes ≡ Some (x, rest) → Took (f x) all rest
+after_takes {A} {E} {g} {W} {at} exact f make s all bytes front spelled x rest e =
+    let a = step exact bytes (λ y. let p : Read E = Some (make y.0, y.1) in p) (x, rest) e in
+    let made : E × List ℕ = (make a.0.0, a.0.1) in
+    subst (λ (p : E × List ℕ). Took (f p.0) all p.1) (some_is made (x, rest) a.2) (subst (λ (t : Spelling). Took t all a.0.1) (sym (spelled a.0.0)) (took_then front a.1))
+
+pub just_took : {E : Type 0} (f : E → Spelling) (c : E) (s : Spelling) (all bytes : List ℕ) → Took s all bytes → f c ≡ s → (x : E) (rest : List ℕ) → ◌≡◌ {A = Read E} (Some (c, bytes)) (Some (x, rest)) → Took (f x) all rest
+just_took {E} f c s all bytes front spelled x rest e =
+    subst (λ (p : E × List ℕ). Took (f p.0) all p.1) (some_is (c, bytes) (x, rest) e) (subst (λ (t : Spelling). Took t all bytes) (sym spelled) front)
+
 -- what a first byte that is not t says is not what t says
 pub record First {E : Type 0} (after : ℕ → Reader E) (bytes : List ℕ) (y : E × List ℕ) : Type 0 where
   pub byte : ℕ
@@ -261,10 +284,6 @@ digits_again end (suc more) n rest least most lt small =
           rw (t, u, v, w, high, a, b, t) refl
     ]
 
--- an index: below 2 ^ 32
-abbrev pub IsIndex : ℕ → Type 0
-IsIndex n = n < 2 ^ 32
-
 pub number_takes : (bytes : List ℕ) (n : ℕ) (rest : List ℕ) → number_at bytes ≡ Some (n, rest) → Took (quantity n) bytes rest
 unfolding number_at leb128
 number_takes bytes n rest e =
@@ -352,11 +371,6 @@ list_exact {A} {f} {W} {at} exact = record {
   again = λ xs rest w fits.
       ap (list_at at) (append_assoc (leb (length xs)) (each f xs).bytes rest) ∙ rw (number_again (length xs) ((each f xs).bytes ++ rest) fits.0) (items_again exact xs rest w fits.1);
 }
-
--- what holds of the value that is there
-abbrev pub Optionally : {A : Type 0} → (A → Type 0) → Option A → Type 0
-Optionally W None = Unit {0}
-Optionally W (Some x) = W x
 
 option_again : {A : Type 0} {f : A → Spelling} {W : A → Type 0} {at : Reader A} → IsExact f W at → (x : Option A) (rest : List ℕ) → Optionally W x → Fits (optional f x).counts → option_at at ((optional f x).bytes ++ rest) ≡ Some (x, rest)
 unfolding option_at

@@ -1,3 +1,4 @@
 pub mod Loop
 pub mod Utf8
 pub mod Exact
+pub mod ValueLaws
