@@ -1,3 +1,5 @@
 pub mod Reading
 pub mod PartReaders
+pub mod ItemReaders
+pub mod SectionReaders
 pub mod Writable

@@ -80,7 +80,7 @@ fn context(bytes: &[u8]) -> Result<(ContextType, &[u8]), PartFault>
 }
 
 #[tactic(auto, unfolding(crate::specs::PartReaders::index_and_options_at))]
-fn index_and_options(
+pub(crate) fn index_and_options(
     alloc: Global,
     bytes: &[u8],
 ) -> Result<(u32, Seq<CanonicalOption>, &[u8]), PartFault>

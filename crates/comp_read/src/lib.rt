@@ -3,6 +3,7 @@
 
 mod canon;
 mod fault;
+mod items;
 mod number;
 mod types;
 mod values;
