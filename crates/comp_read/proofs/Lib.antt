@@ -4,3 +4,7 @@ pub mod Exact
 pub mod ValueLaws
 pub mod TypeLaws
 pub mod CanonLaws
+pub mod SectionLoop
+pub mod ItemLaws
+pub mod SectionLaws
+pub mod Whole

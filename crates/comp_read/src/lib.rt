@@ -2,10 +2,13 @@
 #![tactic(auto)]
 
 mod canon;
+mod component;
 mod fault;
 mod items;
 mod number;
+mod sections;
 mod types;
 mod values;
 
+pub use component::read_component;
 pub use fault::ReadFault;
