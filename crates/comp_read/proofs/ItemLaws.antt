@@ -159,7 +159,7 @@ item_again : (id : ℕ) → shares id ≡ true → (x : Item) (rest : List ℕ) 
 item_again id s x rest w fits =
     ap (λ (i : ℕ). item_at i ((item x).text.bytes ++ rest)) (sym w.0) ∙ any_again x rest (ap shares w.0 ∙ s) w.1 fits
 
-item_exact : (id : ℕ) → shares id ≡ true → IsExact (λ x. (item x).text) (IsOf id) (item_at id)
+pub item_exact : (id : ℕ) → shares id ≡ true → IsExact (λ x. (item x).text) (IsOf id) (item_at id)
 item_exact id s = record { takes = λ bytes x rest e. (item_takes id bytes x rest e).took; again = item_again id s }
 
 -- what holds of each that is read holds of all

@@ -8,3 +8,4 @@ pub mod SectionLoop
 pub mod ItemLaws
 pub mod SectionLaws
 pub mod Whole
+pub mod Again

@@ -145,18 +145,18 @@ items_inside : ReadsInside item item_contents_at
 items_inside = record { inside = λ id place start inner xs e. contents_takes id inner xs (told_ok place _ xs e) }
 
 -- items are definitions
-abbrev wrap : List Item → List Def
+abbrev pub wrap : List Item → List Def
 wrap xs = map (λ i. defs.Item i) xs
 
 wrapped_texts : (xs : List Item) → each (λ x. (definition x).text) (wrap xs) ≡ each (λ x. (item x).text) xs
 wrapped_texts [] = refl
 wrapped_texts (x ∷ xs) = ap (λ (s : Spelling). (item x).text ⊕ s) (wrapped_texts xs)
 
-wrapped_length : (xs : List Item) → length (wrap xs) ≡ length xs
+pub wrapped_length : (xs : List Item) → length (wrap xs) ≡ length xs
 wrapped_length [] = refl
 wrapped_length (x ∷ xs) = ap suc (wrapped_length xs)
 
-wrapped_contents : (shared : Bool) (xs : List Item) → contents (λ x. (definition x).text) shared (wrap xs) ≡ contents (λ x. (item x).text) shared xs
+pub wrapped_contents : (shared : Bool) (xs : List Item) → contents (λ x. (definition x).text) shared (wrap xs) ≡ contents (λ x. (item x).text) shared xs
 wrapped_contents true xs = ap₂ (λ n s. quantity n ⊕ s) (wrapped_length xs) (wrapped_texts xs)
 wrapped_contents false xs = wrapped_texts xs
 
