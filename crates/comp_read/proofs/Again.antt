@@ -194,7 +194,7 @@ counted_again id xs shared some ids w fits =
     let n : number_at (leb (length xs) ++ text) ≡ Some (length xs, text) = number_again (length xs) text fits.0 in
     let positive : eqb (length xs) 0 ≡ false = ne_eqb _ _ (λ e. omega arith) in
     let all : items_at (item_at id) (length xs) text ≡ Some (xs, []) =
-        ap (items_at (item_at id) (length xs)) (sym (append-nil text)) ∙ items_again (item_exact id shared) xs [] (both_hold (λ x. (item x).id ≡ id) IsItem xs ids w) fits.1 in
+    ap (items_at (item_at id) (length xs)) (sym (append-nil text)) ∙ items_again (item_exact id shared) xs [] (both_hold (λ x. (item x).id ≡ id) IsItem xs ids w) fits.1 in
     rw (n, positive, all) refl
 
 first_not_nested : (xs : List Item) → 0 < length xs → AllByRecursion (λ x. (item x).id ≡ 4) xs → ⊥

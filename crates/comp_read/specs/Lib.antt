@@ -3,3 +3,4 @@ pub mod PartReaders
 pub mod ItemReaders
 pub mod SectionReaders
 pub mod Writable
+pub mod Causes

@@ -179,12 +179,7 @@ fn item(alloc: Global, id: u8, bytes: &[u8]) -> Result<(Item, &[u8]), PartFault>
 
 /// Definitions one after another. Nothing is reserved by their count.
 #[tactic(auto, unfolding(crate::specs::Reading::items_at))]
-fn items(
-    alloc: Global,
-    id: u8,
-    count: u32,
-    bytes: &[u8],
-) -> Result<(Seq<Item>, &[u8]), PartFault>
+fn items(alloc: Global, id: u8, count: u32, bytes: &[u8]) -> Result<(Seq<Item>, &[u8]), PartFault>
     ensures { Gives (λ x. (x.0, x.1.now)) result (items_at (item_at id) count bytes.now) }
 {
     let mut items = Seq::new(alloc);

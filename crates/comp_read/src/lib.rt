@@ -12,3 +12,6 @@ mod values;
 
 pub use component::read_component;
 pub use fault::ReadFault;
+
+#[cfg(test)]
+mod tests;

@@ -72,11 +72,7 @@ fn section<D: SectionItem>(
 }
 
 /// Sections, all of the bytes, which stand at `start`.
-fn sections<D: SectionItem>(
-    alloc: Global,
-    start: usize,
-    bytes: &[u8],
-) -> Result<Seq<D>, ReadFault>
+fn sections<D: SectionItem>(alloc: Global, start: usize, bytes: &[u8]) -> Result<Seq<D>, ReadFault>
     requires { start + length bytes.now < 2 ^ 64 }
     ensures { GivesAt (λ x. x) result (sections_at D.contents_at (length bytes.now) start 0 bytes.now) }
 {

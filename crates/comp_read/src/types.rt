@@ -16,11 +16,7 @@ use std::alloc::Global;
 
 /// A type of values that is no list of fields, cases, types or names, behind its first byte.
 #[tactic(auto, unfolding(crate::specs::PartReaders::small_type_after, crate::specs::PartReaders::primitive_after))]
-fn small_type(
-    alloc: Global,
-    tag: u8,
-    bytes: &[u8],
-) -> Result<(DefinedType, &[u8]), PartFault>
+fn small_type(alloc: Global, tag: u8, bytes: &[u8]) -> Result<(DefinedType, &[u8]), PartFault>
     ensures { Gives (λ x. (x.0, x.1.now)) result (small_type_after tag bytes.now) }
 {
     match tag {
@@ -97,11 +93,7 @@ fn defined(alloc: Global, tag: u8, bytes: &[u8]) -> Result<(DefinedType, &[u8]),
 
 /// A type of functions, behind its first byte.
 #[tactic(auto, unfolding(crate::specs::PartReaders::func_type_at))]
-fn func_type(
-    alloc: Global,
-    async_: bool,
-    bytes: &[u8],
-) -> Result<(FuncTypeDef, &[u8]), PartFault>
+fn func_type(alloc: Global, async_: bool, bytes: &[u8]) -> Result<(FuncTypeDef, &[u8]), PartFault>
     ensures { Gives (λ x. (x.0, x.1.now)) result (func_type_at async_ bytes.now) }
 {
     let (params, rest) = list(alloc, bytes)?;
@@ -118,11 +110,7 @@ fn func_type(
 
 /// A type that is no instance type, behind its first byte.
 #[tactic(auto, unfolding(crate::specs::PartReaders::type_def_after))]
-pub(crate) fn type_def(
-    alloc: Global,
-    tag: u8,
-    bytes: &[u8],
-) -> Result<(TypeDef, &[u8]), PartFault>
+pub(crate) fn type_def(alloc: Global, tag: u8, bytes: &[u8]) -> Result<(TypeDef, &[u8]), PartFault>
     ensures { Gives (λ x. (x.0, x.1.now)) result (type_def_after tag bytes.now) }
 {
     match tag {
@@ -174,10 +162,7 @@ impl Decode for Member {
 
 /// An instance type, behind its first byte.
 #[tactic(auto, unfolding(crate::specs::PartReaders::instance_type_at))]
-pub(crate) fn instance_type(
-    alloc: Global,
-    bytes: &[u8],
-) -> Result<(InstanceType, &[u8]), PartFault>
+pub(crate) fn instance_type(alloc: Global, bytes: &[u8]) -> Result<(InstanceType, &[u8]), PartFault>
     ensures { Gives (λ x. (x.0, x.1.now)) result (instance_type_at bytes.now) }
 {
     let (members, rest) = list(alloc, bytes)?;

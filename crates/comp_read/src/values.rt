@@ -126,10 +126,7 @@ pub(crate) fn result_of(
 }
 
 #[tactic(auto, unfolding(crate::specs::PartReaders::extern_name_at))]
-pub(crate) fn extern_name(
-    alloc: Global,
-    bytes: &[u8],
-) -> Result<(ExternName, &[u8]), PartFault>
+pub(crate) fn extern_name(alloc: Global, bytes: &[u8]) -> Result<(ExternName, &[u8]), PartFault>
     ensures { Gives (λ x. (x.0, x.1.now)) result (extern_name_at bytes.now) }
 {
     let (tag, rest) = byte(bytes)?;
@@ -137,13 +134,25 @@ pub(crate) fn extern_name(
         0x00 => {
             let (name, rest) = name(alloc, rest)?;
             let version_suffix = None;
-            Ok((ExternName { name, version_suffix }, rest))
+            Ok((
+                ExternName {
+                    name,
+                    version_suffix,
+                },
+                rest,
+            ))
         }
         0x01 => {
             let (name, rest) = name(alloc, rest)?;
             let (suffix, rest) = crate::number::name(alloc, rest)?;
             let version_suffix = Some(suffix);
-            Ok((ExternName { name, version_suffix }, rest))
+            Ok((
+                ExternName {
+                    name,
+                    version_suffix,
+                },
+                rest,
+            ))
         }
         _ => Err(PartFault::Malformed),
     }
