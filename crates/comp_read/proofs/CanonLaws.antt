@@ -12,7 +12,7 @@ use Rattle.comp_bytes.specs.declared.canon.Intrinsic.TheVariants as intrinsics
 use Rattle.comp_read.specs.Reading.{◌>>=◌, Read, Reader, made_at, then_at, behind, tagged, byte_at, expect, number_at, list_at}
 use Rattle.comp_read.specs.PartReaders.{result_at, canonical_after, canonical_at, options_at, flag_after, flag_at, context_after, context_at, index_and_options_at, index_and_flag_at, slot_at, memory_at, waiting_after, future_after, stream_after, task_after, intrinsic_after}
 use Rattle.comp_read.specs.Writable.{IsIndex, Optionally, Always, IsValueType, IsCanonicalOption, AreOptions, IsIntrinsic}
-use Rattle.comp_read.proofs.Exact.{IsExact, Took, fewer, made_again, then_exact, behind_exact, case, lone, number_exact, list_exact}
+use Rattle.comp_read.proofs.Exact.{IsExact, Took, fewer, made_again, made_fine, fine_case, fine_lone, then_exact, behind_exact, case, lone, number_exact, list_exact}
 use Rattle.comp_read.proofs.ValueLaws.{result_exact}
 
 -- ---- options
@@ -42,8 +42,22 @@ canonical_again (canonical.PostReturn n) rest w = made_again number_exact (λ n.
 canonical_again canonical.Async rest w = refl
 canonical_again (canonical.Callback n) rest w = made_again number_exact (λ n. canonical.Callback n) n rest w tt
 
+canonical_fine : (bytes : List ℕ) (x : CanonicalOption) (rest : List ℕ) → canonical_at bytes ≡ Some (x, rest) → IsCanonicalOption x
+unfolding canonical_at
+canonical_fine [] x rest e = absurd cc
+canonical_fine (b ∷ bytes) x rest e =
+    fine_lone IsCanonicalOption canonical.Utf8 b 0x00 bytes _ x rest tt e (λ e.
+    fine_lone IsCanonicalOption canonical.Utf16 b 0x01 bytes _ x rest tt e (λ e.
+    fine_lone IsCanonicalOption canonical.CompactUtf16 b 0x02 bytes _ x rest tt e (λ e.
+    fine_case number_exact IsCanonicalOption (λ n. canonical.Memory n) b 0x03 bytes _ x rest (λ a w. w) e (λ e.
+    fine_case number_exact IsCanonicalOption (λ n. canonical.Realloc n) b 0x04 bytes _ x rest (λ a w. w) e (λ e.
+    fine_case number_exact IsCanonicalOption (λ n. canonical.PostReturn n) b 0x05 bytes _ x rest (λ a w. w) e (λ e.
+    fine_lone IsCanonicalOption canonical.Async b 0x06 bytes _ x rest tt e (λ e.
+    fine_case number_exact IsCanonicalOption (λ n. canonical.Callback n) b 0x07 bytes _ x rest (λ a w. w) e (λ e.
+    absurd cc))))))))
+
 pub canonical_exact : IsExact option_bytes IsCanonicalOption canonical_at
-canonical_exact = record { takes = canonical_takes; again = λ x rest w fits. canonical_again x rest w }
+canonical_exact = record { takes = canonical_takes; fine = canonical_fine; again = λ x rest w fits. canonical_again x rest w }
 
 pub options_exact : IsExact (listed option_bytes) AreOptions options_at
 unfolding options_at
@@ -65,7 +79,7 @@ flag_again true rest = refl
 flag_again false rest = refl
 
 flag_exact : IsExact flag Always flag_at
-flag_exact = record { takes = flag_takes; again = λ x rest w fits. flag_again x rest }
+flag_exact = record { takes = flag_takes; fine = λ bytes x rest e. tt; again = λ x rest w fits. flag_again x rest }
 
 context_takes : (bytes : List ℕ) (x : ContextType) (rest : List ℕ) → context_at bytes ≡ Some (x, rest) → Took (octet (context_byte x)) bytes rest
 unfolding context_at
@@ -82,7 +96,7 @@ context_again contexts.I32 rest = refl
 context_again contexts.I64 rest = refl
 
 context_exact : IsExact (λ c. octet (context_byte c)) Always context_at
-context_exact = record { takes = context_takes; again = λ x rest w fits. context_again x rest }
+context_exact = record { takes = context_takes; fine = λ bytes x rest e. tt; again = λ x rest w fits. context_again x rest }
 
 -- ---- what several intrinsics have
 
@@ -92,11 +106,11 @@ indexed_options = then_exact number_exact options_exact
 
 indexed_flag : IsExact (λ (p : ℕ × Bool). number p.0 ⊕ flag p.1) (λ p. IsIndex p.0) index_and_flag_at
 unfolding index_and_flag_at
-indexed_flag = fewer (then_exact number_exact flag_exact) (λ p. IsIndex p.0) (λ p w. (w, tt))
+indexed_flag = fewer (then_exact number_exact flag_exact) (λ p. IsIndex p.0) (λ p w. (w, tt)) (λ p v. v.0)
 
 slot_exact : IsExact (λ (p : ContextType × ℕ). octet (context_byte p.0) ⊕ number p.1) (λ p. IsIndex p.1) slot_at
 unfolding slot_at
-slot_exact = fewer (then_exact context_exact number_exact) (λ p. IsIndex p.1) (λ p w. (tt, w))
+slot_exact = fewer (then_exact context_exact number_exact) (λ p. IsIndex p.1) (λ p w. (tt, w)) (λ p v. v.1)
 
 memory_exact : IsExact (λ n. octet 0x00 ⊕ number n) IsIndex memory_at
 unfolding memory_at
@@ -205,5 +219,67 @@ intrinsic_taken : (bytes : List ℕ) (x : Intrinsic) (rest : List ℕ) → tagge
 intrinsic_taken [] x rest e = absurd cc
 intrinsic_taken (b ∷ bytes) x rest e = intrinsic_takes b bytes x rest e
 
+waiting_fine : (b : ℕ) (bytes : List ℕ) (x : Intrinsic) (rest : List ℕ) → waiting_after b bytes ≡ Some (x, rest) → IsIntrinsic x
+unfolding waiting_after
+waiting_fine b bytes x rest e =
+    fine_case options_exact IsIntrinsic (λ o. intrinsics.ErrorContextNew o) b 0x1c bytes _ x rest (λ a w. w) e (λ e.
+    fine_case options_exact IsIntrinsic (λ o. intrinsics.ErrorContextDebugMessage o) b 0x1d bytes _ x rest (λ a w. w) e (λ e.
+    fine_lone IsIntrinsic intrinsics.ErrorContextDrop b 0x1e bytes _ x rest tt e (λ e.
+    fine_lone IsIntrinsic intrinsics.WaitableSetNew b 0x1f bytes _ x rest tt e (λ e.
+    fine_case memory_exact IsIntrinsic (λ n. intrinsics.WaitableSetWait n) b 0x20 bytes _ x rest (λ a w. w) e (λ e.
+    fine_case memory_exact IsIntrinsic (λ n. intrinsics.WaitableSetPoll n) b 0x21 bytes _ x rest (λ a w. w) e (λ e.
+    fine_lone IsIntrinsic intrinsics.WaitableSetDrop b 0x22 bytes _ x rest tt e (λ e.
+    fine_lone IsIntrinsic intrinsics.WaitableJoin b 0x23 bytes _ x rest tt e (λ e.
+    fine_lone IsIntrinsic intrinsics.BackpressureInc b 0x24 bytes _ x rest tt e (λ e.
+    fine_lone IsIntrinsic intrinsics.BackpressureDec b 0x25 bytes _ x rest tt e (λ e.
+    absurd cc))))))))))
+
+future_fine : (b : ℕ) (bytes : List ℕ) (x : Intrinsic) (rest : List ℕ) → future_after b bytes ≡ Some (x, rest) → IsIntrinsic x
+unfolding future_after
+future_fine b bytes x rest e =
+    fine_case number_exact IsIntrinsic (λ n. intrinsics.FutureNew n) b 0x15 bytes _ x rest (λ a w. w) e (λ e.
+    fine_case indexed_options IsIntrinsic (λ p. intrinsics.FutureRead p.0 p.1) b 0x16 bytes _ x rest (λ a w. w) e (λ e.
+    fine_case indexed_options IsIntrinsic (λ p. intrinsics.FutureWrite p.0 p.1) b 0x17 bytes _ x rest (λ a w. w) e (λ e.
+    fine_case indexed_flag IsIntrinsic (λ p. intrinsics.FutureCancelRead p.0 p.1) b 0x18 bytes _ x rest (λ a w. w) e (λ e.
+    fine_case indexed_flag IsIntrinsic (λ p. intrinsics.FutureCancelWrite p.0 p.1) b 0x19 bytes _ x rest (λ a w. w) e (λ e.
+    fine_case number_exact IsIntrinsic (λ n. intrinsics.FutureDropReadable n) b 0x1a bytes _ x rest (λ a w. w) e (λ e.
+    fine_case number_exact IsIntrinsic (λ n. intrinsics.FutureDropWritable n) b 0x1b bytes _ x rest (λ a w. w) e (λ e.
+    waiting_fine b bytes x rest e)))))))
+
+stream_fine : (b : ℕ) (bytes : List ℕ) (x : Intrinsic) (rest : List ℕ) → stream_after b bytes ≡ Some (x, rest) → IsIntrinsic x
+unfolding stream_after
+stream_fine b bytes x rest e =
+    fine_case number_exact IsIntrinsic (λ n. intrinsics.StreamNew n) b 0x0e bytes _ x rest (λ a w. w) e (λ e.
+    fine_case indexed_options IsIntrinsic (λ p. intrinsics.StreamRead p.0 p.1) b 0x0f bytes _ x rest (λ a w. w) e (λ e.
+    fine_case indexed_options IsIntrinsic (λ p. intrinsics.StreamWrite p.0 p.1) b 0x10 bytes _ x rest (λ a w. w) e (λ e.
+    fine_case indexed_flag IsIntrinsic (λ p. intrinsics.StreamCancelRead p.0 p.1) b 0x11 bytes _ x rest (λ a w. w) e (λ e.
+    fine_case indexed_flag IsIntrinsic (λ p. intrinsics.StreamCancelWrite p.0 p.1) b 0x12 bytes _ x rest (λ a w. w) e (λ e.
+    fine_case number_exact IsIntrinsic (λ n. intrinsics.StreamDropReadable n) b 0x13 bytes _ x rest (λ a w. w) e (λ e.
+    fine_case number_exact IsIntrinsic (λ n. intrinsics.StreamDropWritable n) b 0x14 bytes _ x rest (λ a w. w) e (λ e.
+    future_fine b bytes x rest e)))))))
+
+task_fine : (b : ℕ) (bytes : List ℕ) (x : Intrinsic) (rest : List ℕ) → task_after b bytes ≡ Some (x, rest) → IsIntrinsic x
+unfolding task_after
+task_fine b bytes x rest e =
+    fine_lone IsIntrinsic intrinsics.TaskCancel b 0x05 bytes _ x rest tt e (λ e.
+    fine_case flag_exact IsIntrinsic (λ f. intrinsics.SubtaskCancel f) b 0x06 bytes _ x rest (λ a w. w) e (λ e.
+    fine_case returned IsIntrinsic (λ p. intrinsics.TaskReturn p.0 p.1) b 0x09 bytes _ x rest (λ a w. w) e (λ e.
+    fine_case slot_exact IsIntrinsic (λ p. intrinsics.ContextGet p.0 p.1) b 0x0a bytes _ x rest (λ a w. w) e (λ e.
+    fine_case slot_exact IsIntrinsic (λ p. intrinsics.ContextSet p.0 p.1) b 0x0b bytes _ x rest (λ a w. w) e (λ e.
+    fine_lone IsIntrinsic intrinsics.SubtaskDrop b 0x0d bytes _ x rest tt e (λ e.
+    stream_fine b bytes x rest e))))))
+
+intrinsic_fine : (b : ℕ) (bytes : List ℕ) (x : Intrinsic) (rest : List ℕ) → intrinsic_after b bytes ≡ Some (x, rest) → IsIntrinsic x
+unfolding intrinsic_after
+intrinsic_fine b bytes x rest e =
+    fine_case number_exact IsIntrinsic (λ n. intrinsics.ResourceNew n) b 0x02 bytes _ x rest (λ a w. w) e (λ e.
+    fine_case number_exact IsIntrinsic (λ n. intrinsics.ResourceDrop n) b 0x03 bytes _ x rest (λ a w. w) e (λ e.
+    fine_case number_exact IsIntrinsic (λ n. intrinsics.ResourceRep n) b 0x04 bytes _ x rest (λ a w. w) e (λ e.
+    task_fine b bytes x rest e)))
+
+intrinsic_taken_fine : (bytes : List ℕ) (x : Intrinsic) (rest : List ℕ) → tagged intrinsic_after bytes ≡ Some (x, rest) → IsIntrinsic x
+intrinsic_taken_fine [] x rest e = absurd cc
+intrinsic_taken_fine (b ∷ bytes) x rest e = intrinsic_fine b bytes x rest e
+
 pub intrinsic_exact : IsExact intrinsic_bytes IsIntrinsic (tagged intrinsic_after)
-intrinsic_exact = record { takes = intrinsic_taken; again = intrinsic_again }
+intrinsic_exact = record { takes = intrinsic_taken; fine = intrinsic_taken_fine; again = intrinsic_again }

@@ -62,6 +62,7 @@ fits_right (x ∷ a) b h = fits_right a b h.1
 -- a value is writable where W says so
 pub record IsExact {A : Type 0} (f : A → Spelling) (W : A → Type 0) (at : Reader A) : Type 0 where
   pub takes : (bytes : List ℕ) (x : A) (rest : List ℕ) → at bytes ≡ Some (x, rest) → Took (f x) bytes rest
+  pub fine : (bytes : List ℕ) (x : A) (rest : List ℕ) → at bytes ≡ Some (x, rest) → W x
   pub again : (x : A) (rest : List ℕ) → W x → Fits (f x).counts → at ((f x).bytes ++ rest) ≡ Some (x, rest)
 
 -- a step, and what is read after it
@@ -71,9 +72,17 @@ step {at} exact bytes go y e =
     let b = bind_some (at bytes) go y e in
     (b.0, exact.takes bytes b.0.0 b.0.1 b.1, b.2)
 
--- of fewer values
-pub fewer : {A : Type 0} {f : A → Spelling} {V : A → Type 0} {at : Reader A} → IsExact f V at → (W : A → Type 0) → ((x : A) → W x → V x) → IsExact f W at
-fewer exact W less = record { takes = exact.takes; again = λ x rest w fits. exact.again x rest (less x w) fits }
+-- by another name for what is writable
+pub fewer : {A : Type 0} {f : A → Spelling} {V : A → Type 0} {at : Reader A} → IsExact f V at → (W : A → Type 0) → ((x : A) → W x → V x) → ((x : A) → V x → W x) → IsExact f W at
+fewer exact W less more = record {
+  takes = exact.takes;
+  fine = λ bytes x rest e. more x (exact.fine bytes x rest e);
+  again = λ x rest w fits. exact.again x rest (less x w) fits;
+}
+
+pub step_is : {A B : Type 0} {f : A → Spelling} {W : A → Type 0} {at : Reader A} (exact : IsExact f W at) (bytes : List ℕ) (go : A × List ℕ → Option B) (y : B) (e : (at bytes >>= go) ≡ Some y) → at bytes ≡ Some (step exact bytes go y e).0
+unfolding step
+step_is {at = at} exact bytes go y e = (bind_some (at bytes) go y e).1
 
 -- ---- values made of others, and one after another
 
@@ -86,10 +95,21 @@ made_takes {A} {B} {f} {W} {at} exact g make same bytes y rest e =
 pub made_again : {A B : Type 0} {f : A → Spelling} {W : A → Type 0} {at : Reader A} → IsExact f W at → (make : A → B) (a : A) (rest : List ℕ) → W a → Fits (f a).counts → made_at make at ((f a).bytes ++ rest) ≡ Some (make a, rest)
 made_again exact make a rest w fits = rw (exact.again a rest w fits) refl
 
+-- what holds of a value that is made of what is read
+pub bind_fine : {A B : Type 0} {at : Reader A} (F : A → Type 0) (G : B → Type 0) (make : A → B) → ((bytes : List ℕ) (a : A) (rest : List ℕ) → at bytes ≡ Some (a, rest) → F a) → ((a : A) → F a → G (make a)) → (bytes : List ℕ) (y : B) (rest : List ℕ) → made_at make at bytes ≡ Some (y, rest) → G y
+bind_fine {A} {B} {at} F G make one keeps bytes y rest e =
+    let a = bind_some (at bytes) (λ x. let p : Read B = Some (make x.0, x.1) in p) (y, rest) e in
+    let made : B × List ℕ = (make a.0.0, a.0.1) in
+    subst (λ (p : B × List ℕ). G p.0) (some_is made (y, rest) a.2) (keeps a.0.0 (one bytes a.0.0 a.0.1 a.1))
+
+pub made_fine : {A B : Type 0} {f : A → Spelling} {W : A → Type 0} {at : Reader A} → IsExact f W at → (G : B → Type 0) (make : A → B) → ((a : A) → W a → G (make a)) → (bytes : List ℕ) (y : B) (rest : List ℕ) → made_at make at bytes ≡ Some (y, rest) → G y
+made_fine {W = W} exact G make keeps bytes y rest e = bind_fine W G make exact.fine keeps bytes y rest e
+
 -- a record by its parts
 pub made_exact : {A B : Type 0} {f : A → Spelling} {W : A → Type 0} {at : Reader A} → IsExact f W at → (make : A → B) (back : B → A) → ((b : B) → make (back b) ≡ b) → ((a : A) → back (make a) ≡ a) → IsExact (λ b. f (back b)) (λ b. W (back b)) (made_at make at)
 made_exact {A} {B} {f} {W} {at} exact make back there here = record {
   takes = made_takes exact (λ b. f (back b)) make (λ a. ap f (here a));
+  fine = made_fine exact (λ b. W (back b)) make (λ a w. subst W (sym (here a)) w);
   again = λ b rest w fits. made_again exact make (back b) rest w fits ∙ ap (λ (y : B). let p : Read B = Some (y, rest) in p) (there b);
 }
 
@@ -100,6 +120,11 @@ then_exact {A} {B} {f} {g} {V} {W} {a} {b} p q = record {
       let x2 = step q x1.0.1 _ _ x1.2 in
       let made : (A × B) × List ℕ = ((x1.0.0, x2.0.0), x2.0.1) in
       subst (λ (y : (A × B) × List ℕ). Took (f y.0.0 ⊕ g y.0.1) bytes y.1) (some_is made (x, rest) x2.2) (took_then x1.1 x2.1);
+  fine = λ bytes x rest e.
+      let x1 = bind_some (a bytes) _ _ e in
+      let x2 = bind_some (b x1.0.1) _ _ x1.2 in
+      let made : (A × B) × List ℕ = ((x1.0.0, x2.0.0), x2.0.1) in
+      subst (λ (y : (A × B) × List ℕ). V y.0.0 × W y.0.1) (some_is made (x, rest) x2.2) (p.fine bytes x1.0.0 x1.0.1 x1.1, q.fine x1.0.1 x2.0.0 x2.0.1 x2.1);
   again = λ x rest w fits.
       ap (then_at a b) (append_assoc (f x.0).bytes (g x.1).bytes rest)
       ∙ rw (p.again x.0 ((g x.1).bytes ++ rest) w.0 (fits_left (f x.0).counts (g x.1).counts fits), q.again x.1 rest w.1 (fits_right (f x.0).counts (g x.1).counts fits)) refl;
@@ -124,6 +149,7 @@ behind_exact {A} {f} {W} {at} byte exact = record {
   takes = λ bytes x rest e.
       let b = expect_step byte bytes at (x, rest) e in
       took_then b.1 (exact.takes b.0 x rest b.2);
+  fine = λ bytes x rest e. let b = expect_step byte bytes at (x, rest) e in exact.fine b.0 x rest b.2;
   again = λ x rest w fits. rw (expect_again byte ((f x).bytes ++ rest)) (exact.again x rest w fits);
 }
 
@@ -134,6 +160,11 @@ before_exact {A} {f} {W} {at} exact byte = record {
       let b = expect_step byte a.0.1 _ _ a.2 in
       let made : A × List ℕ = (a.0.0, b.0) in
       subst (λ (y : A × List ℕ). Took (f y.0 ⊕ octet byte) bytes y.1) (some_is made (x, rest) b.2) (took_then a.1 b.1);
+  fine = λ bytes x rest e.
+      let a = bind_some (at bytes) _ _ e in
+      let b = expect_step byte a.0.1 _ _ a.2 in
+      let made : A × List ℕ = (a.0.0, b.0) in
+      subst (λ (y : A × List ℕ). W y.0) (some_is made (x, rest) b.2) (exact.fine bytes a.0.0 a.0.1 a.1);
   again = λ x rest w fits.
       ap (before_byte at byte) (append_assoc (f x).bytes (byte ∷ []) rest)
       ∙ rw (exact.again x (byte ∷ rest) w (fits_left (f x).counts [] fits), expect_again byte rest) refl;
@@ -174,6 +205,17 @@ other f b t bytes read others x rest e here there =
 pub tag_case : {A : Type 0} {P : Type 0} (b t : ℕ) (made others : Option A) (y : A) → cond (eqb b t) made others ≡ Some y → (b ≡ t → made ≡ Some y → P) → (others ≡ Some y → P) → P
 tag_case b t made others y e here there =
     elim (chosen (eqb b t) made others (Some y) e) [ inl w ↦ here (eqb-true _ _ w.0) w.1 | inr w ↦ there w.1 ]
+
+-- the same, for what holds of the value
+pub fine_case : {A E : Type 0} {g : A → Spelling} {W : A → Type 0} {at : Reader A} → IsExact g W at → (F : E → Type 0) (make : A → E) (b t : ℕ) (bytes : List ℕ) (others : Read E) (x : E) (rest : List ℕ) → ((a : A) → W a → F (make a))
+    → cond (eqb b t) (made_at make at bytes) others ≡ Some (x, rest) → (others ≡ Some (x, rest) → F x) → F x
+fine_case exact F make b t bytes others x rest keeps e there =
+    tag_case b t _ others (x, rest) e (λ is made. made_fine exact F make keeps bytes x rest made) there
+
+pub fine_lone : {E : Type 0} (F : E → Type 0) (c : E) (b t : ℕ) (bytes : List ℕ) (others : Read E) (x : E) (rest : List ℕ) → F c
+    → cond (eqb b t) (Some (c, bytes)) others ≡ Some (x, rest) → (others ≡ Some (x, rest) → F x) → F x
+fine_lone {E} F c b t bytes others x rest holds e there =
+    tag_case b t _ others (x, rest) e (λ is made. subst (λ (p : E × List ℕ). F p.0) (some_is (c, bytes) (x, rest) made) holds) there
 
 pub took_byte : (b t : ℕ) (bytes : List ℕ) → b ≡ t → Took (octet t) (b ∷ bytes) bytes
 took_byte b t bytes is = record { parts = same_cons b t bytes bytes is refl; fits = tt }
@@ -295,11 +337,12 @@ unfolding number_at leb128 limit
 number_again n rest lt = digits_again 128 4 n rest (omega arith) (omega arith) (omega arith) lt
 
 pub quantity_exact : IsExact quantity (λ _. Unit {0}) number_at
-quantity_exact = record { takes = number_takes; again = λ n rest w fits. number_again n rest fits.0 }
+quantity_exact = record { takes = number_takes; fine = λ bytes n rest e. tt; again = λ n rest w fits. number_again n rest fits.0 }
 
 pub number_exact : IsExact number IsIndex number_at
 number_exact = record {
   takes = λ bytes n rest e. let t = number_takes bytes n rest e in record { parts = t.parts; fits = tt };
+  fine = λ bytes n rest e. (number_takes bytes n rest e).fits.0;
   again = λ n rest w fits. number_again n rest w;
 }
 
@@ -307,6 +350,7 @@ pub type_index_exact : IsExact (λ n. raw (signed_leb n)) IsIndex type_index_at
 unfolding type_index_at leb128 limit
 type_index_exact = record {
   takes = λ bytes n rest e. let d = digits_takes 64 4 bytes n rest (omega arith) e in record { parts = d.parts; fits = tt };
+  fine = λ bytes n rest e. (digits_takes 64 4 bytes n rest (omega arith) e).small;
   again = λ n rest w fits. digits_again 64 4 n rest (omega arith) (omega arith) (omega arith) w;
 }
 
@@ -324,6 +368,7 @@ sized_exact = record {
       let second : Took (raw (take m n.0.1)) n.0.1 (drop m n.0.1) = record { parts = sym (take-append-drop m n.0.1); fits = tt } in
       let whole : Took (named (take m n.0.1)) bytes (drop m n.0.1) = subst (λ (k : ℕ). Took (quantity k ⊕ raw (take m n.0.1)) bytes (drop m n.0.1)) (sym len) (took_then n.1 second) in
       subst (λ (p : List ℕ × List ℕ). Took (named p.0) bytes p.1) (some_is (take m n.0.1, drop m n.0.1) (s, rest) g.1) whole;
+  fine = λ bytes s rest e. tt;
   again = λ s rest w fits.
       let long : ltb (length (s ++ rest)) (length s) ≡ false = le-ltb _ _ (omega (arith, length-append s rest)) in
       ap sized_at (append_assoc (leb (length s)) s rest) ∙ rw (number_again (length s) (s ++ rest) fits.0, long, take_at s rest (length s) refl, drop_at s rest (length s) refl) refl;
@@ -336,6 +381,10 @@ name_exact = record {
       let n = step sized_exact bytes _ _ e in
       let g = guarded (is_utf8 n.0.0) n.0 (s, rest) n.2 in
       subst (λ (p : List ℕ × List ℕ). Took (named p.0) bytes p.1) g.1 n.1;
+  fine = λ bytes s rest e.
+      let n = bind_some (sized_at bytes) _ _ e in
+      let g = guarded (is_utf8 n.0.0) n.0 (s, rest) n.2 in
+      subst (λ (p : List ℕ × List ℕ). IsUtf8 p.0) g.1 (IsUtf8-from_is_utf8 _ g.0);
   again = λ s rest w fits. rw (sized_exact.again s rest tt fits, is_utf8-from_IsUtf8 s w) refl;
 }
 
@@ -361,6 +410,17 @@ items_again {A} {f} {W} {at} exact (x ∷ xs) rest w fits =
     ap (items_at at (suc (length xs))) (append_assoc (f x).bytes more rest)
     ∙ rw (exact.again x (more ++ rest) w.0 (fits_left (f x).counts (each f xs).counts fits), items_again exact xs rest w.1 (fits_right (f x).counts (each f xs).counts fits)) refl
 
+-- what holds of each that is read holds of all
+pub each_read : {A : Type 0} {at : Reader A} (P : A → Type 0) → ((bytes : List ℕ) (x : A) (rest : List ℕ) → at bytes ≡ Some (x, rest) → P x) → (n : ℕ) (bytes : List ℕ) (xs : List A) (rest : List ℕ) → items_at at n bytes ≡ Some (xs, rest) → AllByRecursion P xs
+unfolding items_at
+each_read {A} {at} P one zero bytes xs rest e = subst (λ (y : List A × List ℕ). AllByRecursion P y.0) (some_is ([], bytes) (xs, rest) e) tt
+each_read {A} {at} P one (suc n) bytes xs rest e =
+    let a = bind_some (at bytes) (λ x. items_at at n x.1 >>= λ xs. Some (x.0 ∷ xs.0, xs.1)) (xs, rest) e in
+    let b = bind_some (items_at at n a.0.1) (λ xs. Some (a.0.0 ∷ xs.0, xs.1)) (xs, rest) a.2 in
+    let t = each_read P one n a.0.1 b.0.0 b.0.1 b.1 in
+    let made : List A × List ℕ = (a.0.0 ∷ b.0.0, b.0.1) in
+    subst (λ (y : List A × List ℕ). AllByRecursion P y.0) (some_is made (xs, rest) b.2) (one bytes a.0.0 a.0.1 a.1, t)
+
 pub list_exact : {A : Type 0} {f : A → Spelling} {W : A → Type 0} {at : Reader A} → IsExact f W at → IsExact (listed f) (λ xs. AllByRecursion W xs) (list_at at)
 unfolding list_at
 list_exact {A} {f} {W} {at} exact = record {
@@ -368,6 +428,9 @@ list_exact {A} {f} {W} {at} exact = record {
       let n = step quantity_exact bytes (λ n. items_at at n.0 n.1) (xs, rest) e in
       let t = items_takes exact n.0.0 n.0.1 xs rest n.2 in
       subst (λ (k : ℕ). Took (quantity k ⊕ each f xs) bytes rest) (sym t.1) (took_then n.1 t.0);
+  fine = λ bytes xs rest e.
+      let n = bind_some (number_at bytes) _ _ e in
+      each_read W exact.fine n.0.0 n.0.1 xs rest n.2;
   again = λ xs rest w fits.
       ap (list_at at) (append_assoc (leb (length xs)) (each f xs).bytes rest) ∙ rw (number_again (length xs) ((each f xs).bytes ++ rest) fits.0) (items_again exact xs rest w fits.1);
 }
@@ -385,5 +448,13 @@ option_takes {A} {f} {W} {at} exact (b ∷ bytes) x rest e =
     case exact (optional f) (λ y. Some y) b 1 bytes _ x rest (λ a. refl) e (λ e.
     absurd cc))
 
+option_fine : {A : Type 0} {f : A → Spelling} {W : A → Type 0} {at : Reader A} → IsExact f W at → (bytes : List ℕ) (x : Option A) (rest : List ℕ) → option_at at bytes ≡ Some (x, rest) → Optionally W x
+unfolding option_at
+option_fine exact [] x rest e = absurd cc
+option_fine {A} {f} {W} {at} exact (b ∷ bytes) x rest e =
+    fine_lone (Optionally W) None b 0 bytes _ x rest tt e (λ e.
+    fine_case exact (Optionally W) (λ y. Some y) b 1 bytes _ x rest (λ a w. w) e (λ e.
+    absurd cc))
+
 pub option_exact : {A : Type 0} {f : A → Spelling} {W : A → Type 0} {at : Reader A} → IsExact f W at → IsExact (optional f) (Optionally W) (option_at at)
-option_exact exact = record { takes = option_takes exact; again = option_again exact }
+option_exact exact = record { takes = option_takes exact; fine = option_fine exact; again = option_again exact }

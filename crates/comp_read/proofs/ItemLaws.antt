@@ -21,7 +21,7 @@ use Rattle.comp_read.specs.Reading.{◌>>=◌, Read, Reader, made_at, then_at, b
 use Rattle.comp_read.specs.PartReaders.{kind_at, sort_at, alias_at, primitive_after, small_type_after, defined_after, type_def_after, instance_type_at, options_at, index_and_options_at, waiting_after, future_after, stream_after, task_after, intrinsic_after, extern_name_at, description_at}
 use Rattle.comp_read.specs.ItemReaders.{core_argument_at, core_inline_export_at, argument_at, core_instance_after, core_instance_at, instance_at, type_item_after, type_item_at, lift_at, lower_at, canon_after, canon_at, import_at, export_at, item_at, counted_at, custom_at, contents_at}
 use Rattle.comp_read.specs.Writable.{IsIndex, Optionally, Always, AreOptions, IsExternName, IsDescription, IsCoreArgument, IsCoreInlineExport, IsArgument, IsItem}
-use Rattle.comp_read.proofs.Exact.{IsExact, Took, took_then, step, fewer, bind_some, some_is, none_some, chosen, guarded, made_again, made_exact, then_exact, expect_step, before_exact, tag_case, took_byte, First, first_of_tagged, other_byte, number_again, quantity_exact, number_exact, name_exact, items_takes, items_again, list_exact, option_exact}
+use Rattle.comp_read.proofs.Exact.{IsExact, Took, took_then, step, step_is, fewer, bind_some, some_is, none_some, chosen, guarded, made_again, made_exact, then_exact, expect_step, before_exact, tag_case, took_byte, First, first_of_tagged, other_byte, number_again, quantity_exact, number_exact, name_exact, items_takes, items_again, each_read, list_exact, option_exact}
 use Rattle.comp_read.proofs.ValueLaws.{kind_exact, sort_exact, extern_name_exact, description_exact, alias_exact}
 use Rattle.comp_read.proofs.TypeLaws.{type_exact, instance_type_exact}
 use Rattle.comp_read.proofs.CanonLaws.{options_exact, indexed_options, intrinsic_exact}
@@ -38,13 +38,13 @@ core_inline_exact : IsExact core_inline_export IsCoreInlineExport core_inline_ex
 unfolding core_inline_export_at
 core_inline_exact =
     let make : (List ℕ × ExportKind) × ℕ → CoreInlineExport = λ p. record { name = p.0.0; kind = p.0.1; index = p.1 } in
-    fewer (made_exact (then_exact (then_exact name_exact kind_exact) number_exact) make (λ e. ((e.name, e.kind), e.index)) (λ e. refl) (λ p. refl)) IsCoreInlineExport (λ e w. ((w.0, tt), w.1))
+    fewer (made_exact (then_exact (then_exact name_exact kind_exact) number_exact) make (λ e. ((e.name, e.kind), e.index)) (λ e. refl) (λ p. refl)) IsCoreInlineExport (λ e w. ((w.0, tt), w.1)) (λ e v. (v.0.0, v.1))
 
 argument_exact : IsExact argument IsArgument argument_at
 unfolding argument_at
 argument_exact =
     let make : (List ℕ × Sort) × ℕ → Argument = λ p. record { name = p.0.0; sort = p.0.1; index = p.1 } in
-    fewer (made_exact (then_exact (then_exact name_exact sort_exact) number_exact) make (λ a. ((a.name, a.sort), a.index)) (λ a. refl) (λ p. refl)) IsArgument (λ a w. ((w.0, tt), w.1))
+    fewer (made_exact (then_exact (then_exact name_exact sort_exact) number_exact) make (λ a. ((a.name, a.sort), a.index)) (λ a. refl) (λ p. refl)) IsArgument (λ a w. ((w.0, tt), w.1)) (λ a v. (v.0.0, v.1))
 
 abbrev instantiated : IsExact (λ (p : ℕ × List CoreArgument). number p.0 ⊕ listed core_argument p.1) (λ p. IsIndex p.0 × AllByRecursion IsCoreArgument p.1) (then_at number_at (list_at core_argument_at))
 instantiated = then_exact number_exact (list_exact core_argument_exact)
@@ -67,14 +67,15 @@ exported = then_exact (then_exact (then_exact extern_name_exact sort_exact) numb
 record TookItem (id : ℕ) (x : Item) (bytes rest : List ℕ) : Type 0 where
   took : Took (item x).text bytes rest
   is : (item x).id ≡ id
+  fine : IsItem x
 
 -- a definition of what stands behind something that was taken
-item_of : {A : Type 0} {g : A → Spelling} {W : A → Type 0} {at : Reader A} → IsExact g W at → (make : A → Item) (id n : ℕ) (s : Spelling) (all bytes : List ℕ) → Took s all bytes → ((a : A) → (item (make a)).text ≡ s ⊕ g a) → ((a : A) → (item (make a)).id ≡ n) → id ≡ n → (x : Item) (rest : List ℕ) → made_at make at bytes ≡ Some (x, rest) → TookItem id x all rest
-item_of {A} {g} {W} {at} exact make id n s all bytes front spelled numbered id-is x rest e =
+item_of : {A : Type 0} {g : A → Spelling} {W : A → Type 0} {at : Reader A} → IsExact g W at → (make : A → Item) (id n : ℕ) (s : Spelling) (all bytes : List ℕ) → Took s all bytes → ((a : A) → (item (make a)).text ≡ s ⊕ g a) → ((a : A) → (item (make a)).id ≡ n) → ((a : A) → W a → IsItem (make a)) → id ≡ n → (x : Item) (rest : List ℕ) → made_at make at bytes ≡ Some (x, rest) → TookItem id x all rest
+item_of {A} {g} {W} {at} exact make id n s all bytes front spelled numbered keeps id-is x rest e =
     let a = step exact bytes (λ y. let p : Read Item = Some (make y.0, y.1) in p) (x, rest) e in
     let made : Item × List ℕ = (make a.0.0, a.0.1) in
     let text : Took (item (make a.0.0)).text all a.0.1 = subst (λ (t : Spelling). Took t all a.0.1) (sym (spelled a.0.0)) (took_then front a.1) in
-    let whole : TookItem id (make a.0.0) all a.0.1 = record { took = text; is = numbered a.0.0 ∙ sym id-is } in
+    let whole : TookItem id (make a.0.0) all a.0.1 = record { took = text; is = numbered a.0.0 ∙ sym id-is; fine = keeps a.0.0 (exact.fine bytes a.0.0 a.0.1 (step_is exact bytes _ (x, rest) e)) } in
     subst (λ (p : Item × List ℕ). TookItem id p.0 all p.1) (some_is made (x, rest) a.2) whole
 
 nothing : (bytes : List ℕ) → Took (raw []) bytes bytes
@@ -84,8 +85,8 @@ core_instance_takes : (id : ℕ) (bytes : List ℕ) (x : Item) (rest : List ℕ)
 unfolding core_instance_at
 core_instance_takes id [] x rest id-is e = absurd cc
 core_instance_takes id (b ∷ bytes) x rest id-is e =
-    tag_case b 0x00 _ _ (x, rest) e (λ is made. item_of instantiated (λ p. items.CoreInstantiate p.0 p.1) id 2 (octet 0x00) (b ∷ bytes) bytes (took_byte b 0x00 bytes is) (λ a. refl) (λ a. refl) id-is x rest made) (λ e.
-    tag_case b 0x01 _ _ (x, rest) e (λ is made. item_of (list_exact core_inline_exact) (λ l. items.CoreExports l) id 2 (octet 0x01) (b ∷ bytes) bytes (took_byte b 0x01 bytes is) (λ a. refl) (λ a. refl) id-is x rest made) (λ e.
+    tag_case b 0x00 _ _ (x, rest) e (λ is made. item_of instantiated (λ p. items.CoreInstantiate p.0 p.1) id 2 (octet 0x00) (b ∷ bytes) bytes (took_byte b 0x00 bytes is) (λ a. refl) (λ a. refl) (λ a w. w) id-is x rest made) (λ e.
+    tag_case b 0x01 _ _ (x, rest) e (λ is made. item_of (list_exact core_inline_exact) (λ l. items.CoreExports l) id 2 (octet 0x01) (b ∷ bytes) bytes (took_byte b 0x01 bytes is) (λ a. refl) (λ a. refl) (λ a w. w) id-is x rest made) (λ e.
     absurd cc))
 
 instance_takes : (id : ℕ) (bytes : List ℕ) (x : Item) (rest : List ℕ) → id ≡ 5 → instance_at bytes ≡ Some (x, rest) → TookItem id x bytes rest
@@ -93,14 +94,14 @@ unfolding instance_at
 instance_takes id bytes x rest id-is e =
     let at : Reader Item = made_at (λ p. items.Instantiate p.0 p.1) (then_at number_at (list_at argument_at)) in
     let z = expect_step 0x00 bytes at (x, rest) e in
-    item_of made_of (λ p. items.Instantiate p.0 p.1) id 5 (octet 0x00) bytes z.0 z.1 (λ a. refl) (λ a. refl) id-is x rest z.2
+    item_of made_of (λ p. items.Instantiate p.0 p.1) id 5 (octet 0x00) bytes z.0 z.1 (λ a. refl) (λ a. refl) (λ a w. w) id-is x rest z.2
 
 type_takes : (id : ℕ) (bytes : List ℕ) (x : Item) (rest : List ℕ) → id ≡ 7 → type_item_at bytes ≡ Some (x, rest) → TookItem id x bytes rest
 unfolding type_item_at
 type_takes id [] x rest id-is e = absurd cc
 type_takes id (b ∷ bytes) x rest id-is e =
-    tag_case b 0x42 _ _ (x, rest) e (λ is made. item_of instance_type_exact (λ t. items.InstanceType t) id 7 (octet 0x42) (b ∷ bytes) bytes (took_byte b 0x42 bytes is) (λ a. refl) (λ a. refl) id-is x rest made) (λ e.
-    item_of type_exact (λ t. items.Type t) id 7 (raw []) (b ∷ bytes) (b ∷ bytes) (nothing (b ∷ bytes)) (λ a. refl) (λ a. refl) id-is x rest e)
+    tag_case b 0x42 _ _ (x, rest) e (λ is made. item_of instance_type_exact (λ t. items.InstanceType t) id 7 (octet 0x42) (b ∷ bytes) bytes (took_byte b 0x42 bytes is) (λ a. refl) (λ a. refl) (λ a w. w) id-is x rest made) (λ e.
+    item_of type_exact (λ t. items.Type t) id 7 (raw []) (b ∷ bytes) (b ∷ bytes) (nothing (b ∷ bytes)) (λ a. refl) (λ a. refl) (λ a w. w) id-is x rest e)
 
 canon_takes : (id : ℕ) (bytes : List ℕ) (x : Item) (rest : List ℕ) → id ≡ 8 → canon_at bytes ≡ Some (x, rest) → TookItem id x bytes rest
 unfolding canon_at lift_at lower_at
@@ -110,22 +111,22 @@ canon_takes id (b ∷ bytes) x rest id-is e =
     let lower : Reader Item = made_at (λ p. items.Lower p.0 p.1) index_and_options_at in
     tag_case b 0x00 _ _ (x, rest) e (λ is made.
     let z = expect_step 0x00 bytes lift (x, rest) made in
-    item_of lifted (λ p. items.Lift p.0.0 p.0.1 p.1) id 8 (octet 0x00 ⊕ octet 0x00) (b ∷ bytes) z.0 (took_then (took_byte b 0x00 bytes is) z.1) (λ a. refl) (λ a. refl) id-is x rest z.2) (λ e.
+    item_of lifted (λ p. items.Lift p.0.0 p.0.1 p.1) id 8 (octet 0x00 ⊕ octet 0x00) (b ∷ bytes) z.0 (took_then (took_byte b 0x00 bytes is) z.1) (λ a. refl) (λ a. refl) (λ a w. (w.0.0, w.0.1, w.1)) id-is x rest z.2) (λ e.
     tag_case b 0x01 _ _ (x, rest) e (λ is made.
     let z = expect_step 0x00 bytes lower (x, rest) made in
-    item_of indexed_options (λ p. items.Lower p.0 p.1) id 8 (octet 0x01 ⊕ octet 0x00) (b ∷ bytes) z.0 (took_then (took_byte b 0x01 bytes is) z.1) (λ a. refl) (λ a. refl) id-is x rest z.2) (λ e.
-    item_of intrinsic_exact (λ i. items.Intrinsic i) id 8 (raw []) (b ∷ bytes) (b ∷ bytes) (nothing (b ∷ bytes)) (λ a. refl) (λ a. refl) id-is x rest e))
+    item_of indexed_options (λ p. items.Lower p.0 p.1) id 8 (octet 0x01 ⊕ octet 0x00) (b ∷ bytes) z.0 (took_then (took_byte b 0x01 bytes is) z.1) (λ a. refl) (λ a. refl) (λ a w. w) id-is x rest z.2) (λ e.
+    item_of intrinsic_exact (λ i. items.Intrinsic i) id 8 (raw []) (b ∷ bytes) (b ∷ bytes) (nothing (b ∷ bytes)) (λ a. refl) (λ a. refl) (λ a w. w) id-is x rest e))
 
 item_takes : (id : ℕ) (bytes : List ℕ) (x : Item) (rest : List ℕ) → item_at id bytes ≡ Some (x, rest) → TookItem id x bytes rest
 unfolding item_at import_at export_at
 item_takes id bytes x rest e =
     tag_case id 2 _ _ (x, rest) e (core_instance_takes id bytes x rest) (λ e.
     tag_case id 5 _ _ (x, rest) e (instance_takes id bytes x rest) (λ e.
-    tag_case id 6 _ _ (x, rest) e (λ is made. item_of alias_exact (λ a. items.Alias a) id 6 (raw []) bytes bytes (nothing bytes) (λ a. refl) (λ a. refl) is x rest made) (λ e.
+    tag_case id 6 _ _ (x, rest) e (λ is made. item_of alias_exact (λ a. items.Alias a) id 6 (raw []) bytes bytes (nothing bytes) (λ a. refl) (λ a. refl) (λ a w. w) is x rest made) (λ e.
     tag_case id 7 _ _ (x, rest) e (type_takes id bytes x rest) (λ e.
     tag_case id 8 _ _ (x, rest) e (canon_takes id bytes x rest) (λ e.
-    tag_case id 10 _ _ (x, rest) e (λ is made. item_of imported (λ p. items.Import p.0 p.1) id 10 (raw []) bytes bytes (nothing bytes) (λ a. refl) (λ a. refl) is x rest made) (λ e.
-    tag_case id 11 _ _ (x, rest) e (λ is made. item_of exported (λ p. items.Export p.0.0.0 p.0.0.1 p.0.1 p.1) id 11 (raw []) bytes bytes (nothing bytes) (λ a. refl) (λ a. refl) is x rest made) (λ e.
+    tag_case id 10 _ _ (x, rest) e (λ is made. item_of imported (λ p. items.Import p.0 p.1) id 10 (raw []) bytes bytes (nothing bytes) (λ a. refl) (λ a. refl) (λ a w. w) is x rest made) (λ e.
+    tag_case id 11 _ _ (x, rest) e (λ is made. item_of exported (λ p. items.Export p.0.0.0 p.0.0.1 p.0.1 p.1) id 11 (raw []) bytes bytes (nothing bytes) (λ a. refl) (λ a. refl) (λ a w. (w.0.0.0, w.0.1, w.1)) is x rest made) (λ e.
     absurd cc)))))))
 
 any_again : (t : Item) (rest : List ℕ) → shares (item t).id ≡ true → IsItem t → Fits (item t).text.counts → item_at (item t).id ((item t).text.bytes ++ rest) ≡ Some (t, rest)
@@ -160,18 +161,7 @@ item_again id s x rest w fits =
     ap (λ (i : ℕ). item_at i ((item x).text.bytes ++ rest)) (sym w.0) ∙ any_again x rest (ap shares w.0 ∙ s) w.1 fits
 
 pub item_exact : (id : ℕ) → shares id ≡ true → IsExact (λ x. (item x).text) (IsOf id) (item_at id)
-item_exact id s = record { takes = λ bytes x rest e. (item_takes id bytes x rest e).took; again = item_again id s }
-
--- what holds of each that is read holds of all
-each_read : {A : Type 0} {at : Reader A} (P : A → Type 0) → ((bytes : List ℕ) (x : A) (rest : List ℕ) → at bytes ≡ Some (x, rest) → P x) → (n : ℕ) (bytes : List ℕ) (xs : List A) (rest : List ℕ) → items_at at n bytes ≡ Some (xs, rest) → AllByRecursion P xs
-unfolding items_at
-each_read {A} {at} P one zero bytes xs rest e = subst (λ (y : List A × List ℕ). AllByRecursion P y.0) (some_is ([], bytes) (xs, rest) e) tt
-each_read {A} {at} P one (suc n) bytes xs rest e =
-    let a = bind_some (at bytes) (λ x. items_at at n x.1 >>= λ xs. Some (x.0 ∷ xs.0, xs.1)) (xs, rest) e in
-    let b = bind_some (items_at at n a.0.1) (λ xs. Some (a.0.0 ∷ xs.0, xs.1)) (xs, rest) a.2 in
-    let t = each_read P one n a.0.1 b.0.0 b.0.1 b.1 in
-    let made : List A × List ℕ = (a.0.0 ∷ b.0.0, b.0.1) in
-    subst (λ (y : List A × List ℕ). AllByRecursion P y.0) (some_is made (xs, rest) b.2) (one bytes a.0.0 a.0.1 a.1, t)
+item_exact id s = record { takes = λ bytes x rest e. (item_takes id bytes x rest e).took; fine = λ bytes x rest e. let t = item_takes id bytes x rest e in (t.is, t.fine); again = item_again id s }
 
 -- ---- what is in a section
 
@@ -230,6 +220,38 @@ module_takes inner xs e =
     let made : List Item = items.CoreModule inner ∷ [] in
     let text : Inside item 1 inner made = record { each_of = (refl, tt); some = omega arith; alone = λ h. refl; text = sym (append-nil inner); fits = tt } in
     subst (λ (v : List Item). Inside item 1 inner v) (some_is made xs e) text
+
+-- what is read in a section is writable
+counted_fine : (id : ℕ) (inner : List ℕ) (xs : List Item) → counted_at id inner ≡ Some xs → AllByRecursion IsItem xs
+unfolding counted_at
+counted_fine id inner xs e =
+    let n = bind_some (number_at inner) _ xs e in
+    elim (chosen (eqb n.0.0 0) _ _ (Some xs) n.2) [
+      | inl w ↦ absurd (none_some xs w.1)
+      | inr w ↦
+          let ys = bind_some (items_at (item_at id) n.0.0 n.0.1) _ xs w.1 in
+          let g = guarded (eqb (length ys.0.1) 0) ys.0.0 xs ys.2 in
+          subst (λ (v : List Item). AllByRecursion IsItem v) g.1 (each_read IsItem (λ b x r h. (item_takes id b x r h).fine) n.0.0 n.0.1 ys.0.0 ys.0.1 ys.1)
+    ]
+
+custom_fine : (inner : List ℕ) (xs : List Item) → custom_at inner ≡ Some xs → AllByRecursion IsItem xs
+unfolding custom_at
+custom_fine inner xs e =
+    let n = bind_some (name_at inner) _ xs e in
+    let made : List Item = items.Custom n.0.0 n.0.1 ∷ [] in
+    subst (λ (v : List Item). AllByRecursion IsItem v) (some_is made xs n.2) (name_exact.fine inner n.0.0 n.0.1 n.1, tt)
+
+pub contents_fine : (id : ℕ) (inner : List ℕ) (xs : List Item) → contents_at id inner ≡ Some xs → AllByRecursion IsItem xs
+unfolding contents_at
+contents_fine id inner xs e =
+    let made : List Item = items.CoreModule inner ∷ [] in
+    elim (chosen (eqb id 0) _ _ (Some xs) e) [
+      | inl w ↦ custom_fine inner xs w.1
+      | inr w ↦ elim (chosen (eqb id 1) _ _ (Some xs) w.1) [
+        | inl v ↦ subst (λ (v : List Item). AllByRecursion IsItem v) (some_is made xs v.1) (tt, tt)
+        | inr v ↦ counted_fine id inner xs v.1
+      ]
+    ]
 
 -- no definition but a component has the id 4
 no_components : (n : ℕ) (bytes : List ℕ) (y : List Item × List ℕ) → (n ≡ 0 → ⊥) → items_at (item_at 4) n bytes ≡ Some y → ⊥

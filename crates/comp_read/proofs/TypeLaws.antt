@@ -19,7 +19,7 @@ use Rattle.comp_bytes.specs.declared.types.InstanceType.{InstanceType}
 use Rattle.comp_read.specs.Reading.{◌>>=◌, Read, Reader, made_at, then_at, behind, tagged, byte_at, expect, number_at, list_at, option_at}
 use Rattle.comp_read.specs.PartReaders.{primitive_of, primitive_after, value_type_at, field_at, result_at, result_type_at, small_type_after, defined_after, func_type_at, type_def_after, member_after, member_at, instance_type_at}
 use Rattle.comp_read.specs.Writable.{IsIndex, Optionally, Always, IsValueType, IsField, IsDefinedType, IsFuncType, IsTypeDef, IsMember, IsInstanceType}
-use Rattle.comp_read.proofs.Exact.{IsExact, Took, took_then, step, some_is, made_takes, made_again, made_exact, then_exact, expect_step, behind_exact, case, lone, tag_case, took_byte, after_takes, First, first_of_tagged, other_byte, number_exact, name_exact, list_exact, option_exact}
+use Rattle.comp_read.proofs.Exact.{IsExact, Took, took_then, step, some_is, made_takes, made_again, bind_some, bind_fine, made_fine, fine_case, fine_lone, made_exact, then_exact, expect_step, behind_exact, case, lone, tag_case, took_byte, after_takes, First, first_of_tagged, other_byte, number_exact, name_exact, list_exact, option_exact}
 use Rattle.comp_read.proofs.ValueLaws.{primitive_exact, value_type_exact, field_exact, case_exact, result_exact, extern_name_exact, description_exact, alias_exact}
 
 -- ---- types of values
@@ -48,6 +48,28 @@ defined_takes b bytes x rest e =
     case (list_exact name_exact) defined_type (λ l. defined.Flags l) b 0x6e bytes _ x rest (λ a. refl) e (λ e.
     case (list_exact name_exact) defined_type (λ l. defined.Enum l) b 0x6d bytes _ x rest (λ a. refl) e (λ e.
     small_takes b bytes x rest e)))))
+
+small_fine : (b : ℕ) (bytes : List ℕ) (x : DefinedType) (rest : List ℕ) → small_type_after b bytes ≡ Some (x, rest) → IsDefinedType x
+unfolding small_type_after result_type_at
+small_fine b bytes x rest e =
+    fine_case value_type_exact IsDefinedType (λ t. defined.List t) b 0x70 bytes _ x rest (λ a w. w) e (λ e.
+    fine_case value_type_exact IsDefinedType (λ t. defined.Option t) b 0x6b bytes _ x rest (λ a w. w) e (λ e.
+    fine_case two_options IsDefinedType (λ p. defined.Result p.0 p.1) b 0x6a bytes _ x rest (λ a w. w) e (λ e.
+    fine_case number_exact IsDefinedType (λ n. defined.Own n) b 0x69 bytes _ x rest (λ a w. w) e (λ e.
+    fine_case number_exact IsDefinedType (λ n. defined.Borrow n) b 0x68 bytes _ x rest (λ a w. w) e (λ e.
+    fine_case (option_exact value_type_exact) IsDefinedType (λ t. defined.Stream t) b 0x66 bytes _ x rest (λ a w. w) e (λ e.
+    fine_case (option_exact value_type_exact) IsDefinedType (λ t. defined.Future t) b 0x65 bytes _ x rest (λ a w. w) e (λ e.
+    made_fine primitive_exact IsDefinedType (λ p. defined.Primitive p) (λ a w. w) (b ∷ bytes) x rest e)))))))
+
+defined_fine : (b : ℕ) (bytes : List ℕ) (x : DefinedType) (rest : List ℕ) → defined_after b bytes ≡ Some (x, rest) → IsDefinedType x
+unfolding defined_after
+defined_fine b bytes x rest e =
+    fine_case (list_exact field_exact) IsDefinedType (λ l. defined.Record l) b 0x72 bytes _ x rest (λ a w. w) e (λ e.
+    fine_case (list_exact case_exact) IsDefinedType (λ l. defined.Variant l) b 0x71 bytes _ x rest (λ a w. w) e (λ e.
+    fine_case (list_exact value_type_exact) IsDefinedType (λ l. defined.Tuple l) b 0x6f bytes _ x rest (λ a w. w) e (λ e.
+    fine_case (list_exact name_exact) IsDefinedType (λ l. defined.Flags l) b 0x6e bytes _ x rest (λ a w. w) e (λ e.
+    fine_case (list_exact name_exact) IsDefinedType (λ l. defined.Enum l) b 0x6d bytes _ x rest (λ a w. w) e (λ e.
+    small_fine b bytes x rest e)))))
 
 primitive_defined : (p : Primitive) (rest : List ℕ) → defined_after (primitive_byte p) rest ≡ Some (defined.Primitive p, rest)
 unfolding defined_after small_type_after primitive_after
@@ -151,8 +173,26 @@ type_again (types.Defined t) rest w fits =
     let c : eqb h.byte 0x3f ≡ false = other_byte defined_after h.byte 0x3f h.rest (t, rest) h.read refl in
     ap (tagged type_def_after) h.parts ∙ rw (a, b, c, h.read) refl
 
+func_fine : (is_async : Bool) (bytes : List ℕ) (f : FuncTypeDef) (rest : List ℕ) → func_type_at is_async bytes ≡ Some (f, rest) → IsFuncType f
+unfolding func_type_at
+func_fine is_async bytes f rest e =
+    let make : List Field × Option ComponentValType → FuncTypeDef = λ p. record { async_ = is_async; params = p.0; result = p.1 } in
+    made_fine (then_exact (list_exact field_exact) result_exact) IsFuncType make (λ a w. w) bytes f rest e
+
+type_fine : (bytes : List ℕ) (x : TypeDef) (rest : List ℕ) → tagged type_def_after bytes ≡ Some (x, rest) → IsTypeDef x
+unfolding type_def_after
+type_fine [] x rest e = absurd cc
+type_fine (b ∷ bytes) x rest e =
+    let resource : Reader TypeDef = made_at (λ destructor. types.Resource destructor) (option_at number_at) in
+    tag_case b 0x40 _ _ (x, rest) e (λ is made. bind_fine IsFuncType IsTypeDef (λ f. types.Func f) (func_fine false) (λ a w. w) bytes x rest made) (λ e.
+    tag_case b 0x43 _ _ (x, rest) e (λ is made. bind_fine IsFuncType IsTypeDef (λ f. types.Func f) (func_fine true) (λ a w. w) bytes x rest made) (λ e.
+    tag_case b 0x3f _ _ (x, rest) e (λ is made.
+    let z = expect_step 0x7f bytes resource (x, rest) made in
+    made_fine (option_exact number_exact) IsTypeDef (λ d. types.Resource d) (λ a w. w) z.0 x rest z.2) (λ e.
+    bind_fine IsDefinedType IsTypeDef (λ t. types.Defined t) (defined_fine b) (λ a w. w) bytes x rest e)))
+
 pub type_exact : IsExact type_def IsTypeDef (tagged type_def_after)
-type_exact = record { takes = type_takes; again = type_again }
+type_exact = record { takes = type_takes; fine = type_fine; again = type_again }
 
 -- ---- instance types
 
@@ -171,8 +211,17 @@ member_again (members.Type t) rest w fits = made_again type_exact (λ t. members
 member_again (members.Alias a) rest w fits = made_again alias_exact (λ a. members.Alias a) a rest w fits
 member_again (members.Export name description) rest w fits = made_again (then_exact extern_name_exact description_exact) (λ p. members.Export p.0 p.1) (name, description) rest w fits
 
+member_fine : (bytes : List ℕ) (x : Member) (rest : List ℕ) → member_at bytes ≡ Some (x, rest) → IsMember x
+unfolding member_at
+member_fine [] x rest e = absurd cc
+member_fine (b ∷ bytes) x rest e =
+    fine_case type_exact IsMember (λ t. members.Type t) b 0x01 bytes _ x rest (λ a w. w) e (λ e.
+    fine_case alias_exact IsMember (λ t. members.Alias t) b 0x02 bytes _ x rest (λ a w. w) e (λ e.
+    fine_case (then_exact extern_name_exact description_exact) IsMember (λ p. members.Export p.0 p.1) b 0x04 bytes _ x rest (λ a w. w) e (λ e.
+    absurd cc)))
+
 pub member_exact : IsExact member IsMember member_at
-member_exact = record { takes = member_takes; again = member_again }
+member_exact = record { takes = member_takes; fine = member_fine; again = member_again }
 
 -- an instance type, behind its byte
 pub instance_type_exact : IsExact (λ (t : InstanceType). listed member t.members) IsInstanceType instance_type_at

@@ -24,7 +24,7 @@ use Rattle.comp_bytes.specs.declared.types.Alias.TheVariants as aliases
 use Rattle.comp_read.specs.Reading.{◌>>=◌, Read, Reader, made_at, then_at, behind, before_byte, tagged, byte_at, expect, number_at, type_index_at, name_at, option_at}
 use Rattle.comp_read.specs.PartReaders.{kind_after, kind_at, sort_after, sort_at, primitive_of, primitive_after, primitive_or, value_type_at, field_at, case_at, result_after, result_at, extern_name_after, extern_name_at, type_bound_after, type_bound_at, description_after, description_at, core_alias_at, export_alias_at, outer_alias_at, type_alias_after, type_alias_at, alias_after, alias_at}
 use Rattle.comp_read.specs.Writable.{IsIndex, Optionally, Always, IsValueType, IsField, IsCase, IsExternName, IsDescription, IsAlias}
-use Rattle.comp_read.proofs.Exact.{IsExact, Took, took_then, step, fewer, bind_some, some_is, none_some, chosen, made_takes, made_again, made_exact, then_exact, expect_step, expect_again, behind_exact, before_exact, case, lone, other, tag_case, took_byte, after_takes, just_took, number_exact, type_index_exact, name_exact, option_exact}
+use Rattle.comp_read.proofs.Exact.{IsExact, Took, took_then, step, fewer, bind_some, some_is, none_some, chosen, made_takes, made_again, made_fine, fine_case, fine_lone, made_exact, then_exact, expect_step, expect_again, behind_exact, before_exact, case, lone, other, tag_case, took_byte, after_takes, just_took, number_exact, type_index_exact, name_exact, option_exact}
 
 -- ---- sorts
 
@@ -47,7 +47,7 @@ kind_again kinds.Memory rest = refl
 kind_again kinds.Global rest = refl
 
 pub kind_exact : IsExact (λ k. octet (kind_byte k)) Always kind_at
-kind_exact = record { takes = kind_takes; again = λ x rest w fits. kind_again x rest }
+kind_exact = record { takes = kind_takes; fine = λ bytes x rest e. tt; again = λ x rest w fits. kind_again x rest }
 
 sort_takes : (bytes : List ℕ) (x : Sort) (rest : List ℕ) → sort_at bytes ≡ Some (x, rest) → Took (sort_bytes x) bytes rest
 unfolding sort_at
@@ -69,7 +69,7 @@ sort_again sorts.Component rest = refl
 sort_again sorts.Instance rest = refl
 
 pub sort_exact : IsExact sort_bytes Always sort_at
-sort_exact = record { takes = sort_takes; again = λ x rest w fits. sort_again x rest }
+sort_exact = record { takes = sort_takes; fine = λ bytes x rest e. tt; again = λ x rest w fits. sort_again x rest }
 
 -- ---- value types
 
@@ -143,7 +143,7 @@ primitive_takes (b ∷ bytes) p rest e =
 
 pub primitive_exact : IsExact (λ p. octet (primitive_byte p)) Always (tagged primitive_after)
 unfolding primitive_after
-primitive_exact = record { takes = primitive_takes; again = λ p rest w fits. rw (primitive_again p) refl }
+primitive_exact = record { takes = primitive_takes; fine = λ bytes x rest e. tt; again = λ p rest w fits. rw (primitive_again p) refl }
 
 -- the first byte of a type index
 record Positive (bytes : List ℕ) : Type 0 where
@@ -188,8 +188,19 @@ value_again (values.Defined n) rest w =
     let index : type_index_at (h.byte ∷ h.rest) ≡ Some (n, rest) = ap type_index_at (sym h.parts) ∙ type_index_exact.again n rest w tt in
     ap value_type_at h.parts ∙ rw (none, index) refl
 
+value_or_fine : (bytes : List ℕ) (r : Read Primitive) (x : ComponentValType) (rest : List ℕ) → primitive_or r (type_index_at bytes) ≡ Some (x, rest) → IsValueType x
+value_or_fine bytes (Some p) x rest e =
+    let made : ComponentValType × List ℕ = (values.Primitive p.0, p.1) in
+    subst (λ (y : ComponentValType × List ℕ). IsValueType y.0) (some_is made (x, rest) e) tt
+value_or_fine bytes None x rest e = made_fine type_index_exact IsValueType (λ n. values.Defined n) (λ a w. w) bytes x rest e
+
+value_fine : (bytes : List ℕ) (x : ComponentValType) (rest : List ℕ) → value_type_at bytes ≡ Some (x, rest) → IsValueType x
+unfolding value_type_at
+value_fine [] x rest e = absurd cc
+value_fine (b ∷ bytes) x rest e = value_or_fine (b ∷ bytes) (primitive_after b bytes) x rest e
+
 pub value_type_exact : IsExact value_type IsValueType value_type_at
-value_type_exact = record { takes = value_takes; again = λ x rest w fits. value_again x rest w }
+value_type_exact = record { takes = value_takes; fine = value_fine; again = λ x rest w fits. value_again x rest w }
 
 pub field_exact : IsExact field IsField field_at
 unfolding field_at
@@ -220,8 +231,19 @@ unfolding result_at
 result_again (Some t) rest w fits = made_again value_type_exact (λ t. Some t) t rest w fits
 result_again None rest w fits = rw (expect_again 0x00 rest) refl
 
+result_fine : (bytes : List ℕ) (x : Option ComponentValType) (rest : List ℕ) → result_at bytes ≡ Some (x, rest) → Optionally IsValueType x
+unfolding result_at
+result_fine [] x rest e = absurd cc
+result_fine (b ∷ bytes) x rest e =
+    fine_case value_type_exact (Optionally IsValueType) (λ t. Some t) b 0x00 bytes _ x rest (λ a w. w) e (λ e.
+    tag_case b 0x01 _ _ (x, rest) e (λ b-is e.
+    let z = expect_step 0x00 bytes _ _ e in
+    let none : Option ComponentValType × List ℕ = (None, z.0) in
+    subst (λ (y : Option ComponentValType × List ℕ). Optionally IsValueType y.0) (some_is none (x, rest) z.2) tt) (λ e.
+    absurd cc))
+
 pub result_exact : IsExact function_result (Optionally IsValueType) result_at
-result_exact = record { takes = result_takes; again = result_again }
+result_exact = record { takes = result_takes; fine = result_fine; again = result_again }
 
 -- ---- names and descriptions
 
@@ -242,9 +264,17 @@ unfolding extern_name_at of_parts
 name_again name None rest w fits = made_again name_exact (λ n. of_parts n None) name rest w.0 fits
 name_again name (Some suffix) rest w fits = made_again (then_exact name_exact name_exact) (λ p. of_parts p.0 (Some p.1)) (name, suffix) rest w fits
 
+name_fine : (bytes : List ℕ) (x : ExternName) (rest : List ℕ) → extern_name_at bytes ≡ Some (x, rest) → IsExternName x
+unfolding extern_name_at
+name_fine [] x rest e = absurd cc
+name_fine (b ∷ bytes) x rest e =
+    fine_case name_exact IsExternName (λ name. record { name = name; version_suffix = None }) b 0x00 bytes _ x rest (λ a w. (w, tt)) e (λ e.
+    fine_case (then_exact name_exact name_exact) IsExternName (λ p. record { name = p.0; version_suffix = Some p.1 }) b 0x01 bytes _ x rest (λ a w. w) e (λ e.
+    absurd cc))
+
 pub extern_name_exact : IsExact extern_name IsExternName extern_name_at
 unfolding of_parts
-extern_name_exact = record { takes = name_takes; again = λ x rest w fits. name_again x.name x.version_suffix rest w fits }
+extern_name_exact = record { takes = name_takes; fine = name_fine; again = λ x rest w fits. name_again x.name x.version_suffix rest w fits }
 
 bound_takes : (all bytes : List ℕ) (x : Description) (rest : List ℕ) → Took (octet 0x03) all bytes → type_bound_at bytes ≡ Some (x, rest) → Took (description_bytes x) all rest
 unfolding type_bound_at
@@ -270,8 +300,25 @@ description_again (descriptions.TypeEqual n) rest w = made_again number_exact (�
 description_again descriptions.SubResource rest w = refl
 description_again (descriptions.Instance n) rest w = made_again number_exact (λ n. descriptions.Instance n) n rest w tt
 
+bound_fine : (bytes : List ℕ) (x : Description) (rest : List ℕ) → type_bound_at bytes ≡ Some (x, rest) → IsDescription x
+unfolding type_bound_at
+bound_fine [] x rest e = absurd cc
+bound_fine (b ∷ bytes) x rest e =
+    fine_case number_exact IsDescription (λ n. descriptions.TypeEqual n) b 0x00 bytes _ x rest (λ a w. w) e (λ e.
+    fine_lone IsDescription descriptions.SubResource b 0x01 bytes _ x rest tt e (λ e.
+    absurd cc))
+
+description_fine : (bytes : List ℕ) (x : Description) (rest : List ℕ) → description_at bytes ≡ Some (x, rest) → IsDescription x
+unfolding description_at
+description_fine [] x rest e = absurd cc
+description_fine (b ∷ bytes) x rest e =
+    fine_case number_exact IsDescription (λ n. descriptions.Func n) b 0x01 bytes _ x rest (λ a w. w) e (λ e.
+    tag_case b 0x03 _ _ (x, rest) e (λ is made. bound_fine bytes x rest made) (λ e.
+    fine_case number_exact IsDescription (λ n. descriptions.Instance n) b 0x05 bytes _ x rest (λ a w. w) e (λ e.
+    absurd cc)))
+
 pub description_exact : IsExact description_bytes IsDescription description_at
-description_exact = record { takes = description_takes; again = λ x rest w fits. description_again x rest w }
+description_exact = record { takes = description_takes; fine = description_fine; again = λ x rest w fits. description_again x rest w }
 
 -- ---- aliases
 
@@ -316,5 +363,33 @@ alias_again (aliases.Export exports.Instance instance name) rest w fits = made_a
 alias_again (aliases.CoreExport kind instance name) rest w fits = made_again core_parts (λ p. aliases.CoreExport p.0.0 p.0.1 p.1) ((kind, instance), name) rest ((tt, w.0), w.1) fits
 alias_again (aliases.Outer count index) rest w fits = made_again (then_exact number_exact number_exact) (λ p. aliases.Outer p.0 p.1) (count, index) rest w fits
 
+export_alias_fine : (kind : ComponentExportKind) (bytes : List ℕ) (x : Alias) (rest : List ℕ) → export_alias_at kind bytes ≡ Some (x, rest) → IsAlias x
+unfolding export_alias_at
+export_alias_fine kind bytes x rest e = made_fine (then_exact number_exact name_exact) IsAlias (λ p. aliases.Export kind p.0 p.1) (λ a w. w) bytes x rest e
+
+behind_fine : (kind : ComponentExportKind) (bytes : List ℕ) (x : Alias) (rest : List ℕ) → behind 0x00 (export_alias_at kind) bytes ≡ Some (x, rest) → IsAlias x
+behind_fine kind bytes x rest e =
+    let z = expect_step 0x00 bytes (export_alias_at kind) (x, rest) e in
+    export_alias_fine kind z.0 x rest z.2
+
+type_alias_fine : (bytes : List ℕ) (x : Alias) (rest : List ℕ) → type_alias_at bytes ≡ Some (x, rest) → IsAlias x
+unfolding type_alias_at outer_alias_at
+type_alias_fine [] x rest e = absurd cc
+type_alias_fine (b ∷ bytes) x rest e =
+    tag_case b 0x00 _ _ (x, rest) e (λ is made. export_alias_fine exports.Type bytes x rest made) (λ e.
+    fine_case (then_exact number_exact number_exact) IsAlias (λ p. aliases.Outer p.0 p.1) b 0x02 bytes _ x rest (λ a w. w) e (λ e.
+    absurd cc))
+
+alias_fine : (bytes : List ℕ) (x : Alias) (rest : List ℕ) → alias_at bytes ≡ Some (x, rest) → IsAlias x
+unfolding alias_at core_alias_at
+alias_fine [] x rest e = absurd cc
+alias_fine (b ∷ bytes) x rest e =
+    fine_case core_parts IsAlias (λ p. aliases.CoreExport p.0.0 p.0.1 p.1) b 0x00 bytes _ x rest (λ a w. (w.0.1, w.1)) e (λ e.
+    tag_case b 0x01 _ _ (x, rest) e (λ is made. behind_fine exports.Func bytes x rest made) (λ e.
+    tag_case b 0x03 _ _ (x, rest) e (λ is made. type_alias_fine bytes x rest made) (λ e.
+    tag_case b 0x04 _ _ (x, rest) e (λ is made. behind_fine exports.Component bytes x rest made) (λ e.
+    tag_case b 0x05 _ _ (x, rest) e (λ is made. behind_fine exports.Instance bytes x rest made) (λ e.
+    absurd cc)))))
+
 pub alias_exact : IsExact alias_bytes IsAlias alias_at
-alias_exact = record { takes = alias_takes; again = alias_again }
+alias_exact = record { takes = alias_takes; fine = alias_fine; again = alias_again }
