@@ -32,7 +32,7 @@ Links (s ∷ ss) = Apart s.id ss × Links ss
 apart_as : (m n : ℕ) (ss : List Section) → m ≡ n → Apart n ss → Apart m ss
 apart_as m n ss e h = subst (λ (i : ℕ). Apart i ss) (sym e) h
 
-and_right : (a b : Bool) → (a && b) ≡ true → b ≡ true
+pub and_right : (a b : Bool) → (a && b) ≡ true → b ≡ true
 and_right true b e = e
 and_right false b e = absurd cc
 
@@ -55,7 +55,7 @@ before_links : (e : Entry) (ss : List Section) → Links ss → Links (before e 
 before_links e [] l = (tt, tt)
 before_links e (s ∷ ss) l = links_before e s ss (shares e.id && eqb e.id s.id) refl l
 
-sections_link : (es : List Entry) → Links (sections es)
+pub sections_link : (es : List Entry) → Links (sections es)
 sections_link [] = tt
 sections_link (e ∷ es) = before_links e (sections es) (sections_link es)
 
@@ -63,7 +63,7 @@ from_zero : (n : ℕ) (t : Bool) → eqb 0 n ≡ t → repeats 0 n ≡ false
 from_zero n false e = rw e refl
 from_zero n true e = let same : 0 ≡ n = eqb-true _ _ e in subst (λ (i : ℕ). repeats 0 i ≡ false) same refl
 
-first_apart : (ss : List Section) → Apart 0 ss
+pub first_apart : (ss : List Section) → Apart 0 ss
 first_apart [] = tt
 first_apart (s ∷ ss) = from_zero s.id (eqb 0 s.id) refl
 
@@ -72,19 +72,19 @@ first_apart (s ∷ ss) = from_zero s.id (eqb 0 s.id) refl
 pub record ReadsAgain {A : Type 0} (f : A → Entry) (W : A → Type 0) (at : Contents A) : Type 0 where
   pub again : (id place start : ℕ) (inner : List ℕ) (xs : List A) → Inside f id inner xs → AllByRecursion W xs → at id place start inner ≡ Ok xs
 
-all_left : {A : Type 0} (W : A → Type 0) (xs ys : List A) → AllByRecursion W (xs ++ ys) → AllByRecursion W xs
+pub all_left : {A : Type 0} (W : A → Type 0) (xs ys : List A) → AllByRecursion W (xs ++ ys) → AllByRecursion W xs
 all_left W [] ys h = tt
 all_left W (x ∷ xs) ys h = (h.0, all_left W xs ys h.1)
 
-all_right : {A : Type 0} (W : A → Type 0) (xs ys : List A) → AllByRecursion W (xs ++ ys) → AllByRecursion W ys
+pub all_right : {A : Type 0} (W : A → Type 0) (xs ys : List A) → AllByRecursion W (xs ++ ys) → AllByRecursion W ys
 all_right W [] ys h = h
 all_right W (x ∷ xs) ys h = all_right W xs ys h.1
 
-header_again : (last id : ℕ) (inner rest : List ℕ) → repeats last id ≡ false → length inner < 2 ^ 32 → header_at last (id ∷ (leb (length inner) ++ inner) ++ rest) ≡ Some (id, inner, rest)
+pub header_again : (last id : ℕ) (inner rest : List ℕ) → repeats last id ≡ false → length inner < 2 ^ 32 → header_at last (id ∷ (leb (length inner) ++ inner) ++ rest) ≡ Some (id, inner, rest)
 unfolding header_at
 header_again last id inner rest apart lt = rw (apart, sized_exact.again inner rest tt (lt, tt)) refl
 
-section_again : {A : Type 0} (f : A → Entry) (W : A → Type 0) (at : Contents A) → ReadsAgain f W at → (place last id : ℕ) (inner rest : List ℕ) (xs : List A) → repeats last id ≡ false → length inner < 2 ^ 32 → Inside f id inner xs → AllByRecursion W xs
+pub section_again : {A : Type 0} (f : A → Entry) (W : A → Type 0) (at : Contents A) → ReadsAgain f W at → (place last id : ℕ) (inner rest : List ℕ) (xs : List A) → repeats last id ≡ false → length inner < 2 ^ 32 → Inside f id inner xs → AllByRecursion W xs
     → section_at at place last (id ∷ (leb (length inner) ++ inner) ++ rest) ≡ Ok (id, xs, rest)
 unfolding section_at
 section_again f W at reads place last id inner rest xs apart lt inside w =
@@ -92,19 +92,19 @@ section_again f W at reads place last id inner rest xs apart lt inside w =
     let found : at id place (place + (length bytes - length rest - length inner)) inner ≡ Ok xs = reads.again id place (place + (length bytes - length rest - length inner)) inner xs inside w in
     rw (header_again last id inner rest apart lt, found) refl
 
-abbrev groups_text : {A : Type 0} → (A → Entry) → List (List A) → Spelling
+abbrev pub groups_text : {A : Type 0} → (A → Entry) → List (List A) → Spelling
 groups_text f gs = each section (map (group_section f) gs)
 
-abbrev joined : {A : Type 0} → List (List A) → List A
+abbrev pub joined : {A : Type 0} → List (List A) → List A
 joined gs = flat_map (λ g. g) gs
 
-abbrev group_contents : {A : Type 0} → (A → Entry) → A → List A → Spelling
+abbrev pub group_contents : {A : Type 0} → (A → Entry) → A → List A → Spelling
 group_contents f x xs = contents (λ y. (f y).text) (shares (f x).id) (x ∷ xs)
 
-abbrev group_text : {A : Type 0} → (A → Entry) → A → List A → Spelling
+abbrev pub group_text : {A : Type 0} → (A → Entry) → A → List A → Spelling
 group_text f x xs = octet (f x).id ⊕ sized (group_contents f x xs)
 
-inside_of : {A : Type 0} (f : A → Entry) (x : A) (xs : List A) → IsGroup f (x ∷ xs) → Fits (group_contents f x xs).counts → Inside f (f x).id (group_contents f x xs).bytes (x ∷ xs)
+pub inside_of : {A : Type 0} (f : A → Entry) (x : A) (xs : List A) → IsGroup f (x ∷ xs) → Fits (group_contents f x xs).counts → Inside f (f x).id (group_contents f x xs).bytes (x ∷ xs)
 inside_of {A} f x xs g fits = record {
   each_of = (refl, g.0);
   some = omega arith;
@@ -218,7 +218,7 @@ contents_by id inner xs h w false false false p q r =
 pub contents_again : (id : ℕ) (inner : List ℕ) (xs : List Item) → Inside item id inner xs → AllByRecursion IsItem xs → contents_at id inner ≡ Some xs
 contents_again id inner xs h w = contents_by id inner xs h w (eqb id 0) (eqb id 1) (eqb id 4) refl refl refl
 
-items_again_in : ReadsAgain item IsItem item_contents_at
+pub items_again_in : ReadsAgain item IsItem item_contents_at
 items_again_in = record { again = λ id place start inner xs h w. ap (told_at place) (contents_again id inner xs h w) }
 
 -- ---- what is in a section of definitions
@@ -273,7 +273,7 @@ definitions_by id place start inner xs h w false e =
     let i : Inside item id inner u.inner = unwrapped_inside id inner u.inner (subst (λ (ys : List Def). Inside definition id inner ys) u.is h) in
     rw (e, contents_again id inner u.inner i u.writable) (ap (λ (ys : List Def). let r : Placed (List Def) = Ok ys in r) (sym u.is))
 
-definitions_again : ReadsAgain definition IsDefinition definition_contents_at
+pub definitions_again : ReadsAgain definition IsDefinition definition_contents_at
 definitions_again = record { again = λ id place start inner xs h w. definitions_by id place start inner xs h w (eqb id 4) refl }
 
 -- a list that a program can hold is read from its bytes

@@ -9,3 +9,4 @@ pub mod ItemLaws
 pub mod SectionLaws
 pub mod Whole
 pub mod Again
+pub mod Stopping

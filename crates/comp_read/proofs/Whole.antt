@@ -10,6 +10,7 @@ use Rattle.comp_read.specs.SectionReaders.{GivesAt, component_at, definition_con
 use Rattle.comp_read.proofs.SectionLoop.{err_ok}
 use Rattle.comp_read.proofs.SectionLaws.{spelled}
 use Rattle.comp_read.proofs.Again.{again}
+use Rattle.comp_read.proofs.Stopping.{place_is}
 
 pub found : (bytes : List ℕ) (r : Result (List Def) ReadFault) → GivesAt (λ x. x) r (component_at definition_contents_at 0 0 bytes) → IfOk r (λ defs. Spells bytes defs)
 found bytes (Ok defs) h = spelled bytes defs h
@@ -18,4 +19,4 @@ found bytes (Err e) h = tt
 pub refused : (bytes : List ℕ) (r : Result (List Def) ReadFault) → GivesAt (λ x. x) r (component_at definition_contents_at 0 0 bytes) → IfErr r (λ e. IsRefusal bytes e)
 refused bytes (Ok defs) h = tt
 refused bytes (Err reads.Memory) h = tt
-refused bytes (Err (reads.Grammar place)) h = λ ds w s. err_ok place ds (sym h ∙ again bytes ds w s)
+refused bytes (Err (reads.Grammar place)) h = (λ ds w s. err_ok place ds (sym h ∙ again bytes ds w s), place_is bytes place h)

@@ -3,4 +3,5 @@ pub mod PartReaders
 pub mod ItemReaders
 pub mod SectionReaders
 pub mod Writable
+pub mod Stops
 pub mod Causes
