@@ -1,24 +1,24 @@
 -- What is spelled by a component is read again.
-use Rattle.std.proofs.Common.{◌≡◌, ℕ, zero, suc, ◌+◌, ◌-◌, ◌<◌, ◌≤◌, ◌^◌, Bool, true, false, cond, eqb, List, [], ◌∷◌, ◌++◌, length, drop, map, Option, Some, None, refl, sym, ap, ap₂, subst, ◌∙◌, append_assoc, arith, inl, inr, ◌⊎◌, ◌&&◌, nat_eq}
-use Rattle.std.specs.Prelude.{Result, Ok, Err, if◌then◌else◌}
-use Rattle.std.specs.List.{flat_map, starts_with, AllByRecursion}
+use Rattle.std.proofs.Common.{◌≡◌, ℕ, zero, suc, ◌+◌, ◌-◌, ◌<◌, ◌≤◌, ◌^◌, Bool, true, false, eqb, List, [], ◌∷◌, ◌++◌, length, map, Option, Some, refl, sym, ap, ap₂, subst, ◌∙◌, arith, ◌&&◌}
+use Rattle.std.specs.Prelude.{Ok, if◌then◌else◌}
+use Rattle.std.specs.List.{flat_map, AllByRecursion}
 use Rattle.std.proofs.lemmas.Bool.{eq-eqb, eqb-true, ne_eqb}
 use Rattle.std.proofs.lemmas.List.{append-nil, length-append}
-use Rattle.comp_bytes.specs.Spelling.{Spelling, Fits, ◌⊕◌, raw, octet, leb, quantity, each, listed, named, sized}
-use Rattle.comp_bytes.specs.Sections.{Entry, Section, shares, before, sections, first_id, section_of, contents, section, preamble, component}
+use Rattle.comp_bytes.specs.Spelling.{Spelling, Fits, ◌⊕◌, octet, leb, each, listed, sized}
+use Rattle.comp_bytes.specs.Sections.{Entry, Section, shares, before, sections, contents, section, component}
 use Rattle.comp_bytes.specs.Grammar.{item, definition, Spells}
 use Rattle.comp_bytes.specs.declared.def.Item.{Item}
 use Rattle.comp_bytes.specs.declared.def.Item.TheVariants as items
 use Rattle.comp_bytes.specs.declared.def.Def.{Def}
 use Rattle.comp_bytes.specs.declared.def.Def.TheVariants as defs
 use Rattle.comp_bytes.proofs.Runs.{section_is}
-use Rattle.comp_bytes.proofs.Groups.{IsGroup, group_section, Grouped, grouped}
-use Rattle.comp_read.specs.Reading.{◌>>=◌, byte_at, sized_at, number_at, name_at, items_at}
+use Rattle.comp_bytes.proofs.Groups.{IsGroup, group_section, grouped}
+use Rattle.comp_read.specs.Reading.{number_at, items_at}
 use Rattle.comp_read.specs.ItemReaders.{item_at, counted_at, custom_at, contents_at}
 use Rattle.comp_read.specs.SectionReaders.{Placed, ◌>>>◌, told_at, Contents, repeats, header_at, section_at, sections_at, component_at, item_contents_at, definition_contents_at}
 use Rattle.comp_read.specs.Writable.{IsItem, IsDefinition, IsWritable}
 use Rattle.comp_read.proofs.Exact.{fits_left, fits_right, number_again, sized_exact, name_exact, items_again}
-use Rattle.comp_read.proofs.ItemLaws.{IsOf, item_exact, Inside}
+use Rattle.comp_read.proofs.ItemLaws.{item_exact, Inside}
 use Rattle.comp_read.proofs.SectionLoop.{one_step, at_end}
 use Rattle.comp_read.proofs.SectionLaws.{Apart, wrap, wrapped_contents, wrapped_length}
 

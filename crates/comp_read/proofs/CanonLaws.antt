@@ -1,6 +1,6 @@
 -- Options of canonical functions and intrinsics are read exactly.
-use Rattle.std.proofs.Common.{◌≡◌, ℕ, Bool, true, false, cond, eqb, List, [], ◌∷◌, ◌++◌, Option, Some, None, refl, sym, ap, subst, ◌∙◌}
-use Rattle.comp_bytes.specs.Spelling.{Spelling, Fits, ◌⊕◌, raw, octet, number, listed}
+use Rattle.std.proofs.Common.{◌≡◌, ℕ, Bool, true, false, List, [], ◌∷◌, ◌++◌, Option, Some, refl}
+use Rattle.comp_bytes.specs.Spelling.{Spelling, Fits, ◌⊕◌, octet, number, listed}
 use Rattle.comp_bytes.specs.Grammar.{function_result, option_bytes, flag, context_byte, intrinsic_bytes}
 use Rattle.comp_bytes.specs.declared.types.ComponentValType.{ComponentValType}
 use Rattle.comp_bytes.specs.declared.canon.CanonicalOption.{CanonicalOption}
@@ -9,10 +9,10 @@ use Rattle.comp_bytes.specs.declared.canon.ContextType.{ContextType}
 use Rattle.comp_bytes.specs.declared.canon.ContextType.TheVariants as contexts
 use Rattle.comp_bytes.specs.declared.canon.Intrinsic.{Intrinsic}
 use Rattle.comp_bytes.specs.declared.canon.Intrinsic.TheVariants as intrinsics
-use Rattle.comp_read.specs.Reading.{◌>>=◌, Read, Reader, made_at, then_at, behind, tagged, byte_at, expect, number_at, list_at}
-use Rattle.comp_read.specs.PartReaders.{result_at, canonical_after, canonical_at, options_at, flag_after, flag_at, context_after, context_at, index_and_options_at, index_and_flag_at, slot_at, memory_at, waiting_after, future_after, stream_after, task_after, intrinsic_after}
+use Rattle.comp_read.specs.Reading.{then_at, tagged}
+use Rattle.comp_read.specs.PartReaders.{result_at, canonical_at, options_at, flag_at, context_at, index_and_options_at, index_and_flag_at, slot_at, memory_at, waiting_after, future_after, stream_after, task_after, intrinsic_after}
 use Rattle.comp_read.specs.Writable.{IsIndex, Optionally, Always, IsValueType, IsCanonicalOption, AreOptions, IsIntrinsic}
-use Rattle.comp_read.proofs.Exact.{IsExact, Took, fewer, made_again, made_fine, fine_case, fine_lone, then_exact, behind_exact, case, lone, number_exact, list_exact}
+use Rattle.comp_read.proofs.Exact.{IsExact, Took, fewer, made_again, fine_case, fine_lone, then_exact, behind_exact, case, lone, number_exact, list_exact}
 use Rattle.comp_read.proofs.ValueLaws.{result_exact}
 
 -- ---- options

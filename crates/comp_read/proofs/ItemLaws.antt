@@ -1,12 +1,11 @@
 -- The definitions of one section are read exactly.
-use Rattle.std.proofs.Common.{◌≡◌, ℕ, zero, suc, ◌+◌, ◌<◌, ◌^◌, Bool, true, false, cond, eqb, List, [], ◌∷◌, ◌++◌, length, Option, Some, None, refl, sym, ap, subst, ◌∙◌, append_assoc, arith, inl, inr, ◌⊎◌}
+use Rattle.std.proofs.Common.{◌≡◌, ℕ, zero, suc, ◌<◌, Bool, true, false, eqb, List, [], ◌∷◌, ◌++◌, length, Option, Some, refl, sym, ap, subst, ◌∙◌, arith, inl, inr}
 use Rattle.std.specs.List.{AllByRecursion}
-use Rattle.std.specs.Str.{IsUtf8}
-use Rattle.std.proofs.lemmas.Bool.{eqb-true, eqb-false, ne_eqb}
+use Rattle.std.proofs.lemmas.Bool.{eqb-true, eqb-false}
 use Rattle.std.proofs.lemmas.List.{append-nil, nil_from_length}
-use Rattle.comp_bytes.specs.Spelling.{Spelling, Fits, ◌⊕◌, raw, octet, leb, number, quantity, each, named, listed, optional}
+use Rattle.comp_bytes.specs.Spelling.{Spelling, Fits, ◌⊕◌, raw, octet, number, quantity, each, listed, optional}
 use Rattle.comp_bytes.specs.Sections.{Entry, shares, contents}
-use Rattle.comp_bytes.specs.Grammar.{kind_byte, sort_bytes, extern_name, description_bytes, option_bytes, core_argument, core_inline_export, argument, item}
+use Rattle.comp_bytes.specs.Grammar.{sort_bytes, extern_name, description_bytes, option_bytes, core_argument, core_inline_export, argument, item}
 use Rattle.comp_bytes.specs.declared.space.ExportKind.{ExportKind}
 use Rattle.comp_bytes.specs.declared.space.Sort.{Sort}
 use Rattle.comp_bytes.specs.declared.types.ExternName.{ExternName}
@@ -17,14 +16,14 @@ use Rattle.comp_bytes.specs.declared.def.CoreInlineExport.{CoreInlineExport}
 use Rattle.comp_bytes.specs.declared.def.Argument.{Argument}
 use Rattle.comp_bytes.specs.declared.def.Item.{Item}
 use Rattle.comp_bytes.specs.declared.def.Item.TheVariants as items
-use Rattle.comp_read.specs.Reading.{◌>>=◌, Read, Reader, made_at, then_at, behind, before_byte, tagged, byte_at, expect, number_at, name_at, items_at, list_at, option_at}
-use Rattle.comp_read.specs.PartReaders.{kind_at, sort_at, alias_at, primitive_after, small_type_after, defined_after, type_def_after, instance_type_at, options_at, index_and_options_at, waiting_after, future_after, stream_after, task_after, intrinsic_after, extern_name_at, description_at}
-use Rattle.comp_read.specs.ItemReaders.{core_argument_at, core_inline_export_at, argument_at, core_instance_after, core_instance_at, instance_at, type_item_after, type_item_at, lift_at, lower_at, canon_after, canon_at, import_at, export_at, item_at, counted_at, custom_at, contents_at}
-use Rattle.comp_read.specs.Writable.{IsIndex, Optionally, Always, AreOptions, IsExternName, IsDescription, IsCoreArgument, IsCoreInlineExport, IsArgument, IsItem}
-use Rattle.comp_read.proofs.Exact.{IsExact, Took, took_then, step, step_is, fewer, bind_some, some_is, none_some, chosen, guarded, made_again, made_exact, then_exact, expect_step, before_exact, tag_case, took_byte, First, first_of_tagged, other_byte, number_again, quantity_exact, number_exact, name_exact, items_takes, items_again, each_read, list_exact, option_exact}
+use Rattle.comp_read.specs.Reading.{Read, Reader, made_at, then_at, expect, number_at, name_at, items_at, list_at, option_at}
+use Rattle.comp_read.specs.PartReaders.{sort_at, primitive_after, small_type_after, defined_after, type_def_after, index_and_options_at, waiting_after, future_after, stream_after, task_after, intrinsic_after, extern_name_at, description_at}
+use Rattle.comp_read.specs.ItemReaders.{core_argument_at, core_inline_export_at, argument_at, core_instance_at, instance_at, type_item_at, lift_at, lower_at, canon_at, import_at, export_at, item_at, counted_at, custom_at, contents_at}
+use Rattle.comp_read.specs.Writable.{IsIndex, Optionally, AreOptions, IsExternName, IsDescription, IsCoreArgument, IsCoreInlineExport, IsArgument, IsItem}
+use Rattle.comp_read.proofs.Exact.{IsExact, Took, took_then, step, step_is, fewer, bind_some, some_is, none_some, chosen, guarded, made_again, made_exact, then_exact, expect_step, before_exact, tag_case, took_byte, first_of_tagged, other_byte, quantity_exact, number_exact, name_exact, items_takes, each_read, list_exact, option_exact}
 use Rattle.comp_read.proofs.ValueLaws.{kind_exact, sort_exact, extern_name_exact, description_exact, alias_exact}
 use Rattle.comp_read.proofs.TypeLaws.{type_exact, instance_type_exact}
-use Rattle.comp_read.proofs.CanonLaws.{options_exact, indexed_options, intrinsic_exact}
+use Rattle.comp_read.proofs.CanonLaws.{indexed_options, intrinsic_exact}
 
 -- ---- parts
 

@@ -1,14 +1,13 @@
 -- Reading section after section, as a loop does.
-use Rattle.std.proofs.Common.{◌≡◌, ℕ, zero, suc, ◌+◌, ◌-◌, ◌<◌, ◌≤◌, Bool, true, false, cond, eqb, List, [], ◌∷◌, ◌++◌, length, Option, Some, None, refl, sym, ap, subst, ◌∙◌, append_assoc, arith}
-use Rattle.std.specs.Prelude.{Result, Ok, Err}
+use Rattle.std.proofs.Common.{◌≡◌, ℕ, zero, suc, ◌+◌, ◌-◌, ◌<◌, ◌≤◌, false, eqb, List, [], ◌∷◌, ◌++◌, length, Option, Some, None, refl, sym, ap, subst, ◌∙◌, append_assoc, arith}
+use Rattle.std.specs.Prelude.{Ok, Err}
 use Rattle.std.proofs.lemmas.Bool.{eq-eqb, ne_eqb}
 use Rattle.std.proofs.lemmas.List.{append-nil, length-append}
 use Rattle.comp_read.specs.declared.fault.ReadFault.{ReadFault}
 use Rattle.comp_read.specs.declared.fault.ReadFault.TheVariants as reads
-use Rattle.comp_bytes.specs.Spelling.{◌⊕◌, raw, octet, quantity, named, leb}
-use Rattle.comp_read.specs.Reading.{◌>>=◌, byte_at, sized_at}
+use Rattle.comp_bytes.specs.Spelling.{◌⊕◌, octet, named, leb}
 use Rattle.comp_read.specs.SectionReaders.{Placed, ◌>>>◌, told_at, FailsAt, Contents, repeats, header_at, section_at, sections_at}
-use Rattle.comp_read.proofs.Exact.{Took, step, some_is, bind_some, guarded_not, sized_exact}
+use Rattle.comp_read.proofs.Exact.{Took, step, some_is, guarded_not, sized_exact}
 
 pub ok_is : {A : Type 0} (x y : A) → ◌≡◌ {A = Placed A} (Ok x) (Ok y) → x ≡ y
 ok_is x y e = cc

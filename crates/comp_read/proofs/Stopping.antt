@@ -1,22 +1,22 @@
 -- Where reading stops.
-use Rattle.std.proofs.Common.{◌≡◌, ℕ, zero, suc, ◌+◌, ◌-◌, ◌<◌, ◌≤◌, ◌^◌, Bool, true, false, cond, eqb, List, [], ◌∷◌, ◌++◌, length, drop, map, Option, Some, None, refl, sym, ap, ap₂, subst, ◌∙◌, append_assoc, arith, inl, inr, ◌⊎◌, ◌&&◌, nat_eq}
-use Rattle.std.specs.Prelude.{Result, Ok, Err, if◌then◌else◌}
-use Rattle.std.specs.List.{flat_map, starts_with, AllByRecursion}
+use Rattle.std.proofs.Common.{◌≡◌, ℕ, zero, suc, ◌+◌, ◌-◌, ◌≤◌, Bool, true, false, cond, eqb, List, [], ◌∷◌, ◌++◌, length, drop, map, Option, Some, None, refl, sym, ap, subst, ◌∙◌, append_assoc, arith, inl, inr, nat_eq}
+use Rattle.std.specs.Prelude.{Ok, Err}
+use Rattle.std.specs.List.{starts_with, AllByRecursion}
 use Rattle.std.proofs.lemmas.Bool.{eqb-true, eqb-false, eq-eqb}
-use Rattle.std.proofs.lemmas.List.{append-nil, length-append}
-use Rattle.comp_bytes.specs.Spelling.{Spelling, Fits, ◌⊕◌, raw, octet, leb, each, named, sized}
-use Rattle.comp_bytes.specs.Sections.{Entry, Section, shares, sections, contents, section, section_of, preamble, component}
+use Rattle.std.proofs.lemmas.List.{length-append}
+use Rattle.comp_bytes.specs.Spelling.{Spelling, Fits, leb, each, named}
+use Rattle.comp_bytes.specs.Sections.{Entry, Section, sections, section, preamble, component}
 use Rattle.comp_bytes.specs.Grammar.{item, definition}
 use Rattle.comp_bytes.specs.declared.def.Item.{Item}
 use Rattle.comp_bytes.specs.declared.def.Def.{Def}
 use Rattle.comp_bytes.specs.declared.def.Def.TheVariants as defs
 use Rattle.comp_bytes.proofs.Runs.{section_is}
-use Rattle.comp_bytes.proofs.Groups.{IsGroup, group_section, Grouped, grouped}
+use Rattle.comp_bytes.proofs.Groups.{IsGroup, group_section, grouped}
 use Rattle.comp_read.specs.ItemReaders.{contents_at}
-use Rattle.comp_read.specs.SectionReaders.{Placed, ◌>>>◌, told_at, Contents, repeats, header_at, section_at, sections_at, component_at, item_contents_at, definition_contents_at}
-use Rattle.comp_read.specs.Stops.{Longest, Nested, Innermost, StopsBehind, IsPlace}
+use Rattle.comp_read.specs.SectionReaders.{Placed, ◌>>>◌, told_at, Contents, header_at, section_at, sections_at, component_at, item_contents_at, definition_contents_at}
+use Rattle.comp_read.specs.Stops.{Longest, Nested, Innermost, IsPlace}
 use Rattle.comp_read.specs.Writable.{IsItem, IsDefinition}
-use Rattle.comp_read.proofs.Exact.{Took, took_then, chosen, some_is, none_some, fits_left, fits_right}
+use Rattle.comp_read.proofs.Exact.{chosen, some_is, none_some, fits_left, fits_right}
 use Rattle.comp_read.proofs.SectionLoop.{ok_is, err_ok, header_takes, section_shorter}
 use Rattle.comp_read.proofs.SectionLaws.{Apart, ReadsInside, SpelledAs, section_takes, preamble_parts, and_false, items_inside, definitions_inside}
 use Rattle.comp_read.proofs.Again.{Links, ReadsAgain, sections_link, first_apart, all_left, all_right, header_again, section_again, groups_text, joined, group_contents, group_text, inside_of, items_again_in, definitions_again}
@@ -140,7 +140,7 @@ stops {A} f W at inside reads (suc most) place last bytes p enough e =
     elim (chosen (eqb (length bytes) 0) (Ok []) _ (Err p) e) [
       | inl w ↦ absurd (err_ok p [] (sym w.1))
       | inr w ↦ stops_by f W at inside reads most place last bytes p (section_at at place last bytes) refl w.1
-      (λ id xs after h g. stops f W at inside reads most (place + (length bytes - length after)) id after p (omega (arith, enough, section_shorter at place last bytes id xs after h)) g)
+          (λ id xs after h g. stops f W at inside reads most (place + (length bytes - length after)) id after p (omega (arith, enough, section_shorter at place last bytes id xs after h)) g)
     ]
 
 -- ---- a component
@@ -243,9 +243,9 @@ in_component end start next bytes p inner more is start-is e =
           inr (inner, s.end, n, s.longest, place)
       | inr w ↦
           let not_nested : (other : List ℕ) → Nested bytes other → ⊥ = λ other n.
-              let same = some_is (4, inner, more) (4, other, n.more) (sym is ∙ nested_header next bytes other n) in
-              let inner_is : inner ≡ other = ap (λ (t : ℕ × List ℕ × List ℕ). t.1) same in
-              true_false (sym n.begins ∙ ap (λ (l : List ℕ). starts_with nat_eq l preamble) (sym inner_is) ∙ w.0) in
+          let same = some_is (4, inner, more) (4, other, n.more) (sym is ∙ nested_header next bytes other n) in
+          let inner_is : inner ≡ other = ap (λ (t : ℕ × List ℕ × List ℕ). t.1) same in
+          true_false (sym n.begins ∙ ap (λ (l : List ℕ). starts_with nat_eq l preamble) (sym inner_is) ∙ w.0) in
           inl (not_nested, sym (err_is {A = List Item} end p w.1))
     ]
 
@@ -259,8 +259,8 @@ innermost_of end start next bytes p id inner more is start-is false four e =
     let make : List Item → List Def = map (λ i. defs.Item i) in
     let read : (told_at end (contents_at id inner) >>> λ found. Ok (make found)) ≡ Err p = by_else (eqb id 4) _ _ (Err p) four e in
     let not_nested : (other : List ℕ) → Nested bytes other → ⊥ = λ other n.
-        let same = some_is (id, inner, more) (4, other, n.more) (sym is ∙ nested_header next bytes other n) in
-        true_false (sym (eq-eqb id 4 (ap (λ (t : ℕ × List ℕ × List ℕ). t.0) same)) ∙ four) in
+    let same = some_is (id, inner, more) (4, other, n.more) (sym is ∙ nested_header next bytes other n) in
+    true_false (sym (eq-eqb id 4 (ap (λ (t : ℕ × List ℕ × List ℕ). t.0) same)) ∙ four) in
     inl (not_nested, told_err end (contents_at id inner) make p read)
 
 innermost_by : (end next : ℕ) (bytes : List ℕ) (p : ℕ) (h : Option (ℕ × List ℕ × List ℕ)) → header_at next bytes ≡ h → ◌>>>◌ {B = ℕ × List Def × List ℕ} (told_at end h) (λ h. ◌>>>◌ {B = ℕ × List Def × List ℕ} (definition_contents_at h.0 end (end + (length bytes - length h.2 - length h.1)) h.1) (λ found. Ok (h.0, found, h.2))) ≡ Err p → Innermost bytes end p

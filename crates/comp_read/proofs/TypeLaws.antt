@@ -1,9 +1,9 @@
 -- Types are read exactly.
-use Rattle.std.proofs.Common.{◌≡◌, ℕ, Bool, true, false, cond, eqb, List, [], ◌∷◌, ◌++◌, Option, Some, None, refl, sym, ap, subst, ◌∙◌}
+use Rattle.std.proofs.Common.{◌≡◌, ℕ, Bool, true, false, eqb, List, [], ◌∷◌, ◌++◌, Option, Some, None, refl, ap, subst, ◌∙◌}
 use Rattle.std.specs.Prelude.{if◌then◌else◌}
 use Rattle.std.specs.List.{AllByRecursion}
-use Rattle.comp_bytes.specs.Spelling.{Spelling, Fits, ◌⊕◌, raw, octet, number, named, listed, optional}
-use Rattle.comp_bytes.specs.Grammar.{primitive_byte, value_type, field, case_of, defined_type, function_result, function_type, type_def, extern_name, description_bytes, alias_bytes, member, instance_type}
+use Rattle.comp_bytes.specs.Spelling.{Spelling, Fits, ◌⊕◌, octet, listed, optional}
+use Rattle.comp_bytes.specs.Grammar.{primitive_byte, value_type, field, defined_type, function_result, function_type, type_def, member}
 use Rattle.comp_bytes.specs.declared.types.Primitive.{Primitive}
 use Rattle.comp_bytes.specs.declared.types.Primitive.TheVariants as primitives
 use Rattle.comp_bytes.specs.declared.types.ComponentValType.{ComponentValType}
@@ -16,10 +16,10 @@ use Rattle.comp_bytes.specs.declared.types.TypeDef.TheVariants as types
 use Rattle.comp_bytes.specs.declared.types.Member.{Member}
 use Rattle.comp_bytes.specs.declared.types.Member.TheVariants as members
 use Rattle.comp_bytes.specs.declared.types.InstanceType.{InstanceType}
-use Rattle.comp_read.specs.Reading.{◌>>=◌, Read, Reader, made_at, then_at, behind, tagged, byte_at, expect, number_at, list_at, option_at}
-use Rattle.comp_read.specs.PartReaders.{primitive_of, primitive_after, value_type_at, field_at, result_at, result_type_at, small_type_after, defined_after, func_type_at, type_def_after, member_after, member_at, instance_type_at}
-use Rattle.comp_read.specs.Writable.{IsIndex, Optionally, Always, IsValueType, IsField, IsDefinedType, IsFuncType, IsTypeDef, IsMember, IsInstanceType}
-use Rattle.comp_read.proofs.Exact.{IsExact, Took, took_then, step, some_is, made_takes, made_again, bind_some, bind_fine, made_fine, fine_case, fine_lone, made_exact, then_exact, expect_step, behind_exact, case, lone, tag_case, took_byte, after_takes, First, first_of_tagged, other_byte, number_exact, name_exact, list_exact, option_exact}
+use Rattle.comp_read.specs.Reading.{◌>>=◌, Read, Reader, made_at, then_at, behind, tagged, expect, number_at, option_at}
+use Rattle.comp_read.specs.PartReaders.{primitive_after, value_type_at, result_type_at, small_type_after, defined_after, func_type_at, type_def_after, member_at, instance_type_at}
+use Rattle.comp_read.specs.Writable.{Optionally, IsValueType, IsField, IsDefinedType, IsFuncType, IsTypeDef, IsMember, IsInstanceType}
+use Rattle.comp_read.proofs.Exact.{IsExact, Took, took_then, some_is, made_takes, made_again, bind_fine, made_fine, fine_case, made_exact, then_exact, expect_step, case, tag_case, took_byte, after_takes, first_of_tagged, other_byte, number_exact, name_exact, list_exact, option_exact}
 use Rattle.comp_read.proofs.ValueLaws.{primitive_exact, value_type_exact, field_exact, case_exact, result_exact, extern_name_exact, description_exact, alias_exact}
 
 -- ---- types of values

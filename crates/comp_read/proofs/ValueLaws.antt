@@ -1,8 +1,8 @@
 -- Sorts, value types, names, descriptions and aliases are read exactly.
-use Rattle.std.proofs.Common.{◌≡◌, ℕ, ◌+◌, ◌/◌, ◌%◌, ◌<◌, ◌≤◌, Bool, true, false, cond, ltb, eqb, List, [], ◌∷◌, ◌++◌, Option, Some, None, refl, sym, ap, subst, ◌∙◌, arith, inl, inr, ◌⊎◌}
+use Rattle.std.proofs.Common.{◌≡◌, ℕ, ◌+◌, ◌/◌, ◌%◌, ◌<◌, ◌≤◌, true, false, cond, ltb, eqb, List, [], ◌∷◌, ◌++◌, Option, Some, None, refl, sym, ap, subst, ◌∙◌, arith, inl, inr, ◌⊎◌}
 use Rattle.std.specs.Str.{IsUtf8}
 use Rattle.std.proofs.lemmas.Bool.{cases_lt, lt-ltb, le-ltb, eqb-true}
-use Rattle.comp_bytes.specs.Spelling.{Spelling, Fits, ◌⊕◌, raw, octet, groups_of_seven, leb128, signed_leb, number, named, listed, optional}
+use Rattle.comp_bytes.specs.Spelling.{Spelling, Fits, ◌⊕◌, octet, groups_of_seven, leb128, signed_leb, number, named}
 use Rattle.comp_bytes.specs.Grammar.{kind_byte, export_byte, sort_bytes, primitive_byte, value_type, field, case_of, function_result, extern_name, description_bytes, alias_bytes}
 use Rattle.comp_bytes.specs.declared.space.ExportKind.{ExportKind}
 use Rattle.comp_bytes.specs.declared.space.ExportKind.TheVariants as kinds
@@ -21,10 +21,10 @@ use Rattle.comp_bytes.specs.declared.types.Description.{Description}
 use Rattle.comp_bytes.specs.declared.types.Description.TheVariants as descriptions
 use Rattle.comp_bytes.specs.declared.types.Alias.{Alias}
 use Rattle.comp_bytes.specs.declared.types.Alias.TheVariants as aliases
-use Rattle.comp_read.specs.Reading.{◌>>=◌, Read, Reader, made_at, then_at, behind, before_byte, tagged, byte_at, expect, number_at, type_index_at, name_at, option_at}
-use Rattle.comp_read.specs.PartReaders.{kind_after, kind_at, sort_after, sort_at, primitive_of, primitive_after, primitive_or, value_type_at, field_at, case_at, result_after, result_at, extern_name_after, extern_name_at, type_bound_after, type_bound_at, description_after, description_at, core_alias_at, export_alias_at, outer_alias_at, type_alias_after, type_alias_at, alias_after, alias_at}
+use Rattle.comp_read.specs.Reading.{Read, then_at, behind, before_byte, tagged, expect, number_at, type_index_at, name_at}
+use Rattle.comp_read.specs.PartReaders.{kind_at, sort_at, primitive_of, primitive_after, primitive_or, value_type_at, field_at, case_at, result_at, extern_name_at, type_bound_at, description_at, core_alias_at, export_alias_at, outer_alias_at, type_alias_at, alias_at}
 use Rattle.comp_read.specs.Writable.{IsIndex, Optionally, Always, IsValueType, IsField, IsCase, IsExternName, IsDescription, IsAlias}
-use Rattle.comp_read.proofs.Exact.{IsExact, Took, took_then, step, fewer, bind_some, some_is, none_some, chosen, made_takes, made_again, made_fine, fine_case, fine_lone, made_exact, then_exact, expect_step, expect_again, behind_exact, before_exact, case, lone, other, tag_case, took_byte, after_takes, just_took, number_exact, type_index_exact, name_exact, option_exact}
+use Rattle.comp_read.proofs.Exact.{IsExact, Took, took_then, bind_some, some_is, chosen, made_takes, made_again, made_fine, fine_case, fine_lone, made_exact, then_exact, expect_step, expect_again, before_exact, case, lone, other, tag_case, took_byte, after_takes, just_took, number_exact, type_index_exact, name_exact, option_exact}
 
 -- ---- sorts
 

@@ -1,9 +1,9 @@
 -- What the reader answers.
-use Rattle.std.proofs.Common.{◌≡◌, ℕ, List, sym, ◌∙◌}
+use Rattle.std.proofs.Common.{ℕ, List, sym, ◌∙◌}
 use Rattle.std.specs.Prelude.{Result, Ok, Err, IfOk, IfErr}
 use Rattle.comp_bytes.specs.Grammar.{Spells}
 use Rattle.comp_bytes.specs.declared.def.Def.{Def}
-use Rattle.comp_read.specs.Causes.{SpellsNone, IsRefusal}
+use Rattle.comp_read.specs.Causes.{IsRefusal}
 use Rattle.comp_read.specs.declared.fault.ReadFault.{ReadFault}
 use Rattle.comp_read.specs.declared.fault.ReadFault.TheVariants as reads
 use Rattle.comp_read.specs.SectionReaders.{GivesAt, component_at, definition_contents_at}

@@ -6,8 +6,8 @@ use Rattle.comp_bytes.specs.declared.def.CoreInlineExport.{CoreInlineExport}
 use Rattle.comp_bytes.specs.declared.def.Argument.{Argument}
 use Rattle.comp_bytes.specs.declared.def.Item.{Item}
 use Rattle.comp_bytes.specs.declared.def.Item.TheVariants as items
-use Rattle.comp_read.specs.Reading.{◌>>=◌, Reader, made_at, then_at, behind, before_byte, tagged, byte_at, expect, number_at, name_at, items_at, list_at, option_at}
-use Rattle.comp_read.specs.PartReaders.{kind_at, sort_at, alias_at, type_def_after, instance_type_at, options_at, index_and_options_at, intrinsic_after, extern_name_at, description_at}
+use Rattle.comp_read.specs.Reading.{◌>>=◌, Reader, made_at, then_at, behind, before_byte, tagged, number_at, name_at, items_at, list_at, option_at}
+use Rattle.comp_read.specs.PartReaders.{kind_at, sort_at, alias_at, type_def_after, instance_type_at, index_and_options_at, intrinsic_after, extern_name_at, description_at}
 
 unfoldable pub core_argument_at : Reader CoreArgument
 core_argument_at bytes = made_at (λ p. record { name = p.0; instance = p.1 }) (then_at (before_byte name_at 0x12) number_at) bytes

@@ -1,6 +1,6 @@
 -- Reading values from the front of bytes: numbers, names, lists and options, one after another or by a first byte.
 -- Core standard, binary format: values (LEB128, names, vectors). Component model, binary format: `<T>?`.
-use Rattle.std.specs.Prelude.{◌≡◌, ℕ, zero, suc, ◌+◌, ◌-◌, ◌*◌, ◌^◌, ◌==◌, ◌&&◌, ◌||◌, not, Bool, nat_lt, if◌then◌else◌, List, [], ◌∷◌, length, take, drop, Option, Some, None, Result, Ok, Err}
+use Rattle.std.specs.Prelude.{◌≡◌, ℕ, zero, suc, ◌+◌, ◌-◌, ◌*◌, ◌^◌, ◌==◌, ◌&&◌, ◌||◌, not, nat_lt, if◌then◌else◌, List, [], ◌∷◌, length, take, drop, Option, Some, None, Result, Ok, Err}
 use Rattle.std.specs.Str.{is_utf8}
 use Rattle.comp_read.specs.declared.fault.PartFault.{PartFault}
 use Rattle.comp_read.specs.declared.fault.PartFault.TheVariants as faults

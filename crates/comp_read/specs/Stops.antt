@@ -5,8 +5,6 @@ use Rattle.std.specs.List.{AllByRecursion, starts_with}
 use Rattle.comp_bytes.specs.Spelling.{Fits, leb, named}
 use Rattle.comp_bytes.specs.Sections.{Entry, preamble, component}
 use Rattle.comp_bytes.specs.Grammar.{item, definition}
-use Rattle.comp_bytes.specs.declared.def.Item.{Item}
-use Rattle.comp_bytes.specs.declared.def.Def.{Def}
 use Rattle.comp_read.specs.Writable.{IsItem, IsDefinition}
 
 -- The longest beginning of the bytes that is a component, of definitions that a program can hold, ends here.

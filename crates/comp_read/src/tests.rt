@@ -74,7 +74,7 @@ fn example(rt: HostRuntime) -> Result<(), Fail> {
 }
 
 #[test]
-fn example_end(rt: HostRuntime) -> Result<(), Fail> {
+fn example_instances(rt: HostRuntime) -> Result<(), Fail> {
     let defs = read_component(rt.alloc(), &EXAMPLE)?;
     let defs = defs.as_slice();
     assert_eq!(rt; defs.len(), 10);
@@ -102,6 +102,14 @@ fn example_end(rt: HostRuntime) -> Result<(), Fail> {
         }
         _ => assert!(rt; false),
     }
+    Ok(())
+}
+
+#[test]
+fn example_names(rt: HostRuntime) -> Result<(), Fail> {
+    let defs = read_component(rt.alloc(), &EXAMPLE)?;
+    let defs = defs.as_slice();
+    assert_eq!(rt; defs.len(), 10);
     match &defs[8] {
         Def::Item(
             Item::Export {

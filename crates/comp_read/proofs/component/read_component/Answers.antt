@@ -1,4 +1,3 @@
-use Rattle.std.proofs.Common.{◌≡◌, List}
 use Rattle.comp_read.proofs.Whole.{found, refused}
 use Rattle.comp_read.proofs.component.read_component.Goals as goal
 

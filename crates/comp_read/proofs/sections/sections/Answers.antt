@@ -1,4 +1,4 @@
-use Rattle.std.proofs.Common.{◌≡◌, ℕ, ◌+◌, ◌-◌, List, ◌++◌, length, sym, subst, arith}
+use Rattle.std.proofs.Common.{◌+◌, ◌-◌, length, sym, arith}
 use Rattle.std.proofs.lemmas.Bool.{eqb-true, eqb-false}
 use Rattle.std.proofs.lemmas.Result.{err_from_is_err_and}
 use Rattle.comp_read.proofs.SectionLoop.{section_shorter, goes_on, ends, fails}
