@@ -1,0 +1,12 @@
+pub mod Loop
+pub mod Utf8
+pub mod Exact
+pub mod ValueLaws
+pub mod TypeLaws
+pub mod CanonLaws
+pub mod SectionLoop
+pub mod ItemLaws
+pub mod SectionLaws
+pub mod Whole
+pub mod Again
+pub mod Stopping

@@ -1,0 +1,316 @@
+-- Reading types, names, aliases and canonical functions from the front of bytes.
+-- Component model, binary format: `sort`, `deftype`, `alias`, `externdesc`, `importname'`, `canonopt`, `canon`.
+use Rattle.std.specs.Prelude.{ℕ, ◌==◌, Bool, true, false, if◌then◌else◌, List, Option, Some, None}
+use Rattle.comp_bytes.specs.declared.space.ExportKind.{ExportKind}
+use Rattle.comp_bytes.specs.declared.space.ExportKind.TheVariants as kinds
+use Rattle.comp_bytes.specs.declared.space.ComponentExportKind.{ComponentExportKind}
+use Rattle.comp_bytes.specs.declared.space.ComponentExportKind.TheVariants as exports
+use Rattle.comp_bytes.specs.declared.space.Sort.{Sort}
+use Rattle.comp_bytes.specs.declared.space.Sort.TheVariants as sorts
+use Rattle.comp_bytes.specs.declared.types.Primitive.{Primitive}
+use Rattle.comp_bytes.specs.declared.types.Primitive.TheVariants as primitives
+use Rattle.comp_bytes.specs.declared.types.ComponentValType.{ComponentValType}
+use Rattle.comp_bytes.specs.declared.types.ComponentValType.TheVariants as values
+use Rattle.comp_bytes.specs.declared.types.Field.{Field}
+use Rattle.comp_bytes.specs.declared.types.Case.{Case}
+use Rattle.comp_bytes.specs.declared.types.DefinedType.{DefinedType}
+use Rattle.comp_bytes.specs.declared.types.DefinedType.TheVariants as defined
+use Rattle.comp_bytes.specs.declared.types.FuncTypeDef.{FuncTypeDef}
+use Rattle.comp_bytes.specs.declared.types.TypeDef.{TypeDef}
+use Rattle.comp_bytes.specs.declared.types.TypeDef.TheVariants as types
+use Rattle.comp_bytes.specs.declared.types.ExternName.{ExternName}
+use Rattle.comp_bytes.specs.declared.types.Description.{Description}
+use Rattle.comp_bytes.specs.declared.types.Description.TheVariants as descriptions
+use Rattle.comp_bytes.specs.declared.types.Alias.{Alias}
+use Rattle.comp_bytes.specs.declared.types.Alias.TheVariants as aliases
+use Rattle.comp_bytes.specs.declared.types.Member.{Member}
+use Rattle.comp_bytes.specs.declared.types.Member.TheVariants as members
+use Rattle.comp_bytes.specs.declared.types.InstanceType.{InstanceType}
+use Rattle.comp_bytes.specs.declared.canon.CanonicalOption.{CanonicalOption}
+use Rattle.comp_bytes.specs.declared.canon.CanonicalOption.TheVariants as canonical
+use Rattle.comp_bytes.specs.declared.canon.ContextType.{ContextType}
+use Rattle.comp_bytes.specs.declared.canon.ContextType.TheVariants as contexts
+use Rattle.comp_bytes.specs.declared.canon.Intrinsic.{Intrinsic}
+use Rattle.comp_bytes.specs.declared.canon.Intrinsic.TheVariants as intrinsics
+use Rattle.comp_read.specs.Reading.{◌>>=◌, Read, Reader, made_at, then_at, behind, before_byte, tagged, byte_at, expect, number_at, type_index_at, name_at, list_at, option_at}
+
+-- ---- sorts
+
+abbrev pub kind_after : ℕ → Reader ExportKind
+kind_after b bytes =
+    if b == 0x00 then Some (kinds.Func, bytes)
+    else (if b == 0x01 then Some (kinds.Table, bytes)
+    else (if b == 0x02 then Some (kinds.Memory, bytes)
+    else (if b == 0x03 then Some (kinds.Global, bytes)
+    else None)))
+
+unfoldable pub kind_at : Reader ExportKind
+kind_at bytes = tagged kind_after bytes
+
+abbrev pub sort_after : ℕ → Reader Sort
+sort_after b bytes =
+    if b == 0x00 then made_at (λ k. sorts.Core k) kind_at bytes
+    else (if b == 0x01 then Some (sorts.Func, bytes)
+    else (if b == 0x03 then Some (sorts.Type, bytes)
+    else (if b == 0x04 then Some (sorts.Component, bytes)
+    else (if b == 0x05 then Some (sorts.Instance, bytes)
+    else None))))
+
+unfoldable pub sort_at : Reader Sort
+sort_at bytes = tagged sort_after bytes
+
+-- ---- value types
+
+abbrev pub primitive_of : ℕ → Option Primitive
+primitive_of b =
+    if b == 0x7f then Some primitives.Bool
+    else (if b == 0x7e then Some primitives.S8
+    else (if b == 0x7d then Some primitives.U8
+    else (if b == 0x7c then Some primitives.S16
+    else (if b == 0x7b then Some primitives.U16
+    else (if b == 0x7a then Some primitives.S32
+    else (if b == 0x79 then Some primitives.U32
+    else (if b == 0x78 then Some primitives.S64
+    else (if b == 0x77 then Some primitives.U64
+    else (if b == 0x76 then Some primitives.F32
+    else (if b == 0x75 then Some primitives.F64
+    else (if b == 0x74 then Some primitives.Char
+    else (if b == 0x73 then Some primitives.String
+    else (if b == 0x64 then Some primitives.ErrorContext
+    else None)))))))))))))
+
+unfoldable pub primitive_after : ℕ → Reader Primitive
+primitive_after b bytes = primitive_of b >>= λ p. Some (p, bytes)
+
+-- a type index stands where no primitive type does
+abbrev pub primitive_or : Read Primitive → Read ℕ → Read ComponentValType
+primitive_or (Some p) index = Some (values.Primitive p.0, p.1)
+primitive_or None index = index >>= λ n. Some (values.Defined n.0, n.1)
+
+unfoldable pub value_type_at : Reader ComponentValType
+value_type_at bytes = byte_at bytes >>= λ b. primitive_or (primitive_after b.0 b.1) (type_index_at bytes)
+
+unfoldable pub field_at : Reader Field
+field_at bytes = made_at (λ p. record { name = p.0; ty = p.1 }) (then_at name_at value_type_at) bytes
+
+unfoldable pub case_at : Reader Case
+case_at bytes = made_at (λ p. record { name = p.0; ty = p.1 }) (before_byte (then_at name_at (option_at value_type_at)) 0x00) bytes
+
+abbrev pub result_after : ℕ → Reader (Option ComponentValType)
+result_after b bytes =
+    if b == 0x00 then made_at (λ t. Some t) value_type_at bytes
+    else (if b == 0x01 then (expect 0x00 bytes >>= λ rest. Some (None, rest))
+    else None)
+
+-- resultlist
+unfoldable pub result_at : Reader (Option ComponentValType)
+result_at bytes = tagged result_after bytes
+
+-- ---- types
+
+unfoldable pub result_type_at : Reader DefinedType
+result_type_at bytes = made_at (λ p. defined.Result p.0 p.1) (then_at (option_at value_type_at) (option_at value_type_at)) bytes
+
+unfoldable pub small_type_after : ℕ → Reader DefinedType
+small_type_after b bytes =
+    if b == 0x70 then made_at (λ t. defined.List t) value_type_at bytes
+    else (if b == 0x6b then made_at (λ t. defined.Option t) value_type_at bytes
+    else (if b == 0x6a then result_type_at bytes
+    else (if b == 0x69 then made_at (λ n. defined.Own n) number_at bytes
+    else (if b == 0x68 then made_at (λ n. defined.Borrow n) number_at bytes
+    else (if b == 0x66 then made_at (λ t. defined.Stream t) (option_at value_type_at) bytes
+    else (if b == 0x65 then made_at (λ t. defined.Future t) (option_at value_type_at) bytes
+    else made_at (λ p. defined.Primitive p) (primitive_after b) bytes))))))
+
+unfoldable pub defined_after : ℕ → Reader DefinedType
+defined_after b bytes =
+    if b == 0x72 then made_at (λ fields. defined.Record fields) (list_at field_at) bytes
+    else (if b == 0x71 then made_at (λ cases. defined.Variant cases) (list_at case_at) bytes
+    else (if b == 0x6f then made_at (λ types. defined.Tuple types) (list_at value_type_at) bytes
+    else (if b == 0x6e then made_at (λ names. defined.Flags names) (list_at name_at) bytes
+    else (if b == 0x6d then made_at (λ names. defined.Enum names) (list_at name_at) bytes
+    else small_type_after b bytes))))
+
+unfoldable pub func_type_at : Bool → Reader FuncTypeDef
+func_type_at is_async bytes = made_at (λ p. record { async_ = is_async; params = p.0; result = p.1 }) (then_at (list_at field_at) result_at) bytes
+
+unfoldable pub type_def_after : ℕ → Reader TypeDef
+type_def_after b bytes =
+    if b == 0x40 then made_at (λ f. types.Func f) (func_type_at false) bytes
+    else (if b == 0x43 then made_at (λ f. types.Func f) (func_type_at true) bytes
+    else (if b == 0x3f then behind 0x7f (made_at (λ destructor. types.Resource destructor) (option_at number_at)) bytes
+    else made_at (λ t. types.Defined t) (defined_after b) bytes))
+
+-- ---- names, descriptions, aliases, members
+
+abbrev pub extern_name_after : ℕ → Reader ExternName
+extern_name_after b bytes =
+    if b == 0x00 then made_at (λ name. record { name = name; version_suffix = None }) name_at bytes
+    else (if b == 0x01 then made_at (λ p. record { name = p.0; version_suffix = Some p.1 }) (then_at name_at name_at) bytes
+    else None)
+
+unfoldable pub extern_name_at : Reader ExternName
+extern_name_at bytes = tagged extern_name_after bytes
+
+abbrev pub type_bound_after : ℕ → Reader Description
+type_bound_after b bytes =
+    if b == 0x00 then made_at (λ n. descriptions.TypeEqual n) number_at bytes
+    else (if b == 0x01 then Some (descriptions.SubResource, bytes)
+    else None)
+
+unfoldable pub type_bound_at : Reader Description
+type_bound_at bytes = tagged type_bound_after bytes
+
+abbrev pub description_after : ℕ → Reader Description
+description_after b bytes =
+    if b == 0x01 then made_at (λ n. descriptions.Func n) number_at bytes
+    else (if b == 0x03 then type_bound_at bytes
+    else (if b == 0x05 then made_at (λ n. descriptions.Instance n) number_at bytes
+    else None))
+
+unfoldable pub description_at : Reader Description
+description_at bytes = tagged description_after bytes
+
+-- an alias of a core export, behind the byte of core sorts
+unfoldable pub core_alias_at : Reader Alias
+core_alias_at bytes = made_at (λ p. aliases.CoreExport p.0.0 p.0.1 p.1) (then_at (then_at (before_byte kind_at 0x01) number_at) name_at) bytes
+
+unfoldable pub export_alias_at : ComponentExportKind → Reader Alias
+export_alias_at kind bytes = made_at (λ p. aliases.Export kind p.0 p.1) (then_at number_at name_at) bytes
+
+unfoldable pub outer_alias_at : Reader Alias
+outer_alias_at bytes = made_at (λ p. aliases.Outer p.0 p.1) (then_at number_at number_at) bytes
+
+-- an alias of a type, which is an export or stands further out
+abbrev pub type_alias_after : ℕ → Reader Alias
+type_alias_after b bytes =
+    if b == 0x00 then export_alias_at exports.Type bytes
+    else (if b == 0x02 then outer_alias_at bytes
+    else None)
+
+unfoldable pub type_alias_at : Reader Alias
+type_alias_at bytes = tagged type_alias_after bytes
+
+abbrev pub alias_after : ℕ → Reader Alias
+alias_after b bytes =
+    if b == 0x00 then core_alias_at bytes
+    else (if b == 0x01 then behind 0x00 (export_alias_at exports.Func) bytes
+    else (if b == 0x03 then type_alias_at bytes
+    else (if b == 0x04 then behind 0x00 (export_alias_at exports.Component) bytes
+    else (if b == 0x05 then behind 0x00 (export_alias_at exports.Instance) bytes
+    else None))))
+
+unfoldable pub alias_at : Reader Alias
+alias_at bytes = tagged alias_after bytes
+
+abbrev pub member_after : ℕ → Reader Member
+member_after b bytes =
+    if b == 0x01 then made_at (λ t. members.Type t) (tagged type_def_after) bytes
+    else (if b == 0x02 then made_at (λ a. members.Alias a) alias_at bytes
+    else (if b == 0x04 then made_at (λ p. members.Export p.0 p.1) (then_at extern_name_at description_at) bytes
+    else None))
+
+unfoldable pub member_at : Reader Member
+member_at bytes = tagged member_after bytes
+
+-- an instance type, behind its byte
+unfoldable pub instance_type_at : Reader InstanceType
+instance_type_at bytes = made_at (λ m. record { members = m }) (list_at member_at) bytes
+
+-- ---- canonical functions
+
+abbrev pub canonical_after : ℕ → Reader CanonicalOption
+canonical_after b bytes =
+    if b == 0x00 then Some (canonical.Utf8, bytes)
+    else (if b == 0x01 then Some (canonical.Utf16, bytes)
+    else (if b == 0x02 then Some (canonical.CompactUtf16, bytes)
+    else (if b == 0x03 then made_at (λ n. canonical.Memory n) number_at bytes
+    else (if b == 0x04 then made_at (λ n. canonical.Realloc n) number_at bytes
+    else (if b == 0x05 then made_at (λ n. canonical.PostReturn n) number_at bytes
+    else (if b == 0x06 then Some (canonical.Async, bytes)
+    else (if b == 0x07 then made_at (λ n. canonical.Callback n) number_at bytes
+    else None)))))))
+
+unfoldable pub canonical_at : Reader CanonicalOption
+canonical_at bytes = tagged canonical_after bytes
+
+unfoldable pub options_at : Reader (List CanonicalOption)
+options_at bytes = list_at canonical_at bytes
+
+abbrev pub flag_after : ℕ → Reader Bool
+flag_after b bytes = if b == 0x00 then Some (false, bytes) else (if b == 0x01 then Some (true, bytes) else None)
+
+unfoldable pub flag_at : Reader Bool
+flag_at bytes = tagged flag_after bytes
+
+abbrev pub context_after : ℕ → Reader ContextType
+context_after b bytes = if b == 0x7f then Some (contexts.I32, bytes) else (if b == 0x7e then Some (contexts.I64, bytes) else None)
+
+unfoldable pub context_at : Reader ContextType
+context_at bytes = tagged context_after bytes
+
+unfoldable pub index_and_options_at : Reader (ℕ × List CanonicalOption)
+index_and_options_at bytes = then_at number_at options_at bytes
+
+unfoldable pub index_and_flag_at : Reader (ℕ × Bool)
+index_and_flag_at bytes = then_at number_at flag_at bytes
+
+unfoldable pub slot_at : Reader (ContextType × ℕ)
+slot_at bytes = then_at context_at number_at bytes
+
+-- the memory of a wait
+unfoldable pub memory_at : Reader ℕ
+memory_at bytes = behind 0x00 number_at bytes
+
+unfoldable pub waiting_after : ℕ → Reader Intrinsic
+waiting_after b bytes =
+    if b == 0x1c then made_at (λ o. intrinsics.ErrorContextNew o) options_at bytes
+    else (if b == 0x1d then made_at (λ o. intrinsics.ErrorContextDebugMessage o) options_at bytes
+    else (if b == 0x1e then Some (intrinsics.ErrorContextDrop, bytes)
+    else (if b == 0x1f then Some (intrinsics.WaitableSetNew, bytes)
+    else (if b == 0x20 then made_at (λ n. intrinsics.WaitableSetWait n) memory_at bytes
+    else (if b == 0x21 then made_at (λ n. intrinsics.WaitableSetPoll n) memory_at bytes
+    else (if b == 0x22 then Some (intrinsics.WaitableSetDrop, bytes)
+    else (if b == 0x23 then Some (intrinsics.WaitableJoin, bytes)
+    else (if b == 0x24 then Some (intrinsics.BackpressureInc, bytes)
+    else (if b == 0x25 then Some (intrinsics.BackpressureDec, bytes)
+    else None)))))))))
+
+unfoldable pub future_after : ℕ → Reader Intrinsic
+future_after b bytes =
+    if b == 0x15 then made_at (λ n. intrinsics.FutureNew n) number_at bytes
+    else (if b == 0x16 then made_at (λ p. intrinsics.FutureRead p.0 p.1) index_and_options_at bytes
+    else (if b == 0x17 then made_at (λ p. intrinsics.FutureWrite p.0 p.1) index_and_options_at bytes
+    else (if b == 0x18 then made_at (λ p. intrinsics.FutureCancelRead p.0 p.1) index_and_flag_at bytes
+    else (if b == 0x19 then made_at (λ p. intrinsics.FutureCancelWrite p.0 p.1) index_and_flag_at bytes
+    else (if b == 0x1a then made_at (λ n. intrinsics.FutureDropReadable n) number_at bytes
+    else (if b == 0x1b then made_at (λ n. intrinsics.FutureDropWritable n) number_at bytes
+    else waiting_after b bytes))))))
+
+unfoldable pub stream_after : ℕ → Reader Intrinsic
+stream_after b bytes =
+    if b == 0x0e then made_at (λ n. intrinsics.StreamNew n) number_at bytes
+    else (if b == 0x0f then made_at (λ p. intrinsics.StreamRead p.0 p.1) index_and_options_at bytes
+    else (if b == 0x10 then made_at (λ p. intrinsics.StreamWrite p.0 p.1) index_and_options_at bytes
+    else (if b == 0x11 then made_at (λ p. intrinsics.StreamCancelRead p.0 p.1) index_and_flag_at bytes
+    else (if b == 0x12 then made_at (λ p. intrinsics.StreamCancelWrite p.0 p.1) index_and_flag_at bytes
+    else (if b == 0x13 then made_at (λ n. intrinsics.StreamDropReadable n) number_at bytes
+    else (if b == 0x14 then made_at (λ n. intrinsics.StreamDropWritable n) number_at bytes
+    else future_after b bytes))))))
+
+unfoldable pub task_after : ℕ → Reader Intrinsic
+task_after b bytes =
+    if b == 0x05 then Some (intrinsics.TaskCancel, bytes)
+    else (if b == 0x06 then made_at (λ f. intrinsics.SubtaskCancel f) flag_at bytes
+    else (if b == 0x09 then made_at (λ p. intrinsics.TaskReturn p.0 p.1) (then_at result_at options_at) bytes
+    else (if b == 0x0a then made_at (λ p. intrinsics.ContextGet p.0 p.1) slot_at bytes
+    else (if b == 0x0b then made_at (λ p. intrinsics.ContextSet p.0 p.1) slot_at bytes
+    else (if b == 0x0d then Some (intrinsics.SubtaskDrop, bytes)
+    else stream_after b bytes)))))
+
+unfoldable pub intrinsic_after : ℕ → Reader Intrinsic
+intrinsic_after b bytes =
+    if b == 0x02 then made_at (λ n. intrinsics.ResourceNew n) number_at bytes
+    else (if b == 0x03 then made_at (λ n. intrinsics.ResourceDrop n) number_at bytes
+    else (if b == 0x04 then made_at (λ n. intrinsics.ResourceRep n) number_at bytes
+    else task_after b bytes))

@@ -1,0 +1,74 @@
+-- Reading sections, and a component as its sections. Core standard, binary format: sections. Component model, binary
+-- format: `component`, `section`.
+use Rattle.std.specs.Prelude.{◌≡◌, ℕ, zero, suc, ◌+◌, ◌-◌, ◌==◌, ◌&&◌, nat_eq, Bool, if◌then◌else◌, List, [], ◌∷◌, ◌++◌, length, drop, map, Option, Some, None, Result, Ok, Err}
+use Rattle.std.specs.List.{starts_with}
+use Rattle.comp_bytes.specs.Sections.{shares, preamble}
+use Rattle.comp_bytes.specs.declared.def.Item.{Item}
+use Rattle.comp_bytes.specs.declared.def.Def.{Def}
+use Rattle.comp_bytes.specs.declared.def.Def.TheVariants as defs
+use Rattle.comp_read.specs.declared.fault.ReadFault.{ReadFault}
+use Rattle.comp_read.specs.declared.fault.ReadFault.TheVariants as reads
+use Rattle.comp_read.specs.Reading.{◌>>=◌, byte_at, sized_at}
+use Rattle.comp_read.specs.ItemReaders.{contents_at}
+
+-- what is read, or where the section begins that can't be
+abbrev pub Placed : Type 0 → Type 0
+Placed A = Result A ℕ
+
+infixl 10 ◌>>>◌
+abbrev pub ◌>>>◌ : {A B : Type 0} → Placed A → (A → Placed B) → Placed B
+(Ok x) >>> f = f x
+(Err place) >>> f = Err place
+
+abbrev pub told_at : {A : Type 0} → ℕ → Option A → Placed A
+told_at place None = Err place
+told_at place (Some x) = Ok x
+
+-- What a function returned, seen by view, is what reading gives, unless memory ran out.
+abbrev pub FailsAt : {Y : Type 0} → ReadFault → Placed Y → Type 0
+FailsAt reads.Memory read = Unit {0}
+FailsAt (reads.Grammar place) read = read ≡ Err place
+
+abbrev pub GivesAt : {X Y : Type 0} → (X → Y) → Result X ReadFault → Placed Y → Type 0
+GivesAt view (Ok x) read = read ≡ Ok (view x)
+GivesAt view (Err e) read = FailsAt e read
+
+-- two neighbours of these ids should be one section
+abbrev pub repeats : ℕ → ℕ → Bool
+repeats last id = last == id && shares id
+
+-- the id of the section at the front, which stands behind one of the id last, what is in it, and what follows it
+unfoldable pub header_at : ℕ → List ℕ → Option (ℕ × List ℕ × List ℕ)
+header_at last bytes = byte_at bytes >>= λ b. if repeats last b.0 then None else (sized_at b.1 >>= λ s. Some (b.0, s.0, s.1))
+
+-- How what is in a section is read: by its id, the section's place, the place of what is in it, and these bytes.
+abbrev pub Contents : Type 0 → Type 0
+Contents D = ℕ → ℕ → ℕ → List ℕ → Placed (List D)
+
+unfoldable pub section_at : {D : Type 0} → Contents D → ℕ → ℕ → List ℕ → Placed (ℕ × List D × List ℕ)
+section_at at place last bytes =
+    told_at place (header_at last bytes) >>> λ h.
+    at h.0 place (place + (length bytes - length h.2 - length h.1)) h.1 >>> λ found. Ok (h.0, found, h.2)
+
+-- at most so many sections, all of the bytes, which stand at a place
+unfoldable pub sections_at : {D : Type 0} → Contents D → ℕ → ℕ → ℕ → List ℕ → Placed (List D)
+sections_at at zero place last bytes = if length bytes == 0 then Ok [] else Err place
+sections_at at (suc most) place last bytes =
+    if length bytes == 0 then Ok []
+    else (section_at at place last bytes >>> λ s.
+    sections_at at most (place + (length bytes - length s.2)) s.0 s.2 >>> λ more. Ok (s.1 ++ more))
+
+-- a component, which stands at start; place is where a wrong beginning is told
+unfoldable pub component_at : {D : Type 0} → Contents D → ℕ → ℕ → List ℕ → Placed (List D)
+component_at at place start bytes =
+    if starts_with nat_eq bytes preamble then sections_at at (length (drop 8 bytes)) (start + 8) 0 (drop 8 bytes) else Err place
+
+-- what is in the sections of a nested component
+abbrev pub item_contents_at : Contents Item
+item_contents_at id place start inner = told_at place (contents_at id inner)
+
+-- what is in the sections of a component
+abbrev pub definition_contents_at : Contents Def
+definition_contents_at id place start inner =
+    if id == 4 then (component_at item_contents_at place start inner >>> λ found. Ok (defs.Component found ∷ []))
+    else (told_at place (contents_at id inner) >>> λ found. Ok (map (λ i. defs.Item i) found))

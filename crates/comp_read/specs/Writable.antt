@@ -1,0 +1,179 @@
+-- What every value of the program has, and a list of mere numbers may lack: its texts are UTF-8, and its indices are
+-- numbers of 32 bits. Core standard, binary format: values (integers, names).
+use Rattle.std.specs.Prelude.{ℕ, ◌<◌, ◌^◌, List, Option, Some, None}
+use Rattle.std.specs.List.{AllByRecursion}
+use Rattle.std.specs.Str.{IsUtf8}
+use Rattle.comp_bytes.specs.declared.types.ComponentValType.{ComponentValType}
+use Rattle.comp_bytes.specs.declared.types.ComponentValType.TheVariants as values
+use Rattle.comp_bytes.specs.declared.types.Field.{Field}
+use Rattle.comp_bytes.specs.declared.types.Case.{Case}
+use Rattle.comp_bytes.specs.declared.types.DefinedType.{DefinedType}
+use Rattle.comp_bytes.specs.declared.types.DefinedType.TheVariants as defined
+use Rattle.comp_bytes.specs.declared.types.FuncTypeDef.{FuncTypeDef}
+use Rattle.comp_bytes.specs.declared.types.TypeDef.{TypeDef}
+use Rattle.comp_bytes.specs.declared.types.TypeDef.TheVariants as types
+use Rattle.comp_bytes.specs.declared.types.ExternName.{ExternName}
+use Rattle.comp_bytes.specs.declared.types.Description.{Description}
+use Rattle.comp_bytes.specs.declared.types.Description.TheVariants as descriptions
+use Rattle.comp_bytes.specs.declared.types.Alias.{Alias}
+use Rattle.comp_bytes.specs.declared.types.Alias.TheVariants as aliases
+use Rattle.comp_bytes.specs.declared.types.Member.{Member}
+use Rattle.comp_bytes.specs.declared.types.Member.TheVariants as members
+use Rattle.comp_bytes.specs.declared.types.InstanceType.{InstanceType}
+use Rattle.comp_bytes.specs.declared.canon.CanonicalOption.{CanonicalOption}
+use Rattle.comp_bytes.specs.declared.canon.CanonicalOption.TheVariants as canonical
+use Rattle.comp_bytes.specs.declared.canon.Intrinsic.{Intrinsic}
+use Rattle.comp_bytes.specs.declared.canon.Intrinsic.TheVariants as intrinsics
+use Rattle.comp_bytes.specs.declared.def.CoreArgument.{CoreArgument}
+use Rattle.comp_bytes.specs.declared.def.CoreInlineExport.{CoreInlineExport}
+use Rattle.comp_bytes.specs.declared.def.Argument.{Argument}
+use Rattle.comp_bytes.specs.declared.def.Item.{Item}
+use Rattle.comp_bytes.specs.declared.def.Item.TheVariants as items
+use Rattle.comp_bytes.specs.declared.def.Def.{Def}
+use Rattle.comp_bytes.specs.declared.def.Def.TheVariants as defs
+
+abbrev pub IsIndex : ℕ → Type 0
+IsIndex n = n < 2 ^ 32
+
+-- what holds of the value that is there
+abbrev pub Optionally : {A : Type 0} → (A → Type 0) → Option A → Type 0
+Optionally W None = Unit {0}
+Optionally W (Some x) = W x
+
+abbrev pub Always : {A : Type 0} → A → Type 0
+Always x = Unit {0}
+
+abbrev pub IsValueType : ComponentValType → Type 0
+IsValueType (values.Primitive p) = Unit {0}
+IsValueType (values.Defined index) = IsIndex index
+
+abbrev pub IsField : Field → Type 0
+IsField f = IsUtf8 f.name × IsValueType f.ty
+
+abbrev pub IsCase : Case → Type 0
+IsCase c = IsUtf8 c.name × Optionally IsValueType c.ty
+
+abbrev pub IsDefinedType : DefinedType → Type 0
+IsDefinedType (defined.Primitive p) = Unit {0}
+IsDefinedType (defined.Record fields) = AllByRecursion IsField fields
+IsDefinedType (defined.Variant cases) = AllByRecursion IsCase cases
+IsDefinedType (defined.List t) = IsValueType t
+IsDefinedType (defined.Tuple types) = AllByRecursion IsValueType types
+IsDefinedType (defined.Flags names) = AllByRecursion IsUtf8 names
+IsDefinedType (defined.Enum names) = AllByRecursion IsUtf8 names
+IsDefinedType (defined.Option t) = IsValueType t
+IsDefinedType (defined.Result ok err) = Optionally IsValueType ok × Optionally IsValueType err
+IsDefinedType (defined.Own index) = IsIndex index
+IsDefinedType (defined.Borrow index) = IsIndex index
+IsDefinedType (defined.Stream t) = Optionally IsValueType t
+IsDefinedType (defined.Future t) = Optionally IsValueType t
+
+abbrev pub IsFuncType : FuncTypeDef → Type 0
+IsFuncType f = AllByRecursion IsField f.params × Optionally IsValueType f.result
+
+abbrev pub IsTypeDef : TypeDef → Type 0
+IsTypeDef (types.Func f) = IsFuncType f
+IsTypeDef (types.Resource destructor) = Optionally IsIndex destructor
+IsTypeDef (types.Defined t) = IsDefinedType t
+
+abbrev pub IsExternName : ExternName → Type 0
+IsExternName n = IsUtf8 n.name × Optionally IsUtf8 n.version_suffix
+
+abbrev pub IsDescription : Description → Type 0
+IsDescription (descriptions.Func index) = IsIndex index
+IsDescription (descriptions.TypeEqual index) = IsIndex index
+IsDescription descriptions.SubResource = Unit {0}
+IsDescription (descriptions.Instance index) = IsIndex index
+
+abbrev pub IsAlias : Alias → Type 0
+IsAlias (aliases.Export kind instance name) = IsIndex instance × IsUtf8 name
+IsAlias (aliases.CoreExport kind instance name) = IsIndex instance × IsUtf8 name
+IsAlias (aliases.Outer count index) = IsIndex count × IsIndex index
+
+abbrev pub IsMember : Member → Type 0
+IsMember (members.Type t) = IsTypeDef t
+IsMember (members.Alias a) = IsAlias a
+IsMember (members.Export name description) = IsExternName name × IsDescription description
+
+abbrev pub IsInstanceType : InstanceType → Type 0
+IsInstanceType t = AllByRecursion IsMember t.members
+
+abbrev pub IsCanonicalOption : CanonicalOption → Type 0
+IsCanonicalOption canonical.Utf8 = Unit {0}
+IsCanonicalOption canonical.Utf16 = Unit {0}
+IsCanonicalOption canonical.CompactUtf16 = Unit {0}
+IsCanonicalOption (canonical.Memory index) = IsIndex index
+IsCanonicalOption (canonical.Realloc index) = IsIndex index
+IsCanonicalOption (canonical.PostReturn index) = IsIndex index
+IsCanonicalOption canonical.Async = Unit {0}
+IsCanonicalOption (canonical.Callback index) = IsIndex index
+
+abbrev pub AreOptions : List CanonicalOption → Type 0
+AreOptions options = AllByRecursion IsCanonicalOption options
+
+abbrev pub IsIntrinsic : Intrinsic → Type 0
+IsIntrinsic (intrinsics.ResourceNew index) = IsIndex index
+IsIntrinsic (intrinsics.ResourceDrop index) = IsIndex index
+IsIntrinsic (intrinsics.ResourceRep index) = IsIndex index
+IsIntrinsic intrinsics.TaskCancel = Unit {0}
+IsIntrinsic (intrinsics.SubtaskCancel async_) = Unit {0}
+IsIntrinsic (intrinsics.TaskReturn result options) = Optionally IsValueType result × AreOptions options
+IsIntrinsic (intrinsics.ContextGet ty slot) = IsIndex slot
+IsIntrinsic (intrinsics.ContextSet ty slot) = IsIndex slot
+IsIntrinsic intrinsics.SubtaskDrop = Unit {0}
+IsIntrinsic (intrinsics.StreamNew index) = IsIndex index
+IsIntrinsic (intrinsics.StreamRead index options) = IsIndex index × AreOptions options
+IsIntrinsic (intrinsics.StreamWrite index options) = IsIndex index × AreOptions options
+IsIntrinsic (intrinsics.StreamCancelRead index async_) = IsIndex index
+IsIntrinsic (intrinsics.StreamCancelWrite index async_) = IsIndex index
+IsIntrinsic (intrinsics.StreamDropReadable index) = IsIndex index
+IsIntrinsic (intrinsics.StreamDropWritable index) = IsIndex index
+IsIntrinsic (intrinsics.FutureNew index) = IsIndex index
+IsIntrinsic (intrinsics.FutureRead index options) = IsIndex index × AreOptions options
+IsIntrinsic (intrinsics.FutureWrite index options) = IsIndex index × AreOptions options
+IsIntrinsic (intrinsics.FutureCancelRead index async_) = IsIndex index
+IsIntrinsic (intrinsics.FutureCancelWrite index async_) = IsIndex index
+IsIntrinsic (intrinsics.FutureDropReadable index) = IsIndex index
+IsIntrinsic (intrinsics.FutureDropWritable index) = IsIndex index
+IsIntrinsic (intrinsics.ErrorContextNew options) = AreOptions options
+IsIntrinsic (intrinsics.ErrorContextDebugMessage options) = AreOptions options
+IsIntrinsic intrinsics.ErrorContextDrop = Unit {0}
+IsIntrinsic intrinsics.WaitableSetNew = Unit {0}
+IsIntrinsic (intrinsics.WaitableSetWait index) = IsIndex index
+IsIntrinsic (intrinsics.WaitableSetPoll index) = IsIndex index
+IsIntrinsic intrinsics.WaitableSetDrop = Unit {0}
+IsIntrinsic intrinsics.WaitableJoin = Unit {0}
+IsIntrinsic intrinsics.BackpressureInc = Unit {0}
+IsIntrinsic intrinsics.BackpressureDec = Unit {0}
+
+abbrev pub IsCoreArgument : CoreArgument → Type 0
+IsCoreArgument a = IsUtf8 a.name × IsIndex a.instance
+
+abbrev pub IsCoreInlineExport : CoreInlineExport → Type 0
+IsCoreInlineExport e = IsUtf8 e.name × IsIndex e.index
+
+abbrev pub IsArgument : Argument → Type 0
+IsArgument a = IsUtf8 a.name × IsIndex a.index
+
+abbrev pub IsItem : Item → Type 0
+IsItem (items.CoreModule bytes) = Unit {0}
+IsItem (items.CoreInstantiate made args) = IsIndex made × AllByRecursion IsCoreArgument args
+IsItem (items.CoreExports entries) = AllByRecursion IsCoreInlineExport entries
+IsItem (items.Instantiate made args) = IsIndex made × AllByRecursion IsArgument args
+IsItem (items.Alias a) = IsAlias a
+IsItem (items.Type t) = IsTypeDef t
+IsItem (items.InstanceType t) = IsInstanceType t
+IsItem (items.Lift func options ty) = IsIndex func × AreOptions options × IsIndex ty
+IsItem (items.Lower func options) = IsIndex func × AreOptions options
+IsItem (items.Intrinsic i) = IsIntrinsic i
+IsItem (items.Import name description) = IsExternName name × IsDescription description
+IsItem (items.Export name sort index description) = IsExternName name × IsIndex index × Optionally IsDescription description
+IsItem (items.Custom name contents) = IsUtf8 name
+
+abbrev pub IsDefinition : Def → Type 0
+IsDefinition (defs.Item i) = IsItem i
+IsDefinition (defs.Component inner) = AllByRecursion IsItem inner
+
+-- a list that a program can hold
+abbrev pub IsWritable : List Def → Type 0
+IsWritable ds = AllByRecursion IsDefinition ds

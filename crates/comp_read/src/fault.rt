@@ -1,0 +1,59 @@
+//! Why bytes are not read.
+
+ghost use Rattle.std.specs.Prelude.{◌≡◌};
+ghost use Rattle.comp_read.specs.declared.fault.PartFault.TheVariants as parts;
+ghost use Rattle.comp_read.specs.declared.fault.ReadFault.TheVariants as reads;
+
+use std::alloc::{AllocError, AllocFailed};
+use thiserror::Error;
+
+/// Why a part of a section is not read.
+#[derive(Clone, Copy, Debug, PartialEq, Eq)]
+pub(crate) enum PartFault {
+    Memory,
+    Malformed,
+}
+
+impl From<AllocError> for PartFault {
+    ghost from_gives = { λ _ e. e ≡ parts.Memory };
+
+    fn from(_fault: AllocError) -> PartFault {
+        PartFault::Memory
+    }
+}
+
+impl<T: Drop> From<AllocFailed<T>> for PartFault {
+    ghost from_gives = { λ _ e. e ≡ parts.Memory };
+
+    fn from(_fault: AllocFailed<T>) -> PartFault {
+        PartFault::Memory
+    }
+}
+
+/// Why bytes are not read as a component.
+#[derive(Debug, Drop, Error)]
+pub enum ReadFault {
+    /// A growth was refused.
+    #[error("C1 Memory")]
+    Memory,
+    /// Where the first section begins that cannot be read, of the innermost component: an offset in the
+    /// whole input. It is 0 where the input does not begin as a component does.
+    #[error("C2 Grammar place={place}")]
+    Grammar { place: usize },
+}
+
+impl From<AllocError> for ReadFault {
+    ghost from_gives = { λ _ e. e ≡ reads.Memory };
+
+    fn from(_fault: AllocError) -> ReadFault {
+        ReadFault::Memory
+    }
+}
+
+impl<T: Drop> From<AllocFailed<T>> for ReadFault {
+    ghost from_gives = { λ _ e. e ≡ reads.Memory };
+
+    fn from(_fault: AllocFailed<T>) -> ReadFault {
+        ReadFault::Memory
+    }
+}

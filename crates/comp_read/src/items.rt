@@ -1,0 +1,247 @@
+//! The definitions of one section.
+//!
+//! Component model, binary format: `section`, `core:instance`, `instance`, `canon`, `import`, `export`.
+
+ghost use Rattle.std.specs.Prelude.{◌≡◌, List, ℕ, Some, [], ◌∷◌};
+ghost use Rattle.comp_read.specs.Reading.{Gives, Read, items_at};
+ghost use Rattle.comp_read.specs.ItemReaders.{core_argument_at, core_inline_export_at, argument_at, core_instance_at, instance_at, type_item_at, lift_at, lower_at, canon_at, import_at, export_at, item_at, counted_at, custom_at, contents_at};
+
+use crate::canon::{index_and_options, intrinsic};
+use crate::fault::PartFault;
+use crate::number::{Decode, byte, expect_byte, list, name, number, option};
+use crate::types::{instance_type, type_def};
+use crate::values::{alias, extern_name, kind, sort};
+use comp_bytes::{Argument, CoreArgument, CoreInlineExport, Description, Item};
+use comp_lists::{Bytes, Seq};
+use std::alloc::Global;
+
+impl Decode for CoreArgument {
+    ghost at = { core_argument_at };
+
+    #[tactic(auto, unfolding(crate::specs::ItemReaders::core_argument_at))]
+    fn decode(alloc: Global, bytes: &[u8]) -> Result<(CoreArgument, &[u8]), PartFault> {
+        let (name, rest) = name(alloc, bytes)?;
+        let rest = expect_byte(0x12, rest)?;
+        let (instance, rest) = number(rest)?;
+        Ok((CoreArgument { name, instance }, rest))
+    }
+}
+
+impl Decode for CoreInlineExport {
+    ghost at = { core_inline_export_at };
+
+    #[tactic(auto, unfolding(crate::specs::ItemReaders::core_inline_export_at))]
+    fn decode(alloc: Global, bytes: &[u8]) -> Result<(CoreInlineExport, &[u8]), PartFault> {
+        let (name, rest) = name(alloc, bytes)?;
+        let (kind, rest) = kind(rest)?;
+        let (index, rest) = number(rest)?;
+        Ok((CoreInlineExport { name, kind, index }, rest))
+    }
+}
+
+impl Decode for Argument {
+    ghost at = { argument_at };
+
+    #[tactic(auto, unfolding(crate::specs::ItemReaders::argument_at))]
+    fn decode(alloc: Global, bytes: &[u8]) -> Result<(Argument, &[u8]), PartFault> {
+        let (name, rest) = name(alloc, bytes)?;
+        let (sort, rest) = sort(rest)?;
+        let (index, rest) = number(rest)?;
+        Ok((Argument { name, sort, index }, rest))
+    }
+}
+
+#[tactic(auto, unfolding(crate::specs::ItemReaders::core_instance_at))]
+fn core_instance(alloc: Global, bytes: &[u8]) -> Result<(Item, &[u8]), PartFault>
+    ensures { Gives (λ x. (x.0, x.1.now)) result (core_instance_at bytes.now) }
+{
+    let (tag, rest) = byte(bytes)?;
+    match tag {
+        0x00 => {
+            let (module, rest) = number(rest)?;
+            let (args, rest) = list(alloc, rest)?;
+            Ok((Item::CoreInstantiate { module, args }, rest))
+        }
+        0x01 => {
+            let (exports, rest) = list(alloc, rest)?;
+            Ok((Item::CoreExports(exports), rest))
+        }
+        _ => Err(PartFault::Malformed),
+    }
+}
+
+#[tactic(auto, unfolding(crate::specs::ItemReaders::instance_at))]
+fn instance(alloc: Global, bytes: &[u8]) -> Result<(Item, &[u8]), PartFault>
+    ensures { Gives (λ x. (x.0, x.1.now)) result (instance_at bytes.now) }
+{
+    let rest = expect_byte(0x00, bytes)?;
+    let (component, rest) = number(rest)?;
+    let (args, rest) = list(alloc, rest)?;
+    Ok((Item::Instantiate { component, args }, rest))
+}
+
+#[tactic(auto, unfolding(crate::specs::ItemReaders::type_item_at))]
+fn type_item(alloc: Global, bytes: &[u8]) -> Result<(Item, &[u8]), PartFault>
+    ensures { Gives (λ x. (x.0, x.1.now)) result (type_item_at bytes.now) }
+{
+    let (tag, rest) = byte(bytes)?;
+    if tag == 0x42 {
+        let (ty, rest) = instance_type(alloc, rest)?;
+        return Ok((Item::InstanceType(ty), rest));
+    }
+    let (ty, rest) = type_def(alloc, tag, rest)?;
+    Ok((Item::Type(ty), rest))
+}
+
+/// A function for a core function, behind its first byte.
+#[tactic(auto, unfolding(crate::specs::ItemReaders::lift_at))]
+fn lift(alloc: Global, bytes: &[u8]) -> Result<(Item, &[u8]), PartFault>
+    ensures { Gives (λ x. (x.0, x.1.now)) result (lift_at bytes.now) }
+{
+    let rest = expect_byte(0x00, bytes)?;
+    let (func, options, rest) = index_and_options(alloc, rest)?;
+    let (ty, rest) = number(rest)?;
+    Ok((Item::Lift { func, options, ty }, rest))
+}
+
+/// A core function for a function, behind its first byte.
+#[tactic(auto, unfolding(crate::specs::ItemReaders::lower_at))]
+fn lower(alloc: Global, bytes: &[u8]) -> Result<(Item, &[u8]), PartFault>
+    ensures { Gives (λ x. (x.0, x.1.now)) result (lower_at bytes.now) }
+{
+    let rest = expect_byte(0x00, bytes)?;
+    let (func, options, rest) = index_and_options(alloc, rest)?;
+    Ok((Item::Lower { func, options }, rest))
+}
+
+#[tactic(auto, unfolding(crate::specs::ItemReaders::canon_at))]
+fn canon(alloc: Global, bytes: &[u8]) -> Result<(Item, &[u8]), PartFault>
+    ensures { Gives (λ x. (x.0, x.1.now)) result (canon_at bytes.now) }
+{
+    let (tag, rest) = byte(bytes)?;
+    match tag {
+        0x00 => lift(alloc, rest),
+        0x01 => lower(alloc, rest),
+        _ => {
+            let (intrinsic, rest) = intrinsic(alloc, tag, rest)?;
+            Ok((Item::Intrinsic(intrinsic), rest))
+        }
+    }
+}
+
+#[tactic(auto, unfolding(crate::specs::ItemReaders::import_at))]
+fn import(alloc: Global, bytes: &[u8]) -> Result<(Item, &[u8]), PartFault>
+    ensures { Gives (λ x. (x.0, x.1.now)) result (import_at bytes.now) }
+{
+    let (name, rest) = extern_name(alloc, bytes)?;
+    let (description, rest) = Description::decode(alloc, rest)?;
+    Ok((Item::Import { name, description }, rest))
+}
+
+#[tactic(auto, unfolding(crate::specs::ItemReaders::export_at))]
+fn export(alloc: Global, bytes: &[u8]) -> Result<(Item, &[u8]), PartFault>
+    ensures { Gives (λ x. (x.0, x.1.now)) result (export_at bytes.now) }
+{
+    let (name, rest) = extern_name(alloc, bytes)?;
+    let (sort, rest) = sort(rest)?;
+    let (index, rest) = number(rest)?;
+    let (description, rest) = option(alloc, rest)?;
+    Ok((
+        Item::Export {
+            name,
+            sort,
+            index,
+            description,
+        },
+        rest,
+    ))
+}
+
+/// A definition of a section that definitions share.
+#[tactic(auto, unfolding(crate::specs::ItemReaders::item_at))]
+fn item(alloc: Global, id: u8, bytes: &[u8]) -> Result<(Item, &[u8]), PartFault>
+    ensures { Gives (λ x. (x.0, x.1.now)) result (item_at id bytes.now) }
+{
+    match id {
+        2 => core_instance(alloc, bytes),
+        5 => instance(alloc, bytes),
+        6 => {
+            let (alias, rest) = alias(alloc, bytes)?;
+            Ok((Item::Alias(alias), rest))
+        }
+        7 => type_item(alloc, bytes),
+        8 => canon(alloc, bytes),
+        10 => import(alloc, bytes),
+        11 => export(alloc, bytes),
+        _ => Err(PartFault::Malformed),
+    }
+}
+
+/// Definitions one after another. Nothing is reserved by their count.
+#[tactic(auto, unfolding(crate::specs::Reading::items_at))]
+fn items(alloc: Global, id: u8, count: u32, bytes: &[u8]) -> Result<(Seq<Item>, &[u8]), PartFault>
+    ensures { Gives (λ x. (x.0, x.1.now)) result (items_at (item_at id) count bytes.now) }
+{
+    let mut items = Seq::new(alloc);
+    let mut rest = bytes;
+    for _ in 0..count {
+        let (item, after) = item(alloc, id, rest)?;
+        items.push(item)?;
+        rest = after;
+    }
+    Ok((items, rest))
+}
+
+/// All that is in a section that definitions share.
+#[tactic(auto, unfolding(crate::specs::ItemReaders::counted_at))]
+fn counted(alloc: Global, id: u8, bytes: &[u8]) -> Result<Seq<Item>, PartFault>
+    ensures { Gives (λ x. x) result (counted_at id bytes.now) }
+{
+    let (count, rest) = number(bytes)?;
+    if count == 0 {
+        return Err(PartFault::Malformed);
+    }
+    let (items, rest) = items(alloc, id, count, rest)?;
+    if !rest.is_empty() {
+        return Err(PartFault::Malformed);
+    }
+    Ok(items)
+}
+
+fn one(alloc: Global, item: Item) -> Result<Seq<Item>, PartFault>
+    ensures { Gives (λ x. x) result (Some (item ∷ [])) }
+{
+    let mut items = Seq::new(alloc);
+    items.push(item)?;
+    Ok(items)
+}
+
+fn copy_of(alloc: Global, bytes: &[u8]) -> Result<Bytes, PartFault>
+    ensures { Gives (λ x. x) result (Some bytes.now) }
+{
+    Ok(Bytes::from_vec(Vec::from_slice(alloc, bytes)?))
+}
+
+#[tactic(auto, unfolding(crate::specs::ItemReaders::custom_at))]
+fn custom(alloc: Global, bytes: &[u8]) -> Result<Seq<Item>, PartFault>
+    ensures { Gives (λ x. x) result (custom_at bytes.now) }
+{
+    let (name, rest) = name(alloc, bytes)?;
+    let contents = copy_of(alloc, rest)?;
+    one(alloc, Item::Custom { name, contents })
+}
+
+/// All that is in a section.
+#[tactic(auto, unfolding(crate::specs::ItemReaders::contents_at))]
+pub(crate) fn contents(alloc: Global, id: u8, bytes: &[u8]) -> Result<Seq<Item>, PartFault>
+    ensures { Gives (λ x. x) result (contents_at id bytes.now) }
+{
+    match id {
+        0 => custom(alloc, bytes),
+        1 => {
+            let module = copy_of(alloc, bytes)?;
+            one(alloc, Item::CoreModule(module))
+        }
+        _ => counted(alloc, id, bytes),
+    }
+}

@@ -1,0 +1,108 @@
+//! Sections of any kind of definition, and a component as its sections.
+//!
+//! Core standard, binary format: sections. Component model, binary format: `component`.
+
+ghost use Rattle.std.specs.Prelude.{◌≡◌, List, ℕ, length, ◌+◌, ◌<◌, ◌^◌};
+ghost use Rattle.comp_bytes.specs.Sections.{shares};
+ghost use Rattle.comp_read.specs.Reading.{Gives};
+ghost use Rattle.comp_read.specs.SectionReaders.{Contents, GivesAt, header_at, section_at, sections_at, component_at};
+
+use crate::fault::{PartFault, ReadFault};
+use crate::number::{byte, sized};
+use comp_lists::Seq;
+use std::alloc::Global;
+
+const PREAMBLE: [u8; 8] = [0x00, 0x61, 0x73, 0x6d, 0x0d, 0x00, 0x01, 0x00];
+
+/// What stands in the sections of a component.
+pub(crate) trait SectionItem: Sized + Drop {
+    ghost contents_at: { Contents Self };
+
+    /// The definitions of a section of this id, which stands at `place`. What is in it stands at `start`.
+    fn contents(
+        alloc: Global,
+        place: usize,
+        start: usize,
+        id: u8,
+        inner: &[u8],
+    ) -> Result<Seq<Self>, ReadFault>
+        requires { start + length inner.now < 2 ^ 64 }
+        ensures { GivesAt (λ x. x) result (contents_at id place start inner.now) };
+}
+
+fn is_shared(id: u8) -> bool
+    ensures { result ≡ shares id }
+{
+    !(id == 0 || id == 1 || id == 4)
+}
+
+/// The id of the section at the front, what is in it, and what follows it. It stands behind a section
+/// of the id `last`.
+#[tactic(auto, unfolding(crate::specs::SectionReaders::header_at))]
+fn header(last: u8, bytes: &[u8]) -> Result<(u8, &[u8], &[u8]), PartFault>
+    ensures { Gives (λ x. (x.0, x.1.now, x.2.now)) result (header_at last bytes.now) }
+{
+    let (id, rest) = byte(bytes)?;
+    if last == id && is_shared(id) {
+        return Err(PartFault::Malformed);
+    }
+    let (inner, rest) = sized(rest)?;
+    Ok((id, inner, rest))
+}
+
+/// The section at the front, which stands at `place`, behind a section of the id `last`.
+#[tactic(auto, unfolding(crate::specs::SectionReaders::section_at))]
+fn section<D: SectionItem>(
+    alloc: Global,
+    place: usize,
+    last: u8,
+    bytes: &[u8],
+) -> Result<(u8, Seq<D>, &[u8]), ReadFault>
+    requires { place + length bytes.now < 2 ^ 64 }
+    ensures { GivesAt (λ x. (x.0, x.1, x.2.now)) result (section_at D.contents_at place last bytes.now) }
+{
+    let (id, inner, rest) = match header(last, bytes) {
+        Ok(read) => read,
+        Err(PartFault::Memory) => return Err(ReadFault::Memory),
+        Err(PartFault::Malformed) => return Err(ReadFault::Grammar { place }),
+    };
+    let start = place + (bytes.len() - rest.len() - inner.len());
+    let found = D::contents(alloc, place, start, id, inner)?;
+    Ok((id, found, rest))
+}
+
+/// Sections, all of the bytes, which stand at `start`.
+fn sections<D: SectionItem>(alloc: Global, start: usize, bytes: &[u8]) -> Result<Seq<D>, ReadFault>
+    requires { start + length bytes.now < 2 ^ 64 }
+    ensures { GivesAt (λ x. x) result (sections_at D.contents_at (length bytes.now) start 0 bytes.now) }
+{
+    let mut defs = Seq::new(alloc);
+    let mut last = 0;
+    let mut rest = bytes;
+    while !rest.is_empty() {
+        let place = start + (bytes.len() - rest.len());
+        let (id, found, after) = section::<D>(alloc, place, last, rest)?;
+        defs.append(found)?;
+        last = id;
+        rest = after;
+    }
+    Ok(defs)
+}
+
+/// A component, which stands at `start`. A wrong beginning is told at `place`.
+#[tactic(auto, unfolding(crate::specs::SectionReaders::component_at))]
+pub(crate) fn component<D: SectionItem>(
+    alloc: Global,
+    place: usize,
+    start: usize,
+    bytes: &[u8],
+) -> Result<Seq<D>, ReadFault>
+    requires { start + length bytes.now < 2 ^ 64 }
+    ensures { GivesAt (λ x. x) result (component_at D.contents_at place start bytes.now) }
+{
+    if !bytes.starts_with(&PREAMBLE) {
+        return Err(ReadFault::Grammar { place });
+    }
+    let (_, body) = bytes.split_at(8);
+    sections::<D>(alloc, start + 8, body)
+}
