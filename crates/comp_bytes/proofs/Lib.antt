@@ -5,7 +5,6 @@ pub mod Labels
 pub mod Unique
 pub mod Places
 pub mod Worked
-pub mod Scopes
 pub mod Readers
 pub mod Groups
 pub mod ValueReaders

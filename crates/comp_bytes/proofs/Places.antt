@@ -6,11 +6,9 @@ use Rattle.std.specs.List.{slice_get}
 use Rattle.comp_lists.proofs.Lists.{slice_get-append, slice_get-end}
 use Rattle.comp_bytes.specs.Spaces.{is_space, space_of, items_in}
 use Rattle.comp_bytes.specs.Places.{in_space, IsAt}
-use Rattle.comp_bytes.specs.Built.{Built, Adds}
 use Rattle.comp_bytes.specs.declared.def.Def.{Def}
 use Rattle.comp_bytes.specs.declared.space.Space.{Space}
 use Rattle.comp_bytes.specs.declared.space.Space.TheVariants as spaces
-use Rattle.comp_bytes.specs.declared.fault.BuildFault.{BuildFault}
 
 same_space : (s : Space) → is_space s (Some s) ≡ true
 same_space spaces.CoreFunc = refl
@@ -48,9 +46,3 @@ in_range {definitions} {space} {index} {definition} at = rw (← length-filter (
 -- what a call that adds a definition answers
 pub at_added : (old new : List Def) (space : Space) (index : ℕ) (definition : Def) → space_of definition ≡ Some space → index ≡ items_in space old → new ≡ old ++ definition ∷ [] → IsAt new space index definition
 at_added old new space index definition e i a = rw (i, a) (IsAt-end old space definition e)
-
--- an item stays what it is, whatever a call that adds a definition answers
-pub kept : (old new : Built) (answer : Result ℕ BuildFault) (made : Space) (added : Def) (debug : Option (List ℕ)) {space : Space} {index : ℕ} {definition : Def} →
-    Adds old new answer made added debug → IsAt old.defs space index definition → IsAt new.defs space index definition
-kept old new (Ok n) made added debug {space} {index} {definition} a at = subst (λ (b : Built). IsAt b.defs space index definition) (sym a.1) (IsAt-append (added ∷ []) at)
-kept old new (Err e) made added debug {space} {index} {definition} a at = subst (λ (b : Built). IsAt b.defs space index definition) (sym a.0) at

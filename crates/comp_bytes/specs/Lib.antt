@@ -8,7 +8,4 @@ pub mod References
 pub mod Scopes
 pub mod ScopeNames
 pub mod DebugNames
-pub mod Built
-pub mod Optional
-pub mod Core
 pub mod Laws

@@ -53,6 +53,13 @@ pub(crate) fn counted(count: u128) -> Result<u32, Excess>
     }
 }
 
+/// The count that follows, refused exactly where it is more than 2^32 - 1.
+pub fn next_count(count: u32) -> Result<u32, Excess>
+    ensures { MatchResult result (λ n. n ≡ count + 1) (λ e. (e ≡ count + 1) × (2 ^ 32 ≤ e)) }
+{
+    counted(count as u128 + 1)
+}
+
 /// How many items both lists have together, refused exactly where these are more than 2^32 - 1.
 pub fn count_of<T, U>(first: &[T], second: &[U]) -> Result<u32, Excess>
     ensures { MatchResult result (λ n. n ≡ length first.now + length second.now) (λ e. (e ≡ length first.now + length second.now) × (2 ^ 32 ≤ e)) }

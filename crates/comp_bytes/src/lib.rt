@@ -6,28 +6,24 @@
 //! lists every count and size that is written, so that one definition says what is written and what
 //! must be refused.
 //!
-//! Upward this crate promises: what [`ComponentBuilder::finish`] answers spells the definitions that
-//! were added (`Spells`), each call of the builder adds exactly one definition and answers the index of
-//! the item that it makes (`Adds`, `IsAt`), and a refusal other than want of memory names a count or a
-//! size that passes 2^32 - 1 (`Refused`, `Full`).
+//! Upward this crate promises: what [`component_bytes`] answers spells the definitions that were given
+//! (`Spells`), a refusal other than want of memory names a count or a size that passes 2^32 - 1
+//! (`Refused`), and bytes spell at most one list of definitions ([`one_list`]).
 //!
 //! For those above that speak of indices and names: `specs/References.antt` (what a definition names by
 //! index), `specs/Scopes.antt` (that all of it stands before it), `specs/ScopeNames.antt` (the lists of
-//! names in each of which a name stands once), `specs/Places.antt` (which definition made which item);
-//! with their laws in `proofs/Places.antt` and `proofs/Scopes.antt`, and worked examples in
-//! `proofs/Worked.antt`.
+//! names in each of which a name stands once), `specs/Places.antt` (which definition made which item, with
+//! its laws in `proofs/Places.antt`), and worked examples in `proofs/Worked.antt`.
 //!
 //! In reading order: `space` (sorts of items and their index spaces), `types` (types and names),
 //! `canon` (canonical functions), `def` (definitions), `name` (debug names), `fault` (counts and
 //! refusals), `number` (numbers, names, lists, options), `writing` (each value), `sections`
-//! (definitions in sections), `naming` (the custom section of debug names), `builder` and `defining`
-//! (a component, definition by definition), `laws` (what holds of all spellings).
+//! (definitions in sections), `naming` (the custom section of debug names), `laws` (what holds of all
+//! spellings).
 #![tactic(auto)]
 
-mod builder;
 mod canon;
 mod def;
-mod defining;
 mod fault;
 mod laws;
 mod name;
@@ -38,19 +34,18 @@ mod space;
 mod types;
 mod writing;
 
-pub use builder::ComponentBuilder;
 pub use canon::{CanonicalOption, ContextType, Intrinsic};
 pub use def::{Argument, CoreArgument, CoreInlineExport, Def, Defs, Item};
-pub use fault::{BuildFault, Excess, count_of};
+pub use fault::{BuildFault, Excess, count_of, next_count};
 pub use laws::{one_list, one_name, one_number, one_type_index};
 pub use name::Name;
+pub use naming::names_bytes;
+pub use sections::component_bytes;
 pub use space::{ComponentExportKind, ExportKind, Sort, Space};
 pub use types::{
     Alias, Case, ComponentValType, DefinedType, Description, ExternName, Field, FuncTypeDef,
     InstanceType, Member, Primitive, TypeDef,
 };
 
-#[cfg(test)]
-mod every_kind;
 #[cfg(test)]
 mod tests;

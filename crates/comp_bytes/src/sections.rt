@@ -1,11 +1,11 @@
 //! Definitions in sections.
 #![tactic(auto, using(crate::proofs::Pieces::writing))]
 
-ghost use Rattle.std.specs.Prelude.{◌≡◌, ◌++◌, ◌<◌, ◌≤◌, ◌∷◌, List, ℕ, Bool, OnOk, length, take, drop, map, if◌then◌else◌};
+ghost use Rattle.std.specs.Prelude.{◌≡◌, ◌++◌, ◌<◌, ◌≤◌, ◌∷◌, List, ℕ, Bool, OnOk, IfOk, IfErr, length, take, drop, map, if◌then◌else◌};
 ghost use Rattle.comp_bytes.specs.Spelling.{leb, raw, octet, number, quantity, each, listed, named, optional, sized, Spelling, Fits, ◌⊕◌};
 ghost use Rattle.comp_bytes.specs.Sections.{Entry, shares, contents, section, sections, component, section_of};
-ghost use Rattle.comp_bytes.specs.Written.{Writes};
-ghost use Rattle.comp_bytes.specs.Grammar.{item, definition, core_argument, core_inline_export, argument, alias_bytes, option_bytes, extern_name, sort_bytes, description_bytes};
+ghost use Rattle.comp_bytes.specs.Written.{Writes, Refused};
+ghost use Rattle.comp_bytes.specs.Grammar.{Spells, spelling_of, item, definition, core_argument, core_inline_export, argument, alias_bytes, option_bytes, extern_name, sort_bytes, description_bytes};
 
 use crate::canon::CanonicalOption;
 use crate::def::{Argument, CoreArgument, Def, Item};
@@ -15,6 +15,7 @@ use crate::space::Sort;
 use crate::types::{Description, ExternName};
 use crate::writing::put_extern;
 use comp_lists::{Seq, Text};
+use std::alloc::Global;
 
 /// What stands in a section.
 pub(crate) trait Definition {
@@ -250,4 +251,15 @@ impl Definition for Def {
             Def::Component(items) => put_component(out, items.as_slice()),
         }
     }
+}
+
+/// The bytes of a component: its preamble and its sections (`component`). It refuses with
+/// [`BuildFault::TooMany`] only where a count or a size among them passes 2^32 - 1, and tells that one.
+pub fn component_bytes(alloc: Global, definitions: &[Def]) -> Result<Vec<u8>, BuildFault>
+    ensures ok { IfOk result (λ v. Spells v.items definitions.now) }
+    ensures err { IfErr result (Refused (spelling_of definitions.now).counts) }
+{
+    let mut out = Vec::new(alloc);
+    put_component(&mut out, definitions)?;
+    Ok(out)
 }

@@ -50,7 +50,7 @@ pub enum Space {
 
 impl Space {
     /// Its place in that order.
-    pub(crate) fn place(self) -> usize
+    pub fn place(self) -> usize
         ensures { result ≡ place self }
     {
         self as usize

@@ -50,7 +50,7 @@ impl<K: Eq + Hash, V> Keyed<K, V> {
     pub fn contains(&self, key: &K) -> bool
         ensures { result ≡ is_some (lookup (K.eq key.now) self.now) }
     {
-        self.map.get(key).is_some()
+        self.get(key).is_some()
     }
 
     /// The entries, in order.

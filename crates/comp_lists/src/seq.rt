@@ -45,7 +45,8 @@ impl<T> Seq<T> {
     pub fn into_vec(self) -> Vec<T>
         ensures { result.items ≡ self }
     {
-        self.items
+        let Self { items } = self;
+        items
     }
 
     pub fn as_slice(&self) -> &[T]
@@ -90,11 +91,11 @@ impl<T: TryClone> Seq<T> {
     pub fn clone(&self, alloc: Global) -> Result<Seq<T>, AllocError>
         ensures { IfOk result (λ x. x ≡ self.now) }
     {
-        let mut items = Vec::with_capacity(alloc, self.items.len())?;
+        let mut items = Vec::with_capacity(alloc, self.len())?;
         for item in &self.items {
             items.push(item.try_clone(alloc)?)?;
         }
-        Ok(Seq { items })
+        Ok(Seq::from_vec(items))
     }
 }
 

@@ -60,7 +60,8 @@ impl Text {
     pub fn into_string(self) -> String
         ensures { string_bytes result ≡ self }
     {
-        self.text
+        let Self { text } = self;
+        text
     }
 
     pub fn as_str(&self) -> &str
@@ -86,14 +87,14 @@ impl Text {
     pub fn is(&self, text: &str) -> bool
         ensures { result ≡ bytes_eq self.now text.now }
     {
-        self.text.as_str() == text
+        self.as_str() == text
     }
 
     /// An equal text, memory allowing.
     pub fn clone(&self, alloc: Global) -> Result<Text, AllocError>
         ensures { IfOk result (λ t. t ≡ self.now) }
     {
-        Text::from_str(alloc, self.text.as_str())
+        Text::from_str(alloc, self.as_str())
     }
 }
 

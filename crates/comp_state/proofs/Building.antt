@@ -1,8 +1,9 @@
 -- The steps in their order build a whole component.
 use Rattle.std.proofs.Common.{◌≡◌, ◌∙◌, ℕ, ◌==◌, Bool, true, false, List, [], ◌∷◌, ◌++◌, length, refl, sym, ap, subst, append-nil, Option, Some, None, IsSome, is_some, inl, inr, true≢false, if◌then◌else◌}
 use Rattle.comp_lists.proofs.Lists.{AllByRecursion-contains}
-use Rattle.comp_bytes.specs.Built.{Built}
-use Rattle.comp_bytes.specs.DebugNames.{with_names, names_text}
+use Rattle.comp_builder.specs.Built.{Built}
+use Rattle.comp_bytes.specs.DebugNames.{names_text}
+use Rattle.comp_builder.specs.Naming.{with_names}
 use Rattle.comp_bytes.specs.declared.def.Def.{Def}
 use Rattle.comp_bytes.specs.declared.def.Def.TheVariants as defs
 use Rattle.comp_bytes.specs.declared.def.Item.TheVariants as items

@@ -3,7 +3,7 @@ use Rattle.std.proofs.Common.{◌+◌, inr, ◌≡◌, ◌∙◌, ℕ, ◌<◌, 
 use Rattle.std.proofs.lemmas.List.{map_more, take_more, take_all}
 use Rattle.std.specs.List.{AllByRecursion}
 use Rattle.comp_lists.proofs.Lists.{AllByRecursion-push, AllByRecursion-at}
-use Rattle.comp_bytes.specs.Built.{Built}
+use Rattle.comp_builder.specs.Built.{Built}
 use Rattle.comp_bytes.specs.Places.{IsAt}
 use Rattle.comp_bytes.proofs.Places.{in_range}
 use Rattle.comp_bytes.specs.declared.canon.CanonicalOption.{CanonicalOption}

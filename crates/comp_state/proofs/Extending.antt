@@ -1,6 +1,6 @@
 -- What was built only grows at its end.
 use Rattle.std.proofs.Common.{◌≡◌, ◌∙◌, ℕ, List, [], ◌∷◌, ◌++◌, sym, ap, append_assoc, append-nil, Option, Result, Ok, Err}
-use Rattle.comp_bytes.specs.Built.{Built, Adds, name_of}
+use Rattle.comp_builder.specs.Built.{Built, Adds, name_of}
 use Rattle.comp_bytes.specs.Spaces.{items_in}
 use Rattle.comp_bytes.specs.declared.def.Def.{Def}
 use Rattle.comp_bytes.specs.declared.space.Space.{Space}

@@ -3,7 +3,7 @@
 use Rattle.std.specs.Prelude.{◌≡◌, ◌++◌, ℕ, List, Option, Some, IsSome, IsTrue}
 use Rattle.std.specs.List.{AllByRecursion}
 use Rattle.comp_lists.specs.Found.{found}
-use Rattle.comp_bytes.specs.Built.{Built}
+use Rattle.comp_builder.specs.Built.{Built}
 use Rattle.comp_bytes.specs.declared.def.Def.{Def}
 use Rattle.comp_bytes.specs.declared.name.Name.{Name}
 use Rattle.comp_worlds.specs.Worlds.{IsWorld, imported_text, core_name_of}

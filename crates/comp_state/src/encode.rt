@@ -3,7 +3,7 @@
 
 ghost use Rattle.std.specs.Prelude.{◌≡◌, [], ◌∷◌, ◌++◌, List, ℕ, IfOk, IfErr, OnOk, IsOk};
 ghost use Rattle.comp_bytes.specs.Grammar.{Spells};
-ghost use Rattle.comp_bytes.specs.DebugNames.{with_names};
+ghost use Rattle.comp_builder.specs.Naming.{with_names};
 ghost use Rattle.comp_bytes.specs.Scopes.{Scoped};
 ghost use Rattle.comp_bytes.specs.declared.def.Def.{Def};
 ghost use Rattle.comp_worlds.specs.Worlds.{IsWorld};
@@ -13,7 +13,8 @@ ghost use Rattle.comp_state.specs.Rules.{Grows, IsBuilt, expected};
 
 use crate::fault::StateFault;
 use crate::state::EncodingState;
-use comp_bytes::{BuildFault, ComponentBuilder};
+use comp_builder::ComponentBuilder;
+use comp_bytes::BuildFault;
 use comp_worlds::ComponentWorld;
 use std::alloc::Global;
 

@@ -1,11 +1,11 @@
 //! What is held while a world is encoded.
 
 ghost use Rattle.std.specs.Prelude.{◌≡◌, [], IfOk, None};
-ghost use Rattle.comp_bytes.specs.Built.{nothing_built};
+ghost use Rattle.comp_builder.specs.Built.{nothing_built};
 ghost use Rattle.comp_worlds.specs.Worlds.{IsWorld};
 
 use crate::indexes::core_names;
-use comp_bytes::ComponentBuilder;
+use comp_builder::ComponentBuilder;
 use comp_lists::{Keyed, Text};
 use comp_worlds::ComponentWorld;
 use std::alloc::{AllocError, Global};

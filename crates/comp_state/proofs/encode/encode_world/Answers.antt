@@ -1,5 +1,5 @@
 use Rattle.std.proofs.Common.{◌≡◌, refl, rules}
-use Rattle.comp_bytes.specs.DebugNames.{with_names}
+use Rattle.comp_builder.specs.Naming.{with_names}
 use Rattle.std.proofs.lemmas.Result.{IfOk-weaker}
 use Rattle.comp_state.specs.Rules.{IsBuilt}
 use Rattle.comp_state.proofs.Building.{built_more, names_grow, encoded_lacks}

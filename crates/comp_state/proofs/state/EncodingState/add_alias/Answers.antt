@@ -1,5 +1,5 @@
 use Rattle.std.proofs.Common.{◌≡◌, ap, rules}
-use Rattle.comp_bytes.specs.Built.{Built}
+use Rattle.comp_builder.specs.Built.{Built}
 use Rattle.comp_state.specs.Encoding.{Encoding, IsOffered}
 use Rattle.comp_state.specs.Facts.{IsMain}
 use Rattle.comp_state.proofs.Growth.{IsEncoding-kept, IsEncoding-aliased}

@@ -1,6 +1,6 @@
 use Rattle.std.proofs.Common.{◌≡◌, ◌∙◌, ap}
 use Rattle.std.specs.List.{AllZip}
-use Rattle.comp_bytes.specs.Built.{Built}
+use Rattle.comp_builder.specs.Built.{Built}
 use Rattle.comp_worlds.specs.Worlds.{fields_of}
 use Rattle.comp_state.specs.Encoding.{Encoding}
 use Rattle.comp_state.specs.Facts.{IsEntryFor}

@@ -1,5 +1,5 @@
 use Rattle.std.proofs.Common.{◌≡◌, ◌∙◌, ◌∷◌, [], ap, rules}
-use Rattle.comp_bytes.specs.Built.{Built}
+use Rattle.comp_builder.specs.Built.{Built}
 use Rattle.comp_bytes.specs.Spaces.{items_in}
 use Rattle.comp_bytes.specs.declared.space.Space.TheVariants as spaces
 use Rattle.comp_worlds.specs.declared.world.ComponentWorld.{ComponentWorld}

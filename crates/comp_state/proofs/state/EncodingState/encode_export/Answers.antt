@@ -1,5 +1,5 @@
 use Rattle.std.proofs.Common.{◌≡◌, ◌∙◌, ◌∷◌, [], ap}
-use Rattle.comp_bytes.specs.Built.{Built}
+use Rattle.comp_builder.specs.Built.{Built}
 use Rattle.comp_worlds.specs.Keys.{key_text}
 use Rattle.comp_state.specs.Encoding.{Encoding}
 use Rattle.comp_state.specs.Facts.{IsLiftFor}

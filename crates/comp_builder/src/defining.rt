@@ -7,18 +7,16 @@
 
 ghost use Rattle.std.specs.Prelude.{◌≡◌, IfOk, None};
 ghost use Rattle.comp_bytes.specs.Spaces.{kind_space, export_space, sort_space, description_space};
-ghost use Rattle.comp_bytes.specs.Built.{Adds};
+ghost use Rattle.comp_builder.specs.Built.{Adds};
 ghost use Rattle.comp_bytes.specs.Places.{IsAt};
-ghost use Rattle.comp_bytes.specs.Core.{IsCoreModule};
-ghost use Rattle.comp_bytes.specs.Optional.{option_now};
+ghost use Rattle.comp_builder.specs.Core.{IsCoreModule};
+ghost use Rattle.comp_builder.specs.Optional.{option_now};
 
 use crate::builder::ComponentBuilder;
-use crate::canon::{CanonicalOption, Intrinsic};
-use crate::def::{Argument, CoreArgument, CoreInlineExport, Def, Item};
-use crate::fault::BuildFault;
-use crate::space::{ComponentExportKind, ExportKind, Sort, Space};
-use crate::types::{
-    Alias, DefinedType, Description, ExternName, FuncTypeDef, InstanceType, TypeDef,
+use comp_bytes::{
+    Alias, Argument, BuildFault, CanonicalOption, ComponentExportKind, CoreArgument,
+    CoreInlineExport, Def, DefinedType, Description, ExportKind, ExternName, FuncTypeDef,
+    InstanceType, Intrinsic, Item, Sort, Space, TypeDef,
 };
 use comp_lists::{Seq, Text};
 

@@ -3,19 +3,14 @@
 
 ghost use Rattle.std.specs.Prelude.{◌≡◌, ◌+◌, ◌<◌, ◌≤◌, ◌^◌, ◌++◌, ◌∷◌, [], List, ℕ, length, IfOk, IfErr, OnOk, OnErr, MatchResult, Some, None, Option, option_to_list};
 ghost use Rattle.comp_bytes.specs.Spaces.{place, items_in, space_of};
-ghost use Rattle.comp_bytes.specs.Built.{Built, nothing_built, and_then, name_of, Counts, Full, Adds};
+ghost use Rattle.comp_builder.specs.Built.{Built, nothing_built, and_then, name_of, Counts, Full, Adds};
 ghost use Rattle.comp_bytes.specs.Places.{IsAt};
 ghost use Rattle.comp_bytes.specs.Grammar.{Spells, spelling_of};
 ghost use Rattle.comp_bytes.specs.Written.{Refused};
-ghost use Rattle.comp_bytes.specs.DebugNames.{AddsNames};
-ghost use Rattle.comp_bytes.specs.Optional.{option_now};
+ghost use Rattle.comp_builder.specs.Naming.{AddsNames};
+ghost use Rattle.comp_builder.specs.Optional.{option_now};
 
-use crate::def::{Def, Item};
-use crate::fault::{BuildFault, counted};
-use crate::name::Name;
-use crate::naming::put_names;
-use crate::sections::put_component;
-use crate::space::Space;
+use comp_bytes::{BuildFault, Def, Item, Name, Space, component_bytes, names_bytes, next_count};
 use comp_lists::{Seq, Text};
 use std::alloc::{AllocError, Global};
 use std::marker::Model;
@@ -33,7 +28,7 @@ pub struct ComponentBuilder {
 }
 
 impl Model for ComponentBuilder {
-    ghost use Rattle.comp_bytes.specs.Built.{Built, Counts};
+    ghost use Rattle.comp_builder.specs.Built.{Built, Counts};
 
     ghost Value = { Built };
 
@@ -116,7 +111,7 @@ impl ComponentBuilder {
         ensures at { IfOk result (λ index. IsAt self.new.defs space index def) }
     {
         let index = self.counts[space.place()];
-        let next = counted(index as u128 + 1)?;
+        let next = next_count(index)?;
         let name = named_item(self.allocator(), space, index, debug)?;
         push_both(&mut self.defs, &mut self.names, def, name)?;
         self.counts[space.place()] = next;
@@ -133,8 +128,7 @@ impl ComponentBuilder {
         if self.names.is_empty() {
             return Ok(());
         }
-        let mut contents = Vec::new(self.allocator());
-        put_names(&mut contents, self.names.as_slice())?;
+        let contents = names_bytes(self.allocator(), self.names.as_slice())?;
         let name = Text::from_str(self.allocator(), "component-name")?;
         let contents = Seq::from_vec(contents);
         self.defs.push(Def::Item(Item::Custom { name, contents }))?;
@@ -148,8 +142,6 @@ impl ComponentBuilder {
         ensures ok { IfOk result (λ v. Spells v.items self.defs) }
         ensures err { IfErr result (Refused (spelling_of self.defs).counts) }
     {
-        let mut out = Vec::new(self.allocator());
-        put_component(&mut out, self.defs.as_slice())?;
-        Ok(out)
+        component_bytes(self.allocator(), self.defs.as_slice())
     }
 }

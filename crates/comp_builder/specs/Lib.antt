@@ -1,0 +1,4 @@
+pub mod Built
+pub mod Naming
+pub mod Optional
+pub mod Core
