@@ -10,7 +10,9 @@ ghost use Rattle.comp_bytes.specs.Written.{Refused};
 ghost use Rattle.comp_builder.specs.Naming.{AddsNames};
 ghost use Rattle.comp_builder.specs.Optional.{option_now};
 
-use comp_bytes::{BuildFault, Def, Item, Name, Space, component_bytes, names_bytes, next_count};
+use comp_bytes::{
+    BuildFault, Def, Defs, Item, Name, Space, component_bytes, names_bytes, next_count,
+};
 use comp_lists::{Seq, Text};
 use std::alloc::{AllocError, Global};
 use std::marker::Model;
@@ -22,7 +24,7 @@ use std::marker::Model;
 /// names is one of an item at hand is for the caller to see to: definitions are added as they stand.
 #[derive(Drop)]
 pub struct ComponentBuilder {
-    defs: Vec<Def>,
+    defs: Defs,
     names: Vec<Name>,
     counts: [u32; 10],
 }
@@ -32,20 +34,20 @@ impl Model for ComponentBuilder {
 
     ghost Value = { Built };
 
-    ghost view = { λ b. record { defs = b.defs.items; names = b.names.items } };
+    ghost view = { λ b. record { defs = b.defs; names = b.names.items } };
 
-    ghost invariant = { λ b. Counts b.counts b.defs.items };
+    ghost invariant = { λ b. Counts b.counts b.defs };
 }
 
 /// Adds to both lists, or to none.
 fn push_both(
-    defs: &mut Vec<Def>,
+    defs: &mut Defs,
     names: &mut Vec<Name>,
     def: Def,
     name: Option<Name>,
 ) -> Result<(), AllocError>
-    ensures ok { OnOk result ((defs.new.items ≡ defs.old.items ++ def ∷ []) × (names.new.items ≡ names.old.items ++ option_to_list name)) }
-    ensures err { OnErr result ((defs.new.items ≡ defs.old.items) × (names.new.items ≡ names.old.items)) }
+    ensures ok { OnOk result ((defs.new ≡ defs.old ++ def ∷ []) × (names.new.items ≡ names.old.items ++ option_to_list name)) }
+    ensures err { OnErr result ((defs.new ≡ defs.old) × (names.new.items ≡ names.old.items)) }
 {
     match name {
         None => {
@@ -88,7 +90,7 @@ impl ComponentBuilder {
         ensures { result ≡ nothing_built }
     {
         ComponentBuilder {
-            defs: Vec::new(alloc),
+            defs: Seq::new(alloc),
             names: Vec::new(alloc),
             counts: [0; 10],
         }
@@ -96,7 +98,7 @@ impl ComponentBuilder {
 
     /// The allocator that the component grows in.
     pub(crate) fn allocator(&self) -> Global {
-        *self.defs.allocator()
+        *self.names.allocator()
     }
 
     /// Adds a definition that makes an item of this space, with its debug name.
@@ -116,6 +118,13 @@ impl ComponentBuilder {
         push_both(&mut self.defs, &mut self.names, def, name)?;
         self.counts[space.place()] = next;
         Ok(index)
+    }
+
+    /// The definitions that were added, in order.
+    pub fn definitions(&self) -> &Defs
+        ensures { result.now ≡ self.now.defs }
+    {
+        &self.defs
     }
 
     /// Appends the custom section `component-name` with the debug names, where there are any: for each

@@ -47,7 +47,7 @@ within : (w : ComponentWorld) (earlier : List Def) (d : Def) → IsRight w earli
 within w earlier (defs.Component inner) h = absurd h
 within w earlier (defs.Item (items.CoreModule bytes)) h = (tt, tt)
 within w earlier (defs.Item (items.CoreInstantiate number arguments)) h = ((h.scoped, arguments_within w earlier arguments w.main.imports.modules h.each), tt)
-within w earlier (defs.Item (items.CoreExports entries)) h = (entries_within earlier entries h, tt)
+within w earlier (defs.Item (items.CoreExports entries)) h = (entries_within earlier entries h.each, tt)
 within w earlier (defs.Item (items.Instantiate component arguments)) h = absurd h
 within w earlier (defs.Item (items.Alias (aliases.Export sort instance name))) h = absurd h
 within w earlier (defs.Item (items.Alias (aliases.CoreExport kinds.Func instance name))) h = ((in_range h.of.made, tt), tt)

@@ -1,6 +1,6 @@
 -- The imports of main: each is given what its role asks for, in order.
-use Rattle.std.proofs.Common.{Bool, true, false, ◌||◌, Some, Result, Ok, Err, inl, ◌≡◌, ◌∙◌, ℕ, List, [], ◌∷◌, ◌++◌, refl, sym, ap, subst, append_assoc, map, length, IsSome, Contains}
-use Rattle.std.specs.List.{AllByRecursion, AllZip, list_any, flat_map}
+use Rattle.std.proofs.Common.{Bool, true, false, ◌||◌, Some, Result, Ok, Err, inl, ◌≡◌, ◌∙◌, ℕ, List, [], ◌∷◌, ◌++◌, refl, sym, ap, ap₂, subst, append_assoc, append-nil, map, length, IsSome, Contains}
+use Rattle.std.specs.List.{AllByRecursion, AllZip, IsDistinct, list_any, flat_map}
 use Rattle.comp_lists.specs.Found.{found}
 use Rattle.std.proofs.lemmas.Slice.Eq.{bytes_eq-Decides}
 use Rattle.std.proofs.lemmas.Grind.{flat_map-append}
@@ -80,6 +80,21 @@ fields_step old mid new before after entry all rest f h same extends grows serve
       finds = h.finds.1;
     }
 
+-- entries have the names of the fields that they serve
+entry_names : (w : ComponentWorld) (ds : List Def) (es : List CoreInlineExport) (fs : List (List ℕ × Import)) → AllZip (IsEntryFor w ds) es fs → map (λ e. e.name) es ≡ map (λ f. f.0) fs
+entry_names w ds [] [] h = refl
+entry_names w ds (e ∷ es) (f ∷ fs) h = ap₂ (λ n ns. n ∷ ns) h.0.named (entry_names w ds es fs h.1)
+entry_names w ds [] (f ∷ fs) h = absurd h
+entry_names w ds (e ∷ es) [] h = absurd h
+
+-- when all fields are served, the names of the entries differ as those of the fields do
+pub entries_apart : (old new : Encoding) (entries : List CoreInlineExport) (all rest : List (List ℕ × Import)) → FieldsSoFar old new entries all rest → rest ≡ [] →
+    IsDistinct bytes_eq (map (λ f. f.0) all) → IsDistinct bytes_eq (map (λ e. e.name) entries)
+entries_apart old new entries all rest h ended apart =
+    let done : h.done ≡ all = sym (append-nil h.done) ∙ (ap (λ r. h.done ++ r) (sym ended) ∙ h.split) in
+    let names : map (λ e. e.name) entries ≡ map (λ f. f.0) all = entry_names old.world new.built.defs entries h.done h.serves ∙ ap (λ fs. map (λ f. f.0) fs) done in
+    subst (λ (ns : List (List ℕ)). IsDistinct bytes_eq ns) (sym names) apart
+
 -- the modules whose imports were served so far, in order, and those that are left
 pub record GroupsSoFar (old new : Encoding) (arguments : List CoreArgument) (all rest : List (List ℕ × ImportInstance)) : Type 0 where
   pub done : List (List ℕ × ImportInstance)
@@ -126,11 +141,11 @@ pub record ServesGroup (w : ComponentWorld) (mid new : List Def) (argument : Cor
   pub serves : IsArgumentFor w new argument group
 
 pub serve_group : (w : ComponentWorld) (mid new : Built) (index : ℕ) (entries : List CoreInlineExport) (name : List ℕ) (group : List ℕ × ImportInstance) →
-    AllZip (IsEntryFor w mid.defs) entries (fields_of group.1) → new.defs ≡ mid.defs ++ defs.Item (items.CoreExports entries) ∷ [] →
+    AllZip (IsEntryFor w mid.defs) entries (fields_of group.1) → IsDistinct bytes_eq (map (λ e. e.name) entries) → new.defs ≡ mid.defs ++ defs.Item (items.CoreExports entries) ∷ [] →
     IsAt new.defs spaces.CoreInstance index (defs.Item (items.CoreExports entries)) → name ≡ group.0 →
     ServesGroup w mid.defs new.defs (record { name = name; instance = index }) group
-serve_group w mid new index entries name group each appended at named =
-    let g : Grows w mid.defs new.defs [] = Grows-by (defs.Item (items.CoreExports entries)) appended (entries_in_range w mid.defs entries (fields_of group.1) each) in
+serve_group w mid new index entries name group each apart appended at named =
+    let g : Grows w mid.defs new.defs [] = Grows-by (defs.Item (items.CoreExports entries)) appended (record { each = entries_in_range w mid.defs entries (fields_of group.1) each; apart = apart }) in
     record {
       grows = g;
       serves = record { named = named; serves = record { entries = entries; made = at; each = AllZip-weaker (λ x y. IsEntryFor-kept g) entries (fields_of group.1) each } };

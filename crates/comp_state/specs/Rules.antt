@@ -2,7 +2,8 @@
 -- explainer: component definitions). They are what the steps promise to the run of the list; no rule is
 -- part of a public promise.
 use Rattle.std.specs.Prelude.{◌≡◌, ◌<◌, ℕ, List, [], ◌∷◌, ◌++◌, Option, Some, None, map, filter}
-use Rattle.std.specs.List.{AllByRecursion, AllZip, filter_map}
+use Rattle.std.specs.List.{AllByRecursion, AllZip, IsDistinct, filter_map}
+use Rattle.std.specs.Str.{bytes_eq}
 use Rattle.comp_bytes.specs.Spaces.{items_in}
 use Rattle.comp_bytes.specs.declared.space.Space.TheVariants as spaces
 use Rattle.comp_bytes.specs.declared.space.ExportKind.TheVariants as kinds
@@ -50,6 +51,11 @@ pub record IsEntry (earlier : List Def) (e : CoreInlineExport) : Type 0 where
   pub kind : e.kind ≡ kinds.Func
   pub scoped : e.index < items_in spaces.CoreFunc earlier
 
+-- the entries of a bag are core functions, under names that differ
+pub record AreEntries (earlier : List Def) (entries : List CoreInlineExport) : Type 0 where
+  pub each : AllByRecursion (IsEntry earlier) entries
+  pub apart : IsDistinct bytes_eq (map (λ e. e.name) entries)
+
 abbrev pub IsAliasRight : ComponentWorld → List Def → Alias → Type 0
 IsAliasRight w earlier (aliases.CoreExport kinds.Func instance name) = AliasesMain w earlier instance name
 IsAliasRight w earlier _ = ⊥
@@ -66,7 +72,7 @@ IsExportRight w earlier name _ index _ = ⊥
 abbrev pub IsItemRight : ComponentWorld → List Def → Item → Type 0
 IsItemRight w earlier (items.CoreModule bytes) = Unit {0}
 IsItemRight w earlier (items.CoreInstantiate number arguments) = InstantiatesMain w earlier number arguments
-IsItemRight w earlier (items.CoreExports entries) = AllByRecursion (IsEntry earlier) entries
+IsItemRight w earlier (items.CoreExports entries) = AreEntries earlier entries
 IsItemRight w earlier (items.Instantiate component arguments) = ⊥
 IsItemRight w earlier (items.Alias a) = IsAliasRight w earlier a
 IsItemRight w earlier (items.Type t) = t ≡ types.Func plain_function

@@ -2,10 +2,8 @@
 #![tactic(auto, using(crate::proofs::Extending::extending))]
 
 ghost use Rattle.std.specs.Prelude.{◌≡◌, [], ◌∷◌, ◌++◌, List, ℕ, IfOk, IfErr, OnOk, IsOk};
-ghost use Rattle.comp_bytes.specs.Grammar.{Spells};
 ghost use Rattle.comp_builder.specs.Naming.{with_names};
 ghost use Rattle.comp_bytes.specs.Scopes.{Scoped};
-ghost use Rattle.comp_bytes.specs.declared.def.Def.{Def};
 ghost use Rattle.comp_worlds.specs.Worlds.{IsWorld};
 ghost use Rattle.comp_state.specs.Causes.{IsCause, IsBuildRefusal, LacksEncoding, IsEncoded};
 ghost use Rattle.comp_state.specs.Encoding.{Extends};
@@ -18,23 +16,23 @@ use comp_bytes::BuildFault;
 use comp_worlds::ComponentWorld;
 use std::alloc::Global;
 
-/// The bytes of a component, with the names of its items.
-fn write_component(mut component: ComponentBuilder) -> Result<Vec<u8>, BuildFault>
-    ensures ok { IfOk result (λ bytes. Spells bytes.items (with_names component).defs) }
+/// A component, with the names of its items.
+fn name_items(mut component: ComponentBuilder) -> Result<ComponentBuilder, BuildFault>
+    ensures ok { IfOk result (λ named. named ≡ with_names component) }
     ensures cause { IfErr result IsBuildRefusal }
 {
     component.append_names()?;
-    component.finish()
+    Ok(component)
 }
 
 impl EncodingState<'_> {
-    /// The bytes of the component, with the names of its items.
-    pub fn finish(self) -> Result<Vec<u8>, StateFault>
-        ensures ok { IfOk result (λ bytes. Spells bytes.items (with_names self.entry.built).defs) }
+    /// The component as far as it was built, with the names of its items.
+    pub fn finish(self) -> Result<ComponentBuilder, StateFault>
+        ensures ok { IfOk result (λ component. component ≡ with_names self.entry.built) }
         ensures cause { IfErr result (IsCause self.entry.world) }
     {
-        let bytes = write_component(self.component)?;
-        Ok(bytes)
+        let component = name_items(self.component)?;
+        Ok(component)
     }
 
     /// All steps before the end, from nothing.
@@ -53,13 +51,14 @@ impl EncodingState<'_> {
     }
 }
 
-/// The component of a validated world.
+/// The component of a validated world, definition by definition, with the names of its items.
 ///
 /// Refused where memory is refused, where a function that is imported or exported has no string
-/// encoding (`E9`, with its place), and where a count or a size would pass 2^32 - 1 (`E16`).
-pub fn encode_world(alloc: Global, world: &ComponentWorld) -> Result<Vec<u8>, StateFault>
+/// encoding (`E9`, with its place), and where a space would have more than 2^32 - 1 items, or a count or a
+/// size among the names would pass that (`E16`).
+pub fn encode_world(alloc: Global, world: &ComponentWorld) -> Result<ComponentBuilder, StateFault>
     requires { IsWorld world.now }
-    ensures ok { IfOk result (λ bytes. (ds : List Def) × Spells bytes.items ds × Scoped ds × IsBuilt world.now ds) }
+    ensures ok { IfOk result (λ component. Scoped component.defs × IsBuilt world.now component.defs) }
     ensures refused { IsOk result → (place : List ℕ) → LacksEncoding world.now place → ⊥ }
     ensures cause { IfErr result (IsCause world.now) }
 {

@@ -1,8 +1,9 @@
 //! Main's core module, and its instance, each import of which is given what its role asks for.
 #![tactic(auto, using(crate::proofs::Extending::extending))]
 
-ghost use Rattle.std.specs.Prelude.{◌≡◌, [], ◌∷◌, ◌++◌, List, ℕ, IfOk, IfErr, OnOk, IsSome, Some, IsTrue, ◌↔◌, is_some};
-ghost use Rattle.std.specs.List.{AllZip, AllByRecursion};
+ghost use Rattle.std.specs.Prelude.{◌≡◌, [], ◌∷◌, ◌++◌, List, ℕ, IfOk, IfErr, OnOk, IsSome, Some, IsTrue, ◌↔◌, is_some, map};
+ghost use Rattle.std.specs.List.{AllZip, AllByRecursion, IsDistinct};
+ghost use Rattle.std.specs.Str.{bytes_eq};
 ghost use Rattle.comp_lists.specs.Found.{found};
 ghost use Rattle.comp_bytes.specs.Places.{IsAt};
 ghost use Rattle.comp_worlds.specs.Functions.{of_function};
@@ -129,6 +130,7 @@ impl EncodingState<'_> {
         ensures extends { Extends self.old.built self.new.built }
         ensures grows { OnOk result (Grows self.old.world self.old.built.defs self.new.built.defs []) }
         ensures serves { IfOk result (λ entries. AllZip (IsEntryFor self.old.world self.new.built.defs) entries fields.now) }
+        ensures apart { IfOk result (λ entries. IsDistinct bytes_eq (map (λ e. e.name) entries)) }
         ensures cause { IfErr result (IsFieldsRefusal self.old.world «module».now fields.now) }
     {
         let mut entries = Seq::new(self.alloc);

@@ -1,4 +1,6 @@
-use Rattle.std.proofs.Common.{◌≡◌, refl, rules}
+use Rattle.std.proofs.Common.{◌≡◌, refl, rules, subst, sym}
+use Rattle.comp_bytes.specs.Scopes.{Scoped}
+use Rattle.comp_builder.specs.Built.{Built}
 use Rattle.comp_builder.specs.Naming.{with_names}
 use Rattle.std.proofs.lemmas.Result.{IfOk-weaker}
 use Rattle.comp_state.specs.Rules.{IsBuilt}
@@ -14,12 +16,8 @@ returns-clause-ok c =
     built_more c.args.world.now c.encode_all.new.self.built.defs (with_names c.encode_all.new.self.built).defs built
     (names_grow c.args.world.now c.encode_all.new.self.built (with_names c.encode_all.new.self.built) refl) in
     IfOk-weaker c.finish.result _ _
-    (λ bytes spells. (
-      (with_names c.encode_all.new.self.built).defs,
-      spells,
-      built_scoped c.args.world.now (with_names c.encode_all.new.self.built).defs whole,
-      whole,
-    )) c.finish.ensures.ok
+    (λ component same. subst (λ (b : Built). Scoped b.defs × IsBuilt c.args.world.now b.defs) (sym same)
+        (built_scoped c.args.world.now (with_names c.encode_all.new.self.built).defs whole, whole)) c.finish.ensures.ok
 
 pub returns-clause-refused : goal.returns-clause-refused
 returns-clause-refused c = λ _. encoded_lacks c.args.world.now (search rules)

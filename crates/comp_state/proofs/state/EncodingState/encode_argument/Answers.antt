@@ -19,7 +19,7 @@ served : (c : goal.In_ok-instance) →
 served c =
     let each : AllZip (IsEntryFor c.self-2.inside.world.now c.self-2.inside.component.defs) c.in_ok-entries.entries (fields_of c.args.instance.now) =
     rw (world c, built c, ← c.fields.ensures) c.in_ok-entries.ensures.serves in
-    serve_group c.self-2.inside.world.now c.self-2.inside.component c.core_instantiate_exports.new.self c.in_ok-instance.instance c.in_ok-entries.entries c.in_ok-name.name (c.args.module.now, c.args.instance.now) each
+    serve_group c.self-2.inside.world.now c.self-2.inside.component c.core_instantiate_exports.new.self c.in_ok-instance.instance c.in_ok-entries.entries c.in_ok-name.name (c.args.module.now, c.args.instance.now) each c.in_ok-entries.ensures.apart
     (ap (λ (b : Built). b.defs) c.in_ok-instance.ensures.adds.1) c.in_ok-instance.ensures.at c.in_ok-name.ensures
 
 pub invariant_of-self-2 : goal.invariant_of-self-2

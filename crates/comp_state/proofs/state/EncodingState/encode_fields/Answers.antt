@@ -1,7 +1,7 @@
-use Rattle.std.proofs.Common.{◌≡◌, ◌∙◌, List, [], ◌∷◌, subst, sym}
+use Rattle.std.proofs.Common.{◌≡◌, ◌∙◌, List, [], ◌∷◌, subst, sym, rules}
 use Rattle.comp_bytes.specs.declared.def.CoreInlineExport.{CoreInlineExport}
 use Rattle.comp_worlds.specs.declared.imports.Import.{Import}
-use Rattle.comp_state.proofs.Serving.{FieldsSoFar, fields_start, fields_step}
+use Rattle.comp_state.proofs.Serving.{FieldsSoFar, fields_start, fields_step, entries_apart}
 use Rattle.comp_state.proofs.state.EncodingState.encode_fields.Goals as goal
 use Rattle.std.proofs.Common.{ℕ}
 
@@ -25,3 +25,8 @@ loop-field-preserved c =
       fields_step c.args.self.now c.loop-field.self c.encode_field.new.self c.loop-field.entries c.push.new.self c.in_ok-entry.entry c.args.fields.now c.next.new.self entry before
           c.in_ok-entry.ensures.same c.in_ok-entry.ensures.extends c.in_ok-entry.ensures.grows c.in_ok-entry.ensures.serves c.in_ok-push.ensures.ok,
     )
+
+pub returns-clause-apart : goal.returns-clause-apart
+returns-clause-apart c =
+    entries_apart c.args.self.now c.loop-field.self c.loop-field.entries c.args.fields.now c.loop-field.field-iterator c.loop-field.invariant.2 (search rules)
+        c.entries-field-items.ensures.unique
