@@ -128,3 +128,10 @@ pub stands_small : {A : Type 0} (made : A → Option Space) (Rule : Scope → A 
 stands_small {A} made Rule own xs i h space =
     let e : counted own space ≡ scope_of made (take i xs) space = ap (λ (s : Scope). s space) h.makes in
     omega (arith, e, count_by-le-length (λ (y : A). is_space space (made y)) (take i xs), length-take i xs)
+
+pub taken : {A : Type 0} (xs : List A) (i : ℕ) → i < length xs → length (take i xs) ≡ i
+taken xs i lt = omega (arith, length-take i xs)
+
+-- a sum of one more
+pub sum_more : {A : Type 0} (f : A → ℕ) (xs : List A) (i : ℕ) (x : A) → i < length xs → x ≡ get_or xs i x → sum_by f (take (i + 1) xs) ≡ sum_by f (take i xs) + f x
+sum_more {A} f xs i x lt is = ap (sum_by f) (take_more xs i x lt ∙ ap (λ (y : A). take i xs ++ y ∷ []) (sym is)) ∙ sum_by_push f (take i xs) x

@@ -1,6 +1,6 @@
 -- What the functions that check references look for: the first item that is missing. Component model, binary format:
 -- index spaces.
-use Rattle.std.specs.Prelude.{ℕ, ◌≡◌, ◌+◌, ◌==◌, nat_lt, List, [], ◌∷◌, Option, Some, None, Result, Ok, Err, cond, if◌then◌else◌, slice_get, get_or, ◌⊎◌}
+use Rattle.std.specs.Prelude.{ℕ, ◌≡◌, ◌+◌, ◌==◌, nat_lt, List, [], ◌∷◌, Option, Some, None, Result, Ok, Err, cond, if◌then◌else◌, slice_get, get_or, length, ◌⊎◌}
 use Rattle.comp_bytes.specs.Spaces.{place, is_space, member_space, item_space}
 use Rattle.comp_bytes.specs.References.{Reference, item_references}
 use Rattle.comp_bytes.specs.Scopes.{Scope, InsideScoped, InScope}
@@ -8,9 +8,11 @@ use Rattle.comp_bytes.specs.declared.space.Space.{Space}
 use Rattle.comp_bytes.specs.declared.space.Space.TheVariants as spaces
 use Rattle.comp_bytes.specs.declared.types.Member.{Member}
 use Rattle.comp_bytes.specs.declared.def.Item.{Item}
+use Rattle.comp_bytes.specs.declared.def.Def.{Def}
+use Rattle.comp_check.specs.declared.fault.IndexFault.{IndexFault}
 use Rattle.comp_check.specs.declared.scope.Counts.{Counts}
 use Rattle.comp_check.specs.declared.scope.Lack.{Lack}
-use Rattle.comp_check.specs.Indexes.{FaultBehind, MemberFault, ReferenceFault, InsideFault}
+use Rattle.comp_check.specs.Indexes.{FaultBehind, MemberFault, ReferenceFault, InsideFault, ItemFault, DefFault}
 
 -- the scope that counters hold
 abbrev pub counted : Counts → Scope
@@ -43,5 +45,13 @@ abbrev pub MembersFault : List Scope → List Member → Lack → Type 0
 MembersFault outer members lack = (before : List Member) × FaultBehind member_space (MemberFault outer lack.space lack.index) members before
 
 -- a fault of an item, which these scopes are around
-abbrev pub AroundFault : List Scope → Item → Lack → Type 0
-AroundFault scopes item lack = ReferenceFault scopes (item_references item) lack.space lack.index ⊎ InsideFault scopes lack.space lack.index item
+abbrev pub AroundFault : List Scope → Item → Space → ℕ → Type 0
+AroundFault scopes item space index = ReferenceFault scopes (item_references item) space index ⊎ InsideFault scopes space index item
+
+-- a fault of an item of a component that is nested on this line
+abbrev pub NestedFault : ℕ → Scope → List Item → IndexFault → Type 0
+NestedFault line top inner e = (before : List Item) × FaultBehind item_space (ItemFault (top ∷ []) e.space e.index) inner before × (e.definition ≡ line + (1 + length before))
+
+-- a fault of the definition that begins on this line
+abbrev pub FaultFrom : ℕ → Scope → Def → IndexFault → Type 0
+FaultFrom line scope def e = (within : ℕ) × DefFault within e.space e.index scope def × (e.definition ≡ line + within)

@@ -10,3 +10,4 @@ mod scope;
 mod types;
 
 pub use fault::IndexFault;
+pub use indexes::check_indexes;
