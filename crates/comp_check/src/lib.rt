@@ -2,12 +2,16 @@
 #![tactic(auto)]
 
 mod canon;
+mod checking;
 mod fault;
 mod indexes;
 mod items;
+mod reading;
 mod refers;
 mod scope;
 mod types;
 
-pub use fault::IndexFault;
+pub use checking::check;
+pub use fault::{CheckFault, IndexFault};
 pub use indexes::check_indexes;
+pub use reading::read_component;
