@@ -5,6 +5,8 @@
 ghost use Rattle.std.specs.Prelude.{◌≡◌};
 ghost use Rattle.comp_bytes.specs.Spaces.{place, kind_space, export_space, sort_space};
 
+use std::fmt;
+
 /// A kind of core item that a core instance exports.
 #[derive(Clone, Copy, Debug, PartialEq, Eq)]
 pub enum ExportKind {
@@ -54,6 +56,24 @@ impl Space {
         ensures { result ≡ place self }
     {
         self as usize
+    }
+}
+
+/// The space's word, as `core-func` or `instance`.
+impl fmt::Display for Space {
+    fn fmt<W: fmt::Write>(&self, f: &mut fmt::Formatter<W>) -> fmt::Result {
+        match self {
+            Space::CoreFunc => write!(f, "core-func"),
+            Space::CoreTable => write!(f, "core-table"),
+            Space::CoreMemory => write!(f, "core-memory"),
+            Space::CoreGlobal => write!(f, "core-global"),
+            Space::CoreModule => write!(f, "core-module"),
+            Space::CoreInstance => write!(f, "core-instance"),
+            Space::Func => write!(f, "func"),
+            Space::Type => write!(f, "type"),
+            Space::Component => write!(f, "component"),
+            Space::Instance => write!(f, "instance"),
+        }
     }
 }
 

@@ -1,0 +1,30 @@
+-- The faults of a check, and what each of them says. Component model, binary format.
+use Rattle.std.specs.Prelude.{ℕ, List}
+use Rattle.comp_bytes.specs.declared.def.Def.{Def}
+use Rattle.comp_read.specs.Causes.{IsRefusal}
+use Rattle.comp_read.specs.declared.fault.ReadFault.{ReadFault}
+use Rattle.comp_read.specs.declared.fault.ReadFault.TheVariants as reads
+use Rattle.comp_check.specs.declared.fault.IndexFault.{IndexFault}
+use Rattle.comp_check.specs.declared.fault.CheckFault.{CheckFault}
+use Rattle.comp_check.specs.declared.fault.CheckFault.TheVariants as checks
+use Rattle.comp_check.specs.Indexes.{IsIndexFault}
+
+-- a fault of reading, as one of the check
+abbrev pub of_read : ReadFault → CheckFault
+of_read reads.Memory = checks.Memory
+of_read (reads.Grammar place) = checks.Grammar place
+
+abbrev pub of_index : IndexFault → CheckFault
+of_index f = checks.Index f.definition f.space f.index
+
+-- Why bytes are not read.
+abbrev pub IsUnread : List ℕ → CheckFault → Type 0
+IsUnread bytes checks.Memory = Unit {0}
+IsUnread bytes (checks.Grammar place) = IsRefusal bytes (reads.Grammar place)
+IsUnread bytes _ = ⊥
+
+-- Why definitions are not accepted. Want of memory is always allowed.
+abbrev pub IsUnchecked : List Def → CheckFault → Type 0
+IsUnchecked ds checks.Memory = Unit {0}
+IsUnchecked ds (checks.Index definition space index) = IsIndexFault ds definition space index
+IsUnchecked ds _ = ⊥

@@ -1,0 +1,57 @@
+-- What the functions that check references look for: the first item that is missing. Component model, binary format:
+-- index spaces.
+use Rattle.std.specs.Prelude.{ℕ, ◌≡◌, ◌+◌, ◌==◌, nat_lt, List, [], ◌∷◌, Option, Some, None, Result, Ok, Err, cond, if◌then◌else◌, slice_get, get_or, length, ◌⊎◌}
+use Rattle.comp_bytes.specs.Spaces.{place, is_space, member_space, item_space}
+use Rattle.comp_bytes.specs.References.{Reference, item_references}
+use Rattle.comp_bytes.specs.Scopes.{Scope, InsideScoped, InScope}
+use Rattle.comp_bytes.specs.declared.space.Space.{Space}
+use Rattle.comp_bytes.specs.declared.space.Space.TheVariants as spaces
+use Rattle.comp_bytes.specs.declared.types.Member.{Member}
+use Rattle.comp_bytes.specs.declared.def.Item.{Item}
+use Rattle.comp_bytes.specs.declared.def.Def.{Def}
+use Rattle.comp_check.specs.declared.fault.IndexFault.{IndexFault}
+use Rattle.comp_check.specs.declared.scope.Counts.{Counts}
+use Rattle.comp_check.specs.declared.scope.Lack.{Lack}
+use Rattle.comp_check.specs.Indexes.{FaultBehind, MemberFault, ReferenceFault, InsideFault, ItemFault, DefFault}
+
+-- the scope that counters hold
+abbrev pub counted : Counts → Scope
+counted c space = get_or c.counts (place space) 0
+
+-- a scope with one item more, in the space where one is made
+abbrev pub and_made : Scope → Option Space → Scope
+and_made scope made space = scope space + cond (is_space space made) 1 0
+
+abbrev pub lack_in : Option Counts → Reference → Option Lack
+lack_in None r = Some (record { space = spaces.Component; index = r.outward })
+lack_in (Some c) r = if nat_lt r.index (counted c r.space) then None else Some (record { space = r.space; index = r.index })
+
+abbrev pub or_else : Option Lack → Option Lack → Option Lack
+or_else None other = other
+or_else (Some lack) other = Some lack
+
+-- the first that is missing
+unfoldable pub lacking : List Counts → List Reference → Option Lack
+lacking scopes [] = None
+lacking scopes (r ∷ rs) = or_else (lack_in (slice_get scopes r.outward) r) (lacking scopes rs)
+
+-- what a function answers that looks for it
+abbrev pub Finds : Result (Unit {0}) Lack → Option Lack → Type 0
+Finds (Ok _) found = found ≡ None
+Finds (Err lack) found = found ≡ Some lack
+
+-- a fault of members, which these scopes are around
+abbrev pub MembersFault : List Scope → List Member → Lack → Type 0
+MembersFault outer members lack = (before : List Member) × FaultBehind member_space (MemberFault outer lack.space lack.index) members before
+
+-- a fault of an item, which these scopes are around
+abbrev pub AroundFault : List Scope → Item → Space → ℕ → Type 0
+AroundFault scopes item space index = ReferenceFault scopes (item_references item) space index ⊎ InsideFault scopes space index item
+
+-- a fault of an item of a component that is nested on this line
+abbrev pub NestedFault : ℕ → Scope → List Item → IndexFault → Type 0
+NestedFault line top inner e = (before : List Item) × FaultBehind item_space (ItemFault (top ∷ []) e.space e.index) inner before × (e.definition ≡ line + (1 + length before))
+
+-- a fault of the definition that begins on this line
+abbrev pub FaultFrom : ℕ → Scope → Def → IndexFault → Type 0
+FaultFrom line scope def e = (within : ℕ) × DefFault within e.space e.index scope def × (e.definition ≡ line + within)

@@ -1,0 +1,70 @@
+//! Why a component is not accepted.
+
+ghost use Rattle.std.specs.Prelude.{◌≡◌};
+ghost use Rattle.comp_check.specs.Faults.{of_read, of_index};
+
+use comp_bytes::Space;
+use comp_lists::Text;
+use comp_read::ReadFault;
+use thiserror::Error;
+
+/// An index that names no item which stands before the definition that names it.
+///
+/// `definition` is that definition's number, from 0, where a nested component counts one and then one
+/// for each of its items, before what follows it; a member of an instance type counts as the definition
+/// of that type. Where an outer alias counts more scopes outward than there are, `space` is that of
+/// components and `index` the number of scopes.
+#[derive(Clone, Copy, Debug, PartialEq, Eq)]
+pub struct IndexFault {
+    pub definition: u128,
+    pub space: Space,
+    pub index: u32,
+}
+
+/// Why a component is not accepted.
+#[derive(Debug, Drop, Error)]
+pub enum CheckFault {
+    /// A growth was refused.
+    #[error("C1 Memory")]
+    Memory,
+    /// Where the first section begins that cannot be read, of the innermost component: an offset in the
+    /// whole input. It is 0 where the input does not begin as a component does.
+    #[error("C2 Grammar place={place}")]
+    Grammar { place: usize },
+    /// An index names no item that stands before its definition: see [`IndexFault`].
+    #[error("C3 Index definition={definition} space={space} index={index}")]
+    Index {
+        definition: u128,
+        space: Space,
+        index: u32,
+    },
+    /// A name stands twice in a list of names that are to be apart.
+    #[error("C4 NameTwice name={name}")]
+    NameTwice { name: Text },
+    /// A name of an import or an export has no form of such a name.
+    #[error("C5 NameForm name={name}")]
+    NameForm { name: Text },
+}
+
+impl From<ReadFault> for CheckFault {
+    ghost from_gives = { λ f e. e ≡ of_read f };
+
+    fn from(fault: ReadFault) -> CheckFault {
+        match fault {
+            ReadFault::Memory => CheckFault::Memory,
+            ReadFault::Grammar { place } => CheckFault::Grammar { place },
+        }
+    }
+}
+
+impl From<IndexFault> for CheckFault {
+    ghost from_gives = { λ f e. e ≡ of_index f };
+
+    fn from(fault: IndexFault) -> CheckFault {
+        CheckFault::Index {
+            definition: fault.definition,
+            space: fault.space,
+            index: fault.index,
+        }
+    }
+}

@@ -1,0 +1,140 @@
+//! The items that a definition names, and the space in which it makes one.
+
+ghost use Rattle.std.specs.Prelude.{◌≡◌, ◌∷◌, ◌++◌, [], List, Option};
+ghost use Rattle.std.specs.List.{flat_map};
+ghost use Rattle.comp_bytes.specs.Spaces.{sort_space, alias_space, member_space, item_space, space_of};
+ghost use Rattle.comp_bytes.specs.References.{own, where_some, description_references, options_references, type_at, core_func_at, item_references};
+ghost use Rattle.comp_bytes.specs.declared.space.Space.TheVariants as spaces;
+ghost use Rattle.comp_check.specs.Lacking.{lacking, Finds};
+
+use crate::canon::intrinsic;
+use crate::refers::{Refers, each, optional};
+use crate::scope::{Lack, Scopes};
+use crate::types::{alias, type_def};
+use comp_bytes::{
+    Alias, Argument, CanonicalOption, CoreArgument, Def, Description, Item, Member, Sort, Space,
+};
+
+fn alias_space(alias: &Alias) -> Space
+    ensures { result ≡ alias_space alias.now }
+{
+    match alias {
+        Alias::Export { kind, .. } => kind.space(),
+        Alias::CoreExport { kind, .. } => kind.space(),
+        Alias::Outer { .. } => Space::Type,
+    }
+}
+
+/// The space in which a member of an instance type makes an item.
+pub(crate) fn member_space(member: &Member) -> Option<Space>
+    ensures { result ≡ member_space member.now }
+{
+    match member {
+        Member::Type(_) => Some(Space::Type),
+        Member::Alias(alias) => Some(alias_space(alias)),
+        Member::Export { description, .. } => Some(description.space()),
+    }
+}
+
+/// The space in which an item is made.
+pub(crate) fn item_space(item: &Item) -> Option<Space>
+    ensures { result ≡ item_space item.now }
+{
+    match item {
+        Item::CoreModule(_) => Some(Space::CoreModule),
+        Item::CoreInstantiate { .. } | Item::CoreExports(_) => Some(Space::CoreInstance),
+        Item::Instantiate { .. } => Some(Space::Instance),
+        Item::Alias(alias) => Some(alias_space(alias)),
+        Item::Type(_) | Item::InstanceType(_) => Some(Space::Type),
+        Item::Lift { .. } => Some(Space::Func),
+        Item::Lower { .. } | Item::Intrinsic(_) => Some(Space::CoreFunc),
+        Item::Import { description, .. } => Some(description.space()),
+        Item::Export { sort, .. } => Some(sort.space()),
+        Item::Custom { .. } => None,
+    }
+}
+
+/// The space in which a definition makes an item.
+pub(crate) fn space_of(def: &Def) -> Option<Space>
+    ensures { result ≡ space_of def.now }
+{
+    match def {
+        Def::Item(item) => item_space(item),
+        Def::Component(_) => Some(Space::Component),
+    }
+}
+
+#[tactic(auto, using(crate::proofs::Lacks::chained))]
+fn core_instantiate(scopes: &Scopes, made: u32, args: &[CoreArgument]) -> Result<(), Lack>
+    ensures { Finds result (lacking scopes.now (own spaces.CoreModule made ∷ flat_map (λ a. own spaces.CoreInstance a.instance ∷ []) args.now)) }
+{
+    scopes.check(Space::CoreModule, made)?;
+    each(scopes, args)
+}
+
+#[tactic(auto, using(crate::proofs::Lacks::chained))]
+fn instantiate(scopes: &Scopes, component: u32, args: &[Argument]) -> Result<(), Lack>
+    ensures { Finds result (lacking scopes.now (own spaces.Component component ∷ flat_map (λ a. own (sort_space a.sort) a.index ∷ []) args.now)) }
+{
+    scopes.check(Space::Component, component)?;
+    each(scopes, args)
+}
+
+#[tactic(auto, using(crate::proofs::Lacks::chained))]
+fn lift(scopes: &Scopes, func: u32, options: &[CanonicalOption], ty: u32) -> Result<(), Lack>
+    ensures { Finds result (lacking scopes.now (core_func_at func ++ options_references options.now ++ type_at ty)) }
+{
+    scopes.check(Space::CoreFunc, func)?;
+    each(scopes, options)?;
+    scopes.check(Space::Type, ty)
+}
+
+#[tactic(auto, using(crate::proofs::Lacks::chained))]
+fn lower(scopes: &Scopes, func: u32, options: &[CanonicalOption]) -> Result<(), Lack>
+    ensures { Finds result (lacking scopes.now (own spaces.Func func ∷ options_references options.now)) }
+{
+    scopes.check(Space::Func, func)?;
+    each(scopes, options)
+}
+
+#[tactic(auto, using(crate::proofs::Lacks::chained))]
+fn export(
+    scopes: &Scopes,
+    sort: Sort,
+    index: u32,
+    description: &Option<Description>,
+) -> Result<(), Lack>
+    ensures { Finds result (lacking scopes.now (own (sort_space sort) index ∷ where_some description_references description.now)) }
+{
+    scopes.check(sort.space(), index)?;
+    optional(scopes, description)
+}
+
+/// Whether the items are there that an item names; what stands in an instance type is not looked at.
+#[tactic(auto, unfolding(crate::specs::Lacking::lacking))]
+pub(crate) fn named(scopes: &Scopes, item: &Item) -> Result<(), Lack>
+    ensures { Finds result (lacking scopes.now (item_references item.now)) }
+{
+    match item {
+        Item::CoreModule(_) | Item::InstanceType(_) | Item::Custom { .. } => Ok(()),
+        Item::CoreInstantiate { module, args } => {
+            core_instantiate(scopes, *module, args.as_slice())
+        }
+        Item::CoreExports(exports) => each(scopes, exports.as_slice()),
+        Item::Instantiate { component, args } => {
+            instantiate(scopes, *component, args.as_slice())
+        }
+        Item::Alias(named) => alias(scopes, named),
+        Item::Type(ty) => type_def(scopes, ty),
+        Item::Lift { func, options, ty } => lift(scopes, *func, options.as_slice(), *ty),
+        Item::Lower { func, options } => lower(scopes, *func, options.as_slice()),
+        Item::Intrinsic(made) => intrinsic(scopes, made),
+        Item::Import { description, .. } => description.check(scopes),
+        Item::Export {
+            sort,
+            index,
+            description,
+            ..
+        } => export(scopes, *sort, *index, description),
+    }
+}

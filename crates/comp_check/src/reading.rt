@@ -1,0 +1,23 @@
+//! A component, read from its bytes.
+
+ghost use Rattle.std.specs.Prelude.{◌≡◌, List, IfOk, IfErr};
+ghost use Rattle.comp_bytes.specs.Grammar.{Spells};
+ghost use Rattle.comp_bytes.specs.declared.def.Def.{Def};
+ghost use Rattle.comp_check.specs.Faults.{IsUnread};
+
+use crate::fault::CheckFault;
+use comp_bytes::Defs;
+use std::alloc::Global;
+
+/// The definitions of a component, read from its binary format. Reading asks nothing of indices and
+/// names: [`check`](crate::check) does.
+///
+/// It refuses with [`CheckFault::Memory`] and [`CheckFault::Grammar`] alone.
+pub fn read_component(alloc: Global, bytes: &[u8]) -> Result<Defs, CheckFault>
+    ensures ok { IfOk result (λ defs. Spells bytes.now defs) }
+    ensures same { IfOk result (λ defs. (ds : List Def) → Spells bytes.now ds → ds ≡ defs) }
+    ensures cause { IfErr result (λ e. IsUnread bytes.now e) }
+{
+    comp_bytes::one_list();
+    Ok(comp_read::read_component(alloc, bytes)?)
+}
