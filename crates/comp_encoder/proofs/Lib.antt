@@ -4,5 +4,6 @@ mod Stores
 mod Given
 mod Steps
 mod Runs
+mod Naming
 mod Answered
 mod Worked

@@ -33,7 +33,7 @@ use Rattle.comp_shims.specs.Answers.{CoreType, Value, Answer, Gives, Traps}
 use Rattle.comp_shims.specs.Targets.{Main, Lifted}
 use Rattle.comp_shims.specs.Store.{Thing, Export, CoreItem, Lowering, OfUser, Imported, Lifting, FunctionType, UserInstance, Store, Now}
 use Rattle.comp_state.specs.Facts.{plain_function, IsFunctionType}
-use Rattle.comp_state.specs.Rules.{InstantiatesMain, AliasesMain, ExportsRequired, IsEntry}
+use Rattle.comp_state.specs.Rules.{InstantiatesMain, AliasesMain, ExportsRequired, IsEntry, AreEntries}
 use Rattle.comp_encoder.specs.Machine.{Scope, Machine, Outcome, Done, Trapped, Open, Stuck, address_at, is_of, export_named, all_some, answered}
 use Rattle.comp_encoder.specs.Instances.{ExportType, exported_from, given_to, new_user}
 use Rattle.comp_encoder.specs.Running.{core_argument, core_entry, run}
@@ -237,7 +237,7 @@ module _ {w : ComponentWorld} {earlier : List Def} {c : Scope} {s : Store} (a : 
         agrees_plain d s' t k (record { space = refl; is = record { of = x.0; at = address_at-append c.items (t ∷ []) spaces.CoreFunc core x.0 x.1; is = slice_get-end s.functions (Lifting x.0 []) } }) refl refl refl refl refl,
       )
 
-  pub step_bag : (entries : List CoreInlineExport) → AllByRecursion (IsEntry earlier) entries → Steps w earlier c s (defs.Item (items.CoreExports entries))
+  pub step_bag : (entries : List CoreInlineExport) → AreEntries earlier entries → Steps w earlier c s (defs.Item (items.CoreExports entries))
   step_bag entries h =
       let d : Def = defs.Item (items.CoreExports entries) in
       let t : Thing = record { space = spaces.CoreInstance; address = length s.core_instances } in
@@ -246,7 +246,7 @@ module _ {w : ComponentWorld} {earlier : List Def} {c : Scope} {s : Store} (a : 
       (λ e k.
       let at : (x : ℕ) × (address_at spaces.CoreFunc e.index c.items ≡ Some x) = address_there a spaces.CoreFunc e.index k.scoped in
       (record { space = spaces.CoreFunc; name = e.name; address = at.0 }, rw (k.kind, at.1) refl, record { named = refl; space = rw k.kind refl; at = rw k.kind at.1 }))
-      entries h in
+      entries h.each in
       let s' : Store = record s { core_instances = s.core_instances ++ found.0 ∷ [] } in
       let k : Keeps c.items (c.items ++ t ∷ []) s s' = record {
         things = λ space i y e. address_at-append c.items (t ∷ []) space i y e;

@@ -276,7 +276,7 @@ keeps_the_rules = record {
         (
           (omega arith, refl),
           (
-            (record { kind = refl; scoped = omega arith }, tt),
+            record { each = (record { kind = refl; scoped = omega arith }, tt); apart = tt },
             (
               record { main = refl; scoped = omega arith; each = (f_offered, tt) },
               (record { of = main_made 6 refl; key = g; role = refl }, ((omega arith, refl, function_typed_later), (record { key = keys.Name g; named = refl; lifted = g_lifted }, tt))),

@@ -1,23 +1,26 @@
 -- What the bytes that `encode` answers are (component model, binary format; explainer: component definitions).
-use Rattle.std.specs.Prelude.{ℕ, List}
+use Rattle.std.specs.Prelude.{ℕ, Bool, List, IsTrue}
 use Rattle.comp_bytes.specs.Grammar.{Spells}
 use Rattle.comp_bytes.specs.Scopes.{Scoped}
 use Rattle.comp_bytes.specs.declared.def.Def.{Def}
+use Rattle.comp_names.specs.Names.{NamesOk}
 use Rattle.comp_worlds.specs.declared.world.ComponentWorld.{ComponentWorld}
 use Rattle.comp_worlds.specs.declared.lower.Lower as lower
 use Rattle.comp_encoder.specs.Encoder.{Encoder}
 use Rattle.comp_encoder.specs.Linking.{IsComposed, Links}
 
 -- These bytes are the component of a validated world: they spell a list of definitions, in which each
--- index names an earlier item, which is composed of what the world says, and which links when it is run.
-pub record IsComponentOf (w : ComponentWorld) (bytes : List ℕ) : Type 0 where
+-- index names an earlier item, which is composed of what the world says, and which links when it is run. Where
+-- `validate` is on, no name in it stands twice in its list, and those of imports and exports have their form.
+pub record IsComponentOf (w : ComponentWorld) (validate : Bool) (bytes : List ℕ) : Type 0 where
   pub defs : List Def
   pub spells : Spells bytes defs
   pub scoped : Scoped defs
   pub composed : IsComposed w defs
   pub links : Links w defs
+  pub named : IsTrue validate → NamesOk defs
 
 module _ {L B F : Type 0} (l : lower.Ghosts L B F) where
   -- these bytes are the component of the world that the lower layer prepares of what was gathered
   abbrev pub IsEncoding : Encoder L B → List ℕ → Type 0
-  IsEncoding e bytes = IsComponentOf (l.prepared e.lower e.gathered) bytes
+  IsEncoding e bytes = IsComponentOf (l.prepared e.lower e.gathered) e.gathered.options.validate bytes

@@ -54,6 +54,10 @@ module _ {L B F : Type 0} (l : lower.Ghosts L B F) where
         };
       }
 
+  -- the encoder with `validate` on or off
+  abbrev pub validating : Encoder L B → Bool → Encoder L B
+  validating e on = record e { gathered = record e.gathered { options = record e.gathered.options { validate = on } } }
+
   -- the validated world of what was gathered
   pub record IsWorldOf (e : Encoder L B) (w : ComponentWorld) : Type 0 where
     pub prepared : w ≡ l.prepared e.lower e.gathered

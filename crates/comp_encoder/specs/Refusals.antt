@@ -1,19 +1,29 @@
 -- When the encoder's calls refuse. The rules are this project's own; the string encoding that a
 -- function needs is the Canonical ABI's `string-encoding`.
-use Rattle.std.specs.Prelude.{◌≡◌, ◌≢◌, ◌≤◌, ◌^◌, ℕ, List, [], ⊤, false, ◌⊎◌}
+use Rattle.std.specs.Prelude.{◌≡◌, ◌≢◌, ◌≤◌, ◌^◌, ℕ, List, [], ⊤, false, ◌⊎◌, IsTrue}
 use Rattle.comp_worlds.specs.declared.lower.Lower as lower
 use Rattle.comp_encoder.specs.Encoder.{Encoder, main_bytes}
 use Rattle.comp_state.specs.Causes.{LacksEncoding}
+use Rattle.comp_check.specs.declared.fault.CheckFault.TheVariants as checks
+use Rattle.comp_encoder.specs.Outputs.{IsNameCause, NoOutputCause}
+use Rattle.comp_encoder.specs.declared.output.OutputFault.{OutputFault}
+use Rattle.comp_encoder.specs.declared.output.OutputFault.TheVariants as outputs
 use Rattle.comp_state.specs.declared.fault.StateFault.{StateFault}
 use Rattle.comp_state.specs.declared.fault.StateFault.TheVariants as state
 use Rattle.comp_encoder.specs.declared.fault.EncodeFault.{EncodeFault}
-use Rattle.comp_encoder.specs.declared.fault.EncodeFault.TheVariants.{Memory, NoModule, Lower, NoEncoding, TooMany}
+use Rattle.comp_encoder.specs.declared.fault.EncodeFault.TheVariants.{Memory, NoModule, Lower, NoEncoding, Output, TooMany}
 
 -- a fault of the encoding state as one of the encoder
 abbrev pub of_state : {F : Type 0} → StateFault → EncodeFault F
 of_state state.Memory = Memory
 of_state (state.NoEncoding place) = NoEncoding place
 of_state (state.TooMany excess) = TooMany excess
+
+-- a fault of the output as one of the encoder
+abbrev pub of_output : {F : Type 0} → OutputFault → EncodeFault F
+of_output (outputs.State fault) = of_state fault
+of_output (outputs.Check checks.Memory) = Memory
+of_output (outputs.Check fault) = Output fault
 
 module _ {L B F : Type 0} (l : lower.Ghosts L B F) where
   -- why the lower layer refuses a module: its bytes, or what they say beside what was said before
@@ -26,6 +36,7 @@ module _ {L B F : Type 0} (l : lower.Ghosts L B F) where
   IsModuleRefusal e bytes (Lower f) = (l.memory_fault e.lower f ≡ false) × ModuleCause e bytes f
   IsModuleRefusal e bytes NoModule = ⊥
   IsModuleRefusal e bytes (NoEncoding place) = ⊥
+  IsModuleRefusal e bytes (Output fault) = ⊥
   IsModuleRefusal e bytes (TooMany excess) = ⊥
 
   -- a refusal of `encode` is memory, or has its cause
@@ -34,6 +45,7 @@ module _ {L B F : Type 0} (l : lower.Ghosts L B F) where
   IsEncodeRefusal e NoModule = main_bytes e.gathered.main ≡ []
   IsEncodeRefusal e (Lower f) = (l.memory_fault e.lower f ≡ false) × l.prepare_cause e.lower e.gathered f
   IsEncodeRefusal e (NoEncoding place) = LacksEncoding (l.prepared e.lower e.gathered) place
+  IsEncodeRefusal e (Output fault) = IsTrue e.gathered.options.validate × IsNameCause (l.prepared e.lower e.gathered) fault
   IsEncodeRefusal e (TooMany excess) = 2 ^ 32 ≤ excess
 
   -- nothing stands against the world of what was gathered
@@ -44,4 +56,4 @@ module _ {L B F : Type 0} (l : lower.Ghosts L B F) where
   -- no cause of a refusal of `encode` holds, memory aside
   pub record NoEncodeCause (e : Encoder L B) : Type 0 where
     pub world : NoWorldCause e
-    pub encodings : (place : List ℕ) → ¬ LacksEncoding (l.prepared e.lower e.gathered) place
+    pub output : NoOutputCause (l.prepared e.lower e.gathered) e.gathered.options.validate

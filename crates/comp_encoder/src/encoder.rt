@@ -1,12 +1,12 @@
 //! The encoder's calls.
 
 ghost use Rattle.std.specs.Prelude.{◌≡◌, ◌++◌, IfOk, IfErr, OnOk, OnErr, IsOk, if◌then◌else◌, ◌≢◌, [], MatchBool};
-ghost use Rattle.comp_encoder.specs.Encoder.{fresh, after_module, main_bytes, IsWorldOf};
+ghost use Rattle.comp_encoder.specs.Encoder.{fresh, validating, after_module, main_bytes, IsWorldOf};
 ghost use Rattle.comp_encoder.specs.Refusals.{ModuleCause, IsModuleRefusal, NoWorldCause, NoEncodeCause, IsEncodeRefusal};
 ghost use Rattle.comp_encoder.specs.Component.{IsEncoding};
 
 use crate::fault::EncodeFault;
-use comp_state::encode_world;
+use crate::output::component_bytes;
 use comp_worlds::{ComponentWorld, EncoderOptions, Gathered, Lower, Part};
 use std::alloc::Global;
 use std::marker::Model;
@@ -65,6 +65,16 @@ impl<L: Lower> ComponentEncoder<L> {
                 },
             },
         }
+    }
+
+    /// Whether `encode` checks the names of what it made: that none stands twice in its list, and that those
+    /// of imports and exports have the form that the component model gives them. It is off at first.
+    pub fn validate(&mut self, on: bool) -> &mut Self
+        ensures same_reference { result.ghost_name ≡ self.entry.ghost_name }
+        ensures set { result.now ≡ validating L.Lower self.old on }
+    {
+        self.gathered.options.validate = on;
+        self
     }
 
     /// Takes the main module: a core module with what the lower layer reads from it. One that was
@@ -144,13 +154,15 @@ impl<L: Lower> ComponentEncoder<L> {
     ///
     /// It refuses for want of memory, where there is no main module or its bytes are empty, where
     /// the lower layer can't prepare the world, where the world has no string encoding for a
-    /// function, and where a count or a size passes 2^32 - 1.
+    /// function, where a count or a size passes 2^32 - 1, and, with `validate` on, where a name of an
+    /// import or an export stands twice or has not its form.
     pub fn encode(&self) -> Result<Vec<u8>, EncodeFault<L::Fault>>
         ensures ok { IfOk result (λ bytes. IsEncoding L.Lower self.now bytes.items) }
         ensures refused { IsOk result → NoEncodeCause L.Lower self.now }
         ensures cause { IfErr result (IsEncodeRefusal L.Lower self.now) }
     {
         let world = self.world()?;
-        Ok(encode_world(self.alloc, &world)?)
+        let validate = self.gathered.options.validate;
+        Ok(component_bytes(self.alloc, &world, validate)?)
     }
 }

@@ -3,7 +3,9 @@
 ghost use Rattle.std.specs.Prelude.{◌≡◌};
 ghost use Rattle.comp_encoder.specs.declared.fault.EncodeFault.TheVariants.{Memory};
 
+use crate::output::OutputFault;
 use comp_bytes::Excess;
+use comp_check::CheckFault;
 use comp_lists::Text;
 use comp_state::StateFault;
 use std::alloc::{AllocError, AllocFailed};
@@ -28,6 +30,10 @@ pub enum EncodeFault<F> {
     /// import, and the function's name for an export (Canonical ABI, `string-encoding`).
     #[error("E9 NoEncoding place={place}")]
     NoEncoding { place: Text },
+    /// `validate` is on, and a name of an import or an export stands twice, or has not the form of such a
+    /// name. The fault is that of `comp_check`, and tells the name.
+    #[error("E15 Output: {0}")]
+    Output(CheckFault),
     /// A count, or the size of a section, a module or a component, would pass 2^32 - 1.
     #[error("E16 TooMany excess={excess}")]
     TooMany { excess: Excess },
@@ -59,6 +65,20 @@ impl<F> From<StateFault> for EncodeFault<F> {
             StateFault::Memory => EncodeFault::Memory,
             StateFault::NoEncoding { place } => EncodeFault::NoEncoding { place },
             StateFault::TooMany { excess } => EncodeFault::TooMany { excess },
+        }
+    }
+}
+
+impl<F> From<OutputFault> for EncodeFault<F> {
+    ghost use Rattle.comp_encoder.specs.Refusals.{of_output};
+
+    ghost from_gives = { λ o e. e ≡ of_output o };
+
+    fn from(fault: OutputFault) -> EncodeFault<F> {
+        match fault {
+            OutputFault::State(fault) => EncodeFault::from(fault),
+            OutputFault::Check(CheckFault::Memory) => EncodeFault::Memory,
+            OutputFault::Check(fault) => EncodeFault::Output(fault),
         }
     }
 }

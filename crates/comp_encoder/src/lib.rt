@@ -9,12 +9,14 @@
 //! it is run (`specs/Linking.antt`; the machine stands in `specs/Machine.antt`, `Instances` and
 //! `Running`). A refusal leaves the encoder as it was.
 //!
-//! In reading order: `fault` (why a call refuses), `encoder` (the calls). Nothing here knows of
+//! In reading order: `fault` (why a call refuses), `output` (the component of a world, as bytes),
+//! `encoder` (the calls). Nothing here knows of
 //! files, nor of how a lower layer learns what it answers.
 #![tactic(auto)]
 
 mod encoder;
 mod fault;
+mod output;
 
 pub use comp_state::EncodingState;
 pub use comp_worlds::Lower;

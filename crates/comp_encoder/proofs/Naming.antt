@@ -1,0 +1,164 @@
+-- The names in a component that was built for a world: those of its imports and exports are the stated ones, and all
+-- others differ in their lists.
+use Rattle.std.proofs.Common.{◌≡◌, ◌∙◌, ℕ, List, [], ◌∷◌, ◌++◌, refl, sym, ap, ap₂, subst, append_assoc, map, inl, inr, ◌⊎◌, elim, Some, None}
+use Rattle.std.specs.Prelude.{Contains}
+use Rattle.std.specs.List.{AllByRecursion, AllZip, IsDistinct, flat_map}
+use Rattle.std.specs.Str.{bytes_eq}
+use Rattle.std.proofs.lemmas.List.Elements.{Contains-append_left, Contains-append_right, Contains-append_cases}
+use Rattle.comp_bytes.specs.ScopeNames.{Names, item_names, def_names, def_import, def_export, names}
+use Rattle.comp_bytes.specs.declared.def.CoreArgument.{CoreArgument}
+use Rattle.comp_bytes.specs.declared.def.Item.{Item}
+use Rattle.comp_bytes.specs.declared.def.Item.TheVariants as items
+use Rattle.comp_bytes.specs.declared.def.Def.{Def}
+use Rattle.comp_bytes.specs.declared.def.Def.TheVariants as defs
+use Rattle.comp_names.specs.Names.{def_extern_names, extern_names}
+use Rattle.comp_worlds.specs.Worlds.{IsWorld}
+use Rattle.comp_worlds.specs.declared.imports.ImportInstance.{ImportInstance}
+use Rattle.comp_worlds.specs.declared.world.ComponentWorld.{ComponentWorld}
+use Rattle.comp_state.specs.Facts.{IsArgumentFor}
+use Rattle.comp_state.specs.Rules.{IsItemRight, IsRight, RightAfter, IsBuilt}
+use Rattle.comp_bytes.specs.Scopes.{Scoped}
+use Rattle.comp_check.proofs.Faults.{fault_no}
+use Rattle.comp_check.specs.Faults.{IsUnchecked}
+use Rattle.comp_check.specs.declared.fault.CheckFault.{CheckFault}
+use Rattle.comp_check.specs.declared.fault.CheckFault.TheVariants as checks
+use Rattle.comp_lists.proofs.Lists.{AllByRecursion-contains, AllByRecursion-weaker}
+use Rattle.comp_names.proofs.Judging.{not_distinct}
+use Rattle.comp_names.specs.NameForm.{IsFormed}
+use Rattle.comp_names.specs.Names.{StandsTwice, NamesOk}
+use Rattle.comp_encoder.specs.Linking.{IsComposed, stated_imports, stated_exports}
+use Rattle.comp_encoder.specs.Outputs.{IsNameCause}
+
+all_both : {A : Type 0} (P : A → Type 0) (xs ys : List A) → AllByRecursion P xs → AllByRecursion P ys → AllByRecursion P (xs ++ ys)
+all_both P [] ys h k = k
+all_both P (x ∷ xs) ys h k = (h.0, all_both P xs ys h.1 k)
+
+argument_names : (w : ComponentWorld) (earlier : List Def) (as' : List CoreArgument) (gs : List (List ℕ × ImportInstance)) → AllZip (IsArgumentFor w earlier) as' gs →
+    map (λ a. a.name) as' ≡ map (λ g. g.0) gs
+argument_names w earlier [] [] h = refl
+argument_names w earlier (a ∷ as') (g ∷ gs) h = ap₂ (λ n ns. n ∷ ns) h.0.named (argument_names w earlier as' gs h.1)
+argument_names w earlier [] (g ∷ gs) h = absurd h
+argument_names w earlier (a ∷ as') [] h = absurd h
+
+module _ (w : ComponentWorld) (valid : IsWorld w) where
+  item_apart : (earlier : List Def) (i : Item) → IsItemRight w earlier i → AllByRecursion (IsDistinct bytes_eq) (item_names i)
+  item_apart earlier (items.CoreModule bytes) h = tt
+  item_apart earlier (items.CoreInstantiate number arguments) h =
+      (subst (λ (ns : Names). IsDistinct bytes_eq ns) (sym (argument_names w earlier arguments w.main.imports.modules h.each)) valid.modules_apart, tt)
+  item_apart earlier (items.CoreExports entries) h = (h.apart, tt)
+  item_apart earlier (items.Instantiate component arguments) h = absurd h
+  item_apart earlier (items.Alias a) h = tt
+  item_apart earlier (items.Type t) h = tt
+  item_apart earlier (items.InstanceType t) h = absurd h
+  item_apart earlier (items.Lift core options kind) h = tt
+  item_apart earlier (items.Lower function options) h = tt
+  item_apart earlier (items.Intrinsic i) h = tt
+  item_apart earlier (items.Import name description) h = tt
+  item_apart earlier (items.Export name sort index description) h = tt
+  item_apart earlier (items.Custom name contents) h = tt
+
+  def_apart : (earlier : List Def) (d : Def) → IsRight w earlier d → AllByRecursion (IsDistinct bytes_eq) (def_names d)
+  def_apart earlier (defs.Item i) h = item_apart earlier i h
+  def_apart earlier (defs.Component inner) h = absurd h
+
+  pub lists_apart : (earlier ds : List Def) → RightAfter w earlier ds → AllByRecursion (IsDistinct bytes_eq) (flat_map def_names ds)
+  lists_apart earlier [] h = tt
+  lists_apart earlier (d ∷ ds) h = all_both (IsDistinct bytes_eq) (def_names d) (flat_map def_names ds) (def_apart earlier d h.0) (lists_apart (earlier ++ d ∷ []) ds h.1)
+
+module _ (w : ComponentWorld) where
+  def_externs : (earlier : List Def) (d : Def) → IsRight w earlier d → def_extern_names d ≡ def_import d ++ def_export d
+  def_externs earlier (defs.Item (items.CoreModule bytes)) h = refl
+  def_externs earlier (defs.Item (items.CoreInstantiate number arguments)) h = refl
+  def_externs earlier (defs.Item (items.CoreExports entries)) h = refl
+  def_externs earlier (defs.Item (items.Instantiate component arguments)) h = refl
+  def_externs earlier (defs.Item (items.Alias a)) h = refl
+  def_externs earlier (defs.Item (items.Type t)) h = refl
+  def_externs earlier (defs.Item (items.InstanceType t)) h = absurd h
+  def_externs earlier (defs.Item (items.Lift core options kind)) h = refl
+  def_externs earlier (defs.Item (items.Lower function options)) h = refl
+  def_externs earlier (defs.Item (items.Intrinsic i)) h = refl
+  def_externs earlier (defs.Item (items.Import name description)) h = refl
+  def_externs earlier (defs.Item (items.Export name sort index description)) h = refl
+  def_externs earlier (defs.Item (items.Custom name contents)) h = refl
+  def_externs earlier (defs.Component inner) h = absurd h
+
+  -- a name of an import or an export is one of the imports' names, or of the exports'
+  pub externs_stated : (earlier ds : List Def) → RightAfter w earlier ds → (name : List ℕ) → Contains (extern_names ds) name →
+      Contains (flat_map def_import ds) name ⊎ Contains (flat_map def_export ds) name
+  externs_stated earlier [] h name c = inl c
+  externs_stated earlier (d ∷ ds) h name c =
+      elim (Contains-append_cases (def_extern_names d) (extern_names ds) name c) [
+        | inl first ↦ elim (Contains-append_cases (def_import d) (def_export d) name (subst (λ (ns : Names). Contains ns name) (def_externs earlier d h.0) first)) [
+            | inl i ↦ inl (Contains-append_left (def_import d) (flat_map def_import ds) name i)
+            | inr e ↦ inr (Contains-append_left (def_export d) (flat_map def_export ds) name e)
+            ]
+        | inr later ↦ elim (externs_stated (earlier ++ d ∷ []) ds h.1 name later) [
+            | inl i ↦ inl (Contains-append_right (def_import d) (flat_map def_import ds) name i)
+            | inr e ↦ inr (Contains-append_right (def_export d) (flat_map def_export ds) name e)
+            ]
+        ]
+
+  -- and each of them is one
+  pub stated_externs : (earlier ds : List Def) → RightAfter w earlier ds → (name : List ℕ) → Contains (flat_map def_import ds) name ⊎ Contains (flat_map def_export ds) name →
+      Contains (extern_names ds) name
+  stated_externs earlier [] h name (inl c) = c
+  stated_externs earlier [] h name (inr c) = c
+  stated_externs earlier (d ∷ ds) h name (inl c) =
+      elim (Contains-append_cases (def_import d) (flat_map def_import ds) name c) [
+        | inl i ↦ here (Contains-append_left (def_import d) (def_export d) name i)
+        | inr i ↦ Contains-append_right (def_extern_names d) (extern_names ds) name (stated_externs (earlier ++ d ∷ []) ds h.1 name (inl i))
+        ]
+    where
+      here : Contains (def_import d ++ def_export d) name → Contains (extern_names (d ∷ ds)) name
+      here i = Contains-append_left (def_extern_names d) (extern_names ds) name (subst (λ (ns : Names). Contains ns name) (sym (def_externs earlier d h.0)) i)
+  stated_externs earlier (d ∷ ds) h name (inr c) =
+      elim (Contains-append_cases (def_export d) (flat_map def_export ds) name c) [
+        | inl i ↦ here (Contains-append_right (def_import d) (def_export d) name i)
+        | inr i ↦ Contains-append_right (def_extern_names d) (extern_names ds) name (stated_externs (earlier ++ d ∷ []) ds h.1 name (inr i))
+        ]
+    where
+      here : Contains (def_import d ++ def_export d) name → Contains (extern_names (d ∷ ds)) name
+      here i = Contains-append_left (def_extern_names d) (extern_names ds) name (subst (λ (ns : Names). Contains ns name) (sym (def_externs earlier d h.0)) i)
+
+never_twice : (name : List ℕ) (list : Names) → IsDistinct bytes_eq list → StandsTwice name list → ⊥
+never_twice name list apart twice = not_distinct name twice.before twice.between twice.after (subst (λ (ns : Names). IsDistinct bytes_eq ns) twice.parts apart)
+
+module _ (w : ComponentWorld) (ds : List Def) (valid : IsWorld w) (built : IsBuilt w ds) (composed : IsComposed w ds) where
+  -- what stands twice in a list of names is one of the stated ones
+  twice_stated : (name : List ℕ) (list : Names) → Contains (names ds) list → StandsTwice name list → StandsTwice name (stated_imports w) ⊎ StandsTwice name (stated_exports w)
+  twice_stated name list there twice =
+      let P : Names → Type 0 = λ l. StandsTwice name l → StandsTwice name (stated_imports w) ⊎ StandsTwice name (stated_exports w) in
+      AllByRecursion-contains P (names ds) list (
+        (λ t. inl (subst (λ (l : Names). StandsTwice name l) composed.imports t)),
+        (λ t. inr (subst (λ (l : Names). StandsTwice name l) composed.exports t)),
+        AllByRecursion-weaker (λ l apart t. absurd (never_twice name l apart t)) (flat_map def_names ds) (lists_apart w valid [] ds built.right),
+      ) there twice
+
+  stated : (name : List ℕ) → Contains (extern_names ds) name → Contains (stated_imports w ++ stated_exports w) name
+  stated name c = elim (externs_stated w [] ds built.right name c) [
+    | inl i ↦ Contains-append_left (stated_imports w) (stated_exports w) name (subst (λ (ns : Names). Contains ns name) composed.imports i)
+    | inr e ↦ Contains-append_right (stated_imports w) (stated_exports w) name (subst (λ (ns : Names). Contains ns name) composed.exports e)
+    ]
+
+  -- a fault of what was built is want of memory, or lies in the stated names
+  pub check_cause : Scoped ds → (fault : CheckFault) → IsUnchecked ds fault → (fault ≡ checks.Memory) ⊎ IsNameCause w fault
+  check_cause scoped checks.Memory h = inl refl
+  check_cause scoped (checks.Grammar place) h = absurd h
+  check_cause scoped (checks.Index definition space index) h = absurd (fault_no ds definition space index h scoped)
+  check_cause scoped (checks.NameTwice name) h = inr (twice_stated name h.0 h.1 h.2)
+  check_cause scoped (checks.NameForm name) h = inr (stated name h.0, h.1)
+
+  -- where the names of what was built are right, so are the stated ones
+  pub no_name_cause : NamesOk ds → (fault : CheckFault) → IsNameCause w fault → ⊥
+  no_name_cause ok checks.Memory h = h
+  no_name_cause ok (checks.Grammar place) h = h
+  no_name_cause ok (checks.Index definition space index) h = h
+  no_name_cause ok (checks.NameTwice name) (inl t) = never_twice name (stated_imports w) (subst (λ (l : Names). IsDistinct bytes_eq l) composed.imports ok.0.0) t
+  no_name_cause ok (checks.NameTwice name) (inr t) = never_twice name (stated_exports w) (subst (λ (l : Names). IsDistinct bytes_eq l) composed.exports ok.0.1) t
+  no_name_cause ok (checks.NameForm name) h = h.1 (AllByRecursion-contains IsFormed (extern_names ds) name ok.1 (stated_externs w [] ds built.right name (back name h.0)))
+    where
+      back : (name : List ℕ) → Contains (stated_imports w ++ stated_exports w) name → Contains (flat_map def_import ds) name ⊎ Contains (flat_map def_export ds) name
+      back name c = elim (Contains-append_cases (stated_imports w) (stated_exports w) name c) [
+        | inl i ↦ inl (subst (λ (ns : Names). Contains ns name) (sym composed.imports) i)
+        | inr e ↦ inr (subst (λ (ns : Names). Contains ns name) (sym composed.exports) e)
+        ]
