@@ -1,5 +1,6 @@
 -- The faults of a check, and what each of them says. Component model, binary format.
 use Rattle.std.specs.Prelude.{ℕ, List}
+use Rattle.comp_bytes.specs.Scopes.{Scoped}
 use Rattle.comp_bytes.specs.declared.def.Def.{Def}
 use Rattle.comp_read.specs.Causes.{IsRefusal}
 use Rattle.comp_read.specs.declared.fault.ReadFault.{ReadFault}
@@ -22,6 +23,10 @@ abbrev pub IsUnread : List ℕ → CheckFault → Type 0
 IsUnread bytes checks.Memory = Unit {0}
 IsUnread bytes (checks.Grammar place) = IsRefusal bytes (reads.Grammar place)
 IsUnread bytes _ = ⊥
+
+-- What definitions must keep to be a component's.
+abbrev pub IsRight : List Def → Type 0
+IsRight ds = Scoped ds
 
 -- Why definitions are not accepted. Want of memory is always allowed.
 abbrev pub IsUnchecked : List Def → CheckFault → Type 0

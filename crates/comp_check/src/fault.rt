@@ -30,7 +30,9 @@ pub enum CheckFault {
     /// Where the first section begins that cannot be read, of the innermost component: an offset in the
     /// whole input. It is 0 where the input does not begin as a component does.
     #[error("C2 Grammar place={place}")]
-    Grammar { place: usize },
+    Grammar {
+        place: usize,
+    },
     /// An index names no item that stands before its definition: see [`IndexFault`].
     #[error("C3 Index definition={definition} space={space} index={index}")]
     Index {
@@ -40,10 +42,14 @@ pub enum CheckFault {
     },
     /// A name stands twice in a list of names that are to be apart.
     #[error("C4 NameTwice name={name}")]
-    NameTwice { name: Text },
+    NameTwice {
+        name: Text,
+    },
     /// A name of an import or an export has no form of such a name.
     #[error("C5 NameForm name={name}")]
-    NameForm { name: Text },
+    NameForm {
+        name: Text,
+    },
 }
 
 impl From<ReadFault> for CheckFault {
