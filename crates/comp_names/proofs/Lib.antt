@@ -1,0 +1,4 @@
+mod Deciding
+mod Parts
+mod Labels
+mod Versions

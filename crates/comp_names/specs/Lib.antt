@@ -1,0 +1,2 @@
+pub mod NameForm
+pub mod Cuts
