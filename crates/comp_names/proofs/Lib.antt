@@ -2,3 +2,5 @@ mod Deciding
 mod Parts
 mod Labels
 mod Versions
+mod Meeting
+mod Judging
