@@ -1,10 +1,11 @@
 //! Why a component is not accepted.
 
 ghost use Rattle.std.specs.Prelude.{◌≡◌};
-ghost use Rattle.comp_check.specs.Faults.{of_read, of_index};
+ghost use Rattle.comp_check.specs.Faults.{of_read, of_index, of_name};
 
 use comp_bytes::Space;
 use comp_lists::Text;
+use comp_names::NameFault;
 use comp_read::ReadFault;
 use thiserror::Error;
 
@@ -71,6 +72,18 @@ impl From<IndexFault> for CheckFault {
             definition: fault.definition,
             space: fault.space,
             index: fault.index,
+        }
+    }
+}
+
+impl From<NameFault> for CheckFault {
+    ghost from_gives = { λ f e. e ≡ of_name f };
+
+    fn from(fault: NameFault) -> CheckFault {
+        match fault {
+            NameFault::Memory => CheckFault::Memory,
+            NameFault::Twice { name } => CheckFault::NameTwice { name },
+            NameFault::Form { name } => CheckFault::NameForm { name },
         }
     }
 }
