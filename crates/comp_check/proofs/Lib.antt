@@ -1,3 +1,4 @@
 pub mod Lacks
 pub mod Standing
 pub mod Faults
+pub mod Worked

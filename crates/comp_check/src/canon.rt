@@ -56,8 +56,8 @@ pub(crate) fn intrinsic(scopes: &Scopes, intrinsic: &Intrinsic) -> Result<(), La
         | Intrinsic::FutureWrite { ty, options } => {
             type_and_options(scopes, *ty, options.as_slice())
         }
-        Intrinsic::ErrorContextNew { options }
-        | Intrinsic::ErrorContextDebugMessage { options } => each(scopes, options.as_slice()),
+        Intrinsic::ErrorContextNew { options } | Intrinsic::ErrorContextDebugMessage { options } =>
+            each(scopes, options.as_slice()),
         Intrinsic::WaitableSetWait { memory } | Intrinsic::WaitableSetPoll { memory } => {
             scopes.check(Space::CoreMemory, *memory)
         }

@@ -1,10 +1,11 @@
 //! Why a component is not accepted.
 
 ghost use Rattle.std.specs.Prelude.{◌≡◌};
-ghost use Rattle.comp_check.specs.Faults.{of_read, of_index};
+ghost use Rattle.comp_check.specs.Faults.{of_read, of_index, of_name};
 
 use comp_bytes::Space;
 use comp_lists::Text;
+use comp_names::NameFault;
 use comp_read::ReadFault;
 use thiserror::Error;
 
@@ -30,7 +31,9 @@ pub enum CheckFault {
     /// Where the first section begins that cannot be read, of the innermost component: an offset in the
     /// whole input. It is 0 where the input does not begin as a component does.
     #[error("C2 Grammar place={place}")]
-    Grammar { place: usize },
+    Grammar {
+        place: usize,
+    },
     /// An index names no item that stands before its definition: see [`IndexFault`].
     #[error("C3 Index definition={definition} space={space} index={index}")]
     Index {
@@ -40,10 +43,14 @@ pub enum CheckFault {
     },
     /// A name stands twice in a list of names that are to be apart.
     #[error("C4 NameTwice name={name}")]
-    NameTwice { name: Text },
+    NameTwice {
+        name: Text,
+    },
     /// A name of an import or an export has no form of such a name.
     #[error("C5 NameForm name={name}")]
-    NameForm { name: Text },
+    NameForm {
+        name: Text,
+    },
 }
 
 impl From<ReadFault> for CheckFault {
@@ -65,6 +72,18 @@ impl From<IndexFault> for CheckFault {
             definition: fault.definition,
             space: fault.space,
             index: fault.index,
+        }
+    }
+}
+
+impl From<NameFault> for CheckFault {
+    ghost from_gives = { λ f e. e ≡ of_name f };
+
+    fn from(fault: NameFault) -> CheckFault {
+        match fault {
+            NameFault::Memory => CheckFault::Memory,
+            NameFault::Twice { name } => CheckFault::NameTwice { name },
+            NameFault::Form { name } => CheckFault::NameForm { name },
         }
     }
 }

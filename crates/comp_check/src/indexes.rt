@@ -13,9 +13,8 @@ ghost use Rattle.comp_check.specs.Indexes.{FaultBehind, InsideFault, ItemFault, 
 ghost use Rattle.comp_check.specs.Lacking.{counted, MembersFault, AroundFault, NestedFault, FaultFrom};
 
 use crate::fault::IndexFault;
-use crate::items;
 use crate::scope::{Counts, Lack, Scopes};
-use crate::types;
+use crate::{items, types};
 use comp_bytes::{Def, Defs, Item, Member};
 
 /// The members of an instance type, which these scopes are around.

@@ -90,12 +90,7 @@ impl<'a> Scopes<'a> {
 
     /// An index of the scope that is so many scopes outward.
     #[tactic(auto, unfolding(crate::specs::Lacking::lacking))]
-    pub(crate) fn check_outward(
-        &self,
-        outward: u32,
-        space: Space,
-        index: u32,
-    ) -> Result<(), Lack>
+    pub(crate) fn check_outward(&self, outward: u32, space: Space, index: u32) -> Result<(), Lack>
         ensures { Finds result (lacking self.now (record { outward = outward; space = space; index = index } ∷ [])) }
     {
         if outward == 0 {

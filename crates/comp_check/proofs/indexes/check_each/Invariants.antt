@@ -10,5 +10,5 @@ abbrev pub invariant-loop-def : goal.invariant-loop-def
 invariant-loop-def l = record {
   standing : Standing space_of DefScoped l.own l.definitions l.def-index;
   line_is : l.line ≡ sum_by lines (take l.def-index l.definitions);
-  small : l.line ≤ l.def-index * 2 ^ 64
+  small : l.line ≤ l.def-index * 2 ^ 64;
 }

@@ -1,0 +1,183 @@
+//! Components that are accepted, and the faults of others.
+
+use super::*;
+use comp_bytes::Space;
+use comp_lists::Text;
+use std::alloc::Global;
+use std::test::*;
+
+/// `examples/component.wasm`.
+const EXAMPLE: [u8; 186] = [
+    0x00, 0x61, 0x73, 0x6d, 0x0d, 0x00, 0x01, 0x00, 0x07, 0x05, 0x01, 0x40, 0x00, 0x01, 0x00, 0x0a,
+    0x06, 0x01, 0x00, 0x01, 0x66, 0x01, 0x00, 0x01, 0x2c, 0x00, 0x61, 0x73, 0x6d, 0x01, 0x00, 0x00,
+    0x00, 0x01, 0x04, 0x01, 0x60, 0x00, 0x00, 0x02, 0x0b, 0x01, 0x05, 0x24, 0x72, 0x6f, 0x6f, 0x74,
+    0x01, 0x66, 0x00, 0x00, 0x03, 0x02, 0x01, 0x00, 0x07, 0x05, 0x01, 0x01, 0x67, 0x00, 0x01, 0x0a,
+    0x04, 0x01, 0x02, 0x00, 0x0b, 0x08, 0x05, 0x01, 0x01, 0x00, 0x00, 0x00, 0x02, 0x12, 0x02, 0x01,
+    0x01, 0x01, 0x66, 0x00, 0x00, 0x00, 0x00, 0x01, 0x05, 0x24, 0x72, 0x6f, 0x6f, 0x74, 0x12, 0x00,
+    0x06, 0x07, 0x01, 0x00, 0x00, 0x01, 0x01, 0x01, 0x67, 0x08, 0x06, 0x01, 0x00, 0x00, 0x01, 0x00,
+    0x00, 0x0b, 0x07, 0x01, 0x00, 0x01, 0x67, 0x01, 0x01, 0x00, 0x00, 0x3e, 0x0e, 0x63, 0x6f, 0x6d,
+    0x70, 0x6f, 0x6e, 0x65, 0x6e, 0x74, 0x2d, 0x6e, 0x61, 0x6d, 0x65, 0x01, 0x09, 0x00, 0x00, 0x02,
+    0x00, 0x01, 0x66, 0x01, 0x01, 0x67, 0x01, 0x09, 0x00, 0x11, 0x01, 0x00, 0x04, 0x6d, 0x61, 0x69,
+    0x6e, 0x01, 0x10, 0x00, 0x12, 0x02, 0x00, 0x05, 0x24, 0x72, 0x6f, 0x6f, 0x74, 0x01, 0x04, 0x6d,
+    0x61, 0x69, 0x6e, 0x01, 0x05, 0x01, 0x01, 0x01, 0x01, 0x67,
+];
+
+const PREAMBLE: [u8; 8] = [0x00, 0x61, 0x73, 0x6d, 0x0d, 0x00, 0x01, 0x00];
+
+/// A section with one function type.
+const TYPES: [u8; 7] = [0x07, 0x05, 0x01, 0x40, 0x00, 0x01, 0x00];
+
+/// What is refused of these bytes.
+fn refused(alloc: Global, bytes: &[u8]) -> Result<Option<IndexFault>, Fail> {
+    let definitions = read_component(alloc, bytes)?;
+    match check(alloc, &definitions) {
+        Ok(()) => Ok(None),
+        Err(
+            CheckFault::Index {
+                definition,
+                space,
+                index,
+            },
+        ) => Ok(Some(IndexFault {
+            definition,
+            space,
+            index,
+        })),
+        Err(fault) => Err(fault)?,
+    }
+}
+
+/// What is refused of a component with a function type and these sections.
+fn refused_behind(alloc: Global, sections: &[u8]) -> Result<Option<IndexFault>, Fail> {
+    let mut bytes = PREAMBLE.to_vec(alloc)?;
+    bytes.extend_from_slice(&TYPES)?;
+    bytes.extend_from_slice(sections)?;
+    refused(alloc, bytes.as_slice())
+}
+
+/// What is refused of that component with a component in it, which has this section, and one alias.
+fn refused_within(alloc: Global, section: &[u8; 7], index: u8) -> Result<Option<IndexFault>, Fail> {
+    let mut sections = Vec::new(alloc);
+    sections.extend_from_slice(&[0x04, 0x0f])?;
+    sections.extend_from_slice(&PREAMBLE)?;
+    sections.extend_from_slice(section)?;
+    sections.extend_from_slice(&outer_alias(0, index))?;
+    refused_behind(alloc, sections.as_slice())
+}
+
+/// A section with an outer alias.
+fn outer_alias(count: u8, index: u8) -> [u8; 7] {
+    [0x06, 0x05, 0x01, 0x03, 0x02, count, index]
+}
+
+fn missing(definition: u128, space: Space, index: u32) -> Option<IndexFault> {
+    Some(IndexFault {
+        definition,
+        space,
+        index,
+    })
+}
+
+#[test]
+fn example(rt: HostRuntime) -> Result<(), Fail> {
+    assert_eq!(rt; refused(rt.alloc(), &EXAMPLE)?, None);
+    let mut changed = EXAMPLE;
+    // the type of the import
+    changed[22] = 0x01;
+    assert_eq!(rt; refused(rt.alloc(), &changed)?, missing(1, Space::Type, 1));
+    Ok(())
+}
+
+#[test]
+fn outer_aliases(rt: HostRuntime) -> Result<(), Fail> {
+    let alloc = rt.alloc();
+    assert_eq!(rt; refused_behind(alloc, &outer_alias(0, 0))?, None);
+    assert_eq!(rt;
+        refused_behind(alloc, &outer_alias(0, 1))?,
+        missing(1, Space::Type, 1)
+    );
+    assert_eq!(rt;
+        refused_behind(alloc, &outer_alias(1, 0))?,
+        missing(1, Space::Component, 1)
+    );
+    Ok(())
+}
+
+#[test]
+fn nested_component(rt: HostRuntime) -> Result<(), Fail> {
+    let alloc = rt.alloc();
+    assert_eq!(rt; refused_within(alloc, &outer_alias(1, 0), 0)?, None);
+    assert_eq!(rt;
+        refused_within(alloc, &outer_alias(0, 0), 0)?,
+        missing(2, Space::Type, 0)
+    );
+    assert_eq!(rt;
+        refused_within(alloc, &outer_alias(2, 0), 0)?,
+        missing(2, Space::Component, 2)
+    );
+    // behind the nested component
+    assert_eq!(rt;
+        refused_within(alloc, &TYPES, 9)?,
+        missing(3, Space::Type, 9)
+    );
+    Ok(())
+}
+
+/// What is refused of a component with a function type and an instance type of these members,
+/// in a section of this size.
+fn refused_members(alloc: Global, size: u8, members: &[u8]) -> Result<Option<IndexFault>, Fail> {
+    let mut bytes = PREAMBLE.to_vec(alloc)?;
+    bytes.extend_from_slice(&[0x07, size, 0x02, 0x40, 0x00, 0x01, 0x00, 0x42])?;
+    bytes.extend_from_slice(members)?;
+    refused(alloc, bytes.as_slice())
+}
+
+/// A function type, and an export of a function of a type.
+fn exported(ty: u8) -> [u8; 12] {
+    [
+        0x02, 0x01, 0x40, 0x00, 0x01, 0x00, 0x04, 0x00, 0x01, 0x66, 0x01, ty,
+    ]
+}
+
+#[test]
+fn instance_types(rt: HostRuntime) -> Result<(), Fail> {
+    let alloc = rt.alloc();
+    assert_eq!(rt; refused_members(alloc, 0x12, &exported(0))?, None);
+    assert_eq!(rt;
+        refused_members(alloc, 0x12, &exported(1))?,
+        missing(1, Space::Type, 1)
+    );
+    assert_eq!(rt;
+        refused_members(alloc, 0x0c, &[0x01, 0x02, 0x03, 0x02, 0x01, 0x00])?,
+        None
+    );
+    assert_eq!(rt;
+        refused_members(alloc, 0x0c, &[0x01, 0x02, 0x03, 0x02, 0x00, 0x00])?,
+        missing(1, Space::Type, 0)
+    );
+    assert_eq!(rt;
+        refused_members(alloc, 0x0c, &[0x01, 0x02, 0x03, 0x02, 0x02, 0x00])?,
+        missing(1, Space::Component, 2)
+    );
+    Ok(())
+}
+
+#[test]
+fn printed(rt: HostRuntime) -> Result<(), Fail> {
+    let fault = CheckFault::Index {
+        definition: 3,
+        space: Space::CoreFunc,
+        index: 4,
+    };
+    assert_eq!(rt;
+        format!(in rt.alloc(); "{fault}")?.as_str(),
+        "C3 Index definition=3 space=core-func index=4"
+    );
+    let name = Text::from_str(rt.alloc(), "a\"b")?;
+    let fault = CheckFault::NameTwice { name };
+    assert_eq!(rt;
+        format!(in rt.alloc(); "{fault}")?.as_str(),
+        "C4 NameTwice name=\"a\\\"b\""
+    );
+    Ok(())
+}

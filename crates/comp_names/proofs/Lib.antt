@@ -1,0 +1,6 @@
+mod Deciding
+mod Parts
+mod Labels
+mod Versions
+mod Meeting
+mod Judging

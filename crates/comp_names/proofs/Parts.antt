@@ -1,0 +1,78 @@
+-- Texts cut at a mark that the part before it lacks: there is one way to cut them.
+use Rattle.std.proofs.Common.{ℕ, ◌≡◌, ◌==◌, ◌<◌, Bool, true, false, List, [], ◌∷◌, ◌++◌, length, get_or, zero, suc, refl, sym, ap, subst, ◌∙◌, true≢false, arith, Option, Some, None, Bor}
+use Rattle.std.specs.Prelude.{◌↔◌, ◌≢◌, IsTrue, IfSome, IfNone}
+use Rattle.std.proofs.lemmas.Str.Pattern.{IsSplitOnceResult, split_parts}
+use Rattle.std.specs.List.{AllByRecursion}
+use Rattle.std.proofs.lemmas.Bool.{cases_Bool, eq-eqb, eqb-true}
+use Rattle.std.proofs.Common.{inl, inr}
+use Rattle.comp_names.specs.NameForm.{Joined, Behind}
+use Rattle.comp_names.specs.Cuts.{Lacks, IsCut, BeginsElse}
+
+-- what passes a test lacks what does not
+pub lacks-passing : (test : ℕ → Bool) (mark : ℕ) → test mark ≡ false → (text : List ℕ) → AllByRecursion (λ b. IsTrue (test b)) text → Lacks mark text
+lacks-passing test mark f [] h = tt
+lacks-passing test mark f (b ∷ bs) h = (apart, lacks-passing test mark f bs h.1)
+  where
+    apart : (b == mark) ≡ false
+    apart = elim (cases_Bool (b == mark)) [ inl e ↦ absurd (true≢false (sym h.0 ∙ ap test (eqb-true b mark e) ∙ f)) | inr n ↦ n ]
+
+-- what no place has
+pub lacks-everywhere : (mark : ℕ) (text : List ℕ) → ((i : ℕ) → i < length text → get_or text i 0 ≢ mark) → Lacks mark text
+lacks-everywhere mark [] h = tt
+lacks-everywhere mark (b ∷ bs) h = (apart, lacks-everywhere mark bs (λ i l. h (suc i) (omega arith)))
+  where
+    apart : (b == mark) ≡ false
+    apart = elim (cases_Bool (b == mark)) [ inl e ↦ absurd (h 0 (omega arith) (eqb-true b mark e)) | inr n ↦ n ]
+
+clash : (m b : ℕ) → (b == m) ≡ false → b ≡ m → ⊥
+clash m b f e = true≢false (sym (eq-eqb b m e) ∙ f)
+
+head_is : (a b : ℕ) (x y : List ℕ) → a ∷ x ≡ b ∷ y → a ≡ b
+head_is a b x y e = cc
+
+tail_is : (a b : ℕ) (x y : List ℕ) → a ∷ x ≡ b ∷ y → x ≡ y
+tail_is a b x y e = cc
+
+one_cut : (m : ℕ) (a b x y : List ℕ) → Lacks m a → Lacks m x → a ++ m ∷ b ≡ x ++ m ∷ y → (a ≡ x) × (b ≡ y)
+one_cut m [] b [] y la lx e = (refl, tail_is m m b y e)
+one_cut m [] b (c ∷ x) y la lx e = absurd (clash m c lx.0 (sym (head_is m c b (x ++ m ∷ y) e)))
+one_cut m (c ∷ a) b [] y la lx e = absurd (clash m c la.0 (head_is c m (a ++ m ∷ b) y e))
+one_cut m (c ∷ a) b (d ∷ x) y la lx e = more (head_is c d (a ++ m ∷ b) (x ++ m ∷ y) e) (one_cut m a b x y la.1 lx.1 (tail_is c d (a ++ m ∷ b) (x ++ m ∷ y) e))
+  where
+    more : c ≡ d → (a ≡ x) × (b ≡ y) → (c ∷ a ≡ d ∷ x) × (b ≡ y)
+    more h t = (let p = t.0 in cc, t.1)
+
+no_cut : (m : ℕ) (x y : List ℕ) → Lacks m (x ++ m ∷ y) → ⊥
+no_cut m [] y h = clash m m h.0 refl
+no_cut m (c ∷ x) y h = no_cut m x y h.1
+
+pub joined_iff : {Left Right : List ℕ → Type 0} {mark : ℕ} {text left right : List ℕ} → ((part : List ℕ) → Left part → Lacks mark part) →
+    IsCut mark text left right → Joined Left mark Right text ↔ (Left left × Right right)
+joined_iff {Left} {Right} {mark} {text} {left} {right} lacks at = (there, λ p. record { left = left; right = right; parts = at.parts; left_is = p.0; right_is = p.1 })
+  where
+    there : Joined Left mark Right text → Left left × Right right
+    there j =
+        let e = one_cut mark j.left j.right left right (lacks j.left j.left_is) at.first (sym j.parts ∙ at.parts) in
+        (subst Left e.0 j.left_is, subst Right e.1 j.right_is)
+
+pub joined_nowhere : {Left Right : List ℕ → Type 0} (mark : ℕ) (text : List ℕ) → Lacks mark text → Joined Left mark Right text → ⊥
+joined_nowhere mark text lacks j = no_cut mark j.left j.right (subst (Lacks mark) j.parts lacks)
+
+same_rest : (beginning x y : List ℕ) → beginning ++ x ≡ beginning ++ y → x ≡ y
+same_rest [] x y e = e
+same_rest (b ∷ bs) x y e = same_rest bs x y (tail_is b b (bs ++ x) (bs ++ y) e)
+
+pub behind_iff : {Rest : List ℕ → Type 0} (beginning text rest : List ℕ) → text ≡ beginning ++ rest → Behind beginning Rest text ↔ Rest rest
+behind_iff {Rest} beginning text rest e =
+    (λ b. subst Rest (same_rest beginning b.rest rest (sym b.parts ∙ e)) b.rest_is, λ r. record { rest = rest; parts = e; rest_is = r })
+
+pub behind_nowhere : {Rest : List ℕ → Type 0} (beginning text : List ℕ) → BeginsElse beginning text → Behind beginning Rest text → ⊥
+behind_nowhere beginning text none b = none b.rest b.parts
+
+pub some_cut : (mark : ℕ) (text : List ℕ) (r : Option (Bor (List ℕ) × Bor (List ℕ))) → IsSplitOnceResult mark text r → mark < 128 → IfSome r (λ s. IsCut mark text s.0.now s.1.now)
+some_cut mark text None h l = tt
+some_cut mark text (Some s) h l = let p = split_parts mark text (Some s) h l in record { parts = p.0; first = lacks-everywhere mark s.0.now p.1 }
+
+pub none_cut : (mark : ℕ) (text : List ℕ) (r : Option (Bor (List ℕ) × Bor (List ℕ))) → IsSplitOnceResult mark text r → mark < 128 → IfNone r (Lacks mark text)
+none_cut mark text None h l = lacks-everywhere mark text (split_parts mark text None h l)
+none_cut mark text (Some s) h l = tt

@@ -1,0 +1,23 @@
+-- What is found of lists of names, and of names that are to have the form. (No standard speaks of it.)
+use Rattle.std.specs.Prelude.{ℕ, ◌≡◌, Bool, true, List, Result, Ok, Err, ⊤}
+use Rattle.std.specs.List.{AllByRecursion, IsDistinct, list_any}
+use Rattle.std.specs.Str.{bytes_eq}
+use Rattle.comp_bytes.specs.ScopeNames.{Names}
+use Rattle.comp_names.specs.declared.fault.NameFault.{NameFault}
+use Rattle.comp_names.specs.declared.fault.NameFault.TheVariants as faults
+use Rattle.comp_names.specs.NameForm.{IsFormed}
+use Rattle.comp_names.specs.Names.{IsFaultOf}
+
+pub record AreRight (lists : List Names) (externs : Names) : Type 0 where
+  pub apart : AllByRecursion (IsDistinct bytes_eq) lists
+  pub formed : AllByRecursion IsFormed externs
+
+abbrev pub Judges : {A : Type 0} → List Names → Names → Result A NameFault → Type 0
+Judges lists externs (Ok done) = AreRight lists externs
+Judges lists externs (Err fault) = IsFaultOf lists externs fault
+
+-- the fault of a name that was met before
+abbrev pub IsMetBefore : List ℕ → Names → NameFault → Type 0
+IsMetBefore name met faults.Memory = ⊤
+IsMetBefore name met (faults.Twice told) = (told ≡ name) × (list_any (bytes_eq name) met ≡ true)
+IsMetBefore name met (faults.Form told) = ⊥

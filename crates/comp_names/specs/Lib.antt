@@ -1,0 +1,4 @@
+pub mod NameForm
+pub mod Cuts
+pub mod Names
+pub mod Judged

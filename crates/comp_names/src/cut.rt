@@ -1,0 +1,21 @@
+//! Texts cut at a character.
+
+ghost use Rattle.std.specs.Prelude.{◌≡◌, ◌<◌, ◌++◌, IfSome, IfNone};
+ghost use Rattle.comp_names.specs.Cuts.{IsCut, Lacks, BeginsElse};
+
+/// What stands before the first such character, and what stands behind it.
+pub(crate) fn cut(text: &str, mark: char) -> Option<(&str, &str)>
+    requires { mark < 128 }
+    ensures some { IfSome result (λ sides. IsCut mark text.now sides.0.now sides.1.now) }
+    ensures none { IfNone result (Lacks mark text.now) }
+{
+    text.split_once(mark)
+}
+
+/// What stands behind a beginning.
+pub(crate) fn behind<'a>(text: &'a str, beginning: &str) -> Option<&'a str>
+    ensures some { IfSome result (λ rest. text.now ≡ beginning.now ++ rest.now) }
+    ensures none { IfNone result (BeginsElse beginning.now text.now) }
+{
+    text.strip_prefix(beginning)
+}

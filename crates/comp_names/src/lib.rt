@@ -1,0 +1,26 @@
+//! The names of a component's definitions: none stands twice in its list, and those of imports and
+//! exports have the form that the component model gives.
+//!
+//! [`check_names`] answers yes exactly where both hold (`NamesOk` of `specs/Names.antt`), want of memory
+//! aside, and tells a name that is wrong else. [`is_formed`] decides the form of a name, whose grammar is
+//! `specs/NameForm.antt`.
+//!
+//! In reading order: `fault` (what is wrong), `cut` (texts cut at a character), `label`, `version`, `form`
+//! (the form of names), `met`, `listing` (one list of names), `lists` (which lists there are), `checking`
+//! (the definitions in turn), `names` (a whole component).
+#![tactic(auto)]
+
+mod checking;
+mod cut;
+mod fault;
+mod form;
+mod label;
+mod listing;
+mod lists;
+mod met;
+mod names;
+mod version;
+
+pub use fault::NameFault;
+pub use form::is_formed;
+pub use names::check_names;

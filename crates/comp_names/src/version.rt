@@ -1,0 +1,69 @@
+//! Versions in names.
+//!
+//! Component model, explainer: `interfacename`, `canonversion`.
+
+ghost use Rattle.std.specs.Prelude.{◌≡◌, ◌↔◌, IsTrue, IfOk};
+ghost use Rattle.std.specs.List.{list_all};
+ghost use Rattle.std.specs.Char.{is_ascii_digit};
+ghost use Rattle.semver.specs.Parse.{memory_error};
+ghost use Rattle.comp_names.specs.NameForm.{IsNumber, Joined, dot, IsVersion, IsVersionText};
+
+use crate::cut::cut;
+use semver::{Error, Version};
+use std::alloc::{AllocError, Global};
+
+fn are_digits(bytes: &[u8]) -> bool
+    ensures { result ≡ list_all is_ascii_digit bytes.now }
+{
+    bytes.iter().all(|byte| byte.is_ascii_digit())
+}
+
+fn is_number(text: &str) -> bool
+    ensures { IsTrue result ↔ IsNumber text.now }
+{
+    let bytes = text.as_bytes();
+    !bytes.is_empty() && are_digits(bytes)
+}
+
+/// Whether a text is two numbers with a dot between them.
+fn is_short_version(text: &str) -> bool
+    ensures { IsTrue result ↔ Joined IsNumber dot IsNumber text.now }
+{
+    match cut(text, '.') {
+        Some((major, minor)) => is_number(major) && is_number(minor),
+        None => false,
+    }
+}
+
+fn is_memory(fault: Error) -> bool
+    ensures { fault ≡ memory_error → IsTrue result }
+{
+    fault == Error::from(AllocError)
+}
+
+/// Whether a text is a version of three numbers, with or without more. The only refusal is want of
+/// memory.
+fn is_version(alloc: Global, text: &str) -> Result<bool, AllocError>
+    ensures { IfOk result (λ holds. IsTrue holds ↔ IsVersion text.now) }
+{
+    match Version::parse(alloc, text) {
+        Ok(_version) => Ok(true),
+        Err(fault) => {
+            if is_memory(fault) {
+                Err(AllocError)
+            } else {
+                Ok(false)
+            }
+        }
+    }
+}
+
+/// Whether a text is what may stand behind the `@` of a name. The only refusal is want of memory.
+pub(crate) fn is_version_text(alloc: Global, text: &str) -> Result<bool, AllocError>
+    ensures { IfOk result (λ holds. IsTrue holds ↔ IsVersionText text.now) }
+{
+    if is_number(text) || is_short_version(text) {
+        return Ok(true);
+    }
+    is_version(alloc, text)
+}
