@@ -44,6 +44,7 @@ pub use def::{Argument, CoreArgument, CoreInlineExport, Def, Defs, Item};
 pub use fault::{BuildFault, Excess, count_of};
 pub use laws::{one_list, one_name, one_number, one_type_index};
 pub use name::Name;
+pub use number::{Spell, spelled};
 pub use space::{ComponentExportKind, ExportKind, Sort, Space};
 pub use types::{
     Alias, Case, ComponentValType, DefinedType, Description, ExternName, Field, FuncTypeDef,

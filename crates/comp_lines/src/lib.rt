@@ -1,0 +1,5 @@
+//! Components as text: a line a definition.
+#![tactic(auto)]
+
+mod texts;
+
