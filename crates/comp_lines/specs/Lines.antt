@@ -100,13 +100,13 @@ made_of (items.Custom name contents) = codes "custom " ++ quoted name ++ codes "
 
 -- ---- lines
 
--- A line of what makes an item of a space, or none, with the item's index.
-abbrev pub line : Option Space → ℕ → List ℕ → List ℕ
-line None index text = text
-line (Some s) index text = space_word s ++ codes " " ++ decimal index ++ codes " = " ++ text
+-- left of what an item is made of: its space and its index there; of a definition that makes no item nothing
+abbrev pub left : Option Space → ℕ → List ℕ
+left None index = []
+left (Some s) index = space_word s ++ codes " " ++ decimal index ++ codes " = "
 
 abbrev pub item_line : ℕ → Item → List ℕ
-item_line index i = line (item_space i) index (made_of i)
+item_line index i = left (item_space i) index ++ made_of i
 
 -- how many items of a space the definitions make
 abbrev pub made : {D : Type 0} → (D → Option Space) → Option Space → List D → ℕ
@@ -127,7 +127,7 @@ nested_lines index i = (codes "  " ++ item_line index i) ∷ []
 abbrev pub definition_lines : ℕ → Def → List (List ℕ)
 definition_lines index (defs.Item i) = item_line index i ∷ []
 definition_lines index (defs.Component inner) =
-    line (Some spaces.Component) index (decimal (length inner) ++ codes " definitions") ∷ scope_lines item_space nested_lines [] inner
+    (left (Some spaces.Component) index ++ decimal (length inner) ++ codes " definitions") ∷ scope_lines item_space nested_lines [] inner
 
 -- The lines of a component's definitions.
 abbrev pub lines : List Def → List (List ℕ)
