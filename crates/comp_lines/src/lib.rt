@@ -1,5 +1,9 @@
 //! Components as text: a line a definition.
 #![tactic(auto)]
 
+mod items;
+mod listing;
 mod parts;
 mod texts;
+
+pub use listing::describe;
