@@ -77,6 +77,7 @@ pub trait Spell {
 /// where a count or a size among them would pass 2^32 - 1, and tells that one.
 pub fn spelled<T: Spell>(alloc: Global, value: &T) -> Result<Vec<u8>, BuildFault>
     ensures ok { IfOk result (λ v. v.items ≡ (T.spelling value.now).bytes) }
+    ensures fits { OnOk result (Fits (T.spelling value.now).counts) }
     ensures refused { IfErr result (Refused (T.spelling value.now).counts) }
 {
     let mut out = Vec::new(alloc);

@@ -3,6 +3,7 @@
 ghost use Rattle.std.specs.Prelude.{◌≡◌, ◌+◌, ◌-◌, ◌^◌, ◌<◌, [], ◌++◌, IfErr, IfOk, OnOk, string_bytes, map, length, get_or, List, ℕ, Option, Some, None, if◌then◌else◌};
 ghost use Rattle.std.specs.List.{flat_map};
 ghost use Rattle.comp_bytes.specs.Spaces.{place, is_space, item_space, space_of};
+ghost use Rattle.comp_bytes.specs.Spelling.{Fits};
 ghost use Rattle.comp_bytes.specs.Written.{Refused};
 ghost use Rattle.comp_bytes.specs.declared.space.Space.{Space};
 ghost use Rattle.comp_lines.specs.Lines.{shown, scope_lines, nested_lines, definition_lines, lines, shown_counts};
@@ -57,6 +58,7 @@ trait Listed {
         out: &mut Vec<String>,
     ) -> Result<(), BuildFault>
         ensures ok { OnOk result (map string_bytes out.new.items ≡ map string_bytes out.old.items ++ lines index self.now) }
+        ensures fits { OnOk result (Fits (counts self.now)) }
         ensures refused { IfErr result (Refused (counts self.now)) };
 }
 
@@ -67,6 +69,7 @@ fn put_scope<T: Listed>(
     out: &mut Vec<String>,
 ) -> Result<(), BuildFault>
     ensures ok { OnOk result (map string_bytes out.new.items ≡ map string_bytes out.old.items ++ scope_lines T.space T.lines [] items.now) }
+    ensures fits { OnOk result (Fits (flat_map T.counts items.now)) }
     ensures refused { IfErr result (Refused (flat_map T.counts items.now)) }
 {
     let mut counters: Counters = [0; 10];
@@ -110,6 +113,7 @@ fn put_component(
     out: &mut Vec<String>,
 ) -> Result<(), BuildFault>
     ensures ok { OnOk result (map string_bytes out.new.items ≡ map string_bytes out.old.items ++ definition_lines index (defs.Component inner.now)) }
+    ensures fits { OnOk result (Fits (shown_counts (defs.Component inner.now))) }
     ensures refused { IfErr result (Refused (shown_counts (defs.Component inner.now))) }
 {
     let mut line = String::new(alloc);
@@ -153,6 +157,7 @@ fn put_plain(
     out: &mut Vec<String>,
 ) -> Result<(), BuildFault>
     ensures ok { OnOk result (map string_bytes out.new.items ≡ map string_bytes out.old.items ++ definition_lines index (defs.Item item.now)) }
+    ensures fits { OnOk result (Fits (shown item.now).counts) }
     ensures refused { IfErr result (Refused (shown item.now).counts) }
 {
     let mut line = String::new(alloc);
@@ -164,6 +169,7 @@ fn put_plain(
 /// The lines of a component's definitions.
 pub fn describe(alloc: Global, definitions: &Defs) -> Result<Vec<String>, BuildFault>
     ensures ok { IfOk result (λ found. map string_bytes found.items ≡ lines definitions.now) }
+    ensures fits { OnOk result (Fits (flat_map shown_counts definitions.now)) }
     ensures refused { IfErr result (Refused (flat_map shown_counts definitions.now)) }
 {
     let mut out = Vec::new(alloc);
