@@ -1,9 +1,9 @@
 -- Characters past ASCII are written in bytes that stand as they are.
-use Rattle.std.proofs.Common.{◌≡◌, ℕ, ◌+◌, ◌/◌, ◌%◌, ◌≤◌, ◌<◌, List, [], ◌∷◌, ◌++◌, refl, ap, ◌∙◌, sym, arith, append-nil}
+use Rattle.std.proofs.Common.{◌≡◌, ℕ, ◌≤◌, ◌<◌, List, [], ◌∷◌, ◌++◌, arith, append-nil}
 use Rattle.std.specs.List.{flat_map}
 use Rattle.std.proofs.lemmas.Str.{encode_ascii}
 use Rattle.std.proofs.lemmas.Grind.{common_steps, flat_map-append}
-use lib.Utf8.{encode, next}
+use lib.Utf8.{encode}
 use Rattle.comp_lines.specs.Texts.{escaped}
 
 pub high_stands : (b : ℕ) → 128 ≤ b → escaped b ≡ b ∷ []

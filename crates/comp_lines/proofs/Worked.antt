@@ -1,5 +1,5 @@
 -- Worked examples: the lines of a component that imports a function and exports another, and a line of each form.
-use Rattle.std.proofs.Common.{◌≡◌, ℕ, List, [], ◌∷◌, ◌++◌, refl, codes, replicate, Some, None, false, map}
+use Rattle.std.proofs.Common.{◌≡◌, [], ◌∷◌, ◌++◌, refl, codes, replicate, Some, None, false, map}
 use Rattle.std.specs.Fmt.{digits}
 use Rattle.comp_bytes.specs.Spelling.{leb128}
 use Rattle.comp_bytes.specs.declared.space.ExportKind.TheVariants as kinds
@@ -14,7 +14,6 @@ use Rattle.comp_bytes.specs.declared.types.Primitive.TheVariants as primitives
 use Rattle.comp_bytes.specs.declared.types.ComponentValType.TheVariants as values
 use Rattle.comp_bytes.specs.declared.canon.CanonicalOption.TheVariants as canonical
 use Rattle.comp_bytes.specs.declared.canon.Intrinsic.TheVariants as intrinsics
-use Rattle.comp_bytes.specs.declared.def.Item.{Item}
 use Rattle.comp_bytes.specs.declared.def.Item.TheVariants as items
 use Rattle.comp_bytes.specs.declared.def.Def.TheVariants as defs
 use Rattle.comp_bytes.proofs.Worked.{one_import_one_export, plain, function}

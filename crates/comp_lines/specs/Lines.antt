@@ -1,6 +1,6 @@
 -- Definitions as lines of text, a form a clause: `SPACE INDEX = ` and of what the item is made. The forms are those of
 -- the component model's binary format; the lines are this project's own.
-use Rattle.std.specs.Prelude.{ℕ, ◌≡◌, List, [], ◌∷◌, ◌++◌, length, codes, Option, Some, None, count_by}
+use Rattle.std.specs.Prelude.{ℕ, List, [], ◌∷◌, ◌++◌, length, codes, Option, Some, None, count_by}
 use Rattle.std.specs.List.{flat_map}
 use Rattle.std.specs.Fmt.{decimal}
 use Rattle.comp_bytes.specs.Spelling.{Spelling, raw}

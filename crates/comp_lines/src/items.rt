@@ -13,8 +13,8 @@ ghost use Rattle.comp_bytes.specs.declared.space.Space.TheVariants.{Component};
 use crate::parts::{Told, put_each, put_extern, put_item, put_numbered};
 use crate::texts::{put_hex, put_number, put_quoted};
 use comp_bytes::{
-    Alias, BuildFault, CanonicalOption, CoreInlineExport, Description, ExternName, Intrinsic, Item, Sort, Space,
-    Spell, spelled,
+    Alias, BuildFault, CanonicalOption, CoreInlineExport, Description, ExternName, Intrinsic, Item,
+    Sort, Space, Spell, spelled,
 };
 use comp_lists::{Seq, Text};
 use std::alloc::Global;
@@ -108,11 +108,7 @@ fn put_spelled<T: Spell>(alloc: Global, out: &mut String, value: &T) -> Result<(
     Ok(())
 }
 
-fn put_intrinsic(
-    alloc: Global,
-    out: &mut String,
-    intrinsic: &Intrinsic,
-) -> Result<(), BuildFault>
+fn put_intrinsic(alloc: Global, out: &mut String, intrinsic: &Intrinsic) -> Result<(), BuildFault>
     ensures { Puts (string_bytes out.old) (string_bytes out.new) result (codes "canon " ++ hex (intrinsic_bytes intrinsic.now).bytes) (intrinsic_bytes intrinsic.now).counts }
 {
     out.push_str("canon ")?;
@@ -135,12 +131,7 @@ fn put_import(
     Ok(())
 }
 
-fn put_export(
-    out: &mut String,
-    name: &ExternName,
-    sort: Sort,
-    index: u32,
-) -> Result<(), BuildFault>
+fn put_export(out: &mut String, name: &ExternName, sort: Sort, index: u32) -> Result<(), BuildFault>
     ensures { Puts (string_bytes out.old) (string_bytes out.new) result (codes "export " ++ extern name.now ++ codes " " ++ space_word (sort_space sort) ++ codes " " ++ decimal index) [] }
 {
     out.push_str("export ")?;
@@ -177,7 +168,10 @@ fn put_made_of(alloc: Global, out: &mut String, item: &Item) -> Result<(), Build
         Item::Intrinsic(intrinsic) => put_intrinsic(alloc, out, intrinsic),
         Item::Import { name, description } => put_import(alloc, out, name, description),
         Item::Export {
-            name, sort, index, ..
+            name,
+            sort,
+            index,
+            ..
         } => put_export(out, name, *sort, *index),
         Item::Custom { name, contents } => put_custom(out, name, contents.len()),
     }

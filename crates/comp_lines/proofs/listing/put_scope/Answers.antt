@@ -1,4 +1,3 @@
-use Rattle.std.proofs.Common.{sym}
 use Rattle.comp_bytes.proofs.Pieces.{refused_each}
 use Rattle.comp_lines.proofs.Refusals.{exits}
 use Rattle.comp_lines.proofs.listing.put_scope.Goals as goal
