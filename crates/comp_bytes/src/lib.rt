@@ -40,6 +40,7 @@ pub use fault::{BuildFault, Excess, count_of, next_count};
 pub use laws::{one_list, one_name, one_number, one_type_index};
 pub use name::Name;
 pub use naming::names_bytes;
+pub use number::{Spell, spelled};
 pub use sections::component_bytes;
 pub use space::{ComponentExportKind, ExportKind, Sort, Space};
 pub use types::{

@@ -1,12 +1,12 @@
 //! Numbers, names and lists at the end of a buffer.
 
-ghost use Rattle.std.specs.Prelude.{◌≡◌, ◌+◌, ◌<◌, ◌≤◌, ◌^◌, ◌++◌, length, OnOk, List, ℕ};
+ghost use Rattle.std.specs.Prelude.{◌≡◌, ◌+◌, ◌<◌, ◌≤◌, ◌^◌, ◌++◌, length, IfOk, IfErr, OnOk, List, ℕ};
 ghost use Rattle.comp_bytes.specs.Spelling.{leb128, leb, signed_leb, raw, octet, number as a_number, quantity, each, listed, named, optional, Spelling, Fits, ◌⊕◌};
-ghost use Rattle.comp_bytes.specs.Written.{Writes};
+ghost use Rattle.comp_bytes.specs.Written.{Writes, Refused};
 
 use crate::fault::{BuildFault, counted};
 use comp_lists::Seq;
-use std::alloc::AllocError;
+use std::alloc::{AllocError, Global};
 
 /// Writes a number in groups of seven bits, the last of them below `end`.
 fn put_groups(out: &mut Vec<u8>, number: u32, end: u32) -> Result<(), AllocError>
@@ -62,12 +62,27 @@ pub(crate) fn put_name(out: &mut Vec<u8>, text: &str) -> Result<(), BuildFault>
     Ok(())
 }
 
-/// A value that is written one way.
-pub(crate) trait Spell {
+/// A value that is written one way: a part of a definition, in the binary format of components.
+pub trait Spell {
     ghost spelling: { Self → Spelling };
 
+    /// Writes the value behind what stands in a buffer. It refuses with [`BuildFault::TooMany`] only
+    /// where a count or a size in its spelling passes 2^32 - 1, and tells that one. After a refusal
+    /// the buffer is of no use.
     fn put(&self, out: &mut Vec<u8>) -> Result<(), BuildFault>
         ensures { Writes out.old.items out.new.items result (spelling self.now) };
+}
+
+/// The bytes of a value, as they stand in its section. It refuses with [`BuildFault::TooMany`] only
+/// where a count or a size among them would pass 2^32 - 1, and tells that one.
+pub fn spelled<T: Spell>(alloc: Global, value: &T) -> Result<Vec<u8>, BuildFault>
+    ensures ok { IfOk result (λ v. v.items ≡ (T.spelling value.now).bytes) }
+    ensures fits { OnOk result (Fits (T.spelling value.now).counts) }
+    ensures refused { IfErr result (Refused (T.spelling value.now).counts) }
+{
+    let mut out = Vec::new(alloc);
+    value.put(&mut out)?;
+    Ok(out)
 }
 
 pub(crate) fn put_each<T: Spell>(out: &mut Vec<u8>, items: &[T]) -> Result<(), BuildFault>

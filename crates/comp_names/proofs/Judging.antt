@@ -91,7 +91,7 @@ not_apart : (name : List ℕ) (between after : Names) → AllByRecursion (λ y. 
 not_apart name [] after h = true≢false (sym ((bytes_eq-Decides name name).1 refl) ∙ h.0)
 not_apart name (x ∷ between) after h = not_apart name between after h.1
 
-not_distinct : (name : List ℕ) (before between after : Names) → IsDistinct bytes_eq (before ++ name ∷ between ++ name ∷ after) → ⊥
+pub not_distinct : (name : List ℕ) (before between after : Names) → IsDistinct bytes_eq (before ++ name ∷ between ++ name ∷ after) → ⊥
 unfolding IsDistinct
 not_distinct name [] between after h = not_apart name between after h.0
 not_distinct name (x ∷ before) between after h = not_distinct name before between after h.1

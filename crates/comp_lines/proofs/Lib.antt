@@ -1,0 +1,3 @@
+pub mod Wide
+pub mod Refusals
+pub mod Worked
