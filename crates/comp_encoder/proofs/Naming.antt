@@ -1,6 +1,6 @@
 -- The names in a component that was built for a world: those of its imports and exports are the stated ones, and all
 -- others differ in their lists.
-use Rattle.std.proofs.Common.{◌≡◌, ◌∙◌, ℕ, List, [], ◌∷◌, ◌++◌, refl, sym, ap, ap₂, subst, append_assoc, map, inl, inr, ◌⊎◌, elim, Some, None}
+use Rattle.std.proofs.Common.{◌≡◌, ℕ, Bool, IsTrue, List, [], ◌∷◌, ◌++◌, refl, sym, ap₂, subst, map, inl, inr, ◌⊎◌}
 use Rattle.std.specs.Prelude.{Contains}
 use Rattle.std.specs.List.{AllByRecursion, AllZip, IsDistinct, flat_map}
 use Rattle.std.specs.Str.{bytes_eq}
@@ -27,7 +27,8 @@ use Rattle.comp_names.proofs.Judging.{not_distinct}
 use Rattle.comp_names.specs.NameForm.{IsFormed}
 use Rattle.comp_names.specs.Names.{StandsTwice, NamesOk}
 use Rattle.comp_encoder.specs.Linking.{IsComposed, stated_imports, stated_exports}
-use Rattle.comp_encoder.specs.Outputs.{IsNameCause}
+use Rattle.comp_encoder.specs.Outputs.{IsNameCause, IsOutputRefusal}
+use Rattle.comp_encoder.specs.declared.output.OutputFault.TheVariants as outputs
 
 all_both : {A : Type 0} (P : A → Type 0) (xs ys : List A) → AllByRecursion P xs → AllByRecursion P ys → AllByRecursion P (xs ++ ys)
 all_both P [] ys h k = k
@@ -130,8 +131,10 @@ module _ (w : ComponentWorld) (ds : List Def) (valid : IsWorld w) (built : IsBui
       let P : Names → Type 0 = λ l. StandsTwice name l → StandsTwice name (stated_imports w) ⊎ StandsTwice name (stated_exports w) in
       AllByRecursion-contains P (names ds) list (
         (λ t. inl (subst (λ (l : Names). StandsTwice name l) composed.imports t)),
-        (λ t. inr (subst (λ (l : Names). StandsTwice name l) composed.exports t)),
-        AllByRecursion-weaker (λ l apart t. absurd (never_twice name l apart t)) (flat_map def_names ds) (lists_apart w valid [] ds built.right),
+        (
+          (λ t. inr (subst (λ (l : Names). StandsTwice name l) composed.exports t)),
+          AllByRecursion-weaker (λ l apart t. absurd (never_twice name l apart t)) (flat_map def_names ds) (lists_apart w valid [] ds built.right),
+        ),
       ) there twice
 
   stated : (name : List ℕ) → Contains (extern_names ds) name → Contains (stated_imports w ++ stated_exports w) name
@@ -140,13 +143,13 @@ module _ (w : ComponentWorld) (ds : List Def) (valid : IsWorld w) (built : IsBui
     | inr e ↦ Contains-append_right (stated_imports w) (stated_exports w) name (subst (λ (ns : Names). Contains ns name) composed.exports e)
     ]
 
-  -- a fault of what was built is want of memory, or lies in the stated names
-  pub check_cause : Scoped ds → (fault : CheckFault) → IsUnchecked ds fault → (fault ≡ checks.Memory) ⊎ IsNameCause w fault
-  check_cause scoped checks.Memory h = inl refl
-  check_cause scoped (checks.Grammar place) h = absurd h
-  check_cause scoped (checks.Index definition space index) h = absurd (fault_no ds definition space index h scoped)
-  check_cause scoped (checks.NameTwice name) h = inr (twice_stated name h.0 h.1 h.2)
-  check_cause scoped (checks.NameForm name) h = inr (stated name h.0, h.1)
+  -- a refusal by the check has its cause
+  pub check_refusal : Scoped ds → (validate : Bool) (fault : CheckFault) → IsTrue validate × IsUnchecked ds fault → IsOutputRefusal w validate (outputs.Check fault)
+  check_refusal scoped validate checks.Memory h = tt
+  check_refusal scoped validate (checks.Grammar place) h = absurd h.1
+  check_refusal scoped validate (checks.Index definition space index) h = absurd (fault_no ds definition space index h.1 scoped)
+  check_refusal scoped validate (checks.NameTwice name) h = (h.0, twice_stated name h.1.0 h.1.1 h.1.2)
+  check_refusal scoped validate (checks.NameForm name) h = (h.0, (stated name h.1.0, h.1.1))
 
   -- where the names of what was built are right, so are the stated ones
   pub no_name_cause : NamesOk ds → (fault : CheckFault) → IsNameCause w fault → ⊥
@@ -154,7 +157,7 @@ module _ (w : ComponentWorld) (ds : List Def) (valid : IsWorld w) (built : IsBui
   no_name_cause ok (checks.Grammar place) h = h
   no_name_cause ok (checks.Index definition space index) h = h
   no_name_cause ok (checks.NameTwice name) (inl t) = never_twice name (stated_imports w) (subst (λ (l : Names). IsDistinct bytes_eq l) composed.imports ok.0.0) t
-  no_name_cause ok (checks.NameTwice name) (inr t) = never_twice name (stated_exports w) (subst (λ (l : Names). IsDistinct bytes_eq l) composed.exports ok.0.1) t
+  no_name_cause ok (checks.NameTwice name) (inr t) = never_twice name (stated_exports w) (subst (λ (l : Names). IsDistinct bytes_eq l) composed.exports ok.0.1.0) t
   no_name_cause ok (checks.NameForm name) h = h.1 (AllByRecursion-contains IsFormed (extern_names ds) name ok.1 (stated_externs w [] ds built.right name (back name h.0)))
     where
       back : (name : List ℕ) → Contains (stated_imports w ++ stated_exports w) name → Contains (flat_map def_import ds) name ⊎ Contains (flat_map def_export ds) name

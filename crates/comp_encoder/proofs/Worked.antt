@@ -34,6 +34,7 @@ use Rattle.comp_shims.specs.Answers.{Answer, Gives, Traps, Event, Instantiated, 
 use Rattle.comp_shims.specs.Store.{Thing, Export, CoreItem, Lowering, OfUser, Function, Imported, Lifting, UserInstance, Store}
 use Rattle.comp_bytes.specs.Places.{in_space}
 use Rattle.comp_state.specs.Facts.{IsFunctionType, IsImported, IsLowered, IsArgumentFor, IsMain, IsLiftFor}
+use Rattle.std.specs.List.{IsDistinct}
 use Rattle.comp_state.specs.Rules.{IsBuilt}
 use Rattle.comp_encoder.specs.Machine.{Machine, Outcome, Done, Trapped, Open, Stuck, acts}
 use Rattle.comp_shims.specs.Targets.{OfRoot, Lowered}
@@ -265,6 +266,10 @@ g_lifted = record {
   encoded = refl;
 }
 
+one_apart : (name : List ℕ) → IsDistinct bytes_eq (name ∷ [])
+unfolding IsDistinct
+one_apart name = (tt, tt)
+
 pub keeps_the_rules : IsBuilt one_each one_import_one_export
 keeps_the_rules = record {
   right = (
@@ -276,7 +281,7 @@ keeps_the_rules = record {
         (
           (omega arith, refl),
           (
-            record { each = (record { kind = refl; scoped = omega arith }, tt); apart = tt },
+            record { each = (record { kind = refl; scoped = omega arith }, tt); apart = one_apart f },
             (
               record { main = refl; scoped = omega arith; each = (f_offered, tt) },
               (record { of = main_made 6 refl; key = g; role = refl }, ((omega arith, refl, function_typed_later), (record { key = keys.Name g; named = refl; lifted = g_lifted }, tt))),

@@ -1,6 +1,6 @@
 -- What an encoder holds, how it begins, and what an accepted module makes of it. The rules are this
 -- project's own: the component model's standard speaks of components, not of how they are made.
-use Rattle.std.specs.Prelude.{◌≡◌, ℕ, List, [], ◌++◌, Option, Some, None, true, false}
+use Rattle.std.specs.Prelude.{Bool, ◌≡◌, ℕ, List, [], ◌++◌, Option, Some, None, true, false}
 use Rattle.comp_worlds.specs.declared.gathered.Gathered.{Gathered}
 use Rattle.comp_worlds.specs.declared.gathered.Part.{Part}
 use Rattle.comp_worlds.specs.declared.gathered.ExportKey.{ExportKey}

@@ -3,10 +3,12 @@
 ghost use Rattle.std.specs.Prelude.{◌≡◌, ◌++◌, IfOk, IfErr, OnOk, OnErr, IsOk, if◌then◌else◌, ◌≢◌, [], MatchBool};
 ghost use Rattle.comp_encoder.specs.Encoder.{fresh, validating, after_module, main_bytes, IsWorldOf};
 ghost use Rattle.comp_encoder.specs.Refusals.{ModuleCause, IsModuleRefusal, NoWorldCause, NoEncodeCause, IsEncodeRefusal};
-ghost use Rattle.comp_encoder.specs.Component.{IsEncoding};
+ghost use Rattle.comp_worlds.specs.Worlds.{IsWorld};
+ghost use Rattle.comp_encoder.specs.Component.{IsComponentOf, IsEncoding};
+ghost use Rattle.comp_encoder.specs.Outputs.{NoOutputCause, IsOutputRefusal};
 
 use crate::fault::EncodeFault;
-use crate::output::component_bytes;
+use crate::output::{OutputFault, component_bytes};
 use comp_worlds::{ComponentWorld, EncoderOptions, Gathered, Lower, Part};
 use std::alloc::Global;
 use std::marker::Model;
@@ -150,6 +152,16 @@ impl<L: Lower> ComponentEncoder<L> {
             .map_err(|f| fault_of(&self.lower, f))
     }
 
+    /// The component of the world, checked where that is asked for.
+    fn output(&self, world: &ComponentWorld) -> Result<Vec<u8>, OutputFault>
+        requires { IsWorld world.now }
+        ensures ok { IfOk result (λ bytes. IsComponentOf world.now self.now.gathered.options.validate bytes.items) }
+        ensures refused { IsOk result → NoOutputCause world.now self.now.gathered.options.validate }
+        ensures cause { IfErr result (IsOutputRefusal world.now self.now.gathered.options.validate) }
+    {
+        component_bytes(self.alloc, world, self.gathered.options.validate)
+    }
+
     /// The component of what was gathered, in the component model's binary format.
     ///
     /// It refuses for want of memory, where there is no main module or its bytes are empty, where
@@ -162,7 +174,6 @@ impl<L: Lower> ComponentEncoder<L> {
         ensures cause { IfErr result (IsEncodeRefusal L.Lower self.now) }
     {
         let world = self.world()?;
-        let validate = self.gathered.options.validate;
-        Ok(component_bytes(self.alloc, &world, validate)?)
+        Ok(self.output(&world)?)
     }
 }

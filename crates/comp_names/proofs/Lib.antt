@@ -3,4 +3,4 @@ mod Parts
 mod Labels
 mod Versions
 mod Meeting
-mod Judging
+pub mod Judging

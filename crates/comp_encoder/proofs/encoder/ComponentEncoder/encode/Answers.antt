@@ -1,18 +1,17 @@
 use Rattle.std.proofs.Common.{refl}
 use Rattle.comp_encoder.specs.Refusals.{IsEncodeRefusal}
-use Rattle.comp_encoder.proofs.Refused.{from_state, refused_as, none_stands}
+use Rattle.comp_encoder.proofs.Refused.{from_output, refused_as, none_stands}
 use Rattle.comp_encoder.proofs.Answered.{component_of}
 use Rattle.comp_encoder.proofs.encoder.ComponentEncoder.encode.Goals as goal
 
-pub returns-in_err-encode_world-clause-cause : goal.returns-in_err-encode_world-clause-cause
-returns-in_err-encode_world-clause-cause g c =
-    refused_as c.from_residual-in_err-encode_world.result _ (IsEncodeRefusal g.L.Lower c.args.self.now) c.from_residual-in_err-encode_world.ensures.1
-    (from_state g.L.Lower c.args.self.now c.in_ok-world.world _ c.in_ok-world.ensures.ok c.in_err-encode_world.ensures.cause)
+pub returns-in_err-output-clause-cause : goal.returns-in_err-output-clause-cause
+returns-in_err-output-clause-cause g c =
+    refused_as c.from_residual-in_err-output.result _ (IsEncodeRefusal g.L.Lower c.args.self.now) c.from_residual-in_err-output.ensures.1
+    (from_output g.L.Lower c.args.self.now c.in_ok-world.world _ c.in_ok-world.ensures.ok c.in_err-output.ensures.cause)
 
 pub returns-clause-refused : goal.returns-clause-refused
 returns-clause-refused g c =
-    λ _. none_stands g.L.Lower c.args.self.now c.in_ok-world.world c.in_ok-world.ensures.ok (c.in_ok-world.ensures.refused refl) (c.in_ok-encode_world.ensures.refused refl)
+    λ _. none_stands g.L.Lower c.args.self.now c.in_ok-world.world c.in_ok-world.ensures.ok (c.in_ok-world.ensures.refused refl) (c.in_ok-output.ensures.refused refl)
 
 pub returns-clause-ok : goal.returns-clause-ok
-returns-clause-ok g c =
-    component_of g.L.Lower c.args.self.now c.in_ok-world.world _ c.in_ok-world.ensures.ok c.in_ok-encode_world.ensures.ok
+returns-clause-ok g c = component_of g.L.Lower c.args.self.now c.in_ok-world.world _ c.in_ok-world.ensures.ok c.in_ok-output.ensures.ok
