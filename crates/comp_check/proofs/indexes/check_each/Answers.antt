@@ -1,4 +1,4 @@
-use Rattle.std.proofs.Common.{◌≡◌, ◌∙◌, List, Option, map, take, ap, arith}
+use Rattle.std.proofs.Common.{◌∙◌, Option, ap, arith}
 use Rattle.std.proofs.lemmas.Result.{err_from_is_err_and}
 use Rattle.comp_bytes.specs.Spaces.{space_of}
 use Rattle.comp_bytes.specs.Scopes.{DefScoped}

@@ -1,6 +1,5 @@
 use Rattle.std.proofs.Common.{List, subst}
 use Rattle.std.specs.Prelude.{IfErr}
-use Rattle.comp_bytes.specs.Scopes.{Scoped}
 use Rattle.comp_bytes.specs.declared.def.Def.{Def}
 use Rattle.comp_check.specs.Indexes.{IsIndexFault}
 use Rattle.comp_check.proofs.Faults.{refuses}

@@ -1,4 +1,4 @@
-use Rattle.std.proofs.Common.{◌≡◌, ◌∙◌, ◌∷◌, [], ◌<◌, List, Option, subst, map, take, length, ap, arith}
+use Rattle.std.proofs.Common.{◌∙◌, ◌∷◌, [], ◌<◌, List, Option, subst, map, take, length, ap, arith}
 use Rattle.std.specs.List.{AllByRecursion}
 use Rattle.std.proofs.lemmas.Result.{err_from_is_err_and}
 use Rattle.comp_bytes.specs.Spaces.{item_space}

@@ -1,4 +1,4 @@
-use Rattle.std.proofs.Common.{◌∷◌, [], List, subst, map, ◌≡◌}
+use Rattle.std.proofs.Common.{List, subst, map, ◌≡◌}
 use Rattle.std.specs.Prelude.{IfErr}
 use Rattle.comp_check.specs.declared.scope.Counts.{Counts}
 use Rattle.comp_check.specs.Lacking.{counted, AroundFault}

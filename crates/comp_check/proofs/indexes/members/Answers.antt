@@ -1,4 +1,4 @@
-use Rattle.std.proofs.Common.{◌≡◌, ◌∙◌, ◌∷◌, List, Some, None, Option, sym, ap, subst, map, take, length, arith}
+use Rattle.std.proofs.Common.{◌≡◌, ◌∙◌, ◌∷◌, List, Some, None, Option, ap, subst, map, take, arith}
 use Rattle.std.proofs.lemmas.Result.{err_from_is_err_and}
 use Rattle.comp_bytes.specs.Spaces.{member_space}
 use Rattle.comp_bytes.specs.References.{member_references}
