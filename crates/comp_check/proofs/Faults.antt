@@ -1,18 +1,17 @@
 -- A fault is shown where it stands, and where there is one, not every index names an earlier item.
-use Rattle.std.proofs.Common.{◌≡◌, ℕ, zero, suc, ◌+◌, ◌<◌, ◌≤◌, List, [], ◌∷◌, ◌++◌, length, get_or, take, Option, Some, None, ◌⊎◌, inl, inr, refl, sym, ap, subst, ◌∙◌, append_assoc, append-nil, arith}
-use Rattle.std.specs.Prelude.{map, slice_get, Contains, Result, Ok, Err, IfErr, IfOk}
+use Rattle.std.proofs.Common.{◌≡◌, ℕ, zero, suc, ◌+◌, ◌<◌, List, [], ◌∷◌, ◌++◌, length, get_or, take, Option, inl, inr, refl, sym, ap, subst, ◌∙◌, append_assoc, append-nil, arith}
+use Rattle.std.specs.Prelude.{slice_get, Result, Ok, Err, IfErr}
 use Rattle.std.specs.List.{AllByRecursion, sum_by}
 use Rattle.std.proofs.lemmas.List.Elements.{All-from_recursion, All-contains}
 use Rattle.comp_bytes.specs.Spaces.{member_space, item_space, space_of}
 use Rattle.comp_bytes.specs.References.{Reference, member_references, item_references}
 use Rattle.comp_bytes.specs.Scopes.{Scope, no_items, scope_of, InScope, EachIn, MemberScoped, InsideScoped, ItemScoped, DefScoped, Scoped}
 use Rattle.comp_bytes.specs.declared.space.Space.{Space}
-use Rattle.comp_bytes.specs.declared.types.Member.{Member}
 use Rattle.comp_bytes.specs.declared.def.Item.{Item}
 use Rattle.comp_bytes.specs.declared.def.Item.TheVariants as items
 use Rattle.comp_bytes.specs.declared.def.Def.{Def}
 use Rattle.comp_bytes.specs.declared.def.Def.TheVariants as defs
-use Rattle.comp_check.specs.Indexes.{Missing, MissingIn, ReferenceFault, FaultBehind, MemberFault, InsideFault, ItemFault, DefFault, IsIndexFault, lines}
+use Rattle.comp_check.specs.Indexes.{MissingIn, ReferenceFault, FaultBehind, MemberFault, InsideFault, ItemFault, DefFault, IsIndexFault, lines}
 use Rattle.comp_check.specs.declared.fault.IndexFault.{IndexFault}
 use Rattle.comp_check.specs.declared.scope.Counts.{Counts}
 use Rattle.comp_check.specs.Lacking.{counted, AroundFault, FaultFrom}

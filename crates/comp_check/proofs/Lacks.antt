@@ -1,12 +1,12 @@
 -- The first missing item of lists of references.
-use Rattle.std.proofs.Common.{◌≡◌, ℕ, ◌+◌, ◌<◌, ◌≤◌, List, [], ◌∷◌, ◌++◌, length, get_or, take, drop, Option, Some, None, refl, sym, ap, subst, ◌∙◌, arith}
-use Rattle.std.specs.Prelude.{Result, Ok, Err, slice_get}
+use Rattle.std.proofs.Common.{◌≡◌, ℕ, ◌+◌, ◌<◌, List, [], ◌∷◌, ◌++◌, length, get_or, drop, Option, Some, None, refl, sym, ap, ◌∙◌}
+use Rattle.std.specs.Prelude.{slice_get}
 use Rattle.std.specs.List.{flat_map}
-use Rattle.std.proofs.lemmas.List.{at_drop_more, at_drop_all}
+use Rattle.std.proofs.lemmas.List.{at_drop_more}
 use Rattle.comp_bytes.specs.References.{Reference}
 use Rattle.comp_check.specs.declared.scope.Counts.{Counts}
 use Rattle.comp_check.specs.declared.scope.Lack.{Lack}
-use Rattle.comp_check.specs.Lacking.{lack_in, or_else, lacking, Finds}
+use Rattle.comp_check.specs.Lacking.{lack_in, or_else, lacking}
 
 or_none : (a b : Option Lack) → or_else a b ≡ None → (a ≡ None) × (b ≡ None)
 or_none None b e = (refl, e)

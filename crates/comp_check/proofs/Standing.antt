@@ -1,19 +1,19 @@
 -- What stands one after the other, and the scope that it makes.
-use Rattle.std.proofs.Common.{◌≡◌, ℕ, zero, suc, ◌+◌, ◌<◌, ◌≤◌, ◌^◌, Bool, true, false, cond, List, [], ◌∷◌, ◌++◌, length, get_or, take, drop, Option, Some, None, ◌⊎◌, inl, inr, refl, sym, ap, subst, ◌∙◌, append_assoc, append-nil, arith}
-use Rattle.std.specs.Prelude.{map, slice_get, Contains, nat_lt}
-use Rattle.std.specs.List.{AllByRecursion, sum_by, count_by}
+use Rattle.std.proofs.Common.{◌≡◌, ℕ, zero, suc, ◌+◌, ◌<◌, ◌≤◌, Bool, true, false, cond, List, [], ◌∷◌, ◌++◌, length, get_or, take, drop, Option, Some, None, ◌⊎◌, inl, inr, refl, sym, ap, subst, ◌∙◌, append_assoc, append-nil, arith}
+use Rattle.std.specs.Prelude.{map, slice_get, nat_lt}
+use Rattle.std.specs.List.{AllByRecursion, sum_by}
 use Rattle.std.proofs.Math.Path.{fun_ext}
 use Rattle.std.proofs.lemmas.List.{take_more, take_all, take-append-drop, length-take}
 use Rattle.std.proofs.Math.Seq.{drop-cons}
 use Rattle.std.proofs.lemmas.List.Sums.{sum_by_push, count_by-le-length}
 use Rattle.std.proofs.lemmas.List.Elements.{Contains-append_right}
 use Rattle.std.proofs.lemmas.Option.{same_Some}
-use Rattle.std.proofs.lemmas.Bool.{cases_lt, ltb-true, ltb-false}
+use Rattle.std.proofs.lemmas.Bool.{ltb-true, ltb-false}
 use Rattle.comp_bytes.specs.Spaces.{is_space}
 use Rattle.comp_bytes.specs.References.{Reference}
 use Rattle.comp_bytes.specs.Scopes.{Scope, no_items, scope_of, InScope, EachIn}
 use Rattle.comp_bytes.specs.declared.space.Space.{Space}
-use Rattle.comp_check.specs.Indexes.{Missing, MissingIn, ReferenceFault, FaultBehind}
+use Rattle.comp_check.specs.Indexes.{MissingIn, ReferenceFault, FaultBehind}
 use Rattle.comp_check.specs.declared.scope.Counts.{Counts}
 use Rattle.comp_check.specs.declared.scope.Lack.{Lack}
 use Rattle.comp_check.specs.Lacking.{counted, and_made, lack_in, or_else, lacking}

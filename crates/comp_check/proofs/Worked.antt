@@ -1,5 +1,5 @@
 -- Examples of faults, worked out.
-use Rattle.std.proofs.Common.{◌≡◌, ℕ, List, [], ◌∷◌, None, inl, inr, refl, arith}
+use Rattle.std.proofs.Common.{ℕ, [], ◌∷◌, None, inl, inr, refl, arith}
 use Rattle.comp_bytes.specs.References.{own}
 use Rattle.comp_bytes.specs.declared.space.Space.TheVariants as spaces
 use Rattle.comp_bytes.specs.declared.types.TypeDef.TheVariants as types
@@ -45,13 +45,16 @@ no_scope = record {
         faulty = defs.Component (outward 2 0 ∷ []);
         after = [];
         parts = refl;
-        fault =
-            ([], record {
-              faulty = outward 2 0;
-              after = [];
-              parts = refl;
-              fault = inl (record { reference = record { outward = 2; space = spaces.Type; index = 0 }; named = (0, omega arith, refl); missing = (refl, refl) });
-            }, refl);
+        fault = (
+          [],
+          record {
+            faulty = outward 2 0;
+            after = [];
+            parts = refl;
+            fault = inl (record { reference = record { outward = 2; space = spaces.Type; index = 0 }; named = (0, omega arith, refl); missing = (refl, refl) });
+          },
+          refl,
+        );
       };
   line_is = refl;
 }
@@ -68,13 +71,18 @@ in_member = record {
         faulty = defs.Item (items.InstanceType (record { members = members.Alias (aliases.Outer 0 0) ∷ [] }));
         after = [];
         parts = refl;
-        fault =
-            (refl, inr ([], record {
+        fault = (
+          refl,
+          inr (
+            [],
+            record {
               faulty = members.Alias (aliases.Outer 0 0);
               after = [];
               parts = refl;
               fault = record { reference = own spaces.Type 0; named = (0, omega arith, refl); missing = (refl, refl, omega arith) };
-            }));
+            },
+          ),
+        );
       };
   line_is = refl;
 }

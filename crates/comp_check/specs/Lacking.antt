@@ -1,9 +1,9 @@
 -- What the functions that check references look for: the first item that is missing. Component model, binary format:
 -- index spaces.
-use Rattle.std.specs.Prelude.{ℕ, ◌≡◌, ◌+◌, ◌==◌, nat_lt, List, [], ◌∷◌, Option, Some, None, Result, Ok, Err, cond, if◌then◌else◌, slice_get, get_or, length, ◌⊎◌}
+use Rattle.std.specs.Prelude.{ℕ, ◌≡◌, ◌+◌, nat_lt, List, [], ◌∷◌, Option, Some, None, Result, Ok, Err, cond, if◌then◌else◌, slice_get, get_or, length, ◌⊎◌}
 use Rattle.comp_bytes.specs.Spaces.{place, is_space, member_space, item_space}
 use Rattle.comp_bytes.specs.References.{Reference, item_references}
-use Rattle.comp_bytes.specs.Scopes.{Scope, InsideScoped, InScope}
+use Rattle.comp_bytes.specs.Scopes.{Scope}
 use Rattle.comp_bytes.specs.declared.space.Space.{Space}
 use Rattle.comp_bytes.specs.declared.space.Space.TheVariants as spaces
 use Rattle.comp_bytes.specs.declared.types.Member.{Member}

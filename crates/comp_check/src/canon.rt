@@ -4,33 +4,33 @@ ghost use Rattle.std.specs.Prelude.{◌≡◌, ◌∷◌, ◌++◌, [], List};
 ghost use Rattle.comp_bytes.specs.References.{where_some, value_references, options_references, intrinsic_references, type_at};
 ghost use Rattle.comp_check.specs.Lacking.{lacking, Finds};
 
-use crate::refers::{each, optional};
+use crate::refers::{check_each, check_optional};
 use crate::scope::{Lack, Scopes};
 use comp_bytes::{CanonicalOption, ComponentValType, Intrinsic, Space};
 
 #[tactic(auto, using(crate::proofs::Lacks::chained))]
-fn result_and_options(
+fn check_result_and_options(
     scopes: &Scopes,
     ty: &Option<ComponentValType>,
     options: &[CanonicalOption],
 ) -> Result<(), Lack>
     ensures { Finds result (lacking scopes.now (where_some value_references ty.now ++ options_references options.now)) }
 {
-    optional(scopes, ty)?;
-    each(scopes, options)
+    check_optional(scopes, ty)?;
+    check_each(scopes, options)
 }
 
 #[tactic(auto, using(crate::proofs::Lacks::chained))]
-fn type_and_options(scopes: &Scopes, ty: u32, options: &[CanonicalOption]) -> Result<(), Lack>
+fn check_type_and_options(scopes: &Scopes, ty: u32, options: &[CanonicalOption]) -> Result<(), Lack>
     ensures { Finds result (lacking scopes.now (type_at ty ++ options_references options.now)) }
 {
     scopes.check(Space::Type, ty)?;
-    each(scopes, options)
+    check_each(scopes, options)
 }
 
 /// Whether the items are there that an intrinsic names.
 #[tactic(auto, unfolding(crate::specs::Lacking::lacking))]
-pub(crate) fn intrinsic(scopes: &Scopes, intrinsic: &Intrinsic) -> Result<(), Lack>
+pub(crate) fn check_intrinsic(scopes: &Scopes, intrinsic: &Intrinsic) -> Result<(), Lack>
     ensures { Finds result (lacking scopes.now (intrinsic_references intrinsic.now)) }
 {
     match intrinsic {
@@ -48,16 +48,16 @@ pub(crate) fn intrinsic(scopes: &Scopes, intrinsic: &Intrinsic) -> Result<(), La
         | Intrinsic::FutureDropReadable(ty)
         | Intrinsic::FutureDropWritable(ty) => scopes.check(Space::Type, *ty),
         Intrinsic::TaskReturn { result, options } => {
-            result_and_options(scopes, result, options.as_slice())
+            check_result_and_options(scopes, result, options.as_slice())
         }
         Intrinsic::StreamRead { ty, options }
         | Intrinsic::StreamWrite { ty, options }
         | Intrinsic::FutureRead { ty, options }
         | Intrinsic::FutureWrite { ty, options } => {
-            type_and_options(scopes, *ty, options.as_slice())
+            check_type_and_options(scopes, *ty, options.as_slice())
         }
         Intrinsic::ErrorContextNew { options } | Intrinsic::ErrorContextDebugMessage { options } =>
-            each(scopes, options.as_slice()),
+            check_each(scopes, options.as_slice()),
         Intrinsic::WaitableSetWait { memory } | Intrinsic::WaitableSetPoll { memory } => {
             scopes.check(Space::CoreMemory, *memory)
         }

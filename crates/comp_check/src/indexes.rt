@@ -18,38 +18,39 @@ use crate::{items, types};
 use comp_bytes::{Def, Defs, Item, Member};
 
 /// The members of an instance type, which these scopes are around.
-fn members(outer: &[Counts], members: &[Member]) -> Result<(), Lack>
+fn check_members(outer: &[Counts], members: &[Member]) -> Result<(), Lack>
     ensures ok { IfOk result (λ _. EachIn member_space (MemberScoped (map counted outer.now)) [] members.now) }
     ensures cause { IfErr result (λ e. MembersFault (map counted outer.now) members.now e) }
 {
     let mut own = Counts::new();
     for member in members {
-        types::member(&Scopes::new(&own, outer), member)?;
+        types::check_member(&Scopes::new(&own, outer), member)?;
         own.count(items::member_space(member));
     }
     Ok(())
 }
 
-/// What stands inside an item, which these scopes are around: the members of an instance type.
-fn instance_type(scopes: &Scopes, inner: &[Member]) -> Result<(), Lack>
+/// The members of an instance type, which these scopes are around: they stand in a scope of their own.
+fn check_instance_type(scopes: &Scopes, inner: &[Member]) -> Result<(), Lack>
     requires { length scopes.now ≤ 2 }
     ensures ok { IfOk result (λ _. EachIn member_space (MemberScoped (map counted scopes.now)) [] inner.now) }
     ensures cause { IfErr result (λ e. MembersFault (map counted scopes.now) inner.now e) }
 {
     let (own, outer) = scopes.parts();
     match outer {
-        [] => members(&[*own], inner),
-        [top, ..] => members(&[*own, *top], inner),
+        [] => check_members(&[*own], inner),
+        [top, ..] => check_members(&[*own, *top], inner),
     }
 }
 
-fn inside(scopes: &Scopes, item: &Item) -> Result<(), Lack>
+/// What stands inside an item, which these scopes are around.
+fn check_inside(scopes: &Scopes, item: &Item) -> Result<(), Lack>
     requires { length scopes.now ≤ 2 }
     ensures ok { IfOk result (λ _. InsideScoped (map counted scopes.now) item.now) }
     ensures cause { IfErr result (λ e. InsideFault (map counted scopes.now) e.space e.index item.now) }
 {
     match item {
-        Item::InstanceType(ty) => instance_type(scopes, ty.members.as_slice()),
+        Item::InstanceType(ty) => check_instance_type(scopes, ty.members.as_slice()),
         Item::CoreModule(_)
         | Item::CoreInstantiate { .. }
         | Item::CoreExports(_)
@@ -65,25 +66,26 @@ fn inside(scopes: &Scopes, item: &Item) -> Result<(), Lack>
     }
 }
 
+/// An item, with what stands inside it.
 #[tactic(auto, using(crate::proofs::Standing::all_there, crate::proofs::Standing::one_missing))]
-fn item_lack(scopes: &Scopes, item: &Item) -> Result<(), Lack>
+fn check_item(scopes: &Scopes, item: &Item) -> Result<(), Lack>
     requires { length scopes.now ≤ 2 }
     ensures named { IfOk result (λ _. AllByRecursion (InScope (map counted scopes.now)) (item_references item.now)) }
     ensures within { IfOk result (λ _. InsideScoped (map counted scopes.now) item.now) }
     ensures cause { IfErr result (λ e. AroundFault (map counted scopes.now) item.now e.space e.index) }
 {
-    items::named(scopes, item)?;
-    inside(scopes, item)
+    items::check_named(scopes, item)?;
+    check_inside(scopes, item)
 }
 
 /// An item on a line, which these scopes are around.
-fn item_on(line: u128, scopes: &Scopes, item: &Item) -> Result<(), IndexFault>
+fn check_item_on(line: u128, scopes: &Scopes, item: &Item) -> Result<(), IndexFault>
     requires { length scopes.now ≤ 2 }
     ensures named { IfOk result (λ _. AllByRecursion (InScope (map counted scopes.now)) (item_references item.now)) }
     ensures within { IfOk result (λ _. InsideScoped (map counted scopes.now) item.now) }
     ensures cause { IfErr result (λ e. AroundFault (map counted scopes.now) item.now e.space e.index × (e.definition ≡ line)) }
 {
-    match item_lack(scopes, item) {
+    match check_item(scopes, item) {
         Ok(()) => Ok(()),
         Err(lack) => Err(IndexFault {
             definition: line,
@@ -94,7 +96,7 @@ fn item_on(line: u128, scopes: &Scopes, item: &Item) -> Result<(), IndexFault>
 }
 
 /// The items of a component nested on a line; each has a line behind it.
-fn component(line: u128, top: &Counts, inner: &[Item]) -> Result<(), IndexFault>
+fn check_component(line: u128, top: &Counts, inner: &[Item]) -> Result<(), IndexFault>
     requires { line + 2 ^ 64 < 2 ^ 128 }
     ensures ok { IfOk result (λ _. EachIn item_space (ItemScoped (counted top.now ∷ [])) [] inner.now) }
     ensures cause { IfErr result (λ e. NestedFault line (counted top.now) inner.now e) }
@@ -102,20 +104,21 @@ fn component(line: u128, top: &Counts, inner: &[Item]) -> Result<(), IndexFault>
     let outer = [*top];
     let mut own = Counts::new();
     for (place, item) in inner.iter().enumerate() {
-        item_on(line + 1 + place as u128, &Scopes::new(&own, &outer), item)?;
+        check_item_on(line + 1 + place as u128, &Scopes::new(&own, &outer), item)?;
         own.count(items::item_space(item));
     }
     Ok(())
 }
 
-fn definition(line: u128, own: &Counts, def: &Def) -> Result<(), IndexFault>
+/// A definition that begins on a line, in the scope of the whole component.
+fn check_definition(line: u128, own: &Counts, def: &Def) -> Result<(), IndexFault>
     requires { line + 2 ^ 64 < 2 ^ 128 }
     ensures ok { IfOk result (λ _. DefScoped (counted own.now) def.now) }
     ensures cause { IfErr result (λ e. FaultFrom line (counted own.now) def.now e) }
 {
     match def {
-        Def::Item(item) => item_on(line, &Scopes::new(own, &[]), item),
-        Def::Component(inner) => component(line, own, inner.as_slice()),
+        Def::Item(item) => check_item_on(line, &Scopes::new(own, &[]), item),
+        Def::Component(inner) => check_component(line, own, inner.as_slice()),
     }
 }
 
@@ -130,26 +133,29 @@ fn lines(def: &Def) -> u128
     }
 }
 
-/// Whether each index names an item that stands before it, in the scope that it is in. An index that
-/// doesn't is told, with the definition that names it.
+/// Whether each index names an item that stands before it, in the scope that it is in. It takes no memory.
 ///
 /// Component model, binary format: index spaces.
+///
+/// # Errors
+///
+/// An index that names no earlier item, and the definition that names it.
 pub fn check_indexes(definitions: &Defs) -> Result<(), IndexFault>
     ensures ok { IfOk result (λ _. Scoped definitions.now) }
     ensures cause { IfErr result (λ e. IsIndexFault definitions.now e.definition e.space e.index) }
     ensures refused { IfErr result (λ _. Scoped definitions.now → ⊥) }
 {
-    check_each(definitions.as_slice())
+    check_definitions(definitions.as_slice())
 }
 
-fn check_each(definitions: &[Def]) -> Result<(), IndexFault>
+fn check_definitions(definitions: &[Def]) -> Result<(), IndexFault>
     ensures ok { IfOk result (λ _. Scoped definitions.now) }
     ensures cause { IfErr result (λ e. IsIndexFault definitions.now e.definition e.space e.index) }
 {
     let mut own = Counts::new();
     let mut line = 0;
     for def in definitions {
-        definition(line, &own, def)?;
+        check_definition(line, &own, def)?;
         own.count(items::space_of(def));
         line += lines(def);
     }

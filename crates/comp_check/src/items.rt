@@ -7,10 +7,10 @@ ghost use Rattle.comp_bytes.specs.References.{own, where_some, description_refer
 ghost use Rattle.comp_bytes.specs.declared.space.Space.TheVariants as spaces;
 ghost use Rattle.comp_check.specs.Lacking.{lacking, Finds};
 
-use crate::canon::intrinsic;
-use crate::refers::{Refers, each, optional};
+use crate::canon::check_intrinsic;
+use crate::refers::{Refers, check_each, check_optional};
 use crate::scope::{Lack, Scopes};
-use crate::types::{alias, type_def};
+use crate::types::{check_alias, check_type};
 use comp_bytes::{
     Alias, Argument, CanonicalOption, CoreArgument, Def, Description, Item, Member, Sort, Space,
 };
@@ -65,40 +65,40 @@ pub(crate) fn space_of(def: &Def) -> Option<Space>
 }
 
 #[tactic(auto, using(crate::proofs::Lacks::chained))]
-fn core_instantiate(scopes: &Scopes, made: u32, args: &[CoreArgument]) -> Result<(), Lack>
+fn check_core_instantiate(scopes: &Scopes, made: u32, args: &[CoreArgument]) -> Result<(), Lack>
     ensures { Finds result (lacking scopes.now (own spaces.CoreModule made ∷ flat_map (λ a. own spaces.CoreInstance a.instance ∷ []) args.now)) }
 {
     scopes.check(Space::CoreModule, made)?;
-    each(scopes, args)
+    check_each(scopes, args)
 }
 
 #[tactic(auto, using(crate::proofs::Lacks::chained))]
-fn instantiate(scopes: &Scopes, component: u32, args: &[Argument]) -> Result<(), Lack>
+fn check_instantiate(scopes: &Scopes, component: u32, args: &[Argument]) -> Result<(), Lack>
     ensures { Finds result (lacking scopes.now (own spaces.Component component ∷ flat_map (λ a. own (sort_space a.sort) a.index ∷ []) args.now)) }
 {
     scopes.check(Space::Component, component)?;
-    each(scopes, args)
+    check_each(scopes, args)
 }
 
 #[tactic(auto, using(crate::proofs::Lacks::chained))]
-fn lift(scopes: &Scopes, func: u32, options: &[CanonicalOption], ty: u32) -> Result<(), Lack>
+fn check_lift(scopes: &Scopes, func: u32, options: &[CanonicalOption], ty: u32) -> Result<(), Lack>
     ensures { Finds result (lacking scopes.now (core_func_at func ++ options_references options.now ++ type_at ty)) }
 {
     scopes.check(Space::CoreFunc, func)?;
-    each(scopes, options)?;
+    check_each(scopes, options)?;
     scopes.check(Space::Type, ty)
 }
 
 #[tactic(auto, using(crate::proofs::Lacks::chained))]
-fn lower(scopes: &Scopes, func: u32, options: &[CanonicalOption]) -> Result<(), Lack>
+fn check_lower(scopes: &Scopes, func: u32, options: &[CanonicalOption]) -> Result<(), Lack>
     ensures { Finds result (lacking scopes.now (own spaces.Func func ∷ options_references options.now)) }
 {
     scopes.check(Space::Func, func)?;
-    each(scopes, options)
+    check_each(scopes, options)
 }
 
 #[tactic(auto, using(crate::proofs::Lacks::chained))]
-fn export(
+fn check_export(
     scopes: &Scopes,
     sort: Sort,
     index: u32,
@@ -107,34 +107,34 @@ fn export(
     ensures { Finds result (lacking scopes.now (own (sort_space sort) index ∷ where_some description_references description.now)) }
 {
     scopes.check(sort.space(), index)?;
-    optional(scopes, description)
+    check_optional(scopes, description)
 }
 
 /// Whether the items are there that an item names; what stands in an instance type is not looked at.
 #[tactic(auto, unfolding(crate::specs::Lacking::lacking))]
-pub(crate) fn named(scopes: &Scopes, item: &Item) -> Result<(), Lack>
+pub(crate) fn check_named(scopes: &Scopes, item: &Item) -> Result<(), Lack>
     ensures { Finds result (lacking scopes.now (item_references item.now)) }
 {
     match item {
         Item::CoreModule(_) | Item::InstanceType(_) | Item::Custom { .. } => Ok(()),
         Item::CoreInstantiate { module, args } => {
-            core_instantiate(scopes, *module, args.as_slice())
+            check_core_instantiate(scopes, *module, args.as_slice())
         }
-        Item::CoreExports(exports) => each(scopes, exports.as_slice()),
+        Item::CoreExports(exports) => check_each(scopes, exports.as_slice()),
         Item::Instantiate { component, args } => {
-            instantiate(scopes, *component, args.as_slice())
+            check_instantiate(scopes, *component, args.as_slice())
         }
-        Item::Alias(named) => alias(scopes, named),
-        Item::Type(ty) => type_def(scopes, ty),
-        Item::Lift { func, options, ty } => lift(scopes, *func, options.as_slice(), *ty),
-        Item::Lower { func, options } => lower(scopes, *func, options.as_slice()),
-        Item::Intrinsic(made) => intrinsic(scopes, made),
+        Item::Alias(alias) => check_alias(scopes, alias),
+        Item::Type(ty) => check_type(scopes, ty),
+        Item::Lift { func, options, ty } => check_lift(scopes, *func, options.as_slice(), *ty),
+        Item::Lower { func, options } => check_lower(scopes, *func, options.as_slice()),
+        Item::Intrinsic(intrinsic) => check_intrinsic(scopes, intrinsic),
         Item::Import { description, .. } => description.check(scopes),
         Item::Export {
             sort,
             index,
             description,
             ..
-        } => export(scopes, *sort, *index, description),
+        } => check_export(scopes, *sort, *index, description),
     }
 }

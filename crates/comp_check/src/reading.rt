@@ -12,7 +12,12 @@ use std::alloc::Global;
 /// The definitions of a component, read from its binary format. Reading asks nothing of indices and
 /// names: [`check`](crate::check) does.
 ///
-/// It refuses with [`CheckFault::Memory`] and [`CheckFault::Grammar`] alone.
+/// Component model, binary format: `component`.
+///
+/// # Errors
+///
+/// [`CheckFault::Grammar`] with the place of the section that can't be read; [`CheckFault::Memory`] where a
+/// growth is refused.
 pub fn read_component(alloc: Global, bytes: &[u8]) -> Result<Defs, CheckFault>
     ensures ok { IfOk result (λ defs. Spells bytes.now defs) }
     ensures same { IfOk result (λ defs. (ds : List Def) → Spells bytes.now ds → ds ≡ defs) }

@@ -23,7 +23,7 @@ pub(crate) trait Refers {
 }
 
 /// Whether the items are there that each of these names.
-pub(crate) fn each<T: Refers>(scopes: &Scopes, items: &[T]) -> Result<(), Lack>
+pub(crate) fn check_each<T: Refers>(scopes: &Scopes, items: &[T]) -> Result<(), Lack>
     ensures { Finds result (lacking scopes.now (flat_map T.references items.now)) }
 {
     for item in items {
@@ -33,7 +33,7 @@ pub(crate) fn each<T: Refers>(scopes: &Scopes, items: &[T]) -> Result<(), Lack>
 }
 
 #[tactic(auto, unfolding(crate::specs::Lacking::lacking))]
-pub(crate) fn optional<T: Refers>(scopes: &Scopes, value: &Option<T>) -> Result<(), Lack>
+pub(crate) fn check_optional<T: Refers>(scopes: &Scopes, value: &Option<T>) -> Result<(), Lack>
     ensures { Finds result (lacking scopes.now (where_some T.references value.now)) }
 {
     match value {
@@ -66,7 +66,7 @@ impl Refers for Case {
     ghost references = { λ c. where_some value_references c.ty };
 
     fn check(&self, scopes: &Scopes) -> Result<(), Lack> {
-        optional(scopes, &self.ty)
+        check_optional(scopes, &self.ty)
     }
 }
 

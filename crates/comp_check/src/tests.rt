@@ -2,7 +2,6 @@
 
 use super::*;
 use comp_bytes::Space;
-use comp_lists::Text;
 use std::alloc::Global;
 use std::test::*;
 
@@ -162,22 +161,66 @@ fn instance_types(rt: HostRuntime) -> Result<(), Fail> {
     Ok(())
 }
 
+/// The fault of the example with this byte at a place, as it is printed.
+fn fault_of_changed(alloc: Global, place: usize, byte: u8) -> Result<String, Fail> {
+    let mut changed = EXAMPLE;
+    if place < changed.len() {
+        changed[place] = byte;
+    }
+    let definitions = read_component(alloc, &changed)?;
+    match check(alloc, &definitions) {
+        Ok(()) => Ok(String::new(alloc)),
+        Err(fault) => Ok(format!(in alloc; "{fault}")?),
+    }
+}
+
 #[test]
 fn printed(rt: HostRuntime) -> Result<(), Fail> {
-    let fault = CheckFault::Index {
-        definition: 3,
-        space: Space::CoreFunc,
-        index: 4,
-    };
+    let alloc = rt.alloc();
     assert_eq!(rt;
-        format!(in rt.alloc(); "{fault}")?.as_str(),
-        "C3 Index definition=3 space=core-func index=4"
+        fault_of_changed(alloc, 22, 0x01)?.as_str(),
+        "C3 Index definition=1 space=type index=1"
     );
-    let name = Text::from_str(rt.alloc(), "a\"b")?;
-    let fault = CheckFault::NameTwice { name };
     assert_eq!(rt;
-        format!(in rt.alloc(); "{fault}")?.as_str(),
-        "C4 NameTwice name=\"a\\\"b\""
+        fault_of_changed(alloc, 20, 0x22)?.as_str(),
+        "C5 NameForm name=\"\\\"\""
     );
+    Ok(())
+}
+
+#[test]
+fn twice(rt: HostRuntime) -> Result<(), Fail> {
+    let alloc = rt.alloc();
+    let mut bytes = PREAMBLE.to_vec(alloc)?;
+    bytes.extend_from_slice(&TYPES)?;
+    bytes.extend_from_slice(&[0x0a, 0x0b, 0x02])?;
+    bytes.extend_from_slice(&[0x00, 0x01, 0x66, 0x01, 0x00])?;
+    bytes.extend_from_slice(&[0x00, 0x01, 0x66, 0x01, 0x00])?;
+    let definitions = read_component(alloc, bytes.as_slice())?;
+    match check(alloc, &definitions) {
+        Err(CheckFault::NameTwice { name }) => assert!(rt; name.is("f")),
+        Err(_other) => assert!(rt; false),
+        Ok(()) => assert!(rt; false),
+    }
+    Ok(())
+}
+
+#[test]
+fn spaces(rt: HostRuntime) -> Result<(), Fail> {
+    let spaces = [
+        (Space::CoreFunc, "core-func"),
+        (Space::CoreTable, "core-table"),
+        (Space::CoreMemory, "core-memory"),
+        (Space::CoreGlobal, "core-global"),
+        (Space::CoreModule, "core-module"),
+        (Space::CoreInstance, "core-instance"),
+        (Space::Func, "func"),
+        (Space::Type, "type"),
+        (Space::Component, "component"),
+        (Space::Instance, "instance"),
+    ];
+    for (space, word) in &spaces {
+        assert_eq!(rt; format!(in rt.alloc(); "{space}")?.as_str(), *word);
+    }
     Ok(())
 }

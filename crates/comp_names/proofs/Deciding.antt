@@ -1,5 +1,5 @@
 -- What a test answers, where what it tests is two things.
-use Rattle.std.proofs.Common.{◌≡◌, Bool, true, false, refl, sym, ◌∙◌, true≢false}
+use Rattle.std.proofs.Common.{◌≡◌, Bool, true, false, sym, ◌∙◌, true≢false}
 use Rattle.std.specs.Prelude.{◌↔◌, IsTrue, ◌⊎◌, Result, Ok, Err, IfOk}
 use Rattle.std.proofs.Common.{inl, inr}
 

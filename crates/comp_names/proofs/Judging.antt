@@ -8,8 +8,9 @@ use Rattle.comp_bytes.specs.ScopeNames.{Names}
 use Rattle.comp_names.specs.declared.fault.NameFault.{NameFault}
 use Rattle.comp_names.specs.declared.fault.NameFault.TheVariants as faults
 use Rattle.comp_names.specs.NameForm.{IsFormed}
-use Rattle.comp_names.specs.Names.{StandsTwice, IsFaultOf}
+use Rattle.comp_names.specs.Names.{IsFaultOf}
 use Rattle.comp_names.specs.Judged.{AreRight, Judges}
+use Rattle.comp_names.proofs.Parts.{all-append}
 use Rattle.comp_names.proofs.Meeting.{front_and_rest, one_more}
 use Rattle.std.proofs.Common.{map, ◌∙◌, ap}
 use Rattle.std.specs.Prelude.{IfErr}
@@ -20,10 +21,6 @@ use Rattle.comp_bytes.specs.ScopeNames.{names, member_export}
 use Rattle.comp_bytes.specs.declared.types.Member.{Member}
 use Rattle.comp_bytes.specs.declared.def.Def.{Def}
 use Rattle.comp_names.specs.Names.{NamesOk, extern_names}
-
-all-append : {X : Type 0} (P : X → Type 0) (xs ys : List X) → AllByRecursion P xs → AllByRecursion P ys → AllByRecursion P (xs ++ ys)
-all-append P [] ys h k = k
-all-append P (x ∷ xs) ys h k = (h.0, all-append P xs ys h.1 k)
 
 -- ---- names of imports and exports
 
@@ -46,7 +43,7 @@ pub each_more : {T : Type 0} (lists : T → List Names) (externs : T → Names) 
     i < length xs → x ≡ get_or xs i x → AreRight (lists x) (externs x) → AreRight (flat_map lists (take (i + 1) xs)) (flat_map externs (take (i + 1) xs))
 each_more lists externs xs i x h l e k = record {
   apart = subst (AllByRecursion (IsDistinct bytes_eq)) (sym (one_more lists xs i x l e)) (all-append (IsDistinct bytes_eq) (flat_map lists (take i xs)) (lists x) h.apart k.apart);
-  formed = subst (AllByRecursion IsFormed) (sym (one_more externs xs i x l e)) (all-append IsFormed (flat_map externs (take i xs)) (externs x) h.formed k.formed)
+  formed = subst (AllByRecursion IsFormed) (sym (one_more externs xs i x l e)) (all-append IsFormed (flat_map externs (take i xs)) (externs x) h.formed k.formed);
 }
 
 in_flat_map : {T A : Type 0} (f : T → List A) (xs : List T) (i : ℕ) (x : T) → i < length xs → x ≡ get_or xs i x → (v : A) → Contains (f x) v → Contains (flat_map f xs) v
@@ -103,4 +100,3 @@ excludes definitions (Err (faults.Twice n)) h ok =
     let d = AllByRecursion-contains (IsDistinct bytes_eq) (names definitions) h.0 ok.0 h.1 in
     absurd (not_distinct n h.2.before h.2.between h.2.after (subst (IsDistinct bytes_eq) h.2.parts d))
 excludes definitions (Err (faults.Form n)) h ok = absurd (h.1 (AllByRecursion-contains IsFormed (extern_names definitions) n ok.1 h.0))
-

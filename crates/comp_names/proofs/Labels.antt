@@ -1,13 +1,13 @@
 -- Labels as their words, and the marks that they lack.
-use Rattle.std.proofs.Common.{ℕ, ◌≡◌, ◌==◌, ◌<◌, Bool, true, false, List, [], ◌∷◌, ◌++◌, length, zero, suc, refl, sym, ap, subst, ◌∙◌, true≢false, arith, append-nil}
-use Rattle.std.specs.Prelude.{◌↔◌, ◌||◌, ◌&&◌, IsTrue, slice_index, if◌then◌else◌, cond}
-use Rattle.std.specs.List.{AllByRecursion, list_all, slice_split, flat_map, onto_first}
+use Rattle.std.proofs.Common.{ℕ, ◌≡◌, ◌==◌, ◌<◌, Bool, true, false, List, [], ◌∷◌, ◌++◌, length, refl, sym, ap, subst, ◌∙◌, true≢false, arith, append-nil}
+use Rattle.std.specs.Prelude.{◌↔◌, ◌||◌, ◌&&◌, IsTrue, slice_index}
+use Rattle.std.specs.List.{AllByRecursion, list_all, slice_split, flat_map}
 use Rattle.std.specs.Char.{is_ascii_alphabetic, is_ascii_digit}
-use Rattle.std.proofs.lemmas.Bool.{cases_Bool, eq-eqb, eqb-true}
+use Rattle.std.proofs.lemmas.Bool.{cases_Bool, eqb-true}
 use Rattle.std.proofs.Common.{inl, inr}
-use Rattle.comp_names.specs.NameForm.{Joined, IsWord, IsLabel, IsNumber, IsUnversioned, in_lower_word, in_upper_word, hyphen, dot, slash, colon, at_sign}
+use Rattle.comp_names.specs.NameForm.{IsWord, IsLabel, IsNumber, IsUnversioned, in_lower_word, in_upper_word, hyphen, dot, slash, colon, at_sign}
 use Rattle.comp_names.specs.Cuts.{Lacks, IsCut, is_mark}
-use Rattle.comp_names.proofs.Parts.{lacks-passing}
+use Rattle.comp_names.proofs.Parts.{lacks-passing, all-append}
 
 -- ---- the bytes of labels
 
@@ -47,22 +47,18 @@ word_bytes {word} w = elim (cases_Bool (list_all in_lower_word word)) [
     second true q f h = absurd (true≢false f)
     second false q f h = h
 
-all-append : (p : ℕ → Bool) (xs ys : List ℕ) → AllByRecursion (λ b. IsTrue (p b)) xs → AllByRecursion (λ b. IsTrue (p b)) ys → AllByRecursion (λ b. IsTrue (p b)) (xs ++ ys)
-all-append p [] ys h k = k
-all-append p (x ∷ xs) ys h k = (h.0, all-append p xs ys h.1 k)
-
 wider : (xs : List ℕ) → AllByRecursion (λ b. IsTrue (in_word b)) xs → AllByRecursion (λ b. IsTrue (in_label b)) xs
 wider [] h = tt
 wider (x ∷ xs) h = (or-left (in_word x) (x == hyphen) h.0, wider xs h.1)
 
 more_bytes : (more : List (List ℕ)) → AllByRecursion IsWord more → AllByRecursion (λ b. IsTrue (in_label b)) (flat_map (λ word. hyphen ∷ word) more)
 more_bytes [] h = tt
-more_bytes (w ∷ more) h = (refl, all-append in_label w (flat_map (λ word. hyphen ∷ word) more) (wider w (word_bytes h.0)) (more_bytes more h.1))
+more_bytes (w ∷ more) h = (refl, all-append (λ b. IsTrue (in_label b)) w (flat_map (λ word. hyphen ∷ word) more) (wider w (word_bytes h.0)) (more_bytes more h.1))
 
 label_bytes : {label : List ℕ} → IsLabel label → AllByRecursion (λ b. IsTrue (in_label b)) label
 label_bytes {label} l =
     subst (AllByRecursion (λ b. IsTrue (in_label b))) (sym l.parts)
-    (all-append in_label l.first (flat_map (λ word. hyphen ∷ word) l.more) (wider l.first (word_bytes l.first_is)) (more_bytes l.more l.more_are))
+    (all-append (λ b. IsTrue (in_label b)) l.first (flat_map (λ word. hyphen ∷ word) l.more) (wider l.first (word_bytes l.first_is)) (more_bytes l.more l.more_are))
 
 -- ---- the marks that parts lack
 

@@ -1,7 +1,7 @@
 -- Names that were met: what a look-up tells, and where a name stands twice.
-use Rattle.std.proofs.Common.{ℕ, ◌≡◌, ◌+◌, ◌<◌, Bool, true, false, List, [], ◌∷◌, ◌++◌, length, take, drop, get_or, zero, suc, refl, sym, ap, subst, ◌∙◌, true≢false, map, is_some, Option, Some, None, cond, Bor, append_assoc, append-nil, arith, inl, inr}
-use Rattle.std.specs.Prelude.{◌||◌, slice_index_or, Contains}
-use Rattle.std.specs.List.{list_any, flat_map, IsDistinct, AllByRecursion}
+use Rattle.std.proofs.Common.{ℕ, ◌≡◌, ◌+◌, ◌<◌, Bool, true, false, List, [], ◌∷◌, ◌++◌, length, take, get_or, zero, suc, refl, sym, ap, subst, ◌∙◌, true≢false, map, is_some, Bor, append_assoc, append-nil, arith, inl, inr}
+use Rattle.std.specs.Prelude.{◌||◌}
+use Rattle.std.specs.List.{list_any, flat_map, IsDistinct}
 use Rattle.std.specs.Map.{lookup}
 use Rattle.std.specs.Str.{bytes_eq}
 use Rattle.std.proofs.lemmas.Bool.{cases_Bool}
@@ -22,7 +22,7 @@ looked_up test [] = refl
 looked_up test (e ∷ es) = elim (cases_Bool (test e.0.now)) [
   | inl t ↦ rw t refl
   | inr f ↦ rw f (looked_up test es)
-  ]
+]
 
 laws : IsEquivalence bytes_eq
 laws = nat_list_eq_equiv
@@ -46,12 +46,14 @@ earlier name [] h = absurd (true≢false (sym h))
 earlier name (m ∷ met) h = elim (cases_Bool (bytes_eq name m)) [
   | inl t ↦ ([], met, ap (λ n. n ∷ met) (sym (same t)))
   | inr f ↦ later (earlier name met (rest f h))
-  ]
+]
   where
     same : bytes_eq name m ≡ true → name ≡ m
     same t = (bytes_eq-Decides name m).0 t
+
     rest : bytes_eq name m ≡ false → (bytes_eq name m || list_any (bytes_eq name) met) ≡ true → list_any (bytes_eq name) met ≡ true
     rest f t = rw f at t
+
     later : (before : List (List ℕ)) × (between : List (List ℕ)) × (met ≡ before ++ name ∷ between) → (before : List (List ℕ)) × (between : List (List ℕ)) × (m ∷ met ≡ before ++ name ∷ between)
     later p = (m ∷ p.0, p.1, ap (λ t. m ∷ t) p.2)
 
@@ -70,9 +72,10 @@ starts f xs met e = (e, subst (IsDistinct bytes_eq) (sym e) tt)
 
 pub meets : {T : Type 0} (f : T → Names) (xs : List T) (i : ℕ) (x : T) (met new : Names) (name : List ℕ) → AreMet f xs i met → i < length xs → x ≡ get_or xs i x → f x ≡ name ∷ [] →
     new ≡ met ++ name ∷ [] → list_any (bytes_eq name) met ≡ false → AreMet f xs (i + 1) new
-meets f xs i x met new name h l e is pushed other =
-    (pushed ∙ ap (λ m. m ++ name ∷ []) h.0 ∙ ap (λ t. flat_map f (take i xs) ++ t) (sym is) ∙ sym (one_more f xs i x l e),
-     subst (IsDistinct bytes_eq) (sym pushed) (IsDistinct-push laws met name h.1 other))
+meets f xs i x met new name h l e is pushed other = (
+  pushed ∙ ap (λ m. m ++ name ∷ []) h.0 ∙ ap (λ t. flat_map f (take i xs) ++ t) (sym is) ∙ sym (one_more f xs i x l e),
+  subst (IsDistinct bytes_eq) (sym pushed) (IsDistinct-push laws met name h.1 other),
+)
 
 pub passes : {T : Type 0} (f : T → Names) (xs : List T) (i : ℕ) (x : T) (met : Names) → AreMet f xs i met → i < length xs → x ≡ get_or xs i x → f x ≡ [] → AreMet f xs (i + 1) met
 passes f xs i x met h l e none =

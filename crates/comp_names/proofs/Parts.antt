@@ -1,12 +1,17 @@
 -- Texts cut at a mark that the part before it lacks: there is one way to cut them.
-use Rattle.std.proofs.Common.{ℕ, ◌≡◌, ◌==◌, ◌<◌, Bool, true, false, List, [], ◌∷◌, ◌++◌, length, get_or, zero, suc, refl, sym, ap, subst, ◌∙◌, true≢false, arith, Option, Some, None, Bor}
+use Rattle.std.proofs.Common.{ℕ, ◌≡◌, ◌==◌, ◌<◌, Bool, false, List, [], ◌∷◌, ◌++◌, length, get_or, suc, refl, sym, ap, subst, ◌∙◌, true≢false, arith, Option, Some, None, Bor}
 use Rattle.std.specs.Prelude.{◌↔◌, ◌≢◌, IsTrue, IfSome, IfNone}
 use Rattle.std.proofs.lemmas.Str.Pattern.{IsSplitOnceResult, split_parts}
 use Rattle.std.specs.List.{AllByRecursion}
+use Rattle.std.proofs.lemmas.List.{append_cancel_left}
 use Rattle.std.proofs.lemmas.Bool.{cases_Bool, eq-eqb, eqb-true}
 use Rattle.std.proofs.Common.{inl, inr}
 use Rattle.comp_names.specs.NameForm.{Joined, Behind}
 use Rattle.comp_names.specs.Cuts.{Lacks, IsCut, BeginsElse}
+
+pub all-append : {X : Type 0} (P : X → Type 0) (xs ys : List X) → AllByRecursion P xs → AllByRecursion P ys → AllByRecursion P (xs ++ ys)
+all-append P [] ys h k = k
+all-append P (x ∷ xs) ys h k = (h.0, all-append P xs ys h.1 k)
 
 -- what passes a test lacks what does not
 pub lacks-passing : (test : ℕ → Bool) (mark : ℕ) → test mark ≡ false → (text : List ℕ) → AllByRecursion (λ b. IsTrue (test b)) text → Lacks mark text
@@ -58,13 +63,9 @@ joined_iff {Left} {Right} {mark} {text} {left} {right} lacks at = (there, λ p. 
 pub joined_nowhere : {Left Right : List ℕ → Type 0} (mark : ℕ) (text : List ℕ) → Lacks mark text → Joined Left mark Right text → ⊥
 joined_nowhere mark text lacks j = no_cut mark j.left j.right (subst (Lacks mark) j.parts lacks)
 
-same_rest : (beginning x y : List ℕ) → beginning ++ x ≡ beginning ++ y → x ≡ y
-same_rest [] x y e = e
-same_rest (b ∷ bs) x y e = same_rest bs x y (tail_is b b (bs ++ x) (bs ++ y) e)
-
 pub behind_iff : {Rest : List ℕ → Type 0} (beginning text rest : List ℕ) → text ≡ beginning ++ rest → Behind beginning Rest text ↔ Rest rest
 behind_iff {Rest} beginning text rest e =
-    (λ b. subst Rest (same_rest beginning b.rest rest (sym b.parts ∙ e)) b.rest_is, λ r. record { rest = rest; parts = e; rest_is = r })
+    (λ b. subst Rest (append_cancel_left beginning b.rest rest (sym b.parts ∙ e)) b.rest_is, λ r. record { rest = rest; parts = e; rest_is = r })
 
 pub behind_nowhere : {Rest : List ℕ → Type 0} (beginning text : List ℕ) → BeginsElse beginning text → Behind beginning Rest text → ⊥
 behind_nowhere beginning text none b = none b.rest b.parts

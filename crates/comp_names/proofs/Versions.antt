@@ -1,5 +1,5 @@
 -- What semver reads is a version, and what it doesn't read is none.
-use Rattle.std.proofs.Common.{ℕ, ◌≡◌, List, Ok, Err, refl, sym, ◌∙◌, ap}
+use Rattle.std.proofs.Common.{ℕ, ◌≡◌, List, Ok, Err, sym, ◌∙◌, ap}
 use Rattle.semver.specs.Parse.{Parts, version_parts}
 use Rattle.semver.specs.declared.error.Error.{Error}
 use Rattle.semver.proofs.Grammar.{version_parts-sound, version_parts-complete}

@@ -1,5 +1,5 @@
 -- Where a text is cut at a character, and what stands behind a beginning. (No standard speaks of them.)
-use Rattle.std.specs.Prelude.{ℕ, ◌≡◌, ◌≢◌, ◌==◌, ◌||◌, Bool, IsTrue, false, List, ◌∷◌, ◌++◌}
+use Rattle.std.specs.Prelude.{ℕ, ◌≡◌, ◌≢◌, ◌==◌, ◌||◌, Bool, false, List, ◌∷◌, ◌++◌}
 use Rattle.std.specs.List.{AllByRecursion}
 use Rattle.comp_names.specs.NameForm.{dot, slash, colon, at_sign}
 

@@ -1,5 +1,5 @@
 -- What is found of lists of names, and of names that are to have the form. (No standard speaks of it.)
-use Rattle.std.specs.Prelude.{ℕ, ◌≡◌, Bool, true, List, Result, Ok, Err, ⊤}
+use Rattle.std.specs.Prelude.{ℕ, ◌≡◌, true, List, Result, Ok, Err, ⊤}
 use Rattle.std.specs.List.{AllByRecursion, IsDistinct, list_any}
 use Rattle.std.specs.Str.{bytes_eq}
 use Rattle.comp_bytes.specs.ScopeNames.{Names}

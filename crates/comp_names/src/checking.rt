@@ -10,13 +10,16 @@ use crate::fault::NameFault;
 use crate::form::is_formed;
 use crate::listing::apart;
 use crate::lists::{Entries, Exports, Imports};
-use comp_bytes::{Argument, CoreArgument, CoreInlineExport, Def, ExternName, InstanceType, Item, Member};
+use comp_bytes::{
+    Argument, CoreArgument, CoreInlineExport, Def, ExternName, InstanceType, Item, Member,
+};
 use std::alloc::Global;
 
 /// What has names: lists in which each stands once, and names of imports and exports, which are to have
 /// their form.
 pub(crate) trait Named {
     ghost lists: { Self → List (List (List ℕ)) };
+
     ghost externs: { Self → List (List ℕ) };
 
     fn check(&self, alloc: Global) -> Result<(), NameFault>

@@ -34,7 +34,7 @@ impl<'a> Met<'a> {
         }
     }
 
-    /// Notes a name that was not met before, which is refused.
+    /// Notes a name. One that was met before is refused.
     pub(crate) fn note(&mut self, alloc: Global, name: &'a Text) -> Result<(), NameFault>
         ensures ok { OnOk result (self.new ≡ self.old ++ name.now ∷ []) }
         ensures other { OnOk result (list_any (bytes_eq name.now) self.old ≡ false) }

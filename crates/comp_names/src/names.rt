@@ -26,10 +26,9 @@ fn component(alloc: Global, definitions: &[Def]) -> Result<(), NameFault>
 ///
 /// Component model, explainer: names are distinct in their list; `plainname`, `interfacename`.
 ///
-/// # Errors
-///
-/// [`NameFault::Twice`] with a name that stands twice in a list, [`NameFault::Form`] with the name of an
-/// import or an export that has not the form of one; [`NameFault::Memory`] where a growth is refused.
+/// Refused are [`NameFault::Twice`], with a name that stands twice in a list, and [`NameFault::Form`],
+/// with the name of an import or an export that has not the form of one; want of memory is
+/// [`NameFault::Memory`]. The cost is linear.
 pub fn check_names(alloc: Global, definitions: &Defs) -> Result<(), NameFault>
     ensures ok { IfOk result (λ done. NamesOk definitions.now) }
     ensures cause { IfErr result (IsNameFault definitions.now) }

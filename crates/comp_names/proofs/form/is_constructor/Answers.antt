@@ -1,5 +1,5 @@
-use Rattle.comp_names.proofs.Deciding.{same, nowhere}
-use Rattle.comp_names.proofs.Parts.{behind_iff, behind_nowhere}
+use Rattle.comp_names.proofs.Deciding.{nowhere}
+use Rattle.comp_names.proofs.Parts.{behind_nowhere}
 use Rattle.comp_names.proofs.form.is_constructor.Goals as goal
 
 pub returns-in-None : goal.returns-in-None

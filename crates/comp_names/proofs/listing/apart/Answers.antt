@@ -16,5 +16,4 @@ pub loop-entry-preserved : goal.loop-entry-preserved
 loop-entry-preserved g c = elim c.match-name.branch [
   | in-Some+in_ok-note w ↦ meets g.L.Listing.listed c.args.entries.now c.loop-entry.entry-index c.entry-item.result c.loop-entry.met c.match-name.met w.in-Some.name.now c.loop-entry.invariant (omega arith) c.entry-item.is w.in-Some.ensures.some (w.met-is ∙ w.in_ok-note.ensures.ok) w.in_ok-note.ensures.other
   | in_default w ↦ rw w.met-is (passes g.L.Listing.listed c.args.entries.now c.loop-entry.entry-index c.entry-item.result c.loop-entry.met c.loop-entry.invariant (omega arith) c.entry-item.is w.in_default.ensures.none)
-  ]
-
+]

@@ -3,7 +3,7 @@ use Rattle.comp_bytes.specs.Spaces.{item_space}
 use Rattle.comp_bytes.specs.Scopes.{ItemScoped}
 use Rattle.comp_check.specs.Lacking.{counted}
 use Rattle.comp_check.proofs.Standing.{Standing}
-use Rattle.comp_check.proofs.indexes.component.Given as goal
+use Rattle.comp_check.proofs.indexes.check_component.Given as goal
 
 abbrev pub invariant-loop-place : goal.invariant-loop-place
 invariant-loop-place l = Standing item_space (ItemScoped (counted l.top ∷ [])) l.own l.inner l.place

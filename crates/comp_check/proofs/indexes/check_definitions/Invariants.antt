@@ -4,7 +4,7 @@ use Rattle.comp_bytes.specs.Spaces.{space_of}
 use Rattle.comp_bytes.specs.Scopes.{DefScoped}
 use Rattle.comp_check.specs.Indexes.{lines}
 use Rattle.comp_check.proofs.Standing.{Standing}
-use Rattle.comp_check.proofs.indexes.check_each.Given as goal
+use Rattle.comp_check.proofs.indexes.check_definitions.Given as goal
 
 abbrev pub invariant-loop-def : goal.invariant-loop-def
 invariant-loop-def l = record {

@@ -1,10 +1,10 @@
-use Rattle.std.proofs.Common.{◌≡◌, ◌∙◌, sym}
+use Rattle.std.proofs.Common.{◌∙◌, sym}
 use Rattle.std.specs.List.{flat_map}
 use Rattle.std.proofs.lemmas.List.{at_drop_all}
 use Rattle.std.proofs.lemmas.Result.{err_from_is_err_and}
 use Rattle.comp_check.specs.Lacking.{lacking}
 use Rattle.comp_check.proofs.Lacks.{goes_on, ends}
-use Rattle.comp_check.proofs.refers.each.Goals as goal
+use Rattle.comp_check.proofs.refers.check_each.Goals as goal
 
 pub returns-in_err-check : goal.returns-in_err-check
 returns-in_err-check g c =
