@@ -1,5 +1,5 @@
 -- Worked examples: the lines of a component that imports a function and exports another, and a line of each form.
-use Rattle.std.proofs.Common.{◌≡◌, [], ◌∷◌, ◌++◌, refl, codes, replicate, Some, None, false, map}
+use Rattle.std.proofs.Common.{◌≡◌, List, [], ◌∷◌, ◌++◌, refl, codes, replicate, Some, None, false, map}
 use Rattle.std.specs.Fmt.{digits}
 use Rattle.comp_bytes.specs.Spelling.{leb128}
 use Rattle.comp_bytes.specs.declared.space.ExportKind.TheVariants as kinds
@@ -15,10 +15,17 @@ use Rattle.comp_bytes.specs.declared.types.ComponentValType.TheVariants as value
 use Rattle.comp_bytes.specs.declared.canon.CanonicalOption.TheVariants as canonical
 use Rattle.comp_bytes.specs.declared.canon.Intrinsic.TheVariants as intrinsics
 use Rattle.comp_bytes.specs.declared.def.Item.TheVariants as items
+use Rattle.comp_bytes.specs.declared.def.Def.{Def}
 use Rattle.comp_bytes.specs.declared.def.Def.TheVariants as defs
+use Rattle.comp_bytes.specs.declared.space.Space.{Space}
+use Rattle.comp_bytes.specs.Spaces.{items_in, space_of}
 use Rattle.comp_bytes.proofs.Worked.{one_import_one_export, plain, function}
 use Rattle.comp_lines.specs.Texts.{quoted}
-use Rattle.comp_lines.specs.Lines.{lines, item_line}
+use Rattle.comp_lines.specs.Lines.{lines, item_line, made}
+
+-- the index on the left is that which the builder of components answers
+pub counted : (s : Space) (ds : List Def) → made space_of (Some s) ds ≡ items_in s ds
+counted s ds = refl
 
 pub told : lines (one_import_one_export ++ defs.Item (items.Custom (codes "component-name") (replicate 47 0)) ∷ []) ≡
     codes "type 0 = 40000100"

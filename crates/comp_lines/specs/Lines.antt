@@ -85,9 +85,9 @@ shown _ = raw []
 
 abbrev pub made_of : Item → List ℕ
 made_of (items.CoreModule bytes) = decimal (length bytes) ++ codes " bytes"
-made_of (items.CoreInstantiate made args) = codes "instantiate " ++ decimal made ++ flat_map core_argument args
+made_of (items.CoreInstantiate from args) = codes "instantiate " ++ decimal from ++ flat_map core_argument args
 made_of (items.CoreExports entries) = codes "exports" ++ flat_map core_export entries
-made_of (items.Instantiate made args) = codes "instantiate " ++ decimal made ++ flat_map argument args
+made_of (items.Instantiate from args) = codes "instantiate " ++ decimal from ++ flat_map argument args
 made_of (items.Alias a) = alias a
 made_of (items.Type t) = hex (type_def t).bytes
 made_of (items.InstanceType t) = hex (instance_type t).bytes
