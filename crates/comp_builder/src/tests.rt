@@ -2,7 +2,8 @@
 
 use super::*;
 use comp_bytes::{
-    BuildFault, CoreArgument, CoreInlineExport, Description, ExportKind, ExternName, FuncTypeDef, Sort,
+    BuildFault, CoreArgument, CoreInlineExport, Description, ExportKind, ExternName, FuncTypeDef,
+    Sort,
 };
 use comp_lists::{Seq, Text};
 use std::alloc::Global;

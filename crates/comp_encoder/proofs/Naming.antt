@@ -90,14 +90,14 @@ module _ (w : ComponentWorld) where
   externs_stated earlier (d ∷ ds) h name c =
       elim (Contains-append_cases (def_extern_names d) (extern_names ds) name c) [
         | inl first ↦ elim (Contains-append_cases (def_import d) (def_export d) name (subst (λ (ns : Names). Contains ns name) (def_externs earlier d h.0) first)) [
-            | inl i ↦ inl (Contains-append_left (def_import d) (flat_map def_import ds) name i)
-            | inr e ↦ inr (Contains-append_left (def_export d) (flat_map def_export ds) name e)
-            ]
-        | inr later ↦ elim (externs_stated (earlier ++ d ∷ []) ds h.1 name later) [
-            | inl i ↦ inl (Contains-append_right (def_import d) (flat_map def_import ds) name i)
-            | inr e ↦ inr (Contains-append_right (def_export d) (flat_map def_export ds) name e)
-            ]
+          | inl i ↦ inl (Contains-append_left (def_import d) (flat_map def_import ds) name i)
+          | inr e ↦ inr (Contains-append_left (def_export d) (flat_map def_export ds) name e)
         ]
+        | inr later ↦ elim (externs_stated (earlier ++ d ∷ []) ds h.1 name later) [
+          | inl i ↦ inl (Contains-append_right (def_import d) (flat_map def_import ds) name i)
+          | inr e ↦ inr (Contains-append_right (def_export d) (flat_map def_export ds) name e)
+        ]
+      ]
 
   -- and each of them is one
   pub stated_externs : (earlier ds : List Def) → RightAfter w earlier ds → (name : List ℕ) → Contains (flat_map def_import ds) name ⊎ Contains (flat_map def_export ds) name →
@@ -108,7 +108,7 @@ module _ (w : ComponentWorld) where
       elim (Contains-append_cases (def_import d) (flat_map def_import ds) name c) [
         | inl i ↦ here (Contains-append_left (def_import d) (def_export d) name i)
         | inr i ↦ Contains-append_right (def_extern_names d) (extern_names ds) name (stated_externs (earlier ++ d ∷ []) ds h.1 name (inl i))
-        ]
+      ]
     where
       here : Contains (def_import d ++ def_export d) name → Contains (extern_names (d ∷ ds)) name
       here i = Contains-append_left (def_extern_names d) (extern_names ds) name (subst (λ (ns : Names). Contains ns name) (sym (def_externs earlier d h.0)) i)
@@ -116,7 +116,7 @@ module _ (w : ComponentWorld) where
       elim (Contains-append_cases (def_export d) (flat_map def_export ds) name c) [
         | inl i ↦ here (Contains-append_right (def_import d) (def_export d) name i)
         | inr i ↦ Contains-append_right (def_extern_names d) (extern_names ds) name (stated_externs (earlier ++ d ∷ []) ds h.1 name (inr i))
-        ]
+      ]
     where
       here : Contains (def_import d ++ def_export d) name → Contains (extern_names (d ∷ ds)) name
       here i = Contains-append_left (def_extern_names d) (extern_names ds) name (subst (λ (ns : Names). Contains ns name) (sym (def_externs earlier d h.0)) i)
@@ -141,7 +141,7 @@ module _ (w : ComponentWorld) (ds : List Def) (valid : IsWorld w) (built : IsBui
   stated name c = elim (externs_stated w [] ds built.right name c) [
     | inl i ↦ Contains-append_left (stated_imports w) (stated_exports w) name (subst (λ (ns : Names). Contains ns name) composed.imports i)
     | inr e ↦ Contains-append_right (stated_imports w) (stated_exports w) name (subst (λ (ns : Names). Contains ns name) composed.exports e)
-    ]
+  ]
 
   -- a refusal by the check has its cause
   pub check_refusal : Scoped ds → (validate : Bool) (fault : CheckFault) → IsTrue validate × IsUnchecked ds fault → IsOutputRefusal w validate (outputs.Check fault)
@@ -164,4 +164,4 @@ module _ (w : ComponentWorld) (ds : List Def) (valid : IsWorld w) (built : IsBui
       back name c = elim (Contains-append_cases (stated_imports w) (stated_exports w) name c) [
         | inl i ↦ inl (subst (λ (ns : Names). Contains ns name) (sym composed.imports) i)
         | inr e ↦ inr (subst (λ (ns : Names). Contains ns name) (sym composed.exports) e)
-        ]
+      ]

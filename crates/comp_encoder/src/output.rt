@@ -56,11 +56,7 @@ impl From<CheckFault> for OutputFault {
 }
 
 /// Checks what was built, where `validate` asks for it.
-fn check_if(
-    alloc: Global,
-    validate: bool,
-    component: &ComponentBuilder,
-) -> Result<(), CheckFault>
+fn check_if(alloc: Global, validate: bool, component: &ComponentBuilder) -> Result<(), CheckFault>
     ensures ok { IfOk result (λ _. IsTrue validate → NamesOk component.now.defs) }
     ensures cause { IfErr result (λ e. IsTrue validate × IsUnchecked component.now.defs e) }
 {

@@ -17,7 +17,7 @@ returns-clause-ok c =
     (names_grow c.args.world.now c.encode_all.new.self.built (with_names c.encode_all.new.self.built) refl) in
     IfOk-weaker c.finish.result _ _
     (λ component same. subst (λ (b : Built). Scoped b.defs × IsBuilt c.args.world.now b.defs) (sym same)
-        (built_scoped c.args.world.now (with_names c.encode_all.new.self.built).defs whole, whole)) c.finish.ensures.ok
+    (built_scoped c.args.world.now (with_names c.encode_all.new.self.built).defs whole, whole)) c.finish.ensures.ok
 
 pub returns-clause-refused : goal.returns-clause-refused
 returns-clause-refused c = λ _. encoded_lacks c.args.world.now (search rules)

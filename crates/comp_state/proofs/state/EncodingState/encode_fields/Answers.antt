@@ -29,4 +29,4 @@ loop-field-preserved c =
 pub returns-clause-apart : goal.returns-clause-apart
 returns-clause-apart c =
     entries_apart c.args.self.now c.loop-field.self c.loop-field.entries c.args.fields.now c.loop-field.field-iterator c.loop-field.invariant.2 (search rules)
-        c.entries-field-items.ensures.unique
+    c.entries-field-items.ensures.unique
