@@ -1,3 +1,4 @@
 pub mod Wide
 pub mod Refusals
 pub mod Worked
+pub mod Shown

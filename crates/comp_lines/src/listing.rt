@@ -4,6 +4,7 @@ ghost use Rattle.std.specs.Prelude.{◌≡◌, ◌+◌, ◌-◌, ◌^◌, ◌<�
 ghost use Rattle.std.specs.List.{flat_map};
 ghost use Rattle.comp_bytes.specs.Spaces.{place, is_space, item_space, space_of};
 ghost use Rattle.comp_bytes.specs.Spelling.{Fits};
+ghost use Rattle.comp_bytes.specs.Grammar.{Spells};
 ghost use Rattle.comp_bytes.specs.Written.{Refused};
 ghost use Rattle.comp_bytes.specs.declared.space.Space.{Space};
 ghost use Rattle.comp_bytes.specs.declared.def.Def.TheVariants as defs;
@@ -169,10 +170,12 @@ impl Listed for Def {
 ///
 /// [`BuildFault::Memory`] where a growth was refused. [`BuildFault::TooMany`] exactly where memory
 /// suffices and a count or a size in the bytes that are shown passes 2^32 - 1; it tells such a one.
+/// Definitions that some bytes spell, as those that were read, are refused for want of memory alone.
 pub fn describe(alloc: Global, definitions: &Defs) -> Result<Vec<String>, BuildFault>
     ensures ok { IfOk result (λ found. map string_bytes found.items ≡ lines definitions.now) }
     ensures fits { OnOk result (Fits (flat_map shown_counts definitions.now)) }
     ensures refused { IfErr result (Refused (flat_map shown_counts definitions.now)) }
+    ensures memory { IfErr result (λ e. (bytes : List ℕ) → Spells bytes definitions.now → e ≡ BuildFault.Memory) }
 {
     let mut out = Vec::new(alloc);
     put_scope(alloc, definitions.as_slice(), &mut out)?;
