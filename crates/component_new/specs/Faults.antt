@@ -1,10 +1,11 @@
 -- Why a run fails, and with which exit status. (The program's own.)
-use Rattle.std.specs.Prelude.{ℕ, List, ⊤, Result, Ok, Err}
+use Rattle.std.specs.Prelude.{ℕ, Bool, List, ⊤, Result, Ok, Err, if◌then◌else◌}
+use Rattle.comp_check.specs.declared.fault.CheckFault.TheVariants as checks
 use Rattle.comp_encoder.specs.declared.fault.EncodeFault.TheVariants as encode_faults
 use Rattle.component_new.specs.declared.store.StoreFault.{StoreFault}
 use Rattle.component_new.specs.declared.store.StoreFault.TheVariants as store_faults
 use Rattle.component_new.specs.declared.fault.RunFault.{RunFault}
-use Rattle.component_new.specs.declared.fault.RunFault.TheVariants.{Usage, Read, Write, Encode}
+use Rattle.component_new.specs.declared.fault.RunFault.TheVariants.{Usage, Read, Write, Encode, Check}
 
 -- want of memory, wherever it is met
 abbrev pub no_memory : {F : Type 0} → RunFault F
@@ -13,6 +14,15 @@ no_memory = Encode encode_faults.Memory
 abbrev pub of_read : {F : Type 0} → List ℕ → StoreFault → RunFault F
 of_read name store_faults.Device = Read name
 of_read name store_faults.Memory = no_memory
+
+-- the same where the definitions of a component are asked for
+abbrev pub of_listed : {F : Type 0} → List ℕ → StoreFault → RunFault F
+of_listed name store_faults.Device = Read name
+of_listed name store_faults.Memory = Check checks.Memory
+
+-- want of memory, by what was asked for
+abbrev pub want_of_memory : {F : Type 0} → Bool → RunFault F
+want_of_memory listing = if listing then Check checks.Memory else no_memory
 
 abbrev pub of_put : {F : Type 0} → List ℕ → StoreFault → RunFault F
 of_put name store_faults.Device = Write name

@@ -1,9 +1,10 @@
 //! Why a run fails.
 
 ghost use Rattle.std.specs.Prelude.{◌≡◌};
-ghost use Rattle.component_new.specs.Faults.{of_read, of_put};
+ghost use Rattle.component_new.specs.Faults.{of_read, of_listed, of_put, want_of_memory};
 
 use crate::store::StoreFault;
+use comp_check::CheckFault;
 use comp_encoder::EncodeFault;
 use comp_lists::Text;
 
@@ -16,8 +17,13 @@ pub(crate) enum RunFault<F> {
     Read { name: Text },
     /// The component's file can't be put.
     Write { name: Text },
-    /// There is no component. Want of memory is told in this way wherever it is met.
+    /// Standard output can't be written.
+    Out,
+    /// There is no component. Want of memory is told in this way wherever it is met by `new`.
     Encode(EncodeFault<F>),
+    /// The bytes of a file are no component. Want of memory is told in this way wherever it is met by
+    /// `defs`.
+    Check(CheckFault),
 }
 
 /// What a refusal of the store to read a file is to the run.
@@ -27,6 +33,27 @@ pub(crate) fn read_fault<F>(fault: StoreFault, name: Text) -> RunFault<F>
     match fault {
         StoreFault::Device => RunFault::Read { name },
         StoreFault::Memory => RunFault::Encode(EncodeFault::Memory),
+    }
+}
+
+/// What a refusal of the store to read a component is to the run.
+pub(crate) fn listed_fault<F>(fault: StoreFault, name: Text) -> RunFault<F>
+    ensures { result ≡ of_listed name fault }
+{
+    match fault {
+        StoreFault::Device => RunFault::Read { name },
+        StoreFault::Memory => RunFault::Check(CheckFault::Memory),
+    }
+}
+
+/// What want of memory is to a run.
+pub(crate) fn want_of_memory<F>(listing: bool) -> RunFault<F>
+    ensures { result ≡ want_of_memory listing }
+{
+    if listing {
+        RunFault::Check(CheckFault::Memory)
+    } else {
+        RunFault::Encode(EncodeFault::Memory)
     }
 }
 

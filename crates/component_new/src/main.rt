@@ -1,17 +1,20 @@
-//! The program `component_new`: it writes the component of a core module.
+//! The program `component_new`: it writes the component of a core module, and tells what stands in a
+//! component.
 //!
-//! `component_new new OUT MAIN` reads the module from the file MAIN and puts its component into the
-//! file OUT. All that it does with files and what it says of a failure is in the contract of
-//! [`running::run`]; `main` only hands it the system's arguments, files and streams.
+//! `component_new new OUT MAIN [--validate]` reads the module from the file MAIN and puts its component
+//! into the file OUT. `component_new defs FILE` writes on standard output a line for each definition of
+//! the component in FILE. All that it does with files, what it writes and what it says of a failure is in
+//! the contract of [`running::run`]; `main` only hands it the system's arguments, files and streams.
 //!
 //! In reading order: `arguments` (what is asked for), `store` (files by their names), `fault` (why a
-//! run fails), `making` (from a file to a file), `telling` (the line that tells a failure), `running`
-//! (a run), `files` (the files of the system).
+//! run fails), `making` (from a file to a file), `telling` (the line that tells a failure), `listing` (a
+//! component on standard output), `running` (a run), `files` (the files of the system).
 #![tactic(auto)]
 
 mod arguments;
 mod fault;
 mod files;
+mod listing;
 mod making;
 mod running;
 mod store;

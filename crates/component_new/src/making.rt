@@ -12,16 +12,18 @@ use comp_encoder::{ComponentEncoder, EncodeFault};
 use comp_worlds::Lower;
 use std::alloc::Global;
 
-/// The component of a module, by an encoder that is given nothing else.
+/// The component of a module, checked or not, by an encoder that is given nothing else.
 fn component_of<L: Lower + Drop>(
     alloc: Global,
     lower: L,
+    validate: bool,
     bytes: &[u8],
 ) -> Result<Vec<u8>, EncodeFault<L::Fault>>
-    ensures ok { IfOk result (λ component. IsMade L.Lower lower bytes.now component.items) }
-    ensures cause { IfErr result (IsMakeRefusal L.Lower lower bytes.now) }
+    ensures ok { IfOk result (λ component. IsMade L.Lower lower validate bytes.now component.items) }
+    ensures cause { IfErr result (IsMakeRefusal L.Lower lower validate bytes.now) }
 {
     let mut encoder = ComponentEncoder::new(alloc, lower);
+    encoder.validate(validate);
     encoder.add_module(bytes)?;
     encoder.encode()
 }
@@ -35,12 +37,16 @@ pub(crate) fn make<L: Lower + Drop, S: Store>(
 ) -> Result<(), RunFault<L::Fault>>
     ensures { (es : List Event) × (S.events store.new ≡ happen (S.events store.old) es) × Made L.Lower lower arguments es result }
 {
-    let Arguments { out, main } = arguments;
+    let Arguments {
+        out,
+        main,
+        validate,
+    } = arguments;
     let bytes = match store.read(alloc, main.as_str()) {
         Ok(bytes) => bytes,
         Err(fault) => return Err(read_fault(fault, main)),
     };
-    let component = match component_of(alloc, lower, &bytes) {
+    let component = match component_of(alloc, lower, validate, &bytes) {
         Ok(component) => component,
         Err(fault) => return Err(RunFault::Encode(fault)),
     };

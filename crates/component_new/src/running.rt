@@ -1,16 +1,17 @@
 //! A run of the program.
 
 ghost use Rattle.std.specs.Prelude.{◌≡◌, map, string_bytes};
-ghost use Rattle.component_new.specs.Arguments.{names_of};
+ghost use Rattle.component_new.specs.Arguments.{request_of, is_listing};
 ghost use Rattle.component_new.specs.Running.{Performed, Ran, RanOver, Told};
 ghost use Rattle.component_new.specs.Faults.{status_of};
+ghost use Rattle.component_new.specs.Telling.{memory_line_of};
 
-use crate::arguments::{Arguments, names_of};
-use crate::fault::RunFault;
+use crate::arguments::{Request, is_listing};
+use crate::fault::{RunFault, want_of_memory};
+use crate::listing::list;
 use crate::making::make;
 use crate::store::Store;
 use crate::telling::tell;
-use comp_encoder::EncodeFault;
 use comp_worlds::Lower;
 use plain_lower::PlainLower;
 use std::alloc::Global;
@@ -18,30 +19,35 @@ use std::fmt::Display;
 use std::io::Write;
 
 /// Does what the words after the program's name ask for.
-fn perform<L: Lower + Drop, S: Store>(
+fn perform<L: Lower + Drop, S: Store, W: Write>(
     alloc: Global,
     lower: L,
     words: &[String],
     store: &mut S,
+    out: &mut W,
 ) -> Result<(), RunFault<L::Fault>>
-    ensures { Performed L.Lower lower (names_of (map string_bytes words.now)) (S.events store.old) (S.events store.new) result }
+    ensures { Performed L.Lower lower (request_of (map string_bytes words.now)) (S.events store.old) (S.events store.new) (W.contents out.old) (W.contents out.new) result }
 {
-    match names_of(words) {
-        Some((out, main)) => match Arguments::new(alloc, out, main) {
-            Ok(arguments) => make(alloc, lower, arguments, store),
-            Err(_) => Err(RunFault::Encode(EncodeFault::Memory)),
-        },
-        None => Err(RunFault::Usage),
+    match Request::read(alloc, words) {
+        Ok(Some(Request::New(arguments))) => make(alloc, lower, arguments, store),
+        Ok(Some(Request::Defs { file })) => list(alloc, file, store, out),
+        Ok(None) => Err(RunFault::Usage),
+        Err(_) => Err(want_of_memory(is_listing(words))),
     }
 }
 
 /// Tells how a run ended: nothing of success, a line of a failure.
-fn report<W: Write, F: Display>(alloc: Global, writer: &mut W, done: &Result<(), RunFault<F>>)
-    ensures { Told (W.contents writer.old) (W.contents writer.new) done.now }
+fn report<W: Write, F: Display>(
+    alloc: Global,
+    writer: &mut W,
+    listing: bool,
+    done: &Result<(), RunFault<F>>,
+)
+    ensures { Told (memory_line_of listing) (W.contents writer.old) (W.contents writer.new) done.now }
 {
     match done {
         Ok(()) => {}
-        Err(fault) => tell(alloc, writer, fault),
+        Err(fault) => tell(alloc, writer, listing, fault),
     }
 }
 
@@ -66,12 +72,10 @@ pub fn run_with<L: Lower + Drop, S: Store, W: Write, E: Write>(
     out: &mut W,
     err: &mut E,
 ) -> u8
-    ensures ran { Ran L.Lower lower (map string_bytes words.now) (S.events store.old) (S.events store.new) (E.contents err.old) (E.contents err.new) result }
-    ensures quiet { W.contents out.new ≡ W.contents out.old }
+    ensures ran { Ran L.Lower lower (map string_bytes words.now) (S.events store.old) (S.events store.new) (W.contents out.old) (W.contents out.new) (E.contents err.old) (E.contents err.new) result }
 {
-    let _ = out;
-    let done = perform(alloc, lower, words, store);
-    report(alloc, err, &done);
+    let done = perform(alloc, lower, words, store, out);
+    report(alloc, err, is_listing(words), &done);
     status_of(&done)
 }
 
@@ -84,8 +88,7 @@ pub fn run<S: Store, W: Write, E: Write>(
     out: &mut W,
     err: &mut E,
 ) -> u8
-    ensures ran { RanOver ⟦<PlainLower as Lower>⟧ (map string_bytes words.now) (S.events store.old) (S.events store.new) (E.contents err.old) (E.contents err.new) result }
-    ensures quiet { W.contents out.new ≡ W.contents out.old }
+    ensures ran { RanOver ⟦<PlainLower as Lower>⟧ (map string_bytes words.now) (S.events store.old) (S.events store.new) (W.contents out.old) (W.contents out.new) (E.contents err.old) (E.contents err.new) result }
 {
     run_with(alloc, PlainLower::new(), words, store, out, err)
 }
