@@ -111,6 +111,7 @@ fn check_component(line: u128, top: &Counts, inner: &[Item]) -> Result<(), Index
 }
 
 /// A definition that begins on a line, in the scope of the whole component.
+#[tactic(auto, using(crate::proofs::Faults::on_own_line))]
 fn check_definition(line: u128, own: &Counts, def: &Def) -> Result<(), IndexFault>
     requires { line + 2 ^ 64 < 2 ^ 128 }
     ensures ok { IfOk result (λ _. DefScoped (counted own.now) def.now) }
@@ -140,6 +141,7 @@ fn lines(def: &Def) -> u128
 /// # Errors
 ///
 /// An index that names no earlier item, and the definition that names it.
+#[tactic(auto, using(crate::proofs::Faults::refuses))]
 pub fn check_indexes(definitions: &Defs) -> Result<(), IndexFault>
     ensures ok { IfOk result (λ _. Scoped definitions.now) }
     ensures cause { IfErr result (λ e. IsIndexFault definitions.now e.definition e.space e.index) }

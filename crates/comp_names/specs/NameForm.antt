@@ -1,5 +1,6 @@
 -- The form of the names of imports and exports.
--- Component model, explainer: plain names and interface names, with their labels and versions.
+-- Component model, explainer: plain names and interface names, with their labels and versions. Where the
+-- standard narrows further (the words of a namespace, canonical versions), this grammar does not.
 use Rattle.std.specs.Prelude.{ℕ, ◌<◌, ◌≡◌, Bool, ◌||◌, IsTrue, List, ◌∷◌, ◌++◌, length, slice_index, codes, ◌⊎◌}
 use Rattle.std.specs.List.{list_all, flat_map, AllByRecursion}
 use Rattle.std.specs.Char.{is_ascii_alphabetic, is_ascii_digit, is_ascii_lowercase, is_ascii_uppercase}
@@ -23,7 +24,9 @@ pub record Behind (beginning : List ℕ) (Rest : List ℕ → Type 0) (text : Li
   pub parts : text ≡ beginning ++ rest
   pub rest_is : Rest rest
 
--- the characters between the parts of a name
+-- ---- characters
+
+-- those between the parts of a name
 abbrev pub hyphen : ℕ
 hyphen = 45
 
@@ -39,6 +42,7 @@ colon = 58
 abbrev pub at_sign : ℕ
 at_sign = 64
 
+-- those of words
 abbrev pub in_lower_word : ℕ → Bool
 in_lower_word byte = is_ascii_lowercase byte || is_ascii_digit byte
 
