@@ -1,5 +1,5 @@
 -- Refusals of the encoding state as refusals of the encoder.
-use Rattle.std.proofs.Common.{◌≡◌, ℕ, List, subst, sym, Result, Ok, Err}
+use Rattle.std.proofs.Common.{◌≡◌, subst, sym, Result, Ok, Err}
 use Rattle.std.specs.Prelude.{IfErr}
 use Rattle.std.specs.Result.{IsErrAnd}
 use Rattle.comp_worlds.specs.declared.world.ComponentWorld.{ComponentWorld}

@@ -1,11 +1,11 @@
 -- What is shown of definitions that some bytes spell: none of its counts and sizes passes 32 bits.
-use Rattle.std.proofs.Common.{◌≡◌, ℕ, List, [], ◌∷◌, ◌++◌, Bool, true, false, map, refl, sym, ap, ap₂, ◌∙◌, subst, Result, Ok, Err, arith}
-use Rattle.std.specs.Prelude.{IfErr, Contains, ◌<◌, ◌^◌}
+use Rattle.std.proofs.Common.{◌≡◌, ℕ, List, [], ◌∷◌, ◌++◌, Bool, true, false, map, refl, sym, ap, subst, Result, Ok, Err, arith}
+use Rattle.std.specs.Prelude.{IfErr, ◌<◌, ◌^◌}
 use Rattle.std.specs.List.{flat_map}
 use Rattle.std.proofs.lemmas.Grind.{flat_map-append}
 use Rattle.comp_lists.proofs.Lists.{AllByRecursion-front, AllByRecursion-back, AllByRecursion-contains}
 use Rattle.comp_bytes.specs.Spelling.{Spelling, Fits, each}
-use Rattle.comp_bytes.specs.Sections.{Entry, Section, shares, first_id, section, contents, sections, component}
+use Rattle.comp_bytes.specs.Sections.{Entry, Section, shares, first_id, section, contents, component}
 use Rattle.comp_bytes.specs.Grammar.{item, definition, extern_name, description_bytes, Spells}
 use Rattle.comp_bytes.specs.Written.{Refused}
 use Rattle.comp_bytes.specs.declared.def.Item.{Item}

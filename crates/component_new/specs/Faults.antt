@@ -7,22 +7,17 @@ use Rattle.component_new.specs.declared.store.StoreFault.TheVariants as store_fa
 use Rattle.component_new.specs.declared.fault.RunFault.{RunFault}
 use Rattle.component_new.specs.declared.fault.RunFault.TheVariants.{Usage, Read, Write, Encode, Check}
 
--- want of memory, wherever it is met
+-- want of memory where a component is made
 abbrev pub no_memory : {F : Type 0} → RunFault F
 no_memory = Encode encode_faults.Memory
 
-abbrev pub of_read : {F : Type 0} → List ℕ → StoreFault → RunFault F
-of_read name store_faults.Device = Read name
-of_read name store_faults.Memory = no_memory
-
--- the same where the definitions of a component are asked for
-abbrev pub of_listed : {F : Type 0} → List ℕ → StoreFault → RunFault F
-of_listed name store_faults.Device = Read name
-of_listed name store_faults.Memory = Check checks.Memory
-
--- want of memory, by what was asked for
+-- want of memory, by whether the definitions of a component are asked for
 abbrev pub want_of_memory : {F : Type 0} → Bool → RunFault F
 want_of_memory listing = if listing then Check checks.Memory else no_memory
+
+abbrev pub of_read : {F : Type 0} → Bool → List ℕ → StoreFault → RunFault F
+of_read listing name store_faults.Device = Read name
+of_read listing name store_faults.Memory = want_of_memory listing
 
 abbrev pub of_put : {F : Type 0} → List ℕ → StoreFault → RunFault F
 of_put name store_faults.Device = Write name

@@ -1,6 +1,6 @@
 -- From a file to a file: what is read, what is put, and when neither. (The program's own; that the
 -- bytes are the module's component is said by the encoder's definitions.)
-use Rattle.std.specs.Prelude.{◌≡◌, ◌≢◌, ℕ, Bool, List, [], ◌∷◌, ⊤, ◌⊎◌, Result, Ok, Err}
+use Rattle.std.specs.Prelude.{◌≡◌, ℕ, Bool, List, [], ◌∷◌, ⊤, ◌⊎◌, Result, Ok, Err}
 use Rattle.comp_worlds.specs.declared.lower.Lower as lower
 use Rattle.comp_encoder.specs.Encoder.{Encoder, fresh, validating, after_module}
 use Rattle.comp_encoder.specs.Refusals.{ModuleCause, IsModuleRefusal, NoEncodeCause, IsEncodeRefusal}

@@ -26,12 +26,7 @@ pub(crate) enum Request {
 }
 
 impl Request {
-    fn making(
-        alloc: Global,
-        out: &str,
-        main: &str,
-        validate: bool,
-    ) -> Result<Request, AllocError>
+    fn making(alloc: Global, out: &str, main: &str, validate: bool) -> Result<Request, AllocError>
         ensures { IfOk result (λ r. r ≡ making out.now main.now validate) }
     {
         let out = Text::from_str(alloc, out)?;
@@ -63,8 +58,7 @@ impl Request {
                 Ok(Some(Request::making(alloc, out, main, false)?))
             }
             [command, out, main, flag]
-                if command.as_str() == "new" && flag.as_str() == "--validate" =>
-            {
+                if command.as_str() == "new" && flag.as_str() == "--validate" => {
                 Ok(Some(Request::making(alloc, out, main, true)?))
             }
             _ => Ok(None),

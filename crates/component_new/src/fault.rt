@@ -1,7 +1,7 @@
 //! Why a run fails.
 
 ghost use Rattle.std.specs.Prelude.{◌≡◌};
-ghost use Rattle.component_new.specs.Faults.{of_read, of_listed, of_put, want_of_memory};
+ghost use Rattle.component_new.specs.Faults.{of_read, of_put, want_of_memory};
 
 use crate::store::StoreFault;
 use comp_check::CheckFault;
@@ -26,26 +26,6 @@ pub(crate) enum RunFault<F> {
     Check(CheckFault),
 }
 
-/// What a refusal of the store to read a file is to the run.
-pub(crate) fn read_fault<F>(fault: StoreFault, name: Text) -> RunFault<F>
-    ensures { result ≡ of_read name fault }
-{
-    match fault {
-        StoreFault::Device => RunFault::Read { name },
-        StoreFault::Memory => RunFault::Encode(EncodeFault::Memory),
-    }
-}
-
-/// What a refusal of the store to read a component is to the run.
-pub(crate) fn listed_fault<F>(fault: StoreFault, name: Text) -> RunFault<F>
-    ensures { result ≡ of_listed name fault }
-{
-    match fault {
-        StoreFault::Device => RunFault::Read { name },
-        StoreFault::Memory => RunFault::Check(CheckFault::Memory),
-    }
-}
-
 /// What want of memory is to a run.
 pub(crate) fn want_of_memory<F>(listing: bool) -> RunFault<F>
     ensures { result ≡ want_of_memory listing }
@@ -54,6 +34,17 @@ pub(crate) fn want_of_memory<F>(listing: bool) -> RunFault<F>
         RunFault::Check(CheckFault::Memory)
     } else {
         RunFault::Encode(EncodeFault::Memory)
+    }
+}
+
+/// What a refusal of the store to read a file is to the run. `listing` is whether it was read to tell
+/// its definitions.
+pub(crate) fn read_fault<F>(listing: bool, fault: StoreFault, name: Text) -> RunFault<F>
+    ensures { result ≡ of_read listing name fault }
+{
+    match fault {
+        StoreFault::Device => RunFault::Read { name },
+        StoreFault::Memory => want_of_memory(listing),
     }
 }
 

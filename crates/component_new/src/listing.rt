@@ -10,7 +10,7 @@ ghost use Rattle.component_new.specs.declared.store.Event.{Event};
 ghost use Rattle.component_new.specs.Listing.{told, Listed};
 ghost use Rattle.component_new.specs.Telling.{Puts};
 
-use crate::fault::{RunFault, listed_fault};
+use crate::fault::{RunFault, read_fault};
 use crate::store::Store;
 use crate::telling::put;
 use comp_bytes::BuildFault;
@@ -63,7 +63,7 @@ pub(crate) fn list<S: Store, W: Write, F>(
 {
     let bytes = match store.read(alloc, file.as_str()) {
         Ok(bytes) => bytes,
-        Err(fault) => return Err(listed_fault(fault, file)),
+        Err(fault) => return Err(read_fault(true, fault, file)),
     };
     let lines = match lines_of(alloc, &bytes) {
         Ok(lines) => lines,

@@ -44,7 +44,7 @@ pub(crate) fn make<L: Lower + Drop, S: Store>(
     } = arguments;
     let bytes = match store.read(alloc, main.as_str()) {
         Ok(bytes) => bytes,
-        Err(fault) => return Err(read_fault(fault, main)),
+        Err(fault) => return Err(read_fault(false, fault, main)),
     };
     let component = match component_of(alloc, lower, validate, &bytes) {
         Ok(component) => component,

@@ -1,6 +1,6 @@
 -- The stub's world is a validated one, and the stub refuses no good module.
-use Rattle.std.proofs.Common.{◌≡◌, ℕ, List, refl, subst, sym, take, ◌⊎◌, inl, inr, [], ◌∷◌, arith}
-use Rattle.std.specs.Prelude.{◌≢◌, ⊤, codes}
+use Rattle.std.proofs.Common.{◌≡◌, ℕ, List, refl, subst, sym, take, inl, inr, [], ◌∷◌, arith}
+use Rattle.std.specs.Prelude.{⊤, codes}
 use Rattle.std.specs.List.{IsDistinct}
 use Rattle.std.specs.Str.{bytes_eq}
 use Rattle.comp_worlds.specs.declared.gathered.Gathered.{Gathered}

@@ -28,6 +28,27 @@ pub(crate) const COMPONENT: &[u8] =
     \x01g\x01\x09\0\x11\x01\0\x04main\x01\x10\0\x12\x02\0\x05$root\x01\x04main\x01\
     \x05\x01\x01\x01\x01g";
 
+/// The same, where the function that the world imports is called `1f`: no name of an import.
+pub(crate) const DIGIT_FIRST: &[u8] =
+    b"\0asm\x01\0\0\0\x01\x04\x01`\0\0\x02\x0b\x01\x05$root\x01f\0\0\x03\x02\x01\0\x07\
+    \x05\x01\x01g\0\x01\x0a\x04\x01\x02\0\x0b\0\xf3\x01\x0ecomponent-type{\"version\
+    \":1,\"imports\":[{\"func\":{\"name\":\"1f\"}}],\"exports\":[{\"func\":{\"name\":\
+    \"g\"}}],\"core-imports\":[{\"module\":\"$root\",\"field\":\"f\",\"role\":[\"wor\
+    ld-func\",\"1f\",\"sync\"]}],\"core-exports\":[{\"field\":\"g\",\"role\":[\"world\
+    -func\",\"g\",\"sync\"]}]}";
+
+/// What is told of the component of `MAIN`.
+pub(crate) const LINES: &str = "type 0 = 40000100\n\
+    func 0 = import \"f\" 0100\n\
+    core-module 0 = 44 bytes\n\
+    core-func 0 = lower 0\n\
+    core-instance 0 = exports \"f\"=func 0\n\
+    core-instance 1 = instantiate 0 \"$root\"=0\n\
+    core-func 1 = alias 1 \"g\"\n\
+    func 1 = lift 1 0\n\
+    func 2 = export \"g\" func 1\n\
+    custom \"component-name\" 47 bytes\n";
+
 /// A module whose record is a package in the component model's binary format.
 pub(crate) const PACKAGE: &[u8] = b"\0asm\x01\0\0\0\0\x17\x0ecomponent-type\0asm\x0d\0\x01\0";
 

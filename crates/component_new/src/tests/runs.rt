@@ -1,6 +1,8 @@
 //! Runs of the program.
 
-use super::modules::{COMPONENT, CUT, EMPTY, EMPTY_COMPONENT, MAIN, OPEN, PACKAGE};
+use super::modules::{
+    COMPONENT, CUT, DIGIT_FIRST, EMPTY, EMPTY_COMPONENT, LINES, MAIN, OPEN, PACKAGE,
+};
 use super::store::{Closed, OneFile};
 use crate::running::run;
 use crate::store::{Event, StoreFault};
@@ -41,13 +43,15 @@ fn refused(alloc: Global, calls: u32, fault: StoreFault) -> Result<Answer, Alloc
 #[test]
 fn wrong_arguments_are_told_before_anything_is_read(rt: HostRuntime) {
     let alloc = rt.alloc();
-    let wrong: [&[&str]; 6] = [
+    let wrong: [&[&str]; 8] = [
         &[],
         &["new", "out.wasm"],
         &["new", "out.wasm", "main.wasm", "--ref"],
         &["New", "out.wasm", "main.wasm"],
-        &["defs", "main.wasm"],
+        &["defs"],
         &["new", "--ref", "out.wasm", "main.wasm"],
+        &["defs", "main.wasm", "--validate"],
+        &["new", "out.wasm", "main.wasm", "--validate", "--validate"],
     ];
     for words in wrong {
         let mut store = OneFile::new(alloc, "main.wasm", EMPTY).expect(&rt, "memory");
@@ -150,5 +154,63 @@ fn a_component_is_put_and_nothing_is_said(rt: HostRuntime) -> Result<(), Fail> {
     let alloc = rt.alloc();
     assert!(rt; puts(alloc, MAIN, COMPONENT)?);
     assert!(rt; puts(alloc, EMPTY, EMPTY_COMPONENT)?);
+    Ok(())
+}
+
+/// Whether a run on the file `main.wasm` ends so: with this status, and these texts on the two streams.
+fn ends(
+    alloc: Global,
+    words: &[&str],
+    main: &[u8],
+    status: u8,
+    out: &str,
+    err: &str,
+) -> Result<bool, Fail> {
+    let mut store = OneFile::new(alloc, "main.wasm", main)?;
+    let answer = run_on(alloc, words, &mut store)?;
+    Ok(
+        answer.status == status
+            && answer.out.as_slice() == out.as_bytes()
+            && answer.err.as_slice() == err.as_bytes(),
+    )
+}
+
+#[test]
+fn definitions_are_told(rt: HostRuntime) -> Result<(), Fail> {
+    let alloc = rt.alloc();
+    let cut = &COMPONENT[..100];
+    let runs = [
+        (COMPONENT, "main.wasm", 0, LINES, ""),
+        (cut, "main.wasm", 1, "", "error: C2 Grammar place=96\n"),
+        (MAIN, "main.wasm", 1, "", "error: C2 Grammar place=0\n"),
+        (MAIN, "b.wasm", 1, "", "error: read \"b.wasm\"\n"),
+    ];
+    for (main, file, status, out, err) in runs {
+        assert!(rt; ends(alloc, &["defs", file], main, status, out, err)?);
+    }
+    Ok(())
+}
+
+#[test]
+fn an_output_that_takes_nothing_is_told(rt: HostRuntime) -> Result<(), Fail> {
+    let alloc = rt.alloc();
+    let mut store = OneFile::new(alloc, "main.wasm", COMPONENT)?;
+    let words = texts(alloc, &["defs", "main.wasm"])?;
+    let mut err = Vec::new(alloc);
+    let status = run(alloc, &words, &mut store, &mut Closed, &mut err);
+    assert_eq!(rt; status, 1);
+    assert_eq!(rt; err.as_slice(), b"error: write \"-\"\n".as_slice());
+    Ok(())
+}
+
+#[test]
+fn names_are_checked_where_it_is_asked(rt: HostRuntime) -> Result<(), Fail> {
+    let alloc = rt.alloc();
+    let plain = ["new", "out.wasm", "main.wasm"];
+    let checked = ["new", "out.wasm", "main.wasm", "--validate"];
+    let fault = "error: E15 Output: C5 NameForm name=\"1f\"\n";
+    assert!(rt; ends(alloc, &plain, DIGIT_FIRST, 0, "", "")?);
+    assert!(rt; ends(alloc, &checked, DIGIT_FIRST, 1, "", fault)?);
+    assert!(rt; ends(alloc, &checked, MAIN, 0, "", "")?);
     Ok(())
 }

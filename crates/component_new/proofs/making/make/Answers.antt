@@ -1,4 +1,4 @@
-use Rattle.std.proofs.Common.{Err, refl, ap}
+use Rattle.std.proofs.Common.{refl}
 use Rattle.component_new.proofs.Steps.{two_happened, not_read, not_put}
 use Rattle.component_new.proofs.making.make.Goals as goal
 
