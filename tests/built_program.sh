@@ -34,6 +34,23 @@ expect() {
     fi
 }
 
+# tells NAME STATUS WANT LINE ARGUMENT..: the same, with what the file WANT has on standard output
+tells() {
+    name=$1 status=$2 want=$3 line=$4
+    shift 4
+    got=0
+    "$program" "$@" >out 2>err || got=$?
+    printf '%s' "$line" >line
+    [ -z "$line" ] || echo >>line
+    if [ "$got" -eq "$status" ] && cmp -s err line && cmp -s out "$want"; then
+        echo "ok: $name"
+    else
+        echo "FAILED: $name: status $got, printed:"
+        cat out err
+        failed=1
+    fi
+}
+
 # holds NAME FILE OTHER: two files are equal
 holds() {
     if cmp -s "$2" "$3"; then echo "ok: $1"; else echo "FAILED: $1"; failed=1; fi
@@ -56,6 +73,41 @@ expect 'a cut preamble' 1 'error: E3 Lower: P2 NotModule' new kept.wasm cut.wasm
 expect 'no arguments' 2 "$usage"
 expect 'no MAIN' 2 "$usage" new kept.wasm
 expect 'a flag that is not there' 2 "$usage" new kept.wasm main.wasm --ref
-expect 'another command' 2 "$usage" defs main.wasm
+expect 'another command' 2 "$usage" old kept.wasm main.wasm
+expect 'a flag twice' 2 "$usage" new kept.wasm main.wasm --validate --validate
+expect 'a flag of another command' 2 "$usage" defs main.wasm --validate
+
+LC_ALL=C sed -e 's/"name":"f"/"name":"1f"/; s/"world-func","f"/"world-func","1f"/' \
+    -e 's/\xf1\x01\x0ecomponent-type/\xf3\x01\x0ecomponent-type/' main.wasm >digit.wasm
+expect 'a name that has not its form' 0 '' new digit_made.wasm digit.wasm
+expect 'is told where names are checked' 1 'error: E15 Output: C5 NameForm name="1f"' new kept.wasm digit.wasm --validate
+expect 'right names' 0 '' new checked.wasm main.wasm --validate
+holds 'give the same component' checked.wasm "$top/examples/component.wasm"
+
+cat >lines <<'LINES'
+type 0 = 40000100
+func 0 = import "f" 0100
+core-module 0 = 44 bytes
+core-func 0 = lower 0
+core-instance 0 = exports "f"=func 0
+core-instance 1 = instantiate 0 "$root"=0
+core-func 1 = alias 1 "g"
+func 1 = lift 1 0
+func 2 = export "g" func 1
+custom "component-name" 47 bytes
+LINES
+tells 'a component is told' 0 lines '' defs "$top/examples/component.wasm"
+head -c 105 "$top/examples/component.wasm" >front.wasm
+head -n 7 lines >front_lines
+tells 'a front that is a component' 0 front_lines '' defs front.wasm
+: >none
+head -c 100 "$top/examples/component.wasm" >cut_component.wasm
+tells 'a front that is none' 1 none 'error: C2 Grammar place=96' defs cut_component.wasm
+tells 'a core module' 1 none 'error: C2 Grammar place=0' defs main.wasm
+tells 'no such FILE' 1 none 'error: read "none.wasm"' defs none.wasm
+got=0
+"$program" defs "$top/examples/component.wasm" >/dev/full 2>err || got=$?
+printf 'error: write "-"\n' >line
+if [ "$got" -eq 1 ] && cmp -s err line; then echo 'ok: a full output'; else echo 'FAILED: a full output'; failed=1; fi
 if [ -e kept.wasm ]; then echo 'FAILED: a failed run left an OUT'; failed=1; fi
 exit $failed

@@ -1,7 +1,8 @@
 #!/bin/sh
 # Refuses each allocation of the program in turn, on the example: the first, the second and so on, until
-# a run meets no refusal. Each run but the last has to say `error: E1 Memory`, answer 1 and put nothing;
-# the last has to put the component. Prints how many were refused.
+# a run makes fewer. Each run either says that memory was refused (`error: E1 Memory`; for `defs`
+# `error: C1 Memory`, or `E1` before its words are read), answers 1, prints nothing and puts nothing; or
+# does its work, where it could do without. Prints how many runs there were of each.
 #
 # refuse_memory.sh: on the built program, whose calls of `malloc` and `realloc` are counted by a library
 # that is loaded before the C library's. It takes seconds. Needs `rt` and `cc` in PATH.
@@ -18,17 +19,18 @@ main=$top/examples/main.wasm
 cd "$top/crates/component_new"
 
 if [ "${1:-}" = try ]; then
-    n=${2:-1}
+    first=${2:-1}
     step=${3:-1}
-    run() { rt try --fail-alloc "$1" -- new "$made" "$main"; }
+    run() { n=$1; shift; rt try --fail-alloc "$n" -- "$@"; }
 else
-    n=1
+    first=1
     step=1
     rt run >"$folder/build" 2>&1 || true
     [ -x out/component_new ] || { cat "$folder/build"; exit 1; }
     cc -shared -fPIC -O -o "$folder/refuse.so" -x c - -ldl <<'C'
 #define _GNU_SOURCE
 #include <dlfcn.h>
+#include <fcntl.h>
 #include <stdlib.h>
 
 /* Whether this call is the one to refuse. */
@@ -40,7 +42,10 @@ static int is_refused(void) {
         known = 1;
         left = text ? atol(text) : 0;
     }
-    return left > 0 && --left == 0;
+    if (left <= 0 || --left > 0) return 0;
+    /* says that there was such a call */
+    open(getenv("MET"), O_CREAT | O_WRONLY, 0600);
+    return 1;
 }
 
 void *malloc(size_t size) {
@@ -55,24 +60,44 @@ void *realloc(void *old, size_t size) {
     return is_refused() ? NULL : next(old, size);
 }
 C
-    run() { REFUSED=$1 LD_PRELOAD=$folder/refuse.so out/component_new new "$made" "$main"; }
+    run() { n=$1; shift; MET=$folder/met REFUSED=$n LD_PRELOAD=$folder/refuse.so out/component_new "$@"; }
 fi
 
-refused=0
-while :; do
-    rm -f "$made"
-    status=0
-    run "$n" >"$folder/said" 2>&1 || status=$?
-    if [ "$status" -eq 0 ]; then
-        cmp "$made" "$top/examples/component.wasm"
-        break
-    fi
-    if [ "$status" -ne 1 ] || ! grep -qx 'error: E1 Memory' "$folder/said" || [ -e "$made" ]; then
-        echo "FAILED: allocation $n: status $status, said:"
-        cat "$folder/said"
-        exit 1
-    fi
-    refused=$((refused + 1))
-    n=$((n + step))
-done
-echo "refused $refused allocations, each told as want of memory, and nothing was put; a run has fewer than $n"
+# is_right WORD..: whether what a run of these words left is what it should leave
+is_right() {
+    case $1 in
+    new) cmp -s "$made" "$top/examples/component.wasm" && [ ! -s "$folder/out" ] ;;
+    defs) [ "$(wc -l <"$folder/out")" -eq 10 ] && [ "$(sed -n 9p "$folder/out")" = 'func 2 = export "g" func 1' ] ;;
+    esac
+}
+
+# refuse_each LINE WORD..: runs of these words with one allocation refused, until a run makes fewer. Each
+# has to say this line, print nothing and put nothing; or to do its work, where it could do without.
+refuse_each() {
+    line=$1
+    shift
+    told=0 spared=0
+    at=$first
+    while :; do
+        rm -f "$made" "$folder/met"
+        status=0
+        run "$at" "$@" >"$folder/out" 2>"$folder/said" || status=$?
+        if [ "$status" -eq 0 ] && is_right "$@"; then
+            [ -e "$folder/met" ] || break
+            spared=$((spared + 1))
+        elif [ "$status" -eq 1 ] && grep -qx "$line" "$folder/said" && [ ! -e "$made" ] && [ ! -s "$folder/out" ]; then
+            told=$((told + 1))
+        else
+            echo "FAILED: $1, allocation $at: status $status, said:"
+            cat "$folder/said" "$folder/out"
+            exit 1
+        fi
+        at=$((at + step))
+    done
+    echo "$1: of the allocations, refused one at a time, $told were told as want of memory, with nothing put or printed, and $spared could be spared"
+}
+
+refuse_each 'error: E1 Memory' new "$made" "$main"
+refuse_each 'error: E1 Memory' new "$made" "$main" --validate
+# (`E1` where the program's own words could not be read: which were they?)
+refuse_each 'error: [CE]1 Memory' defs "$top/examples/component.wasm"
