@@ -1,4 +1,3 @@
 pub mod Built
 pub mod Naming
 pub mod Optional
-pub mod Core

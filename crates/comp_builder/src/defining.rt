@@ -9,14 +9,14 @@ ghost use Rattle.std.specs.Prelude.{◌≡◌, IfOk, None};
 ghost use Rattle.comp_bytes.specs.Spaces.{kind_space, export_space, sort_space, description_space};
 ghost use Rattle.comp_builder.specs.Built.{Adds};
 ghost use Rattle.comp_bytes.specs.Places.{IsAt};
-ghost use Rattle.comp_builder.specs.Core.{IsCoreModule};
+ghost use Rattle.comp_bytes.specs.Core.{IsCoreModule};
 ghost use Rattle.comp_builder.specs.Optional.{option_now};
 
 use crate::builder::ComponentBuilder;
 use comp_bytes::{
     Alias, Argument, BuildFault, CanonicalOption, ComponentExportKind, CoreArgument,
-    CoreInlineExport, Def, DefinedType, Description, ExportKind, ExternName, FuncTypeDef,
-    InstanceType, Intrinsic, Item, Sort, Space, TypeDef,
+    CoreInlineExport, CoreModule, Def, DefinedType, Description, ExportKind, ExternName,
+    FuncTypeDef, InstanceType, Intrinsic, Item, Sort, Space, TypeDef,
 };
 use comp_lists::{Seq, Text};
 
@@ -27,7 +27,10 @@ impl ComponentBuilder {
         ensures adds { Adds self.old self.new result Space.CoreModule (Def.Item (Item.CoreModule bytes.now)) (option_now debug.entry) }
         ensures at { IfOk result (λ answer. IsAt self.new.defs Space.CoreModule answer (Def.Item (Item.CoreModule bytes.now))) }
     {
-        let module = Seq::from_vec(Vec::from_slice(self.allocator(), bytes)?);
+        let bytes = Seq::from_vec(Vec::from_slice(self.allocator(), bytes)?);
+        let Some(module) = CoreModule::from_bytes(bytes) else {
+            unreachable!()
+        };
         self.define(
             debug,
             Space::CoreModule,

@@ -271,7 +271,9 @@ fn nested(alloc: Global) -> Result<Seq<Item>, BuildFault> {
         contents: Bytes::from_vec(Vec::from_slice(alloc, &[0xaa, 0xbb])?),
     })?;
     let module = Bytes::from_vec(Vec::from_slice(alloc, &MODULE)?);
-    items.push(Item::CoreModule(module))?;
+    if let Some(module) = CoreModule::from_bytes(module) {
+        items.push(Item::CoreModule(module))?;
+    }
     items.push(Item::Export {
         name: plain(alloc, "e")?,
         sort: Sort::Type,

@@ -1,3 +1,4 @@
+pub mod Core
 pub mod Spelling
 pub mod Sections
 pub mod Grammar

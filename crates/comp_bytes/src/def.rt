@@ -3,10 +3,89 @@
 //! Component model, binary format: `section`. A definition is an [`Item`] or a nested component, whose
 //! definitions are items: components nest one deep, by their type.
 
+ghost use Rattle.std.specs.Prelude.{◌≡◌, nat_eq, if◌then◌else◌, length, Some, None};
+ghost use Rattle.std.specs.Cmp.Lexicographic.{pointwise};
+ghost use Rattle.std.specs.Cmp.Rules.{comparing};
+ghost use Rattle.std.proofs.Common.{rules};
+ghost use Rattle.comp_bytes.specs.Core.{is_core_module, core_preamble};
+
 use crate::canon::{CanonicalOption, Intrinsic};
 use crate::space::{ExportKind, Sort};
 use crate::types::{Alias, Description, ExternName, InstanceType, TypeDef};
 use comp_lists::{Bytes, Seq, Text};
+use std::marker::Model;
+
+/// What a core module begins with: its magic number, and its version.
+const CORE_PREAMBLE: [u8; 8] = [0x00, 0x61, 0x73, 0x6d, 0x01, 0x00, 0x00, 0x00];
+
+/// Whether bytes begin as a core module does.
+fn is_core_module(bytes: &[u8]) -> bool
+    ensures { result ≡ is_core_module bytes.now }
+{
+    match bytes.get(..8) {
+        Some(front) => front == CORE_PREAMBLE.as_slice(),
+        None => false,
+    }
+}
+
+/// A core module, by its bytes, which begin with the preamble of core modules (core standard, binary
+/// format: `module`). What stands behind that is not looked at.
+#[derive(Debug, Drop)]
+pub struct CoreModule {
+    bytes: Bytes,
+}
+
+impl Model for CoreModule {
+    ghost use Rattle.std.specs.Prelude.{List, ℕ};
+    ghost use Rattle.comp_bytes.specs.Core.{IsCoreModule};
+
+    ghost Value = { List ℕ };
+
+    ghost view = { λ m. m.bytes };
+
+    ghost invariant = { λ m. IsCoreModule m.bytes };
+}
+
+impl CoreModule {
+    /// The core module of these bytes, where they begin as one does.
+    pub fn from_bytes(bytes: Bytes) -> Option<CoreModule>
+        ensures { result ≡ (if is_core_module bytes then Some bytes else None) }
+    {
+        if is_core_module(bytes.as_slice()) {
+            Some(CoreModule { bytes })
+        } else {
+            None
+        }
+    }
+
+    /// The bytes, with the preamble.
+    pub fn as_slice(&self) -> &[u8]
+        ensures { result.now ≡ self.now }
+    {
+        self.bytes.as_slice()
+    }
+
+    /// How many bytes there are.
+    pub fn len(&self) -> usize
+        ensures { result ≡ length self.now }
+    {
+        self.bytes.len()
+    }
+}
+
+impl PartialEq for CoreModule {
+    ghost eq = { pointwise nat_eq };
+
+    ghost laws = { Prim.search (comparing, rules) };
+
+    fn eq(&self, other: &Self) -> bool {
+        self.bytes == other.bytes
+    }
+}
+
+impl Eq for CoreModule {
+    ghost laws = { Prim.search (comparing, rules) };
+}
 
 /// What a core instantiation gives for a module name: a core instance.
 #[derive(Debug, Drop, PartialEq, Eq)]
@@ -34,8 +113,7 @@ pub struct Argument {
 /// A definition that is no component.
 #[derive(Debug, Drop, PartialEq, Eq)]
 pub enum Item {
-    /// The whole core module, with its preamble.
-    CoreModule(Bytes),
+    CoreModule(CoreModule),
     CoreInstantiate {
         module: u32,
         args: Seq<CoreArgument>,

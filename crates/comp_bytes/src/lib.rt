@@ -35,7 +35,7 @@ mod types;
 mod writing;
 
 pub use canon::{CanonicalOption, ContextType, Intrinsic};
-pub use def::{Argument, CoreArgument, CoreInlineExport, Def, Defs, Item};
+pub use def::{Argument, CoreArgument, CoreInlineExport, CoreModule, Def, Defs, Item};
 pub use fault::{BuildFault, Excess, count_of, next_count};
 pub use laws::{one_list, one_name, one_number, one_type_index};
 pub use name::Name;

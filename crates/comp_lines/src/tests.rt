@@ -3,8 +3,8 @@
 use super::*;
 use comp_bytes::{
     Alias, Argument, BuildFault, CanonicalOption, ComponentExportKind, CoreArgument,
-    CoreInlineExport, Def, Defs, Description, ExportKind, ExternName, FuncTypeDef, InstanceType,
-    Intrinsic, Item, Sort, TypeDef,
+    CoreInlineExport, CoreModule, Def, Defs, Description, ExportKind, ExternName, FuncTypeDef,
+    InstanceType, Intrinsic, Item, Sort, TypeDef,
 };
 use comp_lists::{Bytes, Seq, Text};
 use std::alloc::Global;
@@ -30,6 +30,15 @@ fn bytes(alloc: Global, len: usize) -> Result<Bytes, BuildFault> {
         bytes.push(0)?;
     }
     Ok(bytes)
+}
+
+/// A core module of so many bytes, at least eight.
+fn core_module(alloc: Global, len: usize) -> Result<Option<CoreModule>, BuildFault> {
+    let mut bytes = Vec::from_slice(alloc, b"\0asm\x01\0\0\0")?;
+    for _ in bytes.len()..len {
+        bytes.push(0)?;
+    }
+    Ok(CoreModule::from_bytes(Seq::from_vec(bytes)))
 }
 
 fn one<T: Drop>(alloc: Global, item: T) -> Result<Seq<T>, BuildFault> {
@@ -123,7 +132,9 @@ fn first_half(alloc: Global) -> Result<Defs, BuildFault> {
     let name = named(alloc, "f")?;
     let description = Description::Func(0);
     defs.push(Def::Item(Item::Import { name, description }))?;
-    defs.push(Def::Item(Item::CoreModule(bytes(alloc, 44)?)))?;
+    if let Some(module) = core_module(alloc, 44)? {
+        defs.push(Def::Item(Item::CoreModule(module)))?;
+    }
     let options = Seq::new(alloc);
     defs.push(Def::Item(Item::Lower { func: 0, options }))?;
     defs.push(Def::Item(core_exports(alloc)?))?;

@@ -1,9 +1,11 @@
 -- What is spelled by a component is read again.
-use Rattle.std.proofs.Common.{◌≡◌, ℕ, zero, suc, ◌+◌, ◌-◌, ◌<◌, ◌≤◌, ◌^◌, Bool, true, false, eqb, List, [], ◌∷◌, ◌++◌, length, map, Option, Some, refl, sym, ap, ap₂, subst, ◌∙◌, arith, ◌&&◌}
+use Rattle.std.proofs.Common.{◌≡◌, ℕ, zero, suc, ◌+◌, ◌-◌, ◌<◌, ◌≤◌, ◌^◌, Bool, true, false, eqb, List, [], ◌∷◌, ◌++◌, length, take, map, Option, Some, refl, sym, ap, ap₂, subst, ◌∙◌, arith, ◌&&◌}
 use Rattle.std.specs.Prelude.{Ok, if◌then◌else◌}
 use Rattle.std.specs.List.{flat_map, AllByRecursion}
 use Rattle.std.proofs.lemmas.Bool.{eq-eqb, eqb-true, ne_eqb}
 use Rattle.std.proofs.lemmas.List.{append-nil, length-append}
+use Rattle.std.proofs.lemmas.Slice.Eq.{bytes_eq-Decides}
+use Rattle.comp_bytes.specs.Core.{core_preamble}
 use Rattle.comp_bytes.specs.Spelling.{Spelling, Fits, ◌⊕◌, octet, leb, each, listed, sized}
 use Rattle.comp_bytes.specs.Sections.{Entry, Section, shares, before, sections, contents, section, component}
 use Rattle.comp_bytes.specs.Grammar.{item, definition, Spells}
@@ -14,7 +16,7 @@ use Rattle.comp_bytes.specs.declared.def.Def.TheVariants as defs
 use Rattle.comp_bytes.proofs.Runs.{section_is}
 use Rattle.comp_bytes.proofs.Groups.{IsGroup, group_section, grouped}
 use Rattle.comp_read.specs.Reading.{number_at, items_at}
-use Rattle.comp_read.specs.ItemReaders.{item_at, counted_at, custom_at, contents_at}
+use Rattle.comp_read.specs.ItemReaders.{item_at, counted_at, custom_at, module_at, contents_at}
 use Rattle.comp_read.specs.SectionReaders.{Placed, ◌>>>◌, told_at, Contents, repeats, header_at, section_at, sections_at, component_at, item_contents_at, definition_contents_at}
 use Rattle.comp_read.specs.Writable.{IsItem, IsDefinition, IsWritable}
 use Rattle.comp_read.proofs.Exact.{fits_left, fits_right, number_again, sized_exact, name_exact, items_again}
@@ -177,11 +179,12 @@ custom_again (items.Custom name contents ∷ []) one ids w fits =
     ap custom_at text ∙ rw (name_exact.again name contents w.0 (fits.0, tt)) refl
 custom_again (x ∷ []) one ids w fits = absurd (omega (arith, ids.0))
 
-module_again : (xs : List Item) → length xs ≡ 1 → AllByRecursion (λ x. (item x).id ≡ 1) xs → ◌≡◌ {A = Option (List Item)} (Some (items.CoreModule (each (λ x. (item x).text) xs).bytes ∷ [])) (Some xs)
-module_again [] one ids = absurd (omega arith)
-module_again (x ∷ y ∷ xs) one ids = absurd (omega arith)
-module_again (items.CoreModule bytes ∷ []) one ids = ap (λ (l : List ℕ). let r : Option (List Item) = Some (items.CoreModule l ∷ []) in r) (append-nil bytes)
-module_again (x ∷ []) one ids = absurd (omega (arith, ids.0))
+module_again : (xs : List Item) → length xs ≡ 1 → AllByRecursion (λ x. (item x).id ≡ 1) xs → AllByRecursion IsItem xs → module_at (each (λ x. (item x).text) xs).bytes ≡ Some xs
+unfolding module_at
+module_again [] one ids w = absurd (omega arith)
+module_again (x ∷ y ∷ xs) one ids w = absurd (omega arith)
+module_again (items.CoreModule bytes ∷ []) one ids w = ap module_at (append-nil bytes) ∙ rw ((bytes_eq-Decides (take 8 bytes) core_preamble).1 w.0) refl
+module_again (x ∷ []) one ids w = absurd (omega (arith, ids.0))
 
 both_hold : {A : Type 0} (P Q : A → Type 0) (xs : List A) → AllByRecursion P xs → AllByRecursion Q xs → AllByRecursion (λ x. P x × Q x) xs
 both_hold P Q [] p q = tt
@@ -206,7 +209,7 @@ unfolding contents_at
 contents_by id inner xs h w true b c p q r =
     subst (λ (n : ℕ). Inside item n inner xs → contents_at n inner ≡ Some xs) (sym (eqb-true _ _ p)) (λ i. ap custom_at i.text ∙ custom_again xs (i.alone refl) i.each_of w i.fits) h
 contents_by id inner xs h w false true c p q r =
-    subst (λ (n : ℕ). Inside item n inner xs → contents_at n inner ≡ Some xs) (sym (eqb-true _ _ q)) (λ i. ap (λ (l : List ℕ). let r : Option (List Item) = Some (items.CoreModule l ∷ []) in r) i.text ∙ module_again xs (i.alone refl) i.each_of) h
+    subst (λ (n : ℕ). Inside item n inner xs → contents_at n inner ≡ Some xs) (sym (eqb-true _ _ q)) (λ i. ap module_at i.text ∙ module_again xs (i.alone refl) i.each_of w) h
 contents_by id inner xs h w false false true p q r =
     absurd (first_not_nested xs h.some (subst (λ (n : ℕ). AllByRecursion (λ x. (item x).id ≡ n) xs) (eqb-true _ _ r) h.each_of))
 contents_by id inner xs h w false false false p q r =

@@ -1,8 +1,10 @@
 -- The definitions of one section are read exactly.
-use Rattle.std.proofs.Common.{◌≡◌, ℕ, zero, suc, ◌<◌, Bool, true, false, eqb, List, [], ◌∷◌, ◌++◌, length, Option, Some, refl, sym, ap, subst, ◌∙◌, arith, inl, inr}
+use Rattle.std.proofs.Common.{◌≡◌, ℕ, zero, suc, ◌<◌, Bool, true, false, eqb, List, [], ◌∷◌, ◌++◌, length, take, Option, Some, refl, sym, ap, subst, ◌∙◌, arith, inl, inr}
 use Rattle.std.specs.List.{AllByRecursion}
 use Rattle.std.proofs.lemmas.Bool.{eqb-true, eqb-false}
 use Rattle.std.proofs.lemmas.List.{append-nil, nil_from_length}
+use Rattle.std.proofs.lemmas.Slice.Eq.{bytes_eq-Decides}
+use Rattle.comp_bytes.specs.Core.{is_core_module, core_preamble}
 use Rattle.comp_bytes.specs.Spelling.{Spelling, Fits, ◌⊕◌, raw, octet, number, quantity, each, listed, optional}
 use Rattle.comp_bytes.specs.Sections.{Entry, shares, contents}
 use Rattle.comp_bytes.specs.Grammar.{sort_bytes, extern_name, description_bytes, option_bytes, core_argument, core_inline_export, argument, item}
@@ -18,7 +20,7 @@ use Rattle.comp_bytes.specs.declared.def.Item.{Item}
 use Rattle.comp_bytes.specs.declared.def.Item.TheVariants as items
 use Rattle.comp_read.specs.Reading.{Read, Reader, made_at, then_at, expect, number_at, name_at, items_at, list_at, option_at}
 use Rattle.comp_read.specs.PartReaders.{sort_at, primitive_after, small_type_after, defined_after, type_def_after, index_and_options_at, waiting_after, future_after, stream_after, task_after, intrinsic_after, extern_name_at, description_at}
-use Rattle.comp_read.specs.ItemReaders.{core_argument_at, core_inline_export_at, argument_at, core_instance_at, instance_at, type_item_at, lift_at, lower_at, canon_at, import_at, export_at, item_at, counted_at, custom_at, contents_at}
+use Rattle.comp_read.specs.ItemReaders.{core_argument_at, core_inline_export_at, argument_at, core_instance_at, instance_at, type_item_at, lift_at, lower_at, canon_at, import_at, export_at, item_at, counted_at, custom_at, module_at, contents_at}
 use Rattle.comp_read.specs.Writable.{IsIndex, Optionally, AreOptions, IsExternName, IsDescription, IsCoreArgument, IsCoreInlineExport, IsArgument, IsItem}
 use Rattle.comp_read.proofs.Exact.{IsExact, Took, took_then, step, step_is, fewer, bind_some, some_is, none_some, chosen, guarded, made_again, made_exact, then_exact, expect_step, before_exact, tag_case, took_byte, first_of_tagged, other_byte, quantity_exact, number_exact, name_exact, items_takes, each_read, list_exact, option_exact}
 use Rattle.comp_read.proofs.ValueLaws.{kind_exact, sort_exact, extern_name_exact, description_exact, alias_exact}
@@ -214,11 +216,13 @@ custom_takes inner xs e =
     } in
     subst (λ (v : List Item). Inside item 0 inner v) (some_is made xs n.2) text
 
-module_takes : (inner : List ℕ) (xs : List Item) → ◌≡◌ {A = Option (List Item)} (Some (items.CoreModule inner ∷ [])) (Some xs) → Inside item 1 inner xs
+module_takes : (inner : List ℕ) (xs : List Item) → module_at inner ≡ Some xs → Inside item 1 inner xs
+unfolding module_at
 module_takes inner xs e =
     let made : List Item = items.CoreModule inner ∷ [] in
     let text : Inside item 1 inner made = record { each_of = (refl, tt); some = omega arith; alone = λ h. refl; text = sym (append-nil inner); fits = tt } in
-    subst (λ (v : List Item). Inside item 1 inner v) (some_is made xs e) text
+    let g = guarded (is_core_module inner) made xs e in
+    subst (λ (v : List Item). Inside item 1 inner v) g.1 text
 
 -- what is read in a section is writable
 counted_fine : (id : ℕ) (inner : List ℕ) (xs : List Item) → counted_at id inner ≡ Some xs → AllByRecursion IsItem xs
@@ -240,14 +244,20 @@ custom_fine inner xs e =
     let made : List Item = items.Custom n.0.0 n.0.1 ∷ [] in
     subst (λ (v : List Item). AllByRecursion IsItem v) (some_is made xs n.2) (name_exact.fine inner n.0.0 n.0.1 n.1, tt)
 
+module_fine : (inner : List ℕ) (xs : List Item) → module_at inner ≡ Some xs → AllByRecursion IsItem xs
+unfolding module_at
+module_fine inner xs e =
+    let made : List Item = items.CoreModule inner ∷ [] in
+    let g = guarded (is_core_module inner) made xs e in
+    subst (λ (v : List Item). AllByRecursion IsItem v) g.1 ((bytes_eq-Decides (take 8 inner) core_preamble).0 g.0, tt)
+
 pub contents_fine : (id : ℕ) (inner : List ℕ) (xs : List Item) → contents_at id inner ≡ Some xs → AllByRecursion IsItem xs
 unfolding contents_at
 contents_fine id inner xs e =
-    let made : List Item = items.CoreModule inner ∷ [] in
     elim (chosen (eqb id 0) _ _ (Some xs) e) [
       | inl w ↦ custom_fine inner xs w.1
       | inr w ↦ elim (chosen (eqb id 1) _ _ (Some xs) w.1) [
-        | inl v ↦ subst (λ (v : List Item). AllByRecursion IsItem v) (some_is made xs v.1) (tt, tt)
+        | inl v ↦ module_fine inner xs v.1
         | inr v ↦ counted_fine id inner xs v.1
       ]
     ]

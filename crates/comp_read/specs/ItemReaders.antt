@@ -1,6 +1,7 @@
 -- Reading the definitions of one section. Component model, binary format: `section`, `core:instance`, `instance`,
 -- `import`, `export`.
 use Rattle.std.specs.Prelude.{ℕ, ◌==◌, if◌then◌else◌, List, [], ◌∷◌, length, Option, Some, None}
+use Rattle.comp_bytes.specs.Core.{is_core_module}
 use Rattle.comp_bytes.specs.declared.def.CoreArgument.{CoreArgument}
 use Rattle.comp_bytes.specs.declared.def.CoreInlineExport.{CoreInlineExport}
 use Rattle.comp_bytes.specs.declared.def.Argument.{Argument}
@@ -80,9 +81,13 @@ counted_at id bytes =
 unfoldable pub custom_at : List ℕ → Option (List Item)
 custom_at bytes = name_at bytes >>= λ name. Some (items.Custom name.0 name.1 ∷ [])
 
+-- a core module, which begins as one does
+unfoldable pub module_at : List ℕ → Option (List Item)
+module_at bytes = if is_core_module bytes then Some (items.CoreModule bytes ∷ []) else None
+
 -- all that is in a section of an id
 unfoldable pub contents_at : ℕ → List ℕ → Option (List Item)
 contents_at id bytes =
     if id == 0 then custom_at bytes
-    else (if id == 1 then Some (items.CoreModule bytes ∷ [])
+    else (if id == 1 then module_at bytes
     else counted_at id bytes)

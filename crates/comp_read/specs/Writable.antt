@@ -1,8 +1,9 @@
 -- What every value of the program has, and a list of mere numbers may lack: its texts are UTF-8, and its indices are
--- numbers of 32 bits. Core standard, binary format: values (integers, names).
+-- numbers of 32 bits; and its core modules begin as such. Core standard, binary format: values (integers, names), modules.
 use Rattle.std.specs.Prelude.{ℕ, ◌<◌, ◌^◌, List, Option, Some, None}
 use Rattle.std.specs.List.{AllByRecursion}
 use Rattle.std.specs.Str.{IsUtf8}
+use Rattle.comp_bytes.specs.Core.{IsCoreModule}
 use Rattle.comp_bytes.specs.declared.types.ComponentValType.{ComponentValType}
 use Rattle.comp_bytes.specs.declared.types.ComponentValType.TheVariants as values
 use Rattle.comp_bytes.specs.declared.types.Field.{Field}
@@ -156,7 +157,7 @@ abbrev pub IsArgument : Argument → Type 0
 IsArgument a = IsUtf8 a.name × IsIndex a.index
 
 abbrev pub IsItem : Item → Type 0
-IsItem (items.CoreModule bytes) = Unit {0}
+IsItem (items.CoreModule bytes) = IsCoreModule bytes
 IsItem (items.CoreInstantiate made args) = IsIndex made × AllByRecursion IsCoreArgument args
 IsItem (items.CoreExports entries) = AllByRecursion IsCoreInlineExport entries
 IsItem (items.Instantiate made args) = IsIndex made × AllByRecursion IsArgument args

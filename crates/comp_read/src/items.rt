@@ -4,14 +4,14 @@
 
 ghost use Rattle.std.specs.Prelude.{◌≡◌, List, ℕ, Some, [], ◌∷◌};
 ghost use Rattle.comp_read.specs.Reading.{Gives, Read, items_at};
-ghost use Rattle.comp_read.specs.ItemReaders.{core_argument_at, core_inline_export_at, argument_at, core_instance_at, instance_at, type_item_at, lift_at, lower_at, canon_at, import_at, export_at, item_at, counted_at, custom_at, contents_at};
+ghost use Rattle.comp_read.specs.ItemReaders.{core_argument_at, core_inline_export_at, argument_at, core_instance_at, instance_at, type_item_at, lift_at, lower_at, canon_at, import_at, export_at, item_at, counted_at, custom_at, module_at, contents_at};
 
 use crate::canon::{index_and_options, intrinsic};
 use crate::fault::PartFault;
 use crate::number::{Decode, byte, expect_byte, list, name, number, option};
 use crate::types::{instance_type, type_def};
 use crate::values::{alias, extern_name, kind, sort};
-use comp_bytes::{Argument, CoreArgument, CoreInlineExport, Description, Item};
+use comp_bytes::{Argument, CoreArgument, CoreInlineExport, CoreModule, Description, Item};
 use comp_lists::{Bytes, Seq};
 use std::alloc::Global;
 
@@ -232,16 +232,24 @@ fn custom(alloc: Global, bytes: &[u8]) -> Result<Seq<Item>, PartFault>
 }
 
 /// All that is in a section.
+#[tactic(auto, unfolding(crate::specs::ItemReaders::module_at))]
+fn module(alloc: Global, bytes: &[u8]) -> Result<Seq<Item>, PartFault>
+    ensures { Gives (λ x. x) result (module_at bytes.now) }
+{
+    let bytes = copy_of(alloc, bytes)?;
+    match CoreModule::from_bytes(bytes) {
+        Some(module) => one(alloc, Item::CoreModule(module)),
+        None => Err(PartFault::Malformed),
+    }
+}
+
 #[tactic(auto, unfolding(crate::specs::ItemReaders::contents_at))]
 pub(crate) fn contents(alloc: Global, id: u8, bytes: &[u8]) -> Result<Seq<Item>, PartFault>
     ensures { Gives (λ x. x) result (contents_at id bytes.now) }
 {
     match id {
         0 => custom(alloc, bytes),
-        1 => {
-            let module = copy_of(alloc, bytes)?;
-            one(alloc, Item::CoreModule(module))
-        }
+        1 => module(alloc, bytes),
         _ => counted(alloc, id, bytes),
     }
 }
