@@ -99,6 +99,24 @@ LINES
 tells 'a component is told' 0 lines '' defs "$top/examples/component.wasm"
 head -c 105 "$top/examples/component.wasm" >front.wasm
 head -n 7 lines >front_lines
+cat >shim_lines <<'LINES'
+type 0 = 42020140010173730100040001660100
+instance 0 = import "a:b/i" 0500
+core-module 0 = 46 bytes
+core-module 1 = 60 bytes
+core-instance 0 = instantiate 1
+core-func 0 = alias 0 "0"
+core-instance 1 = exports "f"=func 0
+core-instance 2 = instantiate 0 "a:b/i"=1
+core-memory 0 = alias 2 "memory"
+core-module 2 = 58 bytes
+func 0 = alias 0 "f"
+core-func 1 = lower 0 memory=0 utf8
+core-instance 3 = exports "0"=func 1
+core-instance 4 = instantiate 2 "actual"=3 "shim"=0
+custom "component-name" 189 bytes
+LINES
+tells 'a component with shims is told' 0 shim_lines '' defs "$top/crates/read_changes/data/shims.wasm"
 tells 'a front that is a component' 0 front_lines '' defs front.wasm
 : >none
 head -c 100 "$top/examples/component.wasm" >cut_component.wasm

@@ -80,6 +80,8 @@ fn missing(definition: u128, space: Space, index: u32) -> Option<IndexFault> {
 #[test]
 fn example(rt: HostRuntime) -> Result<(), Fail> {
     assert_eq!(rt; refused(rt.alloc(), &EXAMPLE)?, None);
+    // a beginning that is a component
+    assert_eq!(rt; refused(rt.alloc(), &EXAMPLE[..105])?, None);
     let mut changed = EXAMPLE;
     // the type of the import
     changed[22] = 0x01;
@@ -188,19 +190,30 @@ fn printed(rt: HostRuntime) -> Result<(), Fail> {
     Ok(())
 }
 
-#[test]
-fn twice(rt: HostRuntime) -> Result<(), Fail> {
-    let alloc = rt.alloc();
+/// What is told of a component of one type of functions and this section.
+fn told_of(alloc: Global, section: &[u8]) -> Result<String, Fail> {
     let mut bytes = PREAMBLE.to_vec(alloc)?;
     bytes.extend_from_slice(&TYPES)?;
-    bytes.extend_from_slice(&[0x0a, 0x0b, 0x02])?;
-    bytes.extend_from_slice(&[0x00, 0x01, 0x66, 0x01, 0x00])?;
-    bytes.extend_from_slice(&[0x00, 0x01, 0x66, 0x01, 0x00])?;
+    bytes.extend_from_slice(section)?;
     let definitions = read_component(alloc, bytes.as_slice())?;
     match check(alloc, &definitions) {
-        Err(CheckFault::NameTwice { name }) => assert!(rt; name.is("f")),
-        Err(_other) => assert!(rt; false),
-        Ok(()) => assert!(rt; false),
+        Ok(()) => Ok(String::from_str(alloc, "yes")?),
+        Err(fault) => Ok(format!(in alloc; "{fault}")?),
+    }
+}
+
+#[test]
+fn names(rt: HostRuntime) -> Result<(), Fail> {
+    let imports: [(&[u8], &str); 3] = [
+        (b"\x0a\x06\x01\0\x01f\x01\0", "yes"),
+        (
+            b"\x0a\x0b\x02\0\x01f\x01\0\0\x01f\x01\0",
+            "C4 NameTwice name=\"f\"",
+        ),
+        (b"\x0a\x07\x01\0\x021f\x01\0", "C5 NameForm name=\"1f\""),
+    ];
+    for (section, told) in imports {
+        assert_eq!(rt; told_of(rt.alloc(), section)?.as_str(), told);
     }
     Ok(())
 }
