@@ -1,0 +1,11 @@
+pub mod Keys
+pub mod Parts
+pub mod Values
+pub mod Sizes
+pub mod Sound
+pub mod Flat
+pub mod Signatures
+pub mod Contents
+pub mod Live
+pub mod Versions
+pub mod Names

@@ -1,0 +1,44 @@
+-- How large types are. (The component model sets no limit; these are this project's own, but for the
+-- labels of flags.)
+use Rattle.std.specs.Prelude.{ℕ, ◌+◌, ◌≤◌, max, length, List, [], ◌∷◌, Option}
+use Rattle.std.specs.List.{AllByRecursion}
+use Rattle.wit_data.specs.declared.types.Type.{«Type» as Ty}
+use Rattle.wit_data.specs.declared.types.TypeDefKind.{TypeDefKind}
+use Rattle.wit_data.specs.declared.types.TypeDefKind.TheVariants as kinds
+use Rattle.wit_data.specs.declared.types.TypeDef.{TypeDef}
+use Rattle.wit_data.specs.Values.{Making, values, value}
+
+abbrev pub sum : List ℕ → ℕ
+sum [] = 0
+sum (n ∷ ns) = n + sum ns
+
+abbrev pub greatest : List ℕ → ℕ
+greatest [] = 0
+greatest (n ∷ ns) = max n (greatest ns)
+
+-- the nodes of a type's tree: one, and those of its parts; another name for a type adds none
+abbrev pub node_count : ℕ → TypeDefKind → List ℕ → ℕ
+node_count n (kinds.Alias t) counts = sum counts
+node_count n kind counts = 1 + sum counts
+
+abbrev pub counting_nodes : Making ℕ
+counting_nodes = record { absent = 0; simple = λ p. 1; made = node_count }
+
+-- how many nodes stand below one another
+abbrev pub level_count : ℕ → TypeDefKind → List ℕ → ℕ
+level_count n (kinds.Alias t) counts = greatest counts
+level_count n kind counts = 1 + greatest counts
+
+abbrev pub counting_levels : Making ℕ
+counting_levels = record { absent = 0; simple = λ p. 1; made = level_count }
+
+-- flags have at most 32 labels (component model, explainer: `flags`)
+abbrev pub HasFewLabels : TypeDefKind → Type 0
+HasFewLabels (kinds.Flags names) = length names ≤ 32
+HasFewLabels kind = Unit {0}
+
+-- no type has more than 10,000 nodes, or more than 100 below one another
+pub record AreSmall (types : List TypeDef) : Type 0 where
+  pub labels : AllByRecursion (λ t. HasFewLabels t.kind) types
+  pub nodes : AllByRecursion (λ n. n ≤ 10000) (values counting_nodes types)
+  pub levels : AllByRecursion (λ n. n ≤ 100) (values counting_levels types)

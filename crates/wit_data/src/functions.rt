@@ -1,0 +1,47 @@
+//! Functions, and the forms in which they are called.
+
+use crate::ids::TypeId;
+use crate::types::Type;
+use comp_lists::{Seq, Text};
+
+/// What a function is to a resource, and whether it is asynchronous (component model, WIT: `func`).
+#[derive(Clone, Copy, Debug, PartialEq, Eq)]
+pub enum FunctionKind {
+    Freestanding,
+    AsyncFreestanding,
+    /// A function whose first parameter is a value of the resource.
+    Method(TypeId),
+    AsyncMethod(TypeId),
+    /// A function that belongs to the resource.
+    Static(TypeId),
+    AsyncStatic(TypeId),
+    /// A function that makes a value of the resource.
+    Constructor(TypeId),
+}
+
+/// A parameter: its name and its type.
+#[derive(Debug, Drop, PartialEq, Eq)]
+pub struct Param {
+    pub name: Text,
+    pub ty: Type,
+}
+
+/// A function.
+#[derive(Debug, Drop, PartialEq, Eq)]
+pub struct Function {
+    pub name: Text,
+    pub kind: FunctionKind,
+    pub params: Seq<Param>,
+    pub result: Option<Type>,
+}
+
+/// The forms in which the Canonical ABI calls a function: who calls whom, and whether the caller waits.
+#[derive(Clone, Copy, Debug, PartialEq, Eq, Hash)]
+pub enum AbiVariant {
+    GuestImport,
+    GuestExport,
+    GuestImportAsync,
+    GuestExportAsync,
+    /// An export that is asynchronous without a callback: it keeps its stack while it waits.
+    GuestExportAsyncStackful,
+}

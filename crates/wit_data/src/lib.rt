@@ -1,0 +1,35 @@
+//! WIT values: interfaces, types, functions and worlds, and what follows from them alone.
+//!
+//! A [`Resolve`] owns lists of interfaces, types and worlds, which name one another by number. A type
+//! names only types before it. What a type comes to (how it is passed to core WebAssembly, what it
+//! contains, which types it reaches) is a value that is made of the values of the types that it names:
+//! `specs/Values.antt` is the one fold by which all of them are defined.
+//!
+//! Upward this crate promises what the component model and the Canonical ABI say of such values:
+//! whether they hold together ([`Resolve::is_sound`]), the core signature of a function
+//! ([`Resolve::wasm_signature`]), what a type contains ([`Resolve::type_contents`]), the names of
+//! interfaces with and without the compatible part of their versions, and the types that others reach
+//! ([`Resolve::live_types`]).
+//!
+//! In reading order: `ids` (numbers of interfaces, types and worlds), `types` (types), `functions`
+//! (functions and the forms in which they are called), `names` (names of interfaces), `worlds` (worlds
+//! and their keys), `resolve` (all of it together).
+#![tactic(auto)]
+
+mod flattening;
+mod functions;
+mod ids;
+mod names;
+mod resolve;
+mod signatures;
+mod types;
+mod worlds;
+
+pub use comp_bytes::Primitive;
+pub use functions::{AbiVariant, Function, FunctionKind, Param};
+pub use ids::{InterfaceId, TypeId, WorldId};
+pub use names::IdName;
+pub use resolve::{Interface, Resolve};
+pub use signatures::{WasmSignature, WasmType};
+pub use types::{Case, Field, ResultType, Type, TypeDef, TypeDefKind, TypeOwner};
+pub use worlds::{World, WorldItem, WorldKey};
