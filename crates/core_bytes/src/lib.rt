@@ -5,11 +5,18 @@
 #![tactic(auto)]
 
 mod code;
+mod entries;
 mod entry;
+mod section;
 mod types;
 
 pub use code::{Body, Instruction, LocalRun};
+pub use entries::Entries;
 pub use entry::{DataSegment, DefinedGlobal, ElementSegment, Export, Import, Naming};
+pub use section::{
+    Code, DataSection, ElementSection, ExportSection, FunctionSection, GlobalSection,
+    ImportSection, MemorySection, Module, ModuleNames, NameMap, Section, TableSection, TypeSection,
+};
 pub use types::{
     ConstExpr, EntityType, FuncType, GlobalType, MemoryType, RefType, TableType, ValType,
 };
