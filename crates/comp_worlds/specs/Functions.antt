@@ -4,8 +4,8 @@ use Rattle.std.specs.Prelude.{ℕ, Bool, List, Option}
 use Rattle.std.specs.Map.{lookup}
 use Rattle.std.specs.Ordering.{on, eq_of_both}
 use Rattle.std.specs.Str.{bytes_eq}
-use Rattle.comp_worlds.specs.Keys.{is_same_key}
-use Rattle.comp_worlds.specs.declared.wit.WorldKey.{WorldKey}
+use Rattle.wit_data.specs.Keys.{is_same_key}
+use Rattle.wit_data.specs.declared.worlds.WorldKey.{WorldKey}
 use Rattle.comp_worlds.specs.declared.metadata.FunctionKey.{FunctionKey}
 
 abbrev pub is_same_function : FunctionKey → FunctionKey → Bool

@@ -1,14 +1,18 @@
 -- What a validated world says, and what holds of it (component model: the imports and exports of a
 -- world; core standard, binary format: the preamble of a module).
-use Rattle.std.specs.Prelude.{◌≡◌, ℕ, List, [], ◌∷◌, Option, map, take, Contains, IsSome}
+use Rattle.std.specs.Prelude.{◌≡◌, ◌<◌, ℕ, List, [], ◌∷◌, Option, Some, None, map, take, get_or, length, Contains, IsSome}
 use Rattle.std.specs.List.{flat_map, IsDistinct, AllByRecursion}
 use Rattle.std.specs.Str.{bytes_eq}
 use Rattle.comp_lists.specs.Found.{found}
-use Rattle.comp_worlds.specs.declared.wit.WorldKey.{WorldKey}
-use Rattle.comp_worlds.specs.Keys.{key_text}
-use Rattle.comp_worlds.specs.declared.wit.WorldItem.{WorldItem}
-use Rattle.comp_worlds.specs.declared.wit.WorldItem.TheVariants as items
-use Rattle.comp_worlds.specs.declared.wit.AbiVariant.TheVariants.{GuestImport, GuestExport}
+use Rattle.wit_data.specs.declared.functions.Function.{Function}
+use Rattle.wit_data.specs.declared.functions.FunctionKind.TheVariants.{Freestanding}
+use Rattle.wit_data.specs.declared.functions.AbiVariant.TheVariants.{GuestImport, GuestExport}
+use Rattle.wit_data.specs.declared.worlds.WorldKey.{WorldKey}
+use Rattle.wit_data.specs.declared.worlds.WorldKey.TheVariants as keys
+use Rattle.wit_data.specs.declared.worlds.WorldItem.{WorldItem}
+use Rattle.wit_data.specs.declared.worlds.WorldItem.TheVariants as items
+use Rattle.wit_data.specs.declared.worlds.World.{World}
+use Rattle.wit_data.specs.Sound.{IsSound}
 use Rattle.comp_worlds.specs.declared.imports.Import.{Import}
 use Rattle.comp_worlds.specs.declared.imports.Import.TheVariants as imports
 use Rattle.comp_worlds.specs.declared.imports.ImportInstance.{ImportInstance}
@@ -17,9 +21,26 @@ use Rattle.comp_worlds.specs.declared.exports.Export.{Export}
 use Rattle.comp_worlds.specs.declared.exports.Export.TheVariants as exports
 use Rattle.comp_worlds.specs.declared.world.ComponentWorld.{ComponentWorld}
 
--- the name of an item's function
-abbrev pub function_name : WorldItem → List ℕ
-function_name (items.Function function) = function.name
+-- ---- what it says
+
+-- the imports and exports of the world
+abbrev pub no_items : World
+no_items = record { imports = []; exports = [] }
+
+abbrev pub world_of : ComponentWorld → World
+world_of w = get_or w.resolve.worlds w.world.index no_items
+
+-- the name of an item that is a function at the root
+abbrev pub root_function : WorldKey × WorldItem → List (List ℕ)
+root_function (keys.Name text, items.Function f) = text ∷ []
+root_function entry = []
+
+-- the root functions that the world imports, and that it exports, in order
+abbrev pub imported_functions : ComponentWorld → List (List ℕ)
+imported_functions w = flat_map root_function (world_of w).imports
+
+abbrev pub exported_functions : ComponentWorld → List (List ℕ)
+exported_functions w = flat_map root_function (world_of w).exports
 
 -- an import of a core module: its module, its field, and what it is for
 pub record CoreImport : Type 0 where
@@ -30,6 +51,7 @@ pub record CoreImport : Type 0 where
 -- the fields that a module imports from one other, each with what it is for
 abbrev pub fields_of : ImportInstance → List (List ℕ × Import)
 fields_of (instances.Names fields) = fields
+fields_of (instances.Whole which) = []
 
 abbrev pub imports_from : List ℕ × ImportInstance → List CoreImport
 imports_from group = map (λ f. record { module_name = group.0; field = f.0; role = f.1 }) (fields_of group.1)
@@ -38,36 +60,53 @@ imports_from group = map (λ f. record { module_name = group.0; field = f.0; rol
 abbrev pub core_imports : ComponentWorld → List CoreImport
 core_imports w = flat_map imports_from w.main.imports.modules
 
--- the text of the key of the root function that an import is
-abbrev pub imported_text : Import → List ℕ
-imported_text (imports.WorldFunc key function abi) = key_text key
+-- the name of the root function that an import is
+abbrev pub imported_name : Import → Option (List ℕ)
+imported_name (imports.WorldFunc (keys.Name text) function abi) = Some text
+imported_name role = None
 
--- the text of the key of the root function that an export is
-abbrev pub exported_text : Export → List ℕ
-exported_text (exports.WorldFunc key function abi) = key_text key
+-- the root function that an export is, with the export's name
+abbrev pub root_export : List ℕ × Export → List (List ℕ × List ℕ)
+root_export (name, exports.WorldFunc (keys.Name text) function abi) = (text, name) ∷ []
+root_export entry = []
 
 -- the core export that is the root function of this key
-abbrev pub core_name_of : ComponentWorld → List ℕ → Option (List ℕ)
-core_name_of w text = found text (map (λ e. (exported_text e.1, e.0)) w.main.exports.exports)
+abbrev pub core_name_of : ComponentWorld → WorldKey → Option (List ℕ)
+core_name_of w (keys.Name text) = found text (flat_map root_export w.main.exports.exports)
+core_name_of w (keys.Interface id) = None
 
--- an item stands under the name of its function
-abbrev pub IsNamed : WorldKey × WorldItem → Type 0
-IsNamed entry = key_text entry.0 ≡ function_name entry.1
+-- ---- what holds of it
+
+-- a function with no parameter and no result, for which nobody waits
+pub record IsPlain (f : Function) : Type 0 where
+  pub kind : f.kind ≡ Freestanding
+  pub params : f.params ≡ []
+  pub result : f.result ≡ None
+
+-- what the world imports and exports are plain functions at its root, each under its name
+abbrev pub IsItem : WorldKey × WorldItem → Type 0
+IsItem (keys.Name text, items.Function f) = (text ≡ f.name) × IsPlain f
+IsItem entry = ⊥
 
 -- what an import is for is a function that the world imports, called in the right form
 abbrev pub IsImportRole : ComponentWorld → Import → Type 0
-IsImportRole w (imports.WorldFunc key function abi) =
-    Contains (map (λ e. key_text e.0) w.world.imports) (key_text key) × (function ≡ key_text key) × (abi ≡ GuestImport)
+IsImportRole w (imports.WorldFunc (keys.Name text) function abi) = Contains (imported_functions w) text × (function ≡ text) × (abi ≡ GuestImport)
+IsImportRole w role = ⊥
+
+-- what the imports from one module are for
+abbrev pub IsImportGroup : ComponentWorld → List ℕ × ImportInstance → Type 0
+IsImportGroup w (name, instances.Names fields) = IsDistinct bytes_eq (map (λ f. f.0) fields) × AllByRecursion (λ f. IsImportRole w f.1) fields
+IsImportGroup w (name, instances.Whole which) = ⊥
 
 -- what an export is for is a function that the world exports, called in the right form
 abbrev pub IsExportRole : ComponentWorld → Export → Type 0
-IsExportRole w (exports.WorldFunc key function abi) =
-    Contains (map (λ e. key_text e.0) w.world.exports) (key_text key) × (function ≡ key_text key) × (abi ≡ GuestExport)
+IsExportRole w (exports.WorldFunc (keys.Name text) function abi) = Contains (exported_functions w) text × (function ≡ text) × (abi ≡ GuestExport)
+IsExportRole w role = ⊥
 
 -- a required export is one of the world's, and stands in main
 pub record IsRequired (w : ComponentWorld) (key : WorldKey) : Type 0 where
-  pub exported : Contains (map (λ e. key_text e.0) w.world.exports) (key_text key)
-  pub stands : IsSome (core_name_of w (key_text key))
+  pub exported : Contains (map (λ e. e.0) (world_of w).exports) key
+  pub stands : IsSome (core_name_of w key)
 
 -- what a core module begins with
 abbrev pub core_preamble : List ℕ
@@ -75,13 +114,15 @@ core_preamble = 0x00 ∷ 0x61 ∷ 0x73 ∷ 0x6d ∷ 0x01 ∷ 0x00 ∷ 0x00 ∷ 0
 
 -- what holds of every validated world
 pub record IsWorld (w : ComponentWorld) : Type 0 where
+  pub sound : IsSound w.resolve
+  pub stands : w.world.index < length w.resolve.worlds
   pub core : take 8 w.main.bytes ≡ core_preamble
-  pub imports_named : AllByRecursion IsNamed w.world.imports
-  pub exports_named : AllByRecursion IsNamed w.world.exports
-  pub import_keys_apart : IsDistinct bytes_eq (map (λ e. key_text e.0) w.world.imports)
-  pub export_keys_apart : IsDistinct bytes_eq (map (λ e. key_text e.0) w.world.exports)
+  pub imports : AllByRecursion IsItem (world_of w).imports
+  pub exports : AllByRecursion IsItem (world_of w).exports
+  pub import_names_apart : IsDistinct bytes_eq (imported_functions w)
+  pub export_names_apart : IsDistinct bytes_eq (exported_functions w)
   pub modules_apart : IsDistinct bytes_eq (map (λ g. g.0) w.main.imports.modules)
-  pub fields_apart : AllByRecursion (λ g. IsDistinct bytes_eq (map (λ f. f.0) (fields_of g.1))) w.main.imports.modules
-  pub import_roles : AllByRecursion (λ i. IsImportRole w i.role) (core_imports w)
+  pub import_roles : AllByRecursion (IsImportGroup w) w.main.imports.modules
   pub export_roles : AllByRecursion (λ e. IsExportRole w e.1) w.main.exports.exports
   pub required : AllByRecursion (IsRequired w) w.main_exports
+  pub alone : w.adapters ≡ []

@@ -1,9 +1,9 @@
 //! What is known of a core module beside its bytes.
 
 use crate::encoding::StringEncoding;
-use crate::wit::WorldKey;
 use comp_lists::{Keyed, Text};
 use std::hash::{Hash, Hasher};
+use wit_data::WorldKey;
 
 /// A function as a module names it: the key of a world's item, and the function's name there.
 #[derive(Debug, Drop)]
@@ -37,10 +37,10 @@ impl Hash for FunctionKey {
     ghost use Rattle.std.proofs.Common.{rules};
     ghost use Rattle.std.specs.Prelude.{◌++◌};
     ghost use Rattle.std.specs.Cmp.Rules.{hashing};
-    ghost use Rattle.comp_worlds.specs.Keys.{key_text};
+    ghost use Rattle.wit_data.specs.Keys.{name_of_key, interface_index};
     ghost use Rattle.std.specs.Hash as fed;
 
-    ghost hash_input = { λ f. fed.str (key_text f.key) ++ fed.str f.function };
+    ghost hash_input = { λ f. (fed.str (name_of_key f.key) ++ fed.usize (interface_index f.key)) ++ fed.str f.function };
 
     ghost respects_eq = { Prim.search (hashing, rules) };
 

@@ -1,10 +1,14 @@
 //! The validated world.
 
+ghost use Rattle.std.specs.Prelude.{◌≡◌, ◌<◌, length};
+ghost use Rattle.comp_worlds.specs.Worlds.{world_of};
+
 use crate::exports::ExportMap;
 use crate::imports::ImportMap;
+use crate::libraries::LibraryInfo;
 use crate::metadata::ModuleMetadata;
-use crate::wit::{World, WorldKey};
-use comp_lists::{Bytes, Seq};
+use comp_lists::{Bytes, Keyed, Seq, Text};
+use wit_data::{Resolve, World, WorldId, WorldKey};
 
 /// A core module, and what its imports and exports are for.
 #[derive(Drop)]
@@ -15,11 +19,34 @@ pub struct ValidatedModule {
     pub metadata: ModuleMetadata,
 }
 
-/// The validated world: the items that the component imports and exports, its main module, and the
-/// keys of the exports that main has to have, in order. `IsWorld` says what holds of it.
+/// A module beside main: the keys of the exports that it has to have, in order, and what makes it a
+/// library, where it is one.
+#[derive(Drop)]
+pub struct WorldAdapter {
+    pub info: ValidatedModule,
+    pub required_exports: Seq<WorldKey>,
+    pub library_info: Option<LibraryInfo>,
+}
+
+/// The validated world: the items that the component imports and exports, its main module with the
+/// keys of the exports that it has to have, and its adapters, in order. `IsWorld` says what holds of
+/// it.
 #[derive(Drop)]
 pub struct ComponentWorld {
-    pub world: World,
+    pub resolve: Resolve,
+    /// The world of the resolve whose items these are.
+    pub world: WorldId,
     pub main: ValidatedModule,
     pub main_exports: Seq<WorldKey>,
+    pub adapters: Keyed<Text, WorldAdapter>,
+}
+
+impl ComponentWorld {
+    /// The imports and exports of the world.
+    pub fn items(&self) -> &World
+        requires { self.now.world.index < length self.now.resolve.worlds }
+        ensures { result.now ≡ world_of self.now }
+    {
+        &self.resolve.worlds.as_slice()[self.world.index]
+    }
 }

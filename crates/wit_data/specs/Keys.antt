@@ -6,9 +6,9 @@ use Rattle.wit_data.specs.declared.worlds.WorldKey.{WorldKey}
 use Rattle.wit_data.specs.declared.worlds.WorldKey.TheVariants as keys
 
 -- the plain name of a key; an interface has none
-abbrev pub plain_name : WorldKey → List ℕ
-plain_name (keys.Name text) = text
-plain_name (keys.Interface id) = []
+abbrev pub name_of_key : WorldKey → List ℕ
+name_of_key (keys.Name text) = text
+name_of_key (keys.Interface id) = []
 
 -- the interface of a key, counted from 1; a plain name has none
 abbrev pub interface_count : WorldKey → ℕ
@@ -21,4 +21,4 @@ interface_index key = interface_count key - 1
 
 -- keys of one name, or of one interface, are one key
 abbrev pub is_same_key : WorldKey → WorldKey → Bool
-is_same_key = eq_of_both (on plain_name bytes_eq) (on interface_count nat_eq)
+is_same_key = eq_of_both (on name_of_key bytes_eq) (on interface_count nat_eq)

@@ -53,10 +53,10 @@ impl Hash for WorldKey {
     ghost use Rattle.std.proofs.Common.{rules};
     ghost use Rattle.std.specs.Prelude.{◌++◌};
     ghost use Rattle.std.specs.Cmp.Rules.{hashing};
-    ghost use Rattle.wit_data.specs.Keys.{plain_name, interface_index};
+    ghost use Rattle.wit_data.specs.Keys.{name_of_key, interface_index};
     ghost use Rattle.std.specs.Hash as fed;
 
-    ghost hash_input = { λ key. fed.str (plain_name key) ++ fed.usize (interface_index key) };
+    ghost hash_input = { λ key. fed.str (name_of_key key) ++ fed.usize (interface_index key) };
 
     ghost respects_eq = { Prim.search (hashing, rules) };
 

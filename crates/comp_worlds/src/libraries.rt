@@ -1,0 +1,96 @@
+//! What the imports of a library are met with.
+
+use comp_bytes::ExportKind;
+use comp_lists::{Seq, Text, TryClone};
+use std::alloc::{AllocError, Global};
+
+/// A user module that others name: main, or an adapter by its name.
+#[derive(Debug, Drop, PartialEq, Eq)]
+pub enum MainOrAdapter {
+    Main,
+    Adapter(Text),
+}
+
+/// An export of a user module under a name of its own.
+#[derive(Debug, Drop, PartialEq, Eq)]
+pub struct Item {
+    /// The name under which it is imported.
+    pub alias: Text,
+    pub kind: ExportKind,
+    /// The module that exports it.
+    pub which: MainOrAdapter,
+    /// The name under which that exports it.
+    pub name: Text,
+}
+
+/// What meets the imports from one module.
+#[derive(Debug, Drop, PartialEq, Eq)]
+pub enum Instance {
+    /// All exports of a module.
+    MainOrAdapter(MainOrAdapter),
+    /// These.
+    Items(Seq<Item>),
+}
+
+/// An argument of a library: the module that it imports from, and what meets it.
+#[derive(Debug, Drop, PartialEq, Eq)]
+pub struct LibraryArgument {
+    pub name: Text,
+    pub instance: Instance,
+}
+
+/// What makes an adapter a library: it is linked as the arguments say, and not by roles alone.
+#[derive(Debug, Drop, PartialEq, Eq)]
+pub struct LibraryInfo {
+    pub arguments: Seq<LibraryArgument>,
+}
+
+impl TryClone for MainOrAdapter {
+    fn try_clone(&self, alloc: Global) -> Result<MainOrAdapter, AllocError> {
+        match self {
+            MainOrAdapter::Main => Ok(MainOrAdapter::Main),
+            MainOrAdapter::Adapter(name) => Ok(MainOrAdapter::Adapter(name.clone(alloc)?)),
+        }
+    }
+}
+
+impl TryClone for Item {
+    fn try_clone(&self, alloc: Global) -> Result<Item, AllocError> {
+        let alias = self.alias.clone(alloc)?;
+        let which = self.which.try_clone(alloc)?;
+        let name = self.name.clone(alloc)?;
+        Ok(Item {
+            alias,
+            kind: self.kind,
+            which,
+            name,
+        })
+    }
+}
+
+impl TryClone for Instance {
+    fn try_clone(&self, alloc: Global) -> Result<Instance, AllocError> {
+        match self {
+            Instance::MainOrAdapter(which) => {
+                Ok(Instance::MainOrAdapter(which.try_clone(alloc)?))
+            }
+            Instance::Items(items) => Ok(Instance::Items(items.clone(alloc)?)),
+        }
+    }
+}
+
+impl TryClone for LibraryArgument {
+    fn try_clone(&self, alloc: Global) -> Result<LibraryArgument, AllocError> {
+        let name = self.name.clone(alloc)?;
+        let instance = self.instance.try_clone(alloc)?;
+        Ok(LibraryArgument { name, instance })
+    }
+}
+
+impl TryClone for LibraryInfo {
+    fn try_clone(&self, alloc: Global) -> Result<LibraryInfo, AllocError> {
+        Ok(LibraryInfo {
+            arguments: self.arguments.clone(alloc)?,
+        })
+    }
+}

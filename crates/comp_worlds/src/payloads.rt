@@ -1,0 +1,38 @@
+//! Streams and futures that intrinsics are for.
+
+use comp_lists::Text;
+use wit_data::{InterfaceId, TypeId, WorldKey};
+
+/// A stream or a future (Canonical ABI: `stream.new`, `future.new` and the like).
+#[derive(Debug, Drop, PartialEq, Eq)]
+pub enum PayloadType {
+    /// A type, and the function in which it is met.
+    Typed { id: TypeId, function: Text },
+    /// A future without a value.
+    UnitFuture,
+    /// A stream without values.
+    UnitStream,
+}
+
+/// The stream or the future that a core import is for.
+#[derive(Debug, Drop, PartialEq, Eq)]
+pub struct PayloadInfo {
+    /// The field of the core import.
+    pub name: Text,
+    pub ty: PayloadType,
+    /// The key of the world's item where it is met; a unit has none.
+    pub key: Option<WorldKey>,
+    /// The interface there, or none at the root.
+    pub interface: Option<InterfaceId>,
+    /// Whether it is met in an import.
+    pub imported: bool,
+}
+
+/// Which end of a stream or a future is used, and for what.
+#[derive(Clone, Copy, Debug, PartialEq, Eq, Hash)]
+pub enum PayloadFuncKind {
+    FutureWrite,
+    FutureRead,
+    StreamWrite,
+    StreamRead,
+}
