@@ -16,8 +16,9 @@ use Rattle.comp_bytes.specs.declared.space.ExportKind.TheVariants as kinds
 use Rattle.comp_bytes.specs.declared.def.CoreArgument.{CoreArgument}
 use Rattle.comp_bytes.specs.declared.def.CoreInlineExport.{CoreInlineExport}
 use Rattle.comp_bytes.specs.declared.def.Def.{Def}
-use Rattle.comp_worlds.specs.Worlds.{CoreImport, imports_from, fields_of, imported_text}
-use Rattle.comp_worlds.specs.declared.wit.WorldKey.{WorldKey}
+use Rattle.wit_data.specs.declared.worlds.WorldKey.TheVariants as keys
+use Rattle.comp_worlds.specs.Worlds.{CoreImport, imports_from, fields_of, imported_name}
+use Rattle.wit_data.specs.declared.worlds.WorldKey.{WorldKey}
 use Rattle.comp_worlds.specs.declared.imports.Import.{Import}
 use Rattle.comp_worlds.specs.declared.imports.Import.TheVariants as imports
 use Rattle.comp_worlds.specs.declared.imports.ImportInstance.{ImportInstance}
@@ -32,7 +33,7 @@ use Rattle.comp_encoder.specs.Instances.{of_kind, given_to}
 use Rattle.comp_encoder.specs.Running.{core_argument}
 use Rattle.comp_encoder.specs.Linking.{import_type}
 use Rattle.comp_encoder.proofs.Zips.{AllZip-filter, filter-both, all_some-each, all_some-zip, found-along, FindsIn, found-each, AllByRecursion-join}
-use Rattle.comp_encoder.proofs.Stores.{IsUserExport, IsUserInstance, IsNamedEntry, IsBag, IsLoweredItem, IsLiftedItem, IsAliasedItem, DefIs, Means, makes, IsServedBy, IsPlanned, IsMainExport, IsLiftedFrom, Agrees}
+use Rattle.comp_encoder.proofs.Stores.{IsUserExport, IsUserInstance, IsNamedEntry, IsBag, IsLoweredItem, IsLiftedItem, IsAliasedItem, DefIs, Means, makes, IsServedBy, IsServedAs, IsPlanned, IsMainExport, IsLiftedFrom, Agrees}
 
 makes-space : (space : Space) (d : Def) → is_space space (space_of d) ≡ true → makes d ≡ true
 makes-space space d e = by (space_of d) e
@@ -45,7 +46,7 @@ makes-space space d e = by (space_of d) e
 pub record IsFieldExport (s : Store) (e : Export) (field : List ℕ × Import) : Type 0 where
   pub named : e.name ≡ field.0
   pub space : e.space ≡ spaces.CoreFunc
-  pub serves : IsServedBy s e.address (imported_text field.1)
+  pub serves : IsServedAs s e.address (imported_name field.1)
 
 -- the argument has what the fields of this module are to be given
 pub record IsOffered (s : Store) (a : List ℕ × List Export) (group : List ℕ × ImportInstance) : Type 0 where
@@ -53,8 +54,9 @@ pub record IsOffered (s : Store) (a : List ℕ × List Export) (group : List ℕ
   pub each : AllZip (IsFieldExport s) a.1 (fields_of group.1)
 
 -- an import is of a function
-function_import : (i : Import) → import_kind i ≡ kinds.Func
-function_import (imports.WorldFunc key function abi) = refl
+function_import : (s : Store) (address : ℕ) (i : Import) → IsServedAs s address (imported_name i) → import_kind i ≡ kinds.Func
+function_import s address (imports.WorldFunc (keys.Name text) function abi) h = refl
+function_import s address i h = absurd h
 
 at_some : (e : Export) → e.space ≡ spaces.CoreFunc → of_kind kinds.Func e ≡ Some (record { space = e.space; address = e.address })
 at_some e h = rw h refl
@@ -115,22 +117,20 @@ module _ {w : ComponentWorld} {earlier : List Def} {c : Scope} {s : Store} (a : 
 
   -- what the link table names is there
   item_there : (kind : ExportKind) (index : ℕ) (role : Import) → IsCoreItemFor earlier kind index (link_of w Main role) →
-      (kind ≡ kinds.Func) × (x : ℕ) × (address_at spaces.CoreFunc index c.items ≡ Some x) × IsServedBy s x (imported_text role)
-  item_there kinds.Func index (imports.WorldFunc key function abi) h = let l = lowered_there h in (refl, l.0, l.1, l.2)
-  item_there kinds.Table index (imports.WorldFunc key function abi) h = absurd h
-  item_there kinds.Memory index (imports.WorldFunc key function abi) h = absurd h
-  item_there kinds.Global index (imports.WorldFunc key function abi) h = absurd h
+      (kind ≡ kinds.Func) × (x : ℕ) × (address_at spaces.CoreFunc index c.items ≡ Some x) × IsServedAs s x (imported_name role)
+  item_there kinds.Func index (imports.WorldFunc (keys.Name text) function abi) h = let l = lowered_there h in (refl, l.0, l.1, l.2)
+  item_there kind index role h = absurd h
 
   -- the entries of a bag, as they were put there
   fields_there : (es : List CoreInlineExport) (xs : List Export) (fs : List (List ℕ × Import)) → AllZip (IsEntryFor w earlier) es fs → AllZip (IsNamedEntry c.items) es xs → AllZip (IsFieldExport s) xs fs
   fields_there [] [] [] h n = tt
   fields_there (e ∷ es) (x ∷ xs) (f ∷ fs) h n =
-      let i : (e.kind ≡ kinds.Func) × (y : ℕ) × (address_at spaces.CoreFunc e.index c.items ≡ Some y) × IsServedBy s y (imported_text f.1) = item_there e.kind e.index f.1 h.0.serves in
-      let l : (y : ℕ) × (address_at spaces.CoreFunc e.index c.items ≡ Some y) × IsServedBy s y (imported_text f.1) = (i.1, i.2, i.3) in
+      let i : (e.kind ≡ kinds.Func) × (y : ℕ) × (address_at spaces.CoreFunc e.index c.items ≡ Some y) × IsServedAs s y (imported_name f.1) = item_there e.kind e.index f.1 h.0.serves in
+      let l : (y : ℕ) × (address_at spaces.CoreFunc e.index c.items ≡ Some y) × IsServedAs s y (imported_name f.1) = (i.1, i.2, i.3) in
       let kind : kind_space e.kind ≡ spaces.CoreFunc = ap kind_space i.0 in
       let at : address_at spaces.CoreFunc e.index c.items ≡ Some x.address = subst (λ space. address_at space e.index c.items ≡ Some x.address) kind n.0.at in
       let same : l.0 ≡ x.address = same_Some l.0 x.address (sym l.1 ∙ at) in
-      (record { named = n.0.named ∙ h.0.named; space = n.0.space ∙ kind; serves = subst (λ y. IsServedBy s y (imported_text f.1)) same l.2 }, fields_there es xs fs h.1 n.1)
+      (record { named = n.0.named ∙ h.0.named; space = n.0.space ∙ kind; serves = subst (λ y. IsServedAs s y (imported_name f.1)) same l.2 }, fields_there es xs fs h.1 n.1)
   fields_there [] (x ∷ xs) fs h n = absurd n
   fields_there (e ∷ es) [] fs h n = absurd n
   fields_there [] [] (f ∷ fs) h n = absurd h
@@ -171,7 +171,7 @@ module _ (s : Store) (arguments : List (List ℕ × List Export)) where
   given_fields module_name es e (f ∷ fs) h =
       let x : Export = h.0.0.1 in
       let is : IsFieldExport s x f = h.0.2.1 in
-      ((record { space = x.space; address = x.address }, rw (e, h.0.1, function_import f.1) (at_some x is.space), (is.space, is.serves)), given_fields module_name es e fs h.1)
+      ((record { space = x.space; address = x.address }, rw (e, h.0.1, function_import s x.address f.1 is.serves) (at_some x is.space), (is.space, is.serves)), given_fields module_name es e fs h.1)
 
   given_groups : (gs : List (List ℕ × ImportInstance)) → AllByRecursion (FindsIn (λ g. g.0) (IsOffered s) arguments) gs →
       AllByRecursion (λ g. IsDistinct bytes_eq (map (λ f. f.0) (fields_of g.1))) gs → AllByRecursion IsGiven (flat_map imports_from gs)

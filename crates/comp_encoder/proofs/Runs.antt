@@ -1,5 +1,5 @@
 -- A list of right definitions runs, and is linked where it is done.
-use Rattle.std.proofs.Common.{◌≡◌, ◌∙◌, ℕ, true, List, [], ◌∷◌, ◌++◌, map, filter, refl, sym, ap, subst, append-nil, append_assoc, Some, None}
+use Rattle.std.proofs.Common.{◌≡◌, ◌∙◌, ℕ, true, List, [], ◌∷◌, ◌++◌, map, filter, refl, sym, ap, subst, append-nil, append_assoc, Some, None, IsSome}
 use Rattle.std.proofs.lemmas.List.{map-append}
 use Rattle.std.proofs.lemmas.Grind.{flat_map-append}
 use Rattle.std.specs.Str.{bytes_eq}
@@ -18,9 +18,10 @@ use Rattle.comp_bytes.specs.declared.canon.CanonicalOption.{CanonicalOption}
 use Rattle.comp_bytes.specs.declared.def.Item.TheVariants as items
 use Rattle.comp_bytes.specs.declared.def.Def.{Def}
 use Rattle.comp_bytes.specs.declared.def.Def.TheVariants as defs
-use Rattle.comp_worlds.specs.Keys.{key_text}
-use Rattle.comp_worlds.specs.Worlds.{IsWorld, CoreImport, core_imports, core_name_of, imported_text}
-use Rattle.comp_worlds.specs.declared.wit.WorldKey.{WorldKey}
+use Rattle.wit_data.specs.Keys.{name_of_key}
+use Rattle.comp_worlds.specs.Worlds.{IsWorld, IsRequired, CoreImport, core_imports, core_name_of, imported_name}
+use Rattle.wit_data.specs.declared.worlds.WorldKey.{WorldKey}
+use Rattle.wit_data.specs.declared.worlds.WorldKey.TheVariants as keys
 use Rattle.comp_worlds.specs.declared.imports.Import.{Import}
 use Rattle.comp_worlds.specs.declared.imports.Import.TheVariants as imports
 use Rattle.comp_worlds.specs.declared.world.ComponentWorld.{ComponentWorld}
@@ -36,7 +37,7 @@ use Rattle.comp_encoder.specs.Running.{run, fresh_machine}
 use Rattle.comp_encoder.specs.Meeting.{IsCoreExport, Meets, MeetsIn}
 use Rattle.comp_encoder.specs.Linking.{def_module, def_instantiates, IsComposed, module_meanings, outcome, questions, LetsRun, IsServed, IsProvided, IsLinked, Links}
 use Rattle.comp_encoder.proofs.Zips.{filter-all, found-each, found-listed, each_listed, map-map, flat_map-marked}
-use Rattle.comp_encoder.proofs.Stores.{IsServedBy, IsPlanned, IsPlannedUser, IsMainExport, IsLiftedExport, Agrees}
+use Rattle.comp_encoder.proofs.Stores.{IsServedAs, IsPlanned, IsPlannedUser, IsMainExport, IsLiftedExport, Agrees}
 use Rattle.comp_encoder.proofs.Steps.{machine, IsGood, asks, Steps, step_type, step_import, step_lower, step_lift, step_bag, step_alias, step_export, step_module, step_custom, step_instantiate}
 
 module _ {w : ComponentWorld} {earlier : List Def} {c : Scope} {s : Store} (a : Agrees w earlier c s) where
@@ -172,7 +173,7 @@ module _ (w : ComponentWorld) (ds : List Def) (built : IsBuilt w ds) where
   root_imports : flat_map def_import ds ≡ used_functions w
   root_imports =
       read_marks def_import import_mark import_is
-      ∙ rw (all_of import_mark ImportNamed (λ t. t) (λ t. refl) (used_functions w), none_of import_mark (λ key. ExportNamed (key_text key)) (λ key. refl) w.main_exports)
+      ∙ rw (all_of import_mark ImportNamed (λ t. t) (λ t. refl) (used_functions w), none_of import_mark (λ key. ExportNamed (name_of_key key)) (λ key. refl) w.main_exports)
       (append-nil (map (λ t. t) (used_functions w)) ∙ map_same (used_functions w))
     where
       map_same : (ts : List (List ℕ)) → map (λ t. t) ts ≡ ts
@@ -182,17 +183,17 @@ module _ (w : ComponentWorld) (ds : List Def) (built : IsBuilt w ds) where
   root_modules : flat_map def_module ds ≡ w.main.bytes ∷ []
   root_modules =
       read_marks def_module module_mark module_is
-      ∙ rw (none_of module_mark ImportNamed (λ t. refl) (used_functions w), none_of module_mark (λ key. ExportNamed (key_text key)) (λ key. refl) w.main_exports) refl
+      ∙ rw (none_of module_mark ImportNamed (λ t. refl) (used_functions w), none_of module_mark (λ key. ExportNamed (name_of_key key)) (λ key. refl) w.main_exports) refl
 
   root_instances : flat_map def_instantiates ds ≡ 0 ∷ []
   root_instances =
       read_marks def_instantiates instance_mark instance_is
-      ∙ rw (none_of instance_mark ImportNamed (λ t. refl) (used_functions w), none_of instance_mark (λ key. ExportNamed (key_text key)) (λ key. refl) w.main_exports) refl
+      ∙ rw (none_of instance_mark ImportNamed (λ t. refl) (used_functions w), none_of instance_mark (λ key. ExportNamed (name_of_key key)) (λ key. refl) w.main_exports) refl
 
-  root_exports : flat_map def_export ds ≡ map key_text w.main_exports
+  root_exports : flat_map def_export ds ≡ map name_of_key w.main_exports
   root_exports =
       read_marks def_export export_mark export_is
-      ∙ rw (none_of export_mark ImportNamed (λ t. refl) (used_functions w), all_of export_mark (λ key. ExportNamed (key_text key)) key_text (λ key. refl) w.main_exports) refl
+      ∙ rw (none_of export_mark ImportNamed (λ t. refl) (used_functions w), all_of export_mark (λ key. ExportNamed (name_of_key key)) name_of_key (λ key. refl) w.main_exports) refl
 
   -- what was built is composed of what the world says
   pub composed : IsComposed w ds
@@ -201,7 +202,7 @@ module _ (w : ComponentWorld) (ds : List Def) (built : IsBuilt w ds) where
     modules = root_modules;
     others = tt;
     imports = root_imports;
-    exports = root_exports ∙ sym (map-map (λ r. key_text r.1) (λ key. (Main, key)) w.main_exports);
+    exports = root_exports ∙ sym (map-map (λ r. name_of_key r.1) (λ key. (Main, key)) w.main_exports);
     instances = root_instances;
   }
 
@@ -209,9 +210,10 @@ module _ (w : ComponentWorld) (ds : List Def) (built : IsBuilt w ds) where
 planned_meets : (w : ComponentWorld) (s : Store) (t : Thing) (i : CoreImport) → IsPlanned s t i → Meets w s t (link_of w Main i.role)
 planned_meets w s t i h = by t i.role h
   where
-    by : (t : Thing) (role : Import) → (t.space ≡ spaces.CoreFunc) × IsServedBy s t.address (imported_text role) → Meets w s t (link_of w Main role)
-    by t (imports.WorldFunc key function abi) h =
-        subst (λ space. MeetsIn w s space t.address (Lowered (OfRoot (key_text key)) [])) (sym h.0) (record { item = Lowering h.1.of []; is = h.1.is; meets = (h.1.imported, tt) })
+    by : (t : Thing) (role : Import) → (t.space ≡ spaces.CoreFunc) × IsServedAs s t.address (imported_name role) → Meets w s t (link_of w Main role)
+    by t (imports.WorldFunc (keys.Name text) function abi) h =
+        subst (λ space. MeetsIn w s space t.address (Lowered (OfRoot text) [])) (sym h.0) (record { item = Lowering h.1.of []; is = h.1.is; meets = (h.1.imported, tt) })
+    by t role h = absurd h.1
 
 users_served : (w : ComponentWorld) (s : Store) (us : List UserInstance) → map (λ (u : UserInstance). u.module_number) us ≡ 0 ∷ [] → AllByRecursion (IsPlannedUser w s) us → AllZip (IsServed w s) us (user_modules w)
 users_served w s [] e h = cc
@@ -237,34 +239,39 @@ main_export w s address name h = record {
 by_parts : (e : Export) (space : Space) (name : List ℕ) → e.space ≡ space → e.name ≡ name → e ≡ record { space = space; name = name; address = e.address }
 by_parts e space name same_space same_name = rw (← same_space, ← same_name) refl
 
-module _ (w : ComponentWorld) (m : Machine) (names : map (λ (e : Export). e.name) m.scope.exports ≡ map key_text w.main_exports) (lifted : AllByRecursion (IsLiftedExport w m.store) m.scope.exports) where
+-- a key that a core export stands for is a name
+named_key : (w : ComponentWorld) (key : WorldKey) → IsSome (core_name_of w key) → key ≡ keys.Name (name_of_key key)
+named_key w (keys.Name text) h = refl
+named_key w (keys.Interface id) h = cc
+
+module _ (w : ComponentWorld) (m : Machine) (names : map (λ (e : Export). e.name) m.scope.exports ≡ map name_of_key w.main_exports) (lifted : AllByRecursion (IsLiftedExport w m.store) m.scope.exports) where
   functions_all : filter (export_in spaces.Func) m.scope.exports ≡ m.scope.exports
   functions_all = filter-all (export_in spaces.Func) m.scope.exports (AllByRecursion-weaker (λ (e : Export) h. rw h.space refl) m.scope.exports lifted)
 
-  provided : (key : WorldKey) → list_any (bytes_eq (key_text key)) (map key_text w.main_exports) ≡ true → IsProvided w m (Main, key)
-  provided key h =
-      let listed : list_any (bytes_eq (key_text key)) (map (λ (e : Export). e.name) m.scope.exports) ≡ true = subst (λ l. list_any (bytes_eq (key_text key)) l ≡ true) (sym names) h in
-      let x : (e : Export) × (export_named (key_text key) m.scope.exports ≡ Some e) = found-listed (λ (e : Export). e.name) (key_text key) m.scope.exports listed in
-      let is : (x.0.name ≡ key_text key) × IsLiftedExport w m.store x.0 = found-each (λ (e : Export). e.name) (IsLiftedExport w m.store) (key_text key) m.scope.exports x.0 lifted x.1 in
-      let whole : x.0 ≡ record { space = spaces.Func; name = key_text key; address = x.0.address } = by_parts x.0 spaces.Func (key_text key) is.1.space is.0 in
+  provided : (key : WorldKey) → IsSome (core_name_of w key) → list_any (bytes_eq (name_of_key key)) (map name_of_key w.main_exports) ≡ true → IsProvided w m (Main, key)
+  provided key stands h =
+      let listed : list_any (bytes_eq (name_of_key key)) (map (λ (e : Export). e.name) m.scope.exports) ≡ true = subst (λ l. list_any (bytes_eq (name_of_key key)) l ≡ true) (sym names) h in
+      let x : (e : Export) × (export_named (name_of_key key) m.scope.exports ≡ Some e) = found-listed (λ (e : Export). e.name) (name_of_key key) m.scope.exports listed in
+      let is : (x.0.name ≡ name_of_key key) × IsLiftedExport w m.store x.0 = found-each (λ (e : Export). e.name) (IsLiftedExport w m.store) (name_of_key key) m.scope.exports x.0 lifted x.1 in
+      let whole : x.0 ≡ record { space = spaces.Func; name = name_of_key key; address = x.0.address } = by_parts x.0 spaces.Func (name_of_key key) is.1.space is.0 in
       record {
         address = x.0.address;
         target = Lifted (record { of = Main; name = is.1.name }) [];
-        found = ap (export_named (key_text key)) functions_all ∙ (x.1 ∙ ap (λ (e : Export). Some e) whole);
-        said = ap (λ t. option_map (λ n. Lifted (record { of = Main; name = n }) []) (core_name_of w t)) (sym is.0) ∙ is.1.said;
+        found = ap (export_named (name_of_key key)) functions_all ∙ (x.1 ∙ ap (λ (e : Export). Some e) whole);
+        said = ap (option_map (λ n. Lifted (record { of = Main; name = n }) [])) (ap (core_name_of w) (named_key w key stands ∙ ap keys.Name (sym is.0))) ∙ is.1.said;
         meets = record { function = Lifting is.1.is.core []; is = is.1.is.is; meets = (main_export w m.store is.1.is.core is.1.name is.1.is.of, tt) };
       }
 
-  provided_each : (keys : List WorldKey) → AllByRecursion (λ key. list_any (bytes_eq (key_text key)) (map key_text w.main_exports) ≡ true) keys → AllByRecursion (IsProvided w m) (map (λ key. (Main, key)) keys)
-  provided_each [] h = tt
-  provided_each (key ∷ keys) h = (provided key h.0, provided_each keys h.1)
+  provided_each : (required : List WorldKey) → AllByRecursion (IsRequired w) required → AllByRecursion (λ key. list_any (bytes_eq (name_of_key key)) (map name_of_key w.main_exports) ≡ true) required → AllByRecursion (IsProvided w m) (map (λ key. (Main, key)) required)
+  provided_each [] r h = tt
+  provided_each (key ∷ required) r h = (let one = r.0 in provided key one.stands h.0, provided_each required r.1 h.1)
 
 -- what a run leads to is linked
-linked_at_end : (w : ComponentWorld) (ds : List Def) (m : Machine) → IsBuilt w ds → Agrees w ds m.scope m.store → IsLinked w m
-linked_at_end w ds m built a = record {
+linked_at_end : (w : ComponentWorld) (ds : List Def) (m : Machine) → IsWorld w → IsBuilt w ds → Agrees w ds m.scope m.store → IsLinked w m
+linked_at_end w ds m ok built a = record {
   instances = a.instances ∙ root_instances w ds built;
   imports = users_served w m.store m.store.users (a.instances ∙ root_instances w ds built) a.served;
-  exports = provided_each w m (a.exports ∙ root_exports w ds built) a.lifted w.main_exports (each_listed key_text w.main_exports);
+  exports = provided_each w m (a.exports ∙ root_exports w ds built) a.lifted w.main_exports ok.required (each_listed name_of_key w.main_exports);
 }
 
 start : (w : ComponentWorld) → Agrees w [] (fresh_machine []).scope (fresh_machine []).store
@@ -295,5 +302,5 @@ links w ds ok built =
       ends = λ answers. is_done all.0 all.1 (questions w) answers (outcome w ds answers) (good answers);
       linked = λ answers m done.
           let is : (m.scope ≡ all.0) × (m.store ≡ all.1) = done_with all.0 all.1 (questions w) answers (outcome w ds answers) m (good answers) done in
-          linked_at_end w ds m built (subst (λ s. Agrees w ds m.scope s) (sym is.1) (subst (λ c. Agrees w ds c all.1) (sym is.0) all.3));
+          linked_at_end w ds m ok built (subst (λ s. Agrees w ds m.scope s) (sym is.1) (subst (λ c. Agrees w ds c all.1) (sym is.0) all.3));
     }

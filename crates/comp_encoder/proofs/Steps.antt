@@ -1,14 +1,14 @@
 -- A definition that keeps its rule runs, and the store agrees with the longer list.
-use Rattle.std.proofs.Common.{◌≡◌, ◌∙◌, ℕ, suc, ◌<◌, Bool, true, false, List, [], ◌∷◌, ◌++◌, length, map, filter, refl, sym, ap, subst, append-nil, append_assoc, add-one, length-append, Some, None, is_some, IsTrue, if◌then◌else◌}
+use Rattle.std.proofs.Common.{◌≡◌, ◌∙◌, ℕ, suc, ◌<◌, Bool, true, false, List, [], ◌∷◌, ◌++◌, length, map, filter, refl, sym, ap, subst, append-nil, append_assoc, add-one, length-append, Some, None, is_some, IsTrue, if◌then◌else◌, cond, ◌||◌}
 use Rattle.std.proofs.lemmas.List.{map-append}
 use Rattle.std.proofs.lemmas.List.Elements.{filter-append}
 use Rattle.std.proofs.lemmas.Grind.{flat_map-append}
-use Rattle.std.proofs.lemmas.Option.{none-some}
+use Rattle.std.proofs.lemmas.Option.{none-some, same_Some}
+use Rattle.std.proofs.lemmas.Slice.Eq.{bytes_eq-Decides}
 use Rattle.std.specs.Str.{bytes_eq}
-use Rattle.std.specs.List.{slice_get, flat_map, list_any, AllZip, AllByRecursion}
+use Rattle.std.specs.List.{slice_get, flat_map, list_any, AllZip, AllByRecursion, IsDistinct}
 use Rattle.std.specs.Option.{option_map}
 use Rattle.comp_lists.proofs.Lists.{slice_get-append, slice_get-end, AllZip-weaker, AllZip-end, AllByRecursion-weaker, AllByRecursion-push}
-use Rattle.comp_lists.proofs.Lookups.{found-named}
 use Rattle.comp_bytes.specs.Spaces.{kind_space, space_of, items_in}
 use Rattle.comp_bytes.specs.ScopeNames.{def_export}
 use Rattle.comp_bytes.specs.declared.space.Space.{Space}
@@ -24,14 +24,20 @@ use Rattle.comp_bytes.specs.declared.def.CoreInlineExport.{CoreInlineExport}
 use Rattle.comp_bytes.specs.declared.def.Item.TheVariants as items
 use Rattle.comp_bytes.specs.declared.def.Def.{Def}
 use Rattle.comp_bytes.specs.declared.def.Def.TheVariants as defs
-use Rattle.comp_worlds.specs.Keys.{key_text}
-use Rattle.comp_worlds.specs.Worlds.{IsWorld, core_imports, exported_text, core_name_of}
+use Rattle.wit_data.specs.Keys.{name_of_key}
+use Rattle.wit_data.specs.declared.worlds.WorldKey.{WorldKey}
+use Rattle.wit_data.specs.declared.worlds.WorldKey.TheVariants as keys
+use Rattle.comp_worlds.specs.Worlds.{IsWorld, IsExportRole, IsImportGroup, core_imports, fields_of, root_export, core_name_of}
 use Rattle.comp_worlds.specs.declared.exports.Export.{Export as WorldExport}
 use Rattle.comp_worlds.specs.declared.exports.Export.TheVariants as exports
+use Rattle.comp_worlds.specs.declared.imports.ImportInstance.{ImportInstance}
+use Rattle.comp_worlds.specs.declared.imports.ImportInstance.TheVariants as instances
 use Rattle.comp_worlds.specs.declared.world.ComponentWorld.{ComponentWorld}
 use Rattle.comp_shims.specs.Answers.{CoreType, Value, Answer, Gives, Traps}
-use Rattle.comp_shims.specs.Targets.{Main, Lifted}
+use Rattle.comp_shims.specs.Targets.{Main, Target, Lifted}
 use Rattle.comp_shims.specs.Store.{Thing, Export, CoreItem, Lowering, OfUser, Imported, Lifting, FunctionType, UserInstance, Store, Now}
+use Rattle.comp_lists.specs.Found.{found}
+use Rattle.comp_state.specs.Links.{lift_of}
 use Rattle.comp_state.specs.Facts.{plain_function, IsFunctionType}
 use Rattle.comp_state.specs.Rules.{InstantiatesMain, AliasesMain, ExportsRequired, IsEntry, AreEntries}
 use Rattle.comp_encoder.specs.Machine.{Scope, Machine, Outcome, Done, Trapped, Open, Stuck, address_at, is_of, export_named, all_some, answered}
@@ -110,16 +116,47 @@ numbered-push k [] n t h e = (e ∙ sym h, ap suc h)
 numbered-push k (x ∷ ts) n t h e = (h.0, numbered-push (suc k) ts n t h.1 e)
 
 -- what a user instance exports stands at the addresses that it was given
-user_exports : (s : Store) (user : ℕ) (before : List CoreItem) (es : List (List ℕ × WorldExport)) → s.core ≡ before ++ map (λ (e : ExportType). OfUser user e.name) (map export_type es) →
+user_exports : (w : ComponentWorld) (s : Store) (user : ℕ) (before : List CoreItem) (es : List (List ℕ × WorldExport)) → AllByRecursion (λ e. IsExportRole w e.1) es → s.core ≡ before ++ map (λ (e : ExportType). OfUser user e.name) (map export_type es) →
     AllByRecursion (IsUserExport s user) (exported_from (length before) (map export_type es))
-user_exports s user before [] e = tt
-user_exports s user before ((name, exports.WorldFunc key function abi) ∷ es) e =
+user_exports w s user before [] roles e = tt
+user_exports w s user before ((name, exports.WorldFunc (keys.Name text) function abi) ∷ es) roles e =
     let more : List CoreItem = map (λ (x : ExportType). OfUser user x.name) (map export_type es) in
     let next : s.core ≡ (before ++ OfUser user name ∷ []) ++ more = e ∙ sym (append_assoc before (OfUser user name ∷ []) more) in
     let counted : length (before ++ OfUser user name ∷ []) ≡ suc (length before) = length-append before (OfUser user name ∷ []) ∙ add-one (length before) in (
       (refl, ap (λ l. slice_get l (length before)) e ∙ slice_get-middle before (OfUser user name) more),
-      subst (λ n. AllByRecursion (IsUserExport s user) (exported_from n (map export_type es))) counted (user_exports s user (before ++ OfUser user name ∷ []) es next),
+      subst (λ n. AllByRecursion (IsUserExport s user) (exported_from n (map export_type es))) counted (user_exports w s user (before ++ OfUser user name ∷ []) es roles.1 next),
     )
+user_exports w s user before ((name, role) ∷ es) roles e = absurd roles.0
+
+or_true : (b c : Bool) → c ≡ true → (b || c) ≡ true
+or_true true c e = refl
+or_true false c e = e
+
+-- what is found among the root functions is an export
+root_named : (text name : List ℕ) (es : List (List ℕ × WorldExport)) → found text (flat_map root_export es) ≡ Some name → list_any (bytes_eq name) (map (λ e. e.0) es) ≡ true
+root_named text name [] h = cc
+root_named text name ((n, exports.WorldFunc (keys.Name t) function abi) ∷ es) h = by (bytes_eq text t) h (root_named text name es)
+  where
+    by : (b : Bool) → cond b (Some n) (found text (flat_map root_export es)) ≡ Some name → (found text (flat_map root_export es) ≡ Some name → list_any (bytes_eq name) (map (λ e. e.0) es) ≡ true) →
+        (bytes_eq name n || list_any (bytes_eq name) (map (λ e. e.0) es)) ≡ true
+    by true same rest = rw ((bytes_eq-Decides name n).1 (sym (same_Some n name same))) refl
+    by false same rest = or_true (bytes_eq name n) (list_any (bytes_eq name) (map (λ e. e.0) es)) (rest same)
+root_named text name ((n, role) ∷ es) h = or_true (bytes_eq name n) (list_any (bytes_eq name) (map (λ e. e.0) es)) (root_named text name es h)
+
+core_named : (w : ComponentWorld) (key : WorldKey) (name : List ℕ) → core_name_of w key ≡ Some name → list_any (bytes_eq name) (map (λ e. e.0) w.main.exports.exports) ≡ true
+core_named w (keys.Name text) name h = root_named text name w.main.exports.exports h
+core_named w (keys.Interface id) name h = cc
+
+-- what is lifted for a key is lifted for its name
+said_by_name : (w : ComponentWorld) (key : WorldKey) (target : Target) → lift_of w Main key ≡ Some target → lift_of w Main (keys.Name (name_of_key key)) ≡ Some target
+said_by_name w (keys.Name text) target h = h
+said_by_name w (keys.Interface id) target h = cc
+
+-- the fields of each module differ
+fields_apart : (w : ComponentWorld) (gs : List (List ℕ × ImportInstance)) → AllByRecursion (IsImportGroup w) gs → AllByRecursion (λ g. IsDistinct bytes_eq (map (λ f. f.0) (fields_of g.1))) gs
+fields_apart w [] h = tt
+fields_apart w ((name, instances.Names fields) ∷ gs) h = (h.0.0, fields_apart w gs h.1)
+fields_apart w ((name, instances.Whole which) ∷ gs) h = absurd h.0
 
 export_names : (k : ℕ) (es : List (List ℕ × WorldExport)) → map (λ (e : Export). e.name) (exported_from k (map export_type es)) ≡ map (λ e. e.0) es
 export_names k [] = refl
@@ -276,7 +313,7 @@ module _ {w : ComponentWorld} {earlier : List Def} {c : Scope} {s : Store} (a : 
       let d : Def = defs.Item (items.Alias (aliases.CoreExport kinds.Func instance name)) in
       let m : (x : ℕ) × (address_at spaces.CoreInstance instance c.items ≡ Some x) × IsUserInstance w s 0 x = main_there a h.of in
       let listed : list_any (bytes_eq name) (map (λ (e : Export). e.name) m.2.exports) ≡ true =
-      subst (λ names. list_any (bytes_eq name) names ≡ true) (sym m.2.names) (found-named (λ e. exported_text e.1) (λ e. e.0) h.key name w.main.exports.exports h.role) in
+      subst (λ names. list_any (bytes_eq name) names ≡ true) (sym m.2.names) (core_named w h.key name h.role) in
       let x : (e : Export) × (export_named name m.2.exports ≡ Some e) = found-listed (λ (e : Export). e.name) name m.2.exports listed in
       let is : (x.0.name ≡ name) × IsUserExport s m.2.user x.0 = found-each (λ (e : Export). e.name) (IsUserExport s m.2.user) name m.2.exports x.0 m.2.each x.1 in
       let t : Thing = record { space = spaces.CoreFunc; address = x.0.address } in
@@ -322,7 +359,7 @@ module _ {w : ComponentWorld} {earlier : List Def} {c : Scope} {s : Store} (a : 
         types = λ i y e. e;
         users = λ i y e. e;
       } in
-      let text : name.name ≡ key_text h.key = ap (λ (n : ExternName). n.name) h.named in (
+      let text : name.name ≡ name_of_key h.key = ap (λ (n : ExternName). n.name) h.named in (
         c',
         s,
         record { goes = λ e u questions rest g now. rw f.1 (g now) },
@@ -331,7 +368,7 @@ module _ {w : ComponentWorld} {earlier : List Def} {c : Scope} {s : Store} (a : 
             (sym (append-nil (map (λ (u : UserInstance). u.module_number) s.users)))
             a.served
             (map-append (λ (e : Export). e.name) c.exports (x ∷ []))
-            (AllByRecursion-push (IsLiftedExport w s) c.exports x a.lifted (record { name = h.lifted.name; space = refl; said = ap (λ t. option_map (λ n. Lifted (record { of = Main; name = n }) []) (core_name_of w t)) text ∙ h.lifted.said; is = f.2 })),
+            (AllByRecursion-push (IsLiftedExport w s) c.exports x a.lifted (record { name = h.lifted.name; space = refl; said = ap (λ t. option_map (λ n. Lifted (record { of = Main; name = n }) []) (core_name_of w (keys.Name t))) text ∙ said_by_name w h.key _ h.lifted.said; is = f.2 })),
       )
 
   pub step_module : (bytes : List ℕ) → Steps w earlier c s (defs.Item (items.CoreModule bytes))
@@ -390,7 +427,7 @@ module _ {w : ComponentWorld} {earlier : List Def} {c : Scope} {s : Store} (a : 
       let args : (ys : List (List ℕ × List Export)) × (all_some (map (core_argument (machine c s no_answers)) arguments) ≡ Some ys) × AllZip (IsOffered s) ys w.main.imports.modules =
       arguments_there a (machine c s no_answers) refl refl arguments w.main.imports.modules h.each in
       let given : (ts : List Thing) × (all_some (map (given_to args.0) (map import_type (core_imports w))) ≡ Some ts) × AllZip (IsPlanned s) ts (core_imports w) =
-      given_there s args.0 w.main.imports.modules args.2 ok.modules_apart ok.fields_apart in
+      given_there s args.0 w.main.imports.modules args.2 ok.modules_apart (fields_apart w w.main.imports.modules ok.import_roles) in
       let instance : UserInstance = record { module_number = 0; given = given.0 } in
       let own : List Export = exported_from (length s.core) exports in
       let more : List CoreItem = map (λ (e : ExportType). OfUser user e.name) exports in
@@ -426,7 +463,7 @@ module _ {w : ComponentWorld} {earlier : List Def} {c : Scope} {s : Store} (a : 
                 stands = slice_get-end s.core_instances own;
                 is = record { instance = instance; stands = slice_get-end s.users instance; of = refl };
                 names = export_names (length s.core) w.main.exports.exports;
-                each = user_exports s' user s.core w.main.exports.exports refl;
+                each = user_exports w s' user s.core w.main.exports.exports ok.export_roles refl;
               };
             })
             (rw (filter-push (is_of spaces.CoreModule) false c.items t refl) a.modules)

@@ -1,5 +1,5 @@
 -- What the items of a run are, beside the definitions that made them.
-use Rattle.std.proofs.Common.{◌≡◌, ℕ, suc, Bool, List, [], ◌∷◌, ◌++◌, length, map, filter, ap, Some, is_some}
+use Rattle.std.proofs.Common.{Option, None, ◌≡◌, ℕ, suc, Bool, List, [], ◌∷◌, ◌++◌, length, map, filter, ap, Some, is_some}
 use Rattle.std.proofs.lemmas.List.Elements.{filter-append}
 use Rattle.std.specs.List.{slice_get, flat_map, AllZip, AllByRecursion}
 use Rattle.std.specs.Option.{option_map}
@@ -17,7 +17,8 @@ use Rattle.comp_bytes.specs.declared.def.Item.TheVariants as items
 use Rattle.comp_bytes.specs.declared.def.Def.{Def}
 use Rattle.comp_bytes.specs.declared.def.Def.TheVariants as defs
 use Rattle.comp_bytes.specs.ScopeNames.{def_export}
-use Rattle.comp_worlds.specs.Worlds.{CoreImport, core_imports, core_name_of, imported_text}
+use Rattle.wit_data.specs.declared.worlds.WorldKey.TheVariants as keys
+use Rattle.comp_worlds.specs.Worlds.{CoreImport, core_imports, core_name_of, imported_name}
 use Rattle.comp_worlds.specs.declared.world.ComponentWorld.{ComponentWorld}
 use Rattle.comp_shims.specs.Targets.{Main, Lifted}
 use Rattle.comp_shims.specs.Store.{Thing, Export, CoreItem, Lowering, OfUser, Function, Imported, Lifting, TypeItem, FunctionType, UserInstance, Store}
@@ -106,9 +107,13 @@ pub record IsServedBy (s : Store) (address : ℕ) (text : List ℕ) : Type 0 whe
   pub is : slice_get s.core address ≡ Some (Lowering of [])
   pub imported : slice_get s.functions of ≡ Some (Imported (text ∷ []))
 
+abbrev pub IsServedAs : Store → ℕ → Option (List ℕ) → Type 0
+IsServedAs s address None = ⊥
+IsServedAs s address (Some name) = IsServedBy s address name
+
 -- what an import is given, by the plan of the world
 abbrev pub IsPlanned : Store → Thing → CoreImport → Type 0
-IsPlanned s t i = (t.space ≡ spaces.CoreFunc) × IsServedBy s t.address (imported_text i.role)
+IsPlanned s t i = (t.space ≡ spaces.CoreFunc) × IsServedAs s t.address (imported_name i.role)
 
 abbrev pub IsPlannedUser : ComponentWorld → Store → UserInstance → Type 0
 IsPlannedUser w s u = AllZip (IsPlanned s) u.given (core_imports w)
@@ -129,7 +134,7 @@ pub record IsLiftedFrom (s : Store) (address : ℕ) (name : List ℕ) : Type 0 w
 pub record IsLiftedExport (w : ComponentWorld) (s : Store) (e : Export) : Type 0 where
   pub name : List ℕ
   pub space : e.space ≡ spaces.Func
-  pub said : option_map (λ name. Lifted (record { of = Main; name = name }) []) (core_name_of w e.name) ≡ Some (Lifted (record { of = Main; name = name }) [])
+  pub said : option_map (λ name. Lifted (record { of = Main; name = name }) []) (core_name_of w (keys.Name e.name)) ≡ Some (Lifted (record { of = Main; name = name }) [])
   pub is : IsLiftedFrom s e.address name
 
 -- addresses from a number on, as many as are left to another
@@ -171,8 +176,12 @@ module _ {a b : List Thing} {s t : Store} (k : Keeps a b s t) where
   entry-kept : (e : CoreInlineExport) (x : Export) → IsNamedEntry a e x → IsNamedEntry b e x
   entry-kept e x h = record { named = h.named; space = h.space; at = k.things (kind_space e.kind) e.index x.address h.at }
 
+  IsServedAs-kept : (address : ℕ) (o : Option (List ℕ)) → IsServedAs s address o → IsServedAs t address o
+  IsServedAs-kept address None h = h
+  IsServedAs-kept address (Some name) h = record { of = h.of; is = k.core address (Lowering h.of []) h.is; imported = k.functions h.of (Imported (name ∷ [])) h.imported }
+
   IsPlanned-kept : (x : Thing) (i : CoreImport) → IsPlanned s x i → IsPlanned t x i
-  IsPlanned-kept x i h = (h.0, record { of = h.1.of; is = k.core x.address (Lowering h.1.of []) h.1.is; imported = k.functions h.1.of (Imported (imported_text i.role ∷ [])) h.1.imported })
+  IsPlanned-kept x i h = (h.0, IsServedAs-kept x.address (imported_name i.role) h.1)
 
   pub IsMainExport-kept : {address : ℕ} {name : List ℕ} → IsMainExport s address name → IsMainExport t address name
   IsMainExport-kept {address} {name} h = record { user = h.user; is = k.core address (OfUser h.user name) h.is; of = IsInstanceOf-kept h.of }

@@ -17,11 +17,12 @@ use Rattle.comp_bytes.specs.declared.def.Def.TheVariants as defs
 use Rattle.comp_worlds.specs.Worlds.{core_preamble}
 use Rattle.comp_worlds.specs.declared.encoding.StringEncoding.{StringEncoding}
 use Rattle.comp_worlds.specs.declared.encoding.StringEncoding.TheVariants as encodings
-use Rattle.comp_worlds.specs.declared.wit.AbiVariant.TheVariants.{GuestImport, GuestExport}
-use Rattle.comp_worlds.specs.declared.wit.WorldKey.{WorldKey}
-use Rattle.comp_worlds.specs.declared.wit.WorldKey.TheVariants as keys
-use Rattle.comp_worlds.specs.declared.wit.WorldItem.{WorldItem}
-use Rattle.comp_worlds.specs.declared.wit.WorldItem.TheVariants as world_items
+use Rattle.wit_data.specs.declared.functions.AbiVariant.TheVariants.{GuestImport, GuestExport}
+use Rattle.wit_data.specs.declared.functions.FunctionKind.TheVariants.{Freestanding}
+use Rattle.wit_data.specs.declared.worlds.WorldKey.{WorldKey}
+use Rattle.wit_data.specs.declared.worlds.WorldKey.TheVariants as keys
+use Rattle.wit_data.specs.declared.worlds.WorldItem.{WorldItem}
+use Rattle.wit_data.specs.declared.worlds.WorldItem.TheVariants as world_items
 use Rattle.comp_worlds.specs.declared.metadata.FunctionKey.{FunctionKey}
 use Rattle.comp_worlds.specs.declared.imports.Import.{Import}
 use Rattle.comp_worlds.specs.declared.imports.Import.TheVariants as imports
@@ -43,7 +44,7 @@ use Rattle.comp_encoder.specs.Linking.{outcome, IsLinked}
 
 -- a world of root functions: those that it imports and exports, what main imports, and what main exports
 abbrev entry : List ℕ → WorldKey × WorldItem
-entry name = (keys.Name name, world_items.Function (record { name = name }))
+entry name = (keys.Name name, world_items.Function (record { name = name; kind = Freestanding; params = []; result = None }))
 
 abbrev encoded : List ℕ → FunctionKey × StringEncoding
 encoded name = (record { key = keys.Name name; function = name }, encodings.UTF8)
@@ -57,9 +58,10 @@ group g = (g.0, instances.Names (map imported_as g.1))
 abbrev exported_as : List ℕ × List ℕ → List ℕ × WorldExport
 exported_as e = (e.0, exports.WorldFunc (keys.Name e.1) e.1 GuestExport)
 
-abbrev world_of : (bytes : List ℕ) (imported exported : List (List ℕ)) (groups : List (List ℕ × List (List ℕ × List ℕ))) (core_exports : List (List ℕ × List ℕ)) → ComponentWorld
-world_of bytes imported exported groups core_exports = record {
-  world = record { imports = map entry imported; exports = map entry exported };
+abbrev root_world : (bytes : List ℕ) (imported exported : List (List ℕ)) (groups : List (List ℕ × List (List ℕ × List ℕ))) (core_exports : List (List ℕ × List ℕ)) → ComponentWorld
+root_world bytes imported exported groups core_exports = record {
+  resolve = record { interfaces = []; types = []; worlds = record { imports = map entry imported; exports = map entry exported } ∷ [] };
+  world = record { index = 0 };
   main = record {
     bytes = bytes;
     imports = record { modules = map group groups };
@@ -67,6 +69,7 @@ world_of bytes imported exported groups core_exports = record {
     metadata = record { import_encodings = map encoded imported; export_encodings = map encoded exported };
   };
   main_exports = map keys.Name exported;
+  adapters = [];
 }
 
 -- how a run ended: the core items, the functions, what each user instance was given, the exports, the events
@@ -92,7 +95,7 @@ function_export name address = record { space = spaces.Func; name = name; addres
 
 -- main imports f and exports g
 abbrev one_each : ComponentWorld
-one_each = world_of core (f ∷ []) (g ∷ []) ((root, (f, f) ∷ []) ∷ []) ((g, g) ∷ [])
+one_each = root_world core (f ∷ []) (g ∷ []) ((root, (f, f) ∷ []) ∷ []) ((g, g) ∷ [])
 
 pub one_each_ends : ended (outcome one_each one_import_one_export made) ≡ Some (record {
   core = Lowering 0 [] ∷ OfUser 0 g ∷ [];
@@ -139,7 +142,7 @@ nothing_to_lower = refl
 
 -- the empty module, which imports and exports nothing
 abbrev empty_module : ComponentWorld
-empty_module = world_of core_preamble [] [] [] []
+empty_module = root_world core_preamble [] [] [] []
 
 pub empty_module_ends : ended (outcome empty_module (map defs.Item (items.CoreModule core_preamble ∷ items.CoreInstantiate 0 [] ∷ [])) made) ≡ Some (record {
   core = [];
@@ -164,7 +167,7 @@ abbrev b : List ℕ
 b = 0x62 ∷ []
 
 abbrev two_twice : ComponentWorld
-two_twice = world_of core (f ∷ h ∷ []) (g ∷ k ∷ []) ((a, (f, f) ∷ (h, h) ∷ []) ∷ (b, (h, f) ∷ (f, h) ∷ []) ∷ []) ((k, g) ∷ (g, k) ∷ [])
+two_twice = root_world core (f ∷ h ∷ []) (g ∷ k ∷ []) ((a, (f, f) ∷ (h, h) ∷ []) ∷ (b, (h, f) ∷ (f, h) ∷ []) ∷ []) ((k, g) ∷ (g, k) ∷ [])
 
 abbrev bag : List ℕ → ℕ → List ℕ → ℕ → Item
 bag name index name' index' = items.CoreExports (record { name = name; kind = kinds.Func; index = index } ∷ record { name = name'; kind = kinds.Func; index = index' } ∷ [])
@@ -284,7 +287,7 @@ keeps_the_rules = record {
             record { each = (record { kind = refl; scoped = omega arith }, tt); apart = one_apart f },
             (
               record { main = refl; scoped = omega arith; each = (f_offered, tt) },
-              (record { of = main_made 6 refl; key = g; role = refl }, ((omega arith, refl, function_typed_later), (record { key = keys.Name g; named = refl; lifted = g_lifted }, tt))),
+              (record { of = main_made 6 refl; key = keys.Name g; role = refl }, ((omega arith, refl, function_typed_later), (record { key = keys.Name g; named = refl; lifted = g_lifted }, tt))),
             ),
           ),
         ),

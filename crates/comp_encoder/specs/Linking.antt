@@ -8,9 +8,9 @@ use Rattle.comp_bytes.specs.declared.def.Item.{Item}
 use Rattle.comp_bytes.specs.declared.def.Item.TheVariants as items
 use Rattle.comp_bytes.specs.declared.def.Def.{Def}
 use Rattle.comp_bytes.specs.declared.def.Def.TheVariants as defs
-use Rattle.comp_worlds.specs.Keys.{key_text}
+use Rattle.wit_data.specs.Keys.{name_of_key}
 use Rattle.comp_worlds.specs.Worlds.{CoreImport}
-use Rattle.comp_worlds.specs.declared.wit.WorldKey.{WorldKey}
+use Rattle.wit_data.specs.declared.worlds.WorldKey.{WorldKey}
 use Rattle.comp_worlds.specs.declared.exports.Export.{Export}
 use Rattle.comp_worlds.specs.declared.world.ComponentWorld.{ComponentWorld}
 use Rattle.comp_shims.specs.Targets.{UserModule, Target}
@@ -52,7 +52,7 @@ abbrev pub stated_imports : ComponentWorld → List (List ℕ)
 stated_imports w = used_functions w
 
 abbrev pub stated_exports : ComponentWorld → List (List ℕ)
-stated_exports w = map (λ r. key_text r.1) (required_exports w)
+stated_exports w = map (λ r. name_of_key r.1) (required_exports w)
 
 -- a core module that is none of the user's; none is made for these worlds
 abbrev pub IsGenerated : List ℕ → Type 0
@@ -104,7 +104,7 @@ IsServed w s u m = AllZip (λ thing (i : CoreImport). Meets w s thing (link_of w
 pub record IsProvided (w : ComponentWorld) (m : Machine) (r : UserModule × WorldKey) : Type 0 where
   pub address : ℕ
   pub target : Target
-  pub found : export_of spaces.Func (key_text r.1) m.scope.exports ≡ Some (record { space = spaces.Func; name = key_text r.1; address = address })
+  pub found : export_of spaces.Func (name_of_key r.1) m.scope.exports ≡ Some (record { space = spaces.Func; name = name_of_key r.1; address = address })
   pub said : lift_of w r.0 r.1 ≡ Some target
   pub meets : Meets w m.store (record { space = spaces.Func; address = address }) target
 

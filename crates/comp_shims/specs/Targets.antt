@@ -34,3 +34,5 @@ pub data Target : Type 0 where
   ExportOf : (place : ExportPlace) → Target
   MainMemory : Target
   Lifted : (entry : ExportPlace) (options : List TargetOption) → Target
+  -- of a role that no world has so far: nothing is it
+  Unlinked : Target

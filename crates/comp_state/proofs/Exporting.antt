@@ -14,9 +14,9 @@ use Rattle.comp_bytes.specs.declared.types.Alias.TheVariants as aliases
 use Rattle.comp_bytes.specs.declared.def.Def.{Def}
 use Rattle.comp_bytes.specs.declared.def.Def.TheVariants as defs
 use Rattle.comp_bytes.specs.declared.def.Item.TheVariants as items
-use Rattle.comp_worlds.specs.Keys.{key_text}
+use Rattle.wit_data.specs.Keys.{name_of_key}
 use Rattle.comp_worlds.specs.Worlds.{IsWorld, IsRequired, core_name_of}
-use Rattle.comp_worlds.specs.declared.wit.WorldKey.{WorldKey}
+use Rattle.wit_data.specs.declared.worlds.WorldKey.{WorldKey}
 use Rattle.comp_worlds.specs.declared.world.ComponentWorld.{ComponentWorld}
 use Rattle.comp_state.specs.declared.fault.StateFault.{StateFault}
 use Rattle.comp_state.specs.declared.fault.StateFault.TheVariants as faults
@@ -54,7 +54,7 @@ pub record AddsLift (w : ComponentWorld) (old new : List Def) (index : ℕ) (key
   pub lifted : IsLiftFor w new index key
 
 pub adds_lift : (w : ComponentWorld) (old new : Built) (core kind index : ℕ) (options : List CanonicalOption) (name : List ℕ) (key : WorldKey) → options ≡ [] →
-    IsAliased old.defs core name → IsFunctionType old.defs kind → core_name_of w (key_text key) ≡ Some name → IsSome (export_encoding w key) →
+    IsAliased old.defs core name → IsFunctionType old.defs kind → core_name_of w key ≡ Some name → IsSome (export_encoding w key) →
     new.defs ≡ old.defs ++ defs.Item (items.Lift core options kind) ∷ [] → IsAt new.defs spaces.Func index (defs.Item (items.Lift core options kind)) → AddsLift w old.defs new.defs index key
 adds_lift w old new core kind index options name key none alias type' role encoded appended at =
     let g : Grows w old.defs new.defs [] = Grows-by (defs.Item (items.Lift core options kind)) appended (in_range alias.made, none, type') in
@@ -72,8 +72,8 @@ adds_lift w old new core kind index options name key none alias type' role encod
       };
     }
 
-pub adds_export : (w : ComponentWorld) (old new : Built) (index : ℕ) (name : List ℕ) (key : WorldKey) → name ≡ key_text key → IsLiftFor w old.defs index key →
-    new.defs ≡ old.defs ++ defs.Item (items.Export (plain_name name) sorts.Func index None) ∷ [] → Grows w old.defs new.defs (ExportNamed (key_text key) ∷ [])
+pub adds_export : (w : ComponentWorld) (old new : Built) (index : ℕ) (name : List ℕ) (key : WorldKey) → name ≡ name_of_key key → IsLiftFor w old.defs index key →
+    new.defs ≡ old.defs ++ defs.Item (items.Export (plain_name name) sorts.Func index None) ∷ [] → Grows w old.defs new.defs (ExportNamed (name_of_key key) ∷ [])
 adds_export w old new index name key same lifted appended =
     subst (λ n. Grows w old.defs new.defs (ExportNamed n ∷ [])) same
     (Grows-by (defs.Item (items.Export (plain_name name) sorts.Func index None)) appended (record { key = key; named = ap plain_name same; lifted = lifted }))
@@ -82,26 +82,26 @@ adds_export w old new index name key same lifted appended =
 pub record ExportsSoFar (old new : Encoding) (done : List WorldKey) : Type 0 where
   pub same : new ≡ record old { built = new.built }
   pub extends : Extends old.built new.built
-  pub grows : Grows old.world old.built.defs new.built.defs (map (λ key. ExportNamed (key_text key)) done)
+  pub grows : Grows old.world old.built.defs new.built.defs (map (λ key. ExportNamed (name_of_key key)) done)
   pub encoded : AllByRecursion (λ key. IsSome (export_encoding old.world key)) done
 
 pub exports_start : (old : Encoding) → ExportsSoFar old old []
 exports_start old = record { same = refl; extends = extends_none old.built; grows = Grows-none old.world old.built.defs; encoded = tt }
 
 pub exports_step : (old mid new : Encoding) (keys : List WorldKey) (i : ℕ) (key : WorldKey) → ExportsSoFar old mid (take i keys) → i < length keys → key ≡ get_or keys i key →
-    new ≡ record mid { built = new.built } → Extends mid.built new.built → Grows mid.world mid.built.defs new.built.defs (ExportNamed (key_text key) ∷ []) →
+    new ≡ record mid { built = new.built } → Extends mid.built new.built → Grows mid.world mid.built.defs new.built.defs (ExportNamed (name_of_key key) ∷ []) →
     IsSome (export_encoding mid.world key) → ExportsSoFar old new (take (i + 1) keys)
 exports_step old mid new keys i key h l is same extends grows encoded =
     let world : mid.world ≡ old.world = ap (λ (s : Encoding). s.world) h.same in
     let more : take (i + 1) keys ≡ take i keys ++ key ∷ [] = take_more keys i key l ∙ ap (λ k. take i keys ++ k ∷ []) (sym is) in
-    let marks : map (λ k. ExportNamed (key_text k)) (take (i + 1) keys) ≡ map (λ k. ExportNamed (key_text k)) (take i keys) ++ ExportNamed (key_text key) ∷ [] =
-    map_more (λ k. ExportNamed (key_text k)) keys i key l ∙ ap (λ k. map (λ j. ExportNamed (key_text j)) (take i keys) ++ ExportNamed (key_text k) ∷ []) (sym is) in
+    let marks : map (λ k. ExportNamed (name_of_key k)) (take (i + 1) keys) ≡ map (λ k. ExportNamed (name_of_key k)) (take i keys) ++ ExportNamed (name_of_key key) ∷ [] =
+    map_more (λ k. ExportNamed (name_of_key k)) keys i key l ∙ ap (λ k. map (λ j. ExportNamed (name_of_key j)) (take i keys) ++ ExportNamed (name_of_key k) ∷ []) (sym is) in
     record {
       same = same ∙ ap (λ (s : Encoding). record s { built = new.built }) h.same;
       extends = extends_then old.built mid.built new.built h.extends extends;
       grows =
           subst (λ m. Grows old.world old.built.defs new.built.defs m) (sym marks)
-          (Grows-then h.grows (subst (λ w. Grows w mid.built.defs new.built.defs (ExportNamed (key_text key) ∷ [])) world grows));
+          (Grows-then h.grows (subst (λ w. Grows w mid.built.defs new.built.defs (ExportNamed (name_of_key key) ∷ [])) world grows));
       encoded =
           subst (λ ks. AllByRecursion (λ k. IsSome (export_encoding old.world k)) ks) (sym more)
           (AllByRecursion-push (λ k. IsSome (export_encoding old.world k)) (take i keys) key h.encoded (subst (λ w. IsSome (export_encoding w key)) world encoded));
@@ -112,7 +112,7 @@ pub exports_done : (old new : Encoding) (keys : List WorldKey) (i : ℕ) → len
 exports_done old new keys i e h = subst (λ ks. ExportsSoFar old new ks) (take_all i keys (omega (arith, e))) h
 
 -- a required key stands in main
-pub key_stands : (w : ComponentWorld) (keys : List WorldKey) → IsWorld w → keys ≡ w.main_exports → (i : ℕ) (key : WorldKey) → i < length keys → key ≡ get_or keys i key → IsSome (core_name_of w (key_text key))
+pub key_stands : (w : ComponentWorld) (keys : List WorldKey) → IsWorld w → keys ≡ w.main_exports → (i : ℕ) (key : WorldKey) → i < length keys → key ≡ get_or keys i key → IsSome (core_name_of w key)
 key_stands w keys valid same i key l is =
     let all : AllByRecursion (IsRequired w) keys = subst (λ ks. AllByRecursion (IsRequired w) ks) (sym same) valid.required in
     let one : IsRequired w key = AllByRecursion-at (IsRequired w) keys i key all l (sym is) in one.stands

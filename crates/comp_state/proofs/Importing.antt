@@ -5,20 +5,23 @@ use Rattle.std.specs.Str.{bytes_eq}
 use Rattle.std.specs.List.{AllByRecursion, flat_map, list_any}
 use Rattle.comp_lists.specs.Found.{found}
 use Rattle.comp_lists.specs.Tables.{with_first}
-use Rattle.comp_lists.proofs.Lists.{AllByRecursion-front, AllByRecursion-back, AllByRecursion-contains, AllByRecursion-weaker}
+use Rattle.std.proofs.lemmas.Grind.{flat_map-append}
+use Rattle.comp_lists.proofs.Lists.{AllByRecursion-contains, AllByRecursion-weaker}
 use Rattle.comp_lists.proofs.Lookups.{IsSome-found-append, found-pushed}
-use Rattle.comp_worlds.specs.Keys.{key_text}
-use Rattle.comp_worlds.specs.Worlds.{CoreImport, fields_of, imports_from, imported_text, IsImportRole, IsWorld}
-use Rattle.comp_worlds.specs.declared.wit.WorldKey.{WorldKey}
-use Rattle.comp_worlds.specs.declared.wit.WorldItem.{WorldItem}
+use Rattle.comp_worlds.specs.Worlds.{world_of, root_function, imported_functions, imported_name, IsImportRole, IsImportGroup, IsWorld}
+use Rattle.wit_data.specs.declared.worlds.WorldKey.{WorldKey}
+use Rattle.wit_data.specs.declared.worlds.WorldItem.{WorldItem}
 use Rattle.comp_worlds.specs.declared.imports.Import.{Import}
 use Rattle.comp_worlds.specs.declared.imports.Import.TheVariants as imports
+use Rattle.wit_data.specs.declared.worlds.WorldKey.TheVariants as keys
 use Rattle.comp_worlds.specs.declared.imports.ImportInstance.{ImportInstance}
+use Rattle.comp_worlds.specs.declared.imports.ImportInstance.TheVariants as instances
 use Rattle.comp_worlds.specs.declared.world.ComponentWorld.{ComponentWorld}
 use Rattle.comp_state.specs.Encoding.{Encoding, Extends, FindsMore, FindsUsed}
-use Rattle.comp_state.specs.Roles.{is_any_import, uses_from, is_used}
+use Rattle.comp_state.specs.Roles.{is_named, is_any_import, uses_from, is_used}
 use Rattle.comp_state.specs.Rules.{Grows, ImportNamed, names_marked, imports_marked}
 use Rattle.comp_state.proofs.Extending.{extends_none, extends_then}
+use Rattle.comp_state.proofs.Serving.{AllByRecursion-join}
 use Rattle.comp_state.proofs.Growth.{Grows-none, Grows-then, found_first}
 
 -- adding an entry loses none
@@ -30,28 +33,30 @@ pub finds_added : (names : List (List ℕ × ℕ)) (k : List ℕ) (v : ℕ) → 
 finds_added names k v = subst (λ o. IsSome o) (sym (found_first k k v names)) (found-pushed k v names)
 
 abbrev Stands : ComponentWorld → List ℕ → Type 0
-Stands w text = Contains (map (λ e. key_text e.0) w.world.imports) text
+Stands w text = Contains (imported_functions w) text
 
-role_stands : (w : ComponentWorld) (text : List ℕ) (role : Import) → text ≡ imported_text role → IsImportRole w role → Stands w text
-role_stands w text (imports.WorldFunc key function abi) same h = subst (Stands w) (sym same) h.0
+role_stands : (w : ComponentWorld) (text : List ℕ) (role : Import) → is_named text (imported_name role) ≡ true → IsImportRole w role → Stands w text
+role_stands w text (imports.WorldFunc (keys.Name name) function abi) same h = subst (Stands w) (sym ((bytes_eq-Decides text name).0 same)) h.0
+role_stands w text role same h = absurd h
 
-field_stands : (w : ComponentWorld) (text name : List ℕ) (fs : List (List ℕ × Import)) →
-    AllByRecursion (λ (i : CoreImport). IsImportRole w i.role) (map (λ f. record { module_name = name; field = f.0; role = f.1 }) fs) → is_any_import text fs ≡ true → Stands w text
-field_stands w text name [] h e = cc
-field_stands w text name (f ∷ fs) h e = by (bytes_eq text (imported_text f.1)) refl e (field_stands w text name fs h.1)
+field_stands : (w : ComponentWorld) (text : List ℕ) (fs : List (List ℕ × Import)) → AllByRecursion (λ f. IsImportRole w f.1) fs → is_any_import text fs ≡ true → Stands w text
+field_stands w text [] h e = cc
+field_stands w text (f ∷ fs) h e = by (is_named text (imported_name f.1)) refl e (field_stands w text fs h.1)
   where
-    by : (b : Bool) → bytes_eq text (imported_text f.1) ≡ b → (b || is_any_import text fs) ≡ true → (is_any_import text fs ≡ true → Stands w text) → Stands w text
-    by true same u rest = role_stands w text f.1 ((bytes_eq-Decides text (imported_text f.1)).0 same) h.0
+    by : (b : Bool) → is_named text (imported_name f.1) ≡ b → (b || is_any_import text fs) ≡ true → (is_any_import text fs ≡ true → Stands w text) → Stands w text
+    by true same u rest = role_stands w text f.1 same h.0
     by false apart u rest = rest u
 
-group_stands : (w : ComponentWorld) (text : List ℕ) (groups : List (List ℕ × ImportInstance)) →
-    AllByRecursion (λ (i : CoreImport). IsImportRole w i.role) (flat_map imports_from groups) → list_any (uses_from text) groups ≡ true → Stands w text
+one_stands : (w : ComponentWorld) (text : List ℕ) (g : List ℕ × ImportInstance) → IsImportGroup w g → uses_from text g ≡ true → Stands w text
+one_stands w text (name, instances.Names fields) h e = field_stands w text fields h.1 e
+one_stands w text (name, instances.Whole which) h e = absurd h
+
+group_stands : (w : ComponentWorld) (text : List ℕ) (groups : List (List ℕ × ImportInstance)) → AllByRecursion (IsImportGroup w) groups → list_any (uses_from text) groups ≡ true → Stands w text
 group_stands w text [] h e = cc
-group_stands w text (g ∷ gs) h e =
-    by (uses_from text g) refl e (group_stands w text gs (AllByRecursion-back (λ (i : CoreImport). IsImportRole w i.role) (imports_from g) (flat_map imports_from gs) h))
+group_stands w text (g ∷ gs) h e = by (uses_from text g) refl e (group_stands w text gs h.1)
   where
     by : (b : Bool) → uses_from text g ≡ b → (b || list_any (uses_from text) gs) ≡ true → (list_any (uses_from text) gs ≡ true → Stands w text) → Stands w text
-    by true here u rest = field_stands w text g.0 (fields_of g.1) (AllByRecursion-front (λ (i : CoreImport). IsImportRole w i.role) (imports_from g) (flat_map imports_from gs) h) here
+    by true here u rest = one_stands w text g h.0 here
     by false apart u rest = rest u
 
 -- a root function that an import of main is, is one that the world imports
@@ -61,13 +66,13 @@ used_stands w valid text u = group_stands w text w.main.imports.modules valid.im
 -- the keys that were looked at so far, and what was made for them
 pub record ImportsSoFar (old new : Encoding) (rest : List (WorldKey × WorldItem)) : Type 0 where
   pub done : List (WorldKey × WorldItem)
-  pub split : done ++ rest ≡ old.world.world.imports
+  pub split : done ++ rest ≡ (world_of old.world).imports
   pub same : new ≡ record old { built = new.built; functions = new.functions }
   pub extends : Extends old.built new.built
-  pub grows : Grows old.world old.built.defs new.built.defs (names_marked old.world (map (λ e. key_text e.0) done))
-  pub finds : AllByRecursion (λ t. IsTrue (is_used old.world t) → IsSome (found t new.functions)) (map (λ e. key_text e.0) done)
+  pub grows : Grows old.world old.built.defs new.built.defs (names_marked old.world (flat_map root_function done))
+  pub finds : AllByRecursion (λ t. IsTrue (is_used old.world t) → IsSome (found t new.functions)) (flat_map root_function done)
 
-pub imports_start : (old : Encoding) → ImportsSoFar old old old.world.world.imports
+pub imports_start : (old : Encoding) → ImportsSoFar old old (world_of old.world).imports
 imports_start old = record {
   done = [];
   split = refl;
@@ -77,27 +82,32 @@ imports_start old = record {
   finds = tt;
 }
 
-marked_push : (w : ComponentWorld) (done : List (WorldKey × WorldItem)) (e : WorldKey × WorldItem) →
-    names_marked w (map (λ e. key_text e.0) (done ++ e ∷ [])) ≡ names_marked w (map (λ e. key_text e.0) done) ++ names_marked w (key_text e.0 ∷ [])
-marked_push w [] e = refl
-marked_push w (d ∷ ds) e = by (is_used w (key_text d.0)) (marked_push w ds e)
+used_push : (w : ComponentWorld) (names more : List (List ℕ)) → names_marked w (names ++ more) ≡ names_marked w names ++ names_marked w more
+used_push w [] more = refl
+used_push w (n ∷ ns) more = by (is_used w n) (used_push w ns more)
   where
-    by : (b : Bool) → names_marked w (map (λ e. key_text e.0) (ds ++ e ∷ [])) ≡ names_marked w (map (λ e. key_text e.0) ds) ++ names_marked w (key_text e.0 ∷ []) →
-        map ImportNamed (if b then key_text d.0 ∷ filter (is_used w) (map (λ e. key_text e.0) (ds ++ e ∷ [])) else filter (is_used w) (map (λ e. key_text e.0) (ds ++ e ∷ [])))
-        ≡ map ImportNamed (if b then key_text d.0 ∷ filter (is_used w) (map (λ e. key_text e.0) ds) else filter (is_used w) (map (λ e. key_text e.0) ds)) ++ names_marked w (key_text e.0 ∷ [])
-    by true h = ap (λ l. ImportNamed (key_text d.0) ∷ l) h
+    by : (b : Bool) → names_marked w (ns ++ more) ≡ names_marked w ns ++ names_marked w more →
+        map ImportNamed (if b then n ∷ filter (is_used w) (ns ++ more) else filter (is_used w) (ns ++ more))
+        ≡ map ImportNamed (if b then n ∷ filter (is_used w) ns else filter (is_used w) ns) ++ names_marked w more
+    by true h = ap (λ l. ImportNamed n ∷ l) h
     by false h = h
 
-finds_push : (w : ComponentWorld) (done : List (WorldKey × WorldItem)) (e : WorldKey × WorldItem) (P : List ℕ → Type 0) →
-    AllByRecursion P (map (λ e. key_text e.0) done) → P (key_text e.0) → AllByRecursion P (map (λ e. key_text e.0) (done ++ e ∷ []))
-finds_push w [] e P h k = (k, tt)
-finds_push w (d ∷ ds) e P h k = (h.0, finds_push w ds e P h.1 k)
+functions_push : (done : List (WorldKey × WorldItem)) (e : WorldKey × WorldItem) → flat_map root_function (done ++ e ∷ []) ≡ flat_map root_function done ++ root_function e
+functions_push done e = flat_map-append root_function done (e ∷ []) ∙ ap (λ l. flat_map root_function done ++ l) (append-nil (root_function e))
 
--- one key more
+marked_push : (w : ComponentWorld) (done : List (WorldKey × WorldItem)) (e : WorldKey × WorldItem) →
+    names_marked w (flat_map root_function (done ++ e ∷ [])) ≡ names_marked w (flat_map root_function done) ++ names_marked w (root_function e)
+marked_push w done e = ap (names_marked w) (functions_push done e) ∙ used_push w (flat_map root_function done) (root_function e)
+
+finds_push : (done : List (WorldKey × WorldItem)) (e : WorldKey × WorldItem) (P : List ℕ → Type 0) →
+    AllByRecursion P (flat_map root_function done) → AllByRecursion P (root_function e) → AllByRecursion P (flat_map root_function (done ++ e ∷ []))
+finds_push done e P h k = subst (λ ns. AllByRecursion P ns) (sym (functions_push done e)) (AllByRecursion-join P (flat_map root_function done) (root_function e) h k)
+
+-- one item more, whose function was imported where it is used
 pub imports_step : (old mid new : Encoding) (e : WorldKey × WorldItem) (rest : List (WorldKey × WorldItem)) → ImportsSoFar old mid (e ∷ rest) →
     new ≡ record mid { built = new.built; functions = new.functions } → Extends mid.built new.built →
-    Grows mid.world mid.built.defs new.built.defs (names_marked mid.world (key_text e.0 ∷ [])) → FindsMore mid.functions new.functions →
-    (IsTrue (is_used mid.world (key_text e.0)) → IsSome (found (key_text e.0) new.functions)) → ImportsSoFar old new rest
+    Grows mid.world mid.built.defs new.built.defs (names_marked mid.world (root_function e)) → FindsMore mid.functions new.functions →
+    AllByRecursion (λ t. IsTrue (is_used mid.world t) → IsSome (found t new.functions)) (root_function e) → ImportsSoFar old new rest
 imports_step old mid new e rest h same extends grows more here =
     let world : mid.world ≡ old.world = ap (λ (s : Encoding). s.world) h.same in
     record {
@@ -107,24 +117,24 @@ imports_step old mid new e rest h same extends grows more here =
       extends = extends_then old.built mid.built new.built h.extends extends;
       grows =
           subst (λ m. Grows old.world old.built.defs new.built.defs m) (sym (marked_push old.world h.done e))
-          (Grows-then h.grows (subst (λ w. Grows w mid.built.defs new.built.defs (names_marked w (key_text e.0 ∷ []))) world grows));
+          (Grows-then h.grows (subst (λ w. Grows w mid.built.defs new.built.defs (names_marked w (root_function e))) world grows));
       finds =
-          finds_push old.world h.done e (λ t. IsTrue (is_used old.world t) → IsSome (found t new.functions))
-          (AllByRecursion-weaker (λ t k u. more.each t (k u)) (map (λ e. key_text e.0) h.done) h.finds)
-          (subst (λ w. IsTrue (is_used w (key_text e.0)) → IsSome (found (key_text e.0) new.functions)) world here);
+          finds_push h.done e (λ t. IsTrue (is_used old.world t) → IsSome (found t new.functions))
+          (AllByRecursion-weaker (λ t k u. more.each t (k u)) (flat_map root_function h.done) h.finds)
+          (subst (λ w. AllByRecursion (λ t. IsTrue (is_used w t) → IsSome (found t new.functions)) (root_function e)) world here);
     }
 
 -- no key is left
 pub imports_marks : (old new : Encoding) → ImportsSoFar old new [] → Grows old.world old.built.defs new.built.defs (imports_marked old.world)
 imports_marks old new h =
-    let all : h.done ≡ old.world.world.imports = sym (append-nil h.done) ∙ h.split in
-    subst (λ es. Grows old.world old.built.defs new.built.defs (names_marked old.world (map (λ e. key_text e.0) es))) all h.grows
+    let all : h.done ≡ (world_of old.world).imports = sym (append-nil h.done) ∙ h.split in
+    subst (λ es. Grows old.world old.built.defs new.built.defs (names_marked old.world (flat_map root_function es))) all h.grows
 
 pub imports_found : (old new : Encoding) → IsWorld old.world → ImportsSoFar old new [] → FindsUsed old.world new.functions
 imports_found old new valid h = record {
   each = λ t u.
-      let all : h.done ≡ old.world.world.imports = sym (append-nil h.done) ∙ h.split in
+      let all : h.done ≡ (world_of old.world).imports = sym (append-nil h.done) ∙ h.split in
       let P : List ℕ → Type 0 = λ t. IsTrue (is_used old.world t) → IsSome (found t new.functions) in
-      let finds : AllByRecursion P (map (λ e. key_text e.0) old.world.world.imports) = subst (λ es. AllByRecursion P (map (λ e. key_text e.0) es)) all h.finds in
-      AllByRecursion-contains P (map (λ e. key_text e.0) old.world.world.imports) t finds (used_stands old.world valid t u) u;
+      let finds : AllByRecursion P (flat_map root_function (world_of old.world).imports) = subst (λ es. AllByRecursion P (flat_map root_function es)) all h.finds in
+      AllByRecursion-contains P (flat_map root_function (world_of old.world).imports) t finds (used_stands old.world valid t u) u;
 }

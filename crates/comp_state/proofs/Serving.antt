@@ -26,16 +26,19 @@ use Rattle.comp_bytes.specs.declared.types.Description.{Description}
 use Rattle.comp_bytes.specs.declared.types.Description.TheVariants as descriptions
 use Rattle.comp_bytes.specs.Places.{IsAt, in_space}
 use Rattle.comp_bytes.specs.Spaces.{items_in, is_space, space_of, sort_space, alias_space, description_space}
-use Rattle.comp_worlds.specs.Worlds.{CoreImport, imports_from, fields_of, imported_text}
+use Rattle.comp_worlds.specs.Worlds.{CoreImport, imports_from, fields_of, imported_name, IsImportRole, IsImportGroup, IsWorld}
 use Rattle.comp_worlds.specs.declared.imports.Import.{Import}
+use Rattle.comp_worlds.specs.declared.imports.Import.TheVariants as imports
+use Rattle.wit_data.specs.declared.worlds.WorldKey.TheVariants as keys
 use Rattle.comp_worlds.specs.declared.imports.ImportInstance.{ImportInstance}
+use Rattle.comp_worlds.specs.declared.imports.ImportInstance.TheVariants as instances
 use Rattle.comp_worlds.specs.declared.world.ComponentWorld.{ComponentWorld}
-use Rattle.comp_state.specs.Encoding.{Encoding, Extends, FindsFields, FindsUsed}
+use Rattle.comp_state.specs.Encoding.{Encoding, Extends, FindsRole, FindsFields, FindsGroup, FindsUsed}
 use Rattle.comp_state.specs.Causes.{IsFieldsRefusal, IsCause}
 use Rattle.comp_state.specs.declared.fault.StateFault.{StateFault}
 use Rattle.comp_state.specs.declared.fault.StateFault.TheVariants as faults
 use Rattle.comp_state.specs.Facts.{IsEntryFor, IsArgumentFor}
-use Rattle.comp_state.specs.Roles.{import_encoding, is_any_import, uses_from}
+use Rattle.comp_state.specs.Roles.{import_encoding, is_named, is_any_import, uses_from}
 use Rattle.comp_state.specs.Rules.{Grows, ImportNamed, landmarks}
 use Rattle.comp_state.proofs.Extending.{extends_none, extends_then}
 use Rattle.comp_state.proofs.Growth.{Grows-none, Grows-by, Grows-then, IsEntryFor-kept, IsArgumentFor-kept, entries_in_range}
@@ -103,9 +106,9 @@ pub record GroupsSoFar (old new : Encoding) (arguments : List CoreArgument) (all
   pub extends : Extends old.built new.built
   pub grows : Grows old.world old.built.defs new.built.defs []
   pub serves : AllZip (IsArgumentFor old.world new.built.defs) arguments done
-  pub finds : AllByRecursion (λ g. FindsFields old.functions (fields_of g.1)) rest
+  pub finds : AllByRecursion (λ g. FindsGroup old.functions g.1) rest
 
-pub groups_start : (old : Encoding) (all : List (List ℕ × ImportInstance)) → AllByRecursion (λ g. FindsFields old.functions (fields_of g.1)) all → GroupsSoFar old old [] all all
+pub groups_start : (old : Encoding) (all : List (List ℕ × ImportInstance)) → AllByRecursion (λ g. FindsGroup old.functions g.1) all → GroupsSoFar old old [] all all
 groups_start old all finds = record {
   done = [];
   split = refl;
@@ -151,19 +154,32 @@ serve_group w mid new index entries name group each apart appended at named =
       serves = record { named = named; serves = record { entries = entries; made = at; each = AllZip-weaker (λ x y. IsEntryFor-kept g) entries (fields_of group.1) each } };
     }
 
-finds_fields : (functions : List (List ℕ × ℕ)) (fs : List (List ℕ × Import)) → ((t : List ℕ) → is_any_import t fs ≡ true → IsSome (found t functions)) → FindsFields functions fs
-finds_fields functions [] h = tt
-finds_fields functions (f ∷ fs) h =
-    (h (imported_text f.1) (rw ((bytes_eq-Decides (imported_text f.1) (imported_text f.1)).1 refl) refl), finds_fields functions fs (λ t e. h t (later t (bytes_eq t (imported_text f.1)) e)))
+-- what a world's import is for has a name
+role_named : (w : ComponentWorld) (functions : List (List ℕ × ℕ)) (role : Import) → IsImportRole w role → ((t : List ℕ) → is_named t (imported_name role) ≡ true → IsSome (found t functions)) → FindsRole functions role
+role_named w functions (imports.WorldFunc (keys.Name name) function abi) h k = k name ((bytes_eq-Decides name name).1 refl)
+role_named w functions role h k = absurd h
+
+finds_fields : (w : ComponentWorld) (functions : List (List ℕ × ℕ)) (fs : List (List ℕ × Import)) → AllByRecursion (λ f. IsImportRole w f.1) fs → ((t : List ℕ) → is_any_import t fs ≡ true → IsSome (found t functions)) → FindsFields functions fs
+finds_fields w functions [] roles h = tt
+finds_fields w functions (f ∷ fs) roles h =
+    (role_named w functions f.1 roles.0 (λ t e. h t (here t (is_named t (imported_name f.1)) e)), finds_fields w functions fs roles.1 (λ t e. h t (later t (is_named t (imported_name f.1)) e)))
   where
+    here : (t : List ℕ) (b : Bool) → b ≡ true → (b || is_any_import t fs) ≡ true
+    here t true e = refl
+    here t false e = cc
+
     later : (t : List ℕ) (b : Bool) → is_any_import t fs ≡ true → (b || is_any_import t fs) ≡ true
     later t true e = refl
     later t false e = e
 
-finds_all : (functions : List (List ℕ × ℕ)) (gs : List (List ℕ × ImportInstance)) → ((t : List ℕ) → list_any (uses_from t) gs ≡ true → IsSome (found t functions)) →
-    AllByRecursion (λ g. FindsFields functions (fields_of g.1)) gs
-finds_all functions [] h = tt
-finds_all functions (g ∷ gs) h = (finds_fields functions (fields_of g.1) (λ t e. h t (here t (uses_from t g) e)), finds_all functions gs (λ t e. h t (later t (uses_from t g) e)))
+finds_group : (w : ComponentWorld) (functions : List (List ℕ × ℕ)) (g : List ℕ × ImportInstance) → IsImportGroup w g → ((t : List ℕ) → uses_from t g ≡ true → IsSome (found t functions)) → FindsGroup functions g.1
+finds_group w functions (name, instances.Names fields) valid h = finds_fields w functions fields valid.1 h
+finds_group w functions (name, instances.Whole which) valid h = absurd valid
+
+finds_all : (w : ComponentWorld) (functions : List (List ℕ × ℕ)) (gs : List (List ℕ × ImportInstance)) → AllByRecursion (IsImportGroup w) gs → ((t : List ℕ) → list_any (uses_from t) gs ≡ true → IsSome (found t functions)) →
+    AllByRecursion (λ g. FindsGroup functions g.1) gs
+finds_all w functions [] valid h = tt
+finds_all w functions (g ∷ gs) valid h = (finds_group w functions g valid.0 (λ t e. h t (here t (uses_from t g) e)), finds_all w functions gs valid.1 (λ t e. h t (later t (uses_from t g) e)))
   where
     here : (t : List ℕ) (b : Bool) → b ≡ true → (b || list_any (uses_from t) gs) ≡ true
     here t true e = refl
@@ -174,8 +190,8 @@ finds_all functions (g ∷ gs) h = (finds_fields functions (fields_of g.1) (λ t
     later t false e = e
 
 -- where each used function is found, those of each module are
-pub finds_groups : (w : ComponentWorld) (functions : List (List ℕ × ℕ)) → FindsUsed w functions → AllByRecursion (λ g. FindsFields functions (fields_of g.1)) w.main.imports.modules
-finds_groups w functions h = finds_all functions w.main.imports.modules h.each
+pub finds_groups : (w : ComponentWorld) (functions : List (List ℕ × ℕ)) → IsWorld w → FindsUsed w functions → AllByRecursion (λ g. FindsGroup functions g.1) w.main.imports.modules
+finds_groups w functions valid h = finds_all w functions w.main.imports.modules valid.import_roles h.each
 
 -- what is known of an error that is handed on
 pub handed_on : {T E : Type 0} (r : Result T E) (e : E) (Q : E → Type 0) → IsErrAnd r (λ y. y ≡ e) → Q e → IfErr r Q
@@ -255,7 +271,7 @@ fields_encoded w ds name (e ∷ es) (f ∷ fs) h = (h.0.encoded, fields_encoded 
 fields_encoded w ds name [] (f ∷ fs) h = absurd h
 fields_encoded w ds name (e ∷ es) [] h = absurd h
 
-AllByRecursion-join : {X : Type 0} (P : X → Type 0) (xs ys : List X) → AllByRecursion P xs → AllByRecursion P ys → AllByRecursion P (xs ++ ys)
+pub AllByRecursion-join : {X : Type 0} (P : X → Type 0) (xs ys : List X) → AllByRecursion P xs → AllByRecursion P ys → AllByRecursion P (xs ++ ys)
 AllByRecursion-join P [] ys h k = k
 AllByRecursion-join P (x ∷ xs) ys h k = (h.0, AllByRecursion-join P xs ys h.1 k)
 

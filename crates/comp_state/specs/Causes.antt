@@ -2,9 +2,9 @@
 -- (Canonical ABI: `string-encoding`), and where a count passes 32 bits (core standard, binary format: vectors).
 use Rattle.std.specs.Prelude.{◌≡◌, ◌≤◌, ◌^◌, ◌⊎◌, ℕ, List, None, Contains, IsSome}
 use Rattle.std.specs.List.{AllByRecursion}
-use Rattle.comp_worlds.specs.Keys.{key_text}
+use Rattle.wit_data.specs.Keys.{name_of_key}
 use Rattle.comp_worlds.specs.Worlds.{CoreImport, core_imports}
-use Rattle.comp_worlds.specs.declared.wit.WorldKey.{WorldKey}
+use Rattle.wit_data.specs.declared.worlds.WorldKey.{WorldKey}
 use Rattle.comp_worlds.specs.declared.imports.Import.{Import}
 use Rattle.comp_worlds.specs.declared.world.ComponentWorld.{ComponentWorld}
 use Rattle.comp_bytes.specs.declared.fault.BuildFault.{BuildFault}
@@ -30,7 +30,7 @@ pub record LacksExportEncoding (w : ComponentWorld) (place : List ℕ) : Type 0 
   pub key : WorldKey
   pub stands : Contains w.main_exports key
   pub none : export_encoding w key ≡ None
-  pub at : place ≡ key_text key
+  pub at : place ≡ name_of_key key
 
 abbrev pub LacksEncoding : ComponentWorld → List ℕ → Type 0
 LacksEncoding w place = LacksImportEncoding w place ⊎ LacksExportEncoding w place
@@ -68,7 +68,7 @@ IsFieldsRefusal w module_name fields (faults.TooMany excess) = 2 ^ 32 ≤ excess
 -- what makes the refusal of one required export right
 abbrev pub IsExportRefusal : ComponentWorld → WorldKey → StateFault → Type 0
 IsExportRefusal w key faults.Memory = Unit {0}
-IsExportRefusal w key (faults.NoEncoding place) = (place ≡ key_text key) × (export_encoding w key ≡ None)
+IsExportRefusal w key (faults.NoEncoding place) = (place ≡ name_of_key key) × (export_encoding w key ≡ None)
 IsExportRefusal w key (faults.TooMany excess) = 2 ^ 32 ≤ excess
 
 -- each core import and each required export has a string encoding

@@ -1,13 +1,17 @@
 -- What contracts see of a state of encoding. (The rules are this project's own: the standard speaks of
 -- components, not of how they are made.)
-use Rattle.std.specs.Prelude.{◌≡◌, ◌++◌, ℕ, List, Option, Some, IsSome, IsTrue}
+use Rattle.std.specs.Prelude.{◌≡◌, ◌++◌, ℕ, List, Option, Some, None, IsSome, IsTrue}
 use Rattle.std.specs.List.{AllByRecursion}
 use Rattle.comp_lists.specs.Found.{found}
 use Rattle.comp_builder.specs.Built.{Built}
 use Rattle.comp_bytes.specs.declared.def.Def.{Def}
 use Rattle.comp_bytes.specs.declared.name.Name.{Name}
-use Rattle.comp_worlds.specs.Worlds.{IsWorld, imported_text, core_name_of}
+use Rattle.comp_worlds.specs.Worlds.{IsWorld, imported_name, core_name_of}
+use Rattle.wit_data.specs.declared.worlds.WorldKey.{WorldKey}
+use Rattle.wit_data.specs.declared.worlds.WorldKey.TheVariants as keys
 use Rattle.comp_worlds.specs.declared.imports.Import.{Import}
+use Rattle.comp_worlds.specs.declared.imports.ImportInstance.{ImportInstance}
+use Rattle.comp_worlds.specs.declared.imports.ImportInstance.TheVariants as instances
 use Rattle.comp_worlds.specs.declared.world.ComponentWorld.{ComponentWorld}
 use Rattle.comp_state.specs.Facts.{IsFunctionType, IsImported, IsAliased, IsMain}
 use Rattle.comp_state.specs.Roles.{is_used}
@@ -25,7 +29,7 @@ pub record IsEncoding (w : ComponentWorld) (ds : List Def) (function_type : Opti
   pub typed : (index : ℕ) → function_type ≡ Some index → IsFunctionType ds index
   pub imported : (text : List ℕ) (index : ℕ) → found text functions ≡ Some index → IsImported ds index text
   pub aliased : (name : List ℕ) (index : ℕ) → found name aliases ≡ Some index → IsAliased ds index name
-  pub named : (text : List ℕ) → found text core_names ≡ core_name_of w text
+  pub named : (text : List ℕ) → found text core_names ≡ core_name_of w (keys.Name text)
   pub made : (index : ℕ) → main ≡ Some index → IsMain ds index
 
 -- definitions and debug names only grew at their ends
@@ -43,11 +47,23 @@ pub record FindsMore (old new : List (List ℕ × ℕ)) : Type 0 where
 pub record FindsUsed (w : ComponentWorld) (functions : List (List ℕ × ℕ)) : Type 0 where
   pub each : (text : List ℕ) → IsTrue (is_used w text) → IsSome (found text functions)
 
--- each root function that one of these fields is was imported
+-- the role is a root function that was imported
+abbrev pub FindsNamed : List (List ℕ × ℕ) → Option (List ℕ) → Type 0
+FindsNamed functions None = ⊥
+FindsNamed functions (Some name) = IsSome (found name functions)
+
+abbrev pub FindsRole : List (List ℕ × ℕ) → Import → Type 0
+FindsRole functions role = FindsNamed functions (imported_name role)
+
+-- each of these fields is a root function that was imported
 abbrev pub FindsFields : List (List ℕ × ℕ) → List (List ℕ × Import) → Type 0
-FindsFields functions fields = AllByRecursion (λ f. IsSome (found (imported_text f.1) functions)) fields
+FindsFields functions fields = AllByRecursion (λ f. FindsRole functions f.1) fields
+
+abbrev pub FindsGroup : List (List ℕ × ℕ) → ImportInstance → Type 0
+FindsGroup functions (instances.Names fields) = FindsFields functions fields
+FindsGroup functions (instances.Whole which) = ⊥
 
 -- some root function is the core export of this name
 pub record IsOffered (w : ComponentWorld) (name : List ℕ) : Type 0 where
-  pub function : List ℕ
+  pub function : WorldKey
   pub role : core_name_of w function ≡ Some name

@@ -3,13 +3,13 @@
 -- export is for, and nothing else.
 use Rattle.std.specs.Prelude.{List, [], Option, None}
 use Rattle.std.specs.Option.{option_map}
-use Rattle.comp_worlds.specs.Keys.{key_text}
 use Rattle.comp_worlds.specs.Worlds.{core_name_of}
-use Rattle.comp_worlds.specs.declared.wit.WorldKey.{WorldKey}
+use Rattle.wit_data.specs.declared.worlds.WorldKey.{WorldKey}
+use Rattle.wit_data.specs.declared.worlds.WorldKey.TheVariants as keys
 use Rattle.comp_worlds.specs.declared.imports.Import.{Import}
 use Rattle.comp_worlds.specs.declared.imports.Import.TheVariants as imports
 use Rattle.comp_worlds.specs.declared.world.ComponentWorld.{ComponentWorld}
-use Rattle.comp_shims.specs.Targets.{UserModule, Main, Adapter, TargetOption, Target, OfRoot, Lowered, Lifted}
+use Rattle.comp_shims.specs.Targets.{UserModule, Main, Adapter, TargetOption, Target, OfRoot, Lowered, Lifted, Unlinked}
 
 -- the options with which a function is lowered, or lifted: where it has no parameter and no result, it
 -- needs no memory, no realloc and no encoding
@@ -21,9 +21,10 @@ lift_options w m key = []
 
 -- what an import of a user module is to be given: a root function is lowered
 abbrev pub link_of : ComponentWorld → UserModule → Import → Target
-link_of w m (imports.WorldFunc key function abi) = Lowered (OfRoot (key_text key)) (lower_options w m key)
+link_of w m (imports.WorldFunc (keys.Name text) function abi) = Lowered (OfRoot text) (lower_options w m (keys.Name text))
+link_of w m role = Unlinked
 
 -- what the root function of this key is to be lifted from: the core export that is for it
 abbrev pub lift_of : ComponentWorld → UserModule → WorldKey → Option Target
-lift_of w Main key = option_map (λ name. Lifted (record { of = Main; name = name }) (lift_options w Main key)) (core_name_of w (key_text key))
+lift_of w Main key = option_map (λ name. Lifted (record { of = Main; name = name }) (lift_options w Main key)) (core_name_of w key)
 lift_of w (Adapter name) key = None

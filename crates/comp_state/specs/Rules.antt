@@ -21,9 +21,9 @@ use Rattle.comp_bytes.specs.declared.def.Item.{Item}
 use Rattle.comp_bytes.specs.declared.def.Item.TheVariants as items
 use Rattle.comp_bytes.specs.declared.def.Def.{Def}
 use Rattle.comp_bytes.specs.declared.def.Def.TheVariants as defs
-use Rattle.comp_worlds.specs.Keys.{key_text}
+use Rattle.wit_data.specs.Keys.{name_of_key}
 use Rattle.comp_worlds.specs.Worlds.{core_name_of}
-use Rattle.comp_worlds.specs.declared.wit.WorldKey.{WorldKey}
+use Rattle.wit_data.specs.declared.worlds.WorldKey.{WorldKey}
 use Rattle.comp_worlds.specs.declared.world.ComponentWorld.{ComponentWorld}
 use Rattle.comp_state.specs.Roles.{is_used, used_functions}
 use Rattle.comp_state.specs.Facts.{plain_name, plain_function, IsFunctionType, IsArgumentFor, IsMain, IsLiftFor}
@@ -37,13 +37,13 @@ pub record InstantiatesMain (w : ComponentWorld) (earlier : List Def) (number : 
 -- an export of a core instance: a core export of main that some root function is
 pub record AliasesMain (w : ComponentWorld) (earlier : List Def) (instance : ℕ) (name : List ℕ) : Type 0 where
   pub of : IsMain earlier instance
-  pub key : List ℕ
+  pub key : WorldKey
   pub role : core_name_of w key ≡ Some name
 
 -- an export: a required one, under its name
 pub record ExportsRequired (w : ComponentWorld) (earlier : List Def) (name : ExternName) (index : ℕ) : Type 0 where
   pub key : WorldKey
-  pub named : name ≡ plain_name (key_text key)
+  pub named : name ≡ plain_name (name_of_key key)
   pub lifted : IsLiftFor w earlier index key
 
 -- an entry of a bag is a core function
@@ -130,7 +130,7 @@ abbrev pub imports_marked : ComponentWorld → List Landmark
 imports_marked w = map ImportNamed (used_functions w)
 
 abbrev pub exports_marked : ComponentWorld → List Landmark
-exports_marked w = map (λ key. ExportNamed (key_text key)) w.main_exports
+exports_marked w = map (λ key. ExportNamed (name_of_key key)) w.main_exports
 
 -- the landmarks of a whole component
 abbrev pub expected : ComponentWorld → List Landmark

@@ -3,7 +3,7 @@
 
 ghost use Rattle.std.specs.Prelude.{◌≡◌, [], ◌∷◌, List, ℕ, IfOk, IfErr, OnOk, IsSome, Some, None};
 ghost use Rattle.std.specs.List.{AllByRecursion};
-ghost use Rattle.comp_worlds.specs.Keys.{key_text};
+ghost use Rattle.wit_data.specs.Keys.{name_of_key};
 ghost use Rattle.comp_worlds.specs.Worlds.{core_name_of};
 ghost use Rattle.comp_state.specs.Causes.{IsCause, IsBuildRefusal, IsExportRefusal};
 ghost use Rattle.comp_state.specs.Encoding.{Extends, IsOffered};
@@ -16,16 +16,30 @@ use crate::instances::is_encoded;
 use crate::state::EncodingState;
 use comp_bytes::{BuildFault, ExportKind, ExternName, Sort};
 use comp_lists::{Seq, Text};
-use comp_worlds::WorldKey;
 use std::alloc::AllocError;
+use wit_data::WorldKey;
 
 impl EncodingState<'_> {
+    /// The name of a root function.
+    fn function_name<'k>(&self, key: &'k WorldKey) -> &'k Text
+        requires { IsSome (core_name_of self.now.world key.now) }
+        ensures { result.now ≡ name_of_key key.now }
+    {
+        match key {
+            WorldKey::Name(function) => function,
+            WorldKey::Interface(_) => unreachable!(),
+        }
+    }
+
     /// The name of the core export that is a root function.
     fn core_name(&self, key: &WorldKey) -> Result<Text, AllocError>
-        requires { IsSome (core_name_of self.now.world (key_text key.now)) }
-        ensures { IfOk result (λ name. core_name_of self.now.world (key_text key.now) ≡ Some name) }
+        requires { IsSome (core_name_of self.now.world key.now) }
+        ensures { IfOk result (λ name. core_name_of self.now.world key.now ≡ Some name) }
     {
-        self.core_names.get(key.text()).unwrap().clone(self.alloc)
+        match key {
+            WorldKey::Name(function) => self.core_names.get(function).unwrap().clone(self.alloc),
+            WorldKey::Interface(_) => unreachable!(),
+        }
     }
 
     /// Appends an alias of an export of main's instance.
@@ -66,12 +80,16 @@ impl EncodingState<'_> {
 
     /// Asks for the string encoding of a root function that is lifted.
     fn check_export_encoding(&self, key: &WorldKey) -> Result<(), StateFault>
+        requires { IsSome (core_name_of self.now.world key.now) }
         ensures ok { OnOk result (IsSome (export_encoding self.now.world key.now)) }
         ensures cause { IfErr result (IsExportRefusal self.now.world key.now) }
     {
+        let WorldKey::Name(function) = key else {
+            unreachable!()
+        };
         let encodings = &self.world.main.metadata.export_encodings;
-        if !is_encoded(self.alloc, encodings, key, key.text())? {
-            let place = key.text().clone(self.alloc)?;
+        if !is_encoded(self.alloc, encodings, function, function)? {
+            let place = function.clone(self.alloc)?;
             return Err(StateFault::NoEncoding { place });
         }
         Ok(())
@@ -80,7 +98,7 @@ impl EncodingState<'_> {
     /// Lifts a root function from the core export that is it.
     fn lift_function(&mut self, key: &WorldKey) -> Result<u32, BuildFault>
         requires made { IsSome self.old.main }
-        requires stands { IsSome (core_name_of self.old.world (key_text key.now)) }
+        requires stands { IsSome (core_name_of self.old.world key.now) }
         requires encoded { IsSome (export_encoding self.old.world key.now) }
         ensures same { self.new ≡ record self.old { built = self.new.built } }
         ensures extends { Extends self.old.built self.new.built }
@@ -92,7 +110,7 @@ impl EncodingState<'_> {
         let kind = self.encode_function_type()?;
         let core = self.alias_export(&name)?;
         let options = Seq::new(self.alloc);
-        let debug = Some(key.text().as_str());
+        let debug = Some(self.function_name(key).as_str());
         let index = self.component.lift_func(debug, core, kind, options)?;
         Ok(index)
     }
@@ -102,7 +120,7 @@ impl EncodingState<'_> {
     /// `E9` where it has no string encoding.
     pub fn encode_lift(&mut self, key: &WorldKey) -> Result<u32, StateFault>
         requires made { IsSome self.old.main }
-        requires stands { IsSome (core_name_of self.old.world (key_text key.now)) }
+        requires stands { IsSome (core_name_of self.old.world key.now) }
         ensures same { self.new ≡ record self.old { built = self.new.built } }
         ensures extends { Extends self.old.built self.new.built }
         ensures grows { OnOk result (Grows self.old.world self.old.built.defs self.new.built.defs []) }
@@ -117,15 +135,15 @@ impl EncodingState<'_> {
     /// Lifts a required function, and exports it under its name.
     fn encode_export(&mut self, key: &WorldKey) -> Result<(), StateFault>
         requires made { IsSome self.old.main }
-        requires stands { IsSome (core_name_of self.old.world (key_text key.now)) }
+        requires stands { IsSome (core_name_of self.old.world key.now) }
         ensures same { self.new ≡ record self.old { built = self.new.built } }
         ensures extends { Extends self.old.built self.new.built }
-        ensures grows { OnOk result (Grows self.old.world self.old.built.defs self.new.built.defs (ExportNamed (key_text key.now) ∷ [])) }
+        ensures grows { OnOk result (Grows self.old.world self.old.built.defs self.new.built.defs (ExportNamed (name_of_key key.now) ∷ [])) }
         ensures encoded { OnOk result (IsSome (export_encoding self.old.world key.now)) }
         ensures cause { IfErr result (IsExportRefusal self.old.world key.now) }
     {
         let name = ExternName {
-            name: key.text().clone(self.alloc)?,
+            name: self.function_name(key).clone(self.alloc)?,
             version_suffix: None,
         };
         let lifted = self.encode_lift(key)?;

@@ -4,7 +4,8 @@
 
 ghost use Rattle.std.specs.Prelude.{◌≡◌, [], ◌∷◌, List, ℕ, IfOk, IfErr, OnOk, IsTrue, IsSome, is_some, map, filter};
 ghost use Rattle.comp_lists.specs.Found.{found};
-ghost use Rattle.comp_worlds.specs.Keys.{key_text};
+ghost use Rattle.std.specs.List.{AllByRecursion};
+ghost use Rattle.comp_worlds.specs.Worlds.{root_function};
 ghost use Rattle.comp_state.specs.Causes.{IsCause, IsBuildRefusal};
 ghost use Rattle.comp_state.specs.Encoding.{Extends, FindsMore, FindsUsed};
 ghost use Rattle.comp_state.specs.Roles.{is_used};
@@ -16,7 +17,7 @@ use crate::indexes::used_functions;
 use crate::state::EncodingState;
 use comp_bytes::{BuildFault, Description, ExternName, FuncTypeDef};
 use comp_lists::{Keyed, Seq, Text};
-use comp_worlds::WorldItem;
+use wit_data::{WorldItem, WorldKey};
 
 impl EncodingState<'_> {
     /// Appends the type of functions with no parameter and no result.
@@ -87,6 +88,27 @@ impl EncodingState<'_> {
         Ok(())
     }
 
+    /// Imports an item of the world, where it is a root function that an import of main is.
+    fn import_item(
+        &mut self,
+        used: &Keyed<Text, ()>,
+        key: &WorldKey,
+        item: &WorldItem,
+    ) -> Result<(), StateFault>
+        requires used { (text : List ℕ) → is_some (found text used.now) ≡ is_used self.old.world text }
+        ensures same { self.new ≡ record self.old { built = self.new.built; functions = self.new.functions } }
+        ensures extends { Extends self.old.built self.new.built }
+        ensures grows { OnOk result (Grows self.old.world self.old.built.defs self.new.built.defs (names_marked self.old.world (root_function (key.now, item.now)))) }
+        ensures finds { FindsMore self.old.functions self.new.functions }
+        ensures found { OnOk result (AllByRecursion (λ name. IsTrue (is_used self.old.world name) → IsSome (found name self.new.functions)) (root_function (key.now, item.now))) }
+        ensures cause { IfErr result (IsCause self.old.world) }
+    {
+        match (key, item) {
+            (WorldKey::Name(name), WorldItem::Function(_)) => self.import_used(used, name),
+            _ => Ok(()),
+        }
+    }
+
     /// Imports the root functions that imports of main are, in the order of the world.
     pub fn encode_imports(&mut self) -> Result<(), StateFault>
         ensures same { self.new ≡ record self.old { built = self.new.built; functions = self.new.functions } }
@@ -97,10 +119,8 @@ impl EncodingState<'_> {
     {
         let world = self.world;
         let used = used_functions(self.alloc, world)?;
-        for (key, item) in world.world.imports.entries() {
-            match item {
-                WorldItem::Function(_) => self.import_used(&used, key.text())?,
-            }
+        for (key, item) in world.items().imports.entries() {
+            self.import_item(&used, key, item)?;
         }
         Ok(())
     }

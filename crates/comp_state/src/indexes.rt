@@ -1,14 +1,15 @@
 //! Look-ups by the name of a root function, made once from the roles of main.
 
-ghost use Rattle.std.specs.Prelude.{◌≡◌, ◌||◌, ℕ, List, IfOk, OnOk, is_some, map};
-ghost use Rattle.std.specs.List.{list_any};
+ghost use Rattle.std.specs.Prelude.{◌≡◌, ◌||◌, ℕ, List, IfOk, OnOk, is_some};
+ghost use Rattle.std.specs.List.{list_any, flat_map};
 ghost use Rattle.comp_lists.specs.Found.{found};
-ghost use Rattle.comp_worlds.specs.Worlds.{exported_text, core_name_of};
+ghost use Rattle.comp_worlds.specs.Worlds.{root_export};
 ghost use Rattle.comp_state.specs.Roles.{is_used, is_any_import, uses_from};
 
 use comp_lists::{Keyed, Text};
-use comp_worlds::{ComponentWorld, Export, Import};
+use comp_worlds::{ComponentWorld, Export, Import, ImportInstance};
 use std::alloc::{AllocError, Global};
+use wit_data::WorldKey;
 
 /// Adds the functions that these imports are.
 #[tactic(auto, using(crate::proofs::Indexing::used_step))]
@@ -21,9 +22,10 @@ fn add_used(
 {
     for (_, import) in fields.entries() {
         match import {
-            Import::WorldFunc(key, _, _) => {
-                used.add_first(key.text().clone(alloc)?, ())?;
+            Import::WorldFunc(WorldKey::Name(function), _, _) => {
+                used.add_first(function.clone(alloc)?, ())?;
             }
+            _ => {}
         }
     }
     Ok(())
@@ -38,7 +40,9 @@ pub(crate) fn used_functions(
 {
     let mut used = Keyed::new(alloc);
     for (_, instance) in world.main.imports.modules.entries() {
-        add_used(alloc, &mut used, instance.fields())?;
+        if let ImportInstance::Names(fields) = instance {
+            add_used(alloc, &mut used, fields)?;
+        }
     }
     Ok(used)
 }
@@ -49,14 +53,15 @@ pub(crate) fn core_names(
     alloc: Global,
     exports: &Keyed<Text, Export>,
 ) -> Result<Keyed<Text, Text>, AllocError>
-    ensures { IfOk result (λ names. (text : List ℕ) → found text names ≡ found text (map (λ e. (exported_text e.1, e.0)) exports.now)) }
+    ensures { IfOk result (λ names. (text : List ℕ) → found text names ≡ found text (flat_map root_export exports.now)) }
 {
     let mut names = Keyed::new(alloc);
     for (name, export) in exports.entries() {
         match export {
-            Export::WorldFunc(key, _, _) => {
-                names.add_first(key.text().clone(alloc)?, name.clone(alloc)?)?;
+            Export::WorldFunc(WorldKey::Name(function), _, _) => {
+                names.add_first(function.clone(alloc)?, name.clone(alloc)?)?;
             }
+            _ => {}
         }
     }
     Ok(names)

@@ -6,37 +6,39 @@ ghost use Rattle.std.specs.List.{AllZip, AllByRecursion, IsDistinct};
 ghost use Rattle.std.specs.Str.{bytes_eq};
 ghost use Rattle.comp_lists.specs.Found.{found};
 ghost use Rattle.comp_bytes.specs.Places.{IsAt};
+ghost use Rattle.wit_data.specs.declared.worlds.WorldKey.TheVariants as keys;
 ghost use Rattle.comp_worlds.specs.Functions.{of_function};
-ghost use Rattle.comp_worlds.specs.Worlds.{core_imports, fields_of, imported_text};
+ghost use Rattle.comp_worlds.specs.Worlds.{core_imports, fields_of};
 ghost use Rattle.comp_state.specs.Causes.{IsCause, IsBuildRefusal, IsImportRefusal, IsFieldsRefusal};
-ghost use Rattle.comp_state.specs.Encoding.{Extends, FindsUsed, FindsFields};
+ghost use Rattle.comp_state.specs.Encoding.{Extends, FindsUsed, FindsRole, FindsFields, FindsGroup};
 ghost use Rattle.comp_shims.specs.Targets.{Main};
 ghost use Rattle.comp_state.specs.Links.{link_of};
-ghost use Rattle.comp_state.specs.Facts.{IsLowered, IsCoreItemFor, IsEntryFor, IsArgumentFor, IsMain, IsFirstModule};
+ghost use Rattle.comp_state.specs.Facts.{IsLowered, IsCoreItemFor, IsEntryFor, IsBagFor, IsArgumentFor, IsMain, IsFirstModule};
 ghost use Rattle.comp_state.specs.Roles.{import_encoding, place_of};
 ghost use Rattle.comp_state.specs.Rules.{Grows, ModuleIs, InstanceOf, imports_marked, landmarks};
 
 use crate::fault::StateFault;
 use crate::state::EncodingState;
 use comp_bytes::{BuildFault, CoreArgument, CoreInlineExport, ExportKind};
-use comp_lists::{Keyed, Seq, Text, TryClone};
-use comp_worlds::{FunctionKey, Import, ImportInstance, StringEncoding, WorldKey};
+use comp_lists::{Keyed, Seq, Text};
+use comp_worlds::{FunctionKey, Import, ImportInstance, StringEncoding};
 use std::alloc::{AllocError, Global};
+use wit_data::WorldKey;
 
 /// The index of main's module: it is the first core module of a component.
 const MAIN_MODULE: u32 = 0;
 
-/// Whether a table has the string encoding of a function.
+/// Whether a table has the string encoding of a function, by the name of its key and its own.
 pub(crate) fn is_encoded(
     alloc: Global,
     encodings: &Keyed<FunctionKey, StringEncoding>,
-    key: &WorldKey,
+    name: &Text,
     function: &Text,
 ) -> Result<bool, AllocError>
-    ensures { IfOk result (λ answer. answer ≡ is_some (of_function key.now function.now encodings.now)) }
+    ensures { IfOk result (λ answer. answer ≡ is_some (of_function (keys.Name name.now) function.now encodings.now)) }
 {
     let wanted = FunctionKey {
-        key: key.try_clone(alloc)?,
+        key: WorldKey::Name(name.clone(alloc)?),
         function: function.clone(alloc)?,
     };
     Ok(encodings.contains(&wanted))
@@ -79,7 +81,7 @@ impl EncodingState<'_> {
         field: &Text,
         import: &Import,
     ) -> Result<(ExportKind, u32), StateFault>
-        requires { IsSome (found (imported_text import.now) self.old.functions) }
+        requires { FindsRole self.old.functions import.now }
         ensures same { self.new ≡ record self.old { built = self.new.built } }
         ensures extends { Extends self.old.built self.new.built }
         ensures grows { OnOk result (Grows self.old.world self.old.built.defs self.new.built.defs []) }
@@ -88,15 +90,16 @@ impl EncodingState<'_> {
         ensures cause { IfErr result (IsImportRefusal self.old.world «module».now field.now import.now) }
     {
         match import {
-            Import::WorldFunc(key, function, _) => {
+            Import::WorldFunc(WorldKey::Name(name), function, _) => {
                 let encodings = &self.world.main.metadata.import_encodings;
-                if !is_encoded(self.alloc, encodings, key, function)? {
+                if !is_encoded(self.alloc, encodings, name, function)? {
                     let place = place_of_import(self.alloc, module, field)?;
                     return Err(StateFault::NoEncoding { place });
                 }
-                let index = self.lower_function(key.text())?;
+                let index = self.lower_function(name)?;
                 Ok((ExportKind::Func, index))
             }
+            _ => unreachable!(),
         }
     }
 
@@ -107,7 +110,7 @@ impl EncodingState<'_> {
         field: &Text,
         import: &Import,
     ) -> Result<CoreInlineExport, StateFault>
-        requires { IsSome (found (imported_text import.now) self.old.functions) }
+        requires { FindsRole self.old.functions import.now }
         ensures same { self.new ≡ record self.old { built = self.new.built } }
         ensures extends { Extends self.old.built self.new.built }
         ensures grows { OnOk result (Grows self.old.world self.old.built.defs self.new.built.defs []) }
@@ -141,25 +144,45 @@ impl EncodingState<'_> {
         Ok(entries)
     }
 
+    /// Makes the instance that serves these imports from one module.
+    fn encode_bag(
+        &mut self,
+        module: &Text,
+        fields: &Keyed<Text, Import>,
+    ) -> Result<CoreArgument, StateFault>
+        requires { FindsFields self.old.functions fields.now }
+        ensures same { self.new ≡ record self.old { built = self.new.built } }
+        ensures extends { Extends self.old.built self.new.built }
+        ensures grows { OnOk result (Grows self.old.world self.old.built.defs self.new.built.defs []) }
+        ensures named { IfOk result (λ argument. argument.name ≡ «module».now) }
+        ensures serves { IfOk result (λ argument. IsBagFor self.old.world self.new.built.defs argument.instance fields.now) }
+        ensures cause { IfErr result (IsFieldsRefusal self.old.world «module».now fields.now) }
+    {
+        let name = module.clone(self.alloc)?;
+        let entries = self.encode_fields(module, fields)?;
+        let instance = self
+            .component
+            .core_instantiate_exports(Some(module.as_str()), entries)?;
+        Ok(CoreArgument { name, instance })
+    }
+
     /// Makes the instance that serves the imports from one module.
     fn encode_argument(
         &mut self,
         module: &Text,
         instance: &ImportInstance,
     ) -> Result<CoreArgument, StateFault>
-        requires { FindsFields self.old.functions (fields_of instance.now) }
+        requires { FindsGroup self.old.functions instance.now }
         ensures same { self.new ≡ record self.old { built = self.new.built } }
         ensures extends { Extends self.old.built self.new.built }
         ensures grows { OnOk result (Grows self.old.world self.old.built.defs self.new.built.defs []) }
         ensures serves { IfOk result (λ argument. IsArgumentFor self.old.world self.new.built.defs argument («module».now, instance.now)) }
         ensures cause { IfErr result (IsFieldsRefusal self.old.world «module».now (fields_of instance.now)) }
     {
-        let name = module.clone(self.alloc)?;
-        let entries = self.encode_fields(module, instance.fields())?;
-        let instance = self
-            .component
-            .core_instantiate_exports(Some(module.as_str()), entries)?;
-        Ok(CoreArgument { name, instance })
+        match instance {
+            ImportInstance::Names(fields) => self.encode_bag(module, fields),
+            ImportInstance::Whole(_) => unreachable!(),
+        }
     }
 
     /// Makes an instance for each module that main imports from, in order.

@@ -3,10 +3,10 @@ use Rattle.std.proofs.Common.{◌≡◌, ℕ, Bool, false, ◌&&◌, List, [], �
 use Rattle.std.specs.List.{IsDistinct, AllByRecursion}
 use Rattle.std.specs.Map.{keys_of}
 use Rattle.std.specs.Str.{bytes_eq}
-use Rattle.comp_worlds.specs.declared.wit.WorldKey.{WorldKey}
-use Rattle.comp_worlds.specs.declared.wit.WorldKey.TheVariants as keys
+use Rattle.wit_data.specs.declared.worlds.WorldKey.{WorldKey}
+use Rattle.wit_data.specs.declared.worlds.WorldKey.TheVariants as keys
 use Rattle.comp_worlds.specs.declared.metadata.FunctionKey.{FunctionKey}
-use Rattle.comp_worlds.specs.Keys.{is_same_key}
+use Rattle.wit_data.specs.Keys.{is_same_key}
 use Rattle.comp_worlds.specs.Functions.{is_same_function}
 use Rattle.plain_lower.specs.Preparing.{Table, world_items, encodings_of}
 

@@ -15,9 +15,9 @@ use Rattle.std.proofs.lemmas.Slice.Eq.{bytes_eq-Decides}
 use Rattle.comp_lists.specs.Found.{found}
 use Rattle.comp_lists.specs.Tables.{with_first}
 use Rattle.comp_lists.proofs.Lists.{AllByRecursion-push}
-use Rattle.comp_worlds.specs.declared.wit.WorldKey.{WorldKey}
-use Rattle.comp_worlds.specs.declared.wit.WorldKey.TheVariants as keys
-use Rattle.comp_worlds.specs.declared.wit.AbiVariant.TheVariants.{GuestImport, GuestExport}
+use Rattle.wit_data.specs.declared.worlds.WorldKey.{WorldKey}
+use Rattle.wit_data.specs.declared.worlds.WorldKey.TheVariants as keys
+use Rattle.wit_data.specs.declared.functions.AbiVariant.TheVariants.{GuestImport, GuestExport}
 use Rattle.comp_worlds.specs.declared.imports.Import.{Import}
 use Rattle.comp_worlds.specs.declared.imports.Import.TheVariants as imports
 use Rattle.comp_worlds.specs.declared.imports.ImportInstance.TheVariants as instances
@@ -27,7 +27,7 @@ use Rattle.comp_worlds.specs.declared.gathered.ExportKey.{ExportKey}
 use Rattle.comp_worlds.specs.declared.gathered.ExportKey.TheVariants as export_keys
 use Rattle.comp_worlds.specs.declared.gathered.Part.{Part}
 use Rattle.comp_worlds.specs.declared.world.ComponentWorld.{ComponentWorld}
-use Rattle.comp_worlds.specs.Keys.{key_text}
+use Rattle.wit_data.specs.Keys.{name_of_key}
 use Rattle.comp_worlds.specs.Worlds.{IsWorld, IsNamed, IsImportRole, IsExportRole, IsRequired, CoreImport as WorldImport, imports_from, fields_of, core_preamble}
 use Rattle.core_sections.specs.declared.fault.SectionFault.{SectionFault}
 use Rattle.core_sections.specs.declared.core_module.CoreModule.{CoreModule}
@@ -51,12 +51,12 @@ named : (t : Table) → AllByRecursion IsNamed (world_items t)
 named [] = tt
 named (e ∷ es) = (refl, named es)
 
-texts_of_items : (t : Table) → map (λ e. key_text e.0) (world_items t) ≡ keys_of t
+texts_of_items : (t : Table) → map (λ e. name_of_key e.0) (world_items t) ≡ keys_of t
 texts_of_items [] = refl
 texts_of_items (e ∷ es) = ap (λ (r : List (List ℕ)). e.0 ∷ r) (texts_of_items es)
 
 -- a function that is found is among the keys of the world's items
-item_there : (t : Table) (n : List ℕ) → is_some (found n t) ≡ true → Contains (map (λ e. key_text e.0) (world_items t)) n
+item_there : (t : Table) (n : List ℕ) → is_some (found n t) ≡ true → Contains (map (λ e. name_of_key e.0) (world_items t)) n
 item_there t n h = subst (λ (ks : List (List ℕ)). Contains ks n) (sym (texts_of_items t)) (Contains-keys_from_lookup (λ x y e. (bytes_eq-Decides x y).0 e) n t h)
 
 -- ---- imports
@@ -133,8 +133,8 @@ fields_are_apart t (g ∷ gs) h = (let good = h.0 in good.apart, fields_are_apar
 
 import_role : (w : ComponentWorld) (t : Table) → w.world.imports ≡ world_items t → (import : Import) → IsFor t import → IsImportRole w import
 import_role w t same import is =
-    let there : Contains (map (λ e. key_text e.0) w.world.imports) is.function =
-    subst (λ items. Contains (map (λ e. key_text e.0) items) is.function) (sym same) (item_there t is.function is.there) in
+    let there : Contains (map (λ e. name_of_key e.0) w.world.imports) is.function =
+    subst (λ items. Contains (map (λ e. name_of_key e.0) items) is.function) (sym same) (item_there t is.function is.there) in
     subst (λ (x : Import). IsImportRole w x) (sym is.is) (there, refl, refl)
 
 AllByRecursion-append : {X : Type 0} (P : X → Type 0) (xs ys : List X) → AllByRecursion P xs → AllByRecursion P ys → AllByRecursion P (xs ++ ys)
@@ -196,8 +196,8 @@ exports_good t own core all all' (x ∷ es) h e =
 
 export_role : (w : ComponentWorld) (t : Table) → w.world.exports ≡ world_items t → (export : Export) → IsOf t export → IsExportRole w export
 export_role w t same export is =
-    let there : Contains (map (λ e. key_text e.0) w.world.exports) is.function =
-    subst (λ items. Contains (map (λ e. key_text e.0) items) is.function) (sym same) (item_there t is.function is.there) in
+    let there : Contains (map (λ e. name_of_key e.0) w.world.exports) is.function =
+    subst (λ items. Contains (map (λ e. name_of_key e.0) items) is.function) (sym same) (item_there t is.function is.there) in
     subst (λ (x : Export). IsExportRole w x) (sym is.is) (there, refl, refl)
 
 export_roles : (w : ComponentWorld) (t : Table) → w.world.exports ≡ world_items t → (all : List (List ℕ × Export)) → AllOf t all → AllByRecursion (λ e. IsExportRole w e.1) all
@@ -233,8 +233,8 @@ keys_met t all so_far keys' (k ∷ ks) h e =
 
 required_of : (w : ComponentWorld) (t : Table) → w.world.exports ≡ world_items t → (all : List (List ℕ × Export)) → w.main.exports.exports ≡ all → (key : WorldKey) → IsMet t all key → IsRequired w key
 required_of w t same all exports_are key m =
-    let there : Contains (map (λ e. key_text e.0) w.world.exports) m.function =
-    subst (λ items. Contains (map (λ e. key_text e.0) items) m.function) (sym same) (item_there t m.function m.there) in
+    let there : Contains (map (λ e. name_of_key e.0) w.world.exports) m.function =
+    subst (λ items. Contains (map (λ e. name_of_key e.0) items) m.function) (sym same) (item_there t m.function m.there) in
     let stands : is_some (found m.function (by_function w.main.exports.exports)) ≡ true =
     ap (λ (xs : List (List ℕ × Export)). is_some (found m.function (by_function xs))) exports_are ∙ m.stands in
     subst (λ (k : WorldKey). IsRequired w k) (sym m.is) (record { exported = there; stands = stands })

@@ -12,11 +12,11 @@ use Rattle.std.specs.Str.{bytes_eq}
 use Rattle.comp_lists.specs.Found.{found}
 use Rattle.comp_lists.specs.Tables.{with_first}
 use Rattle.comp_worlds.specs.declared.encoding.StringEncoding.{StringEncoding}
-use Rattle.comp_worlds.specs.declared.wit.WorldKey.{WorldKey}
-use Rattle.comp_worlds.specs.declared.wit.WorldKey.TheVariants as keys
-use Rattle.comp_worlds.specs.declared.wit.WorldItem.{WorldItem}
-use Rattle.comp_worlds.specs.declared.wit.WorldItem.TheVariants as items
-use Rattle.comp_worlds.specs.declared.wit.AbiVariant.TheVariants.{GuestImport, GuestExport}
+use Rattle.wit_data.specs.declared.worlds.WorldKey.{WorldKey}
+use Rattle.wit_data.specs.declared.worlds.WorldKey.TheVariants as keys
+use Rattle.wit_data.specs.declared.worlds.WorldItem.{WorldItem}
+use Rattle.wit_data.specs.declared.worlds.WorldItem.TheVariants as items
+use Rattle.wit_data.specs.declared.functions.AbiVariant.TheVariants.{GuestImport, GuestExport}
 use Rattle.comp_worlds.specs.declared.imports.Import.{Import}
 use Rattle.comp_worlds.specs.declared.imports.Import.TheVariants as imports
 use Rattle.comp_worlds.specs.declared.imports.ImportInstance.{ImportInstance}

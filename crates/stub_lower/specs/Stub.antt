@@ -5,10 +5,10 @@ use Rattle.comp_worlds.specs.declared.gathered.Merged.{Merged}
 use Rattle.comp_worlds.specs.declared.imports.ImportMap.{ImportMap}
 use Rattle.comp_worlds.specs.declared.imports.ImportInstance.TheVariants.{Names}
 use Rattle.comp_worlds.specs.declared.imports.Import.TheVariants as roles
-use Rattle.comp_worlds.specs.declared.wit.World.{World}
-use Rattle.comp_worlds.specs.declared.wit.WorldKey.TheVariants.{Name}
-use Rattle.comp_worlds.specs.declared.wit.WorldItem.TheVariants as items
-use Rattle.comp_worlds.specs.declared.wit.AbiVariant.TheVariants.{GuestImport}
+use Rattle.wit_data.specs.declared.worlds.World.{World}
+use Rattle.wit_data.specs.declared.worlds.WorldKey.TheVariants.{Name}
+use Rattle.wit_data.specs.declared.worlds.WorldItem.TheVariants as items
+use Rattle.wit_data.specs.declared.functions.AbiVariant.TheVariants.{GuestImport}
 use Rattle.comp_worlds.specs.declared.world.ComponentWorld.{ComponentWorld}
 use Rattle.comp_worlds.specs.Worlds.{core_preamble}
 use Rattle.comp_encoder.specs.Encoder.{main_bytes}

@@ -18,7 +18,7 @@ loop-module-init c =
       tt,
       subst (λ (es : List CoreArgument). GroupsSoFar c.args.self.now c.args.self.now es all c.into_iter-module-iterator.result) (sym none)
           (subst (λ (gs : List (List ℕ × ImportInstance)). GroupsSoFar c.args.self.now c.args.self.now [] all gs) (sym items)
-          (groups_start c.args.self.now all (finds_groups c.args.self.now.world c.args.self.now.functions c.requires))),
+          (groups_start c.args.self.now all (finds_groups c.args.self.now.world c.args.self.now.functions (rw (← world) c.self.invariant.valid) c.requires))),
     )
 
 pub returns-in_err-argument-clause-cause : goal.returns-in_err-argument-clause-cause

@@ -1,8 +1,9 @@
 use Rattle.std.proofs.Common.{◌≡◌, ◌∙◌, List, [], ◌∷◌, ap, subst, sym}
-use Rattle.comp_worlds.specs.Worlds.{IsWorld}
+use Rattle.comp_worlds.specs.Worlds.{world_of, IsWorld}
 use Rattle.comp_worlds.specs.declared.world.ComponentWorld.{ComponentWorld}
-use Rattle.comp_worlds.specs.declared.wit.WorldKey.{WorldKey}
-use Rattle.comp_worlds.specs.declared.wit.WorldItem.{WorldItem}
+use Rattle.wit_data.specs.declared.worlds.World.{World}
+use Rattle.wit_data.specs.declared.worlds.WorldKey.{WorldKey}
+use Rattle.wit_data.specs.declared.worlds.WorldItem.{WorldItem}
 use Rattle.comp_state.specs.Encoding.{Encoding}
 use Rattle.comp_state.proofs.Importing.{ImportsSoFar, imports_start, imports_step, imports_found}
 use Rattle.comp_state.proofs.state.EncodingState.encode_imports.Goals as goal
@@ -10,8 +11,8 @@ use Rattle.comp_state.proofs.state.EncodingState.encode_imports.Goals as goal
 pub loop-key-init : goal.loop-key-init
 loop-key-init c =
     let world : c.self.inside.world.now ≡ c.args.self.now.world = ap (λ (e : Encoding). e.world) c.self.view_is in
-    let items : c.into_iter-key-iterator.result ≡ c.args.self.now.world.world.imports =
-    c.into_iter-key-iterator.ensures.into_iter_gives ∙ c.entries-key-items.ensures.rest ∙ ap (λ (w : ComponentWorld). w.world.imports) world in
+    let items : c.into_iter-key-iterator.result ≡ (world_of c.args.self.now.world).imports =
+    c.into_iter-key-iterator.ensures.into_iter_gives ∙ c.entries-key-items.ensures.rest ∙ ap (λ (w : World). w.imports) c.items.ensures ∙ ap (λ (w : ComponentWorld). (world_of w).imports) world in
     (tt, tt, subst (λ (es : List (WorldKey × WorldItem)). ImportsSoFar c.args.self.now c.args.self.now es) (sym items) (imports_start c.args.self.now))
 
 pub loop-key-preserved : goal.loop-key-preserved
@@ -21,8 +22,8 @@ loop-key-preserved c =
     subst (λ (es : List (WorldKey × WorldItem)). ImportsSoFar c.args.self.now c.loop-key.self es) c.in-Some.ensures.steps c.loop-key.invariant.2 in (
       tt,
       tt,
-      imports_step c.args.self.now c.loop-key.self c.import_used.new.self entry c.next.new.self before c.in_ok-import_used.ensures.same c.in_ok-import_used.ensures.extends
-          (rw (← c.text.ensures) c.in_ok-import_used.ensures.grows) c.in_ok-import_used.ensures.finds (rw (← c.text.ensures) c.in_ok-import_used.ensures.found),
+      imports_step c.args.self.now c.loop-key.self c.import_item.new.self entry c.next.new.self before c.in_ok-import_item.ensures.same c.in_ok-import_item.ensures.extends
+          c.in_ok-import_item.ensures.grows c.in_ok-import_item.ensures.finds c.in_ok-import_item.ensures.found,
     )
 
 pub returns-clause-found : goal.returns-clause-found
