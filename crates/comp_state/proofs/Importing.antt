@@ -8,7 +8,7 @@ use Rattle.comp_lists.specs.Tables.{with_first}
 use Rattle.std.proofs.lemmas.Grind.{flat_map-append}
 use Rattle.comp_lists.proofs.Lists.{AllByRecursion-contains, AllByRecursion-weaker}
 use Rattle.comp_lists.proofs.Lookups.{IsSome-found-append, found-pushed}
-use Rattle.comp_worlds.specs.Worlds.{world_of, root_function, imported_functions, imported_name, IsImportRole, IsImportGroup, IsWorld}
+use Rattle.comp_worlds.specs.Worlds.{items_of, root_function, imported_functions, imported_name, IsImportRole, IsImportGroup, IsWorld}
 use Rattle.wit_data.specs.declared.worlds.WorldKey.{WorldKey}
 use Rattle.wit_data.specs.declared.worlds.WorldItem.{WorldItem}
 use Rattle.comp_worlds.specs.declared.imports.Import.{Import}
@@ -66,13 +66,13 @@ used_stands w valid text u = group_stands w text w.main.imports.modules valid.im
 -- the keys that were looked at so far, and what was made for them
 pub record ImportsSoFar (old new : Encoding) (rest : List (WorldKey × WorldItem)) : Type 0 where
   pub done : List (WorldKey × WorldItem)
-  pub split : done ++ rest ≡ (world_of old.world).imports
+  pub split : done ++ rest ≡ (items_of old.world).imports
   pub same : new ≡ record old { built = new.built; functions = new.functions }
   pub extends : Extends old.built new.built
   pub grows : Grows old.world old.built.defs new.built.defs (names_marked old.world (flat_map root_function done))
   pub finds : AllByRecursion (λ t. IsTrue (is_used old.world t) → IsSome (found t new.functions)) (flat_map root_function done)
 
-pub imports_start : (old : Encoding) → ImportsSoFar old old (world_of old.world).imports
+pub imports_start : (old : Encoding) → ImportsSoFar old old (items_of old.world).imports
 imports_start old = record {
   done = [];
   split = refl;
@@ -127,14 +127,14 @@ imports_step old mid new e rest h same extends grows more here =
 -- no key is left
 pub imports_marks : (old new : Encoding) → ImportsSoFar old new [] → Grows old.world old.built.defs new.built.defs (imports_marked old.world)
 imports_marks old new h =
-    let all : h.done ≡ (world_of old.world).imports = sym (append-nil h.done) ∙ h.split in
+    let all : h.done ≡ (items_of old.world).imports = sym (append-nil h.done) ∙ h.split in
     subst (λ es. Grows old.world old.built.defs new.built.defs (names_marked old.world (flat_map root_function es))) all h.grows
 
 pub imports_found : (old new : Encoding) → IsWorld old.world → ImportsSoFar old new [] → FindsUsed old.world new.functions
 imports_found old new valid h = record {
   each = λ t u.
-      let all : h.done ≡ (world_of old.world).imports = sym (append-nil h.done) ∙ h.split in
+      let all : h.done ≡ (items_of old.world).imports = sym (append-nil h.done) ∙ h.split in
       let P : List ℕ → Type 0 = λ t. IsTrue (is_used old.world t) → IsSome (found t new.functions) in
-      let finds : AllByRecursion P (flat_map root_function (world_of old.world).imports) = subst (λ es. AllByRecursion P (flat_map root_function es)) all h.finds in
-      AllByRecursion-contains P (flat_map root_function (world_of old.world).imports) t finds (used_stands old.world valid t u) u;
+      let finds : AllByRecursion P (flat_map root_function (items_of old.world).imports) = subst (λ es. AllByRecursion P (flat_map root_function es)) all h.finds in
+      AllByRecursion-contains P (flat_map root_function (items_of old.world).imports) t finds (used_stands old.world valid t u) u;
 }

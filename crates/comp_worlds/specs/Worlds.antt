@@ -27,8 +27,8 @@ use Rattle.comp_worlds.specs.declared.world.ComponentWorld.{ComponentWorld}
 abbrev pub no_items : World
 no_items = record { imports = []; exports = [] }
 
-abbrev pub world_of : ComponentWorld → World
-world_of w = get_or w.resolve.worlds w.world.index no_items
+abbrev pub items_of : ComponentWorld → World
+items_of w = get_or w.resolve.worlds w.world.index no_items
 
 -- the name of an item that is a function at the root
 abbrev pub root_function : WorldKey × WorldItem → List (List ℕ)
@@ -37,10 +37,10 @@ root_function entry = []
 
 -- the root functions that the world imports, and that it exports, in order
 abbrev pub imported_functions : ComponentWorld → List (List ℕ)
-imported_functions w = flat_map root_function (world_of w).imports
+imported_functions w = flat_map root_function (items_of w).imports
 
 abbrev pub exported_functions : ComponentWorld → List (List ℕ)
-exported_functions w = flat_map root_function (world_of w).exports
+exported_functions w = flat_map root_function (items_of w).exports
 
 -- an import of a core module: its module, its field, and what it is for
 pub record CoreImport : Type 0 where
@@ -105,7 +105,7 @@ IsExportRole w role = ⊥
 
 -- a required export is one of the world's, and stands in main
 pub record IsRequired (w : ComponentWorld) (key : WorldKey) : Type 0 where
-  pub exported : Contains (map (λ e. e.0) (world_of w).exports) key
+  pub exported : Contains (map (λ e. e.0) (items_of w).exports) key
   pub stands : IsSome (core_name_of w key)
 
 -- what a core module begins with
@@ -117,8 +117,8 @@ pub record IsWorld (w : ComponentWorld) : Type 0 where
   pub sound : IsSound w.resolve
   pub stands : w.world.index < length w.resolve.worlds
   pub core : take 8 w.main.bytes ≡ core_preamble
-  pub imports : AllByRecursion IsItem (world_of w).imports
-  pub exports : AllByRecursion IsItem (world_of w).exports
+  pub imports : AllByRecursion IsItem (items_of w).imports
+  pub exports : AllByRecursion IsItem (items_of w).exports
   pub import_names_apart : IsDistinct bytes_eq (imported_functions w)
   pub export_names_apart : IsDistinct bytes_eq (exported_functions w)
   pub modules_apart : IsDistinct bytes_eq (map (λ g. g.0) w.main.imports.modules)

@@ -1,7 +1,7 @@
 //! The validated world.
 
 ghost use Rattle.std.specs.Prelude.{◌≡◌, ◌<◌, length};
-ghost use Rattle.comp_worlds.specs.Worlds.{world_of};
+ghost use Rattle.comp_worlds.specs.Worlds.{items_of};
 
 use crate::exports::ExportMap;
 use crate::imports::ImportMap;
@@ -45,7 +45,7 @@ impl ComponentWorld {
     /// The imports and exports of the world.
     pub fn items(&self) -> &World
         requires { self.now.world.index < length self.now.resolve.worlds }
-        ensures { result.now ≡ world_of self.now }
+        ensures { result.now ≡ items_of self.now }
     {
         &self.resolve.worlds.as_slice()[self.world.index]
     }

@@ -1,5 +1,5 @@
 -- Keys of tables that are made of others stay apart.
-use Rattle.std.proofs.Common.{◌≡◌, ℕ, Bool, false, ◌&&◌, List, [], ◌∷◌, ap, ◌∙◌}
+use Rattle.std.proofs.Common.{◌≡◌, ℕ, Bool, true, false, ◌&&◌, List, [], ◌∷◌, ap, ◌∙◌}
 use Rattle.std.specs.List.{IsDistinct, AllByRecursion}
 use Rattle.std.specs.Map.{keys_of}
 use Rattle.std.specs.Str.{bytes_eq}
@@ -12,7 +12,7 @@ use Rattle.plain_lower.specs.Preparing.{Table, world_items, encodings_of}
 
 others_apart : (n : List ℕ) (t : Table) → AllByRecursion (λ m. bytes_eq n m ≡ false) (keys_of t) → AllByRecursion (λ k. is_same_key (keys.Name n) k ≡ false) (keys_of (world_items t))
 others_apart n [] h = tt
-others_apart n (e ∷ es) h = (h.0, others_apart n es h.1)
+others_apart n (e ∷ es) h = (ap (λ b. b && true) h.0, others_apart n es h.1)
 
 pub items_apart : (t : Table) → IsDistinct bytes_eq (keys_of t) → IsDistinct is_same_key (keys_of (world_items t))
 unfolding IsDistinct
@@ -24,7 +24,7 @@ key_of n = record { key = keys.Name n; function = n }
 
 no_function : (n : List ℕ) (t : Table) → AllByRecursion (λ m. bytes_eq n m ≡ false) (keys_of t) → AllByRecursion (λ k. is_same_function (key_of n) k ≡ false) (keys_of (encodings_of t))
 no_function n [] h = tt
-no_function n (e ∷ es) h = (ap (λ b. b && bytes_eq n e.0) h.0, no_function n es h.1)
+no_function n (e ∷ es) h = (ap (λ b. (b && true) && bytes_eq n e.0) h.0, no_function n es h.1)
 
 pub encodings_apart : (t : Table) → IsDistinct bytes_eq (keys_of t) → IsDistinct is_same_function (keys_of (encodings_of t))
 unfolding IsDistinct

@@ -1,5 +1,5 @@
 -- A world that was prepared keeps the invariant of worlds.
-use Rattle.std.proofs.Common.{◌≡◌, ℕ, Bool, true, false, cond, ◌&&◌, ◌||◌, List, [], ◌∷◌, ◌++◌, take, map, Option, Some, None, Result, Ok, Err, refl, sym, ap, subst, ◌∙◌, true≢false}
+use Rattle.std.proofs.Common.{arith, ◌≡◌, ℕ, Bool, true, false, cond, ◌&&◌, ◌||◌, List, [], ◌∷◌, ◌++◌, take, map, Option, Some, None, Result, Ok, Err, refl, sym, ap, subst, ◌∙◌, true≢false}
 use Rattle.std.specs.Prelude.{ok_or, is_some, Contains, if◌then◌else◌}
 use Rattle.std.specs.Cmp.{IsEquivalence}
 use Rattle.std.specs.Cmp.Lexicographic.{lists_equiv}
@@ -14,7 +14,7 @@ use Rattle.std.proofs.lemmas.Map.Views.{Contains-keys_from_lookup}
 use Rattle.std.proofs.lemmas.Slice.Eq.{bytes_eq-Decides}
 use Rattle.comp_lists.specs.Found.{found}
 use Rattle.comp_lists.specs.Tables.{with_first}
-use Rattle.comp_lists.proofs.Lists.{AllByRecursion-push}
+use Rattle.comp_lists.proofs.Lists.{AllByRecursion-push, Contains-map}
 use Rattle.wit_data.specs.declared.worlds.WorldKey.{WorldKey}
 use Rattle.wit_data.specs.declared.worlds.WorldKey.TheVariants as keys
 use Rattle.wit_data.specs.declared.functions.AbiVariant.TheVariants.{GuestImport, GuestExport}
@@ -27,8 +27,12 @@ use Rattle.comp_worlds.specs.declared.gathered.ExportKey.{ExportKey}
 use Rattle.comp_worlds.specs.declared.gathered.ExportKey.TheVariants as export_keys
 use Rattle.comp_worlds.specs.declared.gathered.Part.{Part}
 use Rattle.comp_worlds.specs.declared.world.ComponentWorld.{ComponentWorld}
-use Rattle.wit_data.specs.Keys.{name_of_key}
-use Rattle.comp_worlds.specs.Worlds.{IsWorld, IsNamed, IsImportRole, IsExportRole, IsRequired, CoreImport as WorldImport, imports_from, fields_of, core_preamble}
+use Rattle.wit_data.specs.declared.worlds.WorldItem.{WorldItem}
+use Rattle.wit_data.specs.declared.resolve.Resolve.{Resolve}
+use Rattle.wit_data.specs.Values.{values_from}
+use Rattle.wit_data.specs.Sizes.{AreSmall}
+use Rattle.wit_data.specs.Sound.{HasEntry, IsSound}
+use Rattle.comp_worlds.specs.Worlds.{items_of, root_function, imported_functions, exported_functions, IsWorld, IsItem, IsImportRole, IsImportGroup, IsExportRole, IsRequired, core_preamble}
 use Rattle.core_sections.specs.declared.fault.SectionFault.{SectionFault}
 use Rattle.core_sections.specs.declared.core_module.CoreModule.{CoreModule}
 use Rattle.core_sections.specs.declared.entries.CoreImport.{CoreImport}
@@ -47,17 +51,47 @@ use Rattle.plain_lower.specs.Preparing.{Table, no_role, unfit, not_exported, fit
 
 -- ---- keys and items
 
-named : (t : Table) → AllByRecursion IsNamed (world_items t)
+named : (t : Table) → AllByRecursion IsItem (world_items t)
 named [] = tt
-named (e ∷ es) = (refl, named es)
+named (e ∷ es) = ((refl, record { kind = refl; params = refl; result = refl }), named es)
 
-texts_of_items : (t : Table) → map (λ e. name_of_key e.0) (world_items t) ≡ keys_of t
-texts_of_items [] = refl
-texts_of_items (e ∷ es) = ap (λ (r : List (List ℕ)). e.0 ∷ r) (texts_of_items es)
+-- the world's items are the functions of the table
+functions_of_items : (t : Table) → flat_map root_function (world_items t) ≡ keys_of t
+functions_of_items [] = refl
+functions_of_items (e ∷ es) = ap (λ (r : List (List ℕ)). e.0 ∷ r) (functions_of_items es)
 
--- a function that is found is among the keys of the world's items
-item_there : (t : Table) (n : List ℕ) → is_some (found n t) ≡ true → Contains (map (λ e. name_of_key e.0) (world_items t)) n
-item_there t n h = subst (λ (ks : List (List ℕ)). Contains ks n) (sym (texts_of_items t)) (Contains-keys_from_lookup (λ x y e. (bytes_eq-Decides x y).0 e) n t h)
+keys_of_items : (t : Table) → map (λ e. e.0) (world_items t) ≡ map keys.Name (keys_of t)
+keys_of_items [] = refl
+keys_of_items (e ∷ es) = ap (λ (r : List WorldKey). keys.Name e.0 ∷ r) (keys_of_items es)
+
+name_there : (t : Table) (n : List ℕ) → is_some (found n t) ≡ true → Contains (keys_of t) n
+name_there t n h = Contains-keys_from_lookup (λ x y e. (bytes_eq-Decides x y).0 e) n t h
+
+-- a function that is found is among the functions of the world's items, and its key among their keys
+item_there : (t : Table) (n : List ℕ) → is_some (found n t) ≡ true → Contains (flat_map root_function (world_items t)) n
+item_there t n h = subst (λ (ks : List (List ℕ)). Contains ks n) (sym (functions_of_items t)) (name_there t n h)
+
+key_there : (t : Table) (n : List ℕ) → is_some (found n t) ≡ true → Contains (map (λ e. e.0) (world_items t)) (keys.Name n)
+key_there t n h = subst (λ (ks : List WorldKey). Contains ks (keys.Name n)) (sym (keys_of_items t)) (Contains-map keys.Name (keys_of t) n (name_there t n h))
+
+-- ---- the resolve
+
+items_stand : (r : Resolve) (t : Table) → AllByRecursion (HasEntry r) (world_items t)
+items_stand r [] = tt
+items_stand r (e ∷ es) = ((tt, record { resource = tt; params = tt; result = tt }), items_stand r es)
+
+no_types_small : AreSmall []
+unfolding values_from
+no_types_small = record { labels = tt; nodes = tt; levels = tt }
+
+alone_sound : (imported exported : Table) → IsSound (record { interfaces = []; types = []; worlds = record { imports = world_items imported; exports = world_items exported } ∷ [] })
+alone_sound imported exported = record {
+  back = tt;
+  small = no_types_small;
+  owners = tt;
+  interfaces = tt;
+  worlds = (record { imports = items_stand _ imported; exports = items_stand _ exported }, tt);
+}
 
 -- ---- imports
 
@@ -125,37 +159,23 @@ groups_good t own core gs gs' (i ∷ is) h e =
     let a = bind_ok (group_after t own core gs i) (λ x. groups_after t own core x is) gs' e in
     groups_good t own core a.0 gs' is (group_after_good t own core gs a.0 i h a.1) a.2
 
-fields_are_apart : (t : Table) (gs : List Group) → AllByRecursion (IsGood t) gs → AllByRecursion (λ g. IsDistinct bytes_eq (map (λ f. f.0) (fields_of g.1))) (instances_of gs)
-fields_are_apart t [] h = tt
-fields_are_apart t (g ∷ gs) h = (let good = h.0 in good.apart, fields_are_apart t gs h.1)
-
 -- ---- roles in a world
 
-import_role : (w : ComponentWorld) (t : Table) → w.world.imports ≡ world_items t → (import : Import) → IsFor t import → IsImportRole w import
+import_role : (w : ComponentWorld) (t : Table) → (items_of w).imports ≡ world_items t → (import : Import) → IsFor t import → IsImportRole w import
 import_role w t same import is =
-    let there : Contains (map (λ e. name_of_key e.0) w.world.imports) is.function =
-    subst (λ items. Contains (map (λ e. name_of_key e.0) items) is.function) (sym same) (item_there t is.function is.there) in
+    let there : Contains (imported_functions w) is.function =
+    subst (λ items. Contains (flat_map root_function items) is.function) (sym same) (item_there t is.function is.there) in
     subst (λ (x : Import). IsImportRole w x) (sym is.is) (there, refl, refl)
 
-AllByRecursion-append : {X : Type 0} (P : X → Type 0) (xs ys : List X) → AllByRecursion P xs → AllByRecursion P ys → AllByRecursion P (xs ++ ys)
-AllByRecursion-append P [] ys h k = k
-AllByRecursion-append P (x ∷ xs) ys h k = (h.0, AllByRecursion-append P xs ys h.1 k)
+group_roles : (w : ComponentWorld) (t : Table) → (items_of w).imports ≡ world_items t → (fs : List (List ℕ × Import)) → AllByRecursion (λ f. IsFor t f.1) fs
+    → AllByRecursion (λ f. IsImportRole w f.1) fs
+group_roles w t same [] h = tt
+group_roles w t same (f ∷ fs) h = (import_role w t same f.1 h.0, group_roles w t same fs h.1)
 
-abbrev as_import : List ℕ → List ℕ × Import → WorldImport
-as_import name f = record { module_name = name; field = f.0; role = f.1 }
-
-group_roles : (w : ComponentWorld) (t : Table) → w.world.imports ≡ world_items t → (name : List ℕ) (fs : List (List ℕ × Import)) → AllByRecursion (λ f. IsFor t f.1) fs
-    → AllByRecursion (λ i. IsImportRole w i.role) (map (as_import name) fs)
-group_roles w t same name [] h = tt
-group_roles w t same name (f ∷ fs) h = (import_role w t same f.1 h.0, group_roles w t same name fs h.1)
-
-all_roles : (w : ComponentWorld) (t : Table) → w.world.imports ≡ world_items t → (gs : List Group) → AllByRecursion (IsGood t) gs
-    → AllByRecursion (λ i. IsImportRole w i.role) (flat_map imports_from (instances_of gs))
+all_roles : (w : ComponentWorld) (t : Table) → (items_of w).imports ≡ world_items t → (gs : List Group) → AllByRecursion (IsGood t) gs
+    → AllByRecursion (IsImportGroup w) (instances_of gs)
 all_roles w t same [] h = tt
-all_roles w t same (g ∷ gs) h =
-    let good = h.0 in
-    subst (λ (is : List WorldImport). AllByRecursion (λ i. IsImportRole w i.role) is) (sym (flat_map-cons imports_from (g.name, instances.Names g.fields) (instances_of gs)))
-    (AllByRecursion-append (λ i. IsImportRole w i.role) _ _ (group_roles w t same g.name g.fields good.roles) (all_roles w t same gs h.1))
+all_roles w t same (g ∷ gs) h = (let good = h.0 in (good.apart, group_roles w t same g.fields good.roles), all_roles w t same gs h.1)
 
 -- ---- exports
 
@@ -194,13 +214,13 @@ exports_good t own core all all' (x ∷ es) h e =
     let a = bind_ok (export_of_role t core all x.0 x.1 (found x.0 own.export_roles)) (λ more. exports_after t own core more es) all' e in
     exports_good t own core a.0 all' es (export_good t core all a.0 x.0 x.1 (found x.0 own.export_roles) h a.1) a.2
 
-export_role : (w : ComponentWorld) (t : Table) → w.world.exports ≡ world_items t → (export : Export) → IsOf t export → IsExportRole w export
+export_role : (w : ComponentWorld) (t : Table) → (items_of w).exports ≡ world_items t → (export : Export) → IsOf t export → IsExportRole w export
 export_role w t same export is =
-    let there : Contains (map (λ e. name_of_key e.0) w.world.exports) is.function =
-    subst (λ items. Contains (map (λ e. name_of_key e.0) items) is.function) (sym same) (item_there t is.function is.there) in
+    let there : Contains (exported_functions w) is.function =
+    subst (λ items. Contains (flat_map root_function items) is.function) (sym same) (item_there t is.function is.there) in
     subst (λ (x : Export). IsExportRole w x) (sym is.is) (there, refl, refl)
 
-export_roles : (w : ComponentWorld) (t : Table) → w.world.exports ≡ world_items t → (all : List (List ℕ × Export)) → AllOf t all → AllByRecursion (λ e. IsExportRole w e.1) all
+export_roles : (w : ComponentWorld) (t : Table) → (items_of w).exports ≡ world_items t → (all : List (List ℕ × Export)) → AllOf t all → AllByRecursion (λ e. IsExportRole w e.1) all
 export_roles w t same [] h = tt
 export_roles w t same (e ∷ es) h = (export_role w t same e.1 h.0, export_roles w t same es h.1)
 
@@ -231,15 +251,15 @@ keys_met t all so_far keys' (k ∷ ks) h e =
     let a = bind_ok (required_key t all k) (λ key. required_after t all (so_far ++ key ∷ []) ks) keys' e in
     keys_met t all (so_far ++ a.0 ∷ []) keys' ks (AllByRecursion-push (IsMet t all) so_far a.0 h (key_met t all k a.0 a.1)) a.2
 
-required_of : (w : ComponentWorld) (t : Table) → w.world.exports ≡ world_items t → (all : List (List ℕ × Export)) → w.main.exports.exports ≡ all → (key : WorldKey) → IsMet t all key → IsRequired w key
+required_of : (w : ComponentWorld) (t : Table) → (items_of w).exports ≡ world_items t → (all : List (List ℕ × Export)) → w.main.exports.exports ≡ all → (key : WorldKey) → IsMet t all key → IsRequired w key
 required_of w t same all exports_are key m =
-    let there : Contains (map (λ e. name_of_key e.0) w.world.exports) m.function =
-    subst (λ items. Contains (map (λ e. name_of_key e.0) items) m.function) (sym same) (item_there t m.function m.there) in
+    let there : Contains (map (λ e. e.0) (items_of w).exports) (keys.Name m.function) =
+    subst (λ (items : List (WorldKey × WorldItem)). Contains (map (λ e. e.0) items) (keys.Name m.function)) (sym same) (key_there t m.function m.there) in
     let stands : is_some (found m.function (by_function w.main.exports.exports)) ≡ true =
     ap (λ (xs : List (List ℕ × Export)). is_some (found m.function (by_function xs))) exports_are ∙ m.stands in
     subst (λ (k : WorldKey). IsRequired w k) (sym m.is) (record { exported = there; stands = stands })
 
-all_required : (w : ComponentWorld) (t : Table) → w.world.exports ≡ world_items t → (all : List (List ℕ × Export)) → w.main.exports.exports ≡ all → (ks : List WorldKey)
+all_required : (w : ComponentWorld) (t : Table) → (items_of w).exports ≡ world_items t → (all : List (List ℕ × Export)) → w.main.exports.exports ≡ all → (ks : List WorldKey)
     → AllByRecursion (IsMet t all) ks → AllByRecursion (IsRequired w) ks
 all_required w t same all exports_are [] h = tt
 all_required w t same all exports_are (k ∷ ks) h = (required_of w t same all exports_are k h.0, all_required w t same all exports_are ks h.1)
@@ -279,16 +299,18 @@ main_is_world joint main w e imports_apart exports_apart modules_apart =
     let v : ComponentWorld = world_of joint main groups exported d.0 in
     let apart : IsDistinct bytes_eq (keys_of v.main.imports.modules) = subst (λ (x : ComponentWorld). IsDistinct bytes_eq (keys_of x.main.imports.modules)) (sym made) modules_apart in
     subst IsWorld made (record {
+      sound = alone_sound joint.imports joint.exports;
+      stands = omega arith;
       core = module_begins main.bytes core (unlifted (module_of main.bytes) core a.1);
-      imports_named = named joint.imports;
-      exports_named = named joint.exports;
-      import_keys_apart = subst (λ (ks : List (List ℕ)). IsDistinct bytes_eq ks) (sym (texts_of_items joint.imports)) imports_apart;
-      export_keys_apart = subst (λ (ks : List (List ℕ)). IsDistinct bytes_eq ks) (sym (texts_of_items joint.exports)) exports_apart;
+      imports = named joint.imports;
+      exports = named joint.exports;
+      import_names_apart = subst (λ (ks : List (List ℕ)). IsDistinct bytes_eq ks) (sym (functions_of_items joint.imports)) imports_apart;
+      export_names_apart = subst (λ (ks : List (List ℕ)). IsDistinct bytes_eq ks) (sym (functions_of_items joint.exports)) exports_apart;
       modules_apart = apart;
-      fields_apart = fields_are_apart joint.imports groups good;
       import_roles = all_roles v joint.imports refl groups good;
       export_roles = export_roles v joint.exports refl exported of;
       required = all_required v joint.exports refl exported refl d.0 met;
+      alone = refl;
     })
 
 pub is_world : (joint : Bindgen) (main : Option (Part Bindgen)) (w : ComponentWorld) → preparing_if joint main ≡ Ok w → IsDistinct bytes_eq (keys_of joint.imports)

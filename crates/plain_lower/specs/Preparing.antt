@@ -6,7 +6,7 @@
 -- (Canonical ABI: the flattening of such a function). Each required export has to be a core export's.
 use Rattle.std.specs.Prelude.{⊤, ℕ, ◌==◌, ◌&&◌, Bool, true, false, List, [], ◌∷◌, ◌++◌, length, map, Option, Some, None, ok_or, Result, Ok, Err, is_some, unwrap_or, if◌then◌else◌}
 use Rattle.std.specs.Option.{option_map_or}
-use Rattle.std.specs.List.{slice_get}
+use Rattle.std.specs.List.{slice_get, flat_map}
 use Rattle.std.specs.Map.{lookup}
 use Rattle.std.specs.Str.{bytes_eq}
 use Rattle.comp_lists.specs.Found.{found}
@@ -16,6 +16,8 @@ use Rattle.wit_data.specs.declared.worlds.WorldKey.{WorldKey}
 use Rattle.wit_data.specs.declared.worlds.WorldKey.TheVariants as keys
 use Rattle.wit_data.specs.declared.worlds.WorldItem.{WorldItem}
 use Rattle.wit_data.specs.declared.worlds.WorldItem.TheVariants as items
+use Rattle.wit_data.specs.declared.functions.Function.{Function}
+use Rattle.wit_data.specs.declared.functions.FunctionKind.TheVariants.{Freestanding}
 use Rattle.wit_data.specs.declared.functions.AbiVariant.TheVariants.{GuestImport, GuestExport}
 use Rattle.comp_worlds.specs.declared.imports.Import.{Import}
 use Rattle.comp_worlds.specs.declared.imports.Import.TheVariants as imports
@@ -30,7 +32,7 @@ use Rattle.comp_worlds.specs.declared.gathered.Gathered.{Gathered}
 use Rattle.comp_worlds.specs.declared.metadata.FunctionKey.{FunctionKey}
 use Rattle.comp_worlds.specs.declared.world.ValidatedModule.{ValidatedModule}
 use Rattle.comp_worlds.specs.declared.world.ComponentWorld.{ComponentWorld}
-use Rattle.comp_worlds.specs.Worlds.{exported_text}
+use Rattle.comp_worlds.specs.Worlds.{root_export}
 use Rattle.core_sections.specs.declared.core_module.CoreModule.{CoreModule}
 use Rattle.core_sections.specs.declared.entries.FuncType.{FuncType}
 use Rattle.core_sections.specs.declared.entries.EntityType.{EntityType}
@@ -151,7 +153,7 @@ exports_after table own core all (e ∷ es) =
 
 -- the core exports, each found by the function that it is for
 abbrev pub by_function : List (List ℕ × Export) → List (List ℕ × List ℕ)
-by_function all = map (λ e. (exported_text e.1, e.0)) all
+by_function all = flat_map root_export all
 
 -- a required export is a function that the world exports, and some core export is for it
 abbrev pub required_key : Table → List (List ℕ × Export) → ExportKey → Result WorldKey Failure
@@ -165,8 +167,11 @@ required_after table all keys (k ∷ ks) = required_key table all k >>= λ key. 
 
 -- ---- the world
 
+abbrev pub plain_function : List ℕ → Function
+plain_function name = record { name = name; kind = Freestanding; params = []; result = None }
+
 abbrev pub world_items : Table → List (WorldKey × WorldItem)
-world_items table = map (λ e. (keys.Name e.0, items.Function (record { name = e.0 }))) table
+world_items table = map (λ e. (keys.Name e.0, items.Function (plain_function e.0))) table
 
 abbrev pub encodings_of : Table → List (FunctionKey × StringEncoding)
 encodings_of table = map (λ e. (record { key = keys.Name e.0; function = e.0 }, e.1)) table
@@ -181,9 +186,15 @@ main_of main groups exported = record {
 
 unfoldable pub world_of : Bindgen → Part Bindgen → List Group → List (List ℕ × Export) → List WorldKey → ComponentWorld
 world_of joint main groups exported required = record {
-  world = record { imports = world_items joint.imports; exports = world_items joint.exports };
+  resolve = record {
+    interfaces = [];
+    types = [];
+    worlds = record { imports = world_items joint.imports; exports = world_items joint.exports } ∷ [];
+  };
+  world = record { index = 0 };
   main = main_of main groups exported;
   main_exports = required;
+  adapters = [];
 }
 
 unfoldable pub preparing_main : Bindgen → Part Bindgen → Result ComponentWorld Failure

@@ -5,7 +5,8 @@ ghost use Rattle.std.specs.Option.{option_copied};
 ghost use Rattle.std.specs.Str.{bytes_eq};
 ghost use Rattle.comp_lists.specs.Found.{found};
 ghost use Rattle.comp_lists.specs.Tables.{with_first};
-ghost use Rattle.comp_worlds.specs.Worlds.{exported_text};
+ghost use Rattle.comp_worlds.specs.Worlds.{root_export};
+ghost use Rattle.plain_lower.specs.Grouping.{Indexes};
 ghost use Rattle.plain_lower.specs.Faults.{Gives};
 ghost use Rattle.plain_lower.specs.Preparing.{with_export, export_of_role, exports_after, by_function, required_key, required_after};
 
@@ -14,9 +15,10 @@ use crate::fault::{Failure, Refusal};
 use crate::fitting::fits_export;
 use crate::roles::Role;
 use comp_lists::{Keyed, Seq, Text};
-use comp_worlds::{AbiVariant, Export, ExportKey, StringEncoding, WorldKey};
+use comp_worlds::{Export, ExportKey, StringEncoding};
 use core_sections::{CoreModule, ExportedItem};
 use std::alloc::{AllocError, Global};
+use wit_data::{AbiVariant, WorldKey};
 
 /// Adds an export, which is for this function.
 fn add_export(
@@ -81,18 +83,20 @@ pub(crate) fn read_exports(
 }
 
 /// Adds a core export under the function that it is for, unless one is there.
+#[tactic(auto, using(crate::proofs::Indexing::indexes_one, crate::proofs::Indexing::indexes_none))]
 fn index_export(
     alloc: Global,
     functions: &mut Keyed<Text, Text>,
     name: &Text,
     export: &Export,
 ) -> Result<(), AllocError>
-    ensures { OnOk result (functions.new ≡ with_first bytes_eq functions.old (exported_text export.now) name.now) }
+    ensures { OnOk result (Indexes functions.old functions.new (root_export (name.now, export.now))) }
 {
     match export {
-        Export::WorldFunc(key, _, _) => {
-            functions.add_first(key.text().clone(alloc)?, name.clone(alloc)?)
+        Export::WorldFunc(WorldKey::Name(function), _, _) => {
+            functions.add_first(function.clone(alloc)?, name.clone(alloc)?)
         }
+        _ => Ok(()),
     }
 }
 

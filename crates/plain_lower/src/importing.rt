@@ -15,9 +15,10 @@ use crate::fault::{Failure, Refusal};
 use crate::fitting::fits_import;
 use crate::roles::{ImportName, Role};
 use comp_lists::{Keyed, Text};
-use comp_worlds::{AbiVariant, Import, ImportInstance, ImportMap, StringEncoding, WorldKey};
+use comp_worlds::{Import, ImportInstance, ImportMap, StringEncoding};
 use core_sections::{CoreImport, CoreModule};
 use std::alloc::{AllocError, Global};
+use wit_data::{AbiVariant, WorldKey};
 
 /// The fields that main imports from one module.
 #[derive(Drop)]

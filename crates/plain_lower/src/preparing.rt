@@ -1,6 +1,6 @@
 //! The validated world.
 
-ghost use Rattle.std.specs.Prelude.{◌≡◌, IfOk, OnOk};
+ghost use Rattle.std.specs.Prelude.{◌≡◌, [], ◌∷◌, IfOk, OnOk};
 ghost use Rattle.std.specs.List.{IsDistinct};
 ghost use Rattle.std.specs.Map.{keys_of};
 ghost use Rattle.std.specs.Str.{bytes_eq};
@@ -13,12 +13,13 @@ use crate::fault::{Failure, Refusal};
 use crate::importing::{Group, read_imports};
 use comp_lists::{Keyed, Seq, Text};
 use comp_worlds::{
-    ComponentWorld, Export, ExportMap, Function, FunctionKey, Gathered, ImportInstance, ImportMap,
-    ModuleMetadata, Part, StringEncoding, ValidatedModule, World, WorldItem, WorldKey,
+    ComponentWorld, Export, ExportMap, FunctionKey, Gathered, ImportInstance, ImportMap,
+    ModuleMetadata, Part, StringEncoding, ValidatedModule,
 };
 use core_sections::read_module;
 use std::alloc::{AllocError, Global};
 use std::hash::Hash;
+use wit_data::{Function, FunctionKind, Resolve, World, WorldId, WorldItem, WorldKey};
 
 /// A table of these entries, whose keys are apart.
 #[tactic(auto, using(comp_lists::proofs::TableLemmas::absent))]
@@ -49,6 +50,9 @@ fn items_of(
         let key = WorldKey::Name(name.clone(alloc)?);
         let function = Function {
             name: name.clone(alloc)?,
+            kind: FunctionKind::Freestanding,
+            params: Seq::new(alloc),
+            result: None,
         };
         items.push((key, WorldItem::Function(function)))?;
     }
@@ -146,6 +150,19 @@ fn validated(
     })
 }
 
+/// One world, with no interfaces and no types.
+fn resolve_of(alloc: Global, world: World) -> Result<Resolve, AllocError>
+    ensures { IfOk result (λ r. r ≡ record { interfaces = []; types = []; worlds = world ∷ [] }) }
+{
+    let mut worlds = Seq::new(alloc);
+    worlds.push(world)?;
+    Ok(Resolve {
+        interfaces: Seq::new(alloc),
+        types: Seq::new(alloc),
+        worlds,
+    })
+}
+
 /// The world that is made of these.
 #[tactic(auto, unfolding(crate::specs::Preparing::world_of))]
 fn world_of(
@@ -167,9 +184,11 @@ fn world_of(
         exports: world_side(alloc, &joint.exports)?,
     };
     Ok(ComponentWorld {
-        world,
+        resolve: resolve_of(alloc, world)?,
+        world: WorldId { index: 0 },
         main: validated(alloc, main, groups, exports)?,
         main_exports,
+        adapters: Keyed::new(alloc),
     })
 }
 

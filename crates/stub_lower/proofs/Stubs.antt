@@ -7,7 +7,10 @@ use Rattle.comp_worlds.specs.declared.gathered.Gathered.{Gathered}
 use Rattle.comp_worlds.specs.declared.world.ComponentWorld.{ComponentWorld}
 use Rattle.comp_worlds.specs.Worlds.{IsWorld, core_preamble}
 use Rattle.comp_encoder.specs.Encoder.{main_bytes}
-use Rattle.stub_lower.specs.Stub.{stub_world, PrepareCause}
+use Rattle.wit_data.specs.Values.{values_from}
+use Rattle.wit_data.specs.Sizes.{AreSmall}
+use Rattle.wit_data.specs.Sound.{IsSound}
+use Rattle.stub_lower.specs.Stub.{stub_resolve, stub_world, PrepareCause}
 use Rattle.stub_lower.specs.declared.stub.StubFault.{StubFault}
 use Rattle.stub_lower.specs.declared.stub.StubFault.TheVariants as faults
 use Rattle.stub_lower.specs.declared.stub.StubLower.TheVariants as layers
@@ -20,18 +23,33 @@ none : IsDistinct bytes_eq []
 unfolding IsDistinct
 none = tt
 
+small : AreSmall []
+unfolding values_from
+small = record { labels = tt; nodes = tt; levels = tt }
+
+sound : IsSound stub_resolve
+sound = record {
+  back = tt;
+  small = small;
+  owners = tt;
+  interfaces = tt;
+  worlds = (record { imports = ((tt, record { resource = tt; params = tt; result = tt }), tt); exports = tt }, tt);
+}
+
 valid_of : (bytes : List ℕ) → take 8 bytes ≡ core_preamble → IsWorld (stub_world bytes)
 valid_of bytes core = record {
+  sound = sound;
+  stands = omega arith;
   core = core;
-  imports_named = (refl, tt);
-  exports_named = tt;
-  import_keys_apart = alone (codes "f");
-  export_keys_apart = none;
+  imports = ((refl, record { kind = refl; params = refl; result = refl }), tt);
+  exports = tt;
+  import_names_apart = alone (codes "f");
+  export_names_apart = none;
   modules_apart = alone (codes "$root");
-  fields_apart = (alone (codes "f"), tt);
-  import_roles = (((0, omega arith, refl), refl, refl), tt);
+  import_roles = ((alone (codes "f"), (((0, omega arith, refl), refl, refl), tt)), tt);
   export_roles = tt;
   required = tt;
+  alone = refl;
 }
 
 pub valid : (w : ComponentWorld) (bytes : List ℕ) → w ≡ stub_world bytes → take 8 bytes ≡ core_preamble → IsWorld w

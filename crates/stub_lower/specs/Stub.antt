@@ -1,5 +1,5 @@
 -- What the stub answers: the same world for every module. (For tests alone; no standard speaks of it.)
-use Rattle.std.specs.Prelude.{◌≡◌, ◌≢◌, ℕ, List, [], ◌∷◌, ⊤, Bool, true, false, ◌⊎◌, codes, take}
+use Rattle.std.specs.Prelude.{◌≡◌, ◌≢◌, ℕ, List, [], ◌∷◌, ⊤, Bool, true, false, None, ◌⊎◌, codes, take}
 use Rattle.comp_worlds.specs.declared.gathered.Gathered.{Gathered}
 use Rattle.comp_worlds.specs.declared.gathered.Merged.{Merged}
 use Rattle.comp_worlds.specs.declared.imports.ImportMap.{ImportMap}
@@ -8,6 +8,8 @@ use Rattle.comp_worlds.specs.declared.imports.Import.TheVariants as roles
 use Rattle.wit_data.specs.declared.worlds.World.{World}
 use Rattle.wit_data.specs.declared.worlds.WorldKey.TheVariants.{Name}
 use Rattle.wit_data.specs.declared.worlds.WorldItem.TheVariants as items
+use Rattle.wit_data.specs.declared.resolve.Resolve.{Resolve}
+use Rattle.wit_data.specs.declared.functions.FunctionKind.TheVariants.{Freestanding}
 use Rattle.wit_data.specs.declared.functions.AbiVariant.TheVariants.{GuestImport}
 use Rattle.comp_worlds.specs.declared.world.ComponentWorld.{ComponentWorld}
 use Rattle.comp_worlds.specs.Worlds.{core_preamble}
@@ -29,12 +31,16 @@ stub_imports = record { modules = (codes "$root", Names ((codes "f", roles.World
 
 -- the world imports the root function `f`, and exports nothing
 abbrev pub stub_items : World
-stub_items = record { imports = (Name (codes "f"), items.Function (record { name = codes "f" })) ∷ []; exports = [] }
+stub_items = record { imports = (Name (codes "f"), items.Function (record { name = codes "f"; kind = Freestanding; params = []; result = None })) ∷ []; exports = [] }
+
+abbrev pub stub_resolve : Resolve
+stub_resolve = record { interfaces = []; types = []; worlds = stub_items ∷ [] }
 
 -- there is no string encoding for any function
 abbrev pub stub_world : List ℕ → ComponentWorld
 stub_world bytes = record {
-  world = stub_items;
+  resolve = stub_resolve;
+  world = record { index = 0 };
   main = record {
     bytes = bytes;
     imports = stub_imports;
@@ -42,6 +48,7 @@ stub_world bytes = record {
     metadata = record { import_encodings = []; export_encodings = [] };
   };
   main_exports = [];
+  adapters = [];
 }
 
 abbrev pub world_of : Gathered ⊤ → ComponentWorld

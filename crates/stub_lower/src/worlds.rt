@@ -1,15 +1,15 @@
 //! The world that the stub answers.
 
 ghost use Rattle.std.specs.Prelude.{◌≡◌, IfOk, take};
-ghost use Rattle.stub_lower.specs.Stub.{stub_imports, stub_items, stub_world};
+ghost use Rattle.stub_lower.specs.Stub.{stub_imports, stub_items, stub_resolve, stub_world};
 ghost use Rattle.comp_worlds.specs.Worlds.{IsWorld, core_preamble};
 
 use comp_lists::{Keyed, Seq, Text};
 use comp_worlds::{
-    AbiVariant, ComponentWorld, ExportMap, Function, Import, ImportInstance, ImportMap,
-    ModuleMetadata, ValidatedModule, World, WorldItem, WorldKey,
+    ComponentWorld, ExportMap, Import, ImportInstance, ImportMap, ModuleMetadata, ValidatedModule,
 };
 use std::alloc::{AllocError, Global};
+use wit_data::{AbiVariant, Function, FunctionKind, Resolve, World, WorldId, WorldItem, WorldKey};
 
 /// Main imports `f` of `$root`, which is the root function `f`.
 fn imports(alloc: Global) -> Result<ImportMap, AllocError>
@@ -33,12 +33,30 @@ fn items(alloc: Global) -> Result<World, AllocError>
     ensures { IfOk result (λ w. w ≡ stub_items) }
 {
     let key = WorldKey::Name(Text::from_str(alloc, "f")?);
-    let name = Text::from_str(alloc, "f")?;
+    let function = Function {
+        name: Text::from_str(alloc, "f")?,
+        kind: FunctionKind::Freestanding,
+        params: Seq::new(alloc),
+        result: None,
+    };
     let mut imports = Keyed::new(alloc);
-    imports.add_first(key, WorldItem::Function(Function { name }))?;
+    imports.add_first(key, WorldItem::Function(function))?;
     Ok(World {
         imports,
         exports: Keyed::new(alloc),
+    })
+}
+
+/// The world alone.
+fn resolve(alloc: Global) -> Result<Resolve, AllocError>
+    ensures { IfOk result (λ r. r ≡ stub_resolve) }
+{
+    let mut worlds = Seq::new(alloc);
+    worlds.push(items(alloc)?)?;
+    Ok(Resolve {
+        interfaces: Seq::new(alloc),
+        types: Seq::new(alloc),
+        worlds,
     })
 }
 
@@ -47,7 +65,8 @@ fn world_of(alloc: Global, bytes: &[u8]) -> Result<ComponentWorld, AllocError>
 {
     let bytes = Seq::from_vec(Vec::from_slice(alloc, bytes)?);
     Ok(ComponentWorld {
-        world: items(alloc)?,
+        resolve: resolve(alloc)?,
+        world: WorldId { index: 0 },
         main: ValidatedModule {
             bytes,
             imports: imports(alloc)?,
@@ -60,6 +79,7 @@ fn world_of(alloc: Global, bytes: &[u8]) -> Result<ComponentWorld, AllocError>
             },
         },
         main_exports: Seq::new(alloc),
+        adapters: Keyed::new(alloc),
     })
 }
 

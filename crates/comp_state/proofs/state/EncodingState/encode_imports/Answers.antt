@@ -1,5 +1,5 @@
 use Rattle.std.proofs.Common.{◌≡◌, ◌∙◌, List, [], ◌∷◌, ap, subst, sym}
-use Rattle.comp_worlds.specs.Worlds.{world_of, IsWorld}
+use Rattle.comp_worlds.specs.Worlds.{items_of, IsWorld}
 use Rattle.comp_worlds.specs.declared.world.ComponentWorld.{ComponentWorld}
 use Rattle.wit_data.specs.declared.worlds.World.{World}
 use Rattle.wit_data.specs.declared.worlds.WorldKey.{WorldKey}
@@ -11,8 +11,8 @@ use Rattle.comp_state.proofs.state.EncodingState.encode_imports.Goals as goal
 pub loop-key-init : goal.loop-key-init
 loop-key-init c =
     let world : c.self.inside.world.now ≡ c.args.self.now.world = ap (λ (e : Encoding). e.world) c.self.view_is in
-    let items : c.into_iter-key-iterator.result ≡ (world_of c.args.self.now.world).imports =
-    c.into_iter-key-iterator.ensures.into_iter_gives ∙ c.entries-key-items.ensures.rest ∙ ap (λ (w : World). w.imports) c.items.ensures ∙ ap (λ (w : ComponentWorld). (world_of w).imports) world in
+    let items : c.into_iter-key-iterator.result ≡ (items_of c.args.self.now.world).imports =
+    c.into_iter-key-iterator.ensures.into_iter_gives ∙ c.entries-key-items.ensures.rest ∙ ap (λ (w : World). w.imports) c.items.ensures ∙ ap (λ (w : ComponentWorld). (items_of w).imports) world in
     (tt, tt, subst (λ (es : List (WorldKey × WorldItem)). ImportsSoFar c.args.self.now c.args.self.now es) (sym items) (imports_start c.args.self.now))
 
 pub loop-key-preserved : goal.loop-key-preserved
