@@ -20,9 +20,11 @@ mod flattening;
 mod functions;
 mod ids;
 mod names;
+mod parts;
 mod resolve;
 mod signatures;
 mod types;
+mod versions;
 mod worlds;
 
 pub use comp_bytes::Primitive;
@@ -32,4 +34,5 @@ pub use names::IdName;
 pub use resolve::{Interface, Resolve};
 pub use signatures::{WasmSignature, WasmType};
 pub use types::{Case, Field, ResultType, Type, TypeDef, TypeDefKind, TypeOwner};
+pub use versions::{CanonicalVersion, canonical_version};
 pub use worlds::{World, WorldItem, WorldKey};
