@@ -16,6 +16,7 @@
 //! and their keys), `resolve` (all of it together).
 #![tactic(auto)]
 
+mod contents;
 mod flattening;
 mod functions;
 mod ids;
@@ -28,6 +29,7 @@ mod versions;
 mod worlds;
 
 pub use comp_bytes::Primitive;
+pub use contents::TypeContents;
 pub use functions::{AbiVariant, Function, FunctionKind, Param};
 pub use ids::{InterfaceId, TypeId, WorldId};
 pub use names::IdName;

@@ -4,13 +4,13 @@ ghost use Rattle.std.specs.Prelude.{◌≡◌, ◌++◌, ◌∷◌, [], IfOk, On
 ghost use Rattle.semver.specs.Identifiers.{parts_of, parts_text};
 ghost use Rattle.wit_data.specs.Versions.{canonical_version};
 ghost use Rattle.wit_data.specs.Sound.{IsSound, HasKey, HasInterface};
-ghost use Rattle.wit_data.specs.Names.{path_text, version_part, id_text, canonical_id_text, version_suffix, id_name_of, key_text, canonical_key_text, text_of};
+ghost use Rattle.wit_data.specs.Names.{name_parts, path_text, version_part, id_text, canonical_id_text, version_suffix, id_name_of, key_text, canonical_key_text, text_of};
 
 use crate::ids::InterfaceId;
 use crate::resolve::Resolve;
 use crate::versions::canonical_version;
 use crate::worlds::WorldKey;
-use comp_lists::{Text, TryClone};
+use comp_lists::Text;
 use semver::Version;
 use std::alloc::{AllocError, Global};
 
@@ -24,17 +24,6 @@ pub struct IdName {
     pub version: Option<Version>,
 }
 
-impl TryClone for IdName {
-    fn try_clone(&self, alloc: Global) -> Result<IdName, AllocError> {
-        Ok(IdName {
-            namespace: self.namespace.clone(alloc)?,
-            package: self.package.clone(alloc)?,
-            interface: self.interface.clone(alloc)?,
-            version: self.version.clone()?,
-        })
-    }
-}
-
 /// Writes a sign and a text behind it.
 fn put_part(out: &mut String, sign: &str, text: &str) -> Result<(), AllocError>
     ensures { OnOk result (string_bytes out.new ≡ string_bytes out.old ++ (sign.now ++ text.now)) }
@@ -45,6 +34,18 @@ fn put_part(out: &mut String, sign: &str, text: &str) -> Result<(), AllocError>
 }
 
 impl IdName {
+    /// An equal name. The only refusal is want of memory.
+    pub fn clone(&self, alloc: Global) -> Result<IdName, AllocError>
+        ensures { IfOk result (λ name. name_parts name ≡ name_parts self.now) }
+    {
+        Ok(IdName {
+            namespace: self.namespace.clone(alloc)?,
+            package: self.package.clone(alloc)?,
+            interface: self.interface.clone(alloc)?,
+            version: self.version.clone()?,
+        })
+    }
+
     /// The name with its whole version, as `a:b/c@1.2.3`. The only refusal is want of memory.
     pub fn text(&self, alloc: Global) -> Result<Text, AllocError>
         ensures { IfOk result (λ t. t ≡ id_text self.now) }
