@@ -1,5 +1,5 @@
 -- What is met in the parts of a type, one after the other.
-use Rattle.std.proofs.Common.{◌≡◌, ℕ, zero, suc, ◌+◌, ◌<◌, Bool, true, false, ◌||◌, List, [], ◌∷◌, length, get_or, drop, map, refl, ap, subst, ◌∙◌, sym, arith, Option, None, if◌then◌else◌}
+use Rattle.std.proofs.Common.{◌≡◌, ℕ, zero, suc, ◌+◌, ◌<◌, Bool, true, false, ◌||◌, List, [], ◌∷◌, length, get_or, drop, refl, ap, ◌∙◌, sym, arith, Option, None, if◌then◌else◌}
 use Rattle.std.specs.List.{list_any}
 use Rattle.std.proofs.lemmas.List.{length-map}
 use Rattle.wit_data.specs.declared.types.Type.{«Type» as Ty}
@@ -9,7 +9,6 @@ use Rattle.wit_data.specs.Parts.{parts, RefersBack}
 use Rattle.wit_data.specs.Contents.{is_entered, is_list, finding_texts, finding_lists}
 use Rattle.wit_data.specs.Values.{Making, part_value, values, part_values, kind_at, value}
 use Rattle.wit_data.proofs.Values.{made_whole, part_value_at}
-
 
 pub drop_next : {X : Type 0} (xs : List X) (n : ℕ) (d : X) → n < length xs → drop n xs ≡ get_or xs n d ∷ drop (n + 1) xs
 drop_next [] n d l = absurd (omega (arith, l))

@@ -20,6 +20,7 @@ mod contents;
 mod flattening;
 mod functions;
 mod ids;
+mod liveness;
 mod names;
 mod parts;
 mod resolve;

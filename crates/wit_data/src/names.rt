@@ -122,7 +122,10 @@ impl Resolve {
     {
         match key {
             WorldKey::Name(text) => text.clone(alloc),
-            WorldKey::Interface(id) => Ok(text_or_empty(alloc, self.canonicalized_id_of(alloc, *id)?)),
+            WorldKey::Interface(id) => Ok(text_or_empty(
+                alloc,
+                self.canonicalized_id_of(alloc, *id)?,
+            )),
         }
     }
 

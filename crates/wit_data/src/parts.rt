@@ -40,12 +40,8 @@ impl TypeDefKind {
             TypeDefKind::Enum(_) => None,
             TypeDefKind::Flags(_) => None,
             TypeDefKind::Tuple(types) => Some(types.as_slice()[n]),
-            TypeDefKind::Option(ty) => {
-                if n == 0 { None } else { Some(*ty) }
-            }
-            TypeDefKind::Result(ty) => {
-                if n == 0 { ty.ok } else { ty.err }
-            }
+            TypeDefKind::Option(ty) => { if n == 0 { None } else { Some(*ty) } }
+            TypeDefKind::Result(ty) => { if n == 0 { ty.ok } else { ty.err } }
             TypeDefKind::List(ty) => Some(*ty),
             TypeDefKind::Own(id) => Some(Type::Id(*id)),
             TypeDefKind::Borrow(id) => Some(Type::Id(*id)),

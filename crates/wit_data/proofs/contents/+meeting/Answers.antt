@@ -1,4 +1,4 @@
-use Rattle.std.proofs.Common.{◌≡◌, ◌<◌, ◌||◌, ◌+◌, length, get_or, false, ap, subst, sym, arith}
+use Rattle.std.proofs.Common.{◌<◌, ◌+◌, length, subst, sym, arith}
 use Rattle.wit_data.specs.Parts.{parts}
 use Rattle.wit_data.specs.Values.{part_values, kind_at}
 use Rattle.wit_data.specs.Contents.{finding_texts, finding_lists}
@@ -25,6 +25,7 @@ met_in_parts-loop-n-preserved t c =
     let text_place : c.loop-n.n < length texts = omega (arith, place, parts_long finding_texts c.args.types.now c.args.id) in
     let list_place : c.loop-n.n < length lists = omega (arith, place, parts_long finding_lists c.args.types.now c.args.id) in
     let text = met_at finding_texts c.args.types.now c.args.id c.loop-n.n c.met_in.result.text c.part_of.result place c.met_in.ensures.text c.part_of.ensures.value in
-    let list = met_at finding_lists c.args.types.now c.args.id c.loop-n.n c.met_in.result.list c.part_of.result place c.met_in.ensures.list c.part_of.ensures.value in
-    (subst (λ b. MetSoFar c.args.before.text b (c.loop-n.n + 1) texts) (sym c.or-met.ensures.text) (met_step c.args.before.text c.loop-n.met.text c.met_in.result.text c.loop-n.n texts text_place text c.loop-n.invariant.0)
-    , subst (λ b. MetSoFar c.args.before.list b (c.loop-n.n + 1) lists) (sym c.or-met.ensures.list) (met_step c.args.before.list c.loop-n.met.list c.met_in.result.list c.loop-n.n lists list_place list c.loop-n.invariant.1))
+    let list = met_at finding_lists c.args.types.now c.args.id c.loop-n.n c.met_in.result.list c.part_of.result place c.met_in.ensures.list c.part_of.ensures.value in (
+      subst (λ b. MetSoFar c.args.before.text b (c.loop-n.n + 1) texts) (sym c.or-met.ensures.text) (met_step c.args.before.text c.loop-n.met.text c.met_in.result.text c.loop-n.n texts text_place text c.loop-n.invariant.0),
+      subst (λ b. MetSoFar c.args.before.list b (c.loop-n.n + 1) lists) (sym c.or-met.ensures.list) (met_step c.args.before.list c.loop-n.met.list c.met_in.result.list c.loop-n.n lists list_place list c.loop-n.invariant.1),
+    )

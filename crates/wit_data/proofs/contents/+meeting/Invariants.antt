@@ -1,4 +1,4 @@
-use Rattle.std.proofs.Common.{◌≡◌, ◌+◌, ◌*◌, ℕ}
+use Rattle.std.proofs.Common.{◌+◌, ◌*◌}
 use Rattle.wit_data.specs.Values.{part_values}
 use Rattle.wit_data.specs.Contents.{finding_texts, finding_lists}
 use Rattle.wit_data.specs.Parts.{height}
