@@ -20,6 +20,7 @@ mod flattening;
 mod functions;
 mod ids;
 mod names;
+mod parts;
 mod resolve;
 mod signatures;
 mod types;
