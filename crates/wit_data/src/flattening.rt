@@ -1,4 +1,14 @@
-//! How types become core values.
+//! How types become core values (Canonical ABI: `flatten_type`).
+
+ghost use Rattle.std.specs.Prelude.{◌≡◌, ◌<◌, ◌≤◌, ◌++◌, length, get_or, min, ◌+◌, []};
+ghost use Rattle.std.specs.List.{flat_map};
+ghost use Rattle.wit_data.specs.Values.{values, part_values};
+ghost use Rattle.wit_data.specs.Parts.{RefersBack, IsBelow, height};
+ghost use Rattle.wit_data.specs.Flat.{flat, flat_primitive, flattening, joined, shape};
+
+use crate::parts::{part_count_of, part_of};
+use crate::types::{Type, TypeDef, TypeDefKind};
+use comp_bytes::Primitive;
 
 /// How the core values of a type follow from those of the types that it names.
 #[derive(Clone, Copy, Debug, PartialEq, Eq)]
@@ -11,4 +21,110 @@ pub(crate) enum Shape {
     Product,
     /// A number that tells the case, and those of the cases, place by place.
     Sum,
+}
+
+/// How the core values of a type of this kind follow from those of the types that it names.
+fn shape_of(kind: &TypeDefKind) -> Shape
+    ensures { result ≡ shape kind.now }
+{
+    match kind {
+        TypeDefKind::Record(_) => Shape::Product,
+        TypeDefKind::Variant(_) => Shape::Sum,
+        TypeDefKind::Enum(_) => Shape::Single,
+        TypeDefKind::Flags(_) => Shape::Single,
+        TypeDefKind::Tuple(_) => Shape::Product,
+        TypeDefKind::Option(_) => Shape::Sum,
+        TypeDefKind::Result(_) => Shape::Sum,
+        TypeDefKind::List(_) => Shape::Pair,
+        TypeDefKind::Own(_) => Shape::Single,
+        TypeDefKind::Borrow(_) => Shape::Single,
+        TypeDefKind::Resource => Shape::Single,
+        TypeDefKind::Stream(_) => Shape::Single,
+        TypeDefKind::Future(_) => Shape::Single,
+        TypeDefKind::Alias(_) => Shape::Product,
+    }
+}
+
+/// The least count of core values that no function has room for.
+pub(crate) const MANY: usize = 17;
+
+/// How many core values a type has, or 17 if there are more.
+#[cycle(counting)]
+pub(crate) fn flat_count(types: &[TypeDef], part: Option<Type>) -> usize
+    requires back { RefersBack types.now }
+    requires stands { IsBelow (length types.now) part }
+    ensures count { result ≡ min (length (flat types.now part)) 17 }
+    ensures small { result ≤ 17 }
+{
+    match part {
+        None => 0,
+        Some(Type::Primitive(primitive)) => primitive_count(primitive),
+        Some(Type::Id(id)) => shape_count(types, id.index),
+    }
+}
+
+fn primitive_count(primitive: Primitive) -> usize
+    ensures { result ≡ length (flat_primitive primitive) }
+{
+    match primitive {
+        Primitive::String => 2,
+        _ => 1,
+    }
+}
+
+#[cycle(counting)]
+fn shape_count(types: &[TypeDef], id: usize) -> usize
+    requires back { RefersBack types.now }
+    requires stands { id < length types.now }
+    ensures { result ≡ min (length (get_or (values flattening types.now) id [])) 17 }
+{
+    match shape_of(&types[id].kind) {
+        Shape::Single => 1,
+        Shape::Pair => 2,
+        Shape::Product => count_together(types, id),
+        Shape::Sum => tagged_count(count_of_longest(types, id)),
+    }
+}
+
+/// The count with one more core value, which tells the case.
+fn tagged_count(count: usize) -> usize
+    requires { count ≤ 17 }
+    ensures { result ≡ min (1 + count) 17 }
+{
+    if count < MANY { 1 + count } else { MANY }
+}
+
+/// The core values of all parts together.
+#[cycle(counting)]
+fn count_together(types: &[TypeDef], id: usize) -> usize
+    requires back { RefersBack types.now }
+    requires stands { id < length types.now }
+    ensures { result ≡ min (length (flat_map (λ f. f) (part_values flattening types.now id))) 17 }
+{
+    let mut total: usize = 0;
+    for place in 0..part_count_of(types, id) {
+        total += flat_count(types, part_of(types, id, place));
+        if total >= MANY {
+            return MANY;
+        }
+    }
+    total
+}
+
+/// The core values of the part that has most.
+#[cycle(counting)]
+fn count_of_longest(types: &[TypeDef], id: usize) -> usize
+    requires back { RefersBack types.now }
+    requires stands { id < length types.now }
+    ensures { result ≡ min (length (joined [] (part_values flattening types.now id))) 17 }
+{
+    let mut most: usize = 0;
+    for place in 0..part_count_of(types, id) {
+        let count = flat_count(types, part_of(types, id, place));
+        if count >= MANY {
+            return MANY;
+        }
+        most = most.max(count);
+    }
+    most
 }
