@@ -1,12 +1,11 @@
 -- How large types are. (The component model sets no limit; these are this project's own, but for the
 -- labels of flags.)
-use Rattle.std.specs.Prelude.{ℕ, ◌+◌, ◌≤◌, max, length, List, [], ◌∷◌, Option}
+use Rattle.std.specs.Prelude.{ℕ, ◌+◌, ◌≤◌, max, length, List, [], ◌∷◌}
 use Rattle.std.specs.List.{AllByRecursion}
-use Rattle.wit_data.specs.declared.types.Type.{«Type» as Ty}
 use Rattle.wit_data.specs.declared.types.TypeDefKind.{TypeDefKind}
 use Rattle.wit_data.specs.declared.types.TypeDefKind.TheVariants as kinds
 use Rattle.wit_data.specs.declared.types.TypeDef.{TypeDef}
-use Rattle.wit_data.specs.Values.{Making, values, value}
+use Rattle.wit_data.specs.Values.{Making, values}
 
 abbrev pub sum : List ℕ → ℕ
 sum [] = 0

@@ -1,10 +1,10 @@
-use Rattle.std.proofs.Common.{◌≡◌, ◌<◌, ◌≤◌, length, get_or, min, max, ◌+◌, [], ◌∷◌, ap, ◌∙◌, sym, arith}
-use Rattle.wit_data.specs.Values.{values, part_values, kind_at}
+use Rattle.std.proofs.Common.{◌≡◌, ◌<◌, ◌≤◌, length, min, max, [], ◌∷◌, ap, ◌∙◌, sym, arith}
+use Rattle.wit_data.specs.Values.{part_values, kind_at}
 use Rattle.wit_data.specs.Parts.{parts}
 use Rattle.wit_data.specs.Flat.{flattening, joined}
 use Rattle.wit_data.specs.declared.flattening.Shape.TheVariants.{Single, Pair, Product, Sum}
 use Rattle.wit_data.specs.declared.signatures.WasmType.TheVariants.{I32}
-use Rattle.wit_data.proofs.Counts.{TotalSoFar, GreatestSoFar, total_step, total_stop, total_end, greatest_step, greatest_stop, greatest_end}
+use Rattle.wit_data.proofs.Counts.{total_step, total_stop, total_end, greatest_step, greatest_stop, greatest_end}
 use Rattle.wit_data.proofs.FlatCounts.{flat_at, part_counts, part_count_at, length_part_counts, length_together, longest_joined}
 use Rattle.wit_data.proofs.flattening.+counting.Goals as goal
 

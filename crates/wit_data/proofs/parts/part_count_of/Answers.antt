@@ -1,4 +1,4 @@
-use Rattle.std.proofs.Common.{◌≡◌, length, get_or, ap, ◌∙◌}
+use Rattle.std.proofs.Common.{length, ap, ◌∙◌}
 use Rattle.wit_data.specs.Parts.{parts}
 use Rattle.wit_data.proofs.Values.{kind_there}
 use Rattle.wit_data.proofs.parts.part_count_of.Goals as goal

@@ -1,6 +1,6 @@
-use Rattle.std.proofs.Common.{◌≡◌, ◌<◌, length, get_or, ap, ◌∙◌, subst, sym, None}
+use Rattle.std.proofs.Common.{◌<◌, length, get_or, ap, ◌∙◌, subst, sym, None}
 use Rattle.wit_data.specs.Values.{kind_at}
-use Rattle.wit_data.specs.Parts.{parts, IsBelow, height}
+use Rattle.wit_data.specs.Parts.{parts, IsBelow}
 use Rattle.wit_data.proofs.Values.{kind_there, parts_below, all_at, below_later, height_below}
 use Rattle.wit_data.proofs.parts.part_of.Goals as goal
 
