@@ -23,6 +23,8 @@ mod names;
 mod parts;
 mod resolve;
 mod signatures;
+mod sizes;
+mod soundness;
 mod types;
 mod worlds;
 
