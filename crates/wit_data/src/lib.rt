@@ -25,6 +25,8 @@ mod names;
 mod parts;
 mod resolve;
 mod signatures;
+mod sizes;
+mod soundness;
 mod types;
 mod versions;
 mod worlds;

@@ -1,13 +1,13 @@
-//! What types name, place by place.
+//! The types that a type names, as one list for every kind.
 
 ghost use Rattle.std.specs.Prelude.{◌≡◌, ◌<◌, ◌≤◌, length, get_or, None};
-ghost use Rattle.wit_data.specs.Values.{kind_at};
 ghost use Rattle.wit_data.specs.Parts.{parts, RefersBack, IsBelow, height};
+ghost use Rattle.wit_data.specs.Values.{kind_at};
 
 use crate::types::{Type, TypeDef, TypeDefKind};
 
 impl TypeDefKind {
-    /// How many types the kind names, an absent payload too.
+    /// How many places for types the kind has. A case without a type has one too.
     pub fn part_count(&self) -> usize
         ensures { result ≡ length (parts self.now) }
     {
@@ -29,19 +29,19 @@ impl TypeDefKind {
         }
     }
 
-    /// The type that the kind names at the place `n`.
-    pub fn part(&self, n: usize) -> Option<Type>
-        requires { n < length (parts self.now) }
-        ensures { result ≡ get_or (parts self.now) n None }
+    /// The type that the kind names at a place, counted from 0.
+    pub fn part(&self, place: usize) -> Option<Type>
+        requires { place < length (parts self.now) }
+        ensures { result ≡ get_or (parts self.now) place None }
     {
         match self {
-            TypeDefKind::Record(fields) => Some(fields.as_slice()[n].ty),
-            TypeDefKind::Variant(cases) => cases.as_slice()[n].ty,
+            TypeDefKind::Record(fields) => Some(fields.as_slice()[place].ty),
+            TypeDefKind::Variant(cases) => cases.as_slice()[place].ty,
             TypeDefKind::Enum(_) => None,
             TypeDefKind::Flags(_) => None,
-            TypeDefKind::Tuple(types) => Some(types.as_slice()[n]),
-            TypeDefKind::Option(ty) => { if n == 0 { None } else { Some(*ty) } }
-            TypeDefKind::Result(ty) => { if n == 0 { ty.ok } else { ty.err } }
+            TypeDefKind::Tuple(types) => Some(types.as_slice()[place]),
+            TypeDefKind::Option(ty) => { if place == 0 { None } else { Some(*ty) } }
+            TypeDefKind::Result(result) => { if place == 0 { result.ok } else { result.err } }
             TypeDefKind::List(ty) => Some(*ty),
             TypeDefKind::Own(id) => Some(Type::Id(*id)),
             TypeDefKind::Borrow(id) => Some(Type::Id(*id)),
@@ -53,29 +53,29 @@ impl TypeDefKind {
     }
 }
 
-/// How many parts the type with this number has.
-pub(crate) fn part_count_of(types: &[TypeDef], id: usize) -> usize
+/// How many places for types the type of a number has.
+pub fn part_count_of(types: &[TypeDef], id: usize) -> usize
     requires { id < length types.now }
     ensures { result ≡ length (parts (kind_at types.now id)) }
 {
     types[id].kind.part_count()
 }
 
-/// A part of the type with this number.
-pub(crate) fn part_of(types: &[TypeDef], id: usize, n: usize) -> Option<Type>
-    requires sound { RefersBack types.now }
+/// The type that the type of a number names at a place. It stands earlier.
+pub fn part_of(types: &[TypeDef], id: usize, place: usize) -> Option<Type>
+    requires back { RefersBack types.now }
     requires stands { id < length types.now }
-    requires place { n < length (parts (kind_at types.now id)) }
-    ensures value { result ≡ get_or (parts (kind_at types.now id)) n None }
+    requires place { place < length (parts (kind_at types.now id)) }
+    ensures value { result ≡ get_or (parts (kind_at types.now id)) place None }
     ensures earlier { IsBelow id result }
     ensures stands { IsBelow (length types.now) result }
     ensures lower { height result ≤ id }
 {
-    types[id].kind.part(n)
+    types[id].kind.part(place)
 }
 
-/// The kind of the type with this number.
-pub(crate) fn kind_of(types: &[TypeDef], id: usize) -> &TypeDefKind
+/// The kind of the type of a number.
+pub fn kind_of(types: &[TypeDef], id: usize) -> &TypeDefKind
     requires { id < length types.now }
     ensures { result.now ≡ kind_at types.now id }
 {
