@@ -27,6 +27,8 @@ mod resolve;
 mod signatures;
 mod sizes;
 mod soundness;
+#[cfg(test)]
+mod tests_names;
 mod types;
 mod versions;
 mod worlds;

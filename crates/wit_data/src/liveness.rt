@@ -41,7 +41,11 @@ impl Resolve {
 }
 
 /// For each type, whether the given types reach it.
-fn live_marks(alloc: Global, types: &[TypeDef], given: &[Type]) -> Result<Vec<bool>, AllocError>
+pub(crate) fn live_marks(
+    alloc: Global,
+    types: &[TypeDef],
+    given: &[Type],
+) -> Result<Vec<bool>, AllocError>
     requires sound { RefersBack types.now }
     requires given { AllByRecursion (λ t. IsBelow (length types.now) (Some t)) given.now }
     ensures { IfOk result (λ marks. AreLive types.now given.now marks.items) }

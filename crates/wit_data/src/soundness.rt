@@ -192,7 +192,7 @@ impl Resolve {
 }
 
 /// Whether each type names earlier types alone.
-fn refer_back(types: &[TypeDef]) -> bool
+pub(crate) fn refer_back(types: &[TypeDef]) -> bool
     ensures { IsTrue result ↔ RefersBack types.now }
 {
     for id in 0..types.len() {
