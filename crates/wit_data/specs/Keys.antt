@@ -1,5 +1,5 @@
 -- The keys of a world's imports and exports (component model: names of imports and exports).
-use Rattle.std.specs.Prelude.{ℕ, zero, suc, nat_eq, ◌-◌, Bool, List, []}
+use Rattle.std.specs.Prelude.{ℕ, suc, nat_eq, ◌-◌, Bool, List, []}
 use Rattle.std.specs.Ordering.{on, eq_of_both}
 use Rattle.std.specs.Str.{bytes_eq}
 use Rattle.wit_data.specs.declared.worlds.WorldKey.{WorldKey}

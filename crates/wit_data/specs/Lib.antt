@@ -7,5 +7,6 @@ pub mod Flat
 pub mod Signatures
 pub mod Contents
 pub mod Live
+pub mod Marks
 pub mod Versions
 pub mod Names

@@ -1,12 +1,17 @@
 -- The names of interfaces (component model, explainer: `interfacename`).
 use Rattle.std.specs.Prelude.{ℕ, List, [], ◌∷◌, ◌++◌, Option, Some, None, option_map, option_and_then, slice_get}
 use Rattle.semver.specs.Identifiers.{parts_of, parts_text}
+use Rattle.semver.specs.Parse.{Parts}
 use Rattle.wit_data.specs.declared.names.IdName.{IdName}
 use Rattle.wit_data.specs.declared.ids.InterfaceId.{InterfaceId}
 use Rattle.wit_data.specs.declared.worlds.WorldKey.{WorldKey}
 use Rattle.wit_data.specs.declared.worlds.WorldKey.TheVariants as keys
 use Rattle.wit_data.specs.declared.resolve.Resolve.{Resolve}
 use Rattle.wit_data.specs.Versions.{canonical_version}
+
+-- what a name is made of
+abbrev pub name_parts : IdName → List ℕ × List ℕ × List ℕ × Option Parts
+name_parts id = (id.namespace, id.package, id.interface, option_map parts_of id.version)
 
 -- namespace:package/interface
 abbrev pub path_text : IdName → List ℕ

@@ -1,12 +1,11 @@
 -- How large types are. (The component model sets no limit; these are this project's own, but for the
 -- labels of flags.)
-use Rattle.std.specs.Prelude.{ℕ, ◌+◌, ◌≤◌, max, length, List, [], ◌∷◌, Option}
+use Rattle.std.specs.Prelude.{ℕ, ◌+◌, ◌≤◌, max, length, List, [], ◌∷◌}
 use Rattle.std.specs.List.{AllByRecursion}
-use Rattle.wit_data.specs.declared.types.Type.{«Type» as Ty}
 use Rattle.wit_data.specs.declared.types.TypeDefKind.{TypeDefKind}
 use Rattle.wit_data.specs.declared.types.TypeDefKind.TheVariants as kinds
 use Rattle.wit_data.specs.declared.types.TypeDef.{TypeDef}
-use Rattle.wit_data.specs.Values.{Making, values, value}
+use Rattle.wit_data.specs.Values.{Making, values}
 
 abbrev pub sum : List ℕ → ℕ
 sum [] = 0
@@ -16,18 +15,21 @@ abbrev pub greatest : List ℕ → ℕ
 greatest [] = 0
 greatest (n ∷ ns) = max n (greatest ns)
 
--- the nodes of a type's tree: one, and those of its parts; another name for a type adds none
+-- what a type adds to its parts: one node; another name for a type adds none
+abbrev pub own_count : TypeDefKind → ℕ
+own_count (kinds.Alias t) = 0
+own_count kind = 1
+
+-- the nodes of a type's tree: its own, and those of its parts
 abbrev pub node_count : ℕ → TypeDefKind → List ℕ → ℕ
-node_count n (kinds.Alias t) counts = sum counts
-node_count n kind counts = 1 + sum counts
+node_count n kind counts = own_count kind + sum counts
 
 abbrev pub counting_nodes : Making ℕ
 counting_nodes = record { absent = 0; simple = λ p. 1; made = node_count }
 
 -- how many nodes stand below one another
 abbrev pub level_count : ℕ → TypeDefKind → List ℕ → ℕ
-level_count n (kinds.Alias t) counts = greatest counts
-level_count n kind counts = 1 + greatest counts
+level_count n kind counts = own_count kind + greatest counts
 
 abbrev pub counting_levels : Making ℕ
 counting_levels = record { absent = 0; simple = λ p. 1; made = level_count }

@@ -1,11 +1,9 @@
 -- Whether all numbers in a resolve name something there (component model, WIT: names are resolved).
-use Rattle.std.specs.Prelude.{ℕ, ◌<◌, length, List, map, Option, Some, None}
+use Rattle.std.specs.Prelude.{◌<◌, length, Option, Some}
 use Rattle.std.specs.List.{AllByRecursion}
 use Rattle.wit_data.specs.declared.types.Type.{«Type» as Ty}
-use Rattle.wit_data.specs.declared.types.Type.TheVariants.{Id}
 use Rattle.wit_data.specs.declared.types.TypeOwner.{TypeOwner}
 use Rattle.wit_data.specs.declared.types.TypeOwner.TheVariants as owners
-use Rattle.wit_data.specs.declared.types.TypeDef.{TypeDef}
 use Rattle.wit_data.specs.declared.ids.TypeId.{TypeId}
 use Rattle.wit_data.specs.declared.ids.InterfaceId.{InterfaceId}
 use Rattle.wit_data.specs.declared.functions.FunctionKind.{FunctionKind}

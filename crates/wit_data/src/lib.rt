@@ -16,20 +16,30 @@
 //! and their keys), `resolve` (all of it together).
 #![tactic(auto)]
 
+mod contents;
 mod flattening;
 mod functions;
 mod ids;
+mod liveness;
 mod names;
+mod parts;
 mod resolve;
 mod signatures;
+mod sizes;
+mod soundness;
+#[cfg(test)]
+mod tests_names;
 mod types;
+mod versions;
 mod worlds;
 
 pub use comp_bytes::Primitive;
+pub use contents::TypeContents;
 pub use functions::{AbiVariant, Function, FunctionKind, Param};
 pub use ids::{InterfaceId, TypeId, WorldId};
 pub use names::IdName;
 pub use resolve::{Interface, Resolve};
 pub use signatures::{WasmSignature, WasmType};
 pub use types::{Case, Field, ResultType, Type, TypeDef, TypeDefKind, TypeOwner};
+pub use versions::{CanonicalVersion, canonical_version};
 pub use worlds::{World, WorldItem, WorldKey};

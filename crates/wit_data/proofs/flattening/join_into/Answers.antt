@@ -1,0 +1,8 @@
+use Rattle.std.proofs.Common.{◌≤◌, length, ◌∙◌, sym, arith}
+use Rattle.wit_data.proofs.Joining.{joined_all}
+use Rattle.wit_data.proofs.flattening.join_into.Goals as goal
+
+pub returns : goal.returns
+returns c =
+    let all : length c.args.others.now ≤ c.loop-place.place = omega (arith, c.loop-place-test.false) in
+    sym (joined_all c.loop-place.values.items c.args.others.now c.loop-place.place all) ∙ c.loop-place.invariant

@@ -1,0 +1,7 @@
+use Rattle.std.proofs.Common.{◌≡◌}
+use Rattle.wit_data.specs.Flat.{join_lists}
+use Rattle.wit_data.proofs.Joining.{joined_from}
+use Rattle.wit_data.proofs.flattening.join_into.Given as goal
+
+abbrev pub invariant-loop-place : goal.invariant-loop-place
+invariant-loop-place l = joined_from l.place l.values.items l.others ≡ join_lists l.fn.values.items l.others

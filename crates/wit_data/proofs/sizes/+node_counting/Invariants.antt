@@ -1,0 +1,18 @@
+use Rattle.std.proofs.Common.{◌+◌, ◌*◌}
+use Rattle.wit_data.specs.Parts.{height}
+use Rattle.wit_data.specs.Values.{part_values}
+use Rattle.wit_data.specs.Sizes.{counting_nodes}
+use Rattle.wit_data.proofs.Counts.{TotalSoFar}
+use Rattle.wit_data.proofs.sizes.+node_counting.Given as goal
+
+abbrev pub decreases-node_count : goal.decreases-node_count
+decreases-node_count l = 3 * height l.part
+
+abbrev pub decreases-node_count_of : goal.decreases-node_count_of
+decreases-node_count_of l = 3 * l.id + 2
+
+abbrev pub decreases-nodes_together : goal.decreases-nodes_together
+decreases-nodes_together l = 3 * l.id + 1
+
+abbrev pub invariant-nodes_together-loop-place : goal.invariant-nodes_together-loop-place
+invariant-nodes_together-loop-place l = TotalSoFar 10001 l.total l.place (part_values counting_nodes l.types l.id)

@@ -1,0 +1,83 @@
+//! The types that a type names, as one list for every kind.
+
+ghost use Rattle.std.specs.Prelude.{◌≡◌, ◌<◌, ◌≤◌, length, get_or, None};
+ghost use Rattle.wit_data.specs.Parts.{parts, RefersBack, IsBelow, height};
+ghost use Rattle.wit_data.specs.Values.{kind_at};
+
+use crate::types::{Type, TypeDef, TypeDefKind};
+
+impl TypeDefKind {
+    /// How many places for types the kind has. A case without a type has one too.
+    pub fn part_count(&self) -> usize
+        ensures { result ≡ length (parts self.now) }
+    {
+        match self {
+            TypeDefKind::Record(fields) => fields.len(),
+            TypeDefKind::Variant(cases) => cases.len(),
+            TypeDefKind::Enum(_) => 0,
+            TypeDefKind::Flags(_) => 0,
+            TypeDefKind::Tuple(types) => types.len(),
+            TypeDefKind::Option(_) => 2,
+            TypeDefKind::Result(_) => 2,
+            TypeDefKind::List(_) => 1,
+            TypeDefKind::Own(_) => 1,
+            TypeDefKind::Borrow(_) => 1,
+            TypeDefKind::Resource => 0,
+            TypeDefKind::Stream(_) => 1,
+            TypeDefKind::Future(_) => 1,
+            TypeDefKind::Alias(_) => 1,
+        }
+    }
+
+    /// The type that the kind names at a place, counted from 0.
+    pub fn part(&self, place: usize) -> Option<Type>
+        requires { place < length (parts self.now) }
+        ensures { result ≡ get_or (parts self.now) place None }
+    {
+        match self {
+            TypeDefKind::Record(fields) => Some(fields.as_slice()[place].ty),
+            TypeDefKind::Variant(cases) => cases.as_slice()[place].ty,
+            TypeDefKind::Enum(_) => None,
+            TypeDefKind::Flags(_) => None,
+            TypeDefKind::Tuple(types) => Some(types.as_slice()[place]),
+            TypeDefKind::Option(ty) => { if place == 0 { None } else { Some(*ty) } }
+            TypeDefKind::Result(result) => { if place == 0 { result.ok } else { result.err } }
+            TypeDefKind::List(ty) => Some(*ty),
+            TypeDefKind::Own(id) => Some(Type::Id(*id)),
+            TypeDefKind::Borrow(id) => Some(Type::Id(*id)),
+            TypeDefKind::Resource => None,
+            TypeDefKind::Stream(ty) => *ty,
+            TypeDefKind::Future(ty) => *ty,
+            TypeDefKind::Alias(ty) => Some(*ty),
+        }
+    }
+}
+
+/// How many places for types the type of a number has.
+pub fn part_count_of(types: &[TypeDef], id: usize) -> usize
+    requires { id < length types.now }
+    ensures { result ≡ length (parts (kind_at types.now id)) }
+{
+    types[id].kind.part_count()
+}
+
+/// The type that the type of a number names at a place. It stands earlier.
+pub fn part_of(types: &[TypeDef], id: usize, place: usize) -> Option<Type>
+    requires back { RefersBack types.now }
+    requires stands { id < length types.now }
+    requires place { place < length (parts (kind_at types.now id)) }
+    ensures value { result ≡ get_or (parts (kind_at types.now id)) place None }
+    ensures earlier { IsBelow id result }
+    ensures stands { IsBelow (length types.now) result }
+    ensures lower { height result ≤ id }
+{
+    types[id].kind.part(place)
+}
+
+/// The kind of the type of a number.
+pub fn kind_of(types: &[TypeDef], id: usize) -> &TypeDefKind
+    requires { id < length types.now }
+    ensures { result.now ≡ kind_at types.now id }
+{
+    &types[id].kind
+}
