@@ -3,8 +3,10 @@
 
 use super::making::{Made, Part, Row, at, function_of, of, prim, resolve_of};
 use crate::functions::{AbiVariant, Function};
+use crate::ids::TypeId;
 use crate::resolve::Resolve;
 use crate::signatures::{WasmSignature, WasmType};
+use crate::types::Type;
 use comp_bytes::Primitive::{
     Bool, Char, ErrorContext, F32, F64, S8, S16, S32, S64, String as Texts, U8, U16, U32, U64,
 };
@@ -92,27 +94,462 @@ fn signatures_text(
 }
 
 /// Types, the parameters and the result of a function, and its signatures.
-#[derive(Clone, Copy)]
-struct Given<'a> {
-    rows: &'a [Row<'a>],
-    params: &'a [Part],
-    returned: Part,
-    expected: &'a str,
-}
+type Given = (&'static [Row<'static>], &'static [Part], Part, &'static str);
 
-fn calling<'a>(
-    rows: &'a [Row<'a>],
-    params: &'a [Part],
-    returned: Part,
-    expected: &'a str,
-) -> Given<'a> {
-    Given {
-        rows,
-        params,
-        returned,
-        expected,
-    }
-}
+const BOOL: Part = Some(Type::Primitive(Bool));
+
+const U_8: Part = Some(Type::Primitive(U8));
+
+const S_64: Part = Some(Type::Primitive(S64));
+
+const U_32: Part = Some(Type::Primitive(U32));
+
+const U_64: Part = Some(Type::Primitive(U64));
+
+const F_32: Part = Some(Type::Primitive(F32));
+
+const F_64: Part = Some(Type::Primitive(F64));
+
+const CHAR: Part = Some(Type::Primitive(Char));
+
+const TEXT: Part = Some(Type::Primitive(Texts));
+
+const FIRST: Part = Some(Type::Id(TypeId { index: 0 }));
+
+const SECOND: Part = Some(Type::Id(TypeId { index: 1 }));
+
+const THIRD: Part = Some(Type::Id(TypeId { index: 2 }));
+
+/// The last type as the only parameter and as the result (Canonical ABI: `flatten_type`).
+const KINDS: [Given; 27] = [
+    (
+        &[Row {
+            made: Made::Record,
+            parts: &[U_8, F_32, TEXT],
+        }],
+        &[FIRST],
+        FIRST,
+        "ifiii>r ifii>ir ifiii>ir ifii>i ifii>",
+    ),
+    (
+        &[Row {
+            made: Made::Variant,
+            parts: &[F_32, U_64, None],
+        }],
+        &[FIRST],
+        FIRST,
+        "ili>r il>ir ili>ir il>i il>",
+    ),
+    (
+        &[Row {
+            made: Made::Variant,
+            parts: &[F_32, U_32, None],
+        }],
+        &[FIRST],
+        FIRST,
+        "iii>r ii>ir iii>ir ii>i ii>",
+    ),
+    (
+        &[Row {
+            made: Made::Enum(3),
+            parts: &[],
+        }],
+        &[FIRST],
+        FIRST,
+        "i>i i>i ii>ir i>i i>",
+    ),
+    (
+        &[Row {
+            made: Made::Flags(1),
+            parts: &[],
+        }],
+        &[FIRST],
+        FIRST,
+        "i>i i>i ii>ir i>i i>",
+    ),
+    (
+        &[Row {
+            made: Made::Flags(32),
+            parts: &[],
+        }],
+        &[FIRST],
+        FIRST,
+        "i>i i>i ii>ir i>i i>",
+    ),
+    (
+        &[Row {
+            made: Made::Tuple,
+            parts: &[U_32, U_32],
+        }],
+        &[FIRST],
+        FIRST,
+        "iii>r ii>ir iii>ir ii>i ii>",
+    ),
+    (
+        &[Row {
+            made: Made::Tuple,
+            parts: &[S_64],
+        }],
+        &[FIRST],
+        FIRST,
+        "l>l l>l li>ir l>i l>",
+    ),
+    (
+        &[Row {
+            made: Made::Option,
+            parts: &[F_64],
+        }],
+        &[FIRST],
+        FIRST,
+        "idi>r id>ir idi>ir id>i id>",
+    ),
+    (
+        &[Row {
+            made: Made::Result,
+            parts: &[U_32, F_32],
+        }],
+        &[FIRST],
+        FIRST,
+        "iii>r ii>ir iii>ir ii>i ii>",
+    ),
+    (
+        &[Row {
+            made: Made::Result,
+            parts: &[None, None],
+        }],
+        &[FIRST],
+        FIRST,
+        "i>i i>i ii>ir i>i i>",
+    ),
+    (
+        &[Row {
+            made: Made::Result,
+            parts: &[None, TEXT],
+        }],
+        &[FIRST],
+        FIRST,
+        "iiii>r iii>ir iiii>ir iii>i iii>",
+    ),
+    (
+        &[Row {
+            made: Made::Result,
+            parts: &[F_64, None],
+        }],
+        &[FIRST],
+        FIRST,
+        "idi>r id>ir idi>ir id>i id>",
+    ),
+    (
+        &[Row {
+            made: Made::List,
+            parts: &[U_64],
+        }],
+        &[FIRST],
+        FIRST,
+        "iii>r ii>ir iii>ir ii>i ii>",
+    ),
+    (
+        &[
+            Row {
+                made: Made::Resource,
+                parts: &[],
+            },
+            Row {
+                made: Made::Own(0),
+                parts: &[],
+            },
+        ],
+        &[SECOND],
+        SECOND,
+        "i>i i>i ii>ir i>i i>",
+    ),
+    (
+        &[
+            Row {
+                made: Made::Resource,
+                parts: &[],
+            },
+            Row {
+                made: Made::Borrow(0),
+                parts: &[],
+            },
+        ],
+        &[SECOND],
+        SECOND,
+        "i>i i>i ii>ir i>i i>",
+    ),
+    (
+        &[Row {
+            made: Made::Stream,
+            parts: &[U_64],
+        }],
+        &[FIRST],
+        FIRST,
+        "i>i i>i ii>ir i>i i>",
+    ),
+    (
+        &[Row {
+            made: Made::Stream,
+            parts: &[None],
+        }],
+        &[FIRST],
+        FIRST,
+        "i>i i>i ii>ir i>i i>",
+    ),
+    (
+        &[Row {
+            made: Made::Future,
+            parts: &[TEXT],
+        }],
+        &[FIRST],
+        FIRST,
+        "i>i i>i ii>ir i>i i>",
+    ),
+    (
+        &[Row {
+            made: Made::Future,
+            parts: &[None],
+        }],
+        &[FIRST],
+        FIRST,
+        "i>i i>i ii>ir i>i i>",
+    ),
+    (
+        &[
+            Row {
+                made: Made::Record,
+                parts: &[F_64, CHAR],
+            },
+            Row {
+                made: Made::Alias,
+                parts: &[FIRST],
+            },
+            Row {
+                made: Made::Alias,
+                parts: &[SECOND],
+            },
+        ],
+        &[THIRD],
+        THIRD,
+        "dii>r di>ir dii>ir di>i di>",
+    ),
+    (
+        &[Row {
+            made: Made::Alias,
+            parts: &[TEXT],
+        }],
+        &[FIRST],
+        FIRST,
+        "iii>r ii>ir iii>ir ii>i ii>",
+    ),
+    (
+        &[
+            Row {
+                made: Made::Option,
+                parts: &[TEXT],
+            },
+            Row {
+                made: Made::Option,
+                parts: &[FIRST],
+            },
+        ],
+        &[SECOND],
+        SECOND,
+        "iiiii>r iiii>ir iiiii>ir iiii>i iiii>",
+    ),
+    (
+        &[
+            Row {
+                made: Made::Tuple,
+                parts: &[F_64, F_32, U_8],
+            },
+            Row {
+                made: Made::Variant,
+                parts: &[F_32, U_64],
+            },
+            Row {
+                made: Made::Variant,
+                parts: &[SECOND, FIRST, None],
+            },
+        ],
+        &[THIRD],
+        THIRD,
+        "illii>r illi>ir illii>ir illi>i illi>",
+    ),
+    (
+        &[
+            Row {
+                made: Made::List,
+                parts: &[TEXT],
+            },
+            Row {
+                made: Made::Tuple,
+                parts: &[FIRST, BOOL],
+            },
+            Row {
+                made: Made::Result,
+                parts: &[SECOND, FIRST],
+            },
+        ],
+        &[THIRD],
+        THIRD,
+        "iiiii>r iiii>ir iiiii>ir iiii>i iiii>",
+    ),
+    (
+        &[
+            Row {
+                made: Made::Tuple,
+                parts: &[U_32; 17],
+            },
+            Row {
+                made: Made::Variant,
+                parts: &[FIRST, U_8],
+            },
+        ],
+        &[SECOND],
+        SECOND,
+        "ii>pr i>ipr ii>ipr i>ip i>p",
+    ),
+    (
+        &[
+            Row {
+                made: Made::Tuple,
+                parts: &[U_32; 15],
+            },
+            Row {
+                made: Made::Variant,
+                parts: &[U_8, FIRST],
+            },
+        ],
+        &[SECOND],
+        SECOND,
+        "iiiiiiiiiiiiiiiii>r iiiiiiiiiiiiiiii>ir ii>ipr iiiiiiiiiiiiiiii>i iiiiiiiiiiiiiiii>",
+    ),
+];
+
+/// As many parameters as there may be, and one more; as many core results, and one more (Canonical ABI:
+/// `MAX_FLAT_PARAMS`, `MAX_FLAT_ASYNC_PARAMS`, `MAX_FLAT_RESULTS`).
+const LIMITS: [Given; 16] = [
+    (&[], &[], None, "> > >i >i >"),
+    (
+        &[],
+        &[U_32, U_32, U_32, U_32],
+        None,
+        "iiii> iiii> iiii>i iiii>i iiii>",
+    ),
+    (
+        &[],
+        &[U_32, U_32, U_32, U_32, U_32],
+        None,
+        "iiiii> iiiii> i>ip iiiii>i iiiii>",
+    ),
+    (
+        &[],
+        &[U_64; 16],
+        U_8,
+        "llllllllllllllll>i llllllllllllllll>i ii>ipr llllllllllllllll>i llllllllllllllll>",
+    ),
+    (&[], &[U_64; 17], U_8, "i>ip i>ip ii>ipr i>ip i>p"),
+    (
+        &[Row {
+            made: Made::Tuple,
+            parts: &[U_32; 16],
+        }],
+        &[FIRST],
+        None,
+        "iiiiiiiiiiiiiiii> iiiiiiiiiiiiiiii> i>ip iiiiiiiiiiiiiiii>i iiiiiiiiiiiiiiii>",
+    ),
+    (
+        &[Row {
+            made: Made::Tuple,
+            parts: &[U_32; 17],
+        }],
+        &[FIRST],
+        None,
+        "i>p i>p i>ip i>ip i>p",
+    ),
+    (
+        &[Row {
+            made: Made::Tuple,
+            parts: &[U_32; 15],
+        }],
+        &[FIRST, TEXT],
+        None,
+        "i>p i>p i>ip i>ip i>p",
+    ),
+    (
+        &[Row {
+            made: Made::Tuple,
+            parts: &[U_32; 14],
+        }],
+        &[FIRST, TEXT],
+        None,
+        "iiiiiiiiiiiiiiii> iiiiiiiiiiiiiiii> i>ip iiiiiiiiiiiiiiii>i iiiiiiiiiiiiiiii>",
+    ),
+    (
+        &[Row {
+            made: Made::Tuple,
+            parts: &[TEXT, TEXT],
+        }],
+        &[FIRST],
+        F_32,
+        "iiii>f iiii>f iiiii>ir iiii>i iiii>",
+    ),
+    (
+        &[Row {
+            made: Made::Tuple,
+            parts: &[TEXT, TEXT],
+        }],
+        &[FIRST, F_64],
+        F_64,
+        "iiiid>d iiiid>d ii>ipr iiiid>i iiiid>",
+    ),
+    (
+        &[Row {
+            made: Made::Tuple,
+            parts: &[U_32, U_32],
+        }],
+        &[U_32; 17],
+        FIRST,
+        "ii>pr i>ipr ii>ipr i>ip i>p",
+    ),
+    (
+        &[Row {
+            made: Made::Tuple,
+            parts: &[U_32],
+        }],
+        &[F_32, F_64],
+        FIRST,
+        "fd>i fd>i fdi>ir fd>i fd>",
+    ),
+    (
+        &[Row {
+            made: Made::Tuple,
+            parts: &[U_32, U_32],
+        }],
+        &[F_32, F_64],
+        FIRST,
+        "fdi>r fd>ir fdi>ir fd>i fd>",
+    ),
+    (
+        &[Row {
+            made: Made::Option,
+            parts: &[U_32],
+        }],
+        &[S_64],
+        FIRST,
+        "li>r l>ir li>ir l>i l>",
+    ),
+    (
+        &[Row {
+            made: Made::Result,
+            parts: &[None, None],
+        }],
+        &[S_64],
+        FIRST,
+        "l>i l>i li>ir l>i l>",
+    ),
+];
 
 /// Each primitive type as the only parameter and as the result (Canonical ABI: `flatten_type`).
 #[test]
@@ -140,197 +577,10 @@ fn primitives_have_their_signatures(rt: HostRuntime) -> Result<(), Fail> {
     Ok(())
 }
 
-/// The last type as the only parameter and as the result (Canonical ABI: `flatten_type`).
 #[test]
 fn kinds_have_their_signatures(rt: HostRuntime) -> Result<(), Fail> {
     let alloc = rt.alloc();
-    for Given {
-        rows,
-        params,
-        returned,
-        expected,
-    } in [
-        calling(
-            &[of(Made::Record, &[prim(U8), prim(F32), prim(Texts)])],
-            &[at(0)],
-            at(0),
-            "ifiii>r ifii>ir ifiii>ir ifii>i ifii>",
-        ),
-        calling(
-            &[of(Made::Variant, &[prim(F32), prim(U64), None])],
-            &[at(0)],
-            at(0),
-            "ili>r il>ir ili>ir il>i il>",
-        ),
-        calling(
-            &[of(Made::Variant, &[prim(F32), prim(U32), None])],
-            &[at(0)],
-            at(0),
-            "iii>r ii>ir iii>ir ii>i ii>",
-        ),
-        calling(
-            &[of(Made::Enum(3), &[])],
-            &[at(0)],
-            at(0),
-            "i>i i>i ii>ir i>i i>",
-        ),
-        calling(
-            &[of(Made::Flags(1), &[])],
-            &[at(0)],
-            at(0),
-            "i>i i>i ii>ir i>i i>",
-        ),
-        calling(
-            &[of(Made::Flags(32), &[])],
-            &[at(0)],
-            at(0),
-            "i>i i>i ii>ir i>i i>",
-        ),
-        calling(
-            &[of(Made::Tuple, &[prim(U32), prim(U32)])],
-            &[at(0)],
-            at(0),
-            "iii>r ii>ir iii>ir ii>i ii>",
-        ),
-        calling(
-            &[of(Made::Tuple, &[prim(S64)])],
-            &[at(0)],
-            at(0),
-            "l>l l>l li>ir l>i l>",
-        ),
-        calling(
-            &[of(Made::Option, &[prim(F64)])],
-            &[at(0)],
-            at(0),
-            "idi>r id>ir idi>ir id>i id>",
-        ),
-        calling(
-            &[of(Made::Result, &[prim(U32), prim(F32)])],
-            &[at(0)],
-            at(0),
-            "iii>r ii>ir iii>ir ii>i ii>",
-        ),
-        calling(
-            &[of(Made::Result, &[None, None])],
-            &[at(0)],
-            at(0),
-            "i>i i>i ii>ir i>i i>",
-        ),
-        calling(
-            &[of(Made::Result, &[None, prim(Texts)])],
-            &[at(0)],
-            at(0),
-            "iiii>r iii>ir iiii>ir iii>i iii>",
-        ),
-        calling(
-            &[of(Made::Result, &[prim(F64), None])],
-            &[at(0)],
-            at(0),
-            "idi>r id>ir idi>ir id>i id>",
-        ),
-        calling(
-            &[of(Made::List, &[prim(U64)])],
-            &[at(0)],
-            at(0),
-            "iii>r ii>ir iii>ir ii>i ii>",
-        ),
-        calling(
-            &[of(Made::Resource, &[]), of(Made::Own(0), &[])],
-            &[at(1)],
-            at(1),
-            "i>i i>i ii>ir i>i i>",
-        ),
-        calling(
-            &[of(Made::Resource, &[]), of(Made::Borrow(0), &[])],
-            &[at(1)],
-            at(1),
-            "i>i i>i ii>ir i>i i>",
-        ),
-        calling(
-            &[of(Made::Stream, &[prim(U64)])],
-            &[at(0)],
-            at(0),
-            "i>i i>i ii>ir i>i i>",
-        ),
-        calling(
-            &[of(Made::Stream, &[None])],
-            &[at(0)],
-            at(0),
-            "i>i i>i ii>ir i>i i>",
-        ),
-        calling(
-            &[of(Made::Future, &[prim(Texts)])],
-            &[at(0)],
-            at(0),
-            "i>i i>i ii>ir i>i i>",
-        ),
-        calling(
-            &[of(Made::Future, &[None])],
-            &[at(0)],
-            at(0),
-            "i>i i>i ii>ir i>i i>",
-        ),
-        calling(
-            &[
-                of(Made::Record, &[prim(F64), prim(Char)]),
-                of(Made::Alias, &[at(0)]),
-                of(Made::Alias, &[at(1)]),
-            ],
-            &[at(2)],
-            at(2),
-            "dii>r di>ir dii>ir di>i di>",
-        ),
-        calling(
-            &[of(Made::Alias, &[prim(Texts)])],
-            &[at(0)],
-            at(0),
-            "iii>r ii>ir iii>ir ii>i ii>",
-        ),
-        calling(
-            &[of(Made::Option, &[prim(Texts)]), of(Made::Option, &[at(0)])],
-            &[at(1)],
-            at(1),
-            "iiiii>r iiii>ir iiiii>ir iiii>i iiii>",
-        ),
-        calling(
-            &[
-                of(Made::Tuple, &[prim(F64), prim(F32), prim(U8)]),
-                of(Made::Variant, &[prim(F32), prim(U64)]),
-                of(Made::Variant, &[at(1), at(0), None]),
-            ],
-            &[at(2)],
-            at(2),
-            "illii>r illi>ir illii>ir illi>i illi>",
-        ),
-        calling(
-            &[
-                of(Made::List, &[prim(Texts)]),
-                of(Made::Tuple, &[at(0), prim(Bool)]),
-                of(Made::Result, &[at(1), at(0)]),
-            ],
-            &[at(2)],
-            at(2),
-            "iiiii>r iiii>ir iiiii>ir iiii>i iiii>",
-        ),
-        calling(
-            &[
-                of(Made::Tuple, &[prim(U32); 17]),
-                of(Made::Variant, &[at(0), prim(U8)]),
-            ],
-            &[at(1)],
-            at(1),
-            "ii>pr i>ipr ii>ipr i>ip i>p",
-        ),
-        calling(
-            &[
-                of(Made::Tuple, &[prim(U32); 15]),
-                of(Made::Variant, &[prim(U8), at(0)]),
-            ],
-            &[at(1)],
-            at(1),
-            "iiiiiiiiiiiiiiiii>r iiiiiiiiiiiiiiii>ir ii>ipr iiiiiiiiiiiiiiii>i iiiiiiiiiiiiiiii>",
-        ),
-    ] {
+    for (rows, params, returned, expected) in KINDS {
         assert_eq!(rt;
             signatures_text(alloc, rows, params, returned)?.as_str(),
             expected
@@ -339,104 +589,10 @@ fn kinds_have_their_signatures(rt: HostRuntime) -> Result<(), Fail> {
     Ok(())
 }
 
-/// As many parameters as there may be, and one more; as many core results, and one more (Canonical ABI:
-/// `MAX_FLAT_PARAMS`, `MAX_FLAT_ASYNC_PARAMS`, `MAX_FLAT_RESULTS`).
 #[test]
 fn what_has_no_room_lies_in_memory(rt: HostRuntime) -> Result<(), Fail> {
     let alloc = rt.alloc();
-    for Given {
-        rows,
-        params,
-        returned,
-        expected,
-    } in [
-        calling(&[], &[], None, "> > >i >i >"),
-        calling(
-            &[],
-            &[prim(U32), prim(U32), prim(U32), prim(U32)],
-            None,
-            "iiii> iiii> iiii>i iiii>i iiii>",
-        ),
-        calling(
-            &[],
-            &[prim(U32), prim(U32), prim(U32), prim(U32), prim(U32)],
-            None,
-            "iiiii> iiiii> i>ip iiiii>i iiiii>",
-        ),
-        calling(
-            &[],
-            &[prim(U64); 16],
-            prim(U8),
-            "llllllllllllllll>i llllllllllllllll>i ii>ipr llllllllllllllll>i llllllllllllllll>",
-        ),
-        calling(&[], &[prim(U64); 17], prim(U8), "i>ip i>ip ii>ipr i>ip i>p"),
-        calling(
-            &[of(Made::Tuple, &[prim(U32); 16])],
-            &[at(0)],
-            None,
-            "iiiiiiiiiiiiiiii> iiiiiiiiiiiiiiii> i>ip iiiiiiiiiiiiiiii>i iiiiiiiiiiiiiiii>",
-        ),
-        calling(
-            &[of(Made::Tuple, &[prim(U32); 17])],
-            &[at(0)],
-            None,
-            "i>p i>p i>ip i>ip i>p",
-        ),
-        calling(
-            &[of(Made::Tuple, &[prim(U32); 15])],
-            &[at(0), prim(Texts)],
-            None,
-            "i>p i>p i>ip i>ip i>p",
-        ),
-        calling(
-            &[of(Made::Tuple, &[prim(U32); 14])],
-            &[at(0), prim(Texts)],
-            None,
-            "iiiiiiiiiiiiiiii> iiiiiiiiiiiiiiii> i>ip iiiiiiiiiiiiiiii>i iiiiiiiiiiiiiiii>",
-        ),
-        calling(
-            &[of(Made::Tuple, &[prim(Texts), prim(Texts)])],
-            &[at(0)],
-            prim(F32),
-            "iiii>f iiii>f iiiii>ir iiii>i iiii>",
-        ),
-        calling(
-            &[of(Made::Tuple, &[prim(Texts), prim(Texts)])],
-            &[at(0), prim(F64)],
-            prim(F64),
-            "iiiid>d iiiid>d ii>ipr iiiid>i iiiid>",
-        ),
-        calling(
-            &[of(Made::Tuple, &[prim(U32), prim(U32)])],
-            &[prim(U32); 17],
-            at(0),
-            "ii>pr i>ipr ii>ipr i>ip i>p",
-        ),
-        calling(
-            &[of(Made::Tuple, &[prim(U32)])],
-            &[prim(F32), prim(F64)],
-            at(0),
-            "fd>i fd>i fdi>ir fd>i fd>",
-        ),
-        calling(
-            &[of(Made::Tuple, &[prim(U32), prim(U32)])],
-            &[prim(F32), prim(F64)],
-            at(0),
-            "fdi>r fd>ir fdi>ir fd>i fd>",
-        ),
-        calling(
-            &[of(Made::Option, &[prim(U32)])],
-            &[prim(S64)],
-            at(0),
-            "li>r l>ir li>ir l>i l>",
-        ),
-        calling(
-            &[of(Made::Result, &[None, None])],
-            &[prim(S64)],
-            at(0),
-            "l>i l>i li>ir l>i l>",
-        ),
-    ] {
+    for (rows, params, returned, expected) in LIMITS {
         assert_eq!(rt;
             signatures_text(alloc, rows, params, returned)?.as_str(),
             expected
