@@ -23,7 +23,8 @@ merged a b = result_unwrap_or (merging a b) (record { joint = nothing_said; expo
 
 abbrev pub no_world : ComponentWorld
 no_world = record {
-  world = record { imports = []; exports = [] };
+  resolve = record { interfaces = []; types = []; worlds = record { imports = []; exports = [] } ∷ [] };
+  world = record { index = 0 };
   main = record {
     bytes = [];
     imports = record { modules = [] };
@@ -31,6 +32,7 @@ no_world = record {
     metadata = record { import_encodings = []; export_encodings = [] };
   };
   main_exports = [];
+  adapters = [];
 }
 
 abbrev pub prepared : Gathered Bindgen → ComponentWorld
