@@ -21,6 +21,7 @@ mod lower;
 mod metadata;
 mod options;
 mod payloads;
+mod required;
 mod world;
 
 pub use encoding::StringEncoding;
@@ -32,4 +33,5 @@ pub use lower::Lower;
 pub use metadata::{FunctionKey, ModuleMetadata};
 pub use options::EncoderOptions;
 pub use payloads::{PayloadFuncKind, PayloadInfo, PayloadType};
+pub use required::{OptionFault, Options, RequiredOptions};
 pub use world::{ComponentWorld, ValidatedModule, WorldAdapter};

@@ -1,6 +1,6 @@
 -- What a type contains that lies in memory (Canonical ABI: `store`, `load`; texts are read and written
 -- with an encoding). Handles, streams and futures are numbers: what they lead to is not in the value.
-use Rattle.std.specs.Prelude.{ℕ, ◌+◌, Bool, true, false, ◌||◌, List, Option, if◌then◌else◌}
+use Rattle.std.specs.Prelude.{ℕ, ◌+◌, Bool, true, false, ◌||◌, List, Option, None, if◌then◌else◌}
 use Rattle.std.specs.List.{list_any}
 use Rattle.wit_data.specs.declared.types.Type.{«Type» as Ty}
 use Rattle.comp_bytes.specs.declared.types.Primitive.{Primitive as Prim}
@@ -45,3 +45,9 @@ has_list types part = value finding_lists types part
 -- as bits: 1 for a text, 2 for a list
 abbrev pub contents_bits : List TypeDef → Option Ty → ℕ
 contents_bits types part = (if has_text types part then 1 else 0) + (if has_list types part then 2 else 0)
+
+-- what a stream or a future carries
+abbrev pub carried_by : TypeDefKind → Option Ty
+carried_by (kinds.Stream t) = t
+carried_by (kinds.Future t) = t
+carried_by kind = None

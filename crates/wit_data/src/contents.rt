@@ -3,10 +3,11 @@
 ghost use Rattle.std.specs.Prelude.{⊤, ◌≡◌, ◌<◌, ◌||◌, ◌&&◌, length, get_or, Some, false, codes, [], ◌∷◌};
 ghost use Rattle.std.specs.List.{list_any};
 ghost use Rattle.wit_data.specs.Parts.{RefersBack, IsBelow};
-ghost use Rattle.wit_data.specs.Sound.{IsSound, HasType};
-ghost use Rattle.wit_data.specs.Values.{values, part_values};
-ghost use Rattle.wit_data.specs.Contents.{is_entered, is_text, is_list, finding_texts, finding_lists, has_text, has_list, contents_bits};
+ghost use Rattle.wit_data.specs.Sound.{IsSound, HasType, HasTypeId};
+ghost use Rattle.wit_data.specs.Values.{values, part_values, kind_at};
+ghost use Rattle.wit_data.specs.Contents.{is_entered, is_text, is_list, finding_texts, finding_lists, has_text, has_list, contents_bits, carried_by};
 
+use crate::ids::TypeId;
 use crate::parts::{kind_of, part_count_of, part_of};
 use crate::resolve::Resolve;
 use crate::types::{Type, TypeDef, TypeDefKind};
@@ -192,6 +193,21 @@ impl Resolve {
             (true, false) => TypeContents(1),
             (false, true) => TypeContents(2),
             (true, true) => TypeContents(3),
+        }
+    }
+
+    /// The type of what a stream or a future carries, if it carries anything.
+    pub fn carried_by(&self, id: TypeId) -> Option<Type>
+        requires sound { IsSound self.now }
+        requires stands { HasTypeId self.now id }
+        ensures carried { result ≡ carried_by (kind_at self.now.types id.index) }
+        ensures stands { HasType self.now result }
+    {
+        let types = self.types.as_slice();
+        match kind_of(types, id.index) {
+            TypeDefKind::Stream(_) => part_of(types, id.index, 0),
+            TypeDefKind::Future(_) => part_of(types, id.index, 0),
+            _ => None,
         }
     }
 }
