@@ -1,3 +1,4 @@
 pub mod Functions
 pub mod Options
+pub mod Laws
 pub mod Worlds

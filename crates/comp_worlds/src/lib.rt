@@ -16,6 +16,7 @@ mod encoding;
 mod exports;
 mod gathered;
 mod imports;
+mod laws;
 mod libraries;
 mod lower;
 mod metadata;
@@ -28,6 +29,7 @@ pub use encoding::StringEncoding;
 pub use exports::{Export, ExportMap};
 pub use gathered::{ExportKey, Gathered, Merged, Part};
 pub use imports::{Import, ImportInstance, ImportMap};
+pub use laws::{ends_as_told, lowering_adds_realloc};
 pub use libraries::{Instance, Item, LibraryArgument, LibraryInfo, MainOrAdapter};
 pub use lower::Lower;
 pub use metadata::{FunctionKey, ModuleMetadata};
@@ -35,3 +37,6 @@ pub use options::EncoderOptions;
 pub use payloads::{PayloadFuncKind, PayloadInfo, PayloadType};
 pub use required::{OptionFault, Options, RequiredOptions};
 pub use world::{ComponentWorld, ValidatedModule, WorldAdapter};
+
+#[cfg(test)]
+mod tests;

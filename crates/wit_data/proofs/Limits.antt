@@ -37,5 +37,5 @@ counted_at m cap types id n count p a l c e =
 pub nodes_at : (types : List TypeDef) (id : ℕ) (d : TypeDef) → RefersBack types → id < length types → get_or (values counting_nodes types) id 0 ≡ own_count (get_or types id d).kind + sum (part_values counting_nodes types id)
 nodes_at types id d b l = made_whole counting_nodes types id b l ∙ ap (λ k. own_count k + sum (part_values counting_nodes types id)) (sym (kind_there types id d l))
 
-pub levels_at : (types : List TypeDef) (id : ℕ) (d : TypeDef) → RefersBack types → id < length types → get_or (values counting_levels types) id 0 ≡ own_count (get_or types id d).kind + greatest (part_values counting_levels types id)
-levels_at types id d b l = made_whole counting_levels types id b l ∙ ap (λ k. own_count k + greatest (part_values counting_levels types id)) (sym (kind_there types id d l))
+pub levels_at : (types : List TypeDef) (id : ℕ) → RefersBack types → id < length types → get_or (values counting_levels types) id 0 ≡ 1 + greatest (part_values counting_levels types id)
+levels_at types id b l = made_whole counting_levels types id b l

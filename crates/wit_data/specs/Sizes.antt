@@ -27,9 +27,9 @@ node_count n kind counts = own_count kind + sum counts
 abbrev pub counting_nodes : Making ℕ
 counting_nodes = record { absent = 0; simple = λ p. 1; made = node_count }
 
--- how many nodes stand below one another
+-- how many types stand below one another; another name for a type is one of them, so that no chain of names is long
 abbrev pub level_count : ℕ → TypeDefKind → List ℕ → ℕ
-level_count n kind counts = own_count kind + greatest counts
+level_count n kind counts = 1 + greatest counts
 
 abbrev pub counting_levels : Making ℕ
 counting_levels = record { absent = 0; simple = λ p. 1; made = level_count }
@@ -39,7 +39,7 @@ abbrev pub HasFewLabels : TypeDefKind → Type 0
 HasFewLabels (kinds.Flags names) = length names ≤ 32
 HasFewLabels kind = Unit {0}
 
--- no type has more than 10,000 nodes, or more than 100 below one another
+-- no type has more than 10,000 nodes, or more than 100 types below one another
 pub record AreSmall (types : List TypeDef) : Type 0 where
   pub labels : AllByRecursion (λ t. HasFewLabels t.kind) types
   pub nodes : AllByRecursion (λ n. n ≤ 10000) (values counting_nodes types)

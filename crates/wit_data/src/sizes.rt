@@ -103,7 +103,7 @@ fn nodes_together(types: &[TypeDef], id: usize) -> usize
     total
 }
 
-/// How many nodes stand below one another, or 101 if there are more.
+/// How many types stand below one another, or 101 if there are more.
 #[cycle(level_counting)]
 fn level_count(types: &[TypeDef], part: Option<Type>) -> usize
     requires back { RefersBack types.now }
@@ -125,7 +125,7 @@ fn level_count_of(types: &[TypeDef], id: usize) -> usize
     ensures { result ≡ min (get_or (values sizes.counting_levels types.now) id 0) 101 }
 {
     let most = most_levels(types, id);
-    MANY_LEVELS.min(own_count(&types[id].kind) + most)
+    MANY_LEVELS.min(1 + most)
 }
 
 /// The levels of the part that has most.
@@ -146,7 +146,7 @@ fn most_levels(types: &[TypeDef], id: usize) -> usize
     most
 }
 
-/// How many nodes, or levels, a type adds to its parts.
+/// How many nodes a type adds to those of its parts.
 fn own_count(kind: &TypeDefKind) -> usize
     ensures count { result ≡ sizes.own_count kind.now }
     ensures small { result ≤ 1 }

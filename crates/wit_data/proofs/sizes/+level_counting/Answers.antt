@@ -8,7 +8,7 @@ use Rattle.wit_data.proofs.sizes.+level_counting.Goals as goal
 
 pub level_count_of-returns : goal.level_count_of-returns
 level_count_of-returns t c =
-    omega (arith, levels_at c.args.types.now c.args.id c.index-types-id.result c.requires.back c.requires.stands, c.own_count.ensures.count, c.most_levels-most.ensures, c.min.ensures)
+    omega (arith, levels_at c.args.types.now c.args.id c.requires.back c.requires.stands, c.most_levels-most.ensures, c.min.ensures)
 
 pub most_levels-returns-then-count-ge-MANY_LEVELS : goal.most_levels-returns-then-count-ge-MANY_LEVELS
 most_levels-returns-then-count-ge-MANY_LEVELS t c =
