@@ -87,3 +87,7 @@ pub height_below : (b : ℕ) (p : Option Ty) → IsBelow b p → height p ≤ b
 height_below b None h = omega arith
 height_below b (Some (Primitive q)) h = omega arith
 height_below b (Some (Id id)) h = omega (arith, h)
+
+-- What a type names at a place stands before it.
+pub part_below : (types : List TypeDef) (id n : ℕ) → RefersBack types → id < length types → n < length (parts (kind_at types id)) → IsBelow id (get_or (parts (kind_at types id)) n None)
+part_below types id n b l h = all_at (IsBelow id) (parts (kind_at types id)) n None (parts_below types id b l) h

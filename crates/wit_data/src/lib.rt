@@ -13,7 +13,8 @@
 //!
 //! In reading order: `ids` (numbers of interfaces, types and worlds), `types` (types), `functions`
 //! (functions and the forms in which they are called), `names` (names of interfaces), `worlds` (worlds
-//! and their keys), `resolve` (all of it together).
+//! and their keys), `resolve` (all of it together); `parts` (what a type names), `sizes` and `soundness`
+//! (whether all of it holds together), `flattening` and `signatures` (core values and core signatures).
 #![tactic(auto)]
 
 mod contents;
@@ -38,8 +39,12 @@ pub use contents::TypeContents;
 pub use functions::{AbiVariant, Function, FunctionKind, Param};
 pub use ids::{InterfaceId, TypeId, WorldId};
 pub use names::IdName;
+pub use parts::{kind_of, part_count_of, part_of};
 pub use resolve::{Interface, Resolve};
 pub use signatures::{WasmSignature, WasmType};
 pub use types::{Case, Field, ResultType, Type, TypeDef, TypeDefKind, TypeOwner};
 pub use versions::{CanonicalVersion, canonical_version};
 pub use worlds::{World, WorldItem, WorldKey};
+
+#[cfg(test)]
+mod tests;

@@ -54,6 +54,7 @@ impl TypeDefKind {
 }
 
 /// How many places for types the type of a number has.
+#[tactic(auto, using(crate::proofs::Values::kind_there))]
 pub fn part_count_of(types: &[TypeDef], id: usize) -> usize
     requires { id < length types.now }
     ensures { result ≡ length (parts (kind_at types.now id)) }
@@ -62,6 +63,7 @@ pub fn part_count_of(types: &[TypeDef], id: usize) -> usize
 }
 
 /// The type that the type of a number names at a place. It stands earlier.
+#[tactic(auto, using(crate::proofs::Values::kind_there, crate::proofs::Values::part_below, crate::proofs::Values::height_below, crate::proofs::Values::below_later))]
 pub fn part_of(types: &[TypeDef], id: usize, place: usize) -> Option<Type>
     requires back { RefersBack types.now }
     requires stands { id < length types.now }
@@ -75,6 +77,7 @@ pub fn part_of(types: &[TypeDef], id: usize, place: usize) -> Option<Type>
 }
 
 /// The kind of the type of a number.
+#[tactic(auto, using(crate::proofs::Values::kind_there))]
 pub fn kind_of(types: &[TypeDef], id: usize) -> &TypeDefKind
     requires { id < length types.now }
     ensures { result.now ≡ kind_at types.now id }
