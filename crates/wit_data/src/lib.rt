@@ -14,7 +14,9 @@
 //! In reading order: `ids` (numbers of interfaces, types and worlds), `types` (types), `functions`
 //! (functions and the forms in which they are called), `names` (names of interfaces), `worlds` (worlds
 //! and their keys), `resolve` (all of it together); `parts` (what a type names), `sizes` and `soundness`
-//! (whether all of it holds together), `flattening` and `signatures` (core values and core signatures).
+//! (whether all of it holds together), `flattening` and `signatures` (core values and core signatures),
+//! `versions` (what compatible versions share), `contents` (what types contain), `liveness` (the types
+//! that others reach).
 #![tactic(auto)]
 
 mod contents;
@@ -28,8 +30,6 @@ mod resolve;
 mod signatures;
 mod sizes;
 mod soundness;
-#[cfg(test)]
-mod tests_names;
 mod types;
 mod versions;
 mod worlds;
@@ -48,3 +48,5 @@ pub use worlds::{World, WorldItem, WorldKey};
 
 #[cfg(test)]
 mod tests;
+#[cfg(test)]
+mod tests_names;
