@@ -1,0 +1,4 @@
+pub mod Signed
+pub mod Grammar
+pub mod Modules
+pub mod Laws
