@@ -40,13 +40,16 @@ pub use fault::{BuildFault, Excess, count_of, next_count};
 pub use laws::{one_list, one_name, one_number, one_type_index};
 pub use name::Name;
 pub use naming::names_bytes;
-pub use number::{Spell, spelled};
+pub use number::{
+    Spell, put_bytes, put_count, put_each, put_index, put_tagged, put_type_index, spelled,
+};
 pub use sections::component_bytes;
 pub use space::{ComponentExportKind, ExportKind, Sort, Space};
 pub use types::{
     Alias, Case, ComponentValType, DefinedType, Description, ExternName, Field, FuncTypeDef,
     InstanceType, Member, Primitive, TypeDef,
 };
+pub use writing::{byte_of_flag, byte_of_kind};
 
 #[cfg(test)]
 mod tests;

@@ -7,8 +7,10 @@
 mod code;
 mod entries;
 mod entry;
+mod number;
 mod section;
 mod types;
+mod writing;
 
 pub use code::{Body, Instruction, LocalRun};
 pub use entries::Entries;
