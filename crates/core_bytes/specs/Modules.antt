@@ -22,9 +22,9 @@ abbrev pub name_map : ℕ → Option (List Naming) → Spelling
 name_map id None = raw []
 name_map id (Some names) = with_id id (listed naming names)
 
--- namedata: the name of the module, and the names of functions and of globals
+-- what the section of names holds: its name, and the names of the module, of functions and of globals
 abbrev pub module_names : ModuleNames → Spelling
-module_names n = with_id 0x00 (named n.module_name) ⊕ name_map 0x01 n.functions ⊕ name_map 0x07 n.globals
+module_names n = named name_section ⊕ with_id 0x00 (named n.module_name) ⊕ name_map 0x01 n.functions ⊕ name_map 0x07 n.globals
 
 abbrev pub id_of : Section → ℕ
 id_of (sections.Types entries) = 0x01
@@ -52,7 +52,7 @@ contents (sections.Start function) = number function
 contents (sections.Elements entries) = listed element_segment entries
 contents (sections.Code entries) = listed code_entry entries
 contents (sections.Data entries) = listed data_segment entries
-contents (sections.Names names) = named name_section ⊕ module_names names
+contents (sections.Names names) = module_names names
 
 abbrev pub section : Section → Spelling
 section s = with_id (id_of s) (contents s)

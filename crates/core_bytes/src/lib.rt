@@ -7,6 +7,7 @@
 mod code;
 mod entries;
 mod entry;
+mod module;
 mod number;
 mod section;
 mod types;
@@ -15,9 +16,10 @@ mod writing;
 pub use code::{Body, Instruction, LocalRun};
 pub use entries::Entries;
 pub use entry::{DataSegment, DefinedGlobal, ElementSegment, Export, Import, Naming};
+pub use module::Module;
 pub use section::{
     Code, DataSection, ElementSection, ExportSection, FunctionSection, GlobalSection,
-    ImportSection, MemorySection, Module, ModuleNames, NameMap, Section, TableSection, TypeSection,
+    ImportSection, MemorySection, ModuleNames, NameMap, Section, TableSection, TypeSection,
 };
 pub use types::{
     ConstExpr, EntityType, FuncType, GlobalType, MemoryType, RefType, TableType, ValType,
