@@ -1,2 +1,6 @@
 pub mod Signs
+pub mod SignedReaders
+pub mod TypeReaders
+pub mod CodeReaders
+pub mod WholeReaders
 pub mod Worked

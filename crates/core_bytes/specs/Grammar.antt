@@ -1,7 +1,7 @@
 -- The types, the instructions and the entries of core modules as bytes, form by form.
 -- Core standard, binary format: types, instructions, modules, with typed function references and tail calls. The
 -- names beside the definitions are those of its grammar.
-use Rattle.std.specs.Prelude.{ℕ, ℤ, Option, Some, None}
+use Rattle.std.specs.Prelude.{ℕ, ℤ, List, Option, Some, None}
 use Rattle.comp_bytes.specs.Spelling.{Spelling, ◌⊕◌, raw, octet, number, signed_leb, each, listed, named, sized}
 use Rattle.comp_bytes.specs.Grammar.{kind_byte, flag}
 use Rattle.core_bytes.specs.Signed.{signed}
@@ -87,7 +87,11 @@ instruction (instructions.I64Const n) = octet 0x42 ⊕ raw (signed n)
 instruction instructions.I32Add = octet 0x6a
 instruction (instructions.RefFunc function) = octet 0xd2 ⊕ number function
 
--- expr, of a constant: it ends with `0b`
+-- expr: it ends with `0b`
+abbrev pub expression : List Instruction → Spelling
+expression code = each instruction code ⊕ octet 0x0b
+
+-- expr, of a constant
 abbrev pub constant : ConstExpr → Spelling
 constant (constants.I32 n) = octet 0x41 ⊕ raw (signed n) ⊕ octet 0x0b
 constant (constants.I64 n) = octet 0x42 ⊕ raw (signed n) ⊕ octet 0x0b
@@ -120,9 +124,9 @@ data_segment d = octet 0x00 ⊕ constant (constants.I32 d.offset) ⊕ named d.by
 abbrev pub local_run : LocalRun → Spelling
 local_run r = number r.count ⊕ value_type r.val_type
 
--- func: local variables, and an expr, which ends with `0b`
+-- func: local variables, and an expr
 abbrev pub body : Body → Spelling
-body b = listed local_run b.locals ⊕ each instruction b.instructions ⊕ octet 0x0b
+body b = listed local_run b.locals ⊕ expression b.instructions
 
 -- code
 abbrev pub code_entry : Body → Spelling

@@ -6,7 +6,7 @@ ghost use Rattle.comp_bytes.specs.Spelling.{signed_leb, raw, octet, number, quan
 ghost use Rattle.comp_bytes.specs.Written.{Writes};
 ghost use Rattle.core_bytes.specs.Signed.{signed};
 ghost use Rattle.core_bytes.specs.declared.types.ConstExpr.TheVariants as constants;
-ghost use Rattle.core_bytes.specs.Grammar.{reference_type, value_type, function_type, limits, table_type, memory_type, global_type, entity_type, instruction, constant, import_entry, defined_global, export_entry, element_segment, data_segment, local_run, body, code_entry, naming};
+ghost use Rattle.core_bytes.specs.Grammar.{reference_type, value_type, function_type, limits, table_type, memory_type, global_type, entity_type, instruction, expression, constant, import_entry, defined_global, export_entry, element_segment, data_segment, local_run, body, code_entry, naming};
 
 use crate::code::{Body, Instruction, LocalRun};
 use crate::entries::Entries;
@@ -305,12 +305,19 @@ impl Spell for LocalRun {
     }
 }
 
+fn put_expression(out: &mut Vec<u8>, code: &[Instruction]) -> Result<(), BuildFault>
+    ensures { Writes out.old.items out.new.items result (expression code.now) }
+{
+    put_each(out, code)?;
+    put_bytes(out, &[0x0b])?;
+    Ok(())
+}
+
 fn put_body(out: &mut Vec<u8>, code: &Body) -> Result<(), BuildFault>
     ensures { Writes out.old.items out.new.items result (body code.now) }
 {
     code.locals.put(out)?;
-    put_each(out, code.instructions.as_slice())?;
-    put_bytes(out, &[0x0b])?;
+    put_expression(out, code.instructions.as_slice())?;
     Ok(())
 }
 
