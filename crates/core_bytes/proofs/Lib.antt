@@ -3,4 +3,7 @@ pub mod SignedReaders
 pub mod TypeReaders
 pub mod CodeReaders
 pub mod WholeReaders
+pub mod EntryReaders
+pub mod NameReaders
+pub mod OneModule
 pub mod Worked

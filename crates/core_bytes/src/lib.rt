@@ -7,6 +7,7 @@
 mod code;
 mod entries;
 mod entry;
+mod laws;
 mod module;
 mod number;
 mod section;
@@ -16,6 +17,7 @@ mod writing;
 pub use code::{Body, Instruction, LocalRun};
 pub use entries::Entries;
 pub use entry::{DataSegment, DefinedGlobal, ElementSegment, Export, Import, Naming};
+pub use laws::one_module;
 pub use module::Module;
 pub use section::{
     Code, DataSection, ElementSection, ExportSection, FunctionSection, GlobalSection,
