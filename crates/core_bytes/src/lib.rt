@@ -1,7 +1,22 @@
-//! Core modules that an encoder generates, as values, and the bytes that spell them.
+//! Core WebAssembly modules that an encoder generates, as values, and the bytes that spell them.
 //!
-//! In reading order: `types` (types and constants), `code` (instructions and bodies), `entry` (the
-//! entries of sections).
+//! A module is, to this crate, the list of its sections in the order given ([`Module`], of
+//! [`Section`]s), and a section the list of its entries: plain values, with one variant or one struct a
+//! form of the binary format. Their bytes are one function of that list, `specs/Grammar.antt` and
+//! `specs/Modules.antt`, to be read beside the binary format of the core standard; with the bytes it
+//! lists every count and size that is written, so that one definition says what is written and what
+//! must be refused.
+//!
+//! Upward this crate promises: an entry that is appended stands at the end of its section, and nothing
+//! else has changed; the bytes of a module spell it (`Spells`), a refusal other than want of memory
+//! names a count or a size that passes 2^32 - 1 (`Refused`), and bytes spell at most one module
+//! ([`one_module`]). Whether a module is valid is not asked: what is given is written.
+//!
+//! In reading order: `types` (types and constants), `code` (instructions and bodies), `entry` (other
+//! entries of sections), `entries` (lists that grow at their end), `section` (what is appended to each
+//! section), `number` (signed numbers, and what has its size in front), `writing` (each value),
+//! `module` (modules and their bytes), `laws` (what holds of all spellings). Worked examples stand in
+//! `proofs/Worked.antt`.
 #![tactic(auto)]
 
 mod code;
@@ -26,3 +41,6 @@ pub use section::{
 pub use types::{
     ConstExpr, EntityType, FuncType, GlobalType, MemoryType, RefType, TableType, ValType,
 };
+
+#[cfg(test)]
+mod tests;
