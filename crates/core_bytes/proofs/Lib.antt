@@ -6,4 +6,5 @@ pub mod WholeReaders
 pub mod EntryReaders
 pub mod NameReaders
 pub mod OneModule
+pub mod Parts
 pub mod Worked

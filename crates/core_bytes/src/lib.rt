@@ -25,6 +25,7 @@ mod entry;
 mod laws;
 mod module;
 mod number;
+mod part;
 mod section;
 mod types;
 mod writing;

@@ -26,6 +26,8 @@ pub use entries::{
     CoreExport, CoreImport, EntityType, ExportKind, ExportedItem, FuncType, Limits, ValType,
 };
 pub use fault::SectionFault;
+pub use numbers::read_bytes;
+pub use sections::{Content, Section, sections_of};
 pub use stripping::{Stripped, strip};
 
 #[cfg(test)]
