@@ -7,4 +7,6 @@ pub mod EntryReaders
 pub mod NameReaders
 pub mod OneModule
 pub mod Parts
+pub mod Positions
+pub mod Chosen
 pub mod Worked

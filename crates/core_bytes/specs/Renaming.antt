@@ -2,7 +2,7 @@
 -- Core standard, appendix, custom sections: name section (its parts have an id and a size each; part 0 is the name of
 -- the module), and binary format: modules.
 use Rattle.std.specs.Prelude.{ℕ, zero, suc, ◌-◌, ◌==◌, not, Bool, true, false, List, [], ◌∷◌, ◌++◌, length, take, drop, map, filter, position, unwrap_or, Option, Some, None, option_map, option_and_then, Result, Ok, Err}
-use Rattle.std.specs.List.{flat_map}
+use Rattle.std.specs.List.{flat_map, position_or_len}
 use Rattle.std.specs.Str.{bytes_eq}
 use Rattle.comp_bytes.specs.Spelling.{Spelling, ◌⊕◌, raw, named}
 use Rattle.core_sections.specs.Numbers.{bytes_at}
@@ -63,7 +63,7 @@ is_names p = has_names p.body
 
 -- where the first section of names stands, or the end
 abbrev pub names_place : List Piece → ℕ
-names_place ps = unwrap_or (position is_names ps) (length ps)
+names_place ps = position_or_len is_names ps
 
 abbrev pub bytes_in : Body → List ℕ
 bytes_in (custom name bytes) = bytes

@@ -26,6 +26,7 @@ mod laws;
 mod module;
 mod number;
 mod part;
+mod renaming;
 mod section;
 mod types;
 mod writing;
@@ -35,6 +36,7 @@ pub use entries::Entries;
 pub use entry::{DataSegment, DefinedGlobal, ElementSegment, Export, Import, Naming};
 pub use laws::one_module;
 pub use module::Module;
+pub use renaming::set_module_name;
 pub use section::{
     Code, DataSection, ElementSection, ExportSection, FunctionSection, GlobalSection,
     ImportSection, MemorySection, ModuleNames, NameMap, Section, TableSection, TypeSection,
