@@ -10,3 +10,4 @@ pub mod Parts
 pub mod Positions
 pub mod Chosen
 pub mod Worked
+pub mod WorkedNames
