@@ -8,7 +8,9 @@
 //!
 //! Upward this crate promises: what [`component_bytes`] answers spells the definitions that were given
 //! (`Spells`), a refusal other than want of memory names a count or a size that passes 2^32 - 1
-//! (`Refused`), and bytes spell at most one list of definitions ([`one_list`]).
+//! (`Refused`), and bytes spell at most one list of definitions ([`one_list`]). Other values of the
+//! binary format are spelled by the same means: [`Spell`], and the calls that write numbers, lists and
+//! bytes.
 //!
 //! For those above that speak of indices and names: `specs/References.antt` (what a definition names by
 //! index), `specs/Scopes.antt` (that all of it stands before it), `specs/ScopeNames.antt` (the lists of

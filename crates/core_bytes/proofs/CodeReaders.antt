@@ -1,11 +1,9 @@
 -- Instructions, constants and bodies that are spelled are read again, whatever follows.
-use Rattle.std.proofs.Common.{◌≡◌, ℕ, zero, suc, ◌+◌, ◌<◌, ◌≤◌, ℤ, List, [], ◌∷◌, ◌++◌, length, Bool, true, false, Option, Some, None, refl, ap, sym, ◌∙◌, arith, append_assoc, length-append}
+use Rattle.std.proofs.Common.{◌≡◌, ℕ, zero, suc, ◌<◌, ◌≤◌, ℤ, List, [], ◌∷◌, ◌++◌, length, false, Some, None, refl, ap, sym, ◌∙◌, arith, append_assoc, length-append}
 use Rattle.std.specs.Prelude.{nat_eq, if◌then◌else◌}
 use Rattle.std.specs.List.{flat_map}
-use Rattle.comp_bytes.specs.Spelling.{Spelling, ◌⊕◌, raw, octet, number, each, listed, named, sized}
-use Rattle.comp_bytes.proofs.Readers.{Read, Reader, Reads, read_then, made_from, made, pair_from, pair_reads, as_reads, followed_from, followed_reads, tagged, skipped, number_from, number_reads, list_from, list_reads, name_from, name_reads}
-use Rattle.core_bytes.specs.Signed.{signed}
-use Rattle.core_bytes.specs.Grammar.{instruction, expression, constant, local_run, body, code_entry}
+use Rattle.comp_bytes.proofs.Readers.{Read, Reader, Reads, read_then, made_from, made, pair_from, pair_reads, as_reads, followed_from, followed_reads, tagged, skipped, number_from, number_reads, list_from, list_reads}
+use Rattle.core_bytes.specs.Grammar.{instruction, expression, constant, local_run, body}
 use Rattle.core_bytes.specs.declared.types.ValType.{ValType}
 use Rattle.core_bytes.specs.declared.types.ConstExpr.{ConstExpr}
 use Rattle.core_bytes.specs.declared.types.ConstExpr.TheVariants as constants

@@ -1,10 +1,10 @@
 -- A signed number that is spelled is read again, whatever follows.
-use Rattle.std.proofs.Common.{◌≡◌, ℕ, zero, suc, ◌+◌, ◌-◌, ◌*◌, ◌/◌, ◌%◌, ◌<◌, ◌≤◌, ℤ, pos, negsuc, List, [], ◌∷◌, ◌++◌, Bool, true, false, Option, Some, None, refl, ap, sym, ◌∙◌, arith, inl, inr}
+use Rattle.std.proofs.Common.{◌≡◌, ℕ, zero, suc, ◌+◌, ◌-◌, ◌*◌, ◌/◌, ◌%◌, ◌<◌, ◌≤◌, ℤ, pos, negsuc, List, [], ◌∷◌, ◌++◌, Bool, true, false, Some, None, ap, ◌∙◌, arith, inl, inr}
 use Rattle.std.specs.Prelude.{nat_lt, if◌then◌else◌}
 use Rattle.std.proofs.lemmas.Bool.{cases_lt}
 use Rattle.std.proofs.lemmas.Bool.Decides.{nat_tests}
 use Rattle.comp_bytes.specs.Spelling.{raw}
-use Rattle.comp_bytes.proofs.Readers.{Read, Reader, Reads, read_then}
+use Rattle.comp_bytes.proofs.Readers.{Read, Reader, Reads}
 use Rattle.core_bytes.specs.Signed.{low_seven, signed_groups, signed_within, signed}
 use Rattle.core_bytes.proofs.Signs.{last_group, first_group}
 

@@ -1,9 +1,8 @@
 -- The types of core items that are spelled are read again, whatever follows.
-use Rattle.std.proofs.Common.{◌≡◌, ℕ, List, [], ◌∷◌, ◌++◌, Bool, true, false, Option, Some, None, refl, ap}
+use Rattle.std.proofs.Common.{◌≡◌, ℕ, List, ◌++◌, Bool, true, false, Option, Some, None, refl, ap}
 use Rattle.std.specs.Prelude.{nat_eq, if◌then◌else◌}
-use Rattle.comp_bytes.specs.Spelling.{Spelling}
 use Rattle.comp_bytes.specs.Grammar.{flag}
-use Rattle.comp_bytes.proofs.Readers.{Read, Reader, Reads, read_then, made_from, made, pair_from, pair_reads, as_reads, tagged, skipped, number_from, number_reads, index_from, index_reads, list_from, list_reads}
+use Rattle.comp_bytes.proofs.Readers.{Reader, Reads, read_then, made_from, made, pair_from, pair_reads, as_reads, tagged, skipped, number_from, number_reads, index_from, index_reads, list_from, list_reads}
 use Rattle.core_bytes.specs.Grammar.{reference_type, value_type, function_type, limits, table_type, memory_type, global_type, entity_type}
 use Rattle.core_bytes.specs.declared.types.RefType.{RefType}
 use Rattle.core_bytes.specs.declared.types.RefType.TheVariants as references

@@ -1,5 +1,5 @@
 -- What has its size in front is read to its end.
-use Rattle.std.proofs.Common.{◌≡◌, ℕ, List, [], ◌∷◌, ◌++◌, Option, Some, None, refl, ap, sym, ◌∙◌}
+use Rattle.std.proofs.Common.{◌≡◌, ℕ, List, [], ◌∷◌, Option, Some, None, ap, sym, ◌∙◌}
 use Rattle.std.proofs.lemmas.List.{append-nil}
 use Rattle.comp_bytes.specs.Spelling.{Spelling, sized}
 use Rattle.comp_bytes.proofs.Readers.{Read, Reader, Reads, read_then, name_from, name_reads}

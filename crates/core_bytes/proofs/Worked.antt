@@ -1,5 +1,5 @@
 -- Worked examples: modules of shims, of their fixups and of start functions, and their bytes; and signed numbers.
-use Rattle.std.proofs.Common.{◌≡◌, ℕ, List, [], ◌∷◌, refl, Some, None, true, false, pos, negsuc}
+use Rattle.std.proofs.Common.{◌≡◌, ℕ, List, [], ◌∷◌, refl, Some, None, true, pos, negsuc}
 use Rattle.comp_bytes.specs.Spelling.{leb128}
 use Rattle.comp_bytes.specs.declared.space.ExportKind.TheVariants as kinds
 use Rattle.core_bytes.specs.Signed.{signed, signed_within}

@@ -1,5 +1,5 @@
 -- Worked examples: core modules that are given a name.
-use Rattle.std.proofs.Common.{◌≡◌, ℕ, List, [], ◌∷◌, refl}
+use Rattle.std.proofs.Common.{◌≡◌, [], ◌∷◌, refl}
 use Rattle.comp_bytes.specs.Spelling.{leb128}
 use Rattle.std.specs.Str.{is_utf8, chars}
 use lib.Utf8.{encode}

@@ -1,7 +1,7 @@
 -- The types, the instructions and the entries of core modules as bytes, form by form.
 -- Core standard, binary format: types, instructions, modules, with typed function references and tail calls. The
 -- names beside the definitions are those of its grammar.
-use Rattle.std.specs.Prelude.{ℕ, ℤ, List, Option, Some, None}
+use Rattle.std.specs.Prelude.{ℕ, List, Option, Some, None}
 use Rattle.comp_bytes.specs.Spelling.{Spelling, ◌⊕◌, raw, octet, number, signed_leb, each, listed, named, sized}
 use Rattle.comp_bytes.specs.Grammar.{kind_byte, flag}
 use Rattle.core_bytes.specs.Signed.{signed}

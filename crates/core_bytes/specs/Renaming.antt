@@ -1,7 +1,7 @@
 -- The name of a module in the section of names, given to any core module.
 -- Core standard, appendix, custom sections: name section (its parts have an id and a size each; part 0 is the name of
 -- the module), and binary format: modules.
-use Rattle.std.specs.Prelude.{ℕ, zero, suc, ◌-◌, ◌==◌, not, Bool, true, false, List, [], ◌∷◌, ◌++◌, length, take, drop, map, filter, position, unwrap_or, Option, Some, None, option_map, option_and_then, Result, Ok, Err}
+use Rattle.std.specs.Prelude.{ℕ, zero, suc, ◌-◌, ◌==◌, not, Bool, false, List, [], ◌∷◌, length, take, drop, filter, position, unwrap_or, Option, Some, None, option_map, option_and_then, Result, Ok, Err}
 use Rattle.std.specs.List.{flat_map, position_or_len}
 use Rattle.std.specs.Str.{bytes_eq}
 use Rattle.comp_bytes.specs.Spelling.{Spelling, ◌⊕◌, raw, named}

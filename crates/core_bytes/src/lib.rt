@@ -12,11 +12,15 @@
 //! names a count or a size that passes 2^32 - 1 (`Refused`), and bytes spell at most one module
 //! ([`one_module`]). Whether a module is valid is not asked: what is given is written.
 //!
+//! Beside that, [`set_module_name`] gives any core module, one of a user too, a name in its section of
+//! names (`specs/Renaming.antt`), and leaves all else as it stands.
+//!
 //! In reading order: `types` (types and constants), `code` (instructions and bodies), `entry` (other
 //! entries of sections), `entries` (lists that grow at their end), `section` (what is appended to each
 //! section), `number` (signed numbers, and what has its size in front), `writing` (each value),
-//! `module` (modules and their bytes), `laws` (what holds of all spellings). Worked examples stand in
-//! `proofs/Worked.antt`.
+//! `module` (modules and their bytes), `laws` (what holds of all spellings); then `part` (the parts of
+//! a section of names) and `renaming` (names of modules). Worked examples stand in
+//! `proofs/Worked.antt` and `proofs/WorkedNames.antt`.
 #![tactic(auto)]
 
 mod code;

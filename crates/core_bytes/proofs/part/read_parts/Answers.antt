@@ -1,4 +1,4 @@
-use Rattle.std.proofs.Common.{◌≡◌, ◌∷◌, ◌++◌, ◌∙◌, [], List, Option, Some, None, length, map, sym, refl, arith}
+use Rattle.std.proofs.Common.{◌≡◌, ◌∷◌, ◌++◌, ◌∙◌, [], map, sym, refl}
 use Rattle.std.proofs.lemmas.List.{map_push}
 use Rattle.core_bytes.specs.Renaming.{part_view}
 use Rattle.core_bytes.proofs.Parts.{part_start, part_step, part_bad, part_end}

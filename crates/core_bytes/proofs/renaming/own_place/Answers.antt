@@ -1,4 +1,4 @@
-use Rattle.std.proofs.Common.{sym, ◌∙◌, arith, eq-eqb}
+use Rattle.std.proofs.Common.{sym, arith, eq-eqb}
 use Rattle.core_bytes.specs.Renaming.{part_view, is_own}
 use Rattle.core_bytes.proofs.Positions.{or_found, or_other}
 use Rattle.core_bytes.proofs.renaming.own_place.Goals as goal
