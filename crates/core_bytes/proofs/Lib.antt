@@ -9,5 +9,6 @@ pub mod OneModule
 pub mod Parts
 pub mod Positions
 pub mod Chosen
+pub mod Staying
 pub mod Worked
 pub mod WorkedNames

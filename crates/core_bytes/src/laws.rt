@@ -1,8 +1,13 @@
-//! What holds of all spellings: the function's contract is a law, and its body does nothing.
+//! What holds of all spellings: each function's contract is a law, and its body does nothing.
 
-ghost use Rattle.core_bytes.specs.Laws.{OneModule};
+ghost use Rattle.core_bytes.specs.Laws.{OneModule, OtherSectionsStay};
 
 /// Bytes spell at most one module.
 pub fn one_module()
     ensures { OneModule }
+{}
+
+/// A module that is given a name is a module, whose other sections stay.
+pub fn other_sections_stay()
+    ensures { OtherSectionsStay }
 {}

@@ -38,7 +38,7 @@ mod writing;
 pub use code::{Body, Instruction, LocalRun};
 pub use entries::Entries;
 pub use entry::{DataSegment, DefinedGlobal, ElementSegment, Export, Import, Naming};
-pub use laws::one_module;
+pub use laws::{one_module, other_sections_stay};
 pub use module::Module;
 pub use renaming::set_module_name;
 pub use section::{

@@ -701,4 +701,5 @@ fn lists_begin_empty(rt: HostRuntime) {
     let section = TypeSection::new(rt.alloc());
     assert!(rt; section.is_empty() && section == TypeSection::new(rt.alloc()));
     one_module();
+    other_sections_stay();
 }
