@@ -9,6 +9,7 @@ pub mod OneModule
 pub mod Parts
 pub mod Positions
 pub mod Chosen
+pub mod PartsAgain
 pub mod Staying
 pub mod Worked
 pub mod WorkedNames

@@ -1,21 +1,22 @@
 -- A module that is given a name is a module, whose other sections stay.
-use Rattle.std.proofs.Common.{◌≡◌, inl, inr, ℕ, zero, suc, ◌+◌, ◌*◌, ◌-◌, ◌/◌, ◌%◌, ◌^◌, ◌<◌, ◌≤◌, true, List, [], ◌∷◌, ◌++◌, length, take, drop, Option, Some, None, Result, Ok, Err, refl, sym, ap, ap₂, subst, ◌∙◌, append_assoc, arith}
+use Rattle.std.proofs.Common.{◌≡◌, inl, inr, ℕ, zero, suc, ◌+◌, ◌*◌, ◌/◌, ◌%◌, ◌^◌, ◌<◌, ◌≤◌, true, List, [], ◌∷◌, ◌++◌, length, take, drop, Some, refl, sym, ap, subst, ◌∙◌, append_assoc, arith}
+use Rattle.std.specs.Prelude.{Bool, false, cond, not, filter}
+use Rattle.std.proofs.lemmas.Option.{same_Some}
 use Rattle.std.specs.List.{flat_map, AllByRecursion}
 use Rattle.std.specs.Str.{IsUtf8}
 use Rattle.std.proofs.Math.Nat.{pow-suc}
 use Rattle.std.proofs.lemmas.Bool.{cases_lt}
-use Rattle.std.proofs.lemmas.List.{append-nil}
 use Rattle.std.proofs.lemmas.Bool.Decides.{nat_tests}
 use Rattle.std.proofs.lemmas.Grind.{flat_map-append}
 use lib.Utf8.{encode}
 use Rattle.comp_bytes.specs.Spelling.{Spelling, Fits, ◌⊕◌, named, leb, leb128, groups_of_seven}
 use Rattle.comp_bytes.proofs.Numbers.{groups_end}
-use Rattle.core_sections.specs.Sections.{Body, custom, Piece, pieces_of, preamble}
-use Rattle.core_sections.specs.Grammar.{IsNumber, IsCounted, IsSection, IsModule, Holds, holds_custom}
-use Rattle.core_sections.specs.declared.fault.SectionFault.{SectionFault}
+use Rattle.core_sections.specs.Sections.{custom, Piece, preamble}
+use Rattle.core_sections.specs.Grammar.{IsNumber, IsCounted, IsSection, IsModule, holds_custom}
 use Rattle.core_sections.proofs.Modules.{module_again}
 use Rattle.core_bytes.specs.Modules.{name_section}
-use Rattle.core_bytes.specs.Renaming.{Part, with_own, names_with, wholes, names_place, parts_in_front, renamed, by_parts, by_pieces, with_module_name}
+use Rattle.core_bytes.specs.Renaming.{Part, is_own, own_place, other_parts, own_part, named_parts, parts_of, bytes_in, with_own, names_with, wholes, names_place, parts_in_front, renamed, by_parts, by_pieces, with_module_name}
+use Rattle.core_bytes.proofs.PartsAgain.{IsPart, parts_take, parts_again}
 use Rattle.core_bytes.specs.Laws.{OtherSectionsStay}
 
 -- ---- numbers that are written are numbers that are read
@@ -65,7 +66,7 @@ piece_is name parts l = record {
   holds = holds_custom name_section (named name_section).bytes (with_own name parts).bytes name_counted name_utf8;
 }
 
--- ---- the sections about it
+-- ---- the sections and parts about it
 
 all_take : {A : Type 0} (P : A → Type 0) (n : ℕ) (xs : List A) → AllByRecursion P xs → AllByRecursion P (take n xs)
 all_take P zero xs h = tt
@@ -80,6 +81,38 @@ all_drop P (suc n) (x ∷ xs) h = all_drop P n xs h.1
 all_append : {A : Type 0} (P : A → Type 0) (xs ys : List A) → AllByRecursion P xs → AllByRecursion P ys → AllByRecursion P (xs ++ ys)
 all_append P [] ys p q = q
 all_append P (x ∷ xs) ys p q = (p.0, all_append P xs ys p.1 q)
+
+kept_or_not : {A : Type 0} (P : A → Type 0) (x : A) (xs : List A) (b : Bool) → P x → AllByRecursion P xs → AllByRecursion P (cond b (x ∷ xs) xs)
+kept_or_not P x xs true p h = (p, h)
+kept_or_not P x xs false p h = h
+
+all_filter : {A : Type 0} (P : A → Type 0) (t : A → Bool) (xs : List A) → AllByRecursion P xs → AllByRecursion P (filter t xs)
+all_filter P t [] h = tt
+all_filter P t (x ∷ xs) h = kept_or_not P x (filter t xs) (t x) h.0 (all_filter P t xs h.1)
+
+own_is : (name : List ℕ) → length (named name).bytes < 2 ^ 32 → IsPart (own_part name)
+own_is name l = record {
+  text = leb (length (named name).bytes) ++ (named name).bytes;
+  contents = (named name).bytes;
+  counted = record { count = leb (length (named name).bytes); number = leb_number (length (named name).bytes) l; spelled = refl };
+  spelled = refl;
+}
+
+named_are : (name : List ℕ) (ps : List Part) → (with_own name ps).bytes ≡ flat_map (λ p. p.whole) (named_parts name ps)
+named_are name ps =
+    let before = other_parts (take (own_place ps) ps) in
+    let behind = other_parts (drop (own_place ps) ps) in
+    append_assoc (flat_map (λ p. p.whole) before) (own_part name).whole (flat_map (λ p. p.whole) behind) ∙ sym (flat_map-append (λ (p : Part). p.whole) before (own_part name ∷ behind))
+
+named_read : (name : List ℕ) (ps : List Part) → AllByRecursion IsPart ps → length (named name).bytes < 2 ^ 32 → parts_of (with_own name ps).bytes ≡ Some (named_parts name ps)
+named_read name ps h l =
+    let k = own_place ps in
+    let all = all_append IsPart (other_parts (take k ps)) (own_part name ∷ other_parts (drop k ps)) (all_filter IsPart (λ p. not (is_own p)) (take k ps) (all_take IsPart k ps h)) (own_is name l, all_filter IsPart (λ p. not (is_own p)) (drop k ps) (all_drop IsPart k ps h)) in
+    ap parts_of (named_are name ps) ∙ parts_again (named_parts name ps) all
+
+front_parts : (ps : List Piece) (parts : List Part) → parts_in_front ps ≡ Some parts → AllByRecursion IsPart parts
+front_parts [] parts e = let same : [] ≡ parts = same_Some _ _ e in subst (λ (xs : List Part). AllByRecursion IsPart xs) same tt
+front_parts (p ∷ ps) parts e = parts_take (bytes_in p.body) parts e
 
 is_renamed : (bytes name : List ℕ) (ps : List Piece) (parts : List Part) → IsModule bytes ps → parts_in_front (drop (names_place ps) ps) ≡ Some parts → with_module_name bytes name ≡ renamed name ps parts
 is_renamed bytes name ps parts m e = ap (by_pieces bytes name) (module_again bytes ps m) ∙ ap (by_parts bytes name ps) e
@@ -99,6 +132,7 @@ other_sections_stay bytes name ps parts m e fits =
     let counts = subst (λ (s : Spelling). Fits s.counts) same fits in (
       piece_of name parts,
       refl,
+      named_read name parts (front_parts (drop (names_place ps) ps) parts e) counts.1.1.0,
       record {
         spelled = ap (λ s. s.bytes) same ∙ around name ps parts;
         each = all_append IsSection (take (names_place ps) ps) (piece_of name parts ∷ drop 1 (drop (names_place ps) ps)) (all_take IsSection (names_place ps) ps m.each) (piece_is name parts counts.0, all_drop IsSection 1 (drop (names_place ps) ps) (all_drop IsSection (names_place ps) ps m.each));

@@ -1,7 +1,7 @@
 -- The name of a module in the section of names, given to any core module.
 -- Core standard, appendix, custom sections: name section (its parts have an id and a size each; part 0 is the name of
 -- the module), and binary format: modules.
-use Rattle.std.specs.Prelude.{ℕ, zero, suc, ◌-◌, ◌==◌, not, Bool, false, List, [], ◌∷◌, length, take, drop, filter, position, unwrap_or, Option, Some, None, option_map, option_and_then, Result, Ok, Err}
+use Rattle.std.specs.Prelude.{ℕ, zero, suc, ◌-◌, ◌==◌, not, Bool, false, List, [], ◌∷◌, ◌++◌, length, take, drop, filter, position, unwrap_or, Option, Some, None, option_map, option_and_then, Result, Ok, Err}
 use Rattle.std.specs.List.{flat_map, position_or_len}
 use Rattle.std.specs.Str.{bytes_eq}
 use Rattle.comp_bytes.specs.Spelling.{Spelling, ◌⊕◌, raw, named}
@@ -48,6 +48,16 @@ own_place ps = unwrap_or (position is_own ps) 0
 -- the other parts, with this name where the first one stood, or in front
 abbrev pub with_own : List ℕ → List Part → Spelling
 with_own name ps = raw (others (take (own_place ps) ps)) ⊕ with_id 0x00 (named name) ⊕ raw (others (drop (own_place ps) ps))
+
+-- those parts
+abbrev pub other_parts : List Part → List Part
+other_parts ps = filter (λ p. not (is_own p)) ps
+
+abbrev pub own_part : List ℕ → Part
+own_part name = record { id = 0; whole = (with_id 0x00 (named name)).bytes }
+
+abbrev pub named_parts : List ℕ → List Part → List Part
+named_parts name ps = other_parts (take (own_place ps) ps) ++ own_part name ∷ other_parts (drop (own_place ps) ps)
 
 -- a section of names, which these parts were in
 abbrev pub names_with : List ℕ → List Part → Spelling

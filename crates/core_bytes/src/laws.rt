@@ -7,7 +7,8 @@ pub fn one_module()
     ensures { OneModule }
 {}
 
-/// A module that is given a name is a module, whose other sections stay.
+/// A module that is given a name is a module: all its sections but the first of names stay, and so do all
+/// parts of that one but the names of the module, in whose place the new one stands.
 pub fn other_sections_stay()
     ensures { OtherSectionsStay }
 {}
