@@ -8,7 +8,9 @@
 //!
 //! Upward this crate promises: what [`component_bytes`] answers spells the definitions that were given
 //! (`Spells`), a refusal other than want of memory names a count or a size that passes 2^32 - 1
-//! (`Refused`), and bytes spell at most one list of definitions ([`one_list`]).
+//! (`Refused`), and bytes spell at most one list of definitions ([`one_list`]). Other values of the
+//! binary format are spelled by the same means: [`Spell`], and the calls that write numbers, lists and
+//! bytes.
 //!
 //! For those above that speak of indices and names: `specs/References.antt` (what a definition names by
 //! index), `specs/Scopes.antt` (that all of it stands before it), `specs/ScopeNames.antt` (the lists of
@@ -40,13 +42,16 @@ pub use fault::{BuildFault, Excess, count_of, next_count};
 pub use laws::{one_list, one_name, one_number, one_type_index};
 pub use name::Name;
 pub use naming::names_bytes;
-pub use number::{Spell, spelled};
+pub use number::{
+    Spell, put_bytes, put_count, put_each, put_index, put_tagged, put_type_index, spelled,
+};
 pub use sections::component_bytes;
 pub use space::{ComponentExportKind, ExportKind, Sort, Space};
 pub use types::{
     Alias, Case, ComponentValType, DefinedType, Description, ExternName, Field, FuncTypeDef,
     InstanceType, Member, Primitive, TypeDef,
 };
+pub use writing::{byte_of_flag, byte_of_kind};
 
 #[cfg(test)]
 mod tests;

@@ -23,7 +23,7 @@ fn put_groups(out: &mut Vec<u8>, number: u32, end: u32) -> Result<(), AllocError
 }
 
 /// Writes an index.
-pub(crate) fn put_index(out: &mut Vec<u8>, index: u32) -> Result<(), BuildFault>
+pub fn put_index(out: &mut Vec<u8>, index: u32) -> Result<(), BuildFault>
     ensures { Writes out.old.items out.new.items result (a_number index) }
 {
     put_groups(out, index, 128)?;
@@ -31,7 +31,7 @@ pub(crate) fn put_index(out: &mut Vec<u8>, index: u32) -> Result<(), BuildFault>
 }
 
 /// Writes a type index where a primitive type, which is a negative number, could stand.
-pub(crate) fn put_type_index(out: &mut Vec<u8>, index: u32) -> Result<(), BuildFault>
+pub fn put_type_index(out: &mut Vec<u8>, index: u32) -> Result<(), BuildFault>
     ensures { Writes out.old.items out.new.items result (raw (signed_leb index)) }
 {
     put_groups(out, index, 64)?;
@@ -39,7 +39,7 @@ pub(crate) fn put_type_index(out: &mut Vec<u8>, index: u32) -> Result<(), BuildF
 }
 
 /// Writes a count or a size.
-pub(crate) fn put_count(out: &mut Vec<u8>, len: usize) -> Result<(), BuildFault>
+pub fn put_count(out: &mut Vec<u8>, len: usize) -> Result<(), BuildFault>
     ensures { Writes out.old.items out.new.items result (quantity len) }
 {
     let len = counted(len as u128)?;
@@ -47,7 +47,8 @@ pub(crate) fn put_count(out: &mut Vec<u8>, len: usize) -> Result<(), BuildFault>
     Ok(())
 }
 
-pub(crate) fn put_bytes(out: &mut Vec<u8>, bytes: &[u8]) -> Result<(), BuildFault>
+/// Writes bytes as they are.
+pub fn put_bytes(out: &mut Vec<u8>, bytes: &[u8]) -> Result<(), BuildFault>
     ensures { Writes out.old.items out.new.items result (raw bytes.now) }
 {
     out.extend_from_slice(bytes)?;
@@ -85,7 +86,8 @@ pub fn spelled<T: Spell>(alloc: Global, value: &T) -> Result<Vec<u8>, BuildFault
     Ok(out)
 }
 
-pub(crate) fn put_each<T: Spell>(out: &mut Vec<u8>, items: &[T]) -> Result<(), BuildFault>
+/// Writes values one after the other, without their count.
+pub fn put_each<T: Spell>(out: &mut Vec<u8>, items: &[T]) -> Result<(), BuildFault>
     ensures { Writes out.old.items out.new.items result (each T.spelling items.now) }
 {
     for item in items {
@@ -115,7 +117,7 @@ impl<T: Spell> Spell for Seq<T> {
 
 /// Writes a byte that says what follows, and what follows.
 #[tactic(auto, using(crate::proofs::Pieces::writing))]
-pub(crate) fn put_tagged<T: Spell>(out: &mut Vec<u8>, tag: u8, x: &T) -> Result<(), BuildFault>
+pub fn put_tagged<T: Spell>(out: &mut Vec<u8>, tag: u8, x: &T) -> Result<(), BuildFault>
     ensures { Writes out.old.items out.new.items result (octet tag ⊕ T.spelling x.now) }
 {
     put_bytes(out, &[tag])?;

@@ -17,7 +17,8 @@ use crate::types::{
 };
 use comp_lists::{Seq, Text};
 
-fn byte_of_kind(kind: ExportKind) -> u8
+/// The byte of a kind of core item.
+pub fn byte_of_kind(kind: ExportKind) -> u8
     ensures { result ≡ kind_byte kind }
 {
     match kind {
@@ -348,7 +349,8 @@ fn put_with_options(
     Ok(())
 }
 
-fn byte_of_flag(set: bool) -> u8
+/// The byte of a flag.
+pub fn byte_of_flag(set: bool) -> u8
     ensures { result ≡ (if set then 0x01 else 0x00) }
 {
     if set { 0x01 } else { 0x00 }

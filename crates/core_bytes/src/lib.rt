@@ -1,22 +1,53 @@
-//! Core modules that an encoder generates, as values, and the bytes that spell them.
+//! Core WebAssembly modules that an encoder generates, as values, and the bytes that spell them.
 //!
-//! In reading order: `types` (types and constants), `code` (instructions and bodies), `entry` (the
-//! entries of sections).
+//! A module is, to this crate, the list of its sections in the order given ([`Module`], of
+//! [`Section`]s), and a section the list of its entries: plain values, with one variant or one struct a
+//! form of the binary format. Their bytes are one function of that list, `specs/Grammar.antt` and
+//! `specs/Modules.antt`, to be read beside the binary format of the core standard; with the bytes it
+//! lists every count and size that is written, so that one definition says what is written and what
+//! must be refused.
+//!
+//! Upward this crate promises: an entry that is appended stands at the end of its section, and nothing
+//! else has changed; the bytes of a module spell it (`Spells`), a refusal other than want of memory
+//! names a count or a size that passes 2^32 - 1 (`Refused`), and bytes spell at most one module
+//! ([`one_module`]). Whether a module is valid is not asked: what is given is written.
+//!
+//! Beside that, [`set_module_name`] gives any core module, one of a user too, a name in its section of
+//! names (`specs/Renaming.antt`), and leaves all else as it stands.
+//!
+//! In reading order: `types` (types and constants), `code` (instructions and bodies), `entry` (other
+//! entries of sections), `entries` (lists that grow at their end), `section` (what is appended to each
+//! section), `number` (signed numbers, and what has its size in front), `writing` (each value),
+//! `module` (modules and their bytes), `laws` (what holds of all spellings); then `part` (the parts of
+//! a section of names) and `renaming` (names of modules). Worked examples stand in
+//! `proofs/Worked.antt` and `proofs/WorkedNames.antt`.
 #![tactic(auto)]
 
 mod code;
 mod entries;
 mod entry;
+mod laws;
+mod module;
+mod number;
+mod part;
+mod renaming;
 mod section;
 mod types;
+mod writing;
 
 pub use code::{Body, Instruction, LocalRun};
 pub use entries::Entries;
 pub use entry::{DataSegment, DefinedGlobal, ElementSegment, Export, Import, Naming};
+pub use laws::{one_module, other_sections_stay};
+pub use module::Module;
+pub use renaming::set_module_name;
 pub use section::{
     Code, DataSection, ElementSection, ExportSection, FunctionSection, GlobalSection,
-    ImportSection, MemorySection, Module, ModuleNames, NameMap, Section, TableSection, TypeSection,
+    ImportSection, MemorySection, ModuleNames, NameMap, Section, TableSection, TypeSection,
 };
 pub use types::{
     ConstExpr, EntityType, FuncType, GlobalType, MemoryType, RefType, TableType, ValType,
 };
+
+#[cfg(test)]
+mod tests;

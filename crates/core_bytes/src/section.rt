@@ -1,4 +1,4 @@
-//! Sections, and modules as lists of them.
+//! Sections, and what is appended to them.
 //!
 //! Core standard, binary format: modules; appendix, custom sections: name section.
 
@@ -71,9 +71,6 @@ pub enum Section {
     Data(DataSection),
     Names(ModuleNames),
 }
-
-/// A core module: its sections, in the order in which they stand.
-pub type Module = Entries<Section>;
 
 impl Entries<FuncType> {
     /// Appends the type of a function. Where memory is refused, the section is as it was.
@@ -230,15 +227,5 @@ impl Entries<Naming> {
     {
         let name = Text::from_str(self.allocator(), name)?;
         self.add(Naming { index, name })
-    }
-}
-
-impl Entries<Section> {
-    /// Appends a section. Where memory is refused, the module is as it was.
-    pub fn section(&mut self, section: Section) -> Result<(), AllocError>
-        ensures ok { OnOk result (self.new ≡ self.old ++ section ∷ []) }
-        ensures err { OnErr result (self.new ≡ self.old) }
-    {
-        self.add(section)
     }
 }

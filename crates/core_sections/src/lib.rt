@@ -1,7 +1,8 @@
 //! What the bytes of a core WebAssembly module say: its sections, which of them describe a
 //! component, and the contents of those that an encoder reads.
 //!
-//! Upward it promises two calls. [`strip`] takes a module apart at its section headers alone: what it
+//! Upward it promises two calls, and for crates that look at sections themselves [`sections_of`] and
+//! [`read_bytes`]. [`strip`] takes a module apart at its section headers alone: what it
 //! keeps and what it hands out are the sections of the module, byte for byte, and its contract has
 //! the binary format apart from any way of reading it (`specs/Grammar.antt`). [`read_module`] reads
 //! types, imports, functions and exports, and passes over every other section. Nothing is reserved by
@@ -26,6 +27,8 @@ pub use entries::{
     CoreExport, CoreImport, EntityType, ExportKind, ExportedItem, FuncType, Limits, ValType,
 };
 pub use fault::SectionFault;
+pub use numbers::read_bytes;
+pub use sections::{Content, Section, sections_of};
 pub use stripping::{Stripped, strip};
 
 #[cfg(test)]

@@ -47,7 +47,7 @@ pub(crate) fn read_u64(bytes: &[u8]) -> Option<(u64, &[u8])>
 
 /// As many bytes as a number before them says, and what follows them.
 #[tactic(auto, unfolding(crate::specs::Numbers::bytes_at))]
-pub(crate) fn read_bytes(bytes: &[u8]) -> Option<(&[u8], &[u8])>
+pub fn read_bytes(bytes: &[u8]) -> Option<(&[u8], &[u8])>
     ensures value { option_map (λ x. (x.0.now, x.1.now)) result ≡ bytes_at bytes.now }
     ensures shorter { IfSome result (λ x. length x.1.now < length bytes.now) }
 {

@@ -1,0 +1,15 @@
+pub mod Signs
+pub mod SignedReaders
+pub mod TypeReaders
+pub mod CodeReaders
+pub mod WholeReaders
+pub mod EntryReaders
+pub mod NameReaders
+pub mod OneModule
+pub mod Parts
+pub mod Positions
+pub mod Chosen
+pub mod PartsAgain
+pub mod Staying
+pub mod Worked
+pub mod WorkedNames

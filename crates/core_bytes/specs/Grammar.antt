@@ -1,0 +1,137 @@
+-- The types, the instructions and the entries of core modules as bytes, form by form.
+-- Core standard, binary format: types, instructions, modules, with typed function references and tail calls. The
+-- names beside the definitions are those of its grammar.
+use Rattle.std.specs.Prelude.{ℕ, List, Option, Some, None}
+use Rattle.comp_bytes.specs.Spelling.{Spelling, ◌⊕◌, raw, octet, number, signed_leb, each, listed, named, sized}
+use Rattle.comp_bytes.specs.Grammar.{kind_byte, flag}
+use Rattle.core_bytes.specs.Signed.{signed}
+use Rattle.core_bytes.specs.declared.types.RefType.{RefType}
+use Rattle.core_bytes.specs.declared.types.RefType.TheVariants as references
+use Rattle.core_bytes.specs.declared.types.ValType.{ValType}
+use Rattle.core_bytes.specs.declared.types.ValType.TheVariants as values
+use Rattle.core_bytes.specs.declared.types.FuncType.{FuncType}
+use Rattle.core_bytes.specs.declared.types.GlobalType.{GlobalType}
+use Rattle.core_bytes.specs.declared.types.TableType.{TableType}
+use Rattle.core_bytes.specs.declared.types.MemoryType.{MemoryType}
+use Rattle.core_bytes.specs.declared.types.EntityType.{EntityType}
+use Rattle.core_bytes.specs.declared.types.EntityType.TheVariants as entities
+use Rattle.core_bytes.specs.declared.types.ConstExpr.{ConstExpr}
+use Rattle.core_bytes.specs.declared.types.ConstExpr.TheVariants as constants
+use Rattle.core_bytes.specs.declared.code.Instruction.{Instruction}
+use Rattle.core_bytes.specs.declared.code.Instruction.TheVariants as instructions
+use Rattle.core_bytes.specs.declared.code.LocalRun.{LocalRun}
+use Rattle.core_bytes.specs.declared.code.Body.{Body}
+use Rattle.core_bytes.specs.declared.entry.Import.{Import}
+use Rattle.core_bytes.specs.declared.entry.DefinedGlobal.{DefinedGlobal}
+use Rattle.core_bytes.specs.declared.entry.Export.{Export}
+use Rattle.core_bytes.specs.declared.entry.ElementSegment.{ElementSegment}
+use Rattle.core_bytes.specs.declared.entry.ElementSegment.TheVariants as segments
+use Rattle.core_bytes.specs.declared.entry.DataSegment.{DataSegment}
+use Rattle.core_bytes.specs.declared.entry.Naming.{Naming}
+
+-- reftype: an index of a type is a signed number of 33 bits, since an abstract heap type is a negative one
+abbrev pub reference_type : RefType → Spelling
+reference_type references.FuncRef = octet 0x70
+reference_type (references.Concrete index) = octet 0x64 ⊕ raw (signed_leb index)
+
+-- valtype
+abbrev pub value_type : ValType → Spelling
+value_type values.I32 = octet 0x7f
+value_type values.I64 = octet 0x7e
+value_type values.F32 = octet 0x7d
+value_type values.F64 = octet 0x7c
+value_type (values.Ref t) = reference_type t
+
+-- functype
+abbrev pub function_type : FuncType → Spelling
+function_type f = octet 0x60 ⊕ listed value_type f.params ⊕ listed value_type f.results
+
+-- limits: the least size, and the greatest where there is one
+abbrev pub limits : ℕ → Option ℕ → Spelling
+limits minimum None = octet 0x00 ⊕ number minimum
+limits minimum (Some maximum) = octet 0x01 ⊕ number minimum ⊕ number maximum
+
+-- tabletype
+abbrev pub table_type : TableType → Spelling
+table_type t = reference_type t.element_type ⊕ limits t.minimum t.maximum
+
+-- memtype
+abbrev pub memory_type : MemoryType → Spelling
+memory_type m = limits m.minimum m.maximum
+
+-- globaltype
+abbrev pub global_type : GlobalType → Spelling
+global_type g = value_type g.val_type ⊕ flag g.mutable
+
+-- importdesc
+abbrev pub entity_type : EntityType → Spelling
+entity_type (entities.Function index) = octet 0x00 ⊕ number index
+entity_type (entities.Table t) = octet 0x01 ⊕ table_type t
+entity_type (entities.Memory m) = octet 0x02 ⊕ memory_type m
+entity_type (entities.Global g) = octet 0x03 ⊕ global_type g
+
+-- instr
+abbrev pub instruction : Instruction → Spelling
+instruction instructions.Unreachable = octet 0x00
+instruction (instructions.Call function) = octet 0x10 ⊕ number function
+instruction (instructions.CallIndirect type table) = octet 0x11 ⊕ number type ⊕ number table
+instruction (instructions.ReturnCallRef type) = octet 0x15 ⊕ number type
+instruction instructions.Select = octet 0x1b
+instruction (instructions.LocalGet place) = octet 0x20 ⊕ number place
+instruction (instructions.LocalSet place) = octet 0x21 ⊕ number place
+instruction (instructions.GlobalGet index) = octet 0x23 ⊕ number index
+instruction (instructions.GlobalSet index) = octet 0x24 ⊕ number index
+instruction instructions.I32Store = octet 0x36 ⊕ octet 0x02 ⊕ octet 0x00
+instruction (instructions.I32Const n) = octet 0x41 ⊕ raw (signed n)
+instruction (instructions.I64Const n) = octet 0x42 ⊕ raw (signed n)
+instruction instructions.I32Add = octet 0x6a
+instruction (instructions.RefFunc function) = octet 0xd2 ⊕ number function
+
+-- expr: it ends with `0b`
+abbrev pub expression : List Instruction → Spelling
+expression code = each instruction code ⊕ octet 0x0b
+
+-- expr, of a constant
+abbrev pub constant : ConstExpr → Spelling
+constant (constants.I32 n) = octet 0x41 ⊕ raw (signed n) ⊕ octet 0x0b
+constant (constants.I64 n) = octet 0x42 ⊕ raw (signed n) ⊕ octet 0x0b
+constant (constants.RefFunc function) = octet 0xd2 ⊕ number function ⊕ octet 0x0b
+
+-- import
+abbrev pub import_entry : Import → Spelling
+import_entry i = named i.module_name ⊕ named i.field ⊕ entity_type i.entity
+
+-- global
+abbrev pub defined_global : DefinedGlobal → Spelling
+defined_global g = global_type g.global_type ⊕ constant g.init
+
+-- export
+abbrev pub export_entry : Export → Spelling
+export_entry e = named e.name ⊕ octet (kind_byte e.kind) ⊕ number e.index
+
+-- elem: on table 0, on the table that is told (`00` says that it holds functions), and declared
+abbrev pub element_segment : ElementSegment → Spelling
+element_segment (segments.Active None offset functions) = octet 0x00 ⊕ constant (constants.I32 offset) ⊕ listed number functions
+element_segment (segments.Active (Some table) offset functions) =
+    octet 0x02 ⊕ number table ⊕ constant (constants.I32 offset) ⊕ octet 0x00 ⊕ listed number functions
+element_segment (segments.Declared functions) = octet 0x03 ⊕ octet 0x00 ⊕ listed number functions
+
+-- data, in memory 0: a list of bytes is spelled as a name is
+abbrev pub data_segment : DataSegment → Spelling
+data_segment d = octet 0x00 ⊕ constant (constants.I32 d.offset) ⊕ named d.bytes
+
+-- locals
+abbrev pub local_run : LocalRun → Spelling
+local_run r = number r.count ⊕ value_type r.val_type
+
+-- func: local variables, and an expr
+abbrev pub body : Body → Spelling
+body b = listed local_run b.locals ⊕ expression b.instructions
+
+-- code
+abbrev pub code_entry : Body → Spelling
+code_entry b = sized (body b)
+
+-- nameassoc
+abbrev pub naming : Naming → Spelling
+naming n = number n.index ⊕ named n.name

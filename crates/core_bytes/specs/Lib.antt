@@ -1,0 +1,5 @@
+pub mod Signed
+pub mod Grammar
+pub mod Modules
+pub mod Laws
+pub mod Renaming

@@ -1,0 +1,342 @@
+//! Each value at the end of a buffer.
+#![tactic(auto, using(comp_bytes::proofs::Pieces::writing))]
+
+ghost use Rattle.std.specs.Prelude.{◌≡◌, ◌++◌, List, ℕ, OnOk, if◌then◌else◌};
+ghost use Rattle.comp_bytes.specs.Spelling.{signed_leb, raw, octet, number, quantity, each, listed, named, sized, Spelling, Fits, ◌⊕◌};
+ghost use Rattle.comp_bytes.specs.Written.{Writes};
+ghost use Rattle.core_bytes.specs.Signed.{signed};
+ghost use Rattle.core_bytes.specs.declared.types.ConstExpr.TheVariants as constants;
+ghost use Rattle.core_bytes.specs.Grammar.{reference_type, value_type, function_type, limits, table_type, memory_type, global_type, entity_type, instruction, expression, constant, import_entry, defined_global, export_entry, element_segment, data_segment, local_run, body, code_entry, naming};
+
+use crate::code::{Body, Instruction, LocalRun};
+use crate::entries::Entries;
+use crate::entry::{DataSegment, DefinedGlobal, ElementSegment, Export, Import, Naming};
+use crate::number::{put_blob, put_signed};
+use crate::types::{
+    ConstExpr, EntityType, FuncType, GlobalType, MemoryType, RefType, TableType, ValType,
+};
+use comp_bytes::{
+    BuildFault, Spell, byte_of_flag, byte_of_kind, put_bytes, put_count, put_each, put_index,
+    put_tagged, put_type_index,
+};
+use comp_lists::Seq;
+
+impl<T: Spell> Spell for Entries<T> {
+    ghost spelling = { listed T.spelling };
+
+    fn put(&self, out: &mut Vec<u8>) -> Result<(), BuildFault> {
+        put_count(out, self.len())?;
+        put_each(out, self.as_slice())?;
+        Ok(())
+    }
+}
+
+fn put_concrete(out: &mut Vec<u8>, type_index: u32) -> Result<(), BuildFault>
+    ensures { Writes out.old.items out.new.items result (octet 0x64 ⊕ raw (signed_leb type_index)) }
+{
+    put_bytes(out, &[0x64])?;
+    put_type_index(out, type_index)?;
+    Ok(())
+}
+
+impl Spell for RefType {
+    ghost spelling = { reference_type };
+
+    fn put(&self, out: &mut Vec<u8>) -> Result<(), BuildFault> {
+        match *self {
+            RefType::FuncRef => put_bytes(out, &[0x70]),
+            RefType::Concrete(type_index) => put_concrete(out, type_index),
+        }
+    }
+}
+
+impl Spell for ValType {
+    ghost spelling = { value_type };
+
+    fn put(&self, out: &mut Vec<u8>) -> Result<(), BuildFault> {
+        match self {
+            ValType::I32 => put_bytes(out, &[0x7f]),
+            ValType::I64 => put_bytes(out, &[0x7e]),
+            ValType::F32 => put_bytes(out, &[0x7d]),
+            ValType::F64 => put_bytes(out, &[0x7c]),
+            ValType::Ref(ty) => ty.put(out),
+        }
+    }
+}
+
+impl Spell for FuncType {
+    ghost spelling = { function_type };
+
+    fn put(&self, out: &mut Vec<u8>) -> Result<(), BuildFault> {
+        put_tagged(out, 0x60, &self.params)?;
+        self.results.put(out)?;
+        Ok(())
+    }
+}
+
+fn put_range(out: &mut Vec<u8>, minimum: u32, maximum: u32) -> Result<(), BuildFault>
+    ensures { Writes out.old.items out.new.items result (octet 0x01 ⊕ number minimum ⊕ number maximum) }
+{
+    put_tagged(out, 0x01, &minimum)?;
+    put_index(out, maximum)?;
+    Ok(())
+}
+
+fn put_limits(out: &mut Vec<u8>, minimum: u32, maximum: Option<u32>) -> Result<(), BuildFault>
+    ensures { Writes out.old.items out.new.items result (limits minimum maximum) }
+{
+    match maximum {
+        None => put_tagged(out, 0x00, &minimum),
+        Some(maximum) => put_range(out, minimum, maximum),
+    }
+}
+
+impl Spell for TableType {
+    ghost spelling = { table_type };
+
+    fn put(&self, out: &mut Vec<u8>) -> Result<(), BuildFault> {
+        self.element_type.put(out)?;
+        put_limits(out, self.minimum, self.maximum)?;
+        Ok(())
+    }
+}
+
+impl Spell for MemoryType {
+    ghost spelling = { memory_type };
+
+    fn put(&self, out: &mut Vec<u8>) -> Result<(), BuildFault> {
+        put_limits(out, self.minimum, self.maximum)
+    }
+}
+
+impl Spell for GlobalType {
+    ghost spelling = { global_type };
+
+    fn put(&self, out: &mut Vec<u8>) -> Result<(), BuildFault> {
+        self.val_type.put(out)?;
+        put_bytes(out, &[byte_of_flag(self.mutable)])?;
+        Ok(())
+    }
+}
+
+impl Spell for EntityType {
+    ghost spelling = { entity_type };
+
+    fn put(&self, out: &mut Vec<u8>) -> Result<(), BuildFault> {
+        match self {
+            EntityType::Function(type_index) => put_tagged(out, 0x00, type_index),
+            EntityType::Table(ty) => put_tagged(out, 0x01, ty),
+            EntityType::Memory(ty) => put_tagged(out, 0x02, ty),
+            EntityType::Global(ty) => put_tagged(out, 0x03, ty),
+        }
+    }
+}
+
+/// Writes the opcode of a constant, and its number.
+fn put_constant(out: &mut Vec<u8>, opcode: u8, value: i64) -> Result<(), BuildFault>
+    ensures { Writes out.old.items out.new.items result (octet opcode ⊕ raw (signed value)) }
+{
+    put_bytes(out, &[opcode])?;
+    put_signed(out, value)?;
+    Ok(())
+}
+
+fn put_call_indirect(out: &mut Vec<u8>, type_index: u32, table: u32) -> Result<(), BuildFault>
+    ensures { Writes out.old.items out.new.items result (octet 0x11 ⊕ number type_index ⊕ number table) }
+{
+    put_tagged(out, 0x11, &type_index)?;
+    put_index(out, table)?;
+    Ok(())
+}
+
+impl Spell for Instruction {
+    ghost spelling = { instruction };
+
+    fn put(&self, out: &mut Vec<u8>) -> Result<(), BuildFault> {
+        match self {
+            Instruction::Unreachable => put_bytes(out, &[0x00]),
+            Instruction::Call(function) => put_tagged(out, 0x10, function),
+            Instruction::CallIndirect { type_index, table } => {
+                put_call_indirect(out, *type_index, *table)
+            }
+            Instruction::ReturnCallRef(type_index) => put_tagged(out, 0x15, type_index),
+            Instruction::Select => put_bytes(out, &[0x1b]),
+            Instruction::LocalGet(place) => put_tagged(out, 0x20, place),
+            Instruction::LocalSet(place) => put_tagged(out, 0x21, place),
+            Instruction::GlobalGet(index) => put_tagged(out, 0x23, index),
+            Instruction::GlobalSet(index) => put_tagged(out, 0x24, index),
+            Instruction::I32Store => put_bytes(out, &[0x36, 0x02, 0x00]),
+            Instruction::I32Const(value) => put_constant(out, 0x41, i64::from(*value)),
+            Instruction::I64Const(value) => put_constant(out, 0x42, *value),
+            Instruction::I32Add => put_bytes(out, &[0x6a]),
+            Instruction::RefFunc(function) => put_tagged(out, 0xd2, function),
+        }
+    }
+}
+
+fn put_ended_constant(out: &mut Vec<u8>, opcode: u8, value: i64) -> Result<(), BuildFault>
+    ensures { Writes out.old.items out.new.items result (octet opcode ⊕ raw (signed value) ⊕ octet 0x0b) }
+{
+    put_constant(out, opcode, value)?;
+    put_bytes(out, &[0x0b])?;
+    Ok(())
+}
+
+fn put_ended_function(out: &mut Vec<u8>, function: u32) -> Result<(), BuildFault>
+    ensures { Writes out.old.items out.new.items result (octet 0xd2 ⊕ number function ⊕ octet 0x0b) }
+{
+    put_tagged(out, 0xd2, &function)?;
+    put_bytes(out, &[0x0b])?;
+    Ok(())
+}
+
+impl Spell for ConstExpr {
+    ghost spelling = { constant };
+
+    fn put(&self, out: &mut Vec<u8>) -> Result<(), BuildFault> {
+        match *self {
+            ConstExpr::I32(value) => put_ended_constant(out, 0x41, i64::from(value)),
+            ConstExpr::I64(value) => put_ended_constant(out, 0x42, value),
+            ConstExpr::RefFunc(function) => put_ended_function(out, function),
+        }
+    }
+}
+
+impl Spell for Import {
+    ghost spelling = { import_entry };
+
+    fn put(&self, out: &mut Vec<u8>) -> Result<(), BuildFault> {
+        self.module_name.put(out)?;
+        self.field.put(out)?;
+        self.entity.put(out)?;
+        Ok(())
+    }
+}
+
+impl Spell for DefinedGlobal {
+    ghost spelling = { defined_global };
+
+    fn put(&self, out: &mut Vec<u8>) -> Result<(), BuildFault> {
+        self.global_type.put(out)?;
+        self.init.put(out)?;
+        Ok(())
+    }
+}
+
+impl Spell for Export {
+    ghost spelling = { export_entry };
+
+    fn put(&self, out: &mut Vec<u8>) -> Result<(), BuildFault> {
+        self.name.put(out)?;
+        put_bytes(out, &[byte_of_kind(self.kind)])?;
+        put_index(out, self.index)?;
+        Ok(())
+    }
+}
+
+fn put_on_first(out: &mut Vec<u8>, offset: i32, functions: &Seq<u32>) -> Result<(), BuildFault>
+    ensures { Writes out.old.items out.new.items result (octet 0x00 ⊕ constant (constants.I32 offset) ⊕ listed number functions.now) }
+{
+    put_tagged(out, 0x00, &ConstExpr::I32(offset))?;
+    functions.put(out)?;
+    Ok(())
+}
+
+fn put_on_table(
+    out: &mut Vec<u8>,
+    table: u32,
+    offset: i32,
+    functions: &Seq<u32>,
+) -> Result<(), BuildFault>
+    ensures { Writes out.old.items out.new.items result (octet 0x02 ⊕ number table ⊕ constant (constants.I32 offset) ⊕ octet 0x00 ⊕ listed number functions.now) }
+{
+    put_tagged(out, 0x02, &table)?;
+    ConstExpr::I32(offset).put(out)?;
+    put_bytes(out, &[0x00])?;
+    functions.put(out)?;
+    Ok(())
+}
+
+fn put_declared(out: &mut Vec<u8>, functions: &Seq<u32>) -> Result<(), BuildFault>
+    ensures { Writes out.old.items out.new.items result (octet 0x03 ⊕ octet 0x00 ⊕ listed number functions.now) }
+{
+    put_bytes(out, &[0x03, 0x00])?;
+    functions.put(out)?;
+    Ok(())
+}
+
+impl Spell for ElementSegment {
+    ghost spelling = { element_segment };
+
+    fn put(&self, out: &mut Vec<u8>) -> Result<(), BuildFault> {
+        match self {
+            ElementSegment::Active {
+                table: None,
+                offset,
+                functions,
+            } => put_on_first(out, *offset, functions),
+            ElementSegment::Active {
+                table: Some(table),
+                offset,
+                functions,
+            } => put_on_table(out, *table, *offset, functions),
+            ElementSegment::Declared(functions) => put_declared(out, functions),
+        }
+    }
+}
+
+impl Spell for DataSegment {
+    ghost spelling = { data_segment };
+
+    fn put(&self, out: &mut Vec<u8>) -> Result<(), BuildFault> {
+        put_tagged(out, 0x00, &ConstExpr::I32(self.offset))?;
+        put_blob(out, self.bytes.as_slice())?;
+        Ok(())
+    }
+}
+
+impl Spell for LocalRun {
+    ghost spelling = { local_run };
+
+    fn put(&self, out: &mut Vec<u8>) -> Result<(), BuildFault> {
+        put_index(out, self.count)?;
+        self.val_type.put(out)?;
+        Ok(())
+    }
+}
+
+fn put_expression(out: &mut Vec<u8>, code: &[Instruction]) -> Result<(), BuildFault>
+    ensures { Writes out.old.items out.new.items result (expression code.now) }
+{
+    put_each(out, code)?;
+    put_bytes(out, &[0x0b])?;
+    Ok(())
+}
+
+fn put_body(out: &mut Vec<u8>, code: &Body) -> Result<(), BuildFault>
+    ensures { Writes out.old.items out.new.items result (body code.now) }
+{
+    code.locals.put(out)?;
+    put_expression(out, code.instructions.as_slice())?;
+    Ok(())
+}
+
+impl Spell for Body {
+    ghost spelling = { code_entry };
+
+    fn put(&self, out: &mut Vec<u8>) -> Result<(), BuildFault> {
+        let mut buffer = Vec::new(*out.allocator());
+        put_body(&mut buffer, self)?;
+        put_blob(out, buffer.as_slice())
+    }
+}
+
+impl Spell for Naming {
+    ghost spelling = { naming };
+
+    fn put(&self, out: &mut Vec<u8>) -> Result<(), BuildFault> {
+        put_index(out, self.index)?;
+        self.name.put(out)?;
+        Ok(())
+    }
+}
