@@ -84,13 +84,16 @@ no_types_small : AreSmall []
 unfolding values_from
 no_types_small = record { labels = tt; nodes = tt; levels = tt }
 
-alone_sound : (imported exported : Table) → IsSound (record { interfaces = []; types = []; worlds = record { imports = world_items imported; exports = world_items exported } ∷ [] })
+abbrev one_world : Table → Table → Resolve
+one_world imported exported = record { interfaces = []; types = []; worlds = record { imports = world_items imported; exports = world_items exported } ∷ [] }
+
+alone_sound : (imported exported : Table) → IsSound (one_world imported exported)
 alone_sound imported exported = record {
   back = tt;
   small = no_types_small;
   owners = tt;
   interfaces = tt;
-  worlds = (record { imports = items_stand _ imported; exports = items_stand _ exported }, tt);
+  worlds = (record { imports = items_stand (one_world imported exported) imported; exports = items_stand (one_world imported exported) exported }, tt);
 }
 
 -- ---- imports
