@@ -1,13 +1,10 @@
 -- When decoding is refused: the definition refuses exactly where a cause holds.
 use Rattle.std.proofs.Common.{◌≡◌, ◌⊎◌, inl, inr, arith, map, length, suc, ℕ, Bool, true, false, cond, ◌||◌, ◌&&◌, List, [], ◌∷◌, ◌++◌, Option, Some, None, Result, Ok, Err, refl, sym, ap, subst, ◌∙◌, append_assoc, true≢false}
 use Rattle.std.specs.Prelude.{◌≢◌, is_some, Contains, if◌then◌else◌}
-use Rattle.std.specs.Cmp.{IsEquivalence}
-use Rattle.std.specs.Cmp.Lexicographic.{lists_equiv}
 use Rattle.std.specs.List.{AllZip, AllByRecursion, IsDistinct, flat_map, list_any}
 use Rattle.std.specs.Map.{lookup, keys_of}
 use Rattle.std.specs.Option.{option_map_or}
 use Rattle.std.specs.Str.{bytes_eq}
-use Rattle.std.proofs.lemmas.Cmp.{nat_eq_equiv}
 use Rattle.std.proofs.lemmas.List.{append-nil, map_push, length-append}
 use Rattle.std.proofs.lemmas.Grind.{flat_map-append}
 use Rattle.std.proofs.lemmas.List.Concat.{flat_map-cons}
@@ -22,7 +19,7 @@ use Rattle.core_sections.specs.declared.fault.SectionFault.{SectionFault}
 use Rattle.core_sections.specs.declared.fault.SectionFault.TheVariants as section_faults
 use Rattle.core_sections.specs.Sections.{◌>>=◌ as ◌>>>=◌, Piece, preamble, pieces_of}
 use Rattle.core_sections.specs.Stripping.{kept, removed, is_package, stripped}
-use Rattle.core_sections.specs.Grammar.{IsModule, IsCutAt}
+use Rattle.core_sections.specs.Grammar.{IsModule}
 use Rattle.core_sections.proofs.Modules.{stripped_takes, module_takes, module_again}
 use Rattle.core_sections.proofs.Cuts.{is_cut}
 use Rattle.core_sections.proofs.Refusals.{stripped_no_module, stripped_package, whole_is_not_cut}
@@ -42,9 +39,9 @@ use Rattle.plain_lower.specs.Roles.{function_of, is_same_role, is_same_name}
 use Rattle.plain_lower.specs.RecordFormat.{record_in}
 use Rattle.plain_lower.specs.Joining.{with_firsts, apart, conflict, no_record, with_record, records_after, with_role, roles_after, one_field_each, bindgen_of, decoding}
 use Rattle.plain_lower.specs.Preparing.{Table}
-use Rattle.plain_lower.specs.Causes.{AreRecords, AreAllRecords, IsRecord, TwoExports, TwoRoles, TwoFields, all_core_imports, all_core_exports, DecodeCause, not_module, cut, binary, misspelt, exported_twice, import_roles, export_roles, two_fields}
+use Rattle.plain_lower.specs.Causes.{AreAllRecords, TwoExports, TwoRoles, TwoFields, all_core_imports, all_core_exports, DecodeCause, not_module, cut, binary, misspelt, exported_twice, import_roles, export_roles, two_fields}
 use Rattle.plain_lower.proofs.Chains.{refused, same_refusal, bind_ok, bind_err, equivalence}
-use Rattle.plain_lower.proofs.Merging.{Clash, apart_refused, apart_taken}
+use Rattle.plain_lower.proofs.Merging.{Clash, apart_refused}
 
 abbrev IsRead : List ℕ → Record → Type 0
 IsRead text r = record_in text ≡ Ok r

@@ -1,5 +1,5 @@
 -- When merging is refused: the definition refuses exactly where a cause holds.
-use Rattle.std.proofs.Common.{◌≡◌, ◌⊎◌, inl, inr, ℕ, Bool, true, false, cond, List, [], ◌∷◌, ◌++◌, Result, Ok, Err, refl, sym, ap, subst, ◌∙◌, append_assoc, true≢false}
+use Rattle.std.proofs.Common.{◌≡◌, inl, inr, ℕ, Bool, true, false, List, [], ◌∷◌, ◌++◌, Ok, Err, refl, sym, ap, subst, ◌∙◌, append_assoc, true≢false}
 use Rattle.std.specs.Prelude.{◌≢◌, is_some, if◌then◌else◌}
 use Rattle.std.proofs.lemmas.List.{append-nil}
 use Rattle.comp_lists.specs.Found.{found}
@@ -11,7 +11,7 @@ use Rattle.plain_lower.specs.declared.fault.Refusal.{Refusal}
 use Rattle.plain_lower.specs.declared.fault.Refusal.TheVariants as refusals
 use Rattle.plain_lower.specs.declared.fault.PlainFault.{PlainFault}
 use Rattle.plain_lower.specs.declared.bindgen.Bindgen.{Bindgen}
-use Rattle.plain_lower.specs.Faults.{◌>>=◌, flat, flat_refusal}
+use Rattle.plain_lower.specs.Faults.{flat, flat_refusal}
 use Rattle.plain_lower.specs.Joining.{with_firsts, apart, conflict, merging, export_keys}
 use Rattle.plain_lower.specs.Layer.{is_memory}
 use Rattle.plain_lower.specs.Preparing.{Table}

@@ -1,15 +1,13 @@
 -- When preparing a world is refused: the definition refuses exactly where a cause holds.
-use Rattle.std.proofs.Common.{◌≡◌, ◌⊎◌, inl, inr, ℕ, Bool, true, false, cond, ◌&&◌, List, [], ◌∷◌, ◌++◌, length, ◌<◌, Option, Some, None, Result, Ok, Err, refl, sym, ap, subst, ◌∙◌, append_assoc, arith, true≢false}
+use Rattle.std.proofs.Common.{◌≡◌, ◌⊎◌, inl, inr, ℕ, Bool, true, false, cond, ◌&&◌, List, [], ◌∷◌, ◌++◌, Option, Some, None, Result, Ok, Err, refl, sym, ap, subst, ◌∙◌, append_assoc, arith, true≢false}
 use Rattle.std.specs.Prelude.{◌≢◌, ok_or, is_some, Contains, if◌then◌else◌}
 use Rattle.std.specs.List.{AllByRecursion}
-use Rattle.std.specs.Map.{lookup}
 use Rattle.std.specs.Str.{bytes_eq}
 use Rattle.std.proofs.lemmas.List.Elements.{Contains-append_right}
 use Rattle.std.proofs.lemmas.Slice.Eq.{bytes_eq-Decides}
 use Rattle.comp_lists.specs.Found.{found}
-use Rattle.comp_lists.specs.Tables.{with_first}
 use Rattle.comp_lists.proofs.Lists.{AllByRecursion-contains}
-use Rattle.comp_lists.proofs.Lookups.{found-push_cases, found-pushed, IsSome-found-append, some_of}
+use Rattle.comp_lists.proofs.Lookups.{found-push_cases, found-pushed, IsSome-found-append}
 use Rattle.comp_worlds.specs.declared.imports.Import.{Import}
 use Rattle.comp_worlds.specs.declared.exports.Export.{Export}
 use Rattle.wit_data.specs.declared.worlds.WorldKey.{WorldKey}
@@ -36,10 +34,10 @@ use Rattle.plain_lower.specs.declared.bindgen.Bindgen.{Bindgen}
 use Rattle.plain_lower.specs.declared.importing.Group.{Group}
 use Rattle.plain_lower.specs.Faults.{◌>>=◌, lifted, flat, flat_refusal}
 use Rattle.plain_lower.specs.Layer.{is_memory}
-use Rattle.plain_lower.specs.Roles.{function_of, is_same_name}
+use Rattle.plain_lower.specs.Roles.{function_of}
 use Rattle.plain_lower.specs.Preparing.{Table, no_role as missing_role, unfit, not_exported, fits_import, fits_export, imported_by, fitting, import_of, with_field, fields_in, group_after, groups_after, with_export, export_of_role, exports_after, by_function, required_key, required_after, world_of, preparing_main, preparing_if, preparing}
 use Rattle.plain_lower.proofs.Chains.{refused, same_refusal, bind_ok, bind_err, missed, got, failed, passed}
-use Rattle.plain_lower.specs.Causes.{IsMain, role_of_import, AreExports, IsMissing, key_name, PrepareCause, unread, no_role, not_imported, unfit_import, twice, unfit_export, missing}
+use Rattle.plain_lower.specs.Causes.{IsMain, role_of_import, AreExports, IsMissing, PrepareCause, unread, no_role, not_imported, unfit_import, twice, unfit_export, missing}
 
 -- an element in the middle
 middle : {X : Type 0} (xs ys : List X) (x : X) → Contains (xs ++ x ∷ ys) x

@@ -1,13 +1,9 @@
 -- A world that was prepared keeps the invariant of worlds.
 use Rattle.std.proofs.Common.{arith, ◌≡◌, ℕ, Bool, true, false, cond, ◌&&◌, ◌||◌, List, [], ◌∷◌, ◌++◌, take, map, Option, Some, None, Result, Ok, Err, refl, sym, ap, subst, ◌∙◌, true≢false}
 use Rattle.std.specs.Prelude.{ok_or, is_some, Contains, if◌then◌else◌}
-use Rattle.std.specs.Cmp.{IsEquivalence}
-use Rattle.std.specs.Cmp.Lexicographic.{lists_equiv}
 use Rattle.std.specs.List.{IsDistinct, AllByRecursion, flat_map, list_any}
 use Rattle.std.specs.Map.{lookup, keys_of}
 use Rattle.std.specs.Str.{bytes_eq}
-use Rattle.std.proofs.lemmas.Cmp.{nat_eq_equiv}
-use Rattle.std.proofs.lemmas.List.Concat.{flat_map-cons}
 use Rattle.std.proofs.lemmas.List.{map_push}
 use Rattle.std.proofs.lemmas.Map.Keys.{IsDistinct-push}
 use Rattle.std.proofs.lemmas.Map.Views.{Contains-keys_from_lookup}
@@ -17,12 +13,10 @@ use Rattle.comp_lists.specs.Tables.{with_first}
 use Rattle.comp_lists.proofs.Lists.{AllByRecursion-push, Contains-map}
 use Rattle.wit_data.specs.declared.worlds.WorldKey.{WorldKey}
 use Rattle.wit_data.specs.declared.worlds.WorldKey.TheVariants as keys
-use Rattle.wit_data.specs.declared.functions.AbiVariant.TheVariants.{GuestImport, GuestExport}
+use Rattle.wit_data.specs.declared.functions.AbiVariant.TheVariants.{GuestImport}
 use Rattle.comp_worlds.specs.declared.imports.Import.{Import}
 use Rattle.comp_worlds.specs.declared.imports.Import.TheVariants as imports
-use Rattle.comp_worlds.specs.declared.imports.ImportInstance.TheVariants as instances
 use Rattle.comp_worlds.specs.declared.exports.Export.{Export}
-use Rattle.comp_worlds.specs.declared.exports.Export.TheVariants as exports
 use Rattle.comp_worlds.specs.declared.gathered.ExportKey.{ExportKey}
 use Rattle.comp_worlds.specs.declared.gathered.ExportKey.TheVariants as export_keys
 use Rattle.comp_worlds.specs.declared.gathered.Part.{Part}
@@ -37,7 +31,7 @@ use Rattle.core_sections.specs.declared.fault.SectionFault.{SectionFault}
 use Rattle.core_sections.specs.declared.core_module.CoreModule.{CoreModule}
 use Rattle.core_sections.specs.declared.entries.CoreImport.{CoreImport}
 use Rattle.core_sections.specs.declared.entries.ExportedItem.{ExportedItem}
-use Rattle.core_sections.specs.Sections.{◌>>=◌ as ◌>>>=◌, Piece, preamble, pieces_of}
+use Rattle.core_sections.specs.Sections.{◌>>=◌ as ◌>>>=◌, Piece, pieces_of}
 use Rattle.core_sections.specs.Entries.{module_of, entries_from, no_entries}
 use Rattle.core_sections.proofs.Modules.{module_takes}
 use Rattle.plain_lower.specs.declared.fault.Failure.{Failure}
@@ -84,13 +78,16 @@ no_types_small : AreSmall []
 unfolding values_from
 no_types_small = record { labels = tt; nodes = tt; levels = tt }
 
-alone_sound : (imported exported : Table) → IsSound (record { interfaces = []; types = []; worlds = record { imports = world_items imported; exports = world_items exported } ∷ [] })
+abbrev one_world : Table → Table → Resolve
+one_world imported exported = record { interfaces = []; types = []; worlds = record { imports = world_items imported; exports = world_items exported } ∷ [] }
+
+alone_sound : (imported exported : Table) → IsSound (one_world imported exported)
 alone_sound imported exported = record {
   back = tt;
   small = no_types_small;
   owners = tt;
   interfaces = tt;
-  worlds = (record { imports = items_stand _ imported; exports = items_stand _ exported }, tt);
+  worlds = (record { imports = items_stand (one_world imported exported) imported; exports = items_stand (one_world imported exported) exported }, tt);
 }
 
 -- ---- imports

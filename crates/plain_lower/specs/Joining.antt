@@ -3,7 +3,7 @@
 -- Imports are joined by name, in order, and a function keeps the encoding of the first record that names it. An
 -- export that two records have is a conflict. What a core import or export is for may be said more than once, but
 -- not in two ways; and a function of the world has one core export.
-use Rattle.std.specs.Prelude.{⊤, ℕ, Bool, List, [], ◌∷◌, ◌++◌, Option, Some, None, Result, Ok, Err, map, is_some, if◌then◌else◌}
+use Rattle.std.specs.Prelude.{⊤, ℕ, Bool, List, [], ◌∷◌, ◌++◌, Result, Ok, Err, map, is_some, if◌then◌else◌}
 use Rattle.std.specs.Option.{option_map_or}
 use Rattle.std.specs.Map.{lookup}
 use Rattle.std.specs.Str.{bytes_eq}
@@ -18,7 +18,6 @@ use Rattle.plain_lower.specs.declared.fault.Failure.{Failure}
 use Rattle.plain_lower.specs.declared.fault.Failure.TheVariants as failures
 use Rattle.plain_lower.specs.declared.fault.Refusal.TheVariants as refusals
 use Rattle.plain_lower.specs.declared.roles.Role.{Role}
-use Rattle.plain_lower.specs.declared.roles.ImportName.{ImportName}
 use Rattle.plain_lower.specs.declared.roles.Assigned.{Assigned}
 use Rattle.plain_lower.specs.declared.record.Record.{Record}
 use Rattle.plain_lower.specs.declared.bindgen.Bindgen.{Bindgen}

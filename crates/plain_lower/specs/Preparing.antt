@@ -4,7 +4,7 @@
 -- A core import has to have a role, and no module and field may be imported twice; a core export without one is
 -- for nothing. What a role is for has to have the core type of a function without parameters and results
 -- (Canonical ABI: the flattening of such a function). Each required export has to be a core export's.
-use Rattle.std.specs.Prelude.{⊤, ℕ, ◌==◌, ◌&&◌, Bool, true, false, List, [], ◌∷◌, ◌++◌, length, map, Option, Some, None, ok_or, Result, Ok, Err, is_some, unwrap_or, if◌then◌else◌}
+use Rattle.std.specs.Prelude.{ℕ, ◌==◌, ◌&&◌, Bool, true, false, List, [], ◌∷◌, ◌++◌, length, map, Option, Some, None, ok_or, Result, Ok, Err, is_some, if◌then◌else◌}
 use Rattle.std.specs.Option.{option_map_or}
 use Rattle.std.specs.List.{slice_get, flat_map}
 use Rattle.std.specs.Map.{lookup}

@@ -1,7 +1,7 @@
 -- Members of JSON objects and items of arrays, with the path of the first fault (RFC 8259, RFC 6901). A
 -- record that can't be read is refused with the path of the value that is wrong: a member that is missing or
 -- unknown has its own path.
-use Rattle.std.specs.Prelude.{◌≡◌, ◌≢◌, ⊤, ℕ, suc, List, [], ◌∷◌, ◌++◌, ok_or, Option, None, Some, Result, Ok, Err, if◌then◌else◌, is_some}
+use Rattle.std.specs.Prelude.{⊤, ℕ, suc, List, [], ◌∷◌, ◌++◌, ok_or, Result, Ok, Err, if◌then◌else◌, is_some}
 use Rattle.std.specs.List.{list_any}
 use Rattle.std.specs.Fmt.{decimal}
 use Rattle.std.specs.Str.{bytes_eq}

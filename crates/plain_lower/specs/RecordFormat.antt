@@ -5,7 +5,7 @@
 -- functions at the root of the world), `core-imports` (a list of {"module", "field", "role"}) and `core-exports`
 -- (a list of {"field", "role"}). All but `version` may be left out. Other members, kinds and values are refused:
 -- those that a later version of this program takes are named as left out, the others by their path.
-use Rattle.std.specs.Prelude.{⊤, ◌==◌, ◌≡◌, ℕ, suc, List, [], ◌∷◌, ◌++◌, codes, Bool, true, false, Option, Some, None, ok_or, option_and_then, Result, Ok, Err, is_some, if◌then◌else◌}
+use Rattle.std.specs.Prelude.{⊤, ◌==◌, ℕ, suc, List, [], ◌∷◌, ◌++◌, codes, Bool, Option, Some, None, ok_or, option_and_then, Result, Ok, Err, is_some, if◌then◌else◌}
 use Rattle.std.specs.List.{list_any}
 use Rattle.std.specs.Str.{bytes_eq, is_utf8}
 use Rattle.std.specs.Fmt.{decimal}

@@ -143,18 +143,18 @@ fn add_group(
 fn put_field(
     alloc: Global,
     grouping: Grouping,
-    import: &CoreImport,
+    module: Text,
+    field: Text,
     role: Import,
 ) -> Result<Grouping, AllocError>
     requires placed { grouping.places ≡ places_of 0 grouping.groups.items }
-    requires absent { found import.now.field (fields_in grouping.groups.items import.now.«module») ≡ None }
-    ensures put { IfOk result (λ g. g.groups.items ≡ with_field grouping.groups.items import.now.«module» import.now.field role) }
+    requires absent { found field (fields_in grouping.groups.items «module») ≡ None }
+    ensures put { IfOk result (λ g. g.groups.items ≡ with_field grouping.groups.items «module» field role) }
     ensures placed { IfOk result (λ g. g.places ≡ places_of 0 g.groups.items) }
 {
-    let field = import.field.clone(alloc)?;
-    match place_of(&grouping, &import.module) {
+    match place_of(&grouping, &module) {
         Some(place) => add_field(grouping, place, field, role),
-        None => add_group(alloc, grouping, import.module.clone(alloc)?, field, role),
+        None => add_group(alloc, grouping, module, field, role),
     }
 }
 
@@ -178,8 +178,10 @@ fn add_import(
             field: import.field.clone(alloc)?,
         }));
     }
+    let module = import.module.clone(alloc)?;
+    let field = import.field.clone(alloc)?;
     let role = import_of(alloc, table, own, core, import)?;
-    Ok(put_field(alloc, grouping, import, role)?)
+    Ok(put_field(alloc, grouping, module, field, role)?)
 }
 
 /// The core imports in groups, by module.
