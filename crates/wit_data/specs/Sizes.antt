@@ -15,17 +15,13 @@ abbrev pub greatest : List ℕ → ℕ
 greatest [] = 0
 greatest (n ∷ ns) = max n (greatest ns)
 
--- what a type adds to its parts: one node; another name for a type adds none
-abbrev pub own_count : TypeDefKind → ℕ
-own_count (kinds.Alias t) = 0
-own_count kind = 1
-
--- the nodes of a type's tree: its own, and those of its parts
+-- the nodes of a type's tree: its own, and those of its parts; another name for a type is a node, and so is a
+-- case without a type, so that no walk takes more steps than there are nodes
 abbrev pub node_count : ℕ → TypeDefKind → List ℕ → ℕ
-node_count n kind counts = own_count kind + sum counts
+node_count n kind counts = 1 + sum counts
 
 abbrev pub counting_nodes : Making ℕ
-counting_nodes = record { absent = 0; simple = λ p. 1; made = node_count }
+counting_nodes = record { absent = 1; simple = λ p. 1; made = node_count }
 
 -- how many types stand below one another; another name for a type is one of them, so that no chain of names is long
 abbrev pub level_count : ℕ → TypeDefKind → List ℕ → ℕ

@@ -70,7 +70,7 @@ fn node_count(types: &[TypeDef], part: Option<Type>) -> usize
     ensures small { result ≤ 10001 }
 {
     match part {
-        None => 0,
+        None => 1,
         Some(Type::Primitive(_)) => 1,
         Some(Type::Id(id)) => node_count_of(types, id.index),
     }
@@ -80,10 +80,10 @@ fn node_count(types: &[TypeDef], part: Option<Type>) -> usize
 fn node_count_of(types: &[TypeDef], id: usize) -> usize
     requires back { RefersBack types.now }
     requires stands { id < length types.now }
-    ensures { result ≡ min (get_or (values sizes.counting_nodes types.now) id 0) 10001 }
+    ensures { result ≡ min (get_or (values sizes.counting_nodes types.now) id 1) 10001 }
 {
     let total = nodes_together(types, id);
-    MANY_NODES.min(own_count(&types[id].kind) + total)
+    MANY_NODES.min(1 + total)
 }
 
 /// The nodes of all parts together.
@@ -144,15 +144,4 @@ fn most_levels(types: &[TypeDef], id: usize) -> usize
         most = most.max(count);
     }
     most
-}
-
-/// How many nodes a type adds to those of its parts.
-fn own_count(kind: &TypeDefKind) -> usize
-    ensures count { result ≡ sizes.own_count kind.now }
-    ensures small { result ≤ 1 }
-{
-    match kind {
-        TypeDefKind::Alias(_) => 0,
-        _ => 1,
-    }
 }

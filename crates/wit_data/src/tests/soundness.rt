@@ -252,14 +252,14 @@ fn nested(alloc: Global, count: usize) -> Result<Resolve, AllocError> {
 }
 
 #[test]
-fn at_most_100_nodes_stand_below_one_another(rt: HostRuntime) -> Result<(), Fail> {
+fn at_most_100_types_stand_below_one_another(rt: HostRuntime) -> Result<(), Fail> {
     let alloc = rt.alloc();
     assert!(rt; nested(alloc, 99)?.is_sound());
     assert!(rt; !nested(alloc, 100)?.is_sound());
     Ok(())
 }
 
-/// A type of 100 nodes; 99 of it and so many `u32` in a tuple; and another name for that.
+/// A type of 100 nodes; 99 of it and so many `u32` in a tuple; and another name for that, a node more.
 fn is_sound_with(alloc: Global, numbers: usize) -> Result<bool, AllocError> {
     let mut parts = Vec::new(alloc);
     for _ in 0..99 {
@@ -281,7 +281,7 @@ fn is_sound_with(alloc: Global, numbers: usize) -> Result<bool, AllocError> {
 #[test]
 fn a_type_has_at_most_10000_nodes(rt: HostRuntime) -> Result<(), Fail> {
     let alloc = rt.alloc();
-    assert!(rt; is_sound_with(alloc, 99)?);
-    assert!(rt; !is_sound_with(alloc, 100)?);
+    assert!(rt; is_sound_with(alloc, 98)?);
+    assert!(rt; !is_sound_with(alloc, 99)?);
     Ok(())
 }

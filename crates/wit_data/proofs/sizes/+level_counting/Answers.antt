@@ -14,14 +14,14 @@ pub most_levels-returns-then-count-ge-MANY_LEVELS : goal.most_levels-returns-the
 most_levels-returns-then-count-ge-MANY_LEVELS t c =
     let here : c.loop-place.place < length (parts (kind_at c.args.types.now c.args.id)) = omega (arith, c.loop-place-test.true, c.part_count_of-place-end.ensures) in
     let within : c.loop-place.place < length (part_values counting_levels c.args.types.now c.args.id) = omega (arith, here, length_counts counting_levels c.args.types.now c.args.id) in
-    let counted = counted_at counting_levels 101 c.args.types.now c.args.id c.loop-place.place c.level_count-count.result c.part_of.result refl here c.level_count-count.ensures.count c.part_of.ensures.value in
+    let counted = counted_at counting_levels 101 c.args.types.now c.args.id c.loop-place.place c.level_count-count.result c.part_of.result here c.level_count-count.ensures.count c.part_of.ensures.value in
     greatest_stop 101 c.loop-place.most c.loop-place.place c.level_count-count.result (part_values counting_levels c.args.types.now c.args.id) within counted c.if-count-ge-MANY_LEVELS.true c.loop-place.invariant
 
 pub most_levels-loop-place-preserved : goal.most_levels-loop-place-preserved
 most_levels-loop-place-preserved t c =
     let here : c.loop-place.place < length (parts (kind_at c.args.types.now c.args.id)) = omega (arith, c.loop-place-test.true, c.part_count_of-place-end.ensures) in
     let within : c.loop-place.place < length (part_values counting_levels c.args.types.now c.args.id) = omega (arith, here, length_counts counting_levels c.args.types.now c.args.id) in
-    let counted = counted_at counting_levels 101 c.args.types.now c.args.id c.loop-place.place c.level_count-count.result c.part_of.result refl here c.level_count-count.ensures.count c.part_of.ensures.value in
+    let counted = counted_at counting_levels 101 c.args.types.now c.args.id c.loop-place.place c.level_count-count.result c.part_of.result here c.level_count-count.ensures.count c.part_of.ensures.value in
     let larger : c.max-most.result ≡ max c.loop-place.most c.level_count-count.result = omega (arith, c.max-most.ensures) in
     let small : c.max-most.result < 101 = omega (arith, larger, c.if-count-ge-MANY_LEVELS.false, c.loop-place.invariant.small) in
     greatest_step 101 c.loop-place.most c.loop-place.place c.level_count-count.result c.max-most.result (part_values counting_levels c.args.types.now c.args.id) within counted larger small c.loop-place.invariant
