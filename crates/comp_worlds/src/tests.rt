@@ -74,7 +74,7 @@ fn what_is_missing_is_told_in_order(rt: HostRuntime) {
 fn function(
     alloc: Global,
     param: Option<Type>,
-    result: Option<Type>,
+    returned: Option<Type>,
 ) -> Result<Function, AllocError> {
     let mut params = Seq::new(alloc);
     if let Some(ty) = param {
@@ -85,7 +85,7 @@ fn function(
         name: Text::from_str(alloc, "f")?,
         kind: FunctionKind::Freestanding,
         params,
-        result,
+        result: returned,
     })
 }
 
@@ -166,8 +166,8 @@ const FORMS: [AbiVariant; 5] = [
 fn calls_need_what_their_types_ask_for(rt: HostRuntime) {
     let alloc = rt.alloc();
     let resolve = resolve(alloc, kinds(alloc).expect(&rt, "memory")).expect(&rt, "memory");
-    for (param, result, bits) in NEEDED {
-        let function = function(alloc, param, result).expect(&rt, "memory");
+    for (param, returned, bits) in NEEDED {
+        let function = function(alloc, param, returned).expect(&rt, "memory");
         for form in 0..5 {
             assert_eq!(rt; needed(&resolve, &function, FORMS[form]), Some(bits[form]));
         }
