@@ -1,1 +1,1 @@
-mod Lowering
+mod Lowered

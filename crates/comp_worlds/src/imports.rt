@@ -1,5 +1,8 @@
 //! What the imports of a core module are for.
 
+ghost use Rattle.std.specs.Prelude.{◌≡◌};
+ghost use Rattle.comp_worlds.specs.Lookups.{memory_of_fields, imported_memory};
+
 use crate::encoding::StringEncoding;
 use crate::libraries::{Item, MainOrAdapter};
 use crate::payloads::PayloadInfo;
@@ -127,4 +130,33 @@ pub enum ImportInstance {
 #[derive(Drop)]
 pub struct ImportMap {
     pub modules: Keyed<Text, ImportInstance>,
+}
+
+impl ImportMap {
+    /// The type in which the memory of main is imported: in the first such import, where there are
+    /// several.
+    pub fn imported_memory(&self) -> Option<MemoryType>
+        ensures { result ≡ imported_memory self.now.modules }
+    {
+        for (_, instance) in self.modules.entries() {
+            if let ImportInstance::Names(fields) = instance {
+                if let Some(ty) = memory_in(fields) {
+                    return Some(ty);
+                }
+            }
+        }
+        None
+    }
+}
+
+/// The type of main's memory in the first import of it from one module.
+fn memory_in(fields: &Keyed<Text, Import>) -> Option<MemoryType>
+    ensures { result ≡ memory_of_fields fields.now }
+{
+    for (_, import) in fields.entries() {
+        if let Import::MainModuleMemory(ty) = import {
+            return Some(*ty);
+        }
+    }
+    None
 }
