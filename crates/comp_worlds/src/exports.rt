@@ -182,10 +182,7 @@ fn abi_in(export: &Export, key: &WorldKey, function: &str) -> Option<AbiVariant>
 {
     match export {
         Export::WorldFunc(other, name, abi) | Export::InterfaceFunc(other, _, name, abi)
-            if key == other && function == name.as_str() =>
-        {
-            Some(*abi)
-        }
+            if key == other && function == name.as_str() => { Some(*abi) }
         _ => None,
     }
 }

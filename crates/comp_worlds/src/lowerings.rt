@@ -12,7 +12,9 @@ use wit_data::{AbiVariant, InterfaceId, TypeId, WasmSignature};
 #[derive(Debug, Drop)]
 pub enum Lowering {
     /// Lowered before the module that calls it, with options that ask for none of its parts.
-    Direct { options: RequiredOptions },
+    Direct {
+        options: RequiredOptions,
+    },
     /// Called through a table, since its options ask for parts of the module that calls it: the core
     /// signature of the call, and the options.
     Indirect {

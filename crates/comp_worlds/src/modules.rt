@@ -26,7 +26,7 @@ impl ComponentWorld {
         which: CustomModule<'a>,
         own: Option<&'a str>,
     ) -> Option<(CustomModule<'a>, &'a str)>
-        ensures { lent_export result ≡ resolved_realloc self.now (module_name which) (option_copied own) }
+        ensures { lent_export result ≡ resolved_realloc self.now (module_name which.entry) (option_copied own.entry) }
     {
         if let Some(name) = own {
             return Some((which, name));
