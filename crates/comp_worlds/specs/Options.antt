@@ -1,12 +1,14 @@
 -- The options that a canonical function needs, by the types that it passes (Canonical ABI: lifting and
 -- lowering; component model, binary format: `canonopt`). A set of options is a number of four bits: 1 for
 -- a memory, 2 for a realloc, 4 for a string encoding, 8 for an asynchronous call.
-use Rattle.std.specs.Prelude.{ℕ, List, [], ◌∷◌, ◌++◌, map, Bool, true, false, ◌==◌, ◌&&◌, ◌||◌, not, Option, Some, None, is_some}
+use Rattle.std.specs.Prelude.{ℕ, List, [], ◌∷◌, ◌++◌, map, Bool, true, false, ◌==◌, ◌&&◌, ◌||◌, not, Option, Some, None, is_some, ◌-◌}
 use Rattle.std.specs.Int.RustNames.{bit_and, bit_or}
 use Rattle.comp_bytes.specs.declared.canon.CanonicalOption.{CanonicalOption}
 use Rattle.comp_bytes.specs.declared.canon.CanonicalOption.TheVariants as canonical
 use Rattle.wit_data.specs.declared.types.Type.{«Type» as Ty}
 use Rattle.wit_data.specs.declared.types.TypeDef.{TypeDef}
+use Rattle.wit_data.specs.declared.types.TypeDefKind.{TypeDefKind}
+use Rattle.wit_data.specs.declared.types.TypeDefKind.TheVariants as kinds
 use Rattle.wit_data.specs.declared.functions.Function.{Function}
 use Rattle.wit_data.specs.declared.functions.Param.{Param}
 use Rattle.wit_data.specs.declared.functions.AbiVariant.{AbiVariant}
