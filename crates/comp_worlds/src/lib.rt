@@ -49,3 +49,5 @@ pub use world::{ComponentWorld, ValidatedModule, WorldAdapter};
 
 #[cfg(test)]
 mod tests;
+#[cfg(test)]
+mod tests_lookups;
