@@ -36,6 +36,13 @@ fn resource(index: usize) -> TypeId {
     TypeId { index }
 }
 
+/// The name of the first export.
+fn name_at_first(exports: &ExportMap) -> Option<&str> {
+    let mut entries = exports.iter();
+    let (name, _) = entries.next()?;
+    Some(name.as_str())
+}
+
 #[test]
 fn the_first_of_a_role_is_found(rt: HostRuntime) {
     let alloc = rt.alloc();
@@ -58,7 +65,7 @@ fn the_first_of_a_role_is_found(rt: HostRuntime) {
     assert_eq!(rt; found.resource_dtor(resource(3)), Some("free"));
     assert_eq!(rt; found.resource_dtor(resource(4)), Some("free another"));
     assert_eq!(rt; found.resource_dtor(resource(5)), None);
-    assert_eq!(rt; found.iter().count(), 9);
+    assert_eq!(rt; name_at_first(&found), Some("memory"));
 }
 
 #[test]
@@ -229,46 +236,54 @@ fn the_general_realloc_stands_for_both(rt: HostRuntime) {
     assert_eq!(rt; found.export_realloc_for(&key, "f"), Some("all"));
 }
 
-/// Main's memory, imported from these modules with these sizes.
-fn imports(alloc: Global) -> Result<ImportMap, AllocError> {
-    let mut modules = Keyed::new(alloc);
-    let whole = ImportInstance::Whole(MainOrAdapter::Main);
-    modules.add_first(Text::from_str(alloc, "whole")?, whole)?;
-    let mut first = Keyed::new(alloc);
-    first.add_first(Text::from_str(alloc, "cancel")?, Import::ExportedTaskCancel)?;
-    modules.add_first(
-        Text::from_str(alloc, "first")?,
-        ImportInstance::Names(first),
-    )?;
-    Ok(ImportMap { modules })
+/// An import of main's memory in this size, or of something else.
+fn import(size: Option<u32>) -> Import {
+    match size {
+        Some(minimum) => Import::MainModuleMemory(memory(minimum)),
+        None => Import::ExportedTaskCancel,
+    }
 }
 
-/// Adds a group with two memories.
-fn add_memories(
-    alloc: Global,
-    imports: &mut ImportMap,
-    name: &str,
-    size: u32,
-) -> Result<(), AllocError> {
+/// Imports of main's memory in this size and in none, or all of main's exports.
+fn group(alloc: Global, size: Option<u32>) -> Result<ImportInstance, AllocError> {
+    if size.is_none() {
+        return Ok(ImportInstance::Whole(MainOrAdapter::Main));
+    }
     let mut fields = Keyed::new(alloc);
-    let role = Import::MainModuleMemory(memory(size));
-    fields.add_first(Text::from_str(alloc, "memory")?, role)?;
-    let role = Import::MainModuleMemory(memory(0));
-    fields.add_first(Text::from_str(alloc, "another")?, role)?;
-    let group = ImportInstance::Names(fields);
-    imports
-        .modules
-        .add_first(Text::from_str(alloc, name)?, group)
+    for (name, minimum) in [("cancel", None), ("memory", size), ("another", Some(0))] {
+        let field = Text::from_str(alloc, name)?;
+        fields.add_first(field, import(minimum))?;
+    }
+    Ok(ImportInstance::Names(fields))
 }
+
+/// The size of main's memory in the imports from modules of these groups.
+fn imported_size(alloc: Global, sizes: [Option<u32>; 3]) -> Result<Option<u32>, AllocError> {
+    let mut modules = Keyed::new(alloc);
+    for place in 0..3 {
+        let name = Text::from_str(alloc, ["first", "second", "third"][place])?;
+        modules.add_first(name, group(alloc, sizes[place])?)?;
+    }
+    let imports = ImportMap { modules };
+    match imports.imported_memory() {
+        Some(memory) => Ok(Some(memory.minimum)),
+        None => Ok(None),
+    }
+}
+
+/// The sizes in three groups of imports, and that which is found.
+const SIZES: [([Option<u32>; 3], Option<u32>); 3] = [
+    ([None, None, None], None),
+    ([None, Some(7), Some(8)], Some(7)),
+    ([None, None, Some(8)], Some(8)),
+];
 
 #[test]
 fn the_first_imported_memory_is_found(rt: HostRuntime) {
     let alloc = rt.alloc();
-    let mut imports = imports(alloc).expect(&rt, "memory");
-    assert_eq!(rt; imports.imported_memory(), None);
-    add_memories(alloc, &mut imports, "second", 7).expect(&rt, "memory");
-    add_memories(alloc, &mut imports, "third", 8).expect(&rt, "memory");
-    assert_eq!(rt; imports.imported_memory(), Some(memory(7)));
+    for (sizes, found) in SIZES {
+        assert_eq!(rt; imported_size(alloc, sizes).expect(&rt, "memory"), found);
+    }
 }
 
 /// A module with these exports.
