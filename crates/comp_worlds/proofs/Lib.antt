@@ -1,1 +1,2 @@
 mod Lowered
+mod Walking

@@ -10,10 +10,11 @@ use Rattle.wit_data.specs.Keys.{is_same_key}
 use Rattle.wit_data.specs.declared.functions.AbiVariant.{AbiVariant}
 use Rattle.wit_data.specs.declared.ids.TypeId.{TypeId}
 use Rattle.wit_data.specs.declared.worlds.WorldKey.{WorldKey}
-use Rattle.comp_worlds.specs.Worlds.{fields_of}
+use Rattle.comp_worlds.specs.Worlds.{CoreImport, fields_of}
 use Rattle.comp_worlds.specs.declared.imports.Import.{Import}
 use Rattle.comp_worlds.specs.declared.imports.Import.TheVariants as imports
 use Rattle.comp_worlds.specs.declared.imports.ImportInstance.{ImportInstance}
+use Rattle.comp_worlds.specs.declared.imports.NamedImport.{NamedImport}
 use Rattle.comp_worlds.specs.declared.exports.Export.{Export}
 use Rattle.comp_worlds.specs.declared.exports.Export.TheVariants as exports
 use Rattle.comp_worlds.specs.declared.modules.CustomModule.{CustomModule}
@@ -47,6 +48,14 @@ memory_of_fields fields = first_told (λ f. memory_of_import f.1) fields
 -- the memory of main that a module imports, group by group
 abbrev pub imported_memory : List (List ℕ × ImportInstance) → Option MemoryType
 imported_memory groups = first_told (λ g. memory_of_fields (fields_of g.1)) groups
+
+-- the imports of these fields of a module
+abbrev pub field_imports : List ℕ → List (List ℕ × Import) → List CoreImport
+field_imports from fields = map (λ f. record { module_name = from; field = f.0; role = f.1 }) fields
+
+-- an import as a look-up lends it
+abbrev pub core_import : NamedImport → CoreImport
+core_import entry = record { module_name = entry.from.now; field = entry.field.now; role = entry.role.now }
 
 -- ---- what an export is
 

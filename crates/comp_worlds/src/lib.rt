@@ -35,7 +35,7 @@ mod world;
 pub use encoding::StringEncoding;
 pub use exports::{Export, ExportMap};
 pub use gathered::{ExportKey, Gathered, Merged, Part};
-pub use imports::{Import, ImportInstance, ImportMap};
+pub use imports::{Import, ImportInstance, ImportMap, NamedImport};
 pub use laws::{ends_as_told, lowering_adds_realloc};
 pub use libraries::{Instance, Item, LibraryArgument, LibraryInfo, MainOrAdapter};
 pub use lower::Lower;
