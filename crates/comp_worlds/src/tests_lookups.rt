@@ -286,6 +286,23 @@ fn the_first_imported_memory_is_found(rt: HostRuntime) {
     }
 }
 
+#[test]
+fn imports_come_group_by_group(rt: HostRuntime) {
+    let alloc = rt.alloc();
+    let mut modules = Keyed::new(alloc);
+    for (name, size) in [("whole", None), ("first", Some(7)), ("second", Some(8))] {
+        let text = Text::from_str(alloc, name).expect(&rt, "memory");
+        let group = group(alloc, size).expect(&rt, "memory");
+        modules.add_first(text, group).expect(&rt, "memory");
+    }
+    let imports = ImportMap { modules };
+    let list = imports.imports(alloc).expect(&rt, "memory");
+    assert_eq!(rt; list.len(), 6);
+    for entry in &list {
+        assert_eq!(rt; entry.from == "first" || entry.from == "second", true);
+    }
+}
+
 /// A module with these exports.
 fn module(alloc: Global, exports: ExportMap) -> ValidatedModule {
     let import_encodings: Keyed<FunctionKey, StringEncoding> = Keyed::new(alloc);
