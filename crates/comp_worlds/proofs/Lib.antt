@@ -1,1 +1,2 @@
-mod Lowering
+mod Lowered
+mod Walking

@@ -1,11 +1,17 @@
 //! What the imports of a core module are for.
 
+ghost use Rattle.std.specs.Prelude.{◌≡◌, ◌++◌, map, IfOk, OnOk};
+ghost use Rattle.std.specs.List.{flat_map};
+ghost use Rattle.comp_worlds.specs.Worlds.{imports_from};
+ghost use Rattle.comp_worlds.specs.Lookups.{memory_of_fields, imported_memory, core_import, field_imports};
+
 use crate::encoding::StringEncoding;
 use crate::libraries::{Item, MainOrAdapter};
 use crate::payloads::PayloadInfo;
 use comp_bytes::ExportKind;
 use comp_lists::{Keyed, Text};
 use core_bytes::{FuncType, MemoryType, ValType};
+use std::alloc::{AllocError, Global};
 use wit_data::{AbiVariant, Function, InterfaceId, TypeId, WorldKey};
 
 /// What an import of a core module is for. Where a role stands in an interface, its key and its
@@ -127,4 +133,83 @@ pub enum ImportInstance {
 #[derive(Drop)]
 pub struct ImportMap {
     pub modules: Keyed<Text, ImportInstance>,
+}
+
+/// An import by its names: the module, the field there, and what it is for.
+#[derive(Clone, Copy)]
+pub struct NamedImport<'a> {
+    pub from: &'a str,
+    pub field: &'a str,
+    pub role: &'a Import,
+}
+
+impl ImportMap {
+    /// The imports whose fields are told one by one, module by module, in order. The only refusal is
+    /// want of memory.
+    #[tactic(auto, using(crate::proofs::Walking::walk_step))]
+    pub fn imports(&self, alloc: Global) -> Result<Vec<NamedImport<'_>>, AllocError>
+        ensures { IfOk result (λ list. map core_import list.items ≡ flat_map imports_from self.now.modules) }
+    {
+        let mut list = Vec::new(alloc);
+        for (from, instance) in self.modules.entries() {
+            add_group(&mut list, from.as_str(), instance)?;
+        }
+        Ok(list)
+    }
+
+    /// The type in which the memory of main is imported: in the first such import, where there are
+    /// several.
+    pub fn imported_memory(&self) -> Option<MemoryType>
+        ensures { result ≡ imported_memory self.now.modules }
+    {
+        for (_, instance) in self.modules.entries() {
+            if let ImportInstance::Names(fields) = instance {
+                if let Some(ty) = memory_in(fields) {
+                    return Some(ty);
+                }
+            }
+        }
+        None
+    }
+}
+
+/// The type of main's memory in the first import of it from one module.
+fn memory_in(fields: &Keyed<Text, Import>) -> Option<MemoryType>
+    ensures { result ≡ memory_of_fields fields.now }
+{
+    for (_, import) in fields.entries() {
+        if let Import::MainModuleMemory(ty) = import {
+            return Some(*ty);
+        }
+    }
+    None
+}
+
+/// Adds the imports from one module.
+fn add_fields<'a>(
+    list: &mut Vec<NamedImport<'a>>,
+    from: &'a str,
+    fields: &'a Keyed<Text, Import>,
+) -> Result<(), AllocError>
+    ensures { OnOk result (map core_import list.new.items ≡ map core_import list.old.items ++ field_imports from.now fields.now) }
+{
+    for (field, role) in fields.entries() {
+        let field = field.as_str();
+        list.push(NamedImport { from, field, role })?;
+    }
+    Ok(())
+}
+
+/// Adds the imports from one module, if they are told one by one.
+fn add_group<'a>(
+    list: &mut Vec<NamedImport<'a>>,
+    from: &'a str,
+    instance: &'a ImportInstance,
+) -> Result<(), AllocError>
+    ensures { OnOk result (map core_import list.new.items ≡ map core_import list.old.items ++ imports_from (from.now, instance.now)) }
+{
+    match instance {
+        ImportInstance::Names(fields) => add_fields(list, from, fields),
+        ImportInstance::Whole(_) => Ok(()),
+    }
 }

@@ -7,9 +7,13 @@
 //!
 //! In reading order: `encoding` (string encodings), `libraries` (what the imports of a library are met
 //! with), `payloads` (streams and futures), `imports` and `exports` (what the imports and exports of a
-//! core module are for), `metadata` (the encodings of functions), `world` (the validated world),
-//! `options` (what the encoder was asked for), `gathered` (what was gathered before the world is
-//! prepared), `lower` (the trait).
+//! core module are for, and what is looked up in them), `roles` (what exports are looked for),
+//! `metadata` (the encodings of functions), `world` (the validated world), `modules` (user modules by
+//! name, and where a module's realloc stands), `required` (which options a canonical function needs),
+//! `laws` (laws of those), `lowerings` (how imported functions are met), `options` (what the encoder was
+//! asked for), `gathered` (what was gathered before the world is prepared), `lower` (the trait).
+//!
+//! What the look-ups answer is defined in `specs/Lookups.antt`.
 #![tactic(auto)]
 
 mod encoding;
@@ -19,20 +23,25 @@ mod imports;
 mod laws;
 mod libraries;
 mod lower;
+mod lowerings;
 mod metadata;
+mod modules;
 mod options;
 mod payloads;
 mod required;
+mod roles;
 mod world;
 
 pub use encoding::StringEncoding;
 pub use exports::{Export, ExportMap};
 pub use gathered::{ExportKey, Gathered, Merged, Part};
-pub use imports::{Import, ImportInstance, ImportMap};
+pub use imports::{Import, ImportInstance, ImportMap, NamedImport};
 pub use laws::{ends_as_told, lowering_adds_realloc};
 pub use libraries::{Instance, Item, LibraryArgument, LibraryInfo, MainOrAdapter};
 pub use lower::Lower;
+pub use lowerings::{ImportedInterface, Lowering, LoweringKey};
 pub use metadata::{FunctionKey, ModuleMetadata};
+pub use modules::CustomModule;
 pub use options::EncoderOptions;
 pub use payloads::{PayloadFuncKind, PayloadInfo, PayloadType};
 pub use required::{OptionFault, Options, RequiredOptions};
@@ -40,3 +49,5 @@ pub use world::{ComponentWorld, ValidatedModule, WorldAdapter};
 
 #[cfg(test)]
 mod tests;
+#[cfg(test)]
+mod tests_lookups;

@@ -1,5 +1,7 @@
 //! What the imports of a library are met with.
 
+ghost use Rattle.std.specs.Prelude.{◌≡◌, IfOk};
+
 use comp_bytes::ExportKind;
 use comp_lists::{Seq, Text, TryClone};
 use std::alloc::{AllocError, Global};
@@ -92,5 +94,41 @@ impl TryClone for LibraryInfo {
         Ok(LibraryInfo {
             arguments: self.arguments.clone(alloc)?,
         })
+    }
+}
+
+impl MainOrAdapter {
+    /// An equal one, memory allowing.
+    pub fn clone(&self, alloc: Global) -> Result<MainOrAdapter, AllocError>
+        ensures { IfOk result (λ x. x ≡ self.now) }
+    {
+        self.try_clone(alloc)
+    }
+}
+
+impl Item {
+    /// An equal one, memory allowing.
+    pub fn clone(&self, alloc: Global) -> Result<Item, AllocError>
+        ensures { IfOk result (λ x. x ≡ self.now) }
+    {
+        self.try_clone(alloc)
+    }
+}
+
+impl Instance {
+    /// An equal one, memory allowing.
+    pub fn clone(&self, alloc: Global) -> Result<Instance, AllocError>
+        ensures { IfOk result (λ x. x ≡ self.now) }
+    {
+        self.try_clone(alloc)
+    }
+}
+
+impl LibraryInfo {
+    /// An equal one, memory allowing.
+    pub fn clone(&self, alloc: Global) -> Result<LibraryInfo, AllocError>
+        ensures { IfOk result (λ x. x ≡ self.now) }
+    {
+        self.try_clone(alloc)
     }
 }

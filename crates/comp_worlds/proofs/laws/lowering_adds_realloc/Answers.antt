@@ -1,4 +1,4 @@
-use Rattle.comp_worlds.proofs.Lowering.{lowering_adds_realloc_lem}
+use Rattle.comp_worlds.proofs.Lowered.{lowering_adds_realloc_lem}
 use Rattle.comp_worlds.proofs.laws.lowering_adds_realloc.Goals as goal
 
 pub returns : goal.returns

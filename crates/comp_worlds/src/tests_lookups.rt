@@ -1,0 +1,423 @@
+//! Look-ups in the tables of a world. The expected answers were worked out by hand.
+
+use crate::encoding::StringEncoding;
+use crate::exports::{Export, ExportMap};
+use crate::imports::{Import, ImportInstance, ImportMap};
+use crate::libraries::{LibraryInfo, MainOrAdapter};
+use crate::lowerings::LoweringKey;
+use crate::metadata::{FunctionKey, ModuleMetadata};
+use crate::modules::CustomModule;
+use crate::world::{ComponentWorld, ValidatedModule, WorldAdapter};
+use comp_lists::{Keyed, Seq, Text};
+use core_bytes::MemoryType;
+use std::alloc::{AllocError, Global};
+use wit_data::{
+    AbiVariant, Function, FunctionKind, InterfaceId, Resolve, TypeId, WorldId, WorldKey,
+};
+
+/// Exports of these names for these roles.
+fn exports<'a>(alloc: Global, roles: Vec<(&'a str, Export)>) -> Result<ExportMap, AllocError> {
+    let mut exports = Keyed::new(alloc);
+    for (name, role) in roles {
+        exports.add_first(Text::from_str(alloc, name)?, role)?;
+    }
+    Ok(ExportMap { exports })
+}
+
+/// A memory of at least so many pages.
+fn memory(minimum: u32) -> MemoryType {
+    MemoryType {
+        minimum,
+        maximum: None,
+    }
+}
+
+fn resource(index: usize) -> TypeId {
+    TypeId { index }
+}
+
+/// The name of the first export.
+fn name_at_first(exports: &ExportMap) -> Option<&str> {
+    let mut entries = exports.iter();
+    let (name, _) = entries.next()?;
+    Some(name.as_str())
+}
+
+#[test]
+fn the_first_of_a_role_is_found(rt: HostRuntime) {
+    let alloc = rt.alloc();
+    let roles = vec![in alloc;
+        ("memory", Export::Memory(memory(1))),
+        ("hook", Export::WasmTaskHook),
+        ("start", Export::Initialize),
+        ("second memory", Export::Memory(memory(2))),
+        ("free", Export::ResourceDtor(resource(3))),
+        ("second start", Export::Initialize),
+        ("free another", Export::ResourceDtor(resource(4))),
+        ("free again", Export::ResourceDtor(resource(3))),
+        ("second hook", Export::WasmTaskHook),
+    ]
+    .expect(&rt, "memory");
+    let found = exports(alloc, roles).expect(&rt, "memory");
+    assert_eq!(rt; found.memory(), Some(("memory", memory(1))));
+    assert_eq!(rt; found.initialize(), Some("start"));
+    assert_eq!(rt; found.wasm_task_hook(), Some("hook"));
+    assert_eq!(rt; found.resource_dtor(resource(3)), Some("free"));
+    assert_eq!(rt; found.resource_dtor(resource(4)), Some("free another"));
+    assert_eq!(rt; found.resource_dtor(resource(5)), None);
+    assert_eq!(rt; name_at_first(&found), Some("memory"));
+}
+
+#[test]
+fn nothing_is_found_in_nothing(rt: HostRuntime) {
+    let alloc = rt.alloc();
+    let roles = vec![in alloc; ("other", Export::ReallocForAdapter)].expect(&rt, "memory");
+    let found = exports(alloc, roles).expect(&rt, "memory");
+    assert_eq!(rt; found.memory(), None);
+    assert_eq!(rt; found.initialize(), None);
+    assert_eq!(rt; found.wasm_task_hook(), None);
+    assert_eq!(rt; found.resource_dtor(resource(0)), None);
+    assert_eq!(rt; found.general_purpose_realloc(), None);
+    assert_eq!(rt; found.import_realloc_fallback(), None);
+    assert_eq!(rt; found.import_realloc_for(None, "f"), None);
+    assert_eq!(rt; found.reallocs(alloc).expect(&rt, "memory").len(), 0);
+}
+
+/// The key of an interface, or of the root function of a name.
+fn key(alloc: Global, interface: Option<usize>, name: &str) -> Result<WorldKey, AllocError> {
+    match interface {
+        Some(index) => Ok(WorldKey::Interface(InterfaceId { index })),
+        None => Ok(WorldKey::Name(Text::from_str(alloc, name)?)),
+    }
+}
+
+/// What the exports of a function are for: itself, its post-return, its callback.
+fn role(
+    alloc: Global,
+    interface: Option<usize>,
+    name: &str,
+    abi: AbiVariant,
+    part: usize,
+) -> Result<Export, AllocError> {
+    let key = key(alloc, interface, name)?;
+    let text = Text::from_str(alloc, name)?;
+    match (interface, part) {
+        (None, 0) => Ok(Export::WorldFunc(key, text, abi)),
+        (None, 1) => Ok(Export::WorldFuncPostReturn(key)),
+        (None, _) => Ok(Export::WorldFuncCallback(key)),
+        (Some(index), 0) => Ok(Export::InterfaceFunc(key, InterfaceId { index }, text, abi)),
+        (Some(_), 1) => Ok(Export::InterfaceFuncPostReturn(key, text)),
+        (Some(_), _) => Ok(Export::InterfaceFuncCallback(key, text)),
+    }
+}
+
+/// Functions by their interface and their name, how they are called, and the names of their exports.
+const FUNCTIONS: [(Option<usize>, &str, AbiVariant, [&str; 3]); 5] = [
+    (
+        None,
+        "f",
+        AbiVariant::GuestExport,
+        ["f", "f.post", "f.back"],
+    ),
+    (
+        Some(0),
+        "f",
+        AbiVariant::GuestExportAsync,
+        ["0.f", "0.f.post", "0.f.back"],
+    ),
+    (
+        Some(0),
+        "g",
+        AbiVariant::GuestExport,
+        ["0.g", "0.g.post", "0.g.back"],
+    ),
+    (
+        Some(1),
+        "f",
+        AbiVariant::GuestExportAsyncStackful,
+        ["1.f", "1.f.post", "1.f.back"],
+    ),
+    (
+        None,
+        "g",
+        AbiVariant::GuestExport,
+        ["g", "g.post", "g.back"],
+    ),
+];
+
+/// The exports of all these functions.
+fn all_functions(alloc: Global) -> Result<ExportMap, AllocError> {
+    let mut all = Keyed::new(alloc);
+    for (interface, name, abi, names) in FUNCTIONS {
+        for part in 0..3 {
+            let role = role(alloc, interface, name, abi, part)?;
+            all.add_first(Text::from_str(alloc, names[part])?, role)?;
+        }
+    }
+    Ok(ExportMap { exports: all })
+}
+
+/// A function without parameters.
+fn function(alloc: Global, name: &str) -> Result<Function, AllocError> {
+    Ok(Function {
+        name: Text::from_str(alloc, name)?,
+        kind: FunctionKind::Freestanding,
+        params: Seq::new(alloc),
+        result: None,
+    })
+}
+
+#[test]
+fn functions_are_found_by_key_and_name(rt: HostRuntime) {
+    let alloc = rt.alloc();
+    let all = all_functions(alloc).expect(&rt, "memory");
+    for (interface, name, abi, names) in FUNCTIONS {
+        let key = key(alloc, interface, name).expect(&rt, "memory");
+        let function = function(alloc, name).expect(&rt, "memory");
+        assert_eq!(rt; all.abi(&key, &function), Some(abi));
+        assert_eq!(rt; all.post_return(&key, &function), Some(names[1]));
+        assert_eq!(rt; all.callback(&key, &function), Some(names[2]));
+    }
+}
+
+/// Functions that are not there: of another name, of another interface.
+const ABSENT: [(Option<usize>, &str); 4] = [
+    (None, "h"),
+    (Some(0), "h"),
+    (Some(1), "g"),
+    (Some(2), "f"),
+];
+
+#[test]
+fn no_other_function_is_found(rt: HostRuntime) {
+    let alloc = rt.alloc();
+    let all = all_functions(alloc).expect(&rt, "memory");
+    for (interface, name) in ABSENT {
+        let key = key(alloc, interface, name).expect(&rt, "memory");
+        let function = function(alloc, name).expect(&rt, "memory");
+        assert_eq!(rt; all.abi(&key, &function), None);
+        assert_eq!(rt; all.post_return(&key, &function), None);
+        assert_eq!(rt; all.callback(&key, &function), None);
+    }
+}
+
+#[test]
+fn reallocs_come_in_order(rt: HostRuntime) {
+    let alloc = rt.alloc();
+    let roles = vec![in alloc;
+        ("exports", Export::GeneralPurposeExportRealloc),
+        ("no matter", Export::ReallocForAdapter),
+        ("all", Export::GeneralPurposeRealloc),
+        ("imports", Export::GeneralPurposeImportRealloc),
+        ("all again", Export::GeneralPurposeRealloc),
+    ]
+    .expect(&rt, "memory");
+    let found = exports(alloc, roles).expect(&rt, "memory");
+    let names = found.reallocs(alloc).expect(&rt, "memory");
+    assert_eq!(rt;
+        *names.as_slice(),
+        *["exports", "all", "imports", "all again"].as_slice()
+    );
+    let key = WorldKey::Interface(InterfaceId { index: 0 });
+    assert_eq!(rt; found.general_purpose_realloc(), Some("all"));
+    assert_eq!(rt; found.import_realloc_fallback(), Some("imports"));
+    assert_eq!(rt; found.import_realloc_for(None, "f"), Some("imports"));
+    assert_eq!(rt; found.export_realloc_for(&key, "f"), Some("exports"));
+}
+
+#[test]
+fn the_general_realloc_stands_for_both(rt: HostRuntime) {
+    let alloc = rt.alloc();
+    let roles = vec![in alloc; ("all", Export::GeneralPurposeRealloc)].expect(&rt, "memory");
+    let found = exports(alloc, roles).expect(&rt, "memory");
+    let key = WorldKey::Interface(InterfaceId { index: 0 });
+    assert_eq!(rt; found.import_realloc_fallback(), None);
+    assert_eq!(rt; found.import_realloc_for(None, "f"), Some("all"));
+    assert_eq!(rt; found.export_realloc_for(&key, "f"), Some("all"));
+}
+
+/// An import of main's memory in this size, or of something else.
+fn import(size: Option<u32>) -> Import {
+    match size {
+        Some(minimum) => Import::MainModuleMemory(memory(minimum)),
+        None => Import::ExportedTaskCancel,
+    }
+}
+
+/// Imports of main's memory in this size and in none, or all of main's exports.
+fn group(alloc: Global, size: Option<u32>) -> Result<ImportInstance, AllocError> {
+    if size.is_none() {
+        return Ok(ImportInstance::Whole(MainOrAdapter::Main));
+    }
+    let mut fields = Keyed::new(alloc);
+    for (name, minimum) in [("cancel", None), ("memory", size), ("another", Some(0))] {
+        let field = Text::from_str(alloc, name)?;
+        fields.add_first(field, import(minimum))?;
+    }
+    Ok(ImportInstance::Names(fields))
+}
+
+/// The size of main's memory in the imports from modules of these groups.
+fn imported_size(alloc: Global, sizes: [Option<u32>; 3]) -> Result<Option<u32>, AllocError> {
+    let mut modules = Keyed::new(alloc);
+    for place in 0..3 {
+        let name = Text::from_str(alloc, ["first", "second", "third"][place])?;
+        modules.add_first(name, group(alloc, sizes[place])?)?;
+    }
+    let imports = ImportMap { modules };
+    match imports.imported_memory() {
+        Some(memory) => Ok(Some(memory.minimum)),
+        None => Ok(None),
+    }
+}
+
+/// The sizes in three groups of imports, and that which is found.
+const SIZES: [([Option<u32>; 3], Option<u32>); 3] = [
+    ([None, None, None], None),
+    ([None, Some(7), Some(8)], Some(7)),
+    ([None, None, Some(8)], Some(8)),
+];
+
+#[test]
+fn the_first_imported_memory_is_found(rt: HostRuntime) {
+    let alloc = rt.alloc();
+    for (sizes, found) in SIZES {
+        assert_eq!(rt; imported_size(alloc, sizes).expect(&rt, "memory"), found);
+    }
+}
+
+#[test]
+fn imports_come_group_by_group(rt: HostRuntime) {
+    let alloc = rt.alloc();
+    let mut modules = Keyed::new(alloc);
+    for (name, size) in [("whole", None), ("first", Some(7)), ("second", Some(8))] {
+        let text = Text::from_str(alloc, name).expect(&rt, "memory");
+        let group = group(alloc, size).expect(&rt, "memory");
+        modules.add_first(text, group).expect(&rt, "memory");
+    }
+    let imports = ImportMap { modules };
+    let list = imports.imports(alloc).expect(&rt, "memory");
+    assert_eq!(rt; list.len(), 6);
+    for entry in &list {
+        assert_eq!(rt; entry.from == "first" || entry.from == "second", true);
+    }
+}
+
+/// A module with these exports.
+fn module(alloc: Global, exports: ExportMap) -> ValidatedModule {
+    let import_encodings: Keyed<FunctionKey, StringEncoding> = Keyed::new(alloc);
+    let export_encodings: Keyed<FunctionKey, StringEncoding> = Keyed::new(alloc);
+    ValidatedModule {
+        bytes: Seq::new(alloc),
+        imports: ImportMap {
+            modules: Keyed::new(alloc),
+        },
+        exports,
+        metadata: ModuleMetadata {
+            import_encodings,
+            export_encodings,
+        },
+    }
+}
+
+/// A module that exports a realloc, if so told.
+fn reallocating(alloc: Global, name: Option<&str>) -> Result<ValidatedModule, AllocError> {
+    let mut exports = Keyed::new(alloc);
+    if let Some(name) = name {
+        exports.add_first(Text::from_str(alloc, name)?, Export::GeneralPurposeRealloc)?;
+    }
+    Ok(module(alloc, ExportMap { exports }))
+}
+
+/// An adapter with a realloc of its own, which is a library if so told.
+fn adapter(alloc: Global, is_library: bool) -> Result<WorldAdapter, AllocError> {
+    let library_info = if is_library {
+        Some(LibraryInfo {
+            arguments: Seq::new(alloc),
+        })
+    } else {
+        None
+    };
+    Ok(WorldAdapter {
+        info: reallocating(alloc, Some("its"))?,
+        required_exports: Seq::new(alloc),
+        library_info,
+    })
+}
+
+/// A world with a plain adapter and a library.
+fn world(alloc: Global, realloc: Option<&str>) -> Result<ComponentWorld, AllocError> {
+    let mut adapters = Keyed::new(alloc);
+    adapters.add_first(Text::from_str(alloc, "plain")?, adapter(alloc, false)?)?;
+    adapters.add_first(Text::from_str(alloc, "library")?, adapter(alloc, true)?)?;
+    Ok(ComponentWorld {
+        resolve: Resolve {
+            interfaces: Seq::new(alloc),
+            types: Seq::new(alloc),
+            worlds: Seq::new(alloc),
+        },
+        world: WorldId { index: 0 },
+        main: reallocating(alloc, realloc)?,
+        main_exports: Seq::new(alloc),
+        adapters,
+    })
+}
+
+const MODULES: [CustomModule<'static>; 4] = [
+    CustomModule::Main,
+    CustomModule::Adapter("plain"),
+    CustomModule::Adapter("library"),
+    CustomModule::Adapter("unknown"),
+];
+
+#[test]
+fn a_realloc_of_its_own_stays(rt: HostRuntime) {
+    let alloc = rt.alloc();
+    let world = world(alloc, Some("main's")).expect(&rt, "memory");
+    for which in MODULES {
+        assert_eq!(rt;
+            world.resolve_realloc(which, Some("own")),
+            Some((which, "own"))
+        );
+    }
+}
+
+#[test]
+fn a_library_takes_the_realloc_of_main(rt: HostRuntime) {
+    let alloc = rt.alloc();
+    let answers = [None, None, Some((CustomModule::Main, "main's")), None];
+    let taken = world(alloc, Some("main's")).expect(&rt, "memory");
+    let bare = world(alloc, None).expect(&rt, "memory");
+    for place in 0..4 {
+        assert_eq!(rt; taken.resolve_realloc(MODULES[place], None), answers[place]);
+        assert_eq!(rt; bare.resolve_realloc(MODULES[place], None), None);
+    }
+}
+
+/// Whether lowerings of these names and forms are one.
+fn are_one(
+    alloc: Global,
+    left: (&str, AbiVariant),
+    right: (&str, AbiVariant),
+) -> Result<bool, AllocError> {
+    let left = LoweringKey {
+        name: Text::from_str(alloc, left.0)?,
+        abi: left.1,
+    };
+    let right = LoweringKey {
+        name: Text::from_str(alloc, right.0)?,
+        abi: right.1,
+    };
+    Ok(left == right)
+}
+
+#[test]
+fn lowerings_are_told_apart(rt: HostRuntime) {
+    let alloc = rt.alloc();
+    let plain = ("f", AbiVariant::GuestImport);
+    let waiting = ("f", AbiVariant::GuestImportAsync);
+    let other = ("g", AbiVariant::GuestImport);
+    assert_eq!(rt; are_one(alloc, plain, plain).expect(&rt, "memory"), true);
+    assert_eq!(rt; are_one(alloc, plain, waiting).expect(&rt, "memory"), false);
+    assert_eq!(rt; are_one(alloc, plain, other).expect(&rt, "memory"), false);
+}
