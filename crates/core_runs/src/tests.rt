@@ -1,0 +1,1 @@
+//! The bytes of the bodies, as they stand in a code section without their size.
