@@ -1,1 +1,7 @@
 pub mod Growing
+pub mod Runs
+pub mod Shims
+pub mod Refs
+pub mod Wrappers
+pub mod NotStuck
+pub mod Meetings

@@ -6,3 +6,5 @@ pub mod Bodies
 pub mod Expected
 pub mod Shims
 pub mod Wrappers
+pub mod LawsOfShims
+pub mod LawsOfWrappers

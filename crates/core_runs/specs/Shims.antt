@@ -43,8 +43,8 @@ pub record TrapsAtOnce (type : FuncType) (code : Body) : Type 0 where
   pub trap : (n : ℕ) (store : Store) (frame : Frame) (f : ℕ) (arguments : List Value) (now : Now) → HasBody store f frame type code → fit type.params arguments ≡ true → exec (suc n) store f arguments now ≡ Trapped ByCode now
 
 -- The body is that of a shim, for all types of so many parameters.
-abbrev pub ShimBySlot : ℕ → Body → ℕ → ℕ → Type 0
-ShimBySlot count code type_index place = (type : FuncType) → length type.params ≡ count → HandsOnBySlot type code type_index place
+pub record ShimBySlot (count : ℕ) (code : Body) (type_index place : ℕ) : Type 0 where
+  pub hands_on : (type : FuncType) → length type.params ≡ count → HandsOnBySlot type code type_index place
 
-abbrev pub ShimByGlobal : ℕ → Body → ℕ → ℕ → Type 0
-ShimByGlobal count code type_index global = (type : FuncType) → length type.params ≡ count → HandsOnByGlobal type code type_index global
+pub record ShimByGlobal (count : ℕ) (code : Body) (type_index global : ℕ) : Type 0 where
+  pub hands_on : (type : FuncType) → length type.params ≡ count → HandsOnByGlobal type code type_index global

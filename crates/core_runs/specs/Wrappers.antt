@@ -34,6 +34,5 @@ pub record Wraps (type : FuncType) (code : Body) (bracket : Bracket) (hook_index
   pub acts : (n : ℕ) (store : Store) (frame : Frame) (f hook : ℕ) (target : Known) (arguments : List Value) (now : Now) → HasBody store f frame type code → NamesBoth store frame hook_index target_index hook target → target.signature ≡ type → fit type.params arguments ≡ true → exec (suc n) store f arguments now ≡ expected bracket hook target arguments now
 
 -- The body is that of a wrapper, for all types of so many parameters whose results the bracket can read.
-abbrev pub WrapperOf : ℕ → Body → Bracket → ℕ → ℕ → Type 0
-WrapperOf count code bracket hook_index target_index =
-    (type : FuncType) → length type.params ≡ count → Reads bracket.after type.results → Wraps type code bracket hook_index target_index
+pub record WrapperOf (count : ℕ) (code : Body) (bracket : Bracket) (hook_index target_index : ℕ) : Type 0 where
+  pub wraps : (type : FuncType) → length type.params ≡ count → Reads bracket.after type.results → Wraps type code bracket hook_index target_index

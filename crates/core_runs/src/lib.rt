@@ -24,6 +24,10 @@ pub use bodies::{
     ref_shim_body, start_body, stub_body, table_shim_body, tls_get_body, tls_set_body, wrapper_body,
 };
 pub use bracket::{AfterHook, Bracket, TaskHook};
+pub use laws::{
+    callbacks_act, empty_ref_shims_trap, empty_table_shims_trap, expected_shapes,
+    ref_shims_hand_on, stubs_trap, table_shims_hand_on, targets_are_met, wrappers_act,
+};
 pub use start::StartStep;
 
 #[cfg(test)]
