@@ -5,3 +5,4 @@ pub mod Refs
 pub mod Wrappers
 pub mod NotStuck
 pub mod Meetings
+pub mod Worked

@@ -1,0 +1,113 @@
+-- Worked examples: bodies by their bytes, and what they do.
+use Rattle.std.proofs.Common.{◌≡◌, ℕ, List, [], ◌∷◌, refl, Some, None, pos}
+use Rattle.comp_bytes.specs.Spelling.{leb128}
+use Rattle.core_bytes.specs.Signed.{signed, signed_within}
+use Rattle.core_bytes.specs.Grammar.{body}
+use Rattle.core_bytes.specs.declared.types.ValType.TheVariants.{I32}
+use Rattle.core_bytes.specs.declared.types.FuncType.{FuncType}
+use Rattle.core_runs.specs.declared.bracket.TaskHook.TheVariants.{AsyncResume}
+use Rattle.core_runs.specs.declared.bracket.AfterHook.TheVariants.{ByStatus}
+use Rattle.core_runs.specs.declared.bracket.Bracket.{Bracket}
+use Rattle.core_runs.specs.declared.start.StartStep.{StartStep}
+use Rattle.core_runs.specs.declared.start.StartStep.TheVariants.{Fill, AddressToMemory}
+use Rattle.core_runs.specs.Values.{I32Value, Value}
+use Rattle.core_runs.specs.Store.{Frame, Func, Generated, Opaque, Store, Cell, Foreign, Answer, Gives, Event, Called, Stored, Now, Outcome, Returned}
+use Rattle.core_runs.specs.Execution.{exec, acts}
+use Rattle.core_runs.specs.Expected.{hook_signature}
+use Rattle.core_runs.specs.Bodies.{table_shim, ref_shim, stub, wrapper, start, tls_get, tls_set}
+
+-- shims of two parameters: by place 0 and type 0, by global 0 and type 0
+table_shim_bytes : (body (table_shim 2 0 0)).bytes ≡ 0x00 ∷ 0x20 ∷ 0x00 ∷ 0x20 ∷ 0x01 ∷ 0x41 ∷ 0x00 ∷ 0x11 ∷ 0x00 ∷ 0x00 ∷ 0x0b ∷ []
+unfolding leb128 signed_within
+table_shim_bytes = refl
+
+ref_shim_bytes : (body (ref_shim 2 0 0)).bytes ≡ 0x00 ∷ 0x20 ∷ 0x00 ∷ 0x20 ∷ 0x01 ∷ 0x23 ∷ 0x00 ∷ 0x15 ∷ 0x00 ∷ 0x0b ∷ []
+unfolding leb128 signed_within
+ref_shim_bytes = refl
+
+stub_bytes : (body stub).bytes ≡ 0x00 ∷ 0x00 ∷ 0x0b ∷ []
+unfolding leb128 signed_within
+stub_bytes = refl
+
+-- the wrapper of a callback (i32 i32 i32 to i32), with hook function 0 and callback function 2
+abbrev callback : FuncType
+callback = record { params = I32 ∷ I32 ∷ I32 ∷ []; results = I32 ∷ [] }
+
+abbrev resumed : Bracket
+resumed = record { before = Some AsyncResume; after = ByStatus }
+
+callback_bytes : (body (wrapper 3 resumed 0 2)).bytes ≡ 0x01 ∷ 0x01 ∷ 0x7f ∷ 0x41 ∷ 0x03 ∷ 0x10 ∷ 0x00 ∷ 0x20 ∷ 0x00 ∷ 0x20 ∷ 0x01 ∷ 0x20 ∷ 0x02 ∷ 0x10 ∷ 0x02 ∷ 0x21 ∷ 0x03 ∷ 0x41 ∷ 0x04 ∷ 0x41 ∷ 0x05 ∷ 0x20 ∷ 0x03 ∷ 0x1b ∷ 0x10 ∷ 0x00 ∷ 0x20 ∷ 0x03 ∷ 0x0b ∷ []
+unfolding leb128 signed_within
+callback_bytes = refl
+
+-- a store with the hook at 0, the callback at 2, and its wrapper at 3
+abbrev frame : Frame
+frame = record { types = callback ∷ []; functions = 0 ∷ 1 ∷ 2 ∷ []; tables = []; globals = []; memories = [] }
+
+abbrev store : Store
+store = record {
+  functions = Opaque 10 hook_signature ∷ Opaque 11 hook_signature ∷ Opaque 12 callback ∷ Generated frame callback (wrapper 3 resumed 0 2).locals (wrapper 3 resumed 0 2).instructions ∷ [];
+  tables = [];
+}
+
+abbrev arguments : List Value
+arguments = I32Value 7 ∷ I32Value 8 ∷ I32Value 9 ∷ []
+
+-- the hooks take an answer each, and between them the callback gives a code
+abbrev at_first : ℕ → Now
+at_first code = record { globals = []; answers = Gives [] 0 ∷ Gives (I32Value code ∷ []) 0 ∷ Gives [] 0 ∷ []; events = []; moments = [] }
+
+abbrev at_last : ℕ → Now
+at_last hook = record { globals = []; answers = []; events = Called 0 (I32Value 3 ∷ []) ∷ Called 2 arguments ∷ Called 0 (I32Value hook ∷ []) ∷ []; moments = [] ∷ [] ∷ [] ∷ [] }
+
+-- code 0: hooks 3 and 5, and 0 is given
+callback_finishes : acts store 3 arguments (at_first 0) ≡ Returned (I32Value 0 ∷ []) (at_last 5)
+unfolding acts exec
+callback_finishes = refl
+
+-- code 1: hooks 3 and 4, and 1 is given
+callback_blocks : acts store 3 arguments (at_first 1) ≡ Returned (I32Value 1 ∷ []) (at_last 4)
+unfolding acts exec
+callback_blocks = refl
+
+-- the start function that stores at address 64 the sum of globals 0 and 1
+abbrev address_body : List StartStep
+address_body = AddressToMemory 0 1 64 ∷ []
+
+address_bytes : (body (start address_body)).bytes ≡ 0x00 ∷ 0x41 ∷ 0xc0 ∷ 0x00 ∷ 0x23 ∷ 0x00 ∷ 0x23 ∷ 0x01 ∷ 0x6a ∷ 0x36 ∷ 0x02 ∷ 0x00 ∷ 0x0b ∷ []
+unfolding leb128 signed_within
+address_bytes = refl
+
+-- two users' globals of 1024 and 16: 1040 is stored
+abbrev address_frame : Frame
+address_frame = record { types = []; functions = []; tables = []; globals = 0 ∷ 1 ∷ []; memories = 5 ∷ [] }
+
+abbrev nothing : FuncType
+nothing = record { params = []; results = [] }
+
+abbrev address_store : Store
+address_store = record { functions = Generated address_frame nothing [] (start address_body).instructions ∷ []; tables = [] }
+
+abbrev users : List Cell
+users = Foreign 20 I32 ∷ Foreign 21 I32 ∷ []
+
+address_stored : acts address_store 0 [] (record { globals = users; answers = Gives (I32Value 1024 ∷ []) 0 ∷ Gives (I32Value 16 ∷ []) 0 ∷ []; events = []; moments = [] }) ≡ Returned [] (record { globals = users; answers = []; events = Stored 5 64 1040 ∷ []; moments = users ∷ [] })
+unfolding acts exec
+address_stored = refl
+
+-- twelve fills: 50 bytes
+abbrev fills : List StartStep
+fills = Fill 0 0 ∷ Fill 1 1 ∷ Fill 2 2 ∷ Fill 3 3 ∷ Fill 4 4 ∷ Fill 5 5 ∷ Fill 6 6 ∷ Fill 7 7 ∷ Fill 8 8 ∷ Fill 9 9 ∷ Fill 10 10 ∷ Fill 11 11 ∷ []
+
+fills_bytes : (body (start fills)).bytes ≡ 0x00 ∷ 0xd2 ∷ 0x00 ∷ 0x24 ∷ 0x00 ∷ 0xd2 ∷ 0x01 ∷ 0x24 ∷ 0x01 ∷ 0xd2 ∷ 0x02 ∷ 0x24 ∷ 0x02 ∷ 0xd2 ∷ 0x03 ∷ 0x24 ∷ 0x03 ∷ 0xd2 ∷ 0x04 ∷ 0x24 ∷ 0x04 ∷ 0xd2 ∷ 0x05 ∷ 0x24 ∷ 0x05 ∷ 0xd2 ∷ 0x06 ∷ 0x24 ∷ 0x06 ∷ 0xd2 ∷ 0x07 ∷ 0x24 ∷ 0x07 ∷ 0xd2 ∷ 0x08 ∷ 0x24 ∷ 0x08 ∷ 0xd2 ∷ 0x09 ∷ 0x24 ∷ 0x09 ∷ 0xd2 ∷ 0x0a ∷ 0x24 ∷ 0x0a ∷ 0xd2 ∷ 0x0b ∷ 0x24 ∷ 0x0b ∷ 0x0b ∷ []
+unfolding leb128 signed_within
+fills_bytes = refl
+
+-- the functions of a thread-local cell, global 0
+tls_get_bytes : (body (tls_get 0)).bytes ≡ 0x00 ∷ 0x23 ∷ 0x00 ∷ 0x0b ∷ []
+unfolding leb128 signed_within
+tls_get_bytes = refl
+
+tls_set_bytes : (body (tls_set 0)).bytes ≡ 0x00 ∷ 0x20 ∷ 0x00 ∷ 0x24 ∷ 0x00 ∷ 0x0b ∷ []
+unfolding leb128 signed_within
+tls_set_bytes = refl
