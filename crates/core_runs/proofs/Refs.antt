@@ -25,8 +25,8 @@ module _ (store : Store) (call : Calling) (frame : Frame) where
   ref_call_run local type global t f g vs locals now hl hg hf ht len =
       let stack = reverse vs ++ [] in
       let rest = body store call frame (ReturnCallRef type ∷ []) in
-      ap (λ o. with_item o (λ x. with_item (slice_get now.globals x) (λ cell. read_cell cell rest stack locals now))) hl
-      ∙ ap (λ o. with_item o (λ cell. read_cell cell rest stack locals now)) hg
+      ap (λ o. with_item o (λ x. with_item (slice_get now.globals x) (λ cell. read_cell cell now (λ v after. rest (v ∷ stack) locals after)))) hl
+      ∙ ap (λ o. with_item o (λ cell. read_cell cell now (λ v after. rest (v ∷ stack) locals after))) hg
       ∙ of_type_run store call frame f type g now _ hf ht
       ∙ call_top_run store call frame f g vs [] (λ results l n. Returned (reverse results) n) locals now hf len
       ∙ and_then_same (call f vs now) _ (λ rs after. ap (λ l. Returned l after) (ap reverse (append-nil (reverse rs)) ∙ reverse-reverse rs))

@@ -14,12 +14,7 @@ use Rattle.std.specs.Int.{cast_unsigned, w32, w64}
 use Rattle.core_runs.specs.Values.{Value, fit, same_signature, zeros}
 use Rattle.core_runs.specs.Store.{Frame, Func, Generated, Opaque, signature_of, Store, Answer, Gives, Traps, Now, Cause, ByAnswer, ByCode, Outcome, Returned, Trapped, Open, Stuck}
 use Rattle.core_runs.specs.Execution.{with_item, where_true, and_then, answered, asked, Calling, Next, body, act, call_top, of_type, with_slot, exec, performed, calling_of}
-use Rattle.core_runs.specs.Bodies.{gets, table_shim_code}
-
--- the values stand in the list from this place on
-abbrev pub HasAt : {X : Type 0} → List X → ℕ → List X → Type 0
-HasAt xs i [] = Unit {0}
-HasAt xs i (v ∷ vs) = (slice_get xs i ≡ Some v) × HasAt xs (i + 1) vs
+use Rattle.core_runs.specs.Starts.{HasAt}
 
 pub has_front : {X : Type 0} (xs : List X) (i : ℕ) (a b : List X) → HasAt xs i (a ++ b) → HasAt xs i a
 has_front xs i [] b h = tt

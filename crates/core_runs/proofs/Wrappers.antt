@@ -21,7 +21,7 @@ use Rattle.core_runs.specs.Execution.{with_item, where_true, and_then, asked, Ca
 use Rattle.core_runs.specs.Bodies.{gets, hook_call, hook_calls, after_code, wrapper_locals, wrapper_code, wrapper}
 use Rattle.core_runs.specs.Expected.{Known, hook_signature, hooked, hooked_if, by_status, hook_after, expected}
 use Rattle.core_runs.specs.Wrappers.{Reads, NamesBoth, Wraps, WrapperOf}
-use Rattle.core_runs.proofs.Runs.{HasAt, has_locals, has_all, gets_run, checked, asked_fits, exec_generated, exec_opaque}
+use Rattle.core_runs.proofs.Runs.{has_locals, has_all, gets_run, checked, asked_fits, exec_generated, exec_opaque}
 use Rattle.core_runs.proofs.Shims.{fit-length, call_top_run}
 
 pub and_then_cong : (o : Outcome) (k l : List Value → Now → Outcome) → ((rs : List Value) (now : Now) → k rs now ≡ l rs now) → and_then o k ≡ and_then o l

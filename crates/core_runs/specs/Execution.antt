@@ -90,9 +90,9 @@ read_given t (Gives (v ∷ []) number ∷ answers) now go = if fits t v then go 
 read_given t answers now go = Open now
 
 -- a read and a write of a global
-abbrev pub read_cell : Cell → Next → List Value → List Value → Now → Outcome
-read_cell (Kept t v) next stack locals now = next (v ∷ stack) locals now
-read_cell (Foreign what t) next stack locals now = read_given t now.answers now (λ v after. next (v ∷ stack) locals after)
+abbrev pub read_cell : Cell → Now → (Value → Now → Outcome) → Outcome
+read_cell (Kept t v) now go = go v now
+read_cell (Foreign what t) now go = read_given t now.answers now go
 
 abbrev pub write_cell : ℕ → Cell → Value → Now → (Now → Outcome) → Outcome
 write_cell g (Kept t old) v now go =
@@ -131,7 +131,7 @@ module _ (store : Store) (call : Calling) (frame : Frame) where
   act (LocalSet i) next stack locals now =
       with_item (slice_get locals i) (λ old. on_value stack (λ v rest. next rest (slice_set locals i v) now))
   act (GlobalGet i) next stack locals now =
-      with_item (slice_get frame.globals i) (λ g. with_item (slice_get now.globals g) (λ cell. read_cell cell next stack locals now))
+      with_item (slice_get frame.globals i) (λ g. with_item (slice_get now.globals g) (λ cell. read_cell cell now (λ v after. next (v ∷ stack) locals after)))
   act (GlobalSet i) next stack locals now =
       with_item (slice_get frame.globals i) (λ g. with_item (slice_get now.globals g) (λ cell.
       on_value stack (λ v rest. write_cell g cell v now (λ after. next rest locals after))))

@@ -6,5 +6,7 @@ pub mod Bodies
 pub mod Expected
 pub mod Shims
 pub mod Wrappers
+pub mod Starts
+pub mod LawsOfStarts
 pub mod LawsOfShims
 pub mod LawsOfWrappers
