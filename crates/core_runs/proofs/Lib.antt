@@ -6,3 +6,4 @@ pub mod Wrappers
 pub mod NotStuck
 pub mod Meetings
 pub mod Worked
+pub mod Deeds
