@@ -20,7 +20,7 @@ use Rattle.core_runs.specs.Expected.{Known, Is, hook_signature}
 use Rattle.core_runs.specs.Bodies.{start_step, start, sum_code}
 use Rattle.core_runs.specs.Shims.{HasBody}
 use Rattle.core_runs.specs.Starts.{start_signature, Deed, Fills, Calls, Sums, Stores, Means, MeansEach, read_at, write_at, added, sum_of, deed_done, deeds_done, Filling, unfilled, filled, fill_deeds, with_globals}
-use Rattle.core_runs.specs.LawsOfStarts.{StartsAct}
+use Rattle.core_runs.specs.LawsOfStarts.{StartsAct, StartsFillFirst}
 use Rattle.core_runs.proofs.Runs.{has_all, checked, asked_fits, exec_generated, exec_opaque}
 use Rattle.core_runs.proofs.Wrappers.{and_then_cong, and_then_assoc, and_then_fitting, no_results, opaque_run}
 
@@ -79,19 +79,15 @@ sum_alike b o now k l h =
     added_alike (I32Value x) w k l h = refl
     added_alike v w k l h = refl
 
+where_then : (b : Bool) (o : Outcome) (k : List Value → Now → Outcome) → and_then (where_true b o) k ≡ where_true b (and_then o k)
+where_then true o k = refl
+where_then false o k = refl
+
 -- the written global, and what follows
 write_then : (g : ℕ) (cell : Option Cell) (v : Value) (now : Now) (k : List Value → Now → Outcome) → and_then (with_item cell (λ c. write_cell g c v now (λ after. Returned [] after))) k ≡ with_item cell (λ c. write_cell g c v now (λ after. k [] after))
 write_then g None v now k = refl
 write_then g (Some (Kept t old)) v now k = where_then (fits t v) _ k
-  where
-    where_then : (b : Bool) (o : Outcome) (k : List Value → Now → Outcome) → and_then (where_true b o) k ≡ where_true b (and_then o k)
-    where_then true o k = refl
-    where_then false o k = refl
-write_then g (Some (Foreign what t)) v now k = where_then' (fits t v) _ k
-  where
-    where_then' : (b : Bool) (o : Outcome) (k : List Value → Now → Outcome) → and_then (where_true b o) k ≡ where_true b (and_then o k)
-    where_then' true o k = refl
-    where_then' false o k = refl
+write_then g (Some (Foreign what t)) v now k = where_then (fits t v) _ k
 
 module _ (store : Store) (n : ℕ) (frame : Frame) where
   -- what code does behind a step
@@ -175,3 +171,25 @@ starts_act steps deeds n store frame f now there means =
     exec_generated n store f _ [] now there
     ∙ ap (λ o. and_then o (checked [])) (steps_run store n frame steps deeds now means)
     ∙ done_checked deeds now
+
+-- One fill puts its function in place of what stood there.
+one_fill : (fill : Filling) (pre post : List Cell) (now : Now) → now.globals ≡ pre ++ (unfilled fill ∷ post) → write_at (length pre) (Function fill.function) now ≡ Returned [] (with_globals now (pre ++ (filled fill ∷ post)))
+one_fill fill pre post now he =
+    let there : slice_get now.globals (length pre) ≡ Some (unfilled fill) = ap (λ l. slice_get l (length pre)) he ∙ (has_all (unfilled fill ∷ post) pre).0 in
+    ap (λ o. with_item o (λ c. write_cell (length pre) c (Function fill.function) now (λ after. Returned [] after))) there
+    ∙ ap (λ l. Returned [] (with_globals now l)) (ap (λ l. slice_set l (length pre) (filled fill)) he ∙ set-append_seam pre (unfilled fill) post (filled fill))
+
+fills_done : (fills : List Filling) (deeds : List Deed) (pre post : List Cell) (now : Now) → now.globals ≡ pre ++ (map unfilled fills ++ post) → deeds_done (fill_deeds (length pre) fills ++ deeds) now ≡ deeds_done deeds (with_globals now (pre ++ (map filled fills ++ post)))
+fills_done [] deeds pre post now he = ap (λ l. deeds_done deeds (with_globals now l)) he
+fills_done (fill ∷ fills) deeds pre post now he =
+    let new = filled fill in
+    let now1 = with_globals now (pre ++ (new ∷ (map unfilled fills ++ post))) in
+    let longer : length (pre ++ new ∷ []) ≡ length pre + 1 = omega (arith, length-append pre (new ∷ [])) in
+    ap (λ o. and_then o (λ rs after. deeds_done (fill_deeds (length pre + 1) fills ++ deeds) after)) (one_fill fill pre (map unfilled fills ++ post) now he)
+    ∙ ap (λ g. deeds_done (fill_deeds g fills ++ deeds) now1) (sym longer)
+    ∙ fills_done fills deeds (pre ++ new ∷ []) post now1 (sym (append_assoc pre (new ∷ []) (map unfilled fills ++ post)))
+    ∙ ap (λ l. deeds_done deeds (with_globals now l)) (append_assoc pre (new ∷ []) (map filled fills ++ post))
+
+pub starts_fill_first : StartsFillFirst
+starts_fill_first steps fills deeds pre post n store frame f now there means he =
+    starts_act steps (fill_deeds (length pre) fills ++ deeds) n store frame f now there means ∙ fills_done fills deeds pre post now he

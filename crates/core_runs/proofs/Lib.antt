@@ -7,3 +7,4 @@ pub mod NotStuck
 pub mod Meetings
 pub mod Worked
 pub mod Deeds
+pub mod Throughout
