@@ -8,3 +8,5 @@ pub mod Meetings
 pub mod Worked
 pub mod Deeds
 pub mod Throughout
+pub mod Traces
+pub mod TlsCells

@@ -20,7 +20,7 @@ use Rattle.core_runs.proofs.Refs.{function_stays}
 
 -- a fact of outcomes that holds of stuck and waits runs, and where what follows a read has it
 module _ (Q : Outcome → Type 0) (stuck : Q Stuck) where
-  if_meets : (b : Bool) (x z : Outcome) → Q x → Q z → Q (if b then x else z)
+  pub if_meets : (b : Bool) (x z : Outcome) → Q x → Q z → Q (if b then x else z)
   if_meets true x z h g = h
   if_meets false x z h g = g
 
@@ -41,13 +41,13 @@ module _ (Q : Outcome → Type 0) (stuck : Q Stuck) where
   added_meets (I32Value x) w go h = stuck
   added_meets v w go h = stuck
 
-  sum_meets : (b o : ℕ) (now : Now) (go : ℕ → Now → Outcome) → ((left : List Answer) → Q (Open (record now { answers = left }))) → ((s : ℕ) (left : List Answer) → Q (go s (record now { answers = left }))) → Q (sum_of b o now go)
+  pub sum_meets : (b o : ℕ) (now : Now) (go : ℕ → Now → Outcome) → ((left : List Answer) → Q (Open (record now { answers = left }))) → ((s : ℕ) (left : List Answer) → Q (go s (record now { answers = left }))) → Q (sum_of b o now go)
   sum_meets b o now go waits h =
       cell_meets (slice_get now.globals b) now (λ v first. read_at o first (λ w second. added v w (λ s. go s second))) (waits now.answers) (λ v left.
       cell_meets (slice_get now.globals o) (record now { answers = left }) (λ w second. added v w (λ s. go s second)) (waits left) (λ w rest.
       added_meets v w (λ s. go s (record now { answers = rest })) (λ s. h s rest)))
 
-  where_meets : (b : Bool) (o : Outcome) → (b ≡ true → Q o) → Q (where_true b o)
+  pub where_meets : (b : Bool) (o : Outcome) → (b ≡ true → Q o) → Q (where_true b o)
   where_meets true o h = h refl
   where_meets false o h = stuck
 
@@ -132,12 +132,13 @@ filled_throughout fills deeds pre post now no_fills none =
 
 -- numbers are read
 pub numbers_are_read : NumbersAreRead
-numbers_are_read =
-    (λ now g x e go. ap (λ o. with_item o (λ c. read_cell c now go)) e,
-    λ now g x what number answers e given fine go.
-    ap (λ o. with_item o (λ c. read_cell c now go)) e
-    ∙ ap (λ l. read_given I32 l now go) given
-    ∙ ap (λ b. if b then go (I32Value x) (record now { answers = answers }) else Open now) fine)
+numbers_are_read = (
+  λ now g x e go. ap (λ o. with_item o (λ c. read_cell c now go)) e,
+  λ now g x what number answers e given fine go.
+      ap (λ o. with_item o (λ c. read_cell c now go)) e
+      ∙ ap (λ l. read_given I32 l now go) given
+      ∙ ap (λ b. if b then go (I32Value x) (record now { answers = answers }) else Open now) fine,
+)
 
 below : (n : ℕ) → nat_lt (n % 2 ^ 32) (2 ^ 32) ≡ true
 below n = lt-ltb (n % 2 ^ 32) (2 ^ 32) (mod_below n (2 ^ 32) (omega arith))
@@ -146,11 +147,12 @@ pub addresses_are_sums : AddressesAreSums
 addresses_are_sums base offset x y now first second one two =
     let sum = (x + y) % 2 ^ 32 in
     let reads : (go : ℕ → Now → Outcome) → sum_of base offset now go ≡ go sum second =
-    λ go. one (λ v after. read_at offset after (λ w last. added v w (λ s. go s last))) ∙ two (λ w last. added (I32Value x) w (λ s. go s last)) in
-    (λ g old e. reads (λ s after. write_at g (I32Value s) after)
-    ∙ ap (λ o. with_item o (λ c. write_cell g c (I32Value sum) second (λ after. Returned [] after))) e
-    ∙ ap (λ b. where_true b (Returned [] (with_globals second (slice_set second.globals g (Kept I32 (I32Value sum)))))) (below (x + y)),
-    λ g what e. reads (λ s after. write_at g (I32Value s) after)
-    ∙ ap (λ o. with_item o (λ c. write_cell g c (I32Value sum) second (λ after. Returned [] after))) e
-    ∙ ap (λ b. where_true b (Returned [] (seen second (SetForeign what (I32Value sum))))) (below (x + y)),
-    λ m a. reads (λ s after. Returned [] (seen after (Stored m a s))))
+    λ go. one (λ v after. read_at offset after (λ w last. added v w (λ s. go s last))) ∙ two (λ w last. added (I32Value x) w (λ s. go s last)) in (
+      λ g old e. reads (λ s after. write_at g (I32Value s) after)
+          ∙ ap (λ o. with_item o (λ c. write_cell g c (I32Value sum) second (λ after. Returned [] after))) e
+          ∙ ap (λ b. where_true b (Returned [] (with_globals second (slice_set second.globals g (Kept I32 (I32Value sum)))))) (below (x + y)),
+      λ g what e. reads (λ s after. write_at g (I32Value s) after)
+          ∙ ap (λ o. with_item o (λ c. write_cell g c (I32Value sum) second (λ after. Returned [] after))) e
+          ∙ ap (λ b. where_true b (Returned [] (seen second (SetForeign what (I32Value sum))))) (below (x + y)),
+      λ m a. reads (λ s after. Returned [] (seen after (Stored m a s))),
+    )

@@ -8,7 +8,7 @@ use Rattle.core_runs.specs.declared.bracket.TaskHook.TheVariants.{AsyncBlock, As
 use Rattle.core_runs.specs.declared.bracket.AfterHook.TheVariants.{Nothing, Always, ByStatus}
 use Rattle.core_runs.specs.declared.bracket.Bracket.{Bracket}
 use Rattle.core_runs.specs.Values.{Value, I32Value, fit}
-use Rattle.core_runs.specs.Store.{Frame, Store, Now, Outcome, Returned}
+use Rattle.core_runs.specs.Store.{Frame, Store, Now, Outcome, Returned, Trapped, Open, Stuck}
 use Rattle.core_runs.specs.Execution.{and_then, asked, exec, acts}
 use Rattle.core_runs.specs.Expected.{Known, Is, hooked, expected, MeetsWithin}
 use Rattle.core_runs.specs.Bodies.{wrapper}
@@ -52,3 +52,14 @@ TargetsAreMet =
     × ((frame : Frame) (f hook_index target_index : ℕ) (bracket : Bracket) → Reads bracket.after target.signature.results → HasBody store f frame target.signature (wrapper (length target.signature.params) bracket hook_index target_index) → NamesBoth store frame hook_index target_index hook target → MeetsWithin 1 store f bracket hook target)
     × ((depth shim f : ℕ) (bracket : Bracket) → ((n : ℕ) (arguments : List Value) (now : Now) → fit target.signature.params arguments ≡ true → exec (suc n) store shim arguments now ≡ exec n store f arguments now) → MeetsWithin depth store f bracket hook target → MeetsWithin (suc depth) store shim bracket hook target)
     × ((depth f : ℕ) (bracket : Bracket) (arguments : List Value) (now : Now) → MeetsWithin depth store f bracket hook target → depth ≤ 4 → fit target.signature.params arguments ≡ true → acts store f arguments now ≡ expected bracket hook target arguments now)
+
+-- What is expected is never stuck, for arguments of the target's types.
+abbrev pub NotStuck : Outcome → Type 0
+NotStuck (Returned results now) = Unit {0}
+NotStuck (Trapped cause now) = Unit {0}
+NotStuck (Open now) = Unit {0}
+NotStuck Stuck = ⊥
+
+abbrev pub ExpectedIsNotStuck : Type 0
+ExpectedIsNotStuck =
+    (bracket : Bracket) (hook : ℕ) (target : Known) (arguments : List Value) (now : Now) → fit target.signature.params arguments ≡ true → NotStuck (expected bracket hook target arguments now)

@@ -8,5 +8,6 @@ pub mod Shims
 pub mod Wrappers
 pub mod Starts
 pub mod LawsOfStarts
+pub mod Cells
 pub mod LawsOfShims
 pub mod LawsOfWrappers
