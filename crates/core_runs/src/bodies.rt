@@ -101,22 +101,22 @@ pub fn start_body(alloc: Global, steps: &[StartStep]) -> Result<Body, AllocError
     Ok(plain(alloc, code))
 }
 
-/// The function that reads a thread-local cell, which is a global.
-pub fn tls_get_body(alloc: Global, global: u32) -> Result<Body, AllocError>
-    ensures { IfOk result (λ made. made ≡ bodies.tls_get global) }
+/// The function that reads a thread-local cell, which is the global of this index.
+pub fn tls_get_body(alloc: Global, cell: u32) -> Result<Body, AllocError>
+    ensures { IfOk result (λ made. made ≡ bodies.tls_get cell) }
 {
     let mut code = Vec::new(alloc);
-    put(&mut code, Instruction::GlobalGet(global))?;
+    put(&mut code, Instruction::GlobalGet(cell))?;
     Ok(plain(alloc, code))
 }
 
-/// The function that sets a thread-local cell, which is a global, to its one parameter.
-pub fn tls_set_body(alloc: Global, global: u32) -> Result<Body, AllocError>
-    ensures { IfOk result (λ made. made ≡ bodies.tls_set global) }
+/// The function that sets a thread-local cell, which is the global of this index, to its one parameter.
+pub fn tls_set_body(alloc: Global, cell: u32) -> Result<Body, AllocError>
+    ensures { IfOk result (λ made. made ≡ bodies.tls_set cell) }
 {
     let mut code = Vec::new(alloc);
     put(&mut code, Instruction::LocalGet(0))?;
-    put(&mut code, Instruction::GlobalSet(global))?;
+    put(&mut code, Instruction::GlobalSet(cell))?;
     Ok(plain(alloc, code))
 }
 
