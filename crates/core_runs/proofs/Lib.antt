@@ -10,3 +10,4 @@ pub mod Deeds
 pub mod Throughout
 pub mod Traces
 pub mod TlsCells
+pub mod Instances

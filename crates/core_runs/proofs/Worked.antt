@@ -1,5 +1,6 @@
 -- Worked examples: bodies by their bytes, and what they do.
-use Rattle.std.proofs.Common.{◌≡◌, ℕ, List, [], ◌∷◌, refl, Some, None, pos}
+use Rattle.std.proofs.Common.{◌≡◌, ℕ, List, [], ◌∷◌, refl, Some, None, Option, pos}
+use Rattle.std.specs.Prelude.{option_map}
 use Rattle.comp_bytes.specs.Spelling.{leb128}
 use Rattle.core_bytes.specs.Signed.{signed, signed_within}
 use Rattle.core_bytes.specs.Grammar.{body}
@@ -11,7 +12,10 @@ use Rattle.core_runs.specs.declared.bracket.Bracket.{Bracket}
 use Rattle.core_runs.specs.declared.start.StartStep.{StartStep}
 use Rattle.core_runs.specs.declared.start.StartStep.TheVariants.{Fill, AddressToMemory}
 use Rattle.core_runs.specs.Values.{I32Value, Value}
-use Rattle.core_runs.specs.Store.{Frame, Func, Generated, Opaque, Store, Cell, Foreign, Answer, Gives, Event, Called, Stored, Now, Outcome, Returned}
+use Rattle.core_runs.specs.Store.{Frame, Func, Generated, Opaque, Store, Cell, Foreign, Answer, Gives, Event, Called, Stored, Now, ByCode, Outcome, Returned, Trapped}
+use Rattle.core_runs.specs.Instances.{FunctionAt, TableAt, bind, Made, instance_of}
+use Rattle.core_runs.specs.Sections.{parts_of}
+use Rattle.core_bytes.proofs.Worked as given
 use Rattle.core_runs.specs.Execution.{exec, acts}
 use Rattle.core_runs.specs.Expected.{hook_signature}
 use Rattle.core_runs.specs.Bodies.{table_shim, ref_shim, stub, wrapper, start, tls_get, tls_set}
@@ -48,6 +52,7 @@ abbrev store : Store
 store = record {
   functions = Opaque 10 hook_signature ∷ Opaque 11 hook_signature ∷ Opaque 12 callback ∷ Generated frame callback (wrapper 3 resumed 0 2).locals (wrapper 3 resumed 0 2).instructions ∷ [];
   tables = [];
+  memories = [];
 }
 
 abbrev arguments : List Value
@@ -86,7 +91,7 @@ abbrev nothing : FuncType
 nothing = record { params = []; results = [] }
 
 abbrev address_store : Store
-address_store = record { functions = Generated address_frame nothing [] (start address_body).instructions ∷ []; tables = [] }
+address_store = record { functions = Generated address_frame nothing [] (start address_body).instructions ∷ []; tables = []; memories = [] }
 
 abbrev users : List Cell
 users = Foreign 20 I32 ∷ Foreign 21 I32 ∷ []
@@ -111,3 +116,35 @@ tls_get_bytes = refl
 tls_set_bytes : (body (tls_set 0)).bytes ≡ 0x00 ∷ 0x20 ∷ 0x00 ∷ 0x24 ∷ 0x00 ∷ 0x0b ∷ []
 unfolding leb128 signed_within
 tls_set_bytes = refl
+
+-- A module of one shim and the module that fills its place, as sections: a call of the shim is a call of the function
+-- that was given; before the fill it traps, with no event.
+abbrev two : FuncType
+two = record { params = I32 ∷ I32 ∷ []; results = [] }
+
+abbrev outside : Store
+outside = record { functions = Opaque 77 two ∷ []; tables = []; memories = [] }
+
+abbrev quiet : Now
+quiet = record { globals = []; answers = Gives [] 0 ∷ []; events = []; moments = [] }
+
+abbrev pair : List Value
+pair = I32Value 7 ∷ I32Value 8 ∷ []
+
+abbrev shim_made : Option Made
+shim_made = instance_of (parts_of given.table_shim) [] outside quiet
+
+abbrev fixup_made : Option Made
+fixup_made = bind shim_made (λ m. instance_of (parts_of given.table_fixup) (FunctionAt 0 ∷ TableAt 0 ∷ []) m.store m.now)
+
+before_the_fill : option_map (λ (m : Made). acts m.store 1 pair m.now) shim_made ≡ Some (Trapped ByCode quiet)
+unfolding acts exec
+before_the_fill = refl
+
+after_the_fill : option_map (λ (m : Made). acts m.store 1 pair m.now) fixup_made ≡ Some (Returned [] (record { globals = []; answers = []; events = Called 0 pair ∷ []; moments = [] ∷ [] }))
+unfolding acts exec
+after_the_fill = refl
+
+-- what is given has to be of the type: a function of other parameters is none
+of_another_type : instance_of (parts_of given.table_fixup) (FunctionAt 0 ∷ TableAt 0 ∷ []) (record { functions = Opaque 77 hook_signature ∷ []; tables = (None ∷ []) ∷ []; memories = [] }) quiet ≡ None
+of_another_type = refl

@@ -11,3 +11,6 @@ pub mod LawsOfStarts
 pub mod Cells
 pub mod LawsOfShims
 pub mod LawsOfWrappers
+pub mod Instances
+pub mod Sections
+pub mod LawsOfInstances

@@ -5,6 +5,7 @@
 use Rattle.std.specs.Prelude.{ℕ, List, Option}
 use Rattle.core_bytes.specs.declared.types.ValType.{ValType}
 use Rattle.core_bytes.specs.declared.types.FuncType.{FuncType}
+use Rattle.core_bytes.specs.declared.types.MemoryType.{MemoryType}
 use Rattle.core_bytes.specs.declared.code.Instruction.{Instruction}
 use Rattle.core_bytes.specs.declared.code.LocalRun.{LocalRun}
 use Rattle.core_runs.specs.Values.{Value}
@@ -26,10 +27,12 @@ abbrev pub signature_of : Func → FuncType
 signature_of (Generated frame signature locals instructions) = signature
 signature_of (Opaque what signature) = signature
 
--- What a run does not change: the functions, and the tables with the function, if any, of each slot.
+-- What a run does not change: the functions, the tables with the function, if any, of each slot, and the memories by
+-- their sizes. What memories hold is not modelled: what is stored is an event.
 pub record Store : Type 0 where
   pub functions : List Func
   pub tables : List (List (Option ℕ))
+  pub memories : List MemoryType
 
 -- globalinst: a global of a generated module with what it holds, or one of a user's module
 pub data Cell : Type 0 where
@@ -46,6 +49,7 @@ pub data Event : Type 0 where
   Called : (function : ℕ) → (arguments : List Value) → Event
   SetForeign : (global : ℕ) → Value → Event
   Stored : (memory address number : ℕ) → Event
+  Loaded : (memory address : ℕ) → (bytes : List ℕ) → Event
 
 -- What a run changes: the globals, the answers that are left, the events so far, and what the globals were at each.
 pub record Now : Type 0 where

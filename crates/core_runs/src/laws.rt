@@ -1,5 +1,6 @@
 //! What the bodies do: each function's contract is a law, and its body does nothing.
 
+ghost use Rattle.core_runs.specs.LawsOfInstances.{ShimsTrapAtFirst, SegmentsFill, FilledShimsHandOn};
 ghost use Rattle.core_runs.specs.LawsOfStarts.{StartsAct, StartsFillFirst, DeedsAreTraced, FilledThroughout, NumbersAreRead, AddressesAreSums};
 ghost use Rattle.core_runs.specs.Cells.{TlsIsOneCell};
 ghost use Rattle.core_runs.specs.LawsOfShims.{TableShimsHandOn, EmptyTableShimsTrap, RefShimsHandOn, StubsTrap, EmptyRefShimsTrap};
@@ -90,4 +91,19 @@ pub fn tls_is_one_cell()
 /// What is expected of a bracketed target is never stuck.
 pub fn expected_is_not_stuck()
     ensures { ExpectedIsNotStuck }
+{}
+
+/// Before their table is filled the shims of an instance trap, with no event, whatever else is made.
+pub fn shims_trap_at_first()
+    ensures { ShimsTrapAtFirst }
+{}
+
+/// An element segment of another instance fills the table of the shims, from slot 0 on.
+pub fn segments_fill()
+    ensures { SegmentsFill }
+{}
+
+/// Where the slots of the table hold these functions, each shim of the instance acts as its function.
+pub fn filled_shims_hand_on()
+    ensures { FilledShimsHandOn }
 {}
