@@ -4,15 +4,16 @@ use Rattle.std.specs.Prelude.{option_map}
 use Rattle.comp_bytes.specs.Spelling.{leb128}
 use Rattle.core_bytes.specs.Signed.{signed, signed_within}
 use Rattle.core_bytes.specs.Grammar.{body}
-use Rattle.core_bytes.specs.declared.types.ValType.TheVariants.{I32}
+use Rattle.core_bytes.specs.declared.types.ValType.TheVariants.{I32, Ref}
+use Rattle.core_bytes.specs.declared.types.RefType.TheVariants.{Concrete}
 use Rattle.core_bytes.specs.declared.types.FuncType.{FuncType}
-use Rattle.core_runs.specs.declared.bracket.TaskHook.TheVariants.{AsyncResume}
+use Rattle.core_runs.specs.declared.bracket.TaskHook.TheVariants.{AsyncResume, InitializeStart, InitializeFinish}
 use Rattle.core_runs.specs.declared.bracket.AfterHook.TheVariants.{ByStatus}
 use Rattle.core_runs.specs.declared.bracket.Bracket.{Bracket}
 use Rattle.core_runs.specs.declared.start.StartStep.{StartStep}
-use Rattle.core_runs.specs.declared.start.StartStep.TheVariants.{Fill, AddressToMemory}
-use Rattle.core_runs.specs.Values.{I32Value, Value}
-use Rattle.core_runs.specs.Store.{Frame, Func, Generated, Opaque, Store, Cell, Foreign, Answer, Gives, Event, Called, Stored, Now, ByCode, Outcome, Returned, Trapped}
+use Rattle.core_runs.specs.declared.start.StartStep.TheVariants.{Fill, Thunk, Hook, AddressToMemory}
+use Rattle.core_runs.specs.Values.{I32Value, Function, Value}
+use Rattle.core_runs.specs.Store.{Frame, Func, Generated, Opaque, Store, Cell, Kept, Foreign, Answer, Gives, Event, Called, Stored, Now, ByCode, Outcome, Returned, Trapped, Stuck}
 use Rattle.core_runs.specs.Instances.{FunctionAt, TableAt, bind, Made, instance_of}
 use Rattle.core_runs.specs.Sections.{parts_of}
 use Rattle.core_bytes.proofs.Worked as given
@@ -148,3 +149,42 @@ after_the_fill = refl
 -- what is given has to be of the type: a function of other parameters is none
 of_another_type : instance_of (parts_of given.table_fixup) (FunctionAt 0 ∷ TableAt 0 ∷ []) (record { functions = Opaque 77 hook_signature ∷ []; tables = (None ∷ []) ∷ []; memories = [] }) quiet ≡ None
 of_another_type = refl
+
+-- A start function of the reference form: it fills global 0 in place of a stub, tells the hook, calls a thunk, and tells
+-- the hook again. The global is filled at each event.
+abbrev start_steps : List StartStep
+start_steps = Fill 0 0 ∷ Hook 1 InitializeStart ∷ Thunk 2 ∷ Hook 1 InitializeFinish ∷ []
+
+abbrev start_frame : Frame
+start_frame = record { types = two ∷ []; functions = 0 ∷ 1 ∷ 2 ∷ []; tables = []; globals = 0 ∷ []; memories = [] }
+
+abbrev start_store : Store
+start_store = record {
+  functions = Opaque 30 two ∷ Opaque 31 hook_signature ∷ Opaque 32 nothing ∷ Generated start_frame nothing [] (start start_steps).instructions ∷ Generated start_frame two [] (ref_shim 2 0 0).instructions ∷ Generated start_frame two [] stub.instructions ∷ [];
+  tables = [];
+  memories = [];
+}
+
+abbrev held : ℕ → List Cell
+held f = Kept (Ref (Concrete 0)) (Function f) ∷ []
+
+start_runs : acts start_store 3 [] (record { globals = held 5; answers = Gives [] 0 ∷ Gives [] 0 ∷ Gives [] 0 ∷ []; events = []; moments = [] }) ≡ Returned [] (record { globals = held 0; answers = []; events = Called 1 (I32Value 6 ∷ []) ∷ Called 2 [] ∷ Called 1 (I32Value 7 ∷ []) ∷ []; moments = held 0 ∷ held 0 ∷ held 0 ∷ [] })
+unfolding acts exec
+start_runs = refl
+
+-- the shim of that global, before and after
+ref_shim_before : acts start_store 4 pair (record quiet { globals = held 5 }) ≡ Trapped ByCode (record quiet { globals = held 5 })
+unfolding acts exec
+ref_shim_before = refl
+
+ref_shim_after : acts start_store 4 pair (record quiet { globals = held 0 }) ≡ Returned [] (record { globals = held 0; answers = []; events = Called 0 pair ∷ []; moments = held 0 ∷ [] })
+unfolding acts exec
+ref_shim_after = refl
+
+-- A function that calls itself is stuck: at most four generated functions are in progress.
+abbrev endless : Store
+endless = record { functions = Generated (record start_frame { functions = 0 ∷ [] }) nothing [] (start (Thunk 0 ∷ [])).instructions ∷ []; tables = []; memories = [] }
+
+endless_is_stuck : acts endless 0 [] quiet ≡ Stuck
+unfolding acts exec
+endless_is_stuck = refl
