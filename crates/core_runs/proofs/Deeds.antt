@@ -1,27 +1,25 @@
 -- The steps of a start function do the deeds that they mean.
-use Rattle.std.proofs.Common.{◌≡◌, ℕ, zero, suc, ◌+◌, ◌%◌, ◌^◌, ◌<◌, List, [], ◌∷◌, ◌++◌, length, map, reverse, Bool, true, false, Option, Some, None, refl, sym, ap, ◌∙◌, subst, arith, append_assoc, length-append}
+use Rattle.std.proofs.Common.{◌≡◌, ℕ, ◌+◌, List, [], ◌∷◌, ◌++◌, length, map, reverse, Bool, true, false, Option, Some, None, refl, sym, ap, ◌∙◌, subst, arith, append_assoc, length-append}
 use Rattle.std.specs.Prelude.{slice_get, slice_set, if◌then◌else◌}
 use Rattle.std.specs.List.{flat_map}
-use Rattle.std.specs.Int.{cast_unsigned, cast_signed, w32}
+use Rattle.std.specs.Int.{w32}
 use Rattle.std.proofs.lemmas.Int.{of_z-to_z}
 use Rattle.std.proofs.Math.Seq.{set-append_seam}
 use Rattle.core_bytes.specs.declared.types.ValType.{ValType}
 use Rattle.core_bytes.specs.declared.types.FuncType.{FuncType}
 use Rattle.core_bytes.specs.declared.code.Instruction.{Instruction}
-use Rattle.core_bytes.specs.declared.code.Instruction.TheVariants.{Call, GlobalGet, GlobalSet, I32Const, I32Add, I32Store, RefFunc}
-use Rattle.core_runs.specs.declared.bracket.TaskHook.{TaskHook}
+use Rattle.core_bytes.specs.declared.code.Instruction.TheVariants.{Call, GlobalGet, GlobalSet, I32Add, I32Store}
 use Rattle.core_runs.specs.declared.start.StartStep.{StartStep}
 use Rattle.core_runs.specs.declared.start.StartStep.TheVariants.{Fill, Thunk, Hook, AddressToGlobal, AddressToMemory}
 use Rattle.core_runs.specs.Hooks.{hook_number}
 use Rattle.core_runs.specs.Values.{Value, I32Value, I64Value, F32Value, F64Value, Function, fits, fit}
-use Rattle.core_runs.specs.Store.{Frame, Func, Generated, Opaque, Store, Cell, Kept, Foreign, Answer, Gives, Traps, Stored, Now, Outcome, Returned, Trapped, Open, Stuck}
-use Rattle.core_runs.specs.Execution.{with_item, where_true, and_then, asked, on_i32, on_function, on_value, read_given, read_cell, write_cell, seen, Calling, Next, body, act, call_top, exec}
-use Rattle.core_runs.specs.Expected.{Known, Is, hook_signature}
-use Rattle.core_runs.specs.Bodies.{start_step, start, sum_code}
-use Rattle.core_runs.specs.Shims.{HasBody}
-use Rattle.core_runs.specs.Starts.{start_signature, Deed, Fills, Calls, Sums, Stores, Means, MeansEach, read_at, write_at, added, sum_of, deed_done, deeds_done, Filling, unfilled, filled, fill_deeds, with_globals}
+use Rattle.core_runs.specs.Store.{Frame, Store, Cell, Kept, Foreign, Answer, Gives, Traps, Stored, Now, Outcome, Returned, Open}
+use Rattle.core_runs.specs.Execution.{with_item, where_true, and_then, asked, read_given, read_cell, write_cell, seen, body, exec}
+use Rattle.core_runs.specs.Expected.{Known, Is}
+use Rattle.core_runs.specs.Bodies.{start_step, sum_code}
+use Rattle.core_runs.specs.Starts.{Deed, Fills, Calls, Sums, Stores, Means, MeansEach, read_at, write_at, added, sum_of, deed_done, deeds_done, Filling, unfilled, filled, fill_deeds, with_globals}
 use Rattle.core_runs.specs.LawsOfStarts.{StartsAct, StartsFillFirst}
-use Rattle.core_runs.proofs.Runs.{has_all, checked, asked_fits, exec_generated, exec_opaque}
+use Rattle.core_runs.proofs.Runs.{has_all, checked, asked_fits, exec_generated}
 use Rattle.core_runs.proofs.Wrappers.{and_then_cong, and_then_assoc, and_then_fitting, no_results, opaque_run}
 
 -- a read goes on alike where what follows is alike

@@ -1,7 +1,6 @@
 -- From modules to shims: the shims' instance, and the fill of its table.
-use Rattle.std.proofs.Common.{◌≡◌, ℕ, zero, suc, ◌+◌, ◌-◌, ◌<◌, ◌≤◌, ◌^◌, List, [], ◌∷◌, ◌++◌, length, map, take, drop, Bool, true, false, Option, Some, None, refl, sym, ap, ◌∙◌, subst, arith, append_assoc, length-append}
+use Rattle.std.proofs.Common.{◌≡◌, ℕ, zero, suc, ◌+◌, ◌-◌, ◌<◌, ◌≤◌, ◌^◌, List, [], ◌∷◌, ◌++◌, length, map, drop, true, Option, Some, None, refl, sym, ap, ◌∙◌, subst, arith, append_assoc}
 use Rattle.std.specs.Prelude.{slice_get, slice_set, replicate, if◌then◌else◌, nat_le, option_map, pos}
-use Rattle.std.specs.Int.{cast_signed, w32}
 use Rattle.std.proofs.Math.Seq.{set-append_seam}
 use Rattle.std.proofs.lemmas.List.{append-nil, length-replicate, drop-replicate}
 use Rattle.std.proofs.lemmas.Option.{slice_get-map, slice_get_within}
@@ -13,7 +12,7 @@ use Rattle.core_runs.specs.Store.{Frame, Func, Generated, signature_of, Store, N
 use Rattle.core_runs.specs.Execution.{exec}
 use Rattle.core_runs.specs.Bodies.{table_shim}
 use Rattle.core_runs.specs.Shims.{HasBody, HoldsSlot}
-use Rattle.core_runs.specs.Instances.{Parts, cons_if, bind, all_at, own_functions, new_frame, Made, instance_of, made_of, element_done, with_table, empty_table, slots_after}
+use Rattle.core_runs.specs.Instances.{cons_if, bind, all_at, own_functions, new_frame, Made, instance_of, made_of, element_done, with_table, empty_table, slots_after}
 use Rattle.core_runs.specs.LawsOfInstances.{Slot, shim_bodies, shim_parts, Typed, Extends, ShimsMade, ShimsTrapAtFirst, SegmentsFill, FilledShimsHandOn}
 use Rattle.core_runs.proofs.Runs.{has_all}
 use Rattle.core_runs.proofs.Shims.{table_shim_at}

@@ -11,3 +11,4 @@ pub mod Throughout
 pub mod Traces
 pub mod TlsCells
 pub mod Instances
+pub mod Doable

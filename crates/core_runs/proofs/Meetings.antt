@@ -1,19 +1,16 @@
 -- Targets met directly, through a wrapper, and through a shim.
-use Rattle.std.proofs.Common.{◌≡◌, ℕ, zero, suc, ◌+◌, ◌-◌, ◌≤◌, ◌^◌, List, [], ◌∷◌, ◌++◌, true, Option, Some, None, refl, sym, ap, ◌∙◌, arith}
-use Rattle.std.specs.Prelude.{slice_get, length}
-use Rattle.core_bytes.specs.declared.types.ValType.TheVariants.{I32}
-use Rattle.core_bytes.specs.declared.types.FuncType.{FuncType}
-use Rattle.core_runs.specs.declared.bracket.TaskHook.{TaskHook}
-use Rattle.core_runs.specs.declared.bracket.AfterHook.TheVariants.{Nothing, Always, ByStatus}
+use Rattle.std.proofs.Common.{◌≡◌, ℕ, zero, suc, ◌≤◌, List, [], ◌∷◌, true, None, refl, sym, ap, ◌∙◌, arith}
+use Rattle.std.specs.Prelude.{length}
+use Rattle.core_runs.specs.declared.bracket.AfterHook.TheVariants.{Nothing, ByStatus}
 use Rattle.core_runs.specs.declared.bracket.Bracket.{Bracket}
 use Rattle.core_runs.specs.Values.{Value, I32Value, fit}
-use Rattle.core_runs.specs.Store.{Frame, Func, signature_of, Store, Now, Outcome, Returned}
+use Rattle.core_runs.specs.Store.{Frame, Store, Now, Returned}
 use Rattle.core_runs.specs.Execution.{and_then, exec, asked, acts}
 use Rattle.core_runs.specs.Expected.{Known, Is, expected, hooked_if, hook_after, MeetsWithin}
 use Rattle.core_runs.specs.Bodies.{wrapper}
 use Rattle.core_runs.specs.Shims.{HasBody}
-use Rattle.core_runs.specs.Wrappers.{Reads, NamesBoth, Wraps}
-use Rattle.core_runs.specs.LawsOfWrappers.{WrappersAct, ExpectedShapes, by_code, target_call, CallbacksAct, TargetsAreMet}
+use Rattle.core_runs.specs.Wrappers.{Reads, NamesBoth}
+use Rattle.core_runs.specs.LawsOfWrappers.{WrappersAct, ExpectedShapes, by_code, CallbacksAct, TargetsAreMet}
 use Rattle.core_runs.proofs.Runs.{and_then_same, exec_opaque}
 use Rattle.core_runs.proofs.Wrappers.{wrapper_wraps}
 

@@ -6,13 +6,12 @@ use Rattle.core_runs.specs.declared.bracket.TaskHook.TheVariants.{SyncStart, Syn
 use Rattle.core_bytes.specs.declared.types.ValType.{ValType}
 use Rattle.core_bytes.specs.declared.types.ValType.TheVariants.{I32}
 use Rattle.core_bytes.specs.declared.types.FuncType.{FuncType}
-use Rattle.core_runs.specs.declared.bracket.Bracket.{Bracket}
 use Rattle.core_runs.specs.Hooks.{hook_number}
 use Rattle.core_runs.specs.Values.{Value, I32Value, fit}
 use Rattle.core_runs.specs.Store.{Answer, Gives, Traps, Called, Now, Outcome, Returned, Trapped, Open, Stuck}
 use Rattle.core_runs.specs.Execution.{where_true, and_then, answered, asked, seen}
 use Rattle.core_runs.specs.LawsOfWrappers.{NotStuck, ExpectedIsNotStuck}
-use Rattle.core_runs.specs.Expected.{Known, hook_signature, hooked, hooked_if, hook_after, expected}
+use Rattle.core_runs.specs.Expected.{hook_signature, hooked_if, hook_after}
 
 then_runs : (o : Outcome) (k : List Value → Now → Outcome) → NotStuck o → ((rs : List Value) (now : Now) → NotStuck (k rs now)) → NotStuck (and_then o k)
 then_runs (Returned rs now) k h f = f rs now

@@ -1,5 +1,5 @@
 -- A shim in the reference form does what the function does that its global holds.
-use Rattle.std.proofs.Common.{◌≡◌, ℕ, zero, suc, List, [], ◌∷◌, ◌++◌, length, reverse, Bool, true, false, Option, Some, None, refl, sym, ap, ◌∙◌, subst}
+use Rattle.std.proofs.Common.{◌≡◌, ℕ, suc, List, [], ◌∷◌, ◌++◌, length, reverse, true, Some, refl, sym, ap, ◌∙◌, subst}
 use Rattle.std.specs.Prelude.{slice_get, map, option_map}
 use Rattle.std.proofs.lemmas.List.{reverse-reverse, append-nil}
 use Rattle.std.proofs.lemmas.Option.{slice_get-map}
@@ -8,8 +8,8 @@ use Rattle.core_bytes.specs.declared.code.Instruction.TheVariants.{GlobalGet, Re
 use Rattle.core_bytes.specs.declared.types.FuncType.{FuncType}
 use Rattle.core_bytes.specs.declared.code.Body.{Body}
 use Rattle.core_runs.specs.Values.{Value, Function, fit}
-use Rattle.core_runs.specs.Store.{Frame, Func, Generated, signature_of, Store, Cell, Kept, Now, ByCode, Outcome, Returned, Trapped}
-use Rattle.core_runs.specs.Execution.{with_item, where_true, and_then, Calling, Next, body, act, call_top, of_type, read_cell, renewed, exec}
+use Rattle.core_runs.specs.Store.{Frame, Func, Generated, signature_of, Store, Cell, Kept, Now, ByCode, Returned, Trapped}
+use Rattle.core_runs.specs.Execution.{with_item, where_true, and_then, Calling, body, read_cell, renewed, exec}
 use Rattle.core_runs.specs.Bodies.{ref_shim_code, ref_shim, stub}
 use Rattle.core_runs.specs.Shims.{HasBody, HoldsGlobal, HandsOnByGlobal, TrapsAtOnce, ShimByGlobal}
 use Rattle.core_runs.specs.LawsOfShims.{RefShimsHandOn, StubsTrap, EmptyRefShimsTrap}

@@ -1,19 +1,17 @@
 -- What the parts of generated code do.
-use Rattle.std.proofs.Common.{◌≡◌, ℕ, zero, suc, ◌+◌, ◌<◌, List, [], ◌∷◌, ◌++◌, length, map, reverse, take, drop, Bool, true, false, ◌&&◌, Option, Some, None, refl, sym, ap, ◌∙◌, subst, arith, append_assoc, length-append}
-use Rattle.std.specs.Prelude.{slice_get, slice_set, ◌^◌, ◌%◌, if◌then◌else◌}
+use Rattle.std.proofs.Common.{◌≡◌, ℕ, zero, suc, ◌+◌, ◌<◌, List, [], ◌∷◌, ◌++◌, length, map, reverse, Bool, true, false, Option, Some, None, refl, sym, ap, ◌∙◌, subst, arith, append_assoc, length-append}
+use Rattle.std.specs.Prelude.{slice_get, if◌then◌else◌}
 use Rattle.std.specs.List.{range_with_len}
-use Rattle.std.proofs.Math.Seq.{get_or-append_seam, take-append_seam, drop-append_seam, take-length}
-use Rattle.std.proofs.lemmas.List.{reverse-reverse, length-reverse}
+use Rattle.std.proofs.Math.Seq.{get_or-append_seam}
 use Rattle.std.proofs.lemmas.Option.{slice_get-get_or}
 use Rattle.std.proofs.lemmas.Grind.{reverse_onto}
 use Rattle.core_bytes.specs.declared.code.Instruction.{Instruction}
-use Rattle.core_bytes.specs.declared.code.Instruction.TheVariants.{LocalGet, I32Const, CallIndirect}
+use Rattle.core_bytes.specs.declared.code.Instruction.TheVariants.{LocalGet}
 use Rattle.core_bytes.specs.declared.types.ValType.{ValType}
 use Rattle.core_bytes.specs.declared.types.FuncType.{FuncType}
-use Rattle.std.specs.Int.{cast_unsigned, w32, w64}
-use Rattle.core_runs.specs.Values.{Value, fit, same_signature, zeros}
-use Rattle.core_runs.specs.Store.{Frame, Func, Generated, Opaque, signature_of, Store, Answer, Gives, Traps, Now, Cause, ByAnswer, ByCode, Outcome, Returned, Trapped, Open, Stuck}
-use Rattle.core_runs.specs.Execution.{with_item, where_true, and_then, answered, asked, Calling, Next, body, act, call_top, of_type, with_slot, exec, performed, calling_of}
+use Rattle.core_runs.specs.Values.{Value, fit, zeros}
+use Rattle.core_runs.specs.Store.{Frame, Func, Generated, Opaque, signature_of, Store, Answer, Gives, Traps, Now, Outcome, Returned, Trapped, Open, Stuck}
+use Rattle.core_runs.specs.Execution.{with_item, where_true, and_then, answered, asked, Calling, body, exec, performed}
 use Rattle.core_runs.specs.Starts.{HasAt}
 
 pub has_front : {X : Type 0} (xs : List X) (i : ℕ) (a b : List X) → HasAt xs i (a ++ b) → HasAt xs i a

@@ -1,25 +1,24 @@
 -- A shim does what the function does that it holds.
-use Rattle.std.proofs.Common.{◌≡◌, ℕ, zero, suc, ◌+◌, ◌<◌, List, [], ◌∷◌, ◌++◌, length, map, reverse, take, drop, Bool, true, false, ◌&&◌, Option, Some, None, refl, sym, ap, ◌∙◌, subst, arith, append_assoc, length-append}
-use Rattle.std.specs.Prelude.{ℤ, slice_get, ◌^◌, ◌%◌, if◌then◌else◌, eqb}
+use Rattle.std.proofs.Common.{◌≡◌, ℕ, suc, ◌<◌, List, [], ◌∷◌, ◌++◌, length, reverse, take, drop, Bool, true, false, ◌&&◌, Option, Some, None, refl, sym, ap, ◌∙◌, subst}
+use Rattle.std.specs.Prelude.{ℤ, slice_get, ◌^◌, if◌then◌else◌}
 use Rattle.std.proofs.Math.Seq.{take-append_seam, drop-append_seam}
 use Rattle.std.proofs.lemmas.List.{reverse-reverse, length-reverse, append-nil}
 use Rattle.std.proofs.lemmas.Bool.{eq-eqb}
 use Rattle.core_bytes.specs.declared.types.ValType.{ValType}
 use Rattle.core_bytes.specs.declared.types.ValType.TheVariants.{I32, I64, F32, F64, Ref}
 use Rattle.core_bytes.specs.declared.types.RefType.TheVariants.{FuncRef, Concrete}
-use Rattle.core_bytes.specs.declared.code.Instruction.{Instruction}
-use Rattle.core_bytes.specs.declared.code.Instruction.TheVariants.{LocalGet, I32Const, CallIndirect}
+use Rattle.core_bytes.specs.declared.code.Instruction.TheVariants.{I32Const, CallIndirect}
 use Rattle.core_bytes.specs.declared.types.FuncType.{FuncType}
 use Rattle.core_bytes.specs.declared.code.Body.{Body}
 use Rattle.std.specs.Int.{cast_unsigned, cast_signed, w32}
-use Rattle.core_runs.specs.Values.{Value, I32Value, fits, fit, same_value_type, same_value_types, same_signature, zeros}
-use Rattle.core_runs.specs.Store.{Frame, Func, Generated, Opaque, signature_of, Store, Now, Cause, ByCode, Outcome, Returned, Trapped, Open, Stuck}
-use Rattle.core_runs.specs.Execution.{with_item, where_true, and_then, Calling, Next, body, act, call_top, of_type, with_slot, exec, performed}
-use Rattle.core_runs.specs.Bodies.{gets, plain, table_shim_code, table_shim}
+use Rattle.core_runs.specs.Values.{Value, I32Value, fits, fit, same_value_type, same_value_types, same_signature}
+use Rattle.core_runs.specs.Store.{Frame, Func, signature_of, Store, Now, ByCode, Outcome, Returned, Trapped}
+use Rattle.core_runs.specs.Execution.{with_item, where_true, and_then, Calling, Next, body, act, call_top, of_type, with_slot, exec}
+use Rattle.core_runs.specs.Bodies.{plain, table_shim_code, table_shim}
 use Rattle.core_runs.specs.Shims.{HasBody, HoldsSlot, HandsOnBySlot, ShimBySlot}
 use Rattle.core_runs.specs.LawsOfShims.{TableShimsHandOn, EmptyTableShimsTrap}
 use Rattle.std.proofs.lemmas.Int.{of_z-to_z}
-use Rattle.core_runs.proofs.Runs.{has_locals, gets_run, and_then_same, checked, exec_is, exec_generated, exec_fits}
+use Rattle.core_runs.proofs.Runs.{has_locals, gets_run, and_then_same, checked, exec_generated, exec_fits}
 
 and_left : (a b : Bool) → (a && b) ≡ true → a ≡ true
 and_left true b e = refl

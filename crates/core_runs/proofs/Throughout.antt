@@ -1,20 +1,18 @@
 -- What holds all through a run of deeds, and the events that they make.
-use Rattle.std.proofs.Common.{◌≡◌, ℕ, zero, suc, ◌+◌, ◌%◌, ◌^◌, ◌<◌, List, [], ◌∷◌, ◌++◌, length, map, take, Bool, true, false, Option, Some, None, refl, sym, ap, ◌∙◌, subst, arith, append_assoc}
-use Rattle.std.proofs.lemmas.List.{append-nil}
+use Rattle.std.proofs.Common.{◌≡◌, ℕ, zero, suc, ◌+◌, ◌%◌, ◌^◌, List, [], ◌∷◌, ◌++◌, length, map, Bool, true, false, Option, Some, None, refl, sym, ap, ◌∙◌, subst, arith}
 use Rattle.std.proofs.lemmas.Bool.{lt-ltb}
 use Rattle.std.proofs.lemmas.Nat.{mod_below}
 use Rattle.std.specs.Prelude.{slice_get, slice_set, if◌then◌else◌, nat_lt}
 use Rattle.std.specs.List.{AllByRecursion}
 use Rattle.core_bytes.specs.declared.types.ValType.{ValType}
-use Rattle.core_bytes.specs.declared.types.ValType.TheVariants.{I32, I64, F32, F64, Ref}
+use Rattle.core_bytes.specs.declared.types.ValType.TheVariants.{I32, Ref}
 use Rattle.core_bytes.specs.declared.types.RefType.{RefType}
 use Rattle.core_bytes.specs.declared.types.FuncType.{FuncType}
-use Rattle.core_runs.specs.Values.{Value, I32Value, I64Value, F32Value, F64Value, Function, fits, fit}
-use Rattle.core_runs.specs.Store.{Store, Cell, Kept, Foreign, Answer, Gives, Traps, Event, Called, SetForeign, Stored, Now, Cause, Outcome, Returned, Trapped, Open, Stuck}
+use Rattle.core_runs.specs.Values.{Value, I32Value, Function, fits, fit}
+use Rattle.core_runs.specs.Store.{Cell, Kept, Foreign, Answer, Gives, Traps, Event, Called, SetForeign, Stored, Now, Outcome, Returned, Trapped, Open, Stuck}
 use Rattle.core_runs.specs.Execution.{with_item, where_true, and_then, answered, asked, seen, renewed, read_given, read_cell, write_cell}
-use Rattle.core_runs.specs.Expected.{Known}
-use Rattle.core_runs.specs.Starts.{HasAt, Deed, Fills, Calls, Sums, Stores, read_at, write_at, added, sum_of, deed_done, deeds_done, Filling, filled, with_globals, Filled, NoFills, Held, Throughout, Written, Makes, MakesEach, Traced}
-use Rattle.core_runs.specs.LawsOfStarts.{FilledThroughout, ReadsNumber, NumbersAreRead, AddressesAreSums}
+use Rattle.core_runs.specs.Starts.{Deed, Fills, Calls, Sums, Stores, read_at, write_at, added, sum_of, deed_done, deeds_done, Filling, filled, with_globals, Filled, NoFills, Held, Throughout}
+use Rattle.core_runs.specs.LawsOfStarts.{FilledThroughout, NumbersAreRead, AddressesAreSums}
 use Rattle.core_runs.proofs.Runs.{has_front, has_all}
 use Rattle.core_runs.proofs.Refs.{function_stays}
 
@@ -140,7 +138,7 @@ numbers_are_read = (
       ∙ ap (λ b. if b then go (I32Value x) (record now { answers = answers }) else Open now) fine,
 )
 
-below : (n : ℕ) → nat_lt (n % 2 ^ 32) (2 ^ 32) ≡ true
+pub below : (n : ℕ) → nat_lt (n % 2 ^ 32) (2 ^ 32) ≡ true
 below n = lt-ltb (n % 2 ^ 32) (2 ^ 32) (mod_below n (2 ^ 32) (omega arith))
 
 pub addresses_are_sums : AddressesAreSums

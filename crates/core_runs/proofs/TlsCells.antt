@@ -1,14 +1,13 @@
 -- The two functions of the cell read it and set it, and do nothing else.
-use Rattle.std.proofs.Common.{◌≡◌, ℕ, zero, suc, List, [], ◌∷◌, Bool, true, false, ◌&&◌, Some, refl, sym, ap, ◌∙◌}
+use Rattle.std.proofs.Common.{◌≡◌, ℕ, zero, suc, List, [], ◌∷◌, true, ◌&&◌, Some, refl, ap, ◌∙◌}
 use Rattle.std.specs.Prelude.{slice_get, slice_set}
 use Rattle.core_bytes.specs.declared.types.ValType.{ValType}
-use Rattle.core_bytes.specs.declared.code.Instruction.TheVariants.{LocalGet, GlobalSet}
 use Rattle.core_runs.specs.Values.{Value, fits, fit}
-use Rattle.core_runs.specs.Store.{Frame, Store, Cell, Kept, Now, Outcome, Returned}
+use Rattle.core_runs.specs.Store.{Frame, Store, Cell, Kept, Now, Returned}
 use Rattle.core_runs.specs.Execution.{with_item, where_true, and_then, Calling, body, read_cell, write_cell, exec}
 use Rattle.core_runs.specs.Starts.{with_globals}
 use Rattle.core_runs.specs.Bodies.{tls_get, tls_set}
-use Rattle.core_runs.specs.Cells.{TlsCall, Get, Set, HasTls, tls_call, tls_calls, cell_replies, cell_last, AllFit, TlsIsOneCell}
+use Rattle.core_runs.specs.Cells.{Get, Set, HasTls, tls_calls, TlsIsOneCell}
 use Rattle.core_runs.proofs.Runs.{checked, exec_generated}
 
 one_fits : (t : ValType) (v : Value) → fits t v ≡ true → fit (t ∷ []) (v ∷ []) ≡ true

@@ -1,11 +1,11 @@
 -- Deeds make exactly their events, in order.
-use Rattle.std.proofs.Common.{◌≡◌, ℕ, zero, suc, ◌+◌, List, [], ◌∷◌, ◌++◌, take, Bool, true, false, Option, Some, None, refl, sym, ap, ◌∙◌, append_assoc}
+use Rattle.std.proofs.Common.{◌≡◌, ℕ, suc, List, [], ◌∷◌, ◌++◌, take, Option, Some, None, refl, sym, ap, ◌∙◌, append_assoc}
 use Rattle.std.proofs.lemmas.List.{append-nil}
-use Rattle.std.specs.Prelude.{slice_get, if◌then◌else◌}
+use Rattle.std.specs.Prelude.{slice_get}
 use Rattle.core_bytes.specs.declared.types.ValType.{ValType}
 use Rattle.core_runs.specs.Values.{Value, I32Value, Function, fits, fit}
 use Rattle.core_runs.specs.Store.{Cell, Kept, Foreign, Answer, Gives, Traps, Event, Called, SetForeign, Stored, Now, Outcome, Returned, Trapped, Open, Stuck}
-use Rattle.core_runs.specs.Execution.{with_item, and_then, answered, asked, seen, write_cell}
+use Rattle.core_runs.specs.Execution.{with_item, and_then, answered, seen, write_cell}
 use Rattle.core_runs.specs.Starts.{Deed, Fills, Calls, Sums, Stores, write_at, deed_done, deeds_done, Written, Makes, MakesEach, Traced}
 use Rattle.core_runs.specs.LawsOfStarts.{DeedsAreTraced}
 use Rattle.core_runs.proofs.Throughout.{if_meets, sum_meets, where_meets}

@@ -1,8 +1,8 @@
 -- Worked examples: bodies by their bytes, and what they do.
-use Rattle.std.proofs.Common.{◌≡◌, ℕ, List, [], ◌∷◌, refl, Some, None, Option, pos}
+use Rattle.std.proofs.Common.{◌≡◌, ℕ, List, [], ◌∷◌, refl, Some, None, Option}
 use Rattle.std.specs.Prelude.{option_map}
 use Rattle.comp_bytes.specs.Spelling.{leb128}
-use Rattle.core_bytes.specs.Signed.{signed, signed_within}
+use Rattle.core_bytes.specs.Signed.{signed_within}
 use Rattle.core_bytes.specs.Grammar.{body}
 use Rattle.core_bytes.specs.declared.types.ValType.TheVariants.{I32, Ref}
 use Rattle.core_bytes.specs.declared.types.RefType.TheVariants.{Concrete}
@@ -13,7 +13,7 @@ use Rattle.core_runs.specs.declared.bracket.Bracket.{Bracket}
 use Rattle.core_runs.specs.declared.start.StartStep.{StartStep}
 use Rattle.core_runs.specs.declared.start.StartStep.TheVariants.{Fill, Thunk, Hook, AddressToMemory}
 use Rattle.core_runs.specs.Values.{I32Value, Function, Value}
-use Rattle.core_runs.specs.Store.{Frame, Func, Generated, Opaque, Store, Cell, Kept, Foreign, Answer, Gives, Event, Called, Stored, Now, ByCode, Outcome, Returned, Trapped, Stuck}
+use Rattle.core_runs.specs.Store.{Frame, Generated, Opaque, Store, Cell, Kept, Foreign, Gives, Called, Stored, Now, ByCode, Returned, Trapped, Stuck}
 use Rattle.core_runs.specs.Instances.{FunctionAt, TableAt, bind, Made, instance_of}
 use Rattle.core_runs.specs.Sections.{parts_of}
 use Rattle.core_bytes.proofs.Worked as given

@@ -1,5 +1,5 @@
 -- A wrapper does what its bracket says.
-use Rattle.std.proofs.Common.{◌≡◌, ℕ, zero, suc, ◌+◌, ◌<◌, List, [], ◌∷◌, ◌++◌, length, map, reverse, Bool, true, false, ◌&&◌, Option, Some, None, refl, sym, ap, ◌∙◌, subst, arith, append_assoc, length-append}
+use Rattle.std.proofs.Common.{◌≡◌, ℕ, zero, suc, List, [], ◌∷◌, ◌++◌, length, reverse, Bool, true, false, ◌&&◌, Option, Some, None, refl, sym, ap, ◌∙◌, subst}
 use Rattle.std.specs.Prelude.{slice_get, slice_set, pos, nat_lt, ◌^◌}
 use Rattle.std.proofs.lemmas.List.{reverse-reverse, append-nil}
 use Rattle.std.proofs.Math.Seq.{set-append_seam}
@@ -12,13 +12,13 @@ use Rattle.core_runs.specs.declared.bracket.AfterHook.{AfterHook}
 use Rattle.core_runs.specs.declared.bracket.AfterHook.TheVariants.{Nothing, Always, ByStatus}
 use Rattle.core_runs.specs.declared.bracket.Bracket.{Bracket}
 use Rattle.core_bytes.specs.declared.code.Instruction.{Instruction}
-use Rattle.core_bytes.specs.declared.code.Instruction.TheVariants.{Call, Select, LocalGet, LocalSet, I32Const}
+use Rattle.core_bytes.specs.declared.code.Instruction.TheVariants.{Call, Select, LocalGet, I32Const}
 use Rattle.core_bytes.specs.declared.types.FuncType.{FuncType}
 use Rattle.core_bytes.specs.declared.code.Body.{Body}
-use Rattle.core_runs.specs.Values.{Value, I32Value, fits, fit, zeros}
-use Rattle.core_runs.specs.Store.{Frame, Func, Generated, Opaque, signature_of, Store, Now, Outcome, Returned, Trapped, Open, Stuck}
-use Rattle.core_runs.specs.Execution.{with_item, where_true, and_then, asked, Calling, Next, body, act, call_top, on_i32, on_value, chosen, exec}
-use Rattle.core_runs.specs.Bodies.{gets, hook_call, hook_calls, after_code, wrapper_locals, wrapper_code, wrapper}
+use Rattle.core_runs.specs.Values.{Value, I32Value, fit, zeros}
+use Rattle.core_runs.specs.Store.{Frame, Generated, Opaque, Store, Now, Outcome, Returned, Trapped, Open, Stuck}
+use Rattle.core_runs.specs.Execution.{with_item, where_true, and_then, asked, Next, body, act, call_top, chosen, exec}
+use Rattle.core_runs.specs.Bodies.{gets, hook_calls, after_code, wrapper_locals, wrapper_code, wrapper}
 use Rattle.core_runs.specs.Expected.{Known, hook_signature, hooked, hooked_if, by_status, hook_after, expected}
 use Rattle.core_runs.specs.Wrappers.{Reads, NamesBoth, Wraps, WrapperOf}
 use Rattle.core_runs.proofs.Runs.{has_locals, has_all, gets_run, checked, asked_fits, exec_generated, exec_opaque}

@@ -1,10 +1,9 @@
 -- A thread-local cell: two functions over a global of their module.
 -- This project's own, over the core standard's execution of instructions.
-use Rattle.std.specs.Prelude.{◌≡◌, ℕ, suc, true, List, [], ◌∷◌, Some, slice_get, slice_set}
+use Rattle.std.specs.Prelude.{◌≡◌, ℕ, suc, true, List, [], ◌∷◌, Some, slice_get}
 use Rattle.core_bytes.specs.declared.types.ValType.{ValType}
-use Rattle.core_bytes.specs.declared.types.FuncType.{FuncType}
 use Rattle.core_runs.specs.Values.{Value, fits}
-use Rattle.core_runs.specs.Store.{Frame, Store, Cell, Kept, Now, Outcome, Returned}
+use Rattle.core_runs.specs.Store.{Frame, Store, Kept, Now, Outcome}
 use Rattle.core_runs.specs.Execution.{exec, and_then}
 use Rattle.core_runs.specs.Bodies.{tls_get, tls_set}
 use Rattle.core_runs.specs.Shims.{HasBody}

@@ -10,7 +10,7 @@ use Rattle.core_runs.specs.declared.bracket.AfterHook.TheVariants.{Nothing, Alwa
 use Rattle.core_runs.specs.declared.bracket.Bracket.{Bracket}
 use Rattle.core_runs.specs.Hooks.{hook_number}
 use Rattle.core_runs.specs.Values.{Value, I32Value, fit}
-use Rattle.core_runs.specs.Store.{Func, Opaque, Store, Now, Outcome, Returned, Stuck}
+use Rattle.core_runs.specs.Store.{Opaque, Store, Now, Outcome, Returned}
 use Rattle.core_runs.specs.Execution.{and_then, asked, exec}
 
 -- A task hook takes one number and gives nothing.

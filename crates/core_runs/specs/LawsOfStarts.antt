@@ -1,14 +1,15 @@
 -- Laws of start functions: what the values of `Bodies` do.
 -- This project's own, over the core standard's execution of instructions.
-use Rattle.std.specs.Prelude.{◌≡◌, ℕ, suc, ◌+◌, ◌%◌, ◌^◌, List, [], ◌∷◌, ◌++◌, length, map, true, Some, slice_get, slice_set}
+use Rattle.std.specs.Prelude.{◌≡◌, ℕ, suc, ◌+◌, ◌%◌, ◌^◌, List, [], ◌∷◌, ◌++◌, length, map, true, Some, slice_get, slice_set, Option}
 use Rattle.core_bytes.specs.declared.types.ValType.TheVariants.{I32}
 use Rattle.core_runs.specs.declared.start.StartStep.{StartStep}
-use Rattle.core_runs.specs.Values.{Value, I32Value, fits}
+use Rattle.core_runs.specs.Values.{Value, I32Value, fits, fit}
 use Rattle.core_runs.specs.Store.{Frame, Store, Cell, Kept, Foreign, Answer, Gives, SetForeign, Stored, Now, Outcome, Returned}
-use Rattle.core_runs.specs.Execution.{and_then, seen, exec}
+use Rattle.core_runs.specs.Execution.{seen, exec}
 use Rattle.core_runs.specs.Bodies.{start}
+use Rattle.core_runs.specs.LawsOfWrappers.{NotStuck}
 use Rattle.core_runs.specs.Shims.{HasBody}
-use Rattle.core_runs.specs.Starts.{start_signature, Deed, Sums, Stores, MeansEach, read_at, deed_done, deeds_done, Filling, unfilled, filled, fill_deeds, with_globals, Filled, NoFills, Throughout, Traced}
+use Rattle.core_runs.specs.Starts.{start_signature, Deed, Sums, Stores, MeansEach, read_at, deed_done, deeds_done, Filling, unfilled, filled, fill_deeds, with_globals, Filled, NoFills, Throughout, Traced, Fills, Calls}
 
 -- A start function does the deeds that its steps mean, in order.
 abbrev pub StartsAct : Type 0
@@ -46,3 +47,24 @@ AddressesAreSums =
     ((g old : ℕ) → slice_get second.globals g ≡ Some (Kept I32 (I32Value old)) → deed_done (Sums base offset g) now ≡ Returned [] (with_globals second (slice_set second.globals g (Kept I32 (I32Value ((x + y) % 2 ^ 32))))))
     × ((g what : ℕ) → slice_get second.globals g ≡ Some (Foreign what I32) → deed_done (Sums base offset g) now ≡ Returned [] (seen second (SetForeign what (I32Value ((x + y) % 2 ^ 32)))))
     × ((memory address : ℕ) → deed_done (Stores base offset memory address) now ≡ Returned [] (seen second (Stored memory address ((x + y) % 2 ^ 32))))
+
+-- an `i32` stands here, kept or a user's
+abbrev pub IsNumber : Option Cell → Type 0
+IsNumber (Some (Kept I32 (I32Value x))) = Unit {0}
+IsNumber (Some (Foreign what I32)) = Unit {0}
+IsNumber cell = ⊥
+
+-- A deed can be done: arguments have the types, and what is added or set is an `i32`.
+abbrev pub CanBeDone : List Cell → Deed → Type 0
+CanBeDone globals (Fills g f) = ⊥
+CanBeDone globals (Calls target arguments) = fit target.signature.params arguments ≡ true
+CanBeDone globals (Sums base offset g) = IsNumber (slice_get globals base) × IsNumber (slice_get globals offset) × IsNumber (slice_get globals g)
+CanBeDone globals (Stores base offset memory address) = IsNumber (slice_get globals base) × IsNumber (slice_get globals offset)
+
+abbrev pub CanEachBeDone : List Cell → List Deed → Type 0
+CanEachBeDone globals [] = Unit {0}
+CanEachBeDone globals (d ∷ ds) = CanBeDone globals d × CanEachBeDone globals ds
+
+-- Deeds that can be done are never stuck.
+abbrev pub DeedsAreNotStuck : Type 0
+DeedsAreNotStuck = (deeds : List Deed) (now : Now) → CanEachBeDone now.globals deeds → NotStuck (deeds_done deeds now)

@@ -1,6 +1,6 @@
 -- What the sections of a module hold, list by list.
 -- Core standard, binary format: modules (the vectors of sections that come in order).
-use Rattle.std.specs.Prelude.{ℕ, List, [], ◌∷◌, ◌++◌, map, Option, Some, None}
+use Rattle.std.specs.Prelude.{List, [], ◌∷◌, ◌++◌, map, Some, None}
 use Rattle.core_bytes.specs.declared.entry.Import.{Import}
 use Rattle.core_bytes.specs.declared.section.Section.{Section}
 use Rattle.core_bytes.specs.declared.section.Section.TheVariants as sections

@@ -7,7 +7,6 @@ use Rattle.core_bytes.specs.declared.code.Body.{Body}
 use Rattle.core_runs.specs.Values.{Value, Function, fit}
 use Rattle.core_runs.specs.Store.{Frame, Func, Generated, signature_of, Store, Cell, Kept, Now, ByCode, Trapped}
 use Rattle.core_runs.specs.Execution.{exec}
-use Rattle.core_runs.specs.Bodies.{stub}
 
 -- The function at this address has this body, in a module of this frame.
 abbrev pub HasBody : Store → ℕ → Frame → FuncType → Body → Type 0

@@ -5,7 +5,6 @@ use Rattle.std.specs.List.{AllByRecursion}
 use Rattle.core_bytes.specs.declared.types.ValType.TheVariants.{Ref}
 use Rattle.core_bytes.specs.declared.types.RefType.{RefType}
 use Rattle.core_bytes.specs.declared.types.FuncType.{FuncType}
-use Rattle.core_runs.specs.declared.bracket.TaskHook.{TaskHook}
 use Rattle.core_runs.specs.declared.start.StartStep.{StartStep}
 use Rattle.core_runs.specs.declared.start.StartStep.TheVariants.{Fill, Thunk, Hook, AddressToGlobal, AddressToMemory}
 use Rattle.core_runs.specs.Hooks.{hook_number}
