@@ -9,7 +9,7 @@ use Rattle.core_runs.specs.Values.{Value, I32Value, fits, fit}
 use Rattle.core_runs.specs.Store.{Cell, Kept, Foreign, Answer, Gives, Traps, Called, SetForeign, Stored, Now, Outcome, Returned, Trapped, Open, Stuck}
 use Rattle.core_runs.specs.Execution.{with_item, where_true, and_then, answered, asked, seen, renewed, read_given, read_cell, write_cell}
 use Rattle.core_runs.specs.Starts.{Deed, Fills, Calls, Sums, Stores, read_at, write_at, added, sum_of, deed_done, deeds_done}
-use Rattle.core_runs.specs.LawsOfWrappers.{NotStuck}
+use Rattle.core_runs.specs.Expected.{NotStuck}
 use Rattle.core_runs.specs.LawsOfStarts.{IsNumber, CanBeDone, CanEachBeDone, DeedsAreNotStuck}
 use Rattle.core_runs.proofs.Throughout.{below}
 

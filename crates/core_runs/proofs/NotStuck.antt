@@ -10,7 +10,8 @@ use Rattle.core_runs.specs.Hooks.{hook_number}
 use Rattle.core_runs.specs.Values.{Value, I32Value, fit}
 use Rattle.core_runs.specs.Store.{Answer, Gives, Traps, Called, Now, Outcome, Returned, Trapped, Open, Stuck}
 use Rattle.core_runs.specs.Execution.{where_true, and_then, answered, asked, seen}
-use Rattle.core_runs.specs.LawsOfWrappers.{NotStuck, ExpectedIsNotStuck}
+use Rattle.core_runs.specs.LawsOfWrappers.{ExpectedIsNotStuck}
+use Rattle.core_runs.specs.Expected.{NotStuck}
 use Rattle.core_runs.specs.Expected.{hook_signature, hooked_if, hook_after}
 
 then_runs : (o : Outcome) (k : List Value → Now → Outcome) → NotStuck o → ((rs : List Value) (now : Now) → NotStuck (k rs now)) → NotStuck (and_then o k)

@@ -10,7 +10,7 @@ use Rattle.core_runs.specs.declared.bracket.AfterHook.TheVariants.{Nothing, Alwa
 use Rattle.core_runs.specs.declared.bracket.Bracket.{Bracket}
 use Rattle.core_runs.specs.Hooks.{hook_number}
 use Rattle.core_runs.specs.Values.{Value, I32Value, fit}
-use Rattle.core_runs.specs.Store.{Opaque, Store, Now, Outcome, Returned}
+use Rattle.core_runs.specs.Store.{Opaque, Store, Now, Outcome, Returned, Trapped, Open, Stuck}
 use Rattle.core_runs.specs.Execution.{and_then, asked, exec}
 
 -- A task hook takes one number and gives nothing.
@@ -59,3 +59,10 @@ Is store target what = slice_get store.functions target.address ≡ Some (Opaque
 -- where so many generated functions may be in progress, or more.
 pub record MeetsWithin (depth : ℕ) (store : Store) (f : ℕ) (bracket : Bracket) (hook : ℕ) (target : Known) : Type 0 where
   pub same : (n : ℕ) (arguments : List Value) (now : Now) → depth ≤ n → fit target.signature.params arguments ≡ true → exec n store f arguments now ≡ expected bracket hook target arguments now
+
+-- The run is not stuck.
+abbrev pub NotStuck : Outcome → Type 0
+NotStuck (Returned results now) = Unit {0}
+NotStuck (Trapped cause now) = Unit {0}
+NotStuck (Open now) = Unit {0}
+NotStuck Stuck = ⊥

@@ -7,7 +7,7 @@ use Rattle.core_runs.specs.Values.{Value, I32Value, fits, fit}
 use Rattle.core_runs.specs.Store.{Frame, Store, Cell, Kept, Foreign, Answer, Gives, SetForeign, Stored, Now, Outcome, Returned}
 use Rattle.core_runs.specs.Execution.{seen, exec}
 use Rattle.core_runs.specs.Bodies.{start}
-use Rattle.core_runs.specs.LawsOfWrappers.{NotStuck}
+use Rattle.core_runs.specs.Expected.{NotStuck}
 use Rattle.core_runs.specs.Shims.{HasBody}
 use Rattle.core_runs.specs.Starts.{start_signature, Deed, Sums, Stores, MeansEach, read_at, deed_done, deeds_done, Filling, unfilled, filled, fill_deeds, with_globals, Filled, NoFills, Throughout, Traced, Fills, Calls}
 

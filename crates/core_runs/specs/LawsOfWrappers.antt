@@ -9,7 +9,7 @@ use Rattle.core_runs.specs.declared.bracket.Bracket.{Bracket}
 use Rattle.core_runs.specs.Values.{Value, I32Value, fit}
 use Rattle.core_runs.specs.Store.{Frame, Store, Now, Outcome, Returned, Trapped, Open, Stuck}
 use Rattle.core_runs.specs.Execution.{and_then, asked, exec, acts}
-use Rattle.core_runs.specs.Expected.{Known, Is, hooked, expected, MeetsWithin}
+use Rattle.core_runs.specs.Expected.{Known, Is, hooked, expected, MeetsWithin, NotStuck}
 use Rattle.core_runs.specs.Bodies.{wrapper}
 use Rattle.core_runs.specs.Shims.{HasBody}
 use Rattle.core_runs.specs.Wrappers.{Reads, NamesBoth}
@@ -53,12 +53,6 @@ TargetsAreMet =
     × ((depth f : ℕ) (bracket : Bracket) (arguments : List Value) (now : Now) → MeetsWithin depth store f bracket hook target → depth ≤ 4 → fit target.signature.params arguments ≡ true → acts store f arguments now ≡ expected bracket hook target arguments now)
 
 -- What is expected is never stuck, for arguments of the target's types.
-abbrev pub NotStuck : Outcome → Type 0
-NotStuck (Returned results now) = Unit {0}
-NotStuck (Trapped cause now) = Unit {0}
-NotStuck (Open now) = Unit {0}
-NotStuck Stuck = ⊥
-
 abbrev pub ExpectedIsNotStuck : Type 0
 ExpectedIsNotStuck =
     (bracket : Bracket) (hook : ℕ) (target : Known) (arguments : List Value) (now : Now) → fit target.signature.params arguments ≡ true → NotStuck (expected bracket hook target arguments now)

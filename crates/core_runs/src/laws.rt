@@ -1,7 +1,7 @@
 //! What the bodies do: each function's contract is a law, and its body does nothing.
 
 ghost use Rattle.core_runs.specs.LawsOfInstances.{ShimsTrapAtFirst, SegmentsFill, FilledShimsHandOn};
-ghost use Rattle.core_runs.specs.LawsOfStarts.{StartsAct, StartsFillFirst, DeedsAreTraced, FilledThroughout, NumbersAreRead, AddressesAreSums};
+ghost use Rattle.core_runs.specs.LawsOfStarts.{StartsAct, StartsFillFirst, DeedsAreTraced, FilledThroughout, NumbersAreRead, AddressesAreSums, DeedsAreNotStuck};
 ghost use Rattle.core_runs.specs.Cells.{TlsIsOneCell};
 ghost use Rattle.core_runs.specs.LawsOfShims.{TableShimsHandOn, EmptyTableShimsTrap, RefShimsHandOn, StubsTrap, EmptyRefShimsTrap};
 ghost use Rattle.core_runs.specs.LawsOfWrappers.{WrappersAct, ExpectedShapes, CallbacksAct, TargetsAreMet, ExpectedIsNotStuck};
@@ -106,4 +106,9 @@ pub fn segments_fill()
 /// Where the slots of the table hold these functions, each shim of the instance acts as its function.
 pub fn filled_shims_hand_on()
     ensures { FilledShimsHandOn }
+{}
+
+/// Deeds that can be done are never stuck.
+pub fn deeds_are_not_stuck()
+    ensures { DeedsAreNotStuck }
 {}

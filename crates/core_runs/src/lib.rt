@@ -25,7 +25,7 @@ pub use bodies::{
 };
 pub use bracket::{AfterHook, Bracket, TaskHook};
 pub use laws::{
-    addresses_are_sums, callbacks_act, deeds_are_traced, empty_ref_shims_trap,
+    addresses_are_sums, callbacks_act, deeds_are_not_stuck, deeds_are_traced, empty_ref_shims_trap,
     empty_table_shims_trap, expected_is_not_stuck, expected_shapes, filled_shims_hand_on,
     filled_throughout, numbers_are_read, ref_shims_hand_on, segments_fill, shims_trap_at_first,
     starts_act, starts_fill_first, stubs_trap, table_shims_hand_on, targets_are_met,
