@@ -1,5 +1,5 @@
 -- Worked examples: bodies by their bytes, and what they do.
-use Rattle.std.proofs.Common.{◌≡◌, ℕ, List, [], ◌∷◌, refl, Some, None, Option}
+use Rattle.std.proofs.Common.{pos, ◌≡◌, ℕ, List, [], ◌∷◌, refl, Some, None, Option, false}
 use Rattle.std.specs.Prelude.{option_map}
 use Rattle.comp_bytes.specs.Spelling.{leb128}
 use Rattle.core_bytes.specs.Signed.{signed_within}
@@ -13,8 +13,11 @@ use Rattle.core_runs.specs.declared.bracket.Bracket.{Bracket}
 use Rattle.core_runs.specs.declared.start.StartStep.{StartStep}
 use Rattle.core_runs.specs.declared.start.StartStep.TheVariants.{Fill, Thunk, Hook, AddressToMemory}
 use Rattle.core_runs.specs.Values.{I32Value, Function, Value}
-use Rattle.core_runs.specs.Store.{Frame, Generated, Opaque, Store, Cell, Kept, Foreign, Gives, Called, Stored, Now, ByCode, Returned, Trapped, Stuck}
-use Rattle.core_runs.specs.Instances.{FunctionAt, TableAt, bind, Made, instance_of}
+use Rattle.core_runs.specs.Store.{Frame, Generated, Opaque, Store, Cell, Kept, Foreign, Gives, Called, Stored, Now, ByCode, Returned, Trapped, Stuck, Loaded}
+use Rattle.core_runs.specs.Instances.{FunctionAt, TableAt, MemoryAt, GlobalAt, bind, Made, instance_of, started}
+use Rattle.core_bytes.specs.declared.section.Section.{Section}
+use Rattle.core_bytes.specs.declared.section.Section.TheVariants as sections
+use Rattle.core_bytes.specs.declared.types.EntityType.TheVariants as entities
 use Rattle.core_runs.specs.Sections.{parts_of}
 use Rattle.core_bytes.proofs.Worked as given
 use Rattle.core_runs.specs.Execution.{exec, acts}
@@ -188,3 +191,31 @@ endless = record { functions = Generated (record start_frame { functions = 0 ∷
 endless_is_stuck : acts endless 0 [] quiet ≡ Stuck
 unfolding acts exec
 endless_is_stuck = refl
+
+-- A module with a data segment and a start function: its bytes are placed first, and then the start function is called.
+abbrev started_sections : List Section
+started_sections =
+    sections.Types (nothing ∷ [])
+    ∷ sections.Imports (record { module_name = []; field = []; entity = entities.Memory (record { minimum = 1; maximum = None }) } ∷ record { module_name = []; field = []; entity = entities.Global (record { val_type = I32; mutable = false }) } ∷ record { module_name = []; field = []; entity = entities.Global (record { val_type = I32; mutable = false }) } ∷ [])
+    ∷ sections.Functions (0 ∷ [])
+    ∷ sections.Start 0
+    ∷ sections.Code (start address_body ∷ [])
+    ∷ sections.Data (record { offset = pos 8; bytes = 1 ∷ 2 ∷ 3 ∷ [] } ∷ [])
+    ∷ []
+
+abbrev with_memory : Store
+with_memory = record { functions = []; tables = []; memories = record { minimum = 2; maximum = None } ∷ [] }
+
+abbrev first_now : Now
+first_now = record { globals = users; answers = Gives (I32Value 1024 ∷ []) 0 ∷ Gives (I32Value 16 ∷ []) 0 ∷ []; events = []; moments = [] }
+
+data_comes_first : option_map (λ (m : Made). started (parts_of started_sections) m) (instance_of (parts_of started_sections) (MemoryAt 0 ∷ GlobalAt 0 ∷ GlobalAt 1 ∷ []) with_memory first_now) ≡ Some (Returned [] (record { globals = users; answers = []; events = Loaded 0 8 (1 ∷ 2 ∷ 3 ∷ []) ∷ Stored 0 64 1040 ∷ []; moments = users ∷ users ∷ [] }))
+unfolding acts exec
+data_comes_first = refl
+
+-- a memory that is too small is none, and neither is a global of another kind
+too_small : instance_of (parts_of started_sections) (MemoryAt 0 ∷ GlobalAt 0 ∷ GlobalAt 1 ∷ []) (record with_memory { memories = record { minimum = 0; maximum = None } ∷ [] }) first_now ≡ None
+too_small = refl
+
+of_another_kind : instance_of (parts_of started_sections) (MemoryAt 0 ∷ TableAt 0 ∷ GlobalAt 1 ∷ []) with_memory first_now ≡ None
+of_another_kind = refl

@@ -34,7 +34,7 @@ fit (t ∷ ts) (v ∷ vs) = fits t v && fit ts vs
 fit [] (v ∷ vs) = false
 fit (t ∷ ts) [] = false
 
--- what a local variable holds at first
+-- what a local variable holds at first; no generated body has one of a reference type, which would be null
 abbrev pub zero_of : ValType → Value
 zero_of I32 = I32Value 0
 zero_of I64 = I64Value 0

@@ -12,7 +12,8 @@
 //! types, and whatever else stands in the store.
 //!
 //! In reading order: `bracket` (task hooks), `start` (steps of start functions), `bodies` (what is
-//! built), `laws` (what the bodies do). Worked examples stand in `proofs/Worked.antt`.
+//! built), `laws` (what the bodies do). `specs/Instances.antt` says what making an instance of a module
+//! does. Worked examples stand in `proofs/Worked.antt`.
 #![tactic(auto)]
 
 mod bodies;
