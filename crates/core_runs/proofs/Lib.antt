@@ -1,0 +1,14 @@
+pub mod Growing
+pub mod Runs
+pub mod Shims
+pub mod Refs
+pub mod Wrappers
+pub mod NotStuck
+pub mod Meetings
+pub mod Worked
+pub mod Deeds
+pub mod Throughout
+pub mod Traces
+pub mod TlsCells
+pub mod Instances
+pub mod Doable

@@ -1,0 +1,5 @@
+use Rattle.core_runs.proofs.Meetings as lemmas
+use Rattle.core_runs.proofs.laws.callbacks_act.Goals as goal
+
+pub returns : goal.returns
+returns c = lemmas.callbacks_act

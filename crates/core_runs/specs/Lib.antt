@@ -1,0 +1,16 @@
+pub mod Hooks
+pub mod Values
+pub mod Store
+pub mod Execution
+pub mod Bodies
+pub mod Expected
+pub mod Shims
+pub mod Wrappers
+pub mod Starts
+pub mod LawsOfStarts
+pub mod Cells
+pub mod LawsOfShims
+pub mod LawsOfWrappers
+pub mod Instances
+pub mod Sections
+pub mod LawsOfInstances

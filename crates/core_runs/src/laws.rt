@@ -1,0 +1,114 @@
+//! What the bodies do: each function's contract is a law, and its body does nothing.
+
+ghost use Rattle.core_runs.specs.LawsOfInstances.{ShimsTrapAtFirst, SegmentsFill, FilledShimsHandOn};
+ghost use Rattle.core_runs.specs.LawsOfStarts.{StartsAct, StartsFillFirst, DeedsAreTraced, FilledThroughout, NumbersAreRead, AddressesAreSums, DeedsAreNotStuck};
+ghost use Rattle.core_runs.specs.Cells.{TlsIsOneCell};
+ghost use Rattle.core_runs.specs.LawsOfShims.{TableShimsHandOn, EmptyTableShimsTrap, RefShimsHandOn, StubsTrap, EmptyRefShimsTrap};
+ghost use Rattle.core_runs.specs.LawsOfWrappers.{WrappersAct, ExpectedShapes, CallbacksAct, TargetsAreMet, ExpectedIsNotStuck};
+
+/// A filled shim of the table form acts as the function in its slot: it hands on all parameters and
+/// gives back all results.
+pub fn table_shims_hand_on()
+    ensures { TableShimsHandOn }
+{}
+
+/// A shim of the table form whose slot is empty traps, with no event.
+pub fn empty_table_shims_trap()
+    ensures { EmptyTableShimsTrap }
+{}
+
+/// A shim of the reference form acts as the function that its global holds.
+pub fn ref_shims_hand_on()
+    ensures { RefShimsHandOn }
+{}
+
+/// A stub traps, with no event.
+pub fn stubs_trap()
+    ensures { StubsTrap }
+{}
+
+/// A shim of the reference form whose global still holds a stub traps, with no event.
+pub fn empty_ref_shims_trap()
+    ensures { EmptyRefShimsTrap }
+{}
+
+/// A wrapper acts as its bracket and its target say, whatever the arguments and the answers.
+pub fn wrappers_act()
+    ensures { WrappersAct }
+{}
+
+/// What is expected of a bracketed target, shape by shape.
+pub fn expected_shapes()
+    ensures { ExpectedShapes }
+{}
+
+/// A wrapper that reads a code calls hook 5 where it is 0, and else hook 4, and gives the code back.
+pub fn callbacks_act()
+    ensures { CallbacksAct }
+{}
+
+/// What is expected of a target is met by itself, by its wrapper, and through shims up to a depth of four.
+pub fn targets_are_met()
+    ensures { TargetsAreMet }
+{}
+
+/// A start function does the deeds that its steps mean, in order.
+pub fn starts_act()
+    ensures { StartsAct }
+{}
+
+/// A start function that begins with fills goes on where all is filled and nothing else has changed:
+/// fills make no event.
+pub fn starts_fill_first()
+    ensures { StartsFillFirst }
+{}
+
+/// Deeds make exactly their events, in order; a run that ends early has made those of the first few.
+pub fn deeds_are_traced()
+    ensures { DeedsAreTraced }
+{}
+
+/// Behind the fills everything is filled from the first event on, also in a run that ends early.
+pub fn filled_throughout()
+    ensures { FilledThroughout }
+{}
+
+/// A global of a generated module is read as it is, and one of a user takes an answer, with no event.
+pub fn numbers_are_read()
+    ensures { NumbersAreRead }
+{}
+
+/// An address is initialised to the sum of two globals: in a global, or in memory 0.
+pub fn addresses_are_sums()
+    ensures { AddressesAreSums }
+{}
+
+/// Over every list of calls the two functions of a thread-local cell are one cell, with no event.
+pub fn tls_is_one_cell()
+    ensures { TlsIsOneCell }
+{}
+
+/// What is expected of a bracketed target is never stuck.
+pub fn expected_is_not_stuck()
+    ensures { ExpectedIsNotStuck }
+{}
+
+/// Before their table is filled the shims of an instance trap, with no event, whatever else is made.
+pub fn shims_trap_at_first()
+    ensures { ShimsTrapAtFirst }
+{}
+
+/// An element segment of another instance fills the table of the shims, from slot 0 on.
+pub fn segments_fill()
+    ensures { SegmentsFill }
+{}
+
+/// Where the slots of the table hold these functions, each shim of the instance acts as its function.
+pub fn filled_shims_hand_on()
+    ensures { FilledShimsHandOn }
+{}
+
+/// Deeds that can be done are never stuck.
+pub fn deeds_are_not_stuck()
+    ensures { DeedsAreNotStuck }
+{}

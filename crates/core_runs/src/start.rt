@@ -1,0 +1,33 @@
+//! Steps of start functions.
+
+use crate::bracket::TaskHook;
+
+/// A step of a start function, with indices of its module.
+#[derive(Clone, Copy, PartialEq, Eq, Debug)]
+pub enum StartStep {
+    /// A global gets a reference to a function.
+    Fill {
+        global: u32,
+        function: u32,
+    },
+    /// A function with no parameters and no results is called.
+    Thunk(u32),
+    /// A task hook is called.
+    Hook {
+        hook: u32,
+        moment: TaskHook,
+    },
+    /// A global gets the sum of two others, all `i32`: where a library stands in memory, and how far
+    /// behind that an item of it stands.
+    AddressToGlobal {
+        base: u32,
+        offset: u32,
+        global: u32,
+    },
+    /// The same sum is stored at an address of memory 0.
+    AddressToMemory {
+        base: u32,
+        offset: u32,
+        address: u32,
+    },
+}
