@@ -1,8 +1,8 @@
 -- Making an instance of a generated module: its imports are matched, it is allocated, its segments are placed, and its
 -- start function is called.
 -- Core standard, execution: modules, instantiation. This project's own: the names of imports are met before; a table has
--- as many slots as it ever will; whether a global is mutable, and whether bytes lie within their memory, is not asked;
--- bytes that are placed are an event.
+-- as many slots as it ever will, and is imported by its size alone; whether a global is mutable, and whether bytes lie
+-- within their memory, is not asked; bytes that are placed are an event.
 use Rattle.std.specs.Prelude.{ℕ, ◌+◌, Bool, true, false, ◌&&◌, if◌then◌else◌, nat_le, List, [], ◌∷◌, ◌++◌, length, map, take, drop, replicate, Option, Some, None, slice_get, slice_set, option_map}
 use Rattle.std.specs.List.{range_with_len}
 use Rattle.std.specs.Int.{cast_unsigned, w32, w64}

@@ -1,5 +1,5 @@
-//! Core signatures, over every kind of type and every form of call. The expected values are worked out
-//! from the Canonical ABI (`flatten_functype`, `flatten_type`, `join`), and not by this crate.
+//! Core signatures, over every kind of type and every form of call. The expected values are those of an
+//! independent encoder that was written from the Canonical ABI (`flatten_functype`, `flatten_type`, `join`).
 
 use super::making::{Made, Part, Row, at, function_of, of, prim, resolve_of};
 use crate::functions::{AbiVariant, Function};
