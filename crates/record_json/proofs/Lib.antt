@@ -1,0 +1,4 @@
+pub mod Escaping
+pub mod Loop
+pub mod Texts
+pub mod Arrays

@@ -1,0 +1,40 @@
+//! What a reader knows of the types that may be named.
+
+use comp_lists::{Keyed, Seq, Text};
+use record_values::{Func, Typed};
+
+/// How large a type is: how many types stand below one another in it, and how many nodes its tree has,
+/// counted as `wit_data` counts them.
+#[derive(Clone, Copy, Debug, PartialEq, Eq)]
+pub struct Size {
+    pub levels: usize,
+    pub nodes: usize,
+}
+
+/// What is known of a named type.
+#[derive(Clone, Copy, Debug, PartialEq, Eq)]
+pub struct TypeFacts {
+    pub size: Size,
+    /// Whether it is a resource itself.
+    pub is_resource: bool,
+    /// Whether it is a resource, or another name for one.
+    pub ends_at_resource: bool,
+}
+
+/// An interface as it was read: its id, its types and functions in order, and what is known of its
+/// types. Its types and those of others are named by the places of interfaces in the record.
+#[derive(Drop)]
+pub struct ReadInterface {
+    pub id: Option<Text>,
+    pub types: Seq<Typed>,
+    pub functions: Seq<Func>,
+    pub known: Keyed<Text, TypeFacts>,
+}
+
+/// The types that may be named at a place: those of the interfaces before, and those of the interface
+/// that is being read, or of the world.
+pub struct Scope<'a> {
+    pub done: &'a [ReadInterface],
+    pub current: &'a Keyed<Text, TypeFacts>,
+    pub is_world: bool,
+}

@@ -1,0 +1,31 @@
+//! What records say, as values: interfaces, types and functions by name, the items of a world, and what
+//! core imports and core exports are for.
+//!
+//! Nothing in these values is a number that only means something in one record. An interface goes by its
+//! id, or by the name under which the world imports or exports it; a type by its owner and its name
+//! ([`TypeName`]); so what two records say can be compared as it stands, and joining them renumbers
+//! nothing. A type is the list of its nodes, each behind its parts ([`Node`]): equal types are equal
+//! lists, and which types it names is read off the list.
+//!
+//! Upward this crate promises copies that are equal, and what becomes of all this where interfaces
+//! become others (`specs/Renaming.antt`). It knows nothing of JSON.
+//!
+//! In reading order: `names` (interfaces, owners, named types), `types` (nodes, functions, interfaces),
+//! `world` (the items of a world), `roles` (what core imports and exports are for), `record` (what one
+//! record says), `copies`, `renaming`.
+#![tactic(auto)]
+
+mod copies;
+mod names;
+mod record;
+mod renaming;
+mod roles;
+mod types;
+mod world;
+
+pub use names::{InterfaceName, Owner, TypeName};
+pub use record::{Assigned, ImportName, Record};
+pub use renaming::{rename_interface, rename_item, rename_name};
+pub use roles::{ExportRole, ImportRole, Intrinsic, Payload, PayloadOperation, PlainExport};
+pub use types::{Case, Func, Interface, Node, Typed};
+pub use world::{Item, ItemKey, Wit};

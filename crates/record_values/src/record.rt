@@ -1,0 +1,69 @@
+//! What one record says of its module.
+
+use crate::roles::{ExportRole, ImportRole};
+use crate::world::Wit;
+use comp_lists::{Seq, Text};
+use comp_worlds::StringEncoding;
+use std::hash::{Hash, Hasher};
+
+/// A core import: its module and its field.
+#[derive(Debug, Drop)]
+pub struct ImportName {
+    pub module: Text,
+    pub field: Text,
+}
+
+/// A core import or export, by its name, and what it is for.
+#[derive(Debug, Drop)]
+pub struct Assigned<K, R> {
+    pub key: K,
+    pub role: R,
+}
+
+/// What one record says: the world, the roles of core imports and exports in their order, how all
+/// functions of the world spell texts, and whether the task's second slot of storage is free.
+#[derive(Drop)]
+pub struct Record {
+    pub wit: Wit,
+    pub encoding: StringEncoding,
+    pub context_slot_1: bool,
+    pub import_roles: Seq<Assigned<ImportName, ImportRole>>,
+    pub export_roles: Seq<Assigned<Text, ExportRole>>,
+}
+
+impl PartialEq for ImportName {
+    ghost use Rattle.std.proofs.Common.{rules};
+    ghost use Rattle.std.specs.Cmp.Rules.{comparing};
+    ghost use Rattle.record_values.specs.Names.{is_same_import};
+
+    ghost eq = { is_same_import };
+
+    ghost laws = { Prim.search (comparing, rules) };
+
+    fn eq(&self, other: &Self) -> bool {
+        self.module == other.module && self.field == other.field
+    }
+}
+
+impl Eq for ImportName {
+    ghost use Rattle.std.proofs.Common.{rules};
+    ghost use Rattle.std.specs.Cmp.Rules.{comparing};
+
+    ghost laws = { Prim.search (comparing, rules) };
+}
+
+impl Hash for ImportName {
+    ghost use Rattle.std.proofs.Common.{rules};
+    ghost use Rattle.std.specs.Prelude.{◌++◌};
+    ghost use Rattle.std.specs.Cmp.Rules.{hashing};
+    ghost use Rattle.std.specs.Hash as fed;
+
+    ghost hash_input = { λ n. fed.str n.«module» ++ fed.str n.field };
+
+    ghost respects_eq = { Prim.search (hashing, rules) };
+
+    fn hash<H: Hasher>(&self, state: &mut H) {
+        self.module.hash(state);
+        self.field.hash(state);
+    }
+}

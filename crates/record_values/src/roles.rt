@@ -1,0 +1,150 @@
+//! What the imports and exports of a core module are for.
+
+use crate::names::{Owner, TypeName};
+use comp_bytes::ExportKind;
+use comp_lists::Text;
+use comp_worlds::StringEncoding;
+use core_bytes::ValType;
+use wit_data::AbiVariant;
+
+/// A built-in function without arguments of its own (Canonical ABI: `canon` built-ins).
+#[derive(Clone, Copy, Debug, PartialEq, Eq)]
+pub enum Intrinsic {
+    TaskCancel,
+    BackpressureInc,
+    BackpressureDec,
+    WaitableSetNew,
+    WaitableSetWait,
+    WaitableSetPoll,
+    WaitableSetDrop,
+    WaitableJoin,
+    SubtaskDrop,
+    ErrorContextDrop,
+}
+
+/// What is done to a stream or a future (Canonical ABI: `stream.new`, `future.read` and the like).
+#[derive(Clone, Copy, Debug, PartialEq, Eq)]
+pub enum PayloadOperation {
+    New,
+    Read,
+    Write,
+    CancelRead,
+    CancelWrite,
+    DropReadable,
+    DropWritable,
+}
+
+/// A stream or a future: one without values, or that which is met at an index in the parameters and
+/// then the result of a function that the world imports or exports.
+#[derive(Debug, Drop, PartialEq, Eq)]
+pub enum Payload {
+    Unit,
+    Met {
+        imported: bool,
+        owner: Owner,
+        function: Text,
+        index: u32,
+    },
+}
+
+/// What a core import is for.
+#[derive(Debug, Drop, PartialEq, Eq)]
+pub enum ImportRole {
+    /// A function that the world or an imported interface has, and how it is called.
+    Function {
+        owner: Owner,
+        name: Text,
+        abi: AbiVariant,
+    },
+    /// `resource.drop` of an imported resource.
+    ImportedDrop(TypeName),
+    /// `resource.drop`, `resource.rep` and `resource.new` of an exported resource.
+    ExportedDrop(TypeName),
+    ExportedRep(TypeName),
+    ExportedNew(TypeName),
+    /// `task.return` of an exported function.
+    TaskReturn {
+        owner: Owner,
+        function: Text,
+    },
+    Intrinsic(Intrinsic),
+    SubtaskCancel {
+        is_async: bool,
+    },
+    /// An operation on a stream; only reads, writes and their cancellations can be asynchronous.
+    Stream {
+        operation: PayloadOperation,
+        payload: Payload,
+        is_async: bool,
+    },
+    /// An operation on a future.
+    Future {
+        operation: PayloadOperation,
+        payload: Payload,
+        is_async: bool,
+    },
+    ErrorContextNew(StringEncoding),
+    ErrorContextDebugMessage(StringEncoding),
+    /// `context.get` and `context.set` of a slot.
+    ContextGet {
+        ty: ValType,
+        slot: u32,
+    },
+    ContextSet {
+        ty: ValType,
+        slot: u32,
+    },
+    /// The base address of the thread-local data of the running task.
+    TlsGet(ValType),
+    TlsSet(ValType),
+    /// The memory of the main module.
+    Memory,
+    /// An export of the main module.
+    MainExport {
+        name: Text,
+        kind: ExportKind,
+    },
+    /// A function that an adapter exports.
+    AdapterExport {
+        adapter: Text,
+        function: Text,
+    },
+}
+
+/// An export with a meaning of its own, whatever the world.
+#[derive(Clone, Copy, Debug, PartialEq, Eq, Hash)]
+pub enum PlainExport {
+    Memory,
+    /// The realloc of all calls that have none of their own.
+    Realloc,
+    ImportRealloc,
+    ExportRealloc,
+    /// It has no effect.
+    AdapterRealloc,
+    Initialize,
+    TaskHook,
+}
+
+/// What a core export is for.
+#[derive(Debug, Drop, PartialEq, Eq, Hash)]
+pub enum ExportRole {
+    /// A function that the world or an exported interface has, and how it is called.
+    Function {
+        owner: Owner,
+        name: Text,
+        abi: AbiVariant,
+    },
+    /// What is called with the core results of a function once they were read.
+    PostReturn {
+        owner: Owner,
+        function: Text,
+    },
+    /// What an asynchronous function goes on with.
+    Callback {
+        owner: Owner,
+        function: Text,
+    },
+    /// The destructor of an exported resource.
+    Destructor(TypeName),
+    Plain(PlainExport),
+}
