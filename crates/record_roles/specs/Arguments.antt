@@ -1,5 +1,5 @@
 -- The arguments of a role, which stand behind its kind in one array, and the values that many kinds take.
-use Rattle.std.specs.Prelude.{⊤, ℕ, ◌==◌, ◌^◌, List, codes, Bool, Option, Some, None, ok_or, option_and_then, Result, Ok, Err, if◌then◌else◌}
+use Rattle.std.specs.Prelude.{ℕ, ◌==◌, ◌^◌, List, codes, Bool, Option, Some, None, ok_or, option_and_then, Result, Ok, Err, if◌then◌else◌}
 use Rattle.std.specs.Str.{bytes_eq}
 use Rattle.serde_json.specs.Data.{Data, Items, no_items, item}
 use Rattle.serde_json.specs.Find.{as_array}
@@ -17,9 +17,9 @@ use Rattle.record_json.specs.Reading.{here, text_of, number_of}
 
 -- ---- how many there are
 
-abbrev pub none_of : Items → Option ⊤
+abbrev pub none_of : Items → Option Data
 none_of no_items = None
-none_of (item k no_items) = Some tt
+none_of (item k no_items) = Some k
 none_of (item k (item a as')) = None
 
 abbrev pub one_of : Items → Option Data
@@ -47,7 +47,8 @@ abbrev pub first_of : Items → Option Data
 first_of no_items = None
 first_of (item d ds) = Some d
 
-unfoldable pub no_argument : Data → Result ⊤ Failure
+-- the kind alone
+unfoldable pub no_argument : Data → Result Data Failure
 no_argument d = ok_or (option_and_then none_of (as_array d)) here
 
 unfoldable pub one_argument : Data → Result Data Failure

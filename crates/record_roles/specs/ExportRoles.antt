@@ -1,5 +1,5 @@
 -- What a core export is for: which value of JSON is which role, and what must stand in the world for it.
-use Rattle.std.specs.Prelude.{List, codes, Option, Some, None, ok_or, option_and_then, Result, Ok, Err}
+use Rattle.std.specs.Prelude.{ℕ, List, codes, Option, Some, None, ok_or, option_and_then, Result, Ok, Err}
 use Rattle.serde_json.specs.Data.{Data}
 use Rattle.serde_json.specs.Find.{as_array}
 use Rattle.record_json.specs.declared.fault.Failure.{Failure}

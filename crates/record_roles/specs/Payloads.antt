@@ -1,6 +1,6 @@
 -- The streams and futures that are met in a function: those of its parameters in order, then those of its
 -- result, each behind the ones inside it. Types that have a name are entered, handles aren't.
-use Rattle.std.specs.Prelude.{List, [], ◌∷◌, ◌++◌, ◌×◌, map, Option, Some, None}
+use Rattle.std.specs.Prelude.{List, [], ◌∷◌, ◌++◌}
 use Rattle.std.specs.Option.{option_map_or, unwrap_or}
 use Rattle.std.specs.List.{flat_map}
 use Rattle.std.specs.Map.{lookup}

@@ -15,11 +15,11 @@ use std::alloc::Global;
 use wit_data::AbiVariant;
 
 #[tactic(auto, using(crate::proofs::Lengths::few_for_none, crate::proofs::Lengths::many_for_none))]
-fn none(value: &Value) -> Option<()>
-    ensures { result ≡ option_and_then none_of (as_array (view value.now)) }
+fn none(value: &Value) -> Option<&Value>
+    ensures { option_map (λ v. view v.now) result ≡ option_and_then none_of (as_array (view value.now)) }
 {
     match value.as_array()?.as_slice() {
-        [_] => Some(()),
+        [kind] => Some(kind),
         _ => None,
     }
 }
@@ -65,8 +65,8 @@ pub(crate) fn first(value: &Value) -> Option<&Value>
 }
 
 #[tactic(auto, unfolding(crate::specs::Arguments::no_argument))]
-pub(crate) fn no_argument(alloc: Global, value: &Value) -> Result<(), Failure>
-    ensures { Gives (λ x. x) result (no_argument (view value.now)) }
+pub(crate) fn no_argument(alloc: Global, value: &Value) -> Result<&Value, Failure>
+    ensures { Gives (λ v. view v.now) result (no_argument (view value.now)) }
 {
     none(value).ok_or(fault_here(alloc))
 }

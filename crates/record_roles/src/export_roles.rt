@@ -19,11 +19,7 @@ use serde_json::Value;
 use std::alloc::Global;
 
 #[tactic(auto, unfolding(crate::specs::ExportRoles::world_func_of))]
-fn read_world_func(
-    alloc: Global,
-    world: &RecordWorld,
-    value: &Value,
-) -> Result<ExportRole, Failure>
+fn read_world_func(alloc: Global, world: &RecordWorld, value: &Value) -> Result<ExportRole, Failure>
     ensures { Gives (λ r. r) result (world_func_of world.now (view value.now)) }
 {
     let (name, abi) = two_arguments(alloc, value)?;
@@ -120,11 +116,7 @@ fn read_interface_callback(
     Ok(ExportRole::Callback { owner, function })
 }
 
-fn read_destructor(
-    alloc: Global,
-    world: &RecordWorld,
-    value: &Value,
-) -> Result<ExportRole, Failure>
+fn read_destructor(alloc: Global, world: &RecordWorld, value: &Value) -> Result<ExportRole, Failure>
     ensures { Gives (λ r. r) result (destructor_of world.now (view value.now)) }
 {
     let named = read_exported_resource(alloc, world, value)?;

@@ -22,11 +22,7 @@ use serde_json::Value;
 use std::alloc::Global;
 
 #[tactic(auto, unfolding(crate::specs::ImportRoles::world_func_of))]
-fn read_world_func(
-    alloc: Global,
-    world: &RecordWorld,
-    value: &Value,
-) -> Result<ImportRole, Failure>
+fn read_world_func(alloc: Global, world: &RecordWorld, value: &Value) -> Result<ImportRole, Failure>
     ensures { Gives (λ r. r) result (world_func_of world.now (view value.now)) }
 {
     let (name, abi) = two_arguments(alloc, value)?;

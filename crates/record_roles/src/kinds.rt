@@ -1,7 +1,7 @@
 //! The kinds of roles, by their names.
 
 ghost use Rattle.std.specs.Prelude.{◌≡◌};
-ghost use Rattle.record_roles.specs.Kinds.{intrinsic_from, operation_from, payload_from, builtin_from, other_from, import_from, plain_from, export_from};
+ghost use Rattle.record_roles.specs.Kinds.{intrinsic_from, payload_from, builtin_from, other_from, import_from, plain_from, export_from};
 
 use record_values::{Intrinsic, PayloadKind, PayloadOperation, PlainExport};
 

@@ -1,6 +1,6 @@
 //! What is done to streams and futures.
 
-ghost use Rattle.std.specs.Prelude.{◌≡◌, IfOk};
+ghost use Rattle.std.specs.Prelude.{◌≡◌, ◌<◌, ◌^◌, IfOk, codes};
 ghost use Rattle.serde_json.specs.View.{view};
 ghost use Rattle.record_json.specs.Faults.{Gives};
 ghost use Rattle.record_roles.specs.ImportRoles.{kind_name, unit_of, side_of, is_kind, is_met, bool_at, owner_member, function_member, index_member, met_payload, met_of, payload_of, can_be_async, sync_payload_of, async_payload_of, payload_role_of};
@@ -112,7 +112,8 @@ fn function_member(
 }
 
 fn index_member(alloc: Global, value: &Value) -> Result<u64, Failure>
-    ensures { Gives (λ i. i) result (index_member (view value.now)) }
+    ensures exact { Gives (λ i. i) result (index_member (view value.now)) }
+    ensures below { IfOk result (λ i. i < 2 ^ 32) }
 {
     let member = required(alloc, value, "index")?;
     under(alloc, "index", read_number(alloc, 1 << 32, member))
@@ -155,7 +156,11 @@ fn read_met(
 ) -> Result<Payload, Failure>
     ensures { Gives (λ p. p) result (met_of world.now met.now kind (view value.now)) }
 {
-    check_members(alloc, value, &["imported", "interface", "function", "index"])?;
+    check_members(
+        alloc,
+        value,
+        &["imported", "interface", "function", "index"],
+    )?;
     let imported = imported_member(alloc, value)?;
     let side = side_of(imported);
     let place = owner_member(alloc, world, side, value)?;

@@ -1,6 +1,7 @@
 //! Streams and futures that are met in functions.
 
 ghost use Rattle.std.specs.Prelude.{◌≡◌, ◌++◌, IfOk, OnOk};
+ghost use Rattle.std.specs.List.{flat_map};
 ghost use Rattle.record_roles.specs.Payloads.{Met, met_at, met_in, met_in_function, with_type, with_types, with_interfaces, with_item, with_items, all_met};
 
 use comp_lists::{Keyed, Seq, Text, TryClone};
@@ -60,11 +61,7 @@ pub(crate) fn met_in_function(
     Ok(out)
 }
 
-fn met_in_params(
-    alloc: Global,
-    met: &Met,
-    params: &[Typed],
-) -> Result<Seq<PayloadKind>, AllocError>
+fn met_in_params(alloc: Global, met: &Met, params: &[Typed]) -> Result<Seq<PayloadKind>, AllocError>
     ensures { IfOk result (λ ks. ks ≡ flat_map (λ p. met_in met.now p.nodes) params.now) }
 {
     let mut out = Seq::new(alloc);
@@ -74,12 +71,7 @@ fn met_in_params(
     Ok(out)
 }
 
-fn add_type(
-    alloc: Global,
-    met: &mut Met,
-    name: TypeName,
-    nodes: &[Node],
-) -> Result<(), AllocError>
+fn add_type(alloc: Global, met: &mut Met, name: TypeName, nodes: &[Node]) -> Result<(), AllocError>
     ensures { OnOk result (met.new ≡ with_type met.old name nodes.now) }
 {
     let mut kinds = Seq::new(alloc);
@@ -116,12 +108,7 @@ fn add_interfaces(
     Ok(())
 }
 
-fn add_item(
-    alloc: Global,
-    met: &mut Met,
-    key: &ItemKey,
-    item: &Item,
-) -> Result<(), AllocError>
+fn add_item(alloc: Global, met: &mut Met, key: &ItemKey, item: &Item) -> Result<(), AllocError>
     ensures { OnOk result (met.new ≡ with_item met.old key.now item.now) }
 {
     match item {
@@ -134,11 +121,7 @@ fn add_item(
     }
 }
 
-fn add_items(
-    alloc: Global,
-    met: &mut Met,
-    items: &Keyed<ItemKey, Item>,
-) -> Result<(), AllocError>
+fn add_items(alloc: Global, met: &mut Met, items: &Keyed<ItemKey, Item>) -> Result<(), AllocError>
     ensures { OnOk result (met.new ≡ with_items met.old items.now) }
 {
     for (key, item) in items.entries() {

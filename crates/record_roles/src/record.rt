@@ -4,6 +4,9 @@ ghost use Rattle.std.specs.Prelude.{◌≡◌, codes};
 ghost use Rattle.serde_json.specs.Find.{get};
 ghost use Rattle.serde_json.specs.View.{view};
 ghost use Rattle.record_json.specs.Faults.{Gives};
+ghost use Rattle.std.specs.Fmt.{decimal};
+ghost use Rattle.record_json.specs.Reading.{under};
+ghost use Rattle.record_roles.specs.Payloads.{all_met};
 ghost use Rattle.record_roles.specs.Records.{import_role_at, export_role_at, core_import_of, core_export_of, core_imports_of, core_exports_of, core_imports_if, core_exports_if, version_of, encoding_if, only_known, with_world, record_of, record_in};
 
 use crate::arguments::read_encoding;
@@ -77,6 +80,20 @@ fn read_core_export(
     Ok(Assigned { key, role })
 }
 
+/// The core import at an index.
+fn import_at(
+    alloc: Global,
+    world: &RecordWorld,
+    met: &Met,
+    index: usize,
+    value: &Value,
+) -> Result<Assigned<ImportName, ImportRole>, Failure>
+    ensures { Gives (λ a. a) result (under (decimal index) (core_import_of world.now met.now (view value.now))) }
+{
+    let import = read_core_import(alloc, world, met, value);
+    under_index(alloc, index, import)
+}
+
 #[tactic(auto, unfolding(crate::specs::Records::core_imports_of))]
 fn read_core_imports(
     alloc: Global,
@@ -91,7 +108,7 @@ fn read_core_imports(
     };
     let mut items = Seq::new(alloc);
     for (index, value) in values.iter().enumerate() {
-        let item = under_index(alloc, index, read_core_import(alloc, world, met, value))?;
+        let item = import_at(alloc, world, met, index, value)?;
         items.push(item)?;
     }
     Ok(items)
@@ -142,7 +159,11 @@ fn core_exports_member(
 {
     match value.get("core-exports") {
         None => Ok(Seq::new(alloc)),
-        Some(member) => under(alloc, "core-exports", read_core_exports(alloc, world, member)),
+        Some(member) => under(
+            alloc,
+            "core-exports",
+            read_core_exports(alloc, world, member),
+        ),
     }
 }
 
@@ -185,6 +206,18 @@ fn encoding_member(alloc: Global, value: &Value) -> Result<StringEncoding, Failu
     }
 }
 
+/// What each core import is for.
+fn import_roles_of(
+    alloc: Global,
+    world: &RecordWorld,
+    value: &Value,
+) -> Result<Seq<Assigned<ImportName, ImportRole>>, Failure>
+    ensures { Gives (λ x. x) result (core_imports_if world.now (all_met world.now.wit) (get (codes "core-imports") (view value.now))) }
+{
+    let met = all_met(alloc, &world.wit)?;
+    core_imports_member(alloc, world, &met, value)
+}
+
 /// What a record says, of which the world was read.
 #[tactic(auto, unfolding(crate::specs::Records::with_world))]
 fn add_world(
@@ -196,8 +229,7 @@ fn add_world(
 ) -> Result<Record, Failure>
     ensures { Gives (λ r. r) result (with_world encoding context_slot_1 (view value.now) world) }
 {
-    let met = all_met(alloc, &world.wit)?;
-    let import_roles = core_imports_member(alloc, &world, &met, value)?;
+    let import_roles = import_roles_of(alloc, &world, value)?;
     let export_roles = core_exports_member(alloc, &world, value)?;
     Ok(Record {
         wit: world.wit,
