@@ -53,6 +53,7 @@ module _ {K X : Type 0} (eq : K → K → Bool) (laws : IsEquivalence eq) where
         choose : (y : X) → lookup (eq e.0) a ≡ Some y → (b : Bool) → ((if b then Ok a else Err (conflict (text e.0))) >>= λ u. joined eq same text u es) ≡ Ok t → ((more : List (K × X)) → joined eq same text more es ≡ Ok t → lookup (eq k) t ≡ or_else (lookup (eq k) more) (lookup (eq k) es)) → lookup (eq k) t ≡ or_else (lookup (eq k) a) (cond (eq k e.0) (Some e.1) (lookup (eq k) es))
         choose y there true p ih = ih a p ∙ hidden k e.0 a y e.1 (lookup (eq k) es) there
         choose y there false p ih = absurd (true≢false (sym (ap is_ok p)))
+
         by : (l : Option X) → lookup (eq e.0) a ≡ l → (option_map_or (λ y. if same y e.1 then Ok a else Err (conflict (text e.0))) l (Ok (a ++ e ∷ [])) >>= λ u. joined eq same text u es) ≡ Ok t → ((more : List (K × X)) → joined eq same text more es ≡ Ok t → lookup (eq k) t ≡ or_else (lookup (eq k) more) (lookup (eq k) es)) → lookup (eq k) t ≡ or_else (lookup (eq k) a) (cond (eq k e.0) (Some e.1) (lookup (eq k) es))
         by None there p ih = ih (a ++ e ∷ []) p ∙ lookup_last k a e (lookup (eq k) es)
         by (Some y) there p ih = choose y there (same y e.1) p ih

@@ -26,12 +26,12 @@ pub record IsInBoth {K X : Type 0} (eq : K → K → Bool) (text : K → List �
 
 -- why two worlds can't be joined
 pub data WorldCause (a b : Wit) (failure : Failure) : Type 0 where
-  pub no_memory : failure ≡ failures.Memory → WorldCause a b failure
-  pub interface_differs : Differs is_same_interface name_text a.interfaces b.interfaces failure → WorldCause a b failure
-  pub import_differs : Differs is_same_item key_text a.imports b.imports failure → WorldCause a b failure
-  pub exported_twice : IsInBoth is_same_item key_text a.exports b.exports failure → WorldCause a b failure
+  no_memory : failure ≡ failures.Memory → WorldCause a b failure
+  interface_differs : Differs is_same_interface name_text a.interfaces b.interfaces failure → WorldCause a b failure
+  import_differs : Differs is_same_item key_text a.imports b.imports failure → WorldCause a b failure
+  exported_twice : IsInBoth is_same_item key_text a.exports b.exports failure → WorldCause a b failure
 
 -- what may be told of a step that can also lack memory
 pub data Unless (cause : Failure → Type 0) (failure : Failure) : Type 0 where
-  pub memory : failure ≡ failures.Memory → Unless cause failure
-  pub caused : cause failure → Unless cause failure
+  memory : failure ≡ failures.Memory → Unless cause failure
+  caused : cause failure → Unless cause failure

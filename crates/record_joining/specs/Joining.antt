@@ -18,6 +18,7 @@ use Rattle.record_values.specs.Names.{is_same_import}
 use Rattle.wit_data.specs.declared.functions.AbiVariant.TheVariants as abis
 use Rattle.record_joining.specs.declared.bindgen.Roles.{Roles}
 use Rattle.record_joining.specs.declared.bindgen.Bindgen.{Bindgen}
+use Rattle.record_joining.specs.declared.assigning.RoleTables.{RoleTables}
 use Rattle.record_joining.specs.Said.{no_wit}
 use Rattle.record_joining.specs.Tables.{with_entry, apart}
 use Rattle.record_joining.specs.Merging.{Tests, merged_wit}
@@ -46,14 +47,19 @@ without_abi role = role
 abbrev pub one_field_each : (ExportRole → ExportRole → Bool) → List (List ℕ × ExportRole) → Result (List (ExportRole × List ℕ)) Failure
 one_field_each same es = apart same (λ e. e.1) [] (map (λ e. (without_abi e.1, e.0)) es)
 
+unfoldable pub role_tables : RoleTests → List (Assigned ImportName ImportRole) → List (Assigned (List ℕ) ExportRole) → Result RoleTables Failure
+role_tables t imports exports = do
+  is ← roles_after is_same_import t.import_role (λ n. n.field) [] imports
+  es ← roles_after bytes_eq t.export_role (λ f. f) [] exports
+  _ ← one_field_each t.export_role es
+  Ok (record { imports = is; exports = es })
+
 unfoldable pub roles_of : RoleTests → List Record → Result Roles Failure
 roles_of t rs = do
-  is ← roles_after is_same_import t.import_role (λ n. n.field) [] (flat_map (λ r. r.import_roles) rs)
-  es ← roles_after bytes_eq t.export_role (λ f. f) [] (flat_map (λ r. r.export_roles) rs)
-  _ ← one_field_each t.export_role es
+  r ← role_tables t (flat_map (λ r. r.import_roles) rs) (flat_map (λ r. r.export_roles) rs)
   Ok (record {
-    import_roles = is;
-    export_roles = es;
+    import_roles = r.imports;
+    export_roles = r.exports;
     import_encodings = encodings_after (λ w. w.imports) [] rs;
     export_encodings = encodings_after (λ w. w.exports) [] rs;
     context_slot_1 = list_any (λ r. r.context_slot_1) rs;

@@ -19,9 +19,9 @@ module _ {K X : Type 0} (eq : K → K → Bool) (same : X → X → Bool) (text 
   -- a table with one entry more: of a key that is there the same must be said, and a new one goes last
   abbrev pub with_entry : List (K × X) → K → X → Result (List (K × X)) Failure
   with_entry table k x = option_map_or
-    (λ y. if same y x then Ok table else Err (conflict (text k)))
-    (lookup (eq k) table)
-    (Ok (table ++ (k, x) ∷ []))
+      (λ y. if same y x then Ok table else Err (conflict (text k)))
+      (lookup (eq k) table)
+      (Ok (table ++ (k, x) ∷ []))
 
   -- a table with the entries of another: of a key that both have both must say the same
   abbrev pub joined : List (K × X) → List (K × X) → Result (List (K × X)) Failure

@@ -4,7 +4,7 @@ ghost use Rattle.std.specs.Prelude.{◌≡◌, [], IfOk};
 ghost use Rattle.std.specs.List.{flat_map};
 ghost use Rattle.record_json.specs.Faults.{Gives};
 ghost use Rattle.record_joining.specs.Tables.{with_entry};
-ghost use Rattle.record_joining.specs.Joining.{roles_after, without_abi, one_field_each};
+ghost use Rattle.record_joining.specs.Joining.{RoleTests, roles_after, without_abi, one_field_each, role_tables};
 
 use crate::tables::Key;
 use comp_lists::{Keyed, Seq, Text, TryClone};
@@ -18,6 +18,13 @@ use wit_data::AbiVariant;
 pub(crate) struct AssignedRoles {
     pub(crate) imports: Seq<Assigned<ImportName, ImportRole>>,
     pub(crate) exports: Seq<Assigned<Text, ExportRole>>,
+}
+
+/// What each core import and each field is for.
+#[derive(Drop)]
+pub(crate) struct RoleTables {
+    pub(crate) imports: Keyed<ImportName, ImportRole>,
+    pub(crate) exports: Keyed<Text, ExportRole>,
 }
 
 /// Takes the roles out of records.
@@ -65,7 +72,7 @@ fn add_role<K: Key, R: PartialEq + Drop>(
 }
 
 /// What each name is for.
-pub(crate) fn join_roles<K: Key, R: PartialEq + Drop>(
+fn join_roles<K: Key, R: PartialEq + Drop>(
     alloc: Global,
     assigned: Seq<Assigned<K, R>>,
 ) -> Result<Keyed<K, R>, Failure>
@@ -102,7 +109,7 @@ fn copy_without_abi(alloc: Global, role: &ExportRole) -> Result<ExportRole, Allo
 }
 
 /// Each role is that of one field, its form of calls apart. The answer is the field of each.
-pub(crate) fn check_fields(
+fn check_fields(
     alloc: Global,
     roles: &Keyed<Text, ExportRole>,
 ) -> Result<Keyed<ExportRole, Text>, Failure>
@@ -118,4 +125,18 @@ pub(crate) fn check_fields(
         fields.add(role, field)?;
     }
     Ok(fields)
+}
+
+/// What each core import and each field is for; each role is that of one field.
+#[tactic(auto, unfolding(crate::specs::Joining::role_tables))]
+pub(crate) fn join_tables(alloc: Global, assigned: AssignedRoles) -> Result<RoleTables, Failure>
+    ensures { Gives (λ r. r) result (role_tables (record {
+      import_role = ⟦<ImportRole as PartialEq>⟧.eq;
+      export_role = ⟦<ExportRole as PartialEq>⟧.eq;
+    }) assigned.imports assigned.exports) }
+{
+    let imports: Keyed<ImportName, ImportRole> = join_roles(alloc, assigned.imports)?;
+    let exports: Keyed<Text, ExportRole> = join_roles(alloc, assigned.exports)?;
+    check_fields(alloc, &exports)?;
+    Ok(RoleTables { imports, exports })
 }

@@ -84,7 +84,13 @@ pub(crate) fn import_encodings(alloc: Global, records: &[Record]) -> Result<Enco
     let mut table = Keyed::new(alloc);
     for one in records {
         let wit = &one.wit;
-        add_items(alloc, &mut table, &wit.interfaces, &wit.imports, one.encoding)?;
+        add_items(
+            alloc,
+            &mut table,
+            &wit.interfaces,
+            &wit.imports,
+            one.encoding,
+        )?;
     }
     Ok(table)
 }
@@ -96,7 +102,13 @@ pub(crate) fn export_encodings(alloc: Global, records: &[Record]) -> Result<Enco
     let mut table = Keyed::new(alloc);
     for one in records {
         let wit = &one.wit;
-        add_items(alloc, &mut table, &wit.interfaces, &wit.exports, one.encoding)?;
+        add_items(
+            alloc,
+            &mut table,
+            &wit.interfaces,
+            &wit.exports,
+            one.encoding,
+        )?;
     }
     Ok(table)
 }

@@ -7,22 +7,21 @@ ghost use Rattle.record_joining.specs.Said.{no_wit};
 ghost use Rattle.record_joining.specs.Merging.{Tests};
 ghost use Rattle.record_joining.specs.Joining.{RoleTests, worlds_after, roles_of, bindgen_of};
 
-use crate::assigning::{check_fields, join_roles, take_roles};
+use crate::assigning::{join_tables, take_roles};
 use crate::bindgen::{Bindgen, Roles, empty_wit};
 use crate::encodings::{export_encodings, import_encodings};
 use crate::merging::add_wit;
-use comp_lists::{Keyed, Seq, Text};
+use comp_lists::Seq;
 use record_json::Failure;
-use record_values::{ExportRole, ImportName, ImportRole, Interface, Item, Record, Wit};
+use record_values::{ExportRole, ImportRole, Interface, Item, Record, Wit};
 use std::alloc::Global;
 
 /// What the records' worlds say together.
 fn join_worlds(alloc: Global, records: &[Record]) -> Result<Wit, Failure>
-    ensures {
-        Gives (λ w. w) result (worlds_after (record {
-            interface = ⟦<Interface as PartialEq>⟧.eq;
-            item = ⟦<Item as PartialEq>⟧.eq }) no_wit records.now)
-    }
+    ensures { Gives (λ w. w) result (worlds_after (record {
+      interface = ⟦<Interface as PartialEq>⟧.eq;
+      item = ⟦<Item as PartialEq>⟧.eq;
+    }) no_wit records.now) }
 {
     let mut joint = empty_wit(alloc);
     for one in records {
@@ -46,22 +45,19 @@ fn has_slot(records: &[Record]) -> bool
 /// What the records say beside their worlds.
 #[tactic(auto, unfolding(crate::specs::Joining::roles_of))]
 fn bind_roles(alloc: Global, records: Seq<Record>) -> Result<Roles, Failure>
-    ensures {
-        Gives (λ r. r) result (roles_of (record {
-            import_role = ⟦<ImportRole as PartialEq>⟧.eq;
-            export_role = ⟦<ExportRole as PartialEq>⟧.eq }) records)
-    }
+    ensures { Gives (λ r. r) result (roles_of (record {
+      import_role = ⟦<ImportRole as PartialEq>⟧.eq;
+      export_role = ⟦<ExportRole as PartialEq>⟧.eq;
+    }) records) }
 {
     let import_encodings = import_encodings(alloc, records.as_slice())?;
     let export_encodings = export_encodings(alloc, records.as_slice())?;
     let context_slot_1 = has_slot(records.as_slice());
     let assigned = take_roles(alloc, records)?;
-    let import_roles: Keyed<ImportName, ImportRole> = join_roles(alloc, assigned.imports)?;
-    let export_roles: Keyed<Text, ExportRole> = join_roles(alloc, assigned.exports)?;
-    check_fields(alloc, &export_roles)?;
+    let tables = join_tables(alloc, assigned)?;
     Ok(Roles {
-        import_roles,
-        export_roles,
+        import_roles: tables.imports,
+        export_roles: tables.exports,
         import_encodings,
         export_encodings,
         context_slot_1,
@@ -74,12 +70,10 @@ fn bind_roles(alloc: Global, records: Seq<Record>) -> Result<Roles, Failure>
 /// comes later.
 #[tactic(auto, unfolding(crate::specs::Joining::bindgen_of))]
 pub fn bindgen_of(alloc: Global, records: Seq<Record>) -> Result<Bindgen, Failure>
-    ensures {
-        Gives (λ b. b) result (bindgen_of
-            (record { interface = ⟦<Interface as PartialEq>⟧.eq; item = ⟦<Item as PartialEq>⟧.eq })
-            (record { import_role = ⟦<ImportRole as PartialEq>⟧.eq; export_role = ⟦<ExportRole as PartialEq>⟧.eq })
-            records)
-    }
+    ensures { Gives (λ b. b) result (bindgen_of
+        (record { interface = ⟦<Interface as PartialEq>⟧.eq; item = ⟦<Item as PartialEq>⟧.eq })
+        (record { import_role = ⟦<ImportRole as PartialEq>⟧.eq; export_role = ⟦<ExportRole as PartialEq>⟧.eq })
+        records) }
 {
     let wit = join_worlds(alloc, records.as_slice())?;
     let roles = bind_roles(alloc, records)?;

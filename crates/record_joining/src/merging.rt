@@ -15,11 +15,10 @@ use std::alloc::{AllocError, Global};
 /// What two say of their world together; the first is taken over.
 #[tactic(auto, unfolding(crate::specs::Merging::merged_wit))]
 pub(crate) fn add_wit(alloc: Global, first: Wit, second: &Wit) -> Result<Wit, Failure>
-    ensures {
-        Gives (λ w. w) result (merged_wit (record {
-            interface = ⟦<Interface as PartialEq>⟧.eq;
-            item = ⟦<Item as PartialEq>⟧.eq }) first second.now)
-    }
+    ensures { Gives (λ w. w) result (merged_wit (record {
+      interface = ⟦<Interface as PartialEq>⟧.eq;
+      item = ⟦<Item as PartialEq>⟧.eq;
+    }) first second.now) }
 {
     let Wit {
         mut interfaces,
@@ -51,11 +50,10 @@ fn copy_wit(alloc: Global, wit: &Wit) -> Result<Wit, AllocError>
 /// else the refusal is `MergeConflict` with the text of the name or key.
 #[tactic(auto, using(crate::proofs::Saying::merged_says))]
 pub fn merge_wit(alloc: Global, first: &Wit, second: &Wit) -> Result<Wit, Failure>
-    ensures exact {
-        Gives (λ w. w) result (merged_wit (record {
-            interface = ⟦<Interface as PartialEq>⟧.eq;
-            item = ⟦<Item as PartialEq>⟧.eq }) first.now second.now)
-    }
+    ensures exact { Gives (λ w. w) result (merged_wit (record {
+      interface = ⟦<Interface as PartialEq>⟧.eq;
+      item = ⟦<Item as PartialEq>⟧.eq;
+    }) first.now second.now) }
     ensures says { IfOk result (λ w. Says first.now second.now w) }
 {
     let copied = copy_wit(alloc, first)?;
@@ -87,11 +85,10 @@ fn export_keys(alloc: Global, exports: &Keyed<ItemKey, Item>) -> Result<Seq<Expo
 /// keys of what the second exports.
 #[tactic(auto, unfolding(crate::specs::Merging::merged))]
 pub fn merge(alloc: Global, first: &Bindgen, second: &Bindgen) -> Result<Merged<Bindgen>, Failure>
-    ensures {
-        Gives (λ m. m) result (merged (record {
-            interface = ⟦<Interface as PartialEq>⟧.eq;
-            item = ⟦<Item as PartialEq>⟧.eq }) first.now second.now)
-    }
+    ensures { Gives (λ m. m) result (merged (record {
+      interface = ⟦<Interface as PartialEq>⟧.eq;
+      item = ⟦<Item as PartialEq>⟧.eq;
+    }) first.now second.now) }
 {
     let wit = merge_wit(alloc, &first.wit, &second.wit)?;
     let exports = export_keys(alloc, &second.wit.exports)?;

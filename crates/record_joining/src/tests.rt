@@ -200,16 +200,45 @@ fn merged_name(alloc: Global, first: &[Said], second: &[Said]) -> Result<String,
     }
 }
 
-const PLAIN: Said = Said::Import { with_parameter: false };
-const WIDE: Said = Said::Import { with_parameter: true };
-const HAS_PLAIN: Said = Said::Interface { with_parameter: false };
-const HAS_WIDE: Said = Said::Interface { with_parameter: true };
+const PLAIN: Said = Said::Import {
+    with_parameter: false,
+};
+
+const WIDE: Said = Said::Import {
+    with_parameter: true,
+};
+
+const HAS_PLAIN: Said = Said::Interface {
+    with_parameter: false,
+};
+
+const HAS_WIDE: Said = Said::Interface {
+    with_parameter: true,
+};
+
 const SUBTASK: Said = Said::Role { of_subtask: true };
+
 const WAITABLES: Said = Said::Role { of_subtask: false };
-const P: Said = Said::Field { is_first: true, is_async: false };
-const P_ASYNC: Said = Said::Field { is_first: true, is_async: true };
-const Q: Said = Said::Field { is_first: false, is_async: false };
-const Q_ASYNC: Said = Said::Field { is_first: false, is_async: true };
+
+const P: Said = Said::Field {
+    is_first: true,
+    is_async: false,
+};
+
+const P_ASYNC: Said = Said::Field {
+    is_first: true,
+    is_async: true,
+};
+
+const Q: Said = Said::Field {
+    is_first: false,
+    is_async: false,
+};
+
+const Q_ASYNC: Said = Said::Field {
+    is_first: false,
+    is_async: true,
+};
 
 #[test]
 fn two_types_of_one_import(rt: HostRuntime) -> Result<(), Fail> {
@@ -255,7 +284,10 @@ fn several_modules(rt: HostRuntime) -> Result<(), Fail> {
         (P, Q, "ok"),
     ];
     for (first, second, wanted) in cases {
-        assert_eq!(rt; merged_name(rt.alloc(), &[first], &[second])?.as_str(), wanted);
+        assert_eq!(rt;
+            merged_name(rt.alloc(), &[first], &[second])?.as_str(),
+            wanted
+        );
     }
     Ok(())
 }
@@ -264,6 +296,9 @@ fn several_modules(rt: HostRuntime) -> Result<(), Fail> {
 fn nothing_changes_nothing(rt: HostRuntime) -> Result<(), Fail> {
     let nothing = no_bindgen(rt.alloc());
     assert!(rt; merge(rt.alloc(), &nothing, &nothing).is_ok());
-    assert_eq!(rt; joined(rt.alloc(), &[Said::Nothing, Said::Nothing])?.as_str(), "ok");
+    assert_eq!(rt;
+        joined(rt.alloc(), &[Said::Nothing, Said::Nothing])?.as_str(),
+        "ok"
+    );
     Ok(())
 }
