@@ -1,0 +1,9 @@
+use Rattle.std.proofs.Common.{◌≡◌}
+use Rattle.record_joining.specs.Tables.{joined}
+use Rattle.record_joining.proofs.tables.add_all.Given as goal
+
+abbrev pub invariant-loop-key : goal.invariant-loop-key
+invariant-loop-key g l =
+    (goal.iterator-loop-key g).can_next l.key-iterator ×
+    (goal.iterator-loop-key g).is_finite l.key-iterator ×
+    (joined g.K.PartialEq.eq g.X.PartialEq.eq g.K.Key.name l.table l.key-iterator ≡ joined g.K.PartialEq.eq g.X.PartialEq.eq g.K.Key.name l.fn.table l.more)

@@ -1,0 +1,9 @@
+use Rattle.std.proofs.Common.{◌≡◌}
+use Rattle.record_joining.specs.Tables.{apart}
+use Rattle.record_joining.proofs.tables.add_apart.Given as goal
+
+abbrev pub invariant-loop-key : goal.invariant-loop-key
+invariant-loop-key g l =
+    (goal.iterator-loop-key g).can_next l.key-iterator ×
+    (goal.iterator-loop-key g).is_finite l.key-iterator ×
+    (apart g.K.PartialEq.eq (λ e. g.K.Key.name e.0) l.table l.key-iterator ≡ apart g.K.PartialEq.eq (λ e. g.K.Key.name e.0) l.fn.table l.more)

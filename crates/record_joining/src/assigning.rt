@@ -1,0 +1,142 @@
+//! What core imports and core exports are for, as the records of one module say together.
+
+ghost use Rattle.std.specs.Prelude.{◌≡◌, [], IfOk};
+ghost use Rattle.std.specs.List.{flat_map};
+ghost use Rattle.record_json.specs.Faults.{Gives};
+ghost use Rattle.record_joining.specs.Tables.{with_entry};
+ghost use Rattle.record_joining.specs.Joining.{RoleTests, roles_after, without_abi, one_field_each, role_tables};
+
+use crate::tables::Key;
+use comp_lists::{Keyed, Seq, Text, TryClone};
+use record_json::{Failure, Refusal};
+use record_values::{Assigned, ExportRole, ImportName, ImportRole, Record};
+use std::alloc::{AllocError, Global};
+use wit_data::AbiVariant;
+
+/// The roles of several records, one after the other.
+#[derive(Drop)]
+pub(crate) struct AssignedRoles {
+    pub(crate) imports: Seq<Assigned<ImportName, ImportRole>>,
+    pub(crate) exports: Seq<Assigned<Text, ExportRole>>,
+}
+
+/// What each core import and each field is for.
+#[derive(Drop)]
+pub(crate) struct RoleTables {
+    pub(crate) imports: Keyed<ImportName, ImportRole>,
+    pub(crate) exports: Keyed<Text, ExportRole>,
+}
+
+/// Takes the roles out of records.
+pub(crate) fn take_roles(alloc: Global, records: Seq<Record>) -> Result<AssignedRoles, AllocError>
+    ensures imports { IfOk result (λ a. a.imports ≡ flat_map (λ r. r.import_roles) records) }
+    ensures exports { IfOk result (λ a. a.exports ≡ flat_map (λ r. r.export_roles) records) }
+{
+    let mut imports = Seq::new(alloc);
+    let mut exports = Seq::new(alloc);
+    for one in records.into_vec() {
+        let Record {
+            import_roles,
+            export_roles,
+            ..
+        } = one;
+        imports.append(import_roles)?;
+        exports.append(export_roles)?;
+    }
+    Ok(AssignedRoles { imports, exports })
+}
+
+/// Adds a role, unless its name has it.
+fn add_role<K: Key, R: PartialEq + Drop>(
+    alloc: Global,
+    table: &mut Keyed<K, R>,
+    assigned: Assigned<K, R>,
+) -> Result<(), Failure>
+    ensures { Gives (λ _. table.new) result (with_entry K.eq R.eq K.name table.old assigned.key assigned.role) }
+{
+    let Assigned { key, role } = assigned;
+    match table.get(&key) {
+        Some(said) => {
+            if *said == role {
+                return Ok(());
+            }
+        }
+        None => {
+            table.add(key, role)?;
+            return Ok(());
+        }
+    }
+    Err(Failure::Refused(Refusal::MergeConflict {
+        name: key.to_text(alloc)?,
+    }))
+}
+
+/// What each name is for.
+fn join_roles<K: Key, R: PartialEq + Drop>(
+    alloc: Global,
+    assigned: Seq<Assigned<K, R>>,
+) -> Result<Keyed<K, R>, Failure>
+    ensures { Gives (λ t. t) result (roles_after K.eq R.eq K.name [] assigned) }
+{
+    let mut table = Keyed::new(alloc);
+    for one in assigned.into_vec() {
+        add_role(alloc, &mut table, one)?;
+    }
+    Ok(table)
+}
+
+/// A copy of a role, its form of calls apart.
+fn copy_without_abi(alloc: Global, role: &ExportRole) -> Result<ExportRole, AllocError>
+    ensures { IfOk result (λ r. r ≡ without_abi role.now) }
+{
+    match role {
+        ExportRole::Function { owner, name, .. } => Ok(ExportRole::Function {
+            owner: owner.try_clone(alloc)?,
+            name: name.clone(alloc)?,
+            abi: AbiVariant::GuestExport,
+        }),
+        ExportRole::PostReturn { owner, function } => Ok(ExportRole::PostReturn {
+            owner: owner.try_clone(alloc)?,
+            function: function.clone(alloc)?,
+        }),
+        ExportRole::Callback { owner, function } => Ok(ExportRole::Callback {
+            owner: owner.try_clone(alloc)?,
+            function: function.clone(alloc)?,
+        }),
+        ExportRole::Destructor(named) => Ok(ExportRole::Destructor(named.try_clone(alloc)?)),
+        ExportRole::Plain(plain) => Ok(ExportRole::Plain(*plain)),
+    }
+}
+
+/// Each role is that of one field, its form of calls apart. The answer is the field of each.
+fn check_fields(
+    alloc: Global,
+    roles: &Keyed<Text, ExportRole>,
+) -> Result<Keyed<ExportRole, Text>, Failure>
+    ensures { Gives (λ t. t) result (one_field_each ⟦<ExportRole as PartialEq>⟧.eq roles.now) }
+{
+    let mut fields: Keyed<ExportRole, Text> = Keyed::new(alloc);
+    for (field, role) in roles.entries() {
+        let field = field.clone(alloc)?;
+        let role = copy_without_abi(alloc, role)?;
+        if fields.contains(&role) {
+            return Err(Failure::Refused(Refusal::MergeConflict { name: field }));
+        }
+        fields.add(role, field)?;
+    }
+    Ok(fields)
+}
+
+/// What each core import and each field is for; each role is that of one field.
+#[tactic(auto, unfolding(crate::specs::Joining::role_tables))]
+pub(crate) fn join_tables(alloc: Global, assigned: AssignedRoles) -> Result<RoleTables, Failure>
+    ensures { Gives (λ r. r) result (role_tables (record {
+      import_role = ⟦<ImportRole as PartialEq>⟧.eq;
+      export_role = ⟦<ExportRole as PartialEq>⟧.eq;
+    }) assigned.imports assigned.exports) }
+{
+    let imports: Keyed<ImportName, ImportRole> = join_roles(alloc, assigned.imports)?;
+    let exports: Keyed<Text, ExportRole> = join_roles(alloc, assigned.exports)?;
+    check_fields(alloc, &exports)?;
+    Ok(RoleTables { imports, exports })
+}

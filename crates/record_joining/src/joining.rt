@@ -1,0 +1,81 @@
+//! What the records of one module say together.
+
+ghost use Rattle.std.specs.Prelude.{◌≡◌};
+ghost use Rattle.std.specs.List.{list_any};
+ghost use Rattle.record_json.specs.Faults.{Gives};
+ghost use Rattle.record_joining.specs.Said.{no_wit};
+ghost use Rattle.record_joining.specs.Merging.{Tests};
+ghost use Rattle.record_joining.specs.Joining.{RoleTests, worlds_after, roles_of, bindgen_of};
+
+use crate::assigning::{join_tables, take_roles};
+use crate::bindgen::{Bindgen, Roles, empty_wit};
+use crate::encodings::{export_encodings, import_encodings};
+use crate::merging::add_wit;
+use comp_lists::Seq;
+use record_json::Failure;
+use record_values::{ExportRole, ImportRole, Interface, Item, Record, Wit};
+use std::alloc::Global;
+
+/// What the records' worlds say together.
+fn join_worlds(alloc: Global, records: &[Record]) -> Result<Wit, Failure>
+    ensures { Gives (λ w. w) result (worlds_after (record {
+      interface = ⟦<Interface as PartialEq>⟧.eq;
+      item = ⟦<Item as PartialEq>⟧.eq;
+    }) no_wit records.now) }
+{
+    let mut joint = empty_wit(alloc);
+    for one in records {
+        joint = add_wit(alloc, joint, &one.wit)?;
+    }
+    Ok(joint)
+}
+
+/// Whether a record says that the second slot of storage is free.
+fn has_slot(records: &[Record]) -> bool
+    ensures { result ≡ list_any (λ r. r.context_slot_1) records.now }
+{
+    for one in records {
+        if one.context_slot_1 {
+            return true;
+        }
+    }
+    false
+}
+
+/// What the records say beside their worlds.
+#[tactic(auto, unfolding(crate::specs::Joining::roles_of))]
+fn bind_roles(alloc: Global, records: Seq<Record>) -> Result<Roles, Failure>
+    ensures { Gives (λ r. r) result (roles_of (record {
+      import_role = ⟦<ImportRole as PartialEq>⟧.eq;
+      export_role = ⟦<ExportRole as PartialEq>⟧.eq;
+    }) records) }
+{
+    let import_encodings = import_encodings(alloc, records.as_slice())?;
+    let export_encodings = export_encodings(alloc, records.as_slice())?;
+    let context_slot_1 = has_slot(records.as_slice());
+    let assigned = take_roles(alloc, records)?;
+    let tables = join_tables(alloc, assigned)?;
+    Ok(Roles {
+        import_roles: tables.imports,
+        export_roles: tables.exports,
+        import_encodings,
+        export_encodings,
+        context_slot_1,
+    })
+}
+
+/// What the records of one module say together, in order. Their worlds are joined as
+/// [`merge_wit`](crate::merge_wit) joins two. A core import, or a field, that has two roles, and a role
+/// that two fields have, its form of calls apart, are `MergeConflict` with the field, of two that which
+/// comes later.
+#[tactic(auto, unfolding(crate::specs::Joining::bindgen_of))]
+pub fn bindgen_of(alloc: Global, records: Seq<Record>) -> Result<Bindgen, Failure>
+    ensures { Gives (λ b. b) result (bindgen_of
+        (record { interface = ⟦<Interface as PartialEq>⟧.eq; item = ⟦<Item as PartialEq>⟧.eq })
+        (record { import_role = ⟦<ImportRole as PartialEq>⟧.eq; export_role = ⟦<ExportRole as PartialEq>⟧.eq })
+        records) }
+{
+    let wit = join_worlds(alloc, records.as_slice())?;
+    let roles = bind_roles(alloc, records)?;
+    Ok(Bindgen { wit, roles })
+}

@@ -1,0 +1,102 @@
+//! What two say of their world together.
+
+ghost use Rattle.std.specs.Prelude.{◌≡◌, IfOk};
+ghost use Rattle.record_json.specs.Faults.{Gives};
+ghost use Rattle.record_joining.specs.Merging.{Tests, Says, merged_wit, merged, export_key, keys_of_exports};
+
+use crate::bindgen::{Bindgen, empty_roles};
+use crate::tables::{add_all, add_apart, copy};
+use comp_lists::{Keyed, Seq};
+use comp_worlds::{ExportKey, Merged};
+use record_json::Failure;
+use record_values::{Interface, Item, ItemKey, Wit};
+use std::alloc::{AllocError, Global};
+
+/// What two say of their world together; the first is taken over.
+#[tactic(auto, unfolding(crate::specs::Merging::merged_wit))]
+pub(crate) fn add_wit(alloc: Global, first: Wit, second: &Wit) -> Result<Wit, Failure>
+    ensures { Gives (λ w. w) result (merged_wit (record {
+      interface = ⟦<Interface as PartialEq>⟧.eq;
+      item = ⟦<Item as PartialEq>⟧.eq;
+    }) first second.now) }
+{
+    let Wit {
+        mut interfaces,
+        mut imports,
+        mut exports,
+    } = first;
+    add_all(alloc, &mut interfaces, &second.interfaces)?;
+    add_all(alloc, &mut imports, &second.imports)?;
+    add_apart(alloc, &mut exports, &second.exports)?;
+    Ok(Wit {
+        interfaces,
+        imports,
+        exports,
+    })
+}
+
+fn copy_wit(alloc: Global, wit: &Wit) -> Result<Wit, AllocError>
+    ensures { IfOk result (λ w. w ≡ wit.now) }
+{
+    Ok(Wit {
+        interfaces: copy(alloc, &wit.interfaces)?,
+        imports: copy(alloc, &wit.imports)?,
+        exports: copy(alloc, &wit.exports)?,
+    })
+}
+
+/// What two say of their world together: interfaces by name, imports and exports by key, in order.
+/// Interfaces of one name must be equal, imports of one key too, and no key of exports may be in both;
+/// else the refusal is `MergeConflict` with the text of the name or key.
+#[tactic(auto, using(crate::proofs::Saying::merged_says))]
+pub fn merge_wit(alloc: Global, first: &Wit, second: &Wit) -> Result<Wit, Failure>
+    ensures exact { Gives (λ w. w) result (merged_wit (record {
+      interface = ⟦<Interface as PartialEq>⟧.eq;
+      item = ⟦<Item as PartialEq>⟧.eq;
+    }) first.now second.now) }
+    ensures says { IfOk result (λ w. Says first.now second.now w) }
+{
+    let copied = copy_wit(alloc, first)?;
+    let joint = add_wit(alloc, copied, second)?;
+    Ok(joint)
+}
+
+fn to_export_key(alloc: Global, key: &ItemKey) -> Result<ExportKey, AllocError>
+    ensures { IfOk result (λ k. k ≡ export_key key.now) }
+{
+    match key {
+        ItemKey::Name(text) => Ok(ExportKey::Name(text.clone(alloc)?)),
+        ItemKey::Interface(text) => Ok(ExportKey::Interface(text.clone(alloc)?)),
+    }
+}
+
+/// The keys of exports, in order.
+fn export_keys(alloc: Global, exports: &Keyed<ItemKey, Item>) -> Result<Seq<ExportKey>, AllocError>
+    ensures { IfOk result (λ ks. ks ≡ keys_of_exports exports.now) }
+{
+    let mut keys = Seq::new(alloc);
+    for (key, _) in exports.entries() {
+        keys.push(to_export_key(alloc, key)?)?;
+    }
+    Ok(keys)
+}
+
+/// What two modules say of their world together, as [`merge_wit`] has it, without any roles, and the
+/// keys of what the second exports.
+#[tactic(auto, unfolding(crate::specs::Merging::merged))]
+pub fn merge(alloc: Global, first: &Bindgen, second: &Bindgen) -> Result<Merged<Bindgen>, Failure>
+    ensures { Gives (λ m. m) result (merged (record {
+      interface = ⟦<Interface as PartialEq>⟧.eq;
+      item = ⟦<Item as PartialEq>⟧.eq;
+    }) first.now second.now) }
+{
+    let wit = merge_wit(alloc, &first.wit, &second.wit)?;
+    let exports = export_keys(alloc, &second.wit.exports)?;
+    Ok(Merged {
+        joint: Bindgen {
+            wit,
+            roles: empty_roles(alloc),
+        },
+        exports,
+    })
+}
