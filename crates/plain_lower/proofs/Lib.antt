@@ -1,13 +1,9 @@
-pub mod Arrays
 pub mod Chains
 pub mod Decoding
-pub mod Escaping
 pub mod Groups
 pub mod Indexing
 pub mod Keys
-pub mod Loop
-pub mod Merging
+pub mod Leaving
 pub mod Refusing
 pub mod Telling
-pub mod Texts
 pub mod Valid

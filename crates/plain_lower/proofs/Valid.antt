@@ -36,10 +36,11 @@ use Rattle.core_sections.specs.Entries.{module_of, entries_from, no_entries}
 use Rattle.core_sections.proofs.Modules.{module_takes}
 use Rattle.plain_lower.specs.declared.fault.Failure.{Failure}
 use Rattle.plain_lower.specs.declared.roles.Role.{Role}
-use Rattle.plain_lower.specs.declared.bindgen.Bindgen.{Bindgen}
+use Rattle.plain_lower.specs.declared.root.RootFunctions.{RootFunctions}
 use Rattle.plain_lower.specs.declared.importing.Group.{Group}
 use Rattle.plain_lower.specs.Faults.{◌>>=◌, lifted}
-use Rattle.plain_lower.specs.Roles.{function_of, is_same_name}
+use Rattle.plain_lower.specs.Roles.{function_of}
+use Rattle.record_values.specs.Names.{is_same_import}
 use Rattle.plain_lower.proofs.Chains.{bind_ok, passed, equivalence}
 use Rattle.plain_lower.specs.Preparing.{Table, no_role, unfit, not_exported, fits_import, fits_export, imported_by, fitting, import_of, world_items, with_field, fields_in, group_after, groups_after, instances_of, export_as, with_export, export_of_role, exports_after, by_function, required_key, required_after, world_of, preparing_main, preparing_if}
 
@@ -128,17 +129,17 @@ with_field_good t (g ∷ gs) m f import h lacks is = by (bytes_eq m g.name) lack
     by true lacks more = (grown_is_good t g f import h.0 lacks is, h.1)
     by false lacks more = (h.0, more lacks)
 
-import_is_for : (t : Table) (own : Bindgen) (core : CoreModule) (i : CoreImport) (import : Import) → import_of t own core i ≡ Ok import → IsFor t import
+import_is_for : (t : Table) (own : RootFunctions) (core : CoreModule) (i : CoreImport) (import : Import) → import_of t own core i ≡ Ok import → IsFor t import
 unfolding import_of
 import_is_for t own core i import e =
-    let role = bind_ok (ok_or (lookup (is_same_name (record { «module» = i.«module»; field = i.field })) own.import_roles) (no_role i.«module» i.field))
+    let role = bind_ok (ok_or (lookup (is_same_import (record { «module» = i.«module»; field = i.field })) own.import_roles) (no_role i.«module» i.field))
     (λ r. imported_by t i.«module» i.field r >>= λ x. fitting core i x) import e in
     let by = bind_ok (imported_by t i.«module» i.field role.0) (λ x. fitting core i x) import role.2 in
     let p = passed (is_some (found (function_of role.0) t)) (imports.WorldFunc (keys.Name (function_of role.0)) (function_of role.0) GuestImport) by.0 (no_role i.«module» i.field) by.1 in
     let q = passed (fits_import core i.entity) by.0 import (unfit i.field) by.2 in
     record { function = function_of role.0; is = sym (p.1 ∙ q.1); there = p.0 }
 
-group_after_good : (t : Table) (own : Bindgen) (core : CoreModule) (gs gs' : List Group) (i : CoreImport) → AllByRecursion (IsGood t) gs → group_after t own core gs i ≡ Ok gs' → AllByRecursion (IsGood t) gs'
+group_after_good : (t : Table) (own : RootFunctions) (core : CoreModule) (gs gs' : List Group) (i : CoreImport) → AllByRecursion (IsGood t) gs → group_after t own core gs i ≡ Ok gs' → AllByRecursion (IsGood t) gs'
 unfolding group_after
 group_after_good t own core gs gs' i h e = by (is_some (found i.field (fields_in gs i.«module»))) refl _ e
   where
@@ -150,7 +151,7 @@ group_after_good t own core gs gs' i h e = by (is_some (found i.field (fields_in
         let made : with_field gs i.«module» i.field a.0 ≡ gs' = cc (a.2) in
         subst (λ (xs : List Group). AllByRecursion (IsGood t) xs) made (with_field_good t gs i.«module» i.field a.0 h lacks (import_is_for t own core i a.0 a.1))
 
-groups_good : (t : Table) (own : Bindgen) (core : CoreModule) (gs gs' : List Group) (is : List CoreImport) → AllByRecursion (IsGood t) gs → groups_after t own core gs is ≡ Ok gs' → AllByRecursion (IsGood t) gs'
+groups_good : (t : Table) (own : RootFunctions) (core : CoreModule) (gs gs' : List Group) (is : List CoreImport) → AllByRecursion (IsGood t) gs → groups_after t own core gs is ≡ Ok gs' → AllByRecursion (IsGood t) gs'
 groups_good t own core gs gs' [] h e = let same : gs ≡ gs' = cc in subst (λ (xs : List Group). AllByRecursion (IsGood t) xs) same h
 groups_good t own core gs gs' (i ∷ is) h e =
     let a = bind_ok (group_after t own core gs i) (λ x. groups_after t own core x is) gs' e in
@@ -204,7 +205,7 @@ export_good t core all all' name item (Some role) h e = by (is_some (found (func
     by true there e = with_export_good t core all all' name item (function_of role) h there e
     by false there e = let same : all ≡ all' = cc (e) in subst (λ (xs : List (List ℕ × Export)). AllOf t xs) same h
 
-exports_good : (t : Table) (own : Bindgen) (core : CoreModule) (all all' : List (List ℕ × Export)) (es : List (List ℕ × ExportedItem)) → AllOf t all
+exports_good : (t : Table) (own : RootFunctions) (core : CoreModule) (all all' : List (List ℕ × Export)) (es : List (List ℕ × ExportedItem)) → AllOf t all
     → exports_after t own core all es ≡ Ok all' → AllOf t all'
 exports_good t own core all all' [] h e = let same : all ≡ all' = cc in subst (λ (xs : List (List ℕ × Export)). AllOf t xs) same h
 exports_good t own core all all' (x ∷ es) h e =
@@ -275,7 +276,7 @@ unlifted : {A : Type 0} (r : Result A SectionFault) (x : A) → lifted r ≡ Ok 
 unlifted (Ok y) x e = cc
 unlifted (Err f) x e = absurd cc
 
-pub main_is_world : (joint : Bindgen) (main : Part Bindgen) (w : ComponentWorld) → preparing_main joint main ≡ Ok w → IsDistinct bytes_eq (keys_of joint.imports) → IsDistinct bytes_eq (keys_of joint.exports)
+pub main_is_world : (joint : RootFunctions) (main : Part RootFunctions) (w : ComponentWorld) → preparing_main joint main ≡ Ok w → IsDistinct bytes_eq (keys_of joint.imports) → IsDistinct bytes_eq (keys_of joint.exports)
     → IsDistinct bytes_eq (keys_of w.main.imports.modules) → IsWorld w
 unfolding preparing_main world_of
 main_is_world joint main w e imports_apart exports_apart modules_apart =
@@ -310,7 +311,7 @@ main_is_world joint main w e imports_apart exports_apart modules_apart =
       alone = refl;
     })
 
-pub is_world : (joint : Bindgen) (main : Option (Part Bindgen)) (w : ComponentWorld) → preparing_if joint main ≡ Ok w → IsDistinct bytes_eq (keys_of joint.imports)
+pub is_world : (joint : RootFunctions) (main : Option (Part RootFunctions)) (w : ComponentWorld) → preparing_if joint main ≡ Ok w → IsDistinct bytes_eq (keys_of joint.imports)
     → IsDistinct bytes_eq (keys_of joint.exports) → IsDistinct bytes_eq (keys_of w.main.imports.modules) → IsWorld w
 is_world joint None w e = absurd cc
 is_world joint (Some main) w e = main_is_world joint main w e

@@ -2,6 +2,10 @@
 use Rattle.std.specs.Prelude.{◌≡◌, ◌≢◌, Result, Ok, Err}
 use Rattle.core_sections.specs.declared.fault.SectionFault.{SectionFault}
 use Rattle.core_sections.specs.declared.fault.SectionFault.TheVariants as section_faults
+use Rattle.record_json.specs.declared.fault.Failure.{Failure as RecordFailure}
+use Rattle.record_json.specs.declared.fault.Failure.TheVariants as record_failures
+use Rattle.record_json.specs.declared.fault.Refusal.{Refusal as RecordRefusal}
+use Rattle.record_json.specs.declared.fault.Refusal.TheVariants as record_refusals
 use Rattle.plain_lower.specs.declared.fault.Failure.{Failure}
 use Rattle.plain_lower.specs.declared.fault.Failure.TheVariants as failures
 use Rattle.plain_lower.specs.declared.fault.Refusal.{Refusal}
@@ -29,6 +33,21 @@ of_section section_faults.PackageBinary = failures.Refused refusals.PackageBinar
 abbrev pub lifted : {A : Type 0} → Result A SectionFault → Result A Failure
 lifted (Ok x) = Ok x
 lifted (Err e) = Err (of_section e)
+
+abbrev pub of_record_refusal : RecordRefusal → Refusal
+of_record_refusal record_refusals.Json = refusals.Json
+of_record_refusal (record_refusals.Record path) = refusals.Record path
+of_record_refusal (record_refusals.LeftOut what) = refusals.LeftOut what
+of_record_refusal (record_refusals.MergeConflict name) = refusals.MergeConflict name
+
+abbrev pub of_record : RecordFailure → Failure
+of_record record_failures.Memory = failures.Memory
+of_record (record_failures.Refused r) = failures.Refused (of_record_refusal r)
+
+-- what reading a record gave, with its failure as one of this layer
+abbrev pub read : {A : Type 0} → Result A RecordFailure → Result A Failure
+read (Ok x) = Ok x
+read (Err e) = Err (of_record e)
 
 abbrev pub flat_refusal : Refusal → PlainFault
 flat_refusal refusals.NotModule = faults.NotModule

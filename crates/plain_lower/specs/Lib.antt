@@ -1,8 +1,7 @@
 pub mod Faults
-pub mod Paths
-pub mod Reading
+pub mod Kinds
 pub mod Roles
-pub mod RecordFormat
+pub mod Narrowing
 pub mod Joining
 pub mod Preparing
 pub mod Grouping

@@ -45,10 +45,13 @@ use Rattle.plain_lower.specs.declared.fault.Failure.{Failure}
 use Rattle.plain_lower.specs.declared.fault.Failure.TheVariants as failures
 use Rattle.plain_lower.specs.declared.fault.Refusal.TheVariants as refusals
 use Rattle.plain_lower.specs.declared.roles.Role.{Role}
-use Rattle.plain_lower.specs.declared.bindgen.Bindgen.{Bindgen}
+use Rattle.record_joining.specs.declared.bindgen.Bindgen.{Bindgen}
+use Rattle.plain_lower.specs.declared.root.RootFunctions.{RootFunctions}
+use Rattle.plain_lower.specs.Narrowing.{roots_of, root_main}
 use Rattle.plain_lower.specs.declared.importing.Group.{Group}
 use Rattle.plain_lower.specs.Faults.{◌>>=◌, lifted}
-use Rattle.plain_lower.specs.Roles.{function_of, is_same_name}
+use Rattle.plain_lower.specs.Roles.{function_of}
+use Rattle.record_values.specs.Names.{is_same_import}
 
 abbrev pub Table : Type 0
 Table = List (List ℕ × StringEncoding)
@@ -100,9 +103,9 @@ abbrev pub fitting : CoreModule → CoreImport → Import → Result Import Fail
 fitting core i import = if fits_import core i.entity then Ok import else Err (unfit i.field)
 
 -- what a core import is for
-unfoldable pub import_of : Table → Bindgen → CoreModule → CoreImport → Result Import Failure
+unfoldable pub import_of : Table → RootFunctions → CoreModule → CoreImport → Result Import Failure
 import_of table own core i = do
-  role ← ok_or (lookup (is_same_name (record { «module» = i.«module»; field = i.field })) own.import_roles) (no_role i.«module» i.field)
+  role ← ok_or (lookup (is_same_import (record { «module» = i.«module»; field = i.field })) own.import_roles) (no_role i.«module» i.field)
   import ← imported_by table i.«module» i.field role
   fitting core i import
 
@@ -118,12 +121,12 @@ with_field (g ∷ gs) m f import =
     if bytes_eq m g.name then record { name = g.name; fields = g.fields ++ (f, import) ∷ [] } ∷ gs else g ∷ with_field gs m f import
 
 -- the groups with one core import more, which isn't there yet
-unfoldable pub group_after : Table → Bindgen → CoreModule → List Group → CoreImport → Result (List Group) Failure
+unfoldable pub group_after : Table → RootFunctions → CoreModule → List Group → CoreImport → Result (List Group) Failure
 group_after table own core groups i =
     if is_some (found i.field (fields_in groups i.«module»)) then Err (failures.Refused (refusals.ImportTwice i.«module» i.field))
     else (import_of table own core i >>= λ import. Ok (with_field groups i.«module» i.field import))
 
-abbrev pub groups_after : Table → Bindgen → CoreModule → List Group → List CoreImport → Result (List Group) Failure
+abbrev pub groups_after : Table → RootFunctions → CoreModule → List Group → List CoreImport → Result (List Group) Failure
 groups_after table own core groups [] = Ok groups
 groups_after table own core groups (i ∷ is) = group_after table own core groups i >>= λ gs. groups_after table own core gs is
 
@@ -146,7 +149,7 @@ export_of_role table core all name item None = Ok all
 export_of_role table core all name item (Some role) =
     if is_some (found (function_of role) table) then with_export core all name item (function_of role) else Ok all
 
-abbrev pub exports_after : Table → Bindgen → CoreModule → List (List ℕ × Export) → List (List ℕ × ExportedItem) → Result (List (List ℕ × Export)) Failure
+abbrev pub exports_after : Table → RootFunctions → CoreModule → List (List ℕ × Export) → List (List ℕ × ExportedItem) → Result (List (List ℕ × Export)) Failure
 exports_after table own core all [] = Ok all
 exports_after table own core all (e ∷ es) =
     export_of_role table core all e.0 e.1 (found e.0 own.export_roles) >>= λ more. exports_after table own core more es
@@ -176,7 +179,7 @@ world_items table = map (λ e. (keys.Name e.0, items.Function (plain_function e.
 abbrev pub encodings_of : Table → List (FunctionKey × StringEncoding)
 encodings_of table = map (λ e. (record { key = keys.Name e.0; function = e.0 }, e.1)) table
 
-abbrev pub main_of : Part Bindgen → List Group → List (List ℕ × Export) → ValidatedModule
+abbrev pub main_of : Part RootFunctions → List Group → List (List ℕ × Export) → ValidatedModule
 main_of main groups exported = record {
   bytes = main.bytes;
   imports = record { modules = instances_of groups };
@@ -184,7 +187,7 @@ main_of main groups exported = record {
   metadata = record { import_encodings = encodings_of main.own.imports; export_encodings = encodings_of main.own.exports };
 }
 
-unfoldable pub world_of : Bindgen → Part Bindgen → List Group → List (List ℕ × Export) → List WorldKey → ComponentWorld
+unfoldable pub world_of : RootFunctions → Part RootFunctions → List Group → List (List ℕ × Export) → List WorldKey → ComponentWorld
 world_of joint main groups exported required = record {
   resolve = record {
     interfaces = [];
@@ -197,7 +200,7 @@ world_of joint main groups exported required = record {
   adapters = [];
 }
 
-unfoldable pub preparing_main : Bindgen → Part Bindgen → Result ComponentWorld Failure
+unfoldable pub preparing_main : RootFunctions → Part RootFunctions → Result ComponentWorld Failure
 preparing_main joint main = do
   core ← lifted (module_of main.bytes)
   groups ← groups_after joint.imports main.own core [] core.imports
@@ -206,9 +209,16 @@ preparing_main joint main = do
   Ok (world_of joint main groups exported required)
 
 -- nothing at all is no module
-abbrev pub preparing_if : Bindgen → Option (Part Bindgen) → Result ComponentWorld Failure
+abbrev pub preparing_if : RootFunctions → Option (Part RootFunctions) → Result ComponentWorld Failure
 preparing_if joint None = Err (failures.Refused refusals.NotModule)
 preparing_if joint (Some main) = preparing_main joint main
 
-abbrev pub preparing : Gathered Bindgen → Result ComponentWorld Failure
+abbrev pub preparing : Gathered RootFunctions → Result ComponentWorld Failure
 preparing g = preparing_if g.joint g.main
+
+-- what was gathered, where all of it is encoded yet
+unfoldable pub preparing_all : Gathered Bindgen → Result ComponentWorld Failure
+preparing_all g = do
+  joint ← roots_of g.joint
+  main ← root_main g.main
+  preparing_if joint main

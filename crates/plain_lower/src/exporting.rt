@@ -10,10 +10,10 @@ ghost use Rattle.plain_lower.specs.Grouping.{Indexes};
 ghost use Rattle.plain_lower.specs.Faults.{Gives};
 ghost use Rattle.plain_lower.specs.Preparing.{with_export, export_of_role, exports_after, by_function, required_key, required_after};
 
-use crate::bindgen::Bindgen;
 use crate::fault::{Failure, Refusal};
 use crate::fitting::fits_export;
 use crate::roles::Role;
+use crate::root::RootFunctions;
 use comp_lists::{Keyed, Seq, Text};
 use comp_worlds::{Export, ExportKey, StringEncoding};
 use core_sections::{CoreModule, ExportedItem};
@@ -69,7 +69,7 @@ fn add_with_role(
 pub(crate) fn read_exports(
     alloc: Global,
     table: &Keyed<Text, StringEncoding>,
-    own: &Bindgen,
+    own: &RootFunctions,
     core: &CoreModule,
 ) -> Result<Keyed<Text, Export>, Failure>
     ensures { Gives (λ t. t) result (exports_after table.now own.now core.now [] core.now.exports) }

@@ -2,6 +2,7 @@
 
 use comp_lists::Text;
 use core_sections::SectionFault;
+use record_json::{Failure as RecordFailure, Refusal as RecordRefusal};
 use std::alloc::{AllocError, AllocFailed};
 use thiserror::Error;
 
@@ -107,6 +108,29 @@ impl From<SectionFault> for Failure {
             SectionFault::NotModule => Failure::Refused(Refusal::NotModule),
             SectionFault::Section { place } => Failure::Refused(Refusal::Section { place }),
             SectionFault::PackageBinary => Failure::Refused(Refusal::PackageBinary),
+        }
+    }
+}
+
+impl From<RecordFailure> for Failure {
+    ghost use Rattle.std.specs.Prelude.{◌≡◌};
+    ghost use Rattle.plain_lower.specs.Faults.{of_record};
+
+    ghost from_gives = { λ f e. e ≡ of_record f };
+
+    fn from(failure: RecordFailure) -> Failure {
+        match failure {
+            RecordFailure::Memory => Failure::Memory,
+            RecordFailure::Refused(RecordRefusal::Json) => Failure::Refused(Refusal::Json),
+            RecordFailure::Refused(RecordRefusal::Record { path }) => {
+                Failure::Refused(Refusal::Record { path })
+            }
+            RecordFailure::Refused(RecordRefusal::LeftOut { what }) => {
+                Failure::Refused(Refusal::LeftOut { what })
+            }
+            RecordFailure::Refused(RecordRefusal::MergeConflict { name }) => {
+                Failure::Refused(Refusal::MergeConflict { name })
+            }
         }
     }
 }

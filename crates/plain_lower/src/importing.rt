@@ -10,13 +10,14 @@ ghost use Rattle.plain_lower.specs.Faults.{Gives};
 ghost use Rattle.plain_lower.specs.Preparing.{no_role, import_of, fields_in, with_field, group_after, groups_after, instances_of};
 ghost use Rattle.plain_lower.specs.Grouping.{places_of};
 
-use crate::bindgen::Bindgen;
 use crate::fault::{Failure, Refusal};
 use crate::fitting::fits_import;
-use crate::roles::{ImportName, Role};
+use crate::roles::Role;
+use crate::root::RootFunctions;
 use comp_lists::{Keyed, Text};
 use comp_worlds::{Import, ImportInstance, ImportMap, StringEncoding};
 use core_sections::{CoreImport, CoreModule};
+use record_values::ImportName;
 use std::alloc::{AllocError, Global};
 use wit_data::{AbiVariant, WorldKey};
 
@@ -42,7 +43,7 @@ fn no_role<T>(alloc: Global, import: &CoreImport) -> Result<T, Failure>
 fn import_of(
     alloc: Global,
     table: &Keyed<Text, StringEncoding>,
-    own: &Bindgen,
+    own: &RootFunctions,
     core: &CoreModule,
     import: &CoreImport,
 ) -> Result<Import, Failure>
@@ -163,7 +164,7 @@ fn put_field(
 fn add_import(
     alloc: Global,
     table: &Keyed<Text, StringEncoding>,
-    own: &Bindgen,
+    own: &RootFunctions,
     core: &CoreModule,
     grouping: Grouping,
     import: &CoreImport,
@@ -188,7 +189,7 @@ fn add_import(
 fn group_imports(
     alloc: Global,
     table: &Keyed<Text, StringEncoding>,
-    own: &Bindgen,
+    own: &RootFunctions,
     core: &CoreModule,
 ) -> Result<Grouping, Failure>
     ensures exact { Gives (λ g. g.groups.items) result (groups_after table.now own.now core.now [] core.now.imports) }
@@ -226,7 +227,7 @@ fn into_groups(grouping: Grouping) -> Vec<Group>
 pub(crate) fn read_imports(
     alloc: Global,
     table: &Keyed<Text, StringEncoding>,
-    own: &Bindgen,
+    own: &RootFunctions,
     core: &CoreModule,
 ) -> Result<Vec<Group>, Failure>
     ensures exact { Gives (λ g. g.items) result (groups_after table.now own.now core.now [] core.now.imports) }

@@ -2,41 +2,34 @@
 //! of the module whose name begins `component-type`.
 //!
 //! [`PlainLower`] implements [`comp_worlds::Lower`], and what it promises upward are the clauses of
-//! that trait over the definitions of `specs/`. `RecordFormat` says which JSON is which record, and
-//! with it the path of the first value that is wrong; `Joining` what several records, and several
-//! modules, say together; `Preparing` what the core imports and exports of main are for; `Causes`
-//! when each fault is right, in words that don't follow the code. Nothing but this crate knows of JSON.
+//! that trait over the definitions of `specs/`. What a record says is read by `record_roles` and the crates
+//! below it, and joined by `record_joining`; `Preparing` says what the core imports and exports of main are for,
+//! and `Causes` when each fault is right, in words that don't follow the code. Nothing here knows of JSON.
 //!
-//! A record speaks of functions at the root of the world that are synchronous and have no parameters
-//! and no result; what later versions of this program take is refused by its name (`LeftOut`). A
-//! function's name may be any text: `[method]r.f` at the root is a plain function of that name.
+//! Everything that a record can say is read and joined. What isn't encoded yet is refused by its name when the
+//! world is prepared (`LeftOut`, `specs/Narrowing.antt`): so far a world has functions at its root that are
+//! synchronous and have no parameters and no result.
 //!
-//! In reading order: `fault` (faults, and the one place where the public one is made); `paths`,
-//! `members`, `reading` (JSON, with the path of a fault); `roles`, `functions`, `assigning`, `record`
-//! (the record); `bindgen`, `joining` (what records say together); `fitting`, `importing`,
-//! `exporting`, `preparing` (the validated world); `lower` (the layer).
+//! In reading order: `fault` (faults, and the one place where the public one is made); `decoding` (records of a
+//! module, and what several modules say); `roles`, `root`, `kinds`, `narrowing` (what is encoded yet); `fitting`,
+//! `importing`, `exporting`, `preparing` (the validated world); `lower` (the layer).
 #![tactic(auto)]
 
-mod assigning;
-mod bindgen;
+mod decoding;
 mod exporting;
 mod fault;
 mod fitting;
-mod functions;
 mod importing;
-mod joining;
+mod kinds;
 mod lower;
-mod members;
-mod paths;
+mod narrowing;
 mod preparing;
-mod reading;
-mod record;
 mod roles;
+mod root;
 
-pub use bindgen::Bindgen;
 pub use fault::PlainFault;
 pub use lower::PlainLower;
-pub use roles::{ImportName, Role};
+pub use record_joining::Bindgen;
 
 #[cfg(test)]
 mod tests;

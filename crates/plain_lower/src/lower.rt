@@ -2,12 +2,13 @@
 
 ghost use Rattle.std.specs.Prelude.{◌≡◌};
 
-use crate::bindgen::Bindgen;
+use crate::decoding::{decode, merge};
 use crate::fault::PlainFault;
-use crate::joining::{decode, merge};
 use crate::preparing::prepare;
-use comp_lists::{Bytes, Keyed};
+use comp_lists::Bytes;
 use comp_worlds::{ComponentWorld, Gathered, Lower, Merged};
+use record_joining::{Bindgen, no_bindgen};
+use record_values::{ExportRole, ImportRole, Interface, Item};
 use std::alloc::Global;
 
 /// A lower layer by records: what a module's component is to be stands as JSON in the custom sections
@@ -22,7 +23,7 @@ impl PlainLower {
 }
 
 impl Lower for PlainLower {
-    ghost use Rattle.plain_lower.specs.Joining.{nothing_said};
+    ghost use Rattle.record_joining.specs.Said.{nothing_said};
     ghost use Rattle.plain_lower.specs.Causes.{DecodeCause, MergeCause, PrepareCause};
     ghost use Rattle.plain_lower.specs.Layer.{is_memory, decoded, merged, prepared};
 
@@ -32,9 +33,9 @@ impl Lower for PlainLower {
 
     ghost empty_is = { λ _. nothing_said };
 
-    ghost decoded = { λ _ bytes. decoded bytes };
+    ghost decoded = { λ _ bytes. decoded (record { interface = ⟦<Interface as PartialEq>⟧.eq; item = ⟦<Item as PartialEq>⟧.eq }) (record { import_role = ⟦<ImportRole as PartialEq>⟧.eq; export_role = ⟦<ExportRole as PartialEq>⟧.eq }) bytes };
 
-    ghost merged = { λ _ first second. merged first second };
+    ghost merged = { λ _ first second. merged (record { interface = ⟦<Interface as PartialEq>⟧.eq; item = ⟦<Item as PartialEq>⟧.eq }) first second };
 
     ghost prepared = { λ _ gathered. prepared gathered };
 
@@ -47,12 +48,7 @@ impl Lower for PlainLower {
     ghost memory_fault = { λ _ fault. is_memory fault };
 
     fn empty(&self, alloc: Global) -> Bindgen {
-        Bindgen {
-            imports: Keyed::new(alloc),
-            exports: Keyed::new(alloc),
-            import_roles: Keyed::new(alloc),
-            export_roles: Keyed::new(alloc),
-        }
+        no_bindgen(alloc)
     }
 
     fn decode(&self, alloc: Global, bytes: &[u8]) -> Result<(Bytes, Bindgen), PlainFault> {

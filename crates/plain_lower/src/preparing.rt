@@ -5,18 +5,22 @@ ghost use Rattle.std.specs.List.{IsDistinct};
 ghost use Rattle.std.specs.Map.{keys_of};
 ghost use Rattle.std.specs.Str.{bytes_eq};
 ghost use Rattle.plain_lower.specs.Faults.{Gives};
-ghost use Rattle.plain_lower.specs.Preparing.{world_items, encodings_of, instances_of, main_of, world_of, preparing_main, preparing};
+ghost use Rattle.comp_worlds.specs.Worlds.{IsWorld};
+ghost use Rattle.plain_lower.specs.Narrowing.{root_part};
+ghost use Rattle.plain_lower.specs.Preparing.{world_items, encodings_of, instances_of, main_of, world_of, preparing_main, preparing_all};
 
-use crate::bindgen::Bindgen;
 use crate::exporting::{read_exports, require_all};
 use crate::fault::{Failure, Refusal};
 use crate::importing::{Group, read_imports};
+use crate::narrowing::roots_of;
+use crate::root::RootFunctions;
 use comp_lists::{Keyed, Seq, Text};
 use comp_worlds::{
-    ComponentWorld, Export, ExportMap, FunctionKey, Gathered, ImportInstance, ImportMap,
+    ComponentWorld, Export, ExportKey, ExportMap, FunctionKey, Gathered, ImportInstance, ImportMap,
     ModuleMetadata, Part, StringEncoding, ValidatedModule,
 };
 use core_sections::read_module;
+use record_joining::Bindgen;
 use std::alloc::{AllocError, Global};
 use std::hash::Hash;
 use wit_data::{Function, FunctionKind, Resolve, World, WorldId, WorldItem, WorldKey};
@@ -129,18 +133,18 @@ fn import_map(alloc: Global, groups: Vec<Group>) -> Result<ImportMap, AllocError
 /// Main, and what its imports and exports are for.
 fn validated(
     alloc: Global,
-    main: &Part<Bindgen>,
+    main: Part<RootFunctions>,
     groups: Vec<Group>,
     exports: Keyed<Text, Export>,
 ) -> Result<ValidatedModule, AllocError>
     requires { IsDistinct bytes_eq (keys_of (instances_of groups.items)) }
-    ensures { IfOk result (λ m. m ≡ main_of main.now groups.items exports) }
+    ensures { IfOk result (λ m. m ≡ main_of main groups.items exports) }
 {
-    let bytes = main.bytes.clone(alloc)?;
+    let Part { bytes, own, .. } = main;
     let imports = import_map(alloc, groups)?;
     let metadata = ModuleMetadata {
-        import_encodings: encoding_table(alloc, &main.own.imports)?,
-        export_encodings: encoding_table(alloc, &main.own.exports)?,
+        import_encodings: encoding_table(alloc, &own.imports)?,
+        export_encodings: encoding_table(alloc, &own.exports)?,
     };
     Ok(ValidatedModule {
         bytes,
@@ -167,14 +171,14 @@ fn resolve_of(alloc: Global, world: World) -> Result<Resolve, AllocError>
 #[tactic(auto, unfolding(crate::specs::Preparing::world_of))]
 fn world_of(
     alloc: Global,
-    joint: &Bindgen,
-    main: &Part<Bindgen>,
+    joint: &RootFunctions,
+    main: Part<RootFunctions>,
     groups: Vec<Group>,
     exports: Keyed<Text, Export>,
     main_exports: Seq<WorldKey>,
 ) -> Result<ComponentWorld, AllocError>
     requires { IsDistinct bytes_eq (keys_of (instances_of groups.items)) }
-    ensures world { IfOk result (λ w. w ≡ world_of joint.now main.now groups.items exports main_exports) }
+    ensures world { IfOk result (λ w. w ≡ world_of joint.now main groups.items exports main_exports) }
     ensures imports { OnOk result (IsDistinct bytes_eq (keys_of joint.now.imports)) }
     ensures exports { OnOk result (IsDistinct bytes_eq (keys_of joint.now.exports)) }
     ensures modules { IfOk result (λ w. IsDistinct bytes_eq (keys_of w.main.imports.modules)) }
@@ -196,10 +200,10 @@ fn world_of(
 #[tactic(auto, unfolding(crate::specs::Preparing::preparing_main))]
 fn prepare_main(
     alloc: Global,
-    joint: &Bindgen,
-    main: &Part<Bindgen>,
+    joint: &RootFunctions,
+    main: Part<RootFunctions>,
 ) -> Result<ComponentWorld, Failure>
-    ensures exact { Gives (λ w. w) result (preparing_main joint.now main.now) }
+    ensures exact { Gives (λ w. w) result (preparing_main joint.now main) }
     ensures imports { OnOk result (IsDistinct bytes_eq (keys_of joint.now.imports)) }
     ensures exports { OnOk result (IsDistinct bytes_eq (keys_of joint.now.exports)) }
     ensures modules { IfOk result (λ w. IsDistinct bytes_eq (keys_of w.main.imports.modules)) }
@@ -211,18 +215,64 @@ fn prepare_main(
     Ok(world_of(alloc, joint, main, groups, exports, required)?)
 }
 
+/// The validated world, or the refusal.
+fn prepare_world(
+    alloc: Global,
+    joint: &RootFunctions,
+    main: Part<RootFunctions>,
+) -> Result<ComponentWorld, Failure>
+    ensures exact { Gives (λ w. w) result (preparing_main joint.now main) }
+    ensures valid { IfOk result IsWorld }
+{
+    prepare_main(alloc, joint, main)
+}
+
+fn copy_keys(alloc: Global, keys: &[ExportKey]) -> Result<Seq<ExportKey>, AllocError>
+    ensures { IfOk result (λ ks. ks ≡ keys.now) }
+{
+    let mut copies = Seq::new(alloc);
+    for key in keys {
+        copies.push(copy_key(alloc, key)?)?;
+    }
+    Ok(copies)
+}
+
+fn copy_key(alloc: Global, key: &ExportKey) -> Result<ExportKey, AllocError>
+    ensures { IfOk result (λ k. k ≡ key.now) }
+{
+    match key {
+        ExportKey::Name(name) => Ok(ExportKey::Name(name.clone(alloc)?)),
+        ExportKey::Interface(id) => Ok(ExportKey::Interface(id.clone(alloc)?)),
+    }
+}
+
+/// A module, as far as what it says is encoded yet.
+fn root_part(alloc: Global, part: &Part<Bindgen>) -> Result<Part<RootFunctions>, Failure>
+    ensures { Gives (λ p. p) result (root_part part.now) }
+{
+    let own = roots_of(alloc, &part.own)?;
+    let bytes = part.bytes.clone(alloc)?;
+    let required = copy_keys(alloc, part.required.as_slice())?;
+    Ok(Part {
+        bytes,
+        own,
+        required,
+    })
+}
+
 /// The validated world of what was gathered.
+#[tactic(auto, unfolding(crate::specs::Preparing::preparing_all))]
 pub(crate) fn prepare(
     alloc: Global,
     gathered: &Gathered<Bindgen>,
 ) -> Result<ComponentWorld, Failure>
-    ensures exact { Gives (λ w. w) result (preparing gathered.now) }
-    ensures imports { OnOk result (IsDistinct bytes_eq (keys_of gathered.now.joint.imports)) }
-    ensures exports { OnOk result (IsDistinct bytes_eq (keys_of gathered.now.joint.exports)) }
-    ensures modules { IfOk result (λ w. IsDistinct bytes_eq (keys_of w.main.imports.modules)) }
+    ensures exact { Gives (λ w. w) result (preparing_all gathered.now) }
+    ensures valid { IfOk result IsWorld }
 {
-    match &gathered.main {
-        Some(main) => prepare_main(alloc, &gathered.joint, main),
-        None => Err(Failure::Refused(Refusal::NotModule)),
-    }
+    let joint = roots_of(alloc, &gathered.joint)?;
+    let Some(main) = &gathered.main else {
+        return Err(Failure::Refused(Refusal::NotModule));
+    };
+    let main = root_part(alloc, main)?;
+    prepare_world(alloc, &joint, main)
 }

@@ -1,6 +1,7 @@
 //! Copies.
 
 use crate::names::{InterfaceName, Owner, TypeName};
+use crate::record::ImportName;
 use crate::types::{Case, Func, Interface, Node, Typed};
 use crate::world::{Item, ItemKey};
 use comp_lists::TryClone;
@@ -118,5 +119,14 @@ impl TryClone for Item {
             Item::Function(function) => Ok(Item::Function(function.try_clone(alloc)?)),
             Item::Type(nodes) => Ok(Item::Type(nodes.clone(alloc)?)),
         }
+    }
+}
+
+impl TryClone for ImportName {
+    fn try_clone(&self, alloc: Global) -> Result<ImportName, AllocError> {
+        Ok(ImportName {
+            module: self.module.clone(alloc)?,
+            field: self.field.clone(alloc)?,
+        })
     }
 }

@@ -1,0 +1,66 @@
+//! What the records of a module say, and what several modules say of their world.
+
+ghost use Rattle.std.specs.Prelude.{◌≡◌, map};
+ghost use Rattle.record_json.specs.Faults.{Gives as GivesRecord};
+ghost use Rattle.plain_lower.specs.Faults.{Gives};
+ghost use Rattle.plain_lower.specs.Joining.{records_in, said_in, decoding, merging};
+
+use crate::fault::Failure;
+use comp_lists::{Bytes, Seq};
+use comp_worlds::Merged;
+use core_sections::strip;
+use record_joining::{Bindgen, bindgen_of};
+use record_json::Failure as RecordFailure;
+use record_roles::read_record;
+use record_values::{ExportRole, ImportRole, Interface, Item, Record};
+use std::alloc::Global;
+
+/// The records that texts spell.
+fn read_records(alloc: Global, texts: &[&[u8]]) -> Result<Seq<Record>, RecordFailure>
+    ensures { GivesRecord (λ rs. rs) result (records_in (map (λ t. t.now) texts.now)) }
+{
+    let mut records = Seq::new(alloc);
+    for text in texts {
+        let record = read_record(alloc, text)?;
+        records.push(record)?;
+    }
+    Ok(records)
+}
+
+/// What the records together say.
+#[tactic(auto, unfolding(crate::specs::Joining::said_in))]
+fn read_said(alloc: Global, texts: &[&[u8]]) -> Result<Bindgen, RecordFailure>
+    ensures { GivesRecord (λ b. b) result (said_in
+        (record { interface = ⟦<Interface as PartialEq>⟧.eq; item = ⟦<Item as PartialEq>⟧.eq })
+        (record { import_role = ⟦<ImportRole as PartialEq>⟧.eq; export_role = ⟦<ExportRole as PartialEq>⟧.eq })
+        (map (λ t. t.now) texts.now)) }
+{
+    let records = read_records(alloc, texts)?;
+    bindgen_of(alloc, records)
+}
+
+/// A module without its records, and what these say.
+#[tactic(auto, unfolding(crate::specs::Joining::decoding))]
+pub(crate) fn decode(alloc: Global, bytes: &[u8]) -> Result<(Bytes, Bindgen), Failure>
+    ensures { Gives (λ d. d) result (decoding
+        (record { interface = ⟦<Interface as PartialEq>⟧.eq; item = ⟦<Item as PartialEq>⟧.eq })
+        (record { import_role = ⟦<ImportRole as PartialEq>⟧.eq; export_role = ⟦<ExportRole as PartialEq>⟧.eq })
+        bytes.now) }
+{
+    let stripped = strip(alloc, bytes)?;
+    let said = read_said(alloc, stripped.records.as_slice())?;
+    Ok((Bytes::from_vec(stripped.bytes), said))
+}
+
+/// What two modules say of their world together.
+pub(crate) fn merge(
+    alloc: Global,
+    first: &Bindgen,
+    second: &Bindgen,
+) -> Result<Merged<Bindgen>, Failure>
+    ensures { Gives (λ m. m) result (merging
+        (record { interface = ⟦<Interface as PartialEq>⟧.eq; item = ⟦<Item as PartialEq>⟧.eq })
+        first.now second.now) }
+{
+    Ok(record_joining::merge(alloc, first, second)?)
+}
