@@ -1,0 +1,4 @@
+pub mod Scopes
+pub mod Functions
+pub mod Named
+pub mod Interfaces
