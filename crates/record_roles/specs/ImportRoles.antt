@@ -1,0 +1,273 @@
+-- What a core import is for: which value of JSON is which role, and what must stand in the world for it.
+use Rattle.std.specs.Prelude.{⊤, ℕ, ◌^◌, ◌&&◌, List, [], ◌∷◌, ◌++◌, codes, Bool, true, false, Option, Some, None, ok_or, option_and_then, Result, Ok, Err, is_some, if◌then◌else◌}
+use Rattle.std.specs.Option.{option_map_or}
+use Rattle.std.specs.List.{slice_get}
+use Rattle.std.specs.Str.{bytes_eq}
+use Rattle.serde_json.specs.Data.{Data}
+use Rattle.serde_json.specs.Find.{get, as_array}
+use Rattle.record_json.specs.declared.fault.Failure.{Failure}
+use Rattle.record_json.specs.Faults.{◌>>=◌}
+use Rattle.record_json.specs.Reading.{under, here, at_member, required, text_of, text_at, number_of, bool_of, only}
+use Rattle.record_values.specs.declared.names.TypeName.{TypeName}
+use Rattle.record_values.specs.declared.names.Owner.TheVariants as owners
+use Rattle.record_values.specs.declared.roles.ImportRole.{ImportRole}
+use Rattle.record_values.specs.declared.roles.ImportRole.TheVariants as roles
+use Rattle.record_values.specs.declared.roles.Payload.{Payload}
+use Rattle.record_values.specs.declared.roles.Payload.TheVariants as payloads
+use Rattle.record_values.specs.declared.roles.PayloadKind.{PayloadKind}
+use Rattle.record_values.specs.declared.roles.PayloadKind.TheVariants as payload_kinds
+use Rattle.record_values.specs.declared.roles.PayloadOperation.{PayloadOperation}
+use Rattle.record_values.specs.declared.roles.PayloadOperation.TheVariants as operations
+use Rattle.record_worlds.specs.declared.placed.RecordWorld.{RecordWorld}
+use Rattle.record_roles.specs.declared.kinds.ImportKind.{ImportKind}
+use Rattle.record_roles.specs.declared.kinds.ImportKind.TheVariants as kinds
+use Rattle.record_roles.specs.declared.sides.Side.{Side}
+use Rattle.record_roles.specs.declared.sides.Side.TheVariants as sides
+use Rattle.record_roles.specs.Arguments.{first_of, no_argument, one_argument, two_arguments, three_arguments, flag_of, encoding_of, address_of, sort_of, import_abi_of}
+use Rattle.record_roles.specs.Kinds.{import_from}
+use Rattle.record_roles.specs.Payloads.{Met, met_in_function}
+use Rattle.record_roles.specs.Sides.{interface_of, owner_of, owner_at, function_at, function_of, resource_of}
+
+-- ---- functions and resources
+
+-- name, abi
+unfoldable pub world_func_of : RecordWorld → Data → Result ImportRole Failure
+world_func_of w d = do
+  a ← two_arguments d
+  name ← under (codes "1") (function_of w sides.Import None a.0)
+  abi ← under (codes "2") (import_abi_of a.1)
+  Ok (roles.Function owners.World name abi)
+
+-- interface, name, abi
+unfoldable pub interface_func_of : RecordWorld → Data → Result ImportRole Failure
+interface_func_of w d = do
+  a ← three_arguments d
+  place ← under (codes "1") (interface_of w sides.Import a.0)
+  name ← under (codes "2") (function_of w sides.Import (Some place) a.1)
+  abi ← under (codes "3") (import_abi_of a.2)
+  Ok (roles.Function (owner_at w (Some place)) name abi)
+
+-- interface or null, resource
+unfoldable pub imported_resource : RecordWorld → Data → Result TypeName Failure
+imported_resource w d = do
+  a ← two_arguments d
+  place ← under (codes "1") (owner_of w sides.Import a.0)
+  name ← under (codes "2") (resource_of w sides.Import place a.1)
+  Ok (record { owner = owner_at w place; name = name })
+
+-- interface, resource
+unfoldable pub exported_resource : RecordWorld → Data → Result TypeName Failure
+exported_resource w d = do
+  a ← two_arguments d
+  place ← under (codes "1") (interface_of w sides.Export a.0)
+  name ← under (codes "2") (resource_of w sides.Export (Some place) a.1)
+  Ok (record { owner = owner_at w (Some place); name = name })
+
+-- interface or null, function
+unfoldable pub task_return_of : RecordWorld → Data → Result ImportRole Failure
+task_return_of w d = do
+  a ← two_arguments d
+  place ← under (codes "1") (owner_of w sides.Export a.0)
+  name ← under (codes "2") (function_of w sides.Export place a.1)
+  Ok (roles.TaskReturn (owner_at w place) name)
+
+-- ---- streams and futures
+
+abbrev pub kind_name : PayloadKind → List ℕ
+kind_name payload_kinds.Stream = codes "stream"
+kind_name payload_kinds.Future = codes "future"
+
+-- {"unit": kind}
+abbrev pub unit_of : PayloadKind → Data → Result Payload Failure
+unit_of kind d = do
+  _ ← only (codes "unit" ∷ []) d
+  name ← text_at (codes "unit") d
+  if bytes_eq name (kind_name kind) then Ok payloads.Unit else Err (at_member (codes "unit"))
+
+abbrev pub side_of : Bool → Side
+side_of imported = if imported then sides.Import else sides.Export
+
+abbrev pub is_kind : PayloadKind → PayloadKind → Bool
+is_kind payload_kinds.Stream payload_kinds.Stream = true
+is_kind payload_kinds.Future payload_kinds.Future = true
+is_kind payload_kinds.Stream payload_kinds.Future = false
+is_kind payload_kinds.Future payload_kinds.Stream = false
+
+-- what is met there in the function is of this kind
+abbrev pub is_met : RecordWorld → Met → PayloadKind → Side → Option ℕ → List ℕ → ℕ → Bool
+is_met w met kind side place function index = option_map_or
+    (λ f. option_map_or (is_kind kind) (slice_get (met_in_function met f) index) false)
+    (function_at w side place function) false
+
+abbrev pub bool_at : List ℕ → Data → Result Bool Failure
+bool_at key d = do
+  v ← required key d
+  under key (bool_of v)
+
+abbrev pub owner_member : RecordWorld → Side → Data → Result (Option ℕ) Failure
+owner_member w side d = do
+  v ← required (codes "interface") d
+  under (codes "interface") (owner_of w side v)
+
+abbrev pub function_member : RecordWorld → Side → Option ℕ → Data → Result (List ℕ) Failure
+function_member w side place d = do
+  v ← required (codes "function") d
+  under (codes "function") (function_of w side place v)
+
+abbrev pub index_member : Data → Result ℕ Failure
+index_member d = do
+  v ← required (codes "index") d
+  under (codes "index") (number_of (2 ^ 32) v)
+
+abbrev pub met_payload : RecordWorld → Met → PayloadKind → Bool → Option ℕ → List ℕ → ℕ → Result Payload Failure
+met_payload w met kind imported place function index =
+    if is_met w met kind (side_of imported) place function index
+    then Ok (payloads.Met imported (owner_at w place) function index)
+    else Err (at_member (codes "index"))
+
+-- {"imported", "interface", "function", "index"}
+unfoldable pub met_of : RecordWorld → Met → PayloadKind → Data → Result Payload Failure
+met_of w met kind d = do
+  _ ← only (codes "imported" ∷ codes "interface" ∷ codes "function" ∷ codes "index" ∷ []) d
+  imported ← bool_at (codes "imported") d
+  place ← owner_member w (side_of imported) d
+  function ← function_member w (side_of imported) place d
+  index ← index_member d
+  met_payload w met kind imported place function index
+
+unfoldable pub payload_of : RecordWorld → Met → PayloadKind → Data → Result Payload Failure
+payload_of w met kind d = if is_some (get (codes "unit") d) then unit_of kind d else met_of w met kind d
+
+abbrev pub can_be_async : PayloadOperation → Bool
+can_be_async operations.New = false
+can_be_async operations.Read = true
+can_be_async operations.Write = true
+can_be_async operations.CancelRead = true
+can_be_async operations.CancelWrite = true
+can_be_async operations.DropReadable = false
+can_be_async operations.DropWritable = false
+
+-- payload
+unfoldable pub sync_payload_of : RecordWorld → Met → PayloadKind → PayloadOperation → Data → Result ImportRole Failure
+sync_payload_of w met kind operation d = do
+  a ← one_argument d
+  payload ← under (codes "1") (payload_of w met kind a)
+  Ok (roles.Payload kind operation payload false)
+
+-- payload, whether it is asynchronous
+unfoldable pub async_payload_of : RecordWorld → Met → PayloadKind → PayloadOperation → Data → Result ImportRole Failure
+async_payload_of w met kind operation d = do
+  a ← two_arguments d
+  payload ← under (codes "1") (payload_of w met kind a.0)
+  is_async ← under (codes "2") (flag_of a.1)
+  Ok (roles.Payload kind operation payload is_async)
+
+abbrev pub payload_role_of : RecordWorld → Met → PayloadKind → PayloadOperation → Data → Result ImportRole Failure
+payload_role_of w met kind operation d =
+    if can_be_async operation then async_payload_of w met kind operation d else sync_payload_of w met kind operation d
+
+-- ---- built-in functions and other modules
+
+abbrev pub alone : ImportRole → Data → Result ImportRole Failure
+alone role d = do
+  _ ← no_argument d
+  Ok role
+
+unfoldable pub subtask_cancel_of : Data → Result ImportRole Failure
+subtask_cancel_of d = do
+  a ← one_argument d
+  is_async ← under (codes "1") (flag_of a)
+  Ok (roles.SubtaskCancel is_async)
+
+unfoldable pub error_context_new_of : Data → Result ImportRole Failure
+error_context_new_of d = do
+  a ← one_argument d
+  e ← under (codes "1") (encoding_of a)
+  Ok (roles.ErrorContextNew e)
+
+unfoldable pub debug_message_of : Data → Result ImportRole Failure
+debug_message_of d = do
+  a ← one_argument d
+  e ← under (codes "1") (encoding_of a)
+  Ok (roles.ErrorContextDebugMessage e)
+
+unfoldable pub context_get_of : Data → Result ImportRole Failure
+context_get_of d = do
+  a ← two_arguments d
+  ty ← under (codes "1") (address_of a.0)
+  slot ← under (codes "2") (number_of (2 ^ 32) a.1)
+  Ok (roles.ContextGet ty slot)
+
+unfoldable pub context_set_of : Data → Result ImportRole Failure
+context_set_of d = do
+  a ← two_arguments d
+  ty ← under (codes "1") (address_of a.0)
+  slot ← under (codes "2") (number_of (2 ^ 32) a.1)
+  Ok (roles.ContextSet ty slot)
+
+unfoldable pub tls_get_of : Data → Result ImportRole Failure
+tls_get_of d = do
+  a ← one_argument d
+  ty ← under (codes "1") (address_of a)
+  Ok (roles.TlsGet ty)
+
+unfoldable pub tls_set_of : Data → Result ImportRole Failure
+tls_set_of d = do
+  a ← one_argument d
+  ty ← under (codes "1") (address_of a)
+  Ok (roles.TlsSet ty)
+
+-- name, sort
+unfoldable pub main_export_of : Data → Result ImportRole Failure
+main_export_of d = do
+  a ← two_arguments d
+  name ← under (codes "1") (text_of a.0)
+  sort ← under (codes "2") (sort_of a.1)
+  Ok (roles.MainExport name sort)
+
+-- adapter, function
+unfoldable pub adapter_export_of : Data → Result ImportRole Failure
+adapter_export_of d = do
+  a ← two_arguments d
+  adapter ← under (codes "1") (text_of a.0)
+  function ← under (codes "2") (text_of a.1)
+  Ok (roles.AdapterExport adapter function)
+
+-- ---- all of them
+
+abbrev pub of_type : (TypeName → ImportRole) → Result TypeName Failure → Result ImportRole Failure
+of_type role r = do
+  t ← r
+  Ok (role t)
+
+abbrev pub import_role_of_kind : RecordWorld → Met → Data → ImportKind → Result ImportRole Failure
+import_role_of_kind w met d kinds.WorldFunc = world_func_of w d
+import_role_of_kind w met d kinds.InterfaceFunc = interface_func_of w d
+import_role_of_kind w met d kinds.ImportedDrop = of_type roles.ImportedDrop (imported_resource w d)
+import_role_of_kind w met d kinds.ExportedDrop = of_type roles.ExportedDrop (exported_resource w d)
+import_role_of_kind w met d kinds.ExportedRep = of_type roles.ExportedRep (exported_resource w d)
+import_role_of_kind w met d kinds.ExportedNew = of_type roles.ExportedNew (exported_resource w d)
+import_role_of_kind w met d kinds.TaskReturn = task_return_of w d
+import_role_of_kind w met d (kinds.Intrinsic i) = alone (roles.Intrinsic i) d
+import_role_of_kind w met d kinds.SubtaskCancel = subtask_cancel_of d
+import_role_of_kind w met d (kinds.Payload kind operation) = payload_role_of w met kind operation d
+import_role_of_kind w met d kinds.ErrorContextNew = error_context_new_of d
+import_role_of_kind w met d kinds.ErrorContextDebugMessage = debug_message_of d
+import_role_of_kind w met d kinds.ContextGet = context_get_of d
+import_role_of_kind w met d kinds.ContextSet = context_set_of d
+import_role_of_kind w met d kinds.TlsGet = tls_get_of d
+import_role_of_kind w met d kinds.TlsSet = tls_set_of d
+import_role_of_kind w met d kinds.Memory = alone roles.Memory d
+import_role_of_kind w met d kinds.MainExport = main_export_of d
+import_role_of_kind w met d kinds.AdapterExport = adapter_export_of d
+
+abbrev pub some_import_role : RecordWorld → Met → Data → Option ImportKind → Result ImportRole Failure
+some_import_role w met d None = Err (at_member (codes "0"))
+some_import_role w met d (Some kind) = import_role_of_kind w met d kind
+
+-- the kind, and what stands behind it
+unfoldable pub import_role_of : RecordWorld → Met → Data → Result ImportRole Failure
+import_role_of w met d = do
+  first ← ok_or (option_and_then first_of (as_array d)) here
+  name ← under (codes "0") (text_of first)
+  some_import_role w met d (import_from name)

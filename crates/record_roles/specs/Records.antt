@@ -1,0 +1,112 @@
+-- The record, version 1: which text says what of a core module and its component.
+--
+-- An object with the members `version` (1), `encoding` (how all functions spell texts: "utf8", "utf16" or "compact",
+-- and "utf8" where nothing is said), `context-slot-1` (whether the task's second slot of storage is free),
+-- `interfaces`, `imports` and `exports` (the world), `core-imports` (a list of {"module", "field", "role"}) and
+-- `core-exports` (a list of {"field", "role"}). All but `version` may be left out.
+use Rattle.std.specs.Prelude.{⊤, ℕ, suc, ◌==◌, List, [], ◌∷◌, codes, Bool, Option, Some, None, ok_or, option_and_then, Result, Ok, Err, if◌then◌else◌}
+use Rattle.std.specs.Fmt.{decimal}
+use Rattle.serde_json.specs.Data.{Data, Items, no_items, item}
+use Rattle.serde_json.specs.Find.{get, as_array, as_number, as_u64}
+use Rattle.comp_worlds.specs.declared.encoding.StringEncoding.{StringEncoding}
+use Rattle.comp_worlds.specs.declared.encoding.StringEncoding.TheVariants as encodings
+use Rattle.record_json.specs.declared.fault.Failure.{Failure}
+use Rattle.record_json.specs.Faults.{◌>>=◌}
+use Rattle.record_json.specs.Reading.{under, here, at_member, required, text_at, bool_if, only, data_of, items_from}
+use Rattle.record_values.specs.declared.record.Assigned.{Assigned}
+use Rattle.record_values.specs.declared.record.ImportName.{ImportName}
+use Rattle.record_values.specs.declared.record.Record.{Record}
+use Rattle.record_values.specs.declared.roles.ExportRole.{ExportRole}
+use Rattle.record_values.specs.declared.roles.ImportRole.{ImportRole}
+use Rattle.record_worlds.specs.declared.placed.RecordWorld.{RecordWorld}
+use Rattle.record_worlds.specs.Worlds.{world_of}
+use Rattle.record_roles.specs.Arguments.{encoding_of}
+use Rattle.record_roles.specs.ExportRoles.{export_role_of}
+use Rattle.record_roles.specs.ImportRoles.{import_role_of}
+use Rattle.record_roles.specs.Payloads.{Met, all_met}
+
+-- ---- roles of core imports and core exports
+
+abbrev pub import_role_at : RecordWorld → Met → Data → Result ImportRole Failure
+import_role_at w met d = do
+  v ← required (codes "role") d
+  under (codes "role") (import_role_of w met v)
+
+abbrev pub export_role_at : RecordWorld → Data → Result ExportRole Failure
+export_role_at w d = do
+  v ← required (codes "role") d
+  under (codes "role") (export_role_of w v)
+
+unfoldable pub core_import_of : RecordWorld → Met → Data → Result (Assigned ImportName ImportRole) Failure
+core_import_of w met d = do
+  _ ← only (codes "module" ∷ codes "field" ∷ codes "role" ∷ []) d
+  m ← text_at (codes "module") d
+  f ← text_at (codes "field") d
+  r ← import_role_at w met d
+  Ok (record { key = record { «module» = m; field = f }; role = r })
+
+unfoldable pub core_export_of : RecordWorld → Data → Result (Assigned (List ℕ) ExportRole) Failure
+core_export_of w d = do
+  _ ← only (codes "field" ∷ codes "role" ∷ []) d
+  f ← text_at (codes "field") d
+  r ← export_role_at w d
+  Ok (record { key = f; role = r })
+
+unfoldable pub core_imports_of : RecordWorld → Met → Data → Result (List (Assigned ImportName ImportRole)) Failure
+core_imports_of w met d = do
+  ds ← ok_or (as_array d) here
+  items_from (core_import_of w met) 0 ds
+
+unfoldable pub core_exports_of : RecordWorld → Data → Result (List (Assigned (List ℕ) ExportRole)) Failure
+core_exports_of w d = do
+  ds ← ok_or (as_array d) here
+  items_from (core_export_of w) 0 ds
+
+abbrev pub core_imports_if : RecordWorld → Met → Option Data → Result (List (Assigned ImportName ImportRole)) Failure
+core_imports_if w met None = Ok []
+core_imports_if w met (Some v) = under (codes "core-imports") (core_imports_of w met v)
+
+abbrev pub core_exports_if : RecordWorld → Option Data → Result (List (Assigned (List ℕ) ExportRole)) Failure
+core_exports_if w None = Ok []
+core_exports_if w (Some v) = under (codes "core-exports") (core_exports_of w v)
+
+-- ---- the record
+
+-- the one version
+abbrev pub version_from : Option ℕ → Result ⊤ Failure
+version_from None = Err (at_member (codes "version"))
+version_from (Some n) = if n == 1 then Ok tt else Err (at_member (codes "version"))
+
+abbrev pub version_of : Data → Result ⊤ Failure
+version_of d = version_from (option_and_then as_u64 (option_and_then as_number (get (codes "version") d)))
+
+abbrev pub encoding_if : Option Data → Result StringEncoding Failure
+encoding_if None = Ok encodings.UTF8
+encoding_if (Some v) = under (codes "encoding") (encoding_of v)
+
+-- the members that are known
+unfoldable pub only_known : Data → Result ⊤ Failure
+only_known d =
+    only (codes "version" ∷ codes "encoding" ∷ codes "context-slot-1" ∷ codes "interfaces" ∷ codes "imports" ∷ codes "exports" ∷ codes "core-imports" ∷ codes "core-exports" ∷ []) d
+
+-- what the record says beside its world
+unfoldable pub with_world : StringEncoding → Bool → Data → RecordWorld → Result Record Failure
+with_world e slot d w = do
+  is ← core_imports_if w (all_met w.wit) (get (codes "core-imports") d)
+  es ← core_exports_if w (get (codes "core-exports") d)
+  Ok (record { wit = w.wit; encoding = e; context_slot_1 = slot; import_roles = is; export_roles = es })
+
+unfoldable pub record_of : Data → Result Record Failure
+record_of d = do
+  _ ← only_known d
+  _ ← version_of d
+  e ← encoding_if (get (codes "encoding") d)
+  slot ← bool_if (codes "context-slot-1") (get (codes "context-slot-1") d)
+  w ← world_of d
+  with_world e slot d w
+
+-- the record that bytes spell
+unfoldable pub record_in : List ℕ → Result Record Failure
+record_in bytes = do
+  d ← data_of bytes
+  record_of d

@@ -1,0 +1,21 @@
+//! Records: the JSON that says what a core module's imports and exports are for.
+//!
+//! Upward this crate promises one call: [`read_record`] answers the record that bytes spell, or the fault of
+//! the first value that is wrong, with its JSON pointer (`specs/Records.antt`, and below it one file a topic). A
+//! role is for something that stands in the record's own world, on the side that it speaks of.
+//!
+//! In reading order: `arguments` (what stands behind a role's kind), `sides` (functions and resources of a
+//! side of the world), `payloads` (streams and futures that functions have), `kinds` (names of kinds),
+//! `payload_roles`, `import_roles`, `export_roles`, `record`.
+#![tactic(auto)]
+
+mod arguments;
+mod export_roles;
+mod import_roles;
+mod kinds;
+mod payload_roles;
+mod payloads;
+mod record;
+mod sides;
+
+pub use record::read_record;

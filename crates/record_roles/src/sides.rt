@@ -1,0 +1,252 @@
+//! What roles are for: functions and resources that a side of the world has.
+
+ghost use Rattle.std.specs.Prelude.{◌≡◌, option_map, option_and_then, IfOk, is_some};
+ghost use Rattle.std.specs.Option.{option_copied};
+ghost use Rattle.serde_json.specs.View.{view};
+ghost use Rattle.record_json.specs.Faults.{Gives};
+ghost use Rattle.record_roles.specs.Sides.{items_of, stands_on, standing, interface_of, owner_of, owner_at, function_in, world_function, interface_function, function_at, is_resource, world_resource, interface_resource, resource_at, function_of, resource_of};
+
+use comp_lists::{Keyed, Text, TryClone};
+use record_json::{Failure, fault_here, read_number, read_text};
+use record_values::{Func, Item, ItemKey, Node, Owner};
+use record_worlds::{PlacedInterface, RecordWorld};
+use serde_json::Value;
+use std::alloc::{AllocError, Global};
+
+/// A side of the world.
+#[derive(Clone, Copy, Debug, PartialEq, Eq)]
+pub(crate) enum Side {
+    Import,
+    Export,
+}
+
+fn items_of(world: &RecordWorld, side: Side) -> &Keyed<ItemKey, Item>
+    ensures { result.now ≡ items_of world.now side }
+{
+    match side {
+        Side::Import => &world.wit.imports,
+        Side::Export => &world.wit.exports,
+    }
+}
+
+fn stands_on(interface: &PlacedInterface, side: Side) -> bool
+    ensures { result ≡ stands_on side interface.now }
+{
+    match side {
+        Side::Import => interface.is_imported,
+        Side::Export => interface.is_exported,
+    }
+}
+
+/// Whether the interface of this place stands on a side.
+fn is_standing(world: &RecordWorld, side: Side, place: usize) -> bool
+    ensures { result ≡ standing world.now side place }
+{
+    match world.interfaces.as_slice().get(place) {
+        Some(interface) => stands_on(interface, side),
+        None => false,
+    }
+}
+
+/// The place of an interface that stands on a side.
+#[tactic(auto, unfolding(crate::specs::Sides::interface_of))]
+pub(crate) fn read_interface(
+    alloc: Global,
+    world: &RecordWorld,
+    side: Side,
+    value: &Value,
+) -> Result<usize, Failure>
+    ensures { Gives (λ i. i) result (interface_of world.now side (view value.now)) }
+{
+    let place = read_number(alloc, 1 << 32, value)? as usize;
+    if is_standing(world, side, place) {
+        Ok(place)
+    } else {
+        Err(fault_here(alloc))
+    }
+}
+
+/// The place of an interface that stands on a side, or none for the world itself.
+#[tactic(auto, unfolding(crate::specs::Sides::owner_of))]
+pub(crate) fn read_owner(
+    alloc: Global,
+    world: &RecordWorld,
+    side: Side,
+    value: &Value,
+) -> Result<Option<usize>, Failure>
+    ensures { Gives (λ o. o) result (owner_of world.now side (view value.now)) }
+{
+    if value.is_null() {
+        return Ok(None);
+    }
+    let place = read_interface(alloc, world, side, value)?;
+    Ok(Some(place))
+}
+
+/// The owner at a place.
+pub(crate) fn owner_at(
+    alloc: Global,
+    world: &RecordWorld,
+    place: Option<usize>,
+) -> Result<Owner, AllocError>
+    ensures { IfOk result (λ o. o ≡ owner_at world.now place) }
+{
+    let Some(place) = place else {
+        return Ok(Owner::World);
+    };
+    match world.interfaces.as_slice().get(place) {
+        Some(interface) => Ok(Owner::Interface(interface.name.try_clone(alloc)?)),
+        None => Ok(Owner::World),
+    }
+}
+
+fn function_in(item: &Item) -> Option<&Func>
+    ensures { option_copied result ≡ function_in item.now }
+{
+    match item {
+        Item::Function(function) => Some(function),
+        _ => None,
+    }
+}
+
+/// A function of the world itself.
+fn world_function<'w>(
+    alloc: Global,
+    world: &'w RecordWorld,
+    side: Side,
+    name: &Text,
+) -> Result<Option<&'w Func>, AllocError>
+    ensures { IfOk result (λ f. option_copied f ≡ world_function world.now side name.now) }
+{
+    let key = ItemKey::Name(name.clone(alloc)?);
+    match items_of(world, side).get(&key) {
+        Some(item) => Ok(function_in(item)),
+        None => Ok(None),
+    }
+}
+
+/// A function of an interface.
+fn interface_function<'w>(
+    world: &'w RecordWorld,
+    interface: &PlacedInterface,
+    name: &Text,
+) -> Option<&'w Func>
+    ensures { option_copied result ≡ interface_function world.now interface.now name.now }
+{
+    let place = *interface.functions.get(name)?;
+    let found = world.wit.interfaces.get(&interface.name)?;
+    found.functions.as_slice().get(place)
+}
+
+/// The function of this name that the owner at a place has.
+pub(crate) fn function_at<'w>(
+    alloc: Global,
+    world: &'w RecordWorld,
+    side: Side,
+    place: Option<usize>,
+    name: &Text,
+) -> Result<Option<&'w Func>, AllocError>
+    ensures { IfOk result (λ f. option_copied f ≡ function_at world.now side place name.now) }
+{
+    let Some(place) = place else {
+        return world_function(alloc, world, side, name);
+    };
+    match world.interfaces.as_slice().get(place) {
+        Some(interface) => Ok(interface_function(world, interface, name)),
+        None => Ok(None),
+    }
+}
+
+fn is_resource(item: &Item) -> bool
+    ensures { result ≡ is_resource item.now }
+{
+    match item {
+        Item::Type(nodes) => match nodes.as_slice() {
+            [Node::Resource] => true,
+            _ => false,
+        },
+        _ => false,
+    }
+}
+
+fn world_resource(
+    alloc: Global,
+    world: &RecordWorld,
+    side: Side,
+    name: &Text,
+) -> Result<bool, AllocError>
+    ensures { IfOk result (λ b. b ≡ world_resource world.now side name.now) }
+{
+    let key = ItemKey::Name(name.clone(alloc)?);
+    match items_of(world, side).get(&key) {
+        Some(item) => Ok(is_resource(item)),
+        None => Ok(false),
+    }
+}
+
+fn interface_resource(interface: &PlacedInterface, name: &Text) -> bool
+    ensures { result ≡ interface_resource interface.now name.now }
+{
+    match interface.types.get(name) {
+        Some(is_resource) => *is_resource,
+        None => false,
+    }
+}
+
+/// Whether the owner at a place has a resource of this name.
+fn resource_at(
+    alloc: Global,
+    world: &RecordWorld,
+    side: Side,
+    place: Option<usize>,
+    name: &Text,
+) -> Result<bool, AllocError>
+    ensures { IfOk result (λ b. b ≡ resource_at world.now side place name.now) }
+{
+    let Some(place) = place else {
+        return world_resource(alloc, world, side, name);
+    };
+    match world.interfaces.as_slice().get(place) {
+        Some(interface) => Ok(interface_resource(interface, name)),
+        None => Ok(false),
+    }
+}
+
+/// The name of a function that the owner at a place has.
+#[tactic(auto, unfolding(crate::specs::Sides::function_of))]
+pub(crate) fn read_function_name(
+    alloc: Global,
+    world: &RecordWorld,
+    side: Side,
+    place: Option<usize>,
+    value: &Value,
+) -> Result<Text, Failure>
+    ensures { Gives (λ n. n) result (function_of world.now side place (view value.now)) }
+{
+    let name = read_text(alloc, value)?;
+    let found = function_at(alloc, world, side, place, &name)?;
+    if found.is_some() {
+        Ok(name)
+    } else {
+        Err(fault_here(alloc))
+    }
+}
+
+/// The name of a resource that the owner at a place has.
+#[tactic(auto, unfolding(crate::specs::Sides::resource_of))]
+pub(crate) fn read_resource_name(
+    alloc: Global,
+    world: &RecordWorld,
+    side: Side,
+    place: Option<usize>,
+    value: &Value,
+) -> Result<Text, Failure>
+    ensures { Gives (λ n. n) result (resource_of world.now side place (view value.now)) }
+{
+    let name = read_text(alloc, value)?;
+    if resource_at(alloc, world, side, place, &name)? {
+        Ok(name)
+    } else {
+        Err(fault_here(alloc))
+    }
+}
