@@ -1,4 +1,4 @@
-use Rattle.std.specs.Prelude.{Result, Err, ◌×◌}
+use Rattle.std.specs.Prelude.{Result, Err}
 use Rattle.serde_json.specs.Data.{Data}
 use Rattle.record_json.specs.declared.fault.Failure.{Failure}
 use Rattle.record_json.specs.Reading.{here}

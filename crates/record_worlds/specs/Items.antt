@@ -1,7 +1,7 @@
 -- The items of a world in a record: `imports` and `exports`, lists of {"func": F}, of {"type": {"name", "type"}}
 -- (imports only), of {"interface": i} for an interface with an id, and of {"name", "interface": i} for one without,
 -- where i is a place in the record's `interfaces`.
-use Rattle.std.specs.Prelude.{ℕ, suc, nat_eq, Bool, true, List, [], ◌∷◌, ◌++◌, ◌×◌, codes, Option, Some, None, is_some, ok_or, Result, Ok, Err, if◌then◌else◌}
+use Rattle.std.specs.Prelude.{ℕ, suc, nat_eq, Bool, true, List, [], ◌∷◌, ◌++◌, codes, Option, Some, None, is_some, ok_or, Result, Ok, Err, if◌then◌else◌}
 use Rattle.std.specs.List.{list_any, slice_get}
 use Rattle.std.specs.Fmt.{decimal}
 use Rattle.std.specs.Str.{bytes_eq}

@@ -1,6 +1,6 @@
 -- The interfaces of a record by their places: the name, the sides of the world where the interface stands, and what
 -- it has by name.
-use Rattle.std.specs.Prelude.{ℕ, suc, Bool, List, [], ◌∷◌, ◌×◌, is_some}
+use Rattle.std.specs.Prelude.{ℕ, suc, Bool, List, [], ◌∷◌, is_some}
 use Rattle.std.specs.Str.{bytes_eq}
 use Rattle.std.specs.Map.{lookup}
 use Rattle.comp_lists.specs.Tables.{with_first}

@@ -1,6 +1,6 @@
 -- Interfaces and items of a world by name: interfaces of one id are equal, and no key and no interface stands twice
 -- on a side.
-use Rattle.std.specs.Prelude.{⊤, ℕ, suc, Bool, false, List, [], ◌∷◌, ◌++◌, ◌×◌, codes, Option, Some, None, is_some, Result, Ok, Err, if◌then◌else◌}
+use Rattle.std.specs.Prelude.{⊤, ℕ, suc, Bool, false, List, [], ◌∷◌, ◌++◌, codes, Option, Some, None, is_some, Result, Ok, Err, if◌then◌else◌}
 use Rattle.std.specs.Map.{lookup}
 use Rattle.std.specs.Fmt.{decimal}
 use Rattle.comp_lists.specs.Tables.{with_first}
