@@ -1,16 +1,16 @@
 -- The items of a world in a record: `imports` and `exports`, lists of {"func": F}, of {"type": {"name", "type"}}
 -- (imports only), of {"interface": i} for an interface with an id, and of {"name", "interface": i} for one without,
 -- where i is a place in the record's `interfaces`.
-use Rattle.std.specs.Prelude.{ℕ, suc, nat_eq, Bool, true, List, [], ◌∷◌, ◌++◌, codes, Option, Some, None, is_some, ok_or, Result, Ok, Err, if◌then◌else◌}
+use Rattle.std.specs.Prelude.{ℕ, suc, nat_eq, Bool, true, List, [], ◌∷◌, ◌++◌, codes, Option, Some, None, is_some, ok_or, option_and_then, Result, Ok, Err, if◌then◌else◌}
 use Rattle.std.specs.List.{list_any, slice_get}
 use Rattle.std.specs.Fmt.{decimal}
 use Rattle.std.specs.Str.{bytes_eq}
 use Rattle.serde_json.specs.Data.{Data, Items, no_items, item}
-use Rattle.serde_json.specs.Find.{get, as_array}
+use Rattle.serde_json.specs.Find.{get, as_array, as_number, as_u64}
 use Rattle.comp_lists.specs.Tables.{with_first}
 use Rattle.record_json.specs.declared.fault.Failure.{Failure}
 use Rattle.record_json.specs.Faults.{◌>>=◌}
-use Rattle.record_json.specs.Reading.{under, here, at_member, required, text_of, only, number_of}
+use Rattle.record_json.specs.Reading.{under, here, at_member, required, text_of, only, below}
 use Rattle.record_types.specs.declared.known.TypeFacts.{TypeFacts}
 use Rattle.record_types.specs.declared.known.ReadInterface.{ReadInterface}
 use Rattle.record_types.specs.Scopes.{Names}
@@ -60,7 +60,7 @@ type_item is ts d = do
 
 -- the place of an interface is a whole number below 2^32
 unfoldable pub place_of : Data → Result ℕ Failure
-place_of d = number_of 4294967296 d
+place_of d = below 4294967296 (option_and_then as_u64 (as_number d))
 
 abbrev pub holds_colon : List ℕ → Bool
 holds_colon bytes = list_any (nat_eq 58) bytes

@@ -1,6 +1,6 @@
 -- Names of the interfaces of a record: the id, or else the name under which the world imports the interface, or else
 -- the name under which it exports it.
-use Rattle.std.specs.Prelude.{ℕ, suc, List, [], ◌∷◌, map, Option, Some, None}
+use Rattle.std.specs.Prelude.{ℕ, suc, ◌%◌, List, [], ◌∷◌, map, Option, Some, None}
 use Rattle.comp_lists.specs.Tables.{with_first}
 use Rattle.record_types.specs.declared.known.ReadInterface.{ReadInterface}
 use Rattle.record_values.specs.declared.names.InterfaceName.{InterfaceName}

@@ -1,8 +1,9 @@
 -- What a record says of the world.
-use Rattle.std.specs.Prelude.{List, [], Result, Ok, Err}
+use Rattle.std.specs.Prelude.{⊤, List, [], Result, Ok, Err}
 use Rattle.serde_json.specs.Data.{Data}
 use Rattle.record_json.specs.declared.fault.Failure.{Failure}
 use Rattle.record_json.specs.Faults.{◌>>=◌}
+use Rattle.record_types.specs.declared.known.ReadInterface.{ReadInterface}
 use Rattle.record_values.specs.Renaming.{Renames}
 use Rattle.record_worlds.specs.declared.items.Side.TheVariants as sides
 use Rattle.record_worlds.specs.declared.items.WorldItems.{WorldItems}
@@ -21,21 +22,29 @@ sides_of ims exs = do
   es ← side_at sides.Export exs
   Ok (record { imports = is; exports = es })
 
+-- a value, if a check has found no fault
+abbrev pub once_checked : {A : Type 0} → Result ⊤ Failure → A → Result A Failure
+once_checked (Ok x) value = Ok value
+once_checked (Err e) value = Err e
+
 -- the items of both sides, of which each names only what it may
 unfoldable pub standing_of : Interfaces → List Entry → List Entry → Result Sides Failure
 standing_of table ims exs = do
   s ← sides_of ims exs
-  _ ← rules_hold table s.imports.interfaces s.exports.interfaces ims exs
-  Ok s
+  once_checked (rules_hold table s.imports.interfaces s.exports.interfaces ims exs) s
+
+-- what is known of the world, from the items of its sides
+abbrev pub joined_world : Renames → List ReadInterface → Interfaces → Result Sides Failure → Result RecordWorld Failure
+joined_world ns xs table (Err e) = Err e
+joined_world ns xs table (Ok s) = Ok (record {
+    wit = record { interfaces = table; imports = s.imports.items; exports = s.exports.items };
+    interfaces = placed_from ns s.imports.interfaces s.exports.interfaces 0 xs })
 
 -- the world of these items, in which interfaces have these names
 unfoldable pub named_world_of : Test → Renames → WorldItems → Result RecordWorld Failure
 named_world_of same ns w = do
   table ← interfaces_from same ns 0 [] w.interfaces
-  s ← standing_of table (renamed_entries ns w.imports) (renamed_entries ns w.exports)
-  Ok (record {
-    wit = record { interfaces = table; imports = s.imports.items; exports = s.exports.items };
-    interfaces = placed_from ns s.imports.interfaces s.exports.interfaces 0 w.interfaces })
+  joined_world ns w.interfaces table (standing_of table (renamed_entries ns w.imports) (renamed_entries ns w.exports))
 
 -- the world of a record, where interfaces are compared by this test
 unfoldable pub world_of : Test → Data → Result RecordWorld Failure

@@ -23,7 +23,7 @@ pub(crate) struct Entry {
 pub(crate) fn place_name(place: usize) -> InterfaceName
     ensures { result ≡ place_name place }
 {
-    InterfaceName::Unused(place as u32)
+    InterfaceName::Unused((place % 4294967296) as u32)
 }
 
 /// The name of an interface without id that stands on a side under this name.

@@ -3,7 +3,7 @@
 ghost use Rattle.std.specs.Prelude.{◌≡◌};
 ghost use Rattle.serde_json.specs.View.{view};
 ghost use Rattle.record_json.specs.Faults.{Gives};
-ghost use Rattle.record_worlds.specs.Worlds.{sides_of, standing_of, named_world_of, world_of};
+ghost use Rattle.record_worlds.specs.Worlds.{once_checked, sides_of, standing_of, joined_world, named_world_of, world_of};
 
 use crate::items::{Side, WorldItems, read_world_items};
 use crate::naming::{Entry, Names, names_of, rename_entries};
@@ -12,6 +12,7 @@ use crate::places::place_interfaces;
 use crate::rules::check_rules;
 use crate::tables::{Interfaces, SideTable, table_interfaces, table_side};
 use record_json::Failure;
+use record_types::ReadInterface;
 use record_values::{Interface, Wit};
 use serde_json::Value;
 use std::alloc::Global;
@@ -32,6 +33,16 @@ fn table_sides(alloc: Global, imports: &[Entry], exports: &[Entry]) -> Result<Si
     Ok(Sides { imports, exports })
 }
 
+/// The value, if a check has found no fault.
+fn checked<T: Drop>(check: Result<(), Failure>, value: T) -> Result<T, Failure>
+    ensures { result ≡ once_checked check value }
+{
+    match check {
+        Ok(_) => Ok(value),
+        Err(failure) => Err(failure),
+    }
+}
+
 /// The items of both sides by key, of which each names only what it may.
 #[tactic(auto, unfolding(crate::specs::Worlds::standing_of))]
 fn check_sides(
@@ -45,8 +56,36 @@ fn check_sides(
     let sides = table_sides(alloc, imports, exports)?;
     let imported = &sides.imports.interfaces;
     let exported = &sides.exports.interfaces;
-    check_rules(alloc, interfaces, imported, exported, imports, exports)?;
-    Ok(sides)
+    let check = check_rules(alloc, interfaces, imported, exported, imports, exports);
+    checked(check, sides)
+}
+
+/// What is known of the world, from the items of its sides.
+fn join_world(
+    alloc: Global,
+    names: &Names,
+    all: &[ReadInterface],
+    interfaces: Interfaces,
+    sides: Result<Sides, Failure>,
+) -> Result<RecordWorld, Failure>
+    ensures { Gives (λ w. w) result (joined_world names.now all.now interfaces sides) }
+{
+    match sides {
+        Err(failure) => Err(failure),
+        Ok(Sides { imports, exports }) => {
+            let imported = &imports.interfaces;
+            let exported = &exports.interfaces;
+            let placed = place_interfaces(alloc, names, imported, exported, all)?;
+            Ok(RecordWorld {
+                wit: Wit {
+                    interfaces,
+                    imports: imports.items,
+                    exports: exports.items,
+                },
+                interfaces: placed,
+            })
+        }
+    }
 }
 
 /// The world of these items, in which interfaces have these names.
@@ -54,21 +93,12 @@ fn check_sides(
 fn named_world(alloc: Global, names: &Names, read: &WorldItems) -> Result<RecordWorld, Failure>
     ensures { Gives (λ w. w) result (named_world_of ⟦<Interface as PartialEq>⟧.eq names.now read.now) }
 {
-    let record = read.interfaces.as_slice();
+    let all = read.interfaces.as_slice();
+    let table = table_interfaces(alloc, names, all)?;
     let imports = rename_entries(alloc, names, read.imports.as_slice())?;
     let exports = rename_entries(alloc, names, read.exports.as_slice())?;
-    let table = table_interfaces(alloc, names, record)?;
-    let sides = check_sides(alloc, &table, imports.as_slice(), exports.as_slice())?;
-    let Sides { imports, exports } = sides;
-    let placed = place_interfaces(alloc, names, &imports.interfaces, &exports.interfaces, record)?;
-    Ok(RecordWorld {
-        wit: Wit {
-            interfaces: table,
-            imports: imports.items,
-            exports: exports.items,
-        },
-        interfaces: placed,
-    })
+    let sides = check_sides(alloc, &table, imports.as_slice(), exports.as_slice());
+    join_world(alloc, names, all, table, sides)
 }
 
 /// The world of a record, from the whole object: its members `interfaces`, `imports` and `exports`, each of
