@@ -32,11 +32,12 @@ functions_of fs = functions_from [] 0 fs
 -- the interface at a place, where these are imported and these exported
 abbrev pub placed : Renames → Standing → Standing → ℕ → ReadInterface → PlacedInterface
 placed ns ims exs i x = record {
-    name = renamed ns (place_name i);
-    is_imported = is_some (lookup (is_same_interface (renamed ns (place_name i))) ims);
-    is_exported = is_some (lookup (is_same_interface (renamed ns (place_name i))) exs);
-    types = types_of x.known;
-    functions = functions_of x.functions }
+  name = renamed ns (place_name i);
+  is_imported = is_some (lookup (is_same_interface (renamed ns (place_name i))) ims);
+  is_exported = is_some (lookup (is_same_interface (renamed ns (place_name i))) exs);
+  types = types_of x.known;
+  functions = functions_of x.functions;
+}
 
 abbrev pub placed_from : Renames → Standing → Standing → ℕ → List ReadInterface → List PlacedInterface
 placed_from ns ims exs i [] = []

@@ -37,8 +37,9 @@ standing_of table ims exs = do
 abbrev pub joined_world : Renames → List ReadInterface → Interfaces → Result Sides Failure → Result RecordWorld Failure
 joined_world ns xs table (Err e) = Err e
 joined_world ns xs table (Ok s) = Ok (record {
-    wit = record { interfaces = table; imports = s.imports.items; exports = s.exports.items };
-    interfaces = placed_from ns s.imports.interfaces s.exports.interfaces 0 xs })
+  wit = record { interfaces = table; imports = s.imports.items; exports = s.exports.items };
+  interfaces = placed_from ns s.imports.interfaces s.exports.interfaces 0 xs;
+})
 
 -- the world of these items, in which interfaces have these names
 unfoldable pub named_world_of : Test → Renames → WorldItems → Result RecordWorld Failure

@@ -359,7 +359,14 @@ pub(crate) fn read_world_items(alloc: Global, value: &Value) -> Result<WorldItem
 {
     let interfaces = interfaces_member(alloc, value)?;
     let read = interfaces.as_slice();
-    let imports = items_member(alloc, Side::Import, read, Keyed::new(alloc), "imports", value)?;
+    let imports = items_member(
+        alloc,
+        Side::Import,
+        read,
+        Keyed::new(alloc),
+        "imports",
+        value,
+    )?;
     let ReadItems {
         items: imports,
         types,

@@ -12,10 +12,7 @@ use record_values::{Func, rename_name};
 use std::alloc::{AllocError, Global};
 
 /// The named types of an interface, and of each whether it is a resource itself.
-fn types_of(
-    alloc: Global,
-    known: &Keyed<Text, TypeFacts>,
-) -> Result<Keyed<Text, bool>, AllocError>
+fn types_of(alloc: Global, known: &Keyed<Text, TypeFacts>) -> Result<Keyed<Text, bool>, AllocError>
     ensures { IfOk result (λ t. t ≡ types_of known.now) }
 {
     let mut types = Keyed::new(alloc);

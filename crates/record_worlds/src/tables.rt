@@ -112,7 +112,11 @@ fn is_seen(interfaces: &Standing, item: &Item) -> bool
 }
 
 /// Adds an item to the interfaces that are there, where it is one.
-pub(crate) fn note_seen(alloc: Global, interfaces: &mut Standing, item: &Item) -> Result<(), AllocError>
+pub(crate) fn note_seen(
+    alloc: Global,
+    interfaces: &mut Standing,
+    item: &Item,
+) -> Result<(), AllocError>
     ensures { OnOk result (interfaces.new ≡ with_seen interfaces.old item.now) }
 {
     match item {
@@ -141,11 +145,7 @@ fn table_entries(alloc: Global, entries: &[Entry]) -> Result<SideTable, Failure>
 }
 
 /// The items of a side by key: no key and no interface stands twice.
-pub(crate) fn table_side(
-    alloc: Global,
-    side: Side,
-    entries: &[Entry],
-) -> Result<SideTable, Failure>
+pub(crate) fn table_side(alloc: Global, side: Side, entries: &[Entry]) -> Result<SideTable, Failure>
     ensures { Gives (λ t. t) result (side_at side entries.now) }
 {
     match side {
