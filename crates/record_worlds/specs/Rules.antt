@@ -4,7 +4,6 @@ use Rattle.std.specs.Prelude.{⊤, ℕ, suc, Bool, true, ◌&&◌, ◌||◌, Lis
 use Rattle.std.specs.List.{list_all}
 use Rattle.std.specs.Map.{lookup}
 use Rattle.std.specs.Fmt.{decimal}
-use Rattle.comp_lists.specs.Tables.{with_first}
 use Rattle.record_json.specs.declared.fault.Failure.{Failure}
 use Rattle.record_json.specs.Faults.{◌>>=◌}
 use Rattle.record_json.specs.Reading.{under, under_failure, here}
