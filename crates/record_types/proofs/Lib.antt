@@ -1,0 +1,4 @@
+pub mod Sums
+pub mod Cuts
+pub mod Counts
+pub mod Loop
