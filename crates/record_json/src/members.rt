@@ -1,6 +1,6 @@
 //! Members of JSON objects, with the path of the first fault.
 
-ghost use Rattle.std.specs.Prelude.{◌≡◌, ◌≢◌, ◌∷◌, ◌++◌, Ok, IfOk, map, option_map, option_and_then};
+ghost use Rattle.std.specs.Prelude.{◌≡◌, ◌≢◌, ◌<◌, ◌∷◌, ◌++◌, Ok, IfOk, map, option_map, option_and_then};
 ghost use Rattle.std.specs.List.{list_any};
 ghost use Rattle.std.specs.Str.{bytes_eq};
 ghost use Rattle.serde_json.specs.Find.{get, as_array};
@@ -142,7 +142,8 @@ pub fn bool_member(alloc: Global, value: &Value, key: &str) -> Result<bool, Fail
 /// A whole number below a limit.
 #[tactic(auto, unfolding(crate::specs::Reading::number_of))]
 pub fn read_number(alloc: Global, limit: u64, value: &Value) -> Result<u64, Failure>
-    ensures { Gives (λ n. n) result (number_of limit (view value.now)) }
+    ensures exact { Gives (λ n. n) result (number_of limit (view value.now)) }
+    ensures below { IfOk result (λ n. n < limit) }
 {
     match value.as_u64() {
         Some(number) => {

@@ -6,7 +6,7 @@ use Rattle.serde_json.specs.Data.{Data}
 use Rattle.serde_json.specs.Find.{get, as_null, as_array}
 use Rattle.record_json.specs.declared.fault.Failure.{Failure}
 use Rattle.record_json.specs.Faults.{◌>>=◌}
-use Rattle.record_json.specs.Reading.{under, here, at_member, text_of, text_at, only, bool_if, pair_of, list_at}
+use Rattle.record_json.specs.Reading.{under, here, at_member, text_of, text_at, only, bool_if, pair_of, items_from}
 use Rattle.record_values.specs.declared.types.Node.{Node}
 use Rattle.record_values.specs.declared.types.Typed.{Typed}
 use Rattle.record_values.specs.declared.types.Func.{Func}
@@ -21,6 +21,17 @@ param_of k d = do
   name ← under (codes "0") (text_of p.0)
   ns ← under (codes "1") (nodes_of k p.1)
   Ok (typed name ns)
+
+-- parameters
+unfoldable pub params_of : Names → Data → Result (List Typed) Failure
+params_of k d = do
+  ds ← ok_or (as_array d) here
+  items_from (param_of k) 0 ds
+
+-- none where they are left out
+abbrev pub params_if : Names → Option Data → Result (List Typed) Failure
+params_if k None = Ok []
+params_if k (Some d) = under (codes "params") (params_of k d)
 
 abbrev pub some_result : Names → Data → Result (Option (List Node)) Failure
 some_result k d = do
@@ -51,7 +62,7 @@ unfoldable pub function_of : Names → Data → Result Func Failure
 function_of k d = do
   _ ← only (codes "name" ∷ codes "params" ∷ codes "result" ∷ codes "async" ∷ []) d
   name ← text_at (codes "name") d
-  params ← list_at (param_of k) (codes "params") d
+  params ← params_if k (get (codes "params") d)
   result ← result_if k (get (codes "result") d)
   is_async ← async_of name d
   Ok (func name params result is_async)

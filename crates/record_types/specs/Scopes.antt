@@ -1,5 +1,5 @@
 -- The types that may be named at a place.
-use Rattle.std.specs.Prelude.{ℕ, List, ◌×◌, Bool}
+use Rattle.std.specs.Prelude.{ℕ, List, Bool}
 use Rattle.record_types.specs.declared.known.TypeFacts.{TypeFacts}
 use Rattle.record_types.specs.declared.known.ReadInterface.{ReadInterface}
 use Rattle.record_types.specs.declared.known.Scope.{Scope}

@@ -1,6 +1,6 @@
 -- Which type a value of JSON is: the name of a primitive type, or an object with one member, which says what
 -- the type is made of. Its nodes go behind those that are there, each behind its parts.
-use Rattle.std.specs.Prelude.{◌≡◌, ◌≢◌, ℕ, zero, suc, ◌==◌, ◌&&◌, nat_lt, length, List, [], ◌∷◌, ◌++◌, codes, Bool, true, false, not, Option, Some, None, is_some, ok_or, option_and_then, Result, Ok, Err, ◌×◌, if◌then◌else◌}
+use Rattle.std.specs.Prelude.{◌≡◌, ◌≢◌, ℕ, zero, suc, ◌==◌, ◌&&◌, nat_lt, length, List, [], ◌∷◌, ◌++◌, codes, Bool, true, false, not, Option, Some, None, is_some, ok_or, option_and_then, Result, Ok, Err, if◌then◌else◌}
 use Rattle.std.specs.Fmt.{decimal}
 use Rattle.std.specs.Str.{bytes_eq}
 use Rattle.serde_json.specs.Data.{Data, Items, no_items, item}

@@ -5,9 +5,8 @@ ghost use Rattle.serde_json.specs.Find.{get};
 ghost use Rattle.serde_json.specs.View.{view, items_view};
 ghost use Rattle.std.specs.Prelude.{codes};
 ghost use Rattle.record_json.specs.Faults.{Gives};
-ghost use Rattle.record_json.specs.Reading.{items_from, list_of, list_at};
 ghost use Rattle.record_types.specs.Scopes.{names_in};
-ghost use Rattle.record_types.specs.Functions.{param_of, result_of, result_if, is_constructor, async_of, function_of};
+ghost use Rattle.record_types.specs.Functions.{param_of, params_of, params_if, result_of, result_if, is_constructor, async_of, function_of};
 
 use crate::known::Scope;
 use crate::types::read_nodes;
@@ -33,9 +32,9 @@ fn read_param(alloc: Global, scope: &Scope<'_>, value: &Value) -> Result<Typed, 
     Ok(Typed { name, nodes })
 }
 
-#[tactic(auto, unfolding(crate::specs::Reading::list_of))]
+#[tactic(auto, unfolding(crate::specs::Functions::params_of))]
 fn read_params(alloc: Global, scope: &Scope<'_>, value: &Value) -> Result<Seq<Typed>, Failure>
-    ensures { Gives (λ x. x) result (list_of (param_of (names_in scope.now)) (view value.now)) }
+    ensures { Gives (λ x. x) result (params_of (names_in scope.now) (view value.now)) }
 {
     let Some(values) = value.as_array() else {
         return Err(fault_here(alloc));
@@ -50,7 +49,7 @@ fn read_params(alloc: Global, scope: &Scope<'_>, value: &Value) -> Result<Seq<Ty
 
 /// The parameters, none where they are left out.
 fn params_member(alloc: Global, scope: &Scope<'_>, value: &Value) -> Result<Seq<Typed>, Failure>
-    ensures { Gives (λ x. x) result (list_at (param_of (names_in scope.now)) (codes "params") (view value.now)) }
+    ensures { Gives (λ x. x) result (params_if (names_in scope.now) (get (codes "params") (view value.now))) }
 {
     match value.get("params") {
         None => Ok(Seq::new(alloc)),

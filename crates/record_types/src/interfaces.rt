@@ -1,6 +1,8 @@
 //! Interfaces.
 
-ghost use Rattle.std.specs.Prelude.{◌≡◌};
+ghost use Rattle.std.specs.Prelude.{◌≡◌, OnOk};
+ghost use Rattle.std.specs.Str.{bytes_eq};
+ghost use Rattle.comp_lists.specs.Tables.{with_first};
 ghost use Rattle.serde_json.specs.View.{view};
 ghost use Rattle.record_json.specs.Faults.{Gives};
 ghost use Rattle.record_types.specs.Scopes.{names_in};
@@ -12,9 +14,7 @@ use crate::ids::read_id;
 use crate::known::{ReadInterface, Scope, TypeFacts};
 use crate::named::read_named_type;
 use comp_lists::{Keyed, Seq, Text};
-use record_json::{
-    Failure, check_members, fault_at, fault_here, required, under, under_index,
-};
+use record_json::{Failure, check_members, fault_at, fault_here, required, under, under_index};
 use record_values::{Func, Typed};
 use serde_json::Value;
 use std::alloc::Global;
@@ -36,6 +36,19 @@ fn read_next_type(
     read_named_type(alloc, &scope, value)
 }
 
+/// What is known of a name, beside what was known.
+fn add_known(
+    alloc: Global,
+    known: &mut Keyed<Text, TypeFacts>,
+    name: &Text,
+    facts: TypeFacts,
+) -> Result<(), Failure>
+    ensures { OnOk result (known.new ≡ with_first bytes_eq known.old name.now facts) }
+{
+    known.add_first(name.clone(alloc)?, facts)?;
+    Ok(())
+}
+
 /// The types of an interface, and what is known of them.
 #[tactic(auto, unfolding(crate::specs::Interfaces::types_of))]
 fn read_types(
@@ -53,7 +66,7 @@ fn read_types(
     for (index, value) in values.iter().enumerate() {
         let next = read_next_type(alloc, done, &known, value);
         let (typed, facts) = under_index(alloc, index, next)?;
-        known.add_first(typed.name.clone(alloc)?, facts)?;
+        add_known(alloc, &mut known, &typed.name, facts)?;
         types.push(typed)?;
     }
     Ok((types, known))
@@ -77,11 +90,7 @@ fn read_new_function(
 }
 
 #[tactic(auto, unfolding(crate::specs::Interfaces::functions_of))]
-fn read_functions(
-    alloc: Global,
-    scope: &Scope<'_>,
-    value: &Value,
-) -> Result<Seq<Func>, Failure>
+fn read_functions(alloc: Global, scope: &Scope<'_>, value: &Value) -> Result<Seq<Func>, Failure>
     ensures { Gives (λ x. x) result (functions_of (names_in scope.now) (view value.now)) }
 {
     let Some(values) = value.as_array() else {

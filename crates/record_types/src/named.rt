@@ -13,9 +13,7 @@ use crate::references::read_reference;
 use crate::sizes::{above, simple};
 use crate::types::read_type;
 use comp_lists::{Keyed, Seq, Text};
-use record_json::{
-    Failure, check_members, fault_here, only_member, read_text, required, under,
-};
+use record_json::{Failure, check_members, fault_here, only_member, read_text, required, under};
 use record_values::{Node, Typed};
 use serde_json::Value;
 use std::alloc::Global;

@@ -5,7 +5,7 @@ ghost use Rattle.serde_json.specs.View.{view, items_view};
 ghost use Rattle.record_json.specs.Faults.{Gives};
 ghost use Rattle.record_json.specs.Reading.{items_from, text_of};
 ghost use Rattle.record_types.specs.Scopes.{names_in};
-ghost use Rattle.record_types.specs.Types.{GivesWith, behind, alone, some_items, labels_of, enum_of, flags_of, resource_of, own_of, borrow_of, ref_of, plain_of, primitive_type};
+ghost use Rattle.record_types.specs.Types.{GivesWith, behind, alone, some_of, some_items, labels_of, enum_of, flags_of, resource_of, own_of, borrow_of, ref_of, plain_of, primitive_type};
 
 use crate::known::{Scope, Size};
 use crate::primitives::primitive;
@@ -39,17 +39,25 @@ fn push_alone(node: Node, nodes: &mut Seq<Node>) -> Result<Size, Failure>
     Ok(simple())
 }
 
+/// These values, unless there are none.
+#[tactic(auto, using(crate::proofs::Arrays::some_are_some))]
+fn unless_empty(alloc: Global, values: &[Value]) -> Result<&[Value], Failure>
+    ensures { Gives (λ v. items_view v.now) result (some_of (items_view values.now)) }
+{
+    match values {
+        [] => Err(fault_here(alloc)),
+        [_, ..] => Ok(values),
+    }
+}
+
 /// The items of an array that has at least one.
 #[tactic(auto, unfolding(crate::specs::Types::some_items))]
 pub(crate) fn some_items(alloc: Global, value: &Value) -> Result<&[Value], Failure>
     ensures { Gives (λ v. items_view v.now) result (some_items (view value.now)) }
 {
-    let Some(values) = value.as_array() else {
-        return Err(fault_here(alloc));
-    };
-    match values.as_slice() {
-        [] => Err(fault_here(alloc)),
-        [..] => Ok(values.as_slice()),
+    match value.as_array() {
+        Some(values) => unless_empty(alloc, values.as_slice()),
+        None => Err(fault_here(alloc)),
     }
 }
 

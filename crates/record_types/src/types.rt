@@ -40,11 +40,9 @@ pub(crate) fn read_type(
     let Some((key, member)) = only_member(value) else {
         return Err(fault_here(alloc));
     };
-    under(
-        alloc,
-        key,
-        read_kind(alloc, levels - 1, scope, key, member, nodes),
-    )
+    let read = read_kind(alloc, levels - 1, scope, key, member, nodes);
+    let size = under(alloc, key, read)?;
+    Ok(size)
 }
 
 /// A type by the name and the value of its one member.

@@ -11,12 +11,12 @@ use Rattle.record_values.specs.declared.world.ItemKey.{ItemKey}
 use Rattle.record_values.specs.declared.world.ItemKey.TheVariants as keys
 use Rattle.record_values.specs.declared.record.ImportName.{ImportName}
 
--- how an interface is named, as a number
+-- how an interface is named, as a number above zero
 abbrev pub name_kind : InterfaceName → ℕ
-name_kind (names.Id text) = 0
-name_kind (names.Imported text) = 1
-name_kind (names.Exported text) = 2
-name_kind (names.Unused place) = 3 + place
+name_kind (names.Id text) = 1
+name_kind (names.Imported text) = 2
+name_kind (names.Exported text) = 3
+name_kind (names.Unused place) = 4 + place
 
 abbrev pub name_text : InterfaceName → List ℕ
 name_text (names.Id text) = text
@@ -27,10 +27,10 @@ name_text (names.Unused place) = []
 abbrev pub is_same_interface : InterfaceName → InterfaceName → Bool
 is_same_interface = eq_of_both (on name_kind nat_eq) (on name_text bytes_eq)
 
--- the world, or how the interface is named
+-- zero for the world
 abbrev pub owner_kind : Owner → ℕ
 owner_kind owners.World = 0
-owner_kind (owners.Interface name) = 1 + name_kind name
+owner_kind (owners.Interface name) = name_kind name
 
 abbrev pub owner_text : Owner → List ℕ
 owner_text owners.World = []
@@ -40,7 +40,7 @@ abbrev pub is_same_owner : Owner → Owner → Bool
 is_same_owner = eq_of_both (on owner_kind nat_eq) (on owner_text bytes_eq)
 
 abbrev pub is_same_type : TypeName → TypeName → Bool
-is_same_type = eq_of_both (on (λ t. t.owner) is_same_owner) (on (λ t. t.name) bytes_eq)
+is_same_type = eq_of_both (eq_of_both (on (λ t. owner_kind t.owner) nat_eq) (on (λ t. owner_text t.owner) bytes_eq)) (on (λ t. t.name) bytes_eq)
 
 -- a plain name, or an interface's id
 abbrev pub key_kind : ItemKey → ℕ

@@ -1,5 +1,5 @@
 -- What becomes of types, functions and items where interfaces become others: all that names one follows.
-use Rattle.std.specs.Prelude.{List, ◌×◌, map}
+use Rattle.std.specs.Prelude.{List, map}
 use Rattle.std.specs.Option.{option_map, unwrap_or}
 use Rattle.std.specs.Map.{lookup}
 use Rattle.record_values.specs.declared.names.InterfaceName.{InterfaceName}

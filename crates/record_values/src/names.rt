@@ -32,15 +32,15 @@ pub struct TypeName {
 }
 
 impl InterfaceName {
-    /// The way of naming, as a number.
+    /// The way of naming, as a number above zero.
     fn kind(&self) -> u64
         ensures { result ≡ name_kind self.now }
     {
         match self {
-            InterfaceName::Id(_) => 0,
-            InterfaceName::Imported(_) => 1,
-            InterfaceName::Exported(_) => 2,
-            InterfaceName::Unused(place) => 3 + *place as u64,
+            InterfaceName::Id(_) => 1,
+            InterfaceName::Imported(_) => 2,
+            InterfaceName::Exported(_) => 3,
+            InterfaceName::Unused(place) => 4 + *place as u64,
         }
     }
 
@@ -101,7 +101,7 @@ impl Owner {
     {
         match self {
             Owner::World => 0,
-            Owner::Interface(name) => 1 + name.kind(),
+            Owner::Interface(name) => name.kind(),
         }
     }
 

@@ -22,6 +22,13 @@ pub enum Intrinsic {
     ErrorContextDrop,
 }
 
+/// What carries values from one component to another.
+#[derive(Clone, Copy, Debug, PartialEq, Eq)]
+pub enum PayloadKind {
+    Stream,
+    Future,
+}
+
 /// What is done to a stream or a future (Canonical ABI: `stream.new`, `future.read` and the like).
 #[derive(Clone, Copy, Debug, PartialEq, Eq)]
 pub enum PayloadOperation {
@@ -71,14 +78,10 @@ pub enum ImportRole {
     SubtaskCancel {
         is_async: bool,
     },
-    /// An operation on a stream; only reads, writes and their cancellations can be asynchronous.
-    Stream {
-        operation: PayloadOperation,
-        payload: Payload,
-        is_async: bool,
-    },
-    /// An operation on a future.
-    Future {
+    /// An operation on a stream or a future; only reads, writes and their cancellations can be
+    /// asynchronous.
+    Payload {
+        kind: PayloadKind,
         operation: PayloadOperation,
         payload: Payload,
         is_async: bool,

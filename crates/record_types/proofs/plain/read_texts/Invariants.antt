@@ -5,4 +5,4 @@ use Rattle.record_types.proofs.Loop.{with_front}
 use Rattle.record_types.proofs.plain.read_texts.Given as goal
 
 abbrev pub invariant-loop-index : goal.invariant-loop-index
-invariant-loop-index l = with_front l.texts (items_from text_of l.index (items_view (drop l.index l.value-items))) ≡ items_from text_of 0 (items_view l.value-items)
+invariant-loop-index l = with_front l.texts (items_from text_of l.index (items_view (drop l.index l.values))) ≡ items_from text_of 0 (items_view l.values)

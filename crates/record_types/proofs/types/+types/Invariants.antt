@@ -49,15 +49,15 @@ decreases-read_kind l = 6 * l.levels + 5
 
 abbrev pub invariant-read_parts-loop-index : goal.invariant-read_parts-loop-index
 invariant-read_parts-loop-index l =
-    tuple_from (type_of l.levels (names_in l.scope)) l.index (items_view (drop l.index l.value-items)) l.size l.nodes
-    ≡ tuple_from (type_of l.levels (names_in l.scope)) 0 (items_view l.value-items) nothing l.fn.nodes
+    tuple_from (type_of l.levels (names_in l.scope)) l.index (items_view (drop l.index l.values)) l.size l.nodes
+    ≡ tuple_from (type_of l.levels (names_in l.scope)) 0 (items_view l.values) nothing l.fn.nodes
 
 abbrev pub invariant-read_fields-loop-index : goal.invariant-read_fields-loop-index
 invariant-read_fields-loop-index l =
-    fields_from (type_of l.levels (names_in l.scope)) l.index (items_view (drop l.index l.value-items)) l.names l.parts l.nodes
-    ≡ fields_from (type_of l.levels (names_in l.scope)) 0 (items_view l.value-items) [] nothing l.fn.nodes
+    fields_from (type_of l.levels (names_in l.scope)) l.index (items_view (drop l.index l.values)) l.names l.parts l.nodes
+    ≡ fields_from (type_of l.levels (names_in l.scope)) 0 (items_view l.values) [] nothing l.fn.nodes
 
 abbrev pub invariant-read_cases-loop-index : goal.invariant-read_cases-loop-index
 invariant-read_cases-loop-index l =
-    cases_from (type_of l.levels (names_in l.scope)) l.index (items_view (drop l.index l.value-items)) l.cases l.parts l.nodes
-    ≡ cases_from (type_of l.levels (names_in l.scope)) 0 (items_view l.value-items) [] nothing l.fn.nodes
+    cases_from (type_of l.levels (names_in l.scope)) l.index (items_view (drop l.index l.values)) l.cases l.parts l.nodes
+    ≡ cases_from (type_of l.levels (names_in l.scope)) 0 (items_view l.values) [] nothing l.fn.nodes
