@@ -12,6 +12,7 @@ use Rattle.record_json.specs.Faults.{◌>>=◌}
 use Rattle.record_json.specs.Reading.{under, here, at_member, required, only}
 use Rattle.record_values.specs.declared.types.Typed.{Typed}
 use Rattle.record_values.specs.declared.types.Func.{Func}
+use Rattle.record_types.specs.declared.known.TypeFacts.{TypeFacts}
 use Rattle.record_types.specs.declared.known.ReadInterface.{ReadInterface}
 use Rattle.record_types.specs.Scopes.{Table, Names}
 use Rattle.record_types.specs.Named.{named_type_of}
@@ -22,12 +23,16 @@ use Rattle.record_types.specs.Ids.{id_of}
 abbrev pub inside : List ReadInterface → Table → Names
 inside done known = record { done = done; current = known; is_world = false }
 
+-- what is known of a name, beside what was known
+unfoldable pub with_known : Table → List ℕ → TypeFacts → Table
+with_known known name facts = with_first bytes_eq known name facts
+
 -- types behind these; the first of them is at this index
 abbrev pub types_from : List ReadInterface → ℕ → Items → List Typed → Table → Result (List Typed × Table) Failure
 types_from done i no_items types known = Ok (types, known)
 types_from done i (item d ds) types known = do
   t ← under (decimal i) (named_type_of (inside done known) d)
-  types_from done (suc i) ds (types ++ t.0 ∷ []) (with_first bytes_eq known t.0.name t.1)
+  types_from done (suc i) ds (types ++ t.0 ∷ []) (with_known known t.0.name t.1)
 
 unfoldable pub types_of : List ReadInterface → Data → Result (List Typed × Table) Failure
 types_of done d = do
@@ -37,6 +42,10 @@ types_of done d = do
 -- names of functions
 abbrev pub Seen : Type 0
 Seen = List (List ℕ × ⊤)
+
+-- a name, beside those that were seen
+unfoldable pub with_name : Seen → List ℕ → Seen
+with_name seen name = with_first bytes_eq seen name tt
 
 -- a function whose name is none of these
 unfoldable pub new_function : Names → Seen → Data → Result Func Failure
@@ -49,7 +58,7 @@ abbrev pub functions_from : Names → ℕ → Items → List Func → Seen → R
 functions_from k i no_items fs seen = Ok fs
 functions_from k i (item d ds) fs seen = do
   f ← under (decimal i) (new_function k seen d)
-  functions_from k (suc i) ds (fs ++ f ∷ []) (with_first bytes_eq seen f.name tt)
+  functions_from k (suc i) ds (fs ++ f ∷ []) (with_name seen f.name)
 
 unfoldable pub functions_of : Names → Data → Result (List Func) Failure
 functions_of k d = do

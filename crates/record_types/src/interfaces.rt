@@ -1,13 +1,11 @@
 //! Interfaces.
 
 ghost use Rattle.std.specs.Prelude.{◌≡◌, OnOk};
-ghost use Rattle.std.specs.Str.{bytes_eq};
-ghost use Rattle.comp_lists.specs.Tables.{with_first};
 ghost use Rattle.serde_json.specs.View.{view};
 ghost use Rattle.record_json.specs.Faults.{Gives};
 ghost use Rattle.record_types.specs.Scopes.{names_in};
 ghost use Rattle.record_types.specs.Named.{named_type_of};
-ghost use Rattle.record_types.specs.Interfaces.{inside, types_of, new_function, functions_of, members_of, interface_of, interfaces_of};
+ghost use Rattle.record_types.specs.Interfaces.{inside, with_known, with_name, types_of, new_function, functions_of, members_of, interface_of, interfaces_of};
 
 use crate::functions::read_function;
 use crate::ids::read_id;
@@ -17,7 +15,7 @@ use comp_lists::{Keyed, Seq, Text};
 use record_json::{Failure, check_members, fault_at, fault_here, required, under, under_index};
 use record_values::{Func, Typed};
 use serde_json::Value;
-use std::alloc::Global;
+use std::alloc::{AllocError, Global};
 
 /// The next type of an interface with these types so far.
 fn read_next_type(
@@ -37,15 +35,25 @@ fn read_next_type(
 }
 
 /// What is known of a name, beside what was known.
+#[tactic(auto, unfolding(crate::specs::Interfaces::with_known))]
 fn add_known(
     alloc: Global,
     known: &mut Keyed<Text, TypeFacts>,
     name: &Text,
     facts: TypeFacts,
-) -> Result<(), Failure>
-    ensures { OnOk result (known.new ≡ with_first bytes_eq known.old name.now facts) }
+) -> Result<(), AllocError>
+    ensures { OnOk result (known.new ≡ with_known known.old name.now facts) }
 {
     known.add_first(name.clone(alloc)?, facts)?;
+    Ok(())
+}
+
+/// A name, beside those that were seen.
+#[tactic(auto, unfolding(crate::specs::Interfaces::with_name))]
+fn add_name(alloc: Global, seen: &mut Keyed<Text, ()>, name: &Text) -> Result<(), AllocError>
+    ensures { OnOk result (seen.new ≡ with_name seen.old name.now) }
+{
+    seen.add_first(name.clone(alloc)?, ())?;
     Ok(())
 }
 
@@ -101,7 +109,7 @@ fn read_functions(alloc: Global, scope: &Scope<'_>, value: &Value) -> Result<Seq
     for (index, value) in values.iter().enumerate() {
         let next = read_new_function(alloc, scope, &seen, value);
         let function = under_index(alloc, index, next)?;
-        seen.add_first(function.name.clone(alloc)?, ())?;
+        add_name(alloc, &mut seen, &function.name)?;
         functions.push(function)?;
     }
     Ok(functions)

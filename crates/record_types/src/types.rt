@@ -3,6 +3,7 @@
 ghost use Rattle.std.specs.Prelude.{◌≡◌, []};
 ghost use Rattle.serde_json.specs.View.{view, items_view};
 ghost use Rattle.record_json.specs.Faults.{Gives};
+ghost use Rattle.record_json.specs.Reading.{under};
 ghost use Rattle.record_values.specs.declared.types.Node.TheVariants as variants;
 ghost use Rattle.record_types.specs.Scopes.{names_in};
 ghost use Rattle.record_types.specs.Sizes.{nothing};
@@ -40,8 +41,26 @@ pub(crate) fn read_type(
     let Some((key, member)) = only_member(value) else {
         return Err(fault_here(alloc));
     };
-    let read = read_kind(alloc, levels - 1, scope, key, member, nodes);
-    let size = under(alloc, key, read)?;
+    read_member(alloc, levels - 1, scope, key, member, nodes)
+}
+
+/// A type by its one member, whose name is a part of paths.
+#[cycle(types)]
+fn read_member(
+    alloc: Global,
+    levels: u32,
+    scope: &Scope<'_>,
+    key: &str,
+    value: &Value,
+    nodes: &mut Seq<Node>,
+) -> Result<Size, Failure>
+    ensures { GivesWith result nodes.new (under key.now (kind_of (names_in scope.now) (type_of levels (names_in scope.now)) key.now (view value.now) nodes.old)) }
+{
+    let size = under(
+        alloc,
+        key,
+        read_kind(alloc, levels, scope, key, value, nodes),
+    )?;
     Ok(size)
 }
 
