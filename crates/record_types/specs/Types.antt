@@ -204,9 +204,13 @@ primitive_type s ns = do
   p ← ok_or (primitive_of s) here
   alone (nodes.Primitive p) ns
 
+-- the name of the member is a part of paths
+unfoldable pub member_of : Names → Reader → List ℕ → Reader
+member_of k read key d ns = under key (kind_of k read key d ns)
+
 abbrev pub compound_of : Names → Reader → Option (List ℕ × Data) → List Node → With Size
 compound_of k read None ns = Err here
-compound_of k read (Some m) ns = under m.0 (kind_of k read m.0 m.1 ns)
+compound_of k read (Some m) ns = member_of k read m.0 m.1 ns
 
 abbrev pub type_by : Names → Reader → Option (List ℕ) → Reader
 type_by k read (Some s) d ns = primitive_type s ns

@@ -3,11 +3,11 @@
 ghost use Rattle.std.specs.Prelude.{◌≡◌, []};
 ghost use Rattle.serde_json.specs.View.{view, items_view};
 ghost use Rattle.record_json.specs.Faults.{Gives};
-ghost use Rattle.record_json.specs.Reading.{under};
+ghost use Rattle.record_json.specs.Reading.{single};
 ghost use Rattle.record_values.specs.declared.types.Node.TheVariants as variants;
 ghost use Rattle.record_types.specs.Scopes.{names_in};
 ghost use Rattle.record_types.specs.Sizes.{nothing};
-ghost use Rattle.record_types.specs.Types.{GivesWith, is_part, part_of, item_count, holding_of, carrying_of, result_of, tuple_from, tuple_of, field_of, fields_from, record_of, case_of, cases_from, variant_of, kind_of, type_of, nodes_of};
+ghost use Rattle.record_types.specs.Types.{GivesWith, is_part, part_of, item_count, holding_of, carrying_of, result_of, tuple_from, tuple_of, field_of, fields_from, record_of, case_of, cases_from, variant_of, kind_of, member_of, compound_of, type_of, nodes_of};
 
 use crate::known::{Scope, Size};
 use crate::plain::{push_behind, read_plain, read_primitive, some_items};
@@ -38,14 +38,29 @@ pub(crate) fn read_type(
     if let Some(name) = value.as_str() {
         return read_primitive(alloc, name, nodes);
     }
+    read_compound(alloc, levels - 1, scope, value, nodes)
+}
+
+/// A type by the one member of an object.
+#[cycle(types)]
+fn read_compound(
+    alloc: Global,
+    levels: u32,
+    scope: &Scope<'_>,
+    value: &Value,
+    nodes: &mut Seq<Node>,
+) -> Result<Size, Failure>
+    ensures { GivesWith result nodes.new (compound_of (names_in scope.now) (type_of levels (names_in scope.now)) (single (view value.now)) nodes.old) }
+{
     let Some((key, member)) = only_member(value) else {
         return Err(fault_here(alloc));
     };
-    read_member(alloc, levels - 1, scope, key, member, nodes)
+    read_member(alloc, levels, scope, key, member, nodes)
 }
 
 /// A type by its one member, whose name is a part of paths.
 #[cycle(types)]
+#[tactic(auto, unfolding(crate::specs::Types::member_of))]
 fn read_member(
     alloc: Global,
     levels: u32,
@@ -54,7 +69,7 @@ fn read_member(
     value: &Value,
     nodes: &mut Seq<Node>,
 ) -> Result<Size, Failure>
-    ensures { GivesWith result nodes.new (under key.now (kind_of (names_in scope.now) (type_of levels (names_in scope.now)) key.now (view value.now) nodes.old)) }
+    ensures { GivesWith result nodes.new (member_of (names_in scope.now) (type_of levels (names_in scope.now)) key.now (view value.now) nodes.old) }
 {
     let size = under(
         alloc,

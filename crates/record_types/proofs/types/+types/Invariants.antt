@@ -6,49 +6,52 @@ use Rattle.record_types.specs.Types.{type_of, tuple_from, fields_from, cases_fro
 use Rattle.record_types.proofs.types.+types.Given as goal
 
 abbrev pub decreases-read_type : goal.decreases-read_type
-decreases-read_type l = 7 * l.levels
+decreases-read_type l = 8 * l.levels
 
 abbrev pub decreases-read_part : goal.decreases-read_part
-decreases-read_part l = 7 * l.levels + 1
+decreases-read_part l = 8 * l.levels + 1
 
 abbrev pub decreases-read_field : goal.decreases-read_field
-decreases-read_field l = 7 * l.levels + 2
+decreases-read_field l = 8 * l.levels + 2
 
 abbrev pub decreases-read_case : goal.decreases-read_case
-decreases-read_case l = 7 * l.levels + 2
+decreases-read_case l = 8 * l.levels + 2
 
 abbrev pub decreases-read_parts : goal.decreases-read_parts
-decreases-read_parts l = 7 * l.levels + 3
+decreases-read_parts l = 8 * l.levels + 3
 
 abbrev pub decreases-read_fields : goal.decreases-read_fields
-decreases-read_fields l = 7 * l.levels + 3
+decreases-read_fields l = 8 * l.levels + 3
 
 abbrev pub decreases-read_cases : goal.decreases-read_cases
-decreases-read_cases l = 7 * l.levels + 3
+decreases-read_cases l = 8 * l.levels + 3
 
 abbrev pub decreases-read_holding : goal.decreases-read_holding
-decreases-read_holding l = 7 * l.levels + 4
+decreases-read_holding l = 8 * l.levels + 4
 
 abbrev pub decreases-read_carrying : goal.decreases-read_carrying
-decreases-read_carrying l = 7 * l.levels + 4
+decreases-read_carrying l = 8 * l.levels + 4
 
 abbrev pub decreases-read_result : goal.decreases-read_result
-decreases-read_result l = 7 * l.levels + 4
+decreases-read_result l = 8 * l.levels + 4
 
 abbrev pub decreases-read_tuple : goal.decreases-read_tuple
-decreases-read_tuple l = 7 * l.levels + 4
+decreases-read_tuple l = 8 * l.levels + 4
 
 abbrev pub decreases-read_record : goal.decreases-read_record
-decreases-read_record l = 7 * l.levels + 4
+decreases-read_record l = 8 * l.levels + 4
 
 abbrev pub decreases-read_variant : goal.decreases-read_variant
-decreases-read_variant l = 7 * l.levels + 4
+decreases-read_variant l = 8 * l.levels + 4
 
 abbrev pub decreases-read_kind : goal.decreases-read_kind
-decreases-read_kind l = 7 * l.levels + 5
+decreases-read_kind l = 8 * l.levels + 5
 
 abbrev pub decreases-read_member : goal.decreases-read_member
-decreases-read_member l = 7 * l.levels + 6
+decreases-read_member l = 8 * l.levels + 6
+
+abbrev pub decreases-read_compound : goal.decreases-read_compound
+decreases-read_compound l = 8 * l.levels + 7
 
 abbrev pub invariant-read_parts-loop-index : goal.invariant-read_parts-loop-index
 invariant-read_parts-loop-index l =
