@@ -5,7 +5,7 @@ ghost use Rattle.serde_json.specs.View.{view};
 ghost use Rattle.record_json.specs.Faults.{Gives};
 ghost use Rattle.record_types.specs.Scopes.{names_in};
 ghost use Rattle.record_types.specs.Named.{named_type_of};
-ghost use Rattle.record_types.specs.Interfaces.{inside, with_known, with_name, types_of, new_function, functions_of, members_of, interface_of, interfaces_of};
+ghost use Rattle.record_types.specs.Interfaces.{inside, Becomes, with_known, with_name, next_type, next_function, types_of, new_function, functions_of, members_of, interface_of, interfaces_of};
 
 use crate::functions::read_function;
 use crate::ids::read_id;
@@ -57,6 +57,25 @@ fn add_name(alloc: Global, seen: &mut Keyed<Text, ()>, name: &Text) -> Result<()
     Ok(())
 }
 
+/// The type at an index, behind these.
+#[tactic(auto, unfolding(crate::specs::Interfaces::next_type))]
+fn push_type(
+    alloc: Global,
+    done: &[ReadInterface],
+    index: usize,
+    value: &Value,
+    types: &mut Seq<Typed>,
+    known: &mut Keyed<Text, TypeFacts>,
+) -> Result<(), Failure>
+    ensures { Becomes result (types.new, known.new) (next_type done.now index (view value.now) (types.old, known.old)) }
+{
+    let next = read_next_type(alloc, done, known, value);
+    let (typed, facts) = under_index(alloc, index, next)?;
+    add_known(alloc, known, &typed.name, facts)?;
+    types.push(typed)?;
+    Ok(())
+}
+
 /// The types of an interface, and what is known of them.
 #[tactic(auto, unfolding(crate::specs::Interfaces::types_of))]
 fn read_types(
@@ -72,10 +91,7 @@ fn read_types(
     let mut types = Seq::new(alloc);
     let mut known = Keyed::new(alloc);
     for (index, value) in values.iter().enumerate() {
-        let next = read_next_type(alloc, done, &known, value);
-        let (typed, facts) = under_index(alloc, index, next)?;
-        add_known(alloc, &mut known, &typed.name, facts)?;
-        types.push(typed)?;
+        push_type(alloc, done, index, value, &mut types, &mut known)?;
     }
     Ok((types, known))
 }
@@ -97,6 +113,25 @@ fn read_new_function(
     Ok(function)
 }
 
+/// The function at an index, behind these.
+#[tactic(auto, unfolding(crate::specs::Interfaces::next_function))]
+fn push_function(
+    alloc: Global,
+    scope: &Scope<'_>,
+    index: usize,
+    value: &Value,
+    functions: &mut Seq<Func>,
+    seen: &mut Keyed<Text, ()>,
+) -> Result<(), Failure>
+    ensures { Becomes result (functions.new, seen.new) (next_function (names_in scope.now) index (view value.now) (functions.old, seen.old)) }
+{
+    let next = read_new_function(alloc, scope, seen, value);
+    let function = under_index(alloc, index, next)?;
+    add_name(alloc, seen, &function.name)?;
+    functions.push(function)?;
+    Ok(())
+}
+
 #[tactic(auto, unfolding(crate::specs::Interfaces::functions_of))]
 fn read_functions(alloc: Global, scope: &Scope<'_>, value: &Value) -> Result<Seq<Func>, Failure>
     ensures { Gives (λ x. x) result (functions_of (names_in scope.now) (view value.now)) }
@@ -107,10 +142,7 @@ fn read_functions(alloc: Global, scope: &Scope<'_>, value: &Value) -> Result<Seq
     let mut functions = Seq::new(alloc);
     let mut seen = Keyed::new(alloc);
     for (index, value) in values.iter().enumerate() {
-        let next = read_new_function(alloc, scope, &seen, value);
-        let function = under_index(alloc, index, next)?;
-        add_name(alloc, &mut seen, &function.name)?;
-        functions.push(function)?;
+        push_function(alloc, scope, index, value, &mut functions, &mut seen)?;
     }
     Ok(functions)
 }
