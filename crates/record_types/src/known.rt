@@ -33,6 +33,7 @@ pub struct ReadInterface {
 
 /// The types that may be named at a place: those of the interfaces before, and those of the interface
 /// that is being read, or of the world.
+#[derive(Drop)]
 pub struct Scope<'a> {
     pub done: &'a [ReadInterface],
     pub current: &'a Keyed<Text, TypeFacts>,

@@ -1,0 +1,5 @@
+pub mod Sums
+pub mod Cuts
+pub mod Counts
+pub mod Loop
+pub mod Arrays

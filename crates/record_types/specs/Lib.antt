@@ -1,0 +1,9 @@
+pub mod Scopes
+pub mod Sizes
+pub mod References
+pub mod Primitives
+pub mod Types
+pub mod Named
+pub mod Functions
+pub mod Ids
+pub mod Interfaces

@@ -1,0 +1,87 @@
+//! References to named types.
+
+ghost use Rattle.std.specs.Prelude.{◌≡◌, option_map, option_copied};
+ghost use Rattle.serde_json.specs.View.{view};
+ghost use Rattle.record_json.specs.Faults.{Gives};
+ghost use Rattle.record_types.specs.Scopes.{names_in};
+ghost use Rattle.record_types.specs.References.{table_at, interface_at, owner_of, reference_of};
+
+use crate::known::{Scope, TypeFacts};
+use comp_lists::{Keyed, Text};
+use record_json::{Failure, fault_at, fault_here, pair_items, read_text, under};
+use record_values::{InterfaceName, Owner, TypeName};
+use serde_json::Value;
+use std::alloc::Global;
+
+/// The named types of the interface at a place.
+fn table_at<'s>(scope: &'s Scope<'_>, place: u32) -> Option<&'s Keyed<Text, TypeFacts>>
+    ensures { option_map (λ t. t.now) result ≡ table_at (names_in scope.now) place }
+{
+    match scope.done.get(place as usize) {
+        Some(interface) => Some(&interface.known),
+        None => {
+            if place as usize == scope.done.len() && !scope.is_world {
+                Some(scope.current)
+            } else {
+                None
+            }
+        }
+    }
+}
+
+fn read_interface_at<'s>(
+    alloc: Global,
+    scope: &'s Scope<'_>,
+    place: u32,
+) -> Result<(Owner, &'s Keyed<Text, TypeFacts>), Failure>
+    ensures { Gives (λ p. (p.0, p.1.now)) result (interface_at (names_in scope.now) place) }
+{
+    match table_at(scope, place) {
+        Some(table) => Ok((Owner::Interface(InterfaceName::Unused(place)), table)),
+        None => Err(fault_here(alloc)),
+    }
+}
+
+/// Whose types a reference speaks of, and these types.
+#[tactic(auto, unfolding(crate::specs::References::owner_of))]
+fn read_owner<'s>(
+    alloc: Global,
+    scope: &'s Scope<'_>,
+    value: &Value,
+) -> Result<(Owner, &'s Keyed<Text, TypeFacts>), Failure>
+    ensures { Gives (λ p. (p.0, p.1.now)) result (owner_of (names_in scope.now) (view value.now)) }
+{
+    if value.is_null() {
+        if scope.is_world {
+            return Ok((Owner::World, scope.current));
+        }
+        return Err(fault_here(alloc));
+    }
+    let Some(place) = value.as_u64() else {
+        return Err(fault_here(alloc));
+    };
+    if place < 1 << 32 {
+        return read_interface_at(alloc, scope, place as u32);
+    }
+    Err(fault_here(alloc))
+}
+
+/// A named type: an array of the place of its interface, or null for the world, and its name.
+#[tactic(auto, unfolding(crate::specs::References::reference_of))]
+pub(crate) fn read_reference(
+    alloc: Global,
+    scope: &Scope<'_>,
+    value: &Value,
+) -> Result<(TypeName, TypeFacts), Failure>
+    ensures { Gives (λ r. r) result (reference_of (names_in scope.now) (view value.now)) }
+{
+    let Some((place, name)) = pair_items(value) else {
+        return Err(fault_here(alloc));
+    };
+    let (owner, table) = under(alloc, "0", read_owner(alloc, scope, place))?;
+    let name = under(alloc, "1", read_text(alloc, name))?;
+    match table.get(&name) {
+        Some(facts) => Ok((TypeName { owner, name }, *facts)),
+        None => Err(fault_at(alloc, "1")),
+    }
+}

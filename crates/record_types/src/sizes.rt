@@ -1,0 +1,73 @@
+//! How large types are, and the limits.
+
+ghost use Rattle.std.specs.Prelude.{◌≡◌, ◌+◌, min};
+ghost use Rattle.record_json.specs.Faults.{Gives};
+ghost use Rattle.record_types.specs.Sizes.{nothing, absent, simple, beside, above};
+
+use crate::known::Size;
+use record_json::{Failure, left_out};
+use std::alloc::Global;
+
+pub(crate) fn nothing() -> Size
+    ensures { result ≡ nothing }
+{
+    Size {
+        levels: 0,
+        nodes: 0,
+    }
+}
+
+/// A part that isn't there.
+pub(crate) fn absent() -> Size
+    ensures { result ≡ absent }
+{
+    Size {
+        levels: 0,
+        nodes: 1,
+    }
+}
+
+/// A type without parts.
+pub(crate) fn simple() -> Size
+    ensures { result ≡ simple }
+{
+    Size {
+        levels: 1,
+        nodes: 1,
+    }
+}
+
+/// A sum, up to 10,000.
+#[tactic(auto, using(crate::proofs::Sums::least))]
+fn bounded_sum(one: usize, other: usize) -> usize
+    ensures { result ≡ min (one + other) 10000 }
+{
+    one.saturating_add(other).min(10_000)
+}
+
+/// Parts together.
+pub(crate) fn beside(one: Size, other: Size) -> Size
+    ensures { result ≡ beside one other }
+{
+    Size {
+        levels: one.levels.max(other.levels),
+        nodes: bounded_sum(one.nodes, other.nodes),
+    }
+}
+
+/// A type with parts that have this size together. The refusals are the limits on types.
+#[tactic(auto, unfolding(crate::specs::Sizes::above))]
+pub(crate) fn above(alloc: Global, parts: Size) -> Result<Size, Failure>
+    ensures { Gives (λ s. s) result (above parts) }
+{
+    if parts.levels >= 100 {
+        return Err(left_out(alloc, "type depth"));
+    }
+    if parts.nodes >= 10_000 {
+        return Err(left_out(alloc, "type nodes"));
+    }
+    Ok(Size {
+        levels: parts.levels + 1,
+        nodes: parts.nodes + 1,
+    })
+}

@@ -1,0 +1,381 @@
+//! The items of a world, as they stand in a record.
+
+ghost use Rattle.std.specs.Prelude.{◌≡◌, [], OnOk, codes};
+ghost use Rattle.std.specs.List.{list_any};
+ghost use Rattle.serde_json.specs.Find.{get};
+ghost use Rattle.serde_json.specs.View.{view, items_view};
+ghost use Rattle.record_json.specs.Faults.{Gives};
+ghost use Rattle.record_worlds.specs.Items.{holds_colon, place_of, plain_name_of, key_of, named_key, id_key, interface_at, other_item, function_item, type_item, interface_item, item_of, with_type, items_from, items_of, items_if, interfaces_if, world_items_of, world_function, world_type};
+
+use comp_lists::{Keyed, Seq, Text};
+use record_json::{
+    Failure, check_members, fault_at, fault_here, read_text, required, under, under_index,
+};
+use record_types::{
+    ReadInterface, Scope, TypeFacts, read_function, read_interfaces, read_named_type,
+};
+use record_values::{Func, InterfaceName, Item, ItemKey, Typed};
+use serde_json::Value;
+use std::alloc::{AllocError, Global};
+
+/// What a world takes, and what it gives.
+#[derive(Clone, Copy, Debug, PartialEq, Eq)]
+pub(crate) enum Side {
+    Import,
+    Export,
+}
+
+/// An item of a world as it stands in a record, with its key. An interface is named by its place in the
+/// record; of a type it says what is known.
+#[derive(Drop)]
+pub(crate) struct ReadItem {
+    pub key: ItemKey,
+    pub item: Item,
+    pub facts: Option<TypeFacts>,
+}
+
+/// Items in order, and the types of the world by name.
+#[derive(Drop)]
+pub(crate) struct ReadItems {
+    pub items: Seq<ReadItem>,
+    pub types: Keyed<Text, TypeFacts>,
+}
+
+/// The interfaces of a record, and the items of its world.
+#[derive(Drop)]
+pub(crate) struct WorldItems {
+    pub interfaces: Seq<ReadInterface>,
+    pub imports: Seq<ReadItem>,
+    pub exports: Seq<ReadItem>,
+}
+
+/// A function at the root of the world.
+fn read_world_function(
+    alloc: Global,
+    interfaces: &[ReadInterface],
+    types: &Keyed<Text, TypeFacts>,
+    value: &Value,
+) -> Result<Func, Failure>
+    ensures { Gives (λ f. f) result (world_function interfaces.now types.now (view value.now)) }
+{
+    let scope = Scope {
+        done: interfaces,
+        current: types,
+        is_world: true,
+    };
+    read_function(alloc, &scope, value)
+}
+
+/// A type of the world.
+fn read_world_type(
+    alloc: Global,
+    interfaces: &[ReadInterface],
+    types: &Keyed<Text, TypeFacts>,
+    value: &Value,
+) -> Result<(Typed, TypeFacts), Failure>
+    ensures { Gives (λ t. t) result (world_type interfaces.now types.now (view value.now)) }
+{
+    let scope = Scope {
+        done: interfaces,
+        current: types,
+        is_world: true,
+    };
+    read_named_type(alloc, &scope, value)
+}
+
+#[tactic(auto, unfolding(crate::specs::Items::function_item))]
+fn read_function_item(
+    alloc: Global,
+    interfaces: &[ReadInterface],
+    types: &Keyed<Text, TypeFacts>,
+    value: &Value,
+) -> Result<ReadItem, Failure>
+    ensures { Gives (λ x. x) result (function_item interfaces.now types.now (view value.now)) }
+{
+    check_members(alloc, value, &["func"])?;
+    let member = required(alloc, value, "func")?;
+    let function = read_world_function(alloc, interfaces, types, member);
+    let function = under(alloc, "func", function)?;
+    Ok(ReadItem {
+        key: ItemKey::Name(function.name.clone(alloc)?),
+        item: Item::Function(function),
+        facts: None,
+    })
+}
+
+#[tactic(auto, unfolding(crate::specs::Items::type_item))]
+fn read_type_item(
+    alloc: Global,
+    interfaces: &[ReadInterface],
+    types: &Keyed<Text, TypeFacts>,
+    value: &Value,
+) -> Result<ReadItem, Failure>
+    ensures { Gives (λ x. x) result (type_item interfaces.now types.now (view value.now)) }
+{
+    check_members(alloc, value, &["type"])?;
+    let member = required(alloc, value, "type")?;
+    let read = read_world_type(alloc, interfaces, types, member);
+    let (typed, facts) = under(alloc, "type", read)?;
+    let Typed { name, nodes } = typed;
+    Ok(ReadItem {
+        key: ItemKey::Name(name),
+        item: Item::Type(nodes),
+        facts: Some(facts),
+    })
+}
+
+/// The place of an interface.
+#[tactic(auto, unfolding(crate::specs::Items::place_of))]
+fn read_place(alloc: Global, value: &Value) -> Result<u32, Failure>
+    ensures { Gives (λ n. n) result (place_of (view value.now)) }
+{
+    match value.as_u64() {
+        Some(number) => {
+            if number < 4294967296 {
+                Ok(number as u32)
+            } else {
+                Err(fault_here(alloc))
+            }
+        }
+        None => Err(fault_here(alloc)),
+    }
+}
+
+fn has_colon(bytes: &[u8]) -> bool
+    ensures { result ≡ holds_colon bytes.now }
+{
+    for byte in bytes {
+        if *byte == b':' {
+            return true;
+        }
+    }
+    false
+}
+
+/// A name that isn't an id.
+#[tactic(auto, unfolding(crate::specs::Items::plain_name_of))]
+fn read_plain_name(alloc: Global, value: &Value) -> Result<Text, Failure>
+    ensures { Gives (λ n. n) result (plain_name_of (view value.now)) }
+{
+    let name = read_text(alloc, value)?;
+    if has_colon(name.as_str().as_bytes()) {
+        Err(fault_here(alloc))
+    } else {
+        Ok(name)
+    }
+}
+
+/// The key of an interface that has no id.
+#[tactic(auto, unfolding(crate::specs::Items::named_key))]
+fn read_named_key(alloc: Global, id: &Option<Text>, value: &Value) -> Result<ItemKey, Failure>
+    ensures { Gives (λ k. k) result (named_key id.now (view value.now)) }
+{
+    let name = under(alloc, "name", read_plain_name(alloc, value))?;
+    match id {
+        Some(_) => Err(fault_at(alloc, "interface")),
+        None => Ok(ItemKey::Name(name)),
+    }
+}
+
+/// The key of an interface that has an id.
+fn id_key(alloc: Global, id: &Option<Text>) -> Result<ItemKey, Failure>
+    ensures { Gives (λ k. k) result (id_key id.now) }
+{
+    match id {
+        Some(id) => Ok(ItemKey::Interface(id.clone(alloc)?)),
+        None => Err(fault_at(alloc, "interface")),
+    }
+}
+
+fn read_key(alloc: Global, id: &Option<Text>, value: &Value) -> Result<ItemKey, Failure>
+    ensures { Gives (λ k. k) result (key_of id.now (get (codes "name") (view value.now))) }
+{
+    match value.get("name") {
+        Some(name) => read_named_key(alloc, id, name),
+        None => id_key(alloc, id),
+    }
+}
+
+/// The interface at a place.
+fn find_interface<'v>(
+    alloc: Global,
+    interfaces: &'v [ReadInterface],
+    place: u32,
+) -> Result<&'v ReadInterface, Failure>
+    ensures { Gives (λ x. x.now) result (interface_at interfaces.now place) }
+{
+    match interfaces.get(place as usize) {
+        Some(interface) => Ok(interface),
+        None => Err(fault_at(alloc, "interface")),
+    }
+}
+
+#[tactic(auto, unfolding(crate::specs::Items::interface_item))]
+fn read_interface_item(
+    alloc: Global,
+    interfaces: &[ReadInterface],
+    value: &Value,
+) -> Result<ReadItem, Failure>
+    ensures { Gives (λ x. x) result (interface_item interfaces.now (view value.now)) }
+{
+    check_members(alloc, value, &["interface", "name"])?;
+    let member = required(alloc, value, "interface")?;
+    let place = under(alloc, "interface", read_place(alloc, member))?;
+    let interface = find_interface(alloc, interfaces, place)?;
+    let key = read_key(alloc, &interface.id, value)?;
+    Ok(ReadItem {
+        key,
+        item: Item::Interface(InterfaceName::Unused(place)),
+        facts: None,
+    })
+}
+
+/// An item that isn't a function.
+fn read_other_item(
+    alloc: Global,
+    side: Side,
+    interfaces: &[ReadInterface],
+    types: &Keyed<Text, TypeFacts>,
+    value: &Value,
+) -> Result<ReadItem, Failure>
+    ensures { Gives (λ x. x) result (other_item side interfaces.now types.now (view value.now)) }
+{
+    match side {
+        Side::Export => read_interface_item(alloc, interfaces, value),
+        Side::Import => {
+            if value.get("type").is_some() {
+                read_type_item(alloc, interfaces, types, value)
+            } else {
+                read_interface_item(alloc, interfaces, value)
+            }
+        }
+    }
+}
+
+/// An item; these are the interfaces of the record, and the types of the world before it.
+fn read_item(
+    alloc: Global,
+    side: Side,
+    interfaces: &[ReadInterface],
+    types: &Keyed<Text, TypeFacts>,
+    value: &Value,
+) -> Result<ReadItem, Failure>
+    ensures { Gives (λ x. x) result (item_of side interfaces.now types.now (view value.now)) }
+{
+    if value.get("func").is_some() {
+        read_function_item(alloc, interfaces, types, value)
+    } else {
+        read_other_item(alloc, side, interfaces, types, value)
+    }
+}
+
+/// Adds a type of the world to those that are known.
+fn note_type(
+    alloc: Global,
+    types: &mut Keyed<Text, TypeFacts>,
+    item: &ReadItem,
+) -> Result<(), AllocError>
+    ensures { OnOk result (types.new ≡ with_type types.old item.now) }
+{
+    match item.facts {
+        Some(facts) => types.add_first(item.key.text().clone(alloc)?, facts),
+        None => Ok(()),
+    }
+}
+
+fn read_values(
+    alloc: Global,
+    side: Side,
+    interfaces: &[ReadInterface],
+    types: Keyed<Text, TypeFacts>,
+    values: &[Value],
+) -> Result<ReadItems, Failure>
+    ensures { Gives (λ r. r) result (items_from side interfaces.now 0 [] types (items_view values.now)) }
+{
+    let mut items = Seq::new(alloc);
+    let mut types = types;
+    for (index, value) in values.iter().enumerate() {
+        let item = read_item(alloc, side, interfaces, &types, value);
+        let item = under_index(alloc, index, item)?;
+        note_type(alloc, &mut types, &item)?;
+        items.push(item)?;
+    }
+    Ok(ReadItems { items, types })
+}
+
+#[tactic(auto, unfolding(crate::specs::Items::items_of))]
+fn read_items(
+    alloc: Global,
+    side: Side,
+    interfaces: &[ReadInterface],
+    types: Keyed<Text, TypeFacts>,
+    value: &Value,
+) -> Result<ReadItems, Failure>
+    ensures { Gives (λ r. r) result (items_of side interfaces.now types (view value.now)) }
+{
+    let Some(values) = value.as_array() else {
+        return Err(fault_here(alloc));
+    };
+    read_values(alloc, side, interfaces, types, values.as_slice())
+}
+
+/// The items of a side, none where its member is left out.
+fn items_member(
+    alloc: Global,
+    side: Side,
+    interfaces: &[ReadInterface],
+    types: Keyed<Text, TypeFacts>,
+    key: &str,
+    value: &Value,
+) -> Result<ReadItems, Failure>
+    ensures { Gives (λ r. r) result (items_if side interfaces.now types key.now (get key.now (view value.now))) }
+{
+    match value.get(key) {
+        Some(member) => {
+            let items = read_items(alloc, side, interfaces, types, member);
+            under(alloc, key, items)
+        }
+        None => Ok(ReadItems {
+            items: Seq::new(alloc),
+            types,
+        }),
+    }
+}
+
+/// The interfaces of a record, none where their member is left out.
+fn interfaces_member(alloc: Global, value: &Value) -> Result<Seq<ReadInterface>, Failure>
+    ensures { Gives (λ x. x) result (interfaces_if (get (codes "interfaces") (view value.now))) }
+{
+    match value.get("interfaces") {
+        Some(member) => under(alloc, "interfaces", read_interfaces(alloc, member)),
+        None => Ok(Seq::new(alloc)),
+    }
+}
+
+/// The interfaces of a record, and the items of its world.
+#[tactic(auto, unfolding(crate::specs::Items::world_items_of))]
+pub(crate) fn read_world_items(alloc: Global, value: &Value) -> Result<WorldItems, Failure>
+    ensures { Gives (λ w. w) result (world_items_of (view value.now)) }
+{
+    let interfaces = interfaces_member(alloc, value)?;
+    let read = interfaces.as_slice();
+    let imports = items_member(
+        alloc,
+        Side::Import,
+        read,
+        Keyed::new(alloc),
+        "imports",
+        value,
+    )?;
+    let ReadItems {
+        items: imports,
+        types,
+    } = imports;
+    let exports = items_member(alloc, Side::Export, read, types, "exports", value)?;
+    let ReadItems { items: exports, .. } = exports;
+    Ok(WorldItems {
+        interfaces,
+        imports,
+        exports,
+    })
+}

@@ -1,0 +1,155 @@
+//! Interfaces and items of a world by name.
+
+ghost use Rattle.std.specs.Prelude.{◌≡◌, [], OnOk, IfOk};
+ghost use Rattle.record_json.specs.Faults.{Gives};
+ghost use Rattle.record_worlds.specs.Tables.{renamed_content, with_interface, with_same, interfaces_from, is_seen, with_seen, side_from, side_at};
+
+use crate::items::Side;
+use crate::naming::{Entry, Names, place_name};
+use comp_lists::{Keyed, Text, TryClone};
+use record_json::{Failure, Refusal, fault_here, under, under_index};
+use record_types::ReadInterface;
+use record_values::{Interface, InterfaceName, Item, ItemKey, rename_interface, rename_name};
+use std::alloc::{AllocError, Global};
+
+/// Interfaces by name.
+pub(crate) type Interfaces = Keyed<InterfaceName, Interface>;
+
+/// Names of interfaces.
+pub(crate) type Standing = Keyed<InterfaceName, ()>;
+
+/// The items of a side by key, and the interfaces among them.
+#[derive(Drop)]
+pub(crate) struct SideTable {
+    pub items: Keyed<ItemKey, Item>,
+    pub interfaces: Standing,
+}
+
+/// What an interface has, where interfaces go by their names.
+fn rename_content(
+    alloc: Global,
+    names: &Names,
+    read: &ReadInterface,
+) -> Result<Interface, AllocError>
+    ensures { IfOk result (λ x. x ≡ renamed_content names.now read.now) }
+{
+    let interface = Interface {
+        types: read.types.clone(alloc)?,
+        functions: read.functions.clone(alloc)?,
+    };
+    rename_interface(alloc, names, &interface)
+}
+
+/// Adds an interface that has an id: another of the same id must be equal.
+fn add_same(
+    alloc: Global,
+    table: &mut Interfaces,
+    id: &Text,
+    interface: Interface,
+) -> Result<(), Failure>
+    ensures { Gives (λ _. table.new) result (with_same ⟦<Interface as PartialEq>⟧.eq table.old id.now interface) }
+{
+    let name = InterfaceName::Id(id.clone(alloc)?);
+    match table.get(&name) {
+        Some(other) => {
+            if *other == interface {
+                Ok(())
+            } else {
+                Err(Failure::Refused(Refusal::MergeConflict {
+                    name: id.clone(alloc)?,
+                }))
+            }
+        }
+        None => {
+            table.add(name, interface)?;
+            Ok(())
+        }
+    }
+}
+
+/// Adds an interface, unless the world hasn't it.
+fn add_interface(
+    alloc: Global,
+    table: &mut Interfaces,
+    name: InterfaceName,
+    interface: Interface,
+) -> Result<(), Failure>
+    ensures { Gives (λ _. table.new) result (with_interface ⟦<Interface as PartialEq>⟧.eq table.old name interface) }
+{
+    match name {
+        InterfaceName::Id(id) => add_same(alloc, table, &id, interface),
+        InterfaceName::Unused(_) => Ok(()),
+        other => Ok(table.add_first(other, interface)?),
+    }
+}
+
+/// The interfaces of a record that have an id or stand in the world.
+pub(crate) fn table_interfaces(
+    alloc: Global,
+    names: &Names,
+    interfaces: &[ReadInterface],
+) -> Result<Interfaces, Failure>
+    ensures { Gives (λ t. t) result (interfaces_from ⟦<Interface as PartialEq>⟧.eq names.now 0 [] interfaces.now) }
+{
+    let mut table = Keyed::new(alloc);
+    for (index, read) in interfaces.iter().enumerate() {
+        let name = rename_name(alloc, names, &place_name(index))?;
+        let interface = rename_content(alloc, names, read)?;
+        add_interface(alloc, &mut table, name, interface)?;
+    }
+    Ok(table)
+}
+
+/// Whether an item is an interface that is there.
+fn is_seen(interfaces: &Standing, item: &Item) -> bool
+    ensures { result ≡ is_seen interfaces.now item.now }
+{
+    match item {
+        Item::Interface(name) => interfaces.contains(name),
+        Item::Function(_) => false,
+        Item::Type(_) => false,
+    }
+}
+
+/// Adds an item to the interfaces that are there, where it is one.
+pub(crate) fn note_seen(
+    alloc: Global,
+    interfaces: &mut Standing,
+    item: &Item,
+) -> Result<(), AllocError>
+    ensures { OnOk result (interfaces.new ≡ with_seen interfaces.old item.now) }
+{
+    match item {
+        Item::Interface(name) => interfaces.add_first(name.try_clone(alloc)?, ()),
+        Item::Function(_) => Ok(()),
+        Item::Type(_) => Ok(()),
+    }
+}
+
+fn table_entries(alloc: Global, entries: &[Entry]) -> Result<SideTable, Failure>
+    ensures { Gives (λ t. t) result (side_from 0 [] [] entries.now) }
+{
+    let mut items = Keyed::new(alloc);
+    let mut interfaces = Keyed::new(alloc);
+    for (index, entry) in entries.iter().enumerate() {
+        if items.contains(&entry.key) {
+            return under_index(alloc, index, Err(fault_here(alloc)));
+        }
+        if is_seen(&interfaces, &entry.item) {
+            return under_index(alloc, index, Err(fault_here(alloc)));
+        }
+        note_seen(alloc, &mut interfaces, &entry.item)?;
+        items.add(entry.key.try_clone(alloc)?, entry.item.try_clone(alloc)?)?;
+    }
+    Ok(SideTable { items, interfaces })
+}
+
+/// The items of a side by key: no key and no interface stands twice.
+pub(crate) fn table_side(alloc: Global, side: Side, entries: &[Entry]) -> Result<SideTable, Failure>
+    ensures { Gives (λ t. t) result (side_at side entries.now) }
+{
+    match side {
+        Side::Import => under(alloc, "imports", table_entries(alloc, entries)),
+        Side::Export => under(alloc, "exports", table_entries(alloc, entries)),
+    }
+}

@@ -1,0 +1,135 @@
+//! What is read of whole records: the path of each fault, and the names of interfaces.
+
+use crate::placed::{PlacedInterface, RecordWorld};
+use crate::world::read_world;
+use record_json::{Failure, Refusal, read_value};
+use record_values::InterfaceName;
+use std::alloc::{AllocError, Global};
+use std::test::Fail;
+
+/// What is read of a text. It promises nothing here, so that no test's proof has to carry what it means.
+fn read(alloc: Global, text: &str) -> Result<RecordWorld, Failure> {
+    let value = read_value(alloc, text.as_bytes())?;
+    read_world(alloc, &value)
+}
+
+fn kind_of(name: &InterfaceName) -> &'static str {
+    match name {
+        InterfaceName::Id(_) => "Id ",
+        InterfaceName::Imported(_) => "Imported ",
+        InterfaceName::Exported(_) => "Exported ",
+        InterfaceName::Unused(_) => "Unused",
+    }
+}
+
+/// The name of an interface, and the sides where it stands.
+fn push_interface(out: &mut String, placed: &PlacedInterface) -> Result<(), AllocError> {
+    out.push_str(kind_of(&placed.name))?;
+    out.push_str(placed.name.text())?;
+    if placed.is_imported {
+        out.push_str(" imported")?;
+    }
+    if placed.is_exported {
+        out.push_str(" exported")?;
+    }
+    out.push(';')
+}
+
+fn interfaces(alloc: Global, world: &RecordWorld) -> Result<String, AllocError> {
+    let mut out = String::new(alloc);
+    for placed in world.interfaces.as_slice() {
+        push_interface(&mut out, placed)?;
+    }
+    Ok(out)
+}
+
+fn fault(alloc: Global, failure: &Failure) -> Result<String, AllocError> {
+    match failure {
+        Failure::Memory => String::from_str(alloc, "memory"),
+        Failure::Refused(Refusal::Json) => String::from_str(alloc, "no JSON"),
+        Failure::Refused(Refusal::Record { path }) => String::from_str(alloc, path.as_str()),
+        Failure::Refused(Refusal::LeftOut { what }) => String::from_str(alloc, what.as_str()),
+        Failure::Refused(Refusal::MergeConflict { name }) => {
+            let mut out = String::from_str(alloc, "conflict ")?;
+            out.push_str(name.as_str())?;
+            Ok(out)
+        }
+    }
+}
+
+/// The interfaces that are read of a text, or the fault.
+fn told(alloc: Global, text: &str) -> Result<String, AllocError> {
+    match read(alloc, text) {
+        Ok(world) => interfaces(alloc, &world),
+        Err(failure) => fault(alloc, &failure),
+    }
+}
+
+/// The first line of which something else is told, or nothing. Each line has what is told, an arrow, and the
+/// text of which it is told.
+fn first_other(alloc: Global, lines: &str) -> Result<String, AllocError> {
+    for line in lines.lines() {
+        let (said, text) = line.split_once(" <- ").unwrap_or(("", line));
+        if told(alloc, text)?.as_str() != said {
+            return String::from_str(alloc, line);
+        }
+    }
+    Ok(String::new(alloc))
+}
+
+/// Records with one fault each.
+const WRONG: &str = r#"/interfaces <- {"interfaces":{}}
+/imports <- {"imports":{}}
+/exports/0 <- {"exports":[1]}
+/imports/0/interface <- {"imports":[{}]}
+/imports/0/x <- {"imports":[{"x":1}]}
+/exports/0/type <- {"exports":[{"type":{"name":"t","type":"u8"}}]}
+/imports/0/interface <- {"imports":[{"interface":0}]}
+/imports/0/interface <- {"imports":[{"interface":-1}]}
+/imports/0/interface <- {"interfaces":[{"id":"a:b/c","types":[{"name":"t","type":"u8"}],"functions":[]}],"imports":[{"interface":4294967296}]}
+/imports/0/interface <- {"interfaces":[{"id":"a:b/c","types":[{"name":"t","type":"u8"}],"functions":[]}],"imports":[{"interface":1.0}]}
+/imports/0/name <- {"interfaces":[{"id":null,"types":[],"functions":[{"name":"g"}]}],"imports":[{"name":"a:b","interface":0}]}
+/imports/0/name <- {"interfaces":[{"id":null,"types":[],"functions":[{"name":"g"}]}],"imports":[{"name":1,"interface":0}]}
+/imports/0/interface <- {"interfaces":[{"id":null,"types":[],"functions":[{"name":"g"}]}],"imports":[{"interface":0}]}
+/imports/0/interface <- {"interfaces":[{"id":"a:b/c","types":[{"name":"t","type":"u8"}],"functions":[]}],"imports":[{"name":"a","interface":0}]}
+/exports/0/interface <- {"interfaces":[{"id":"a:b/c","types":[{"name":"t","type":"u8"}],"functions":[]}],"exports":[{"name":"a","interface":0}]}
+/imports/0/func <- {"imports":[{"func":1}]}
+/imports/0/x <- {"imports":[{"func":{"name":"f"},"x":1}]}
+/imports/1 <- {"imports":[{"func":{"name":"f"}},{"func":{"name":"f"}}]}
+/exports/1 <- {"exports":[{"func":{"name":"f"}},{"func":{"name":"f"}}]}
+/imports/1 <- {"interfaces":[{"id":"a:b/c","types":[{"name":"t","type":"u8"}],"functions":[]}],"imports":[{"interface":0},{"interface":0}]}
+/imports/1 <- {"interfaces":[{"id":null,"types":[],"functions":[{"name":"g"}]}],"imports":[{"name":"a","interface":0},{"name":"b","interface":0}]}
+/exports/1 <- {"interfaces":[{"id":null,"types":[],"functions":[{"name":"g"}]},{"id":null,"types":[],"functions":[{"name":"g"}]}],"exports":[{"name":"a","interface":0},{"name":"a","interface":1}]}
+/imports/1 <- {"interfaces":[{"id":null,"types":[],"functions":[{"name":"g"}]}],"imports":[{"func":{"name":"f"}},{"name":"f","interface":0}]}
+/imports/1 <- {"interfaces":[{"id":"a:b/c","types":[{"name":"t","type":"u8"}],"functions":[]},{"id":"a:b/c","types":[{"name":"t","type":"u8"}],"functions":[]}],"imports":[{"interface":0},{"interface":1}]}
+conflict a:b/c <- {"interfaces":[{"id":"a:b/c","types":[{"name":"t","type":"u8"}],"functions":[]},{"id":"a:b/c","types":[{"name":"t","type":"u16"}],"functions":[]}]}
+conflict a:b/c <- {"interfaces":[{"id":"a:b/c","types":[{"name":"t","type":"u8"}],"functions":[]},{"id":"a:b/c","types":[{"name":"t","type":"u16"}],"functions":[]}],"imports":[{"interface":0}]}
+/imports/0 <- {"interfaces":[{"id":"a:b/c","types":[{"name":"t","type":"u8"}],"functions":[]},{"id":"a:b/d","types":[{"name":"s","type":{"ref":[0,"t"]}}],"functions":[]}],"imports":[{"interface":1}]}
+/imports/0 <- {"interfaces":[{"id":"a:b/c","types":[{"name":"t","type":"u8"}],"functions":[]},{"id":"a:b/d","types":[{"name":"s","type":{"ref":[0,"t"]}}],"functions":[]}],"imports":[{"interface":1},{"interface":0}]}
+/imports/0 <- {"interfaces":[{"id":"a:b/c","types":[{"name":"t","type":"u8"}],"functions":[]}],"imports":[{"func":{"name":"f","params":[["x",{"ref":[0,"t"]}]]}}]}
+/imports/0 <- {"interfaces":[{"id":"a:b/c","types":[{"name":"t","type":"u8"}],"functions":[]}],"imports":[{"type":{"name":"u","type":{"ref":[0,"t"]}}}]}
+/exports/0 <- {"interfaces":[{"id":"a:b/c","types":[{"name":"t","type":"u8"}],"functions":[]}],"exports":[{"func":{"name":"f","result":{"list":{"ref":[0,"t"]}}}},{"interface":0}]}
+/exports/0 <- {"interfaces":[{"id":"a:b/c","types":[{"name":"t","type":"u8"}],"functions":[]},{"id":"a:b/d","types":[{"name":"s","type":{"ref":[0,"t"]}}],"functions":[]}],"exports":[{"interface":1}]}
+/imports/1/type/name <- {"imports":[{"type":{"name":"t","type":"u8"}},{"type":{"name":"t","type":"u8"}}]}
+/imports/0/func/params/0/1/ref/1 <- {"imports":[{"func":{"name":"f","params":[["x",{"ref":[null,"t"]}]]}},{"type":{"name":"t","type":"u8"}}]}
+/exports/0 <- {"interfaces":[{"id":"a:b/r","types":[{"name":"r","type":{"resource":true}}],"functions":[{"name":"[method]r.f","params":[["self",{"borrow":[0,"r"]}]]}]},{"id":null,"types":[],"functions":[{"name":"g","params":[["x",{"own":[0,"r"]}]]}]}],"exports":[{"name":"n","interface":1}]}"#;
+
+/// Records without a fault.
+const RIGHT: &str = r#" <- {}
+Id a:b/c imported;Id a:b/d imported exported;Exported n exported; <- {"interfaces":[{"id":"a:b/c","types":[{"name":"t","type":"u8"}],"functions":[]},{"id":"a:b/d","types":[{"name":"s","type":{"ref":[0,"t"]}}],"functions":[]},{"id":null,"types":[],"functions":[{"name":"g"}]}],"imports":[{"interface":0},{"interface":1}],"exports":[{"name":"n","interface":2},{"interface":1}]}
+Id a:b/c imported; <- {"interfaces":[{"id":"a:b/c","types":[{"name":"t","type":"u8"}],"functions":[]}],"imports":[{"func":{"name":"f","params":[["x",{"ref":[0,"t"]}]]}},{"interface":0}]}
+Imported a imported exported; <- {"interfaces":[{"id":null,"types":[],"functions":[{"name":"g"}]}],"imports":[{"name":"a","interface":0}],"exports":[{"name":"b","interface":0}]}
+Unused;Id a:b/c; <- {"interfaces":[{"id":null,"types":[],"functions":[{"name":"g"}]},{"id":"a:b/c","types":[{"name":"t","type":"u8"}],"functions":[]}]}
+Id a:b/c imported;Id a:b/c imported; <- {"interfaces":[{"id":"a:b/c","types":[{"name":"t","type":"u8"}],"functions":[]},{"id":"a:b/c","types":[{"name":"t","type":"u8"}],"functions":[]}],"imports":[{"interface":1}]}
+ <- {"imports":[{"type":{"name":"u","type":"u8"}}],"exports":[{"func":{"name":"f","params":[["x",{"ref":[null,"u"]}]]}}]}
+Id a:b/r exported; <- {"interfaces":[{"id":"a:b/r","types":[{"name":"r","type":{"resource":true}}],"functions":[{"name":"[method]r.f","params":[["self",{"borrow":[0,"r"]}]]}]}],"exports":[{"interface":0}]}
+Id a:b/c exported;Id a:b/d exported; <- {"interfaces":[{"id":"a:b/c","types":[{"name":"t","type":"u8"}],"functions":[]},{"id":"a:b/d","types":[{"name":"s","type":{"ref":[0,"t"]}}],"functions":[]}],"exports":[{"interface":1},{"interface":0}]}
+Imported f imported; <- {"interfaces":[{"id":null,"types":[],"functions":[]}],"imports":[{"name":"f","interface":0}],"exports":[{"func":{"name":"f"}}]}"#;
+
+#[test]
+fn worlds_are_told(rt: HostRuntime) -> Result<(), Fail> {
+    for lines in [WRONG, RIGHT] {
+        assert_eq!(rt; first_other(rt.alloc(), lines)?.as_str(), "");
+    }
+    Ok(())
+}
