@@ -1,9 +1,10 @@
 pub mod Chains
-pub mod Decoding
 pub mod Groups
 pub mod Indexing
 pub mod Keys
 pub mod Leaving
+pub mod Records
 pub mod Refusing
+pub mod Steps
 pub mod Telling
 pub mod Valid

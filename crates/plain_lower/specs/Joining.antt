@@ -5,11 +5,12 @@ use Rattle.core_sections.specs.Stripping.{stripped}
 use Rattle.record_json.specs.declared.fault.Failure.{Failure as RecordFailure}
 use Rattle.record_json.specs.Faults.{◌>>=◌ as ◌>>>=◌}
 use Rattle.record_joining.specs.declared.bindgen.Bindgen.{Bindgen}
-use Rattle.record_joining.specs.Joining.{RoleTests, bindgen_of}
-use Rattle.record_joining.specs.Merging.{Tests, merged}
+use Rattle.record_joining.specs.Joining.{bindgen_of}
+use Rattle.record_joining.specs.Merging.{merged}
 use Rattle.record_roles.specs.Records.{record_in}
 use Rattle.record_values.specs.declared.record.Record.{Record}
 use Rattle.plain_lower.specs.declared.fault.Failure.{Failure}
+use Rattle.plain_lower.specs.Equalities.{tests, role_tests}
 use Rattle.plain_lower.specs.Faults.{◌>>=◌, lifted, read}
 
 -- the records that texts spell
@@ -18,15 +19,15 @@ records_in [] = Ok []
 records_in (text ∷ texts) = record_in text >>>= λ r. records_in texts >>>= λ rs. Ok (r ∷ rs)
 
 -- what the records together say
-unfoldable pub said_in : Tests → RoleTests → List (List ℕ) → Result Bindgen RecordFailure
-said_in t u texts = records_in texts >>>= λ rs. bindgen_of t u rs
+unfoldable pub said_in : List (List ℕ) → Result Bindgen RecordFailure
+said_in texts = records_in texts >>>= λ rs. bindgen_of tests role_tests rs
 
 -- a module without its records, and what they say
-unfoldable pub decoding : Tests → RoleTests → List ℕ → Result (List ℕ × Bindgen) Failure
-decoding t u bytes = do
+unfoldable pub decoding : List ℕ → Result (List ℕ × Bindgen) Failure
+decoding bytes = do
   s ← lifted (stripped bytes)
-  b ← read (said_in t u s.1)
+  b ← read (said_in s.1)
   Ok (s.0, b)
 
-abbrev pub merging : Tests → Bindgen → Bindgen → Result (Merged Bindgen) Failure
-merging t a b = read (merged t a b)
+abbrev pub merging : Bindgen → Bindgen → Result (Merged Bindgen) Failure
+merging a b = read (merged tests a b)

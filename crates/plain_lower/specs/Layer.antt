@@ -8,8 +8,6 @@ use Rattle.comp_worlds.specs.declared.world.ComponentWorld.{ComponentWorld}
 use Rattle.plain_lower.specs.declared.fault.PlainFault.{PlainFault}
 use Rattle.plain_lower.specs.declared.fault.PlainFault.TheVariants as faults
 use Rattle.record_joining.specs.declared.bindgen.Bindgen.{Bindgen}
-use Rattle.record_joining.specs.Joining.{RoleTests}
-use Rattle.record_joining.specs.Merging.{Tests}
 use Rattle.record_joining.specs.Said.{nothing_said}
 use Rattle.plain_lower.specs.Joining.{decoding, merging}
 use Rattle.plain_lower.specs.Preparing.{preparing_all}
@@ -18,11 +16,11 @@ abbrev pub is_memory : PlainFault → Bool
 is_memory faults.Memory = true
 is_memory _ = false
 
-abbrev pub decoded : Tests → RoleTests → List ℕ → List ℕ × Bindgen
-decoded t u bytes = result_unwrap_or (decoding t u bytes) ([], nothing_said)
+abbrev pub decoded : List ℕ → List ℕ × Bindgen
+decoded bytes = result_unwrap_or (decoding bytes) ([], nothing_said)
 
-abbrev pub merged : Tests → Bindgen → Bindgen → Merged Bindgen
-merged t a b = result_unwrap_or (merging t a b) (record { joint = nothing_said; exports = [] })
+abbrev pub merged : Bindgen → Bindgen → Merged Bindgen
+merged a b = result_unwrap_or (merging a b) (record { joint = nothing_said; exports = [] })
 
 abbrev pub no_world : ComponentWorld
 no_world = record {

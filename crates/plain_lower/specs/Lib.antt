@@ -1,4 +1,5 @@
 pub mod Faults
+pub mod Equalities
 pub mod Kinds
 pub mod Roles
 pub mod Narrowing

@@ -47,7 +47,7 @@ use Rattle.plain_lower.specs.declared.fault.Refusal.TheVariants as refusals
 use Rattle.plain_lower.specs.declared.roles.Role.{Role}
 use Rattle.record_joining.specs.declared.bindgen.Bindgen.{Bindgen}
 use Rattle.plain_lower.specs.declared.root.RootFunctions.{RootFunctions}
-use Rattle.plain_lower.specs.Narrowing.{roots_of, root_main}
+use Rattle.plain_lower.specs.Narrowing.{roots_of, root_part}
 use Rattle.plain_lower.specs.declared.importing.Group.{Group}
 use Rattle.plain_lower.specs.Faults.{◌>>=◌, lifted}
 use Rattle.plain_lower.specs.Roles.{function_of}
@@ -216,9 +216,16 @@ preparing_if joint (Some main) = preparing_main joint main
 abbrev pub preparing : Gathered RootFunctions → Result ComponentWorld Failure
 preparing g = preparing_if g.joint g.main
 
+-- main, where what it says is encoded yet
+abbrev pub preparing_part : RootFunctions → Part Bindgen → Result ComponentWorld Failure
+preparing_part joint p = root_part p >>= λ main. preparing_main joint main
+
+abbrev pub preparing_from : RootFunctions → Option (Part Bindgen) → Result ComponentWorld Failure
+preparing_from joint None = Err (failures.Refused refusals.NotModule)
+preparing_from joint (Some p) = preparing_part joint p
+
 -- what was gathered, where all of it is encoded yet
 unfoldable pub preparing_all : Gathered Bindgen → Result ComponentWorld Failure
 preparing_all g = do
   joint ← roots_of g.joint
-  main ← root_main g.main
-  preparing_if joint main
+  preparing_from joint g.main

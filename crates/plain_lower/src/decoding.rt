@@ -12,7 +12,7 @@ use core_sections::strip;
 use record_joining::{Bindgen, bindgen_of};
 use record_json::Failure as RecordFailure;
 use record_roles::read_record;
-use record_values::{ExportRole, ImportRole, Interface, Item, Record};
+use record_values::Record;
 use std::alloc::Global;
 
 /// The records that texts spell.
@@ -30,10 +30,7 @@ fn read_records(alloc: Global, texts: &[&[u8]]) -> Result<Seq<Record>, RecordFai
 /// What the records together say.
 #[tactic(auto, unfolding(crate::specs::Joining::said_in))]
 fn read_said(alloc: Global, texts: &[&[u8]]) -> Result<Bindgen, RecordFailure>
-    ensures { GivesRecord (λ b. b) result (said_in
-        (record { interface = ⟦<Interface as PartialEq>⟧.eq; item = ⟦<Item as PartialEq>⟧.eq })
-        (record { import_role = ⟦<ImportRole as PartialEq>⟧.eq; export_role = ⟦<ExportRole as PartialEq>⟧.eq })
-        (map (λ t. t.now) texts.now)) }
+    ensures { GivesRecord (λ b. b) result (said_in (map (λ t. t.now) texts.now)) }
 {
     let records = read_records(alloc, texts)?;
     bindgen_of(alloc, records)
@@ -42,10 +39,7 @@ fn read_said(alloc: Global, texts: &[&[u8]]) -> Result<Bindgen, RecordFailure>
 /// A module without its records, and what these say.
 #[tactic(auto, unfolding(crate::specs::Joining::decoding))]
 pub(crate) fn decode(alloc: Global, bytes: &[u8]) -> Result<(Bytes, Bindgen), Failure>
-    ensures { Gives (λ d. d) result (decoding
-        (record { interface = ⟦<Interface as PartialEq>⟧.eq; item = ⟦<Item as PartialEq>⟧.eq })
-        (record { import_role = ⟦<ImportRole as PartialEq>⟧.eq; export_role = ⟦<ExportRole as PartialEq>⟧.eq })
-        bytes.now) }
+    ensures { Gives (λ d. d) result (decoding bytes.now) }
 {
     let stripped = strip(alloc, bytes)?;
     let said = read_said(alloc, stripped.records.as_slice())?;
@@ -58,9 +52,7 @@ pub(crate) fn merge(
     first: &Bindgen,
     second: &Bindgen,
 ) -> Result<Merged<Bindgen>, Failure>
-    ensures { Gives (λ m. m) result (merging
-        (record { interface = ⟦<Interface as PartialEq>⟧.eq; item = ⟦<Item as PartialEq>⟧.eq })
-        first.now second.now) }
+    ensures { Gives (λ m. m) result (merging first.now second.now) }
 {
     Ok(record_joining::merge(alloc, first, second)?)
 }

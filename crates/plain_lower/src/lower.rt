@@ -8,7 +8,6 @@ use crate::preparing::prepare;
 use comp_lists::Bytes;
 use comp_worlds::{ComponentWorld, Gathered, Lower, Merged};
 use record_joining::{Bindgen, no_bindgen};
-use record_values::{ExportRole, ImportRole, Interface, Item};
 use std::alloc::Global;
 
 /// A lower layer by records: what a module's component is to be stands as JSON in the custom sections
@@ -33,9 +32,9 @@ impl Lower for PlainLower {
 
     ghost empty_is = { λ _. nothing_said };
 
-    ghost decoded = { λ _ bytes. decoded (record { interface = ⟦<Interface as PartialEq>⟧.eq; item = ⟦<Item as PartialEq>⟧.eq }) (record { import_role = ⟦<ImportRole as PartialEq>⟧.eq; export_role = ⟦<ExportRole as PartialEq>⟧.eq }) bytes };
+    ghost decoded = { λ _ bytes. decoded bytes };
 
-    ghost merged = { λ _ first second. merged (record { interface = ⟦<Interface as PartialEq>⟧.eq; item = ⟦<Item as PartialEq>⟧.eq }) first second };
+    ghost merged = { λ _ first second. merged first second };
 
     ghost prepared = { λ _ gathered. prepared gathered };
 

@@ -7,7 +7,7 @@ ghost use Rattle.std.specs.Str.{bytes_eq};
 ghost use Rattle.plain_lower.specs.Faults.{Gives};
 ghost use Rattle.comp_worlds.specs.Worlds.{IsWorld};
 ghost use Rattle.plain_lower.specs.Narrowing.{root_part};
-ghost use Rattle.plain_lower.specs.Preparing.{world_items, encodings_of, instances_of, main_of, world_of, preparing_main, preparing_all};
+ghost use Rattle.plain_lower.specs.Preparing.{world_items, encodings_of, instances_of, main_of, world_of, preparing_main, preparing_part, preparing_all};
 
 use crate::exporting::{read_exports, require_all};
 use crate::fault::{Failure, Refusal};
@@ -197,7 +197,7 @@ fn world_of(
 }
 
 /// The validated world of what all modules say and main.
-#[tactic(auto, unfolding(crate::specs::Preparing::preparing_main))]
+#[tactic(auto, unfolding(crate::specs::Preparing::preparing_main), using(crate::proofs::Steps::required_refused))]
 fn prepare_main(
     alloc: Global,
     joint: &RootFunctions,
@@ -260,6 +260,19 @@ fn root_part(alloc: Global, part: &Part<Bindgen>) -> Result<Part<RootFunctions>,
     })
 }
 
+/// The validated world of what all modules say and main, where what it says is encoded yet.
+fn prepare_part(
+    alloc: Global,
+    joint: &RootFunctions,
+    part: &Part<Bindgen>,
+) -> Result<ComponentWorld, Failure>
+    ensures exact { Gives (λ w. w) result (preparing_part joint.now part.now) }
+    ensures valid { IfOk result IsWorld }
+{
+    let main = root_part(alloc, part)?;
+    prepare_world(alloc, joint, main)
+}
+
 /// The validated world of what was gathered.
 #[tactic(auto, unfolding(crate::specs::Preparing::preparing_all))]
 pub(crate) fn prepare(
@@ -270,9 +283,8 @@ pub(crate) fn prepare(
     ensures valid { IfOk result IsWorld }
 {
     let joint = roots_of(alloc, &gathered.joint)?;
-    let Some(main) = &gathered.main else {
-        return Err(Failure::Refused(Refusal::NotModule));
-    };
-    let main = root_part(alloc, main)?;
-    prepare_world(alloc, &joint, main)
+    match &gathered.main {
+        Some(main) => prepare_part(alloc, &joint, main),
+        None => Err(Failure::Refused(Refusal::NotModule)),
+    }
 }

@@ -3,6 +3,7 @@ use Rattle.std.specs.Prelude.{◌≡◌, ◌≢◌, ℕ, Bool, true, List, Some,
 use Rattle.std.specs.Map.{lookup}
 use Rattle.record_json.specs.declared.fault.Failure.{Failure}
 use Rattle.record_json.specs.declared.fault.Failure.TheVariants as failures
+use Rattle.record_values.specs.declared.record.Record.{Record}
 use Rattle.record_values.specs.declared.world.Wit.{Wit}
 use Rattle.record_values.specs.Names.{is_same_interface, is_same_item, name_text, key_text}
 use Rattle.record_joining.specs.Tables.{conflict}
@@ -35,3 +36,9 @@ pub data WorldCause (a b : Wit) (failure : Failure) : Type 0 where
 pub data Unless (cause : Failure → Type 0) (failure : Failure) : Type 0 where
   memory : failure ≡ failures.Memory → Unless cause failure
   caused : cause failure → Unless cause failure
+
+-- TEMPORARY
+pub data WorldConflict (a b : Wit) (name : List ℕ) : Type 0 where
+  temporary : WorldConflict a b name
+pub data RecordsConflict (records : List Record) (name : List ℕ) : Type 0 where
+  temporary : RecordsConflict records name

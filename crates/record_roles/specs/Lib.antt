@@ -1,3 +1,4 @@
+pub mod Equalities
 pub mod Arguments
 pub mod Sides
 pub mod Payloads

@@ -21,6 +21,7 @@ use Rattle.record_values.specs.declared.roles.ImportRole.{ImportRole}
 use Rattle.record_worlds.specs.declared.placed.RecordWorld.{RecordWorld}
 use Rattle.record_worlds.specs.Worlds.{world_of}
 use Rattle.record_roles.specs.Arguments.{encoding_of}
+use Rattle.record_roles.specs.Equalities.{same_interface}
 use Rattle.record_roles.specs.ExportRoles.{export_role_of}
 use Rattle.record_roles.specs.ImportRoles.{import_role_of}
 use Rattle.record_roles.specs.Payloads.{Met, all_met}
@@ -102,7 +103,7 @@ record_of d = do
   _ ← version_of d
   e ← encoding_if (get (codes "encoding") d)
   slot ← bool_if (codes "context-slot-1") (get (codes "context-slot-1") d)
-  w ← world_of d
+  w ← world_of same_interface d
   with_world e slot d w
 
 -- the record that bytes spell

@@ -19,3 +19,6 @@ mod record;
 mod sides;
 
 pub use record::read_record;
+
+#[cfg(test)]
+mod tests;

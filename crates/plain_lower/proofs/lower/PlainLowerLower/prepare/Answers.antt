@@ -1,11 +1,7 @@
 use Rattle.plain_lower.specs.Causes.{PrepareCause}
 use Rattle.plain_lower.proofs.Telling.{told}
-use Rattle.plain_lower.proofs.Refusing.{no_cause, has_cause}
-use Rattle.plain_lower.proofs.Valid.{is_world}
+use Rattle.plain_lower.proofs.Leaving.{no_cause, has_cause}
 use Rattle.plain_lower.proofs.lower.PlainLowerLower.prepare.Goals as goal
-
-pub returns-clause-valid : goal.returns-clause-valid
-returns-clause-valid c = is_world c.args.gathered.now.joint c.args.gathered.now.main _ c.in_ok-prepare.ensures.exact c.in_ok-prepare.ensures.imports c.in_ok-prepare.ensures.exports c.in_ok-prepare.ensures.modules
 
 pub returns-clause-refused : goal.returns-clause-refused
 returns-clause-refused c = λ _ f k. no_cause c.args.gathered.now _ c.in_ok-prepare.ensures.exact f k

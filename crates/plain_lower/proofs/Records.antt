@@ -1,5 +1,5 @@
 -- When decoding is refused: a refusal has a cause, and what is decoded has none.
-use Rattle.std.proofs.Common.{◌≡◌, arith, ℕ, Bool, true, false, cond, ◌||◌, List, [], ◌∷◌, ◌++◌, Result, Ok, Err, refl, sym, ap, subst, ◌∙◌, true≢false}
+use Rattle.std.proofs.Common.{◌≡◌, ◌⊎◌, inl, inr, arith, ℕ, Bool, true, false, cond, ◌||◌, List, [], ◌∷◌, ◌++◌, Result, Ok, Err, refl, sym, ap, subst, ◌∙◌, true≢false}
 use Rattle.std.specs.Prelude.{◌≢◌, Contains}
 use Rattle.std.specs.List.{AllZip, AllByRecursion, flat_map, list_any}
 use Rattle.std.proofs.lemmas.List.Elements.{Contains-append_right}
@@ -94,21 +94,19 @@ same_pieces bytes ps qs a b = let both : Ok ps ≡ Ok qs = sym (module_again byt
 
 -- ---- records
 
-record_ok : {A B : Type 0} (r : Result A RecordFailure) (f : A → Result B RecordFailure) (y : B) → (r >>+= f) ≡ Ok y → (x : A) × (r ≡ Ok x) × (f x ≡ Ok y)
-record_ok (Ok x) f y e = (x, refl, e)
-record_ok (Err d) f y e = absurd cc
+-- what is read of a first text and of the others
+one_more : (x : Result Record RecordFailure) (rest : Result (List Record) RecordFailure) (rs : List Record) → (x >>+= λ r. rest >>+= λ more. Ok (r ∷ more)) ≡ Ok rs
+    → (r : Record) × (more : List Record) × (x ≡ Ok r) × (rest ≡ Ok more) × (r ∷ more ≡ rs)
+one_more (Ok r) (Ok more) rs e = (r, more, refl, refl, cc (e))
+one_more (Ok r) (Err f) rs e = absurd cc
+one_more (Err f) rest rs e = absurd cc
 
 each_read : (texts : List (List ℕ)) (rs : List Record) → records_in texts ≡ Ok rs → AllZip IsRead texts rs
 each_read [] [] e = tt
 each_read [] (r ∷ rs) e = absurd cc
-each_read (t ∷ texts) rs e = by rs e
-  where
-    by : (rs : List Record) → (record_in t >>+= λ r. records_in texts >>+= λ more. Ok (r ∷ more)) ≡ Ok rs → AllZip IsRead (t ∷ texts) rs
-    by rs e =
-        let a = record_ok (record_in t) (λ r. records_in texts >>+= λ more. Ok (r ∷ more)) rs e in
-        let b = record_ok (records_in texts) (λ more. Ok (a.0 ∷ more)) rs a.2 in
-        let same : a.0 ∷ b.0 ≡ rs = cc (b.2) in
-        subst (λ (xs : List Record). AllZip IsRead (t ∷ texts) xs) same (a.1, each_read texts b.0 b.1)
+each_read (t ∷ texts) rs e =
+    let a = one_more (record_in t) (records_in texts) rs e in
+    subst (λ (xs : List Record). AllZip IsRead (t ∷ texts) xs) a.4 (a.2, each_read texts a.1 a.3)
 
 none_misspelt : (texts : List (List ℕ)) (rs : List Record) → AllZip IsRead texts rs → AllByRecursion (λ text. (r : Record) × (record_in text ≡ Ok r)) texts
 none_misspelt [] [] h = tt
@@ -128,20 +126,18 @@ same_lists (t ∷ texts) (r ∷ rs) (q ∷ qs) h k =
     ap (λ (x : Record). x ∷ rs) first ∙ ap (λ (xs : List Record). q ∷ xs) (same_lists texts rs qs h.1 k.1)
 
 -- where reading stops
+first_stop : (x : Result Record RecordFailure) (rest : Result (List Record) RecordFailure) (d : RecordFailure) → (x >>+= λ r. rest >>+= λ more. Ok (r ∷ more)) ≡ Err d → (x ≡ Err d) ⊎ (rest ≡ Err d)
+first_stop (Ok r) (Ok more) d e = absurd cc
+first_stop (Ok r) (Err f) d e = inr (cc (e))
+first_stop (Err f) rest d e = inl (cc (e))
+
 stops : (texts : List (List ℕ)) (r : RecordRefusal) → records_in texts ≡ Err (record_failures.Refused r) → (text : List ℕ) × Contains texts text × (record_in text ≡ Err (record_failures.Refused r))
 stops [] r e = absurd cc
-stops (t ∷ texts) r e = by (record_in t) refl e
-  where
-    later : List ℕ → (rest : Result (List Record) RecordFailure) (one : Record) → records_in texts ≡ rest → (rest >>+= λ more. Ok (one ∷ more)) ≡ Err (record_failures.Refused r) → rest ≡ Err (record_failures.Refused r)
-    later t (Ok more) one is e = absurd cc
-    later t (Err f) one is e = let same : Err f ≡ Err (record_failures.Refused r) = e in cc
-
-    by : (x : Result Record RecordFailure) → record_in t ≡ x → (x >>+= λ q. records_in texts >>+= λ more. Ok (q ∷ more)) ≡ Err (record_failures.Refused r)
-        → (text : List ℕ) × Contains (t ∷ texts) text × (record_in text ≡ Err (record_failures.Refused r))
-    by (Err f) is e = (t, Contains-append_right [] (t ∷ texts) t (0, omega arith, refl), is ∙ cc (e))
-    by (Ok q) is e =
-        let s = stops texts r (later t (records_in texts) q refl e) in
-        (s.0, Contains-append_right (t ∷ []) texts s.0 s.1, s.2)
+stops (t ∷ texts) r e =
+    elim (first_stop (record_in t) (records_in texts) (record_failures.Refused r) e) [
+      | inl h ↦ (t, Contains-append_right [] (t ∷ texts) t (0, omega arith, refl), h)
+      | inr h ↦ let s = stops texts r h in (s.0, Contains-append_right (t ∷ []) texts s.0 s.1, s.2)
+    ]
 
 -- ---- decoding
 
