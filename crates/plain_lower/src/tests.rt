@@ -1,11 +1,11 @@
 //! What no clause says: that good modules are taken, and the printed fault of bad ones.
 
-use crate::bindgen::Bindgen;
 use crate::fault::PlainFault;
 use crate::lower::PlainLower;
-use crate::roles::ImportName;
 use comp_lists::{Bytes, Text};
 use comp_worlds::{ComponentWorld, EncoderOptions, Gathered, Lower, Merged, Part};
+use record_joining::Bindgen;
+use record_values::{ImportName, ItemKey};
 use std::alloc::{AllocError, Global};
 use std::test::Fail;
 
@@ -74,9 +74,9 @@ fn decoded(alloc: Global, bytes: &[u8]) -> Result<String, Fail> {
 
 /// Whether `f` is imported, and `g` exported.
 fn has_functions(alloc: Global, said: &Bindgen) -> Result<bool, AllocError> {
-    let f = Text::from_str(alloc, "f")?;
-    let g = Text::from_str(alloc, "g")?;
-    Ok(said.imports.contains(&f) && said.exports.contains(&g))
+    let f = ItemKey::Name(Text::from_str(alloc, "f")?);
+    let g = ItemKey::Name(Text::from_str(alloc, "g")?);
+    Ok(said.wit.imports.contains(&f) && said.wit.exports.contains(&g))
 }
 
 /// Whether there are roles for `f` of `$root`, and for `g`.
@@ -86,7 +86,7 @@ fn has_roles(alloc: Global, said: &Bindgen) -> Result<bool, AllocError> {
         field: Text::from_str(alloc, "f")?,
     };
     let g = Text::from_str(alloc, "g")?;
-    Ok(said.import_roles.contains(&name) && said.export_roles.contains(&g))
+    Ok(said.roles.import_roles.contains(&name) && said.roles.export_roles.contains(&g))
 }
 
 /// Whether `decode` gives the module back, and all that the record says.
@@ -189,18 +189,19 @@ P6 Record path="/core-imports/0/role/1" <- {"version":1,"core-imports":[{"module
 P6 Record path="/core-imports/0/role/2" <- {"version":1,"imports":[{"func":{"name":"f"}}],"core-imports":[{"module":"m","field":"f","role":["world-func","f","stackful"]}]}
 P6 Record path="/core-exports/0/module" <- {"version":1,"core-exports":[{"field":"g","module":"m","role":["world-func","g","sync"]}]}"#;
 
-/// What later versions take.
-const RECORDS_OF_LATER_VERSIONS: &str =
-    r#"P8 LeftOut what="interfaces" <- {"version":1,"interfaces":[]}
-P8 LeftOut what="context-slot-1" <- {"version":1,"context-slot-1":false}
-P8 LeftOut what="type" <- {"version":1,"imports":[{"type":{"name":"t","type":"u8"}}]}
-P8 LeftOut what="interface" <- {"version":1,"exports":[{"name":"t","interface":0}]}
-P8 LeftOut what="params" <- {"version":1,"imports":[{"func":{"name":"f","params":[["x","u32"]]}}]}
-P8 LeftOut what="result" <- {"version":1,"imports":[{"func":{"name":"f","result":"u32"}}]}
-P8 LeftOut what="async" <- {"version":1,"imports":[{"func":{"name":"f","async":true}}]}
+/// What is read whole, though it isn't encoded yet; and what passes a limit.
+const RECORDS_THAT_ARE_READ: &str = r#"44 <- {"version":1,"interfaces":[]}
+44 <- {"version":1,"context-slot-1":false}
+44 <- {"version":1,"imports":[{"type":{"name":"t","type":"u8"}}]}
+P6 Record path="/exports/0/interface" <- {"version":1,"exports":[{"name":"t","interface":0}]}
+44 <- {"version":1,"imports":[{"func":{"name":"f","params":[["x","u32"]]}}]}
+44 <- {"version":1,"imports":[{"func":{"name":"f","result":"u32"}}]}
+44 <- {"version":1,"imports":[{"func":{"name":"f","async":true}}]}
 44 <- {"version":1,"imports":[{"func":{"name":"[method]r.f","params":[],"result":null,"async":false}}]}
-P8 LeftOut what="waitable-join" <- {"version":1,"core-imports":[{"module":"m","field":"f","role":["waitable-join"]}]}
-P8 LeftOut what="stackful" <- {"version":1,"exports":[{"func":{"name":"f"}}],"core-exports":[{"field":"f","role":["world-func","f","stackful"]}]}"#;
+44 <- {"version":1,"core-imports":[{"module":"m","field":"f","role":["waitable-join"]}]}
+44 <- {"version":1,"exports":[{"func":{"name":"f"}}],"core-exports":[{"field":"f","role":["world-func","f","stackful"]}]}
+44 <- {"version":1,"imports":[{"type":{"name":"t","type":{"flags":["1","2","3","4","5","6","7","8","9","10","11","12","13","14","15","16","17","18","19","20","21","22","23","24","25","26","27","28","29","30","31","32"]}}}]}
+P8 LeftOut what="flags" <- {"version":1,"imports":[{"type":{"name":"t","type":{"flags":["1","2","3","4","5","6","7","8","9","10","11","12","13","14","15","16","17","18","19","20","21","22","23","24","25","26","27","28","29","30","31","32","33"]}}}]}"#;
 
 /// What can be said twice, and what can't.
 const RECORDS_THAT_CONTRADICT_THEMSELVES: &str =
@@ -213,7 +214,7 @@ P7 MergeConflict name="y" <- {"version":1,"exports":[{"func":{"name":"f"}}],"cor
 fn records_are_told(rt: HostRuntime) -> Result<(), Fail> {
     for lines in [
         RECORDS_WITH_ONE_FAULT,
-        RECORDS_OF_LATER_VERSIONS,
+        RECORDS_THAT_ARE_READ,
         RECORDS_THAT_CONTRADICT_THEMSELVES,
     ] {
         assert_eq!(rt; first_other(rt.alloc(), lines)?.as_str(), "");
@@ -290,7 +291,7 @@ fn changed(alloc: Global, place: usize, bytes: &[u8]) -> Result<Vec<u8>, AllocEr
 }
 
 /// What is said, and the record that the first bytes of the module have, so many of them.
-const WORLDS: [(&str, usize, &str); 4] = [
+const WORLDS: [(&str, usize, &str); 11] = [
     ("1 required", 44, RECORD),
     ("0 required", 8, r#"{"version":1}"#),
     (
@@ -302,6 +303,41 @@ const WORLDS: [(&str, usize, &str); 4] = [
         "P10 ExportMissing function=\"g\"",
         44,
         r#"{"version":1,"imports":[{"func":{"name":"f"}}],"exports":[{"func":{"name":"g"}}],"core-imports":[{"module":"$root","field":"f","role":["world-func","f","sync"]}]}"#,
+    ),
+    (
+        "P8 LeftOut what=\"type\"",
+        8,
+        r#"{"version":1,"imports":[{"type":{"name":"t","type":"u8"}}]}"#,
+    ),
+    (
+        "P8 LeftOut what=\"interface\"",
+        8,
+        r#"{"version":1,"interfaces":[{"id":"a:b/c","types":[],"functions":[]}],"exports":[{"interface":0}]}"#,
+    ),
+    (
+        "P8 LeftOut what=\"params\"",
+        8,
+        r#"{"version":1,"imports":[{"func":{"name":"f","params":[["x","u32"]]}}]}"#,
+    ),
+    (
+        "P8 LeftOut what=\"result\"",
+        8,
+        r#"{"version":1,"imports":[{"func":{"name":"f","result":"u32"}}]}"#,
+    ),
+    (
+        "P8 LeftOut what=\"async\"",
+        8,
+        r#"{"version":1,"imports":[{"func":{"name":"f","async":true}}]}"#,
+    ),
+    (
+        "P8 LeftOut what=\"waitable-join\"",
+        8,
+        r#"{"version":1,"core-imports":[{"module":"m","field":"f","role":["waitable-join"]}]}"#,
+    ),
+    (
+        "P8 LeftOut what=\"async\"",
+        8,
+        r#"{"version":1,"exports":[{"func":{"name":"f"}}],"core-exports":[{"field":"f","role":["world-func","f","stackful"]}]}"#,
     ),
 ];
 
