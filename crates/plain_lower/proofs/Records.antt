@@ -1,6 +1,6 @@
 -- When decoding is refused: a refusal has a cause, and what is decoded has none.
 use Rattle.std.proofs.Common.{◌≡◌, ◌⊎◌, inl, inr, arith, ℕ, Bool, true, false, cond, ◌||◌, List, [], ◌∷◌, ◌++◌, Result, Ok, Err, refl, sym, ap, subst, ◌∙◌, true≢false}
-use Rattle.std.specs.Prelude.{◌≢◌, Contains}
+use Rattle.std.specs.Prelude.{◌≢◌, Contains, IfOk, IfErr, IsOk}
 use Rattle.std.specs.List.{AllZip, AllByRecursion, flat_map, list_any}
 use Rattle.std.proofs.lemmas.List.Elements.{Contains-append_right}
 use Rattle.comp_lists.proofs.Lists.{AllByRecursion-contains}
@@ -16,7 +16,8 @@ use Rattle.record_json.specs.declared.fault.Failure.{Failure as RecordFailure}
 use Rattle.record_json.specs.declared.fault.Failure.TheVariants as record_failures
 use Rattle.record_json.specs.declared.fault.Refusal.{Refusal as RecordRefusal}
 use Rattle.record_json.specs.Faults.{◌>>=◌ as ◌>>+=◌}
-use Rattle.record_joining.specs.Causes.{RecordsConflict}
+use Rattle.record_joining.specs.Causes.{RecordsConflict, WorldConflict}
+use Rattle.record_joining.specs.declared.bindgen.Bindgen.{Bindgen}
 use Rattle.record_joining.specs.Tables.{conflict as conflict_of}
 use Rattle.record_roles.specs.Records.{record_in}
 use Rattle.record_values.specs.declared.record.Record.{Record}
@@ -27,7 +28,7 @@ use Rattle.plain_lower.specs.declared.fault.Refusal.TheVariants as refusals
 use Rattle.plain_lower.specs.declared.fault.PlainFault.{PlainFault}
 use Rattle.plain_lower.specs.Faults.{lifted, of_section, of_record, of_record_refusal, flat, flat_refusal}
 use Rattle.plain_lower.specs.Joining.{records_in}
-use Rattle.plain_lower.specs.Causes.{SaidCause, misread, conflicting, DecodeCause, not_module, cut, binary, misspelt, conflict}
+use Rattle.plain_lower.specs.Causes.{SaidCause, misread, conflicting, AreApart, DecodeCause, not_module, cut, binary, misspelt, conflict, MergeCause, conflict_of_worlds}
 use Rattle.plain_lower.proofs.Chains.{refused, same_refusal}
 
 abbrev IsRead : List ℕ → Record → Type 0
@@ -184,3 +185,30 @@ no_cause bytes s rs is read_so apart f c = let t = taken bytes s is in by t.0 t.
         let all : AllZip IsRead (removed ps) rs = subst (λ (xs : List (List ℕ)). AllZip IsRead xs rs) are (each_read s.1 rs read_so) in
         let same : records ≡ rs = same_lists (removed ps) records rs (subst (λ (qs : List Piece). AllZip IsRead (removed qs) records) (same_pieces bytes x.pieces ps x.whole m) x.read) all in
         apart name (subst (λ (qs : List Record). RecordsConflict qs name) same c)
+
+-- ---- the steps, as calls answer them
+
+pub said_by_reading : {A : Type 0} (texts : List (List ℕ)) (e : RecordFailure) → (e ≢ record_failures.Memory → records_in texts ≡ Err e) → IfErr {A = A} (Err e) (λ d. d ≢ record_failures.Memory → SaidCause texts d)
+said_by_reading texts e h other = misread (h other)
+
+pub said_by_joining : (texts : List (List ℕ)) (records : List Record) (r : Result Bindgen RecordFailure) → records_in texts ≡ Ok records
+    → IfErr r (λ e. e ≢ record_failures.Memory → (name : List ℕ) × (e ≡ conflict_of name) × RecordsConflict records name) → IfErr r (λ e. e ≢ record_failures.Memory → SaidCause texts e)
+said_by_joining texts records (Ok b) are h = tt
+said_by_joining texts records (Err e) are h = λ other. let c = h other in conflicting records c.0 are c.2 c.1
+
+pub said_apart : (texts : List (List ℕ)) (records : List Record) (r : Result Bindgen RecordFailure) → records_in texts ≡ Ok records
+    → (IsOk r → (name : List ℕ) → RecordsConflict records name → ⊥) → IfOk r (λ _. AreApart texts)
+said_apart texts records (Ok b) are h = record { records = records; are_read = are; no_conflict = h refl }
+said_apart texts records (Err e) are h = tt
+
+-- ---- merging
+
+pub merge_caused : (a b : Bindgen) (e : RecordFailure) → (e ≢ record_failures.Memory → (name : List ℕ) × (e ≡ conflict_of name) × WorldConflict a.wit b.wit name)
+    → (of_record e ≢ failures.Memory) → MergeCause a b (flat (of_record e))
+merge_caused a b record_failures.Memory h other = absurd (other refl)
+merge_caused a b (record_failures.Refused r) h other =
+    let c = h (λ m. cc) in
+    subst (λ (x : RecordFailure). MergeCause a b (flat (of_record x))) (sym c.1) (conflict_of_worlds c.0 c.2)
+
+pub merge_has_none : (a b : Bindgen) → ((name : List ℕ) → WorldConflict a.wit b.wit name → ⊥) → (f : PlainFault) → MergeCause a b f → ⊥
+merge_has_none a b h f (conflict_of_worlds name c) = h name c

@@ -63,6 +63,12 @@ pub data SaidCause (texts : List (List ℕ)) (e : RecordFailure) : Type 0 where
   misread : records_in texts ≡ Err e → SaidCause texts e
   conflicting : (records : List Record) (name : List ℕ) → records_in texts ≡ Ok records → RecordsConflict records name → e ≡ conflict_of name → SaidCause texts e
 
+-- these texts are records, and no name is in conflict among them
+pub record AreApart (texts : List (List ℕ)) : Type 0 where
+  pub records : List Record
+  pub are_read : records_in texts ≡ Ok records
+  pub no_conflict : (name : List ℕ) → RecordsConflict records name → ⊥
+
 pub data DecodeCause (bytes : List ℕ) : PlainFault → Type 0 where
   -- the bytes don't begin as a core module does
   not_module : ((rest : List ℕ) → bytes ≡ preamble ++ rest → ⊥) → DecodeCause bytes faults.NotModule

@@ -1,8 +1,12 @@
 //! What the records of a module say, and what several modules say of their world.
 
-ghost use Rattle.std.specs.Prelude.{◌≡◌, map};
+ghost use Rattle.std.specs.Prelude.{◌≡◌, ◌≢◌, map, IfOk, IfErr, IsOk};
+ghost use Rattle.record_json.specs.declared.fault.Failure.TheVariants as records;
+ghost use Rattle.plain_lower.specs.declared.fault.Failure.TheVariants as failures;
+ghost use Rattle.plain_lower.specs.declared.fault.PlainFault.{PlainFault};
+ghost use Rattle.plain_lower.specs.Causes.{SaidCause, AreApart, DecodeCause, MergeCause};
+ghost use Rattle.plain_lower.specs.Faults.{Gives, flat};
 ghost use Rattle.record_json.specs.Faults.{Gives as GivesRecord};
-ghost use Rattle.plain_lower.specs.Faults.{Gives};
 ghost use Rattle.plain_lower.specs.Joining.{records_in, said_in, decoding, merging};
 
 use crate::fault::Failure;
@@ -28,9 +32,11 @@ fn read_records(alloc: Global, texts: &[&[u8]]) -> Result<Seq<Record>, RecordFai
 }
 
 /// What the records together say.
-#[tactic(auto, unfolding(crate::specs::Joining::said_in))]
+#[tactic(auto, unfolding(crate::specs::Joining::said_in), using(crate::proofs::Records::said_by_reading, crate::proofs::Records::said_by_joining, crate::proofs::Records::said_apart))]
 fn read_said(alloc: Global, texts: &[&[u8]]) -> Result<Bindgen, RecordFailure>
-    ensures { GivesRecord (λ b. b) result (said_in (map (λ t. t.now) texts.now)) }
+    ensures exact { GivesRecord (λ b. b) result (said_in (map (λ t. t.now) texts.now)) }
+    ensures cause { IfErr result (λ e. e ≢ records.Memory → SaidCause (map (λ t. t.now) texts.now) e) }
+    ensures apart { IfOk result (λ _. AreApart (map (λ t. t.now) texts.now)) }
 {
     let records = read_records(alloc, texts)?;
     bindgen_of(alloc, records)
@@ -39,7 +45,9 @@ fn read_said(alloc: Global, texts: &[&[u8]]) -> Result<Bindgen, RecordFailure>
 /// A module without its records, and what these say.
 #[tactic(auto, unfolding(crate::specs::Joining::decoding))]
 pub(crate) fn decode(alloc: Global, bytes: &[u8]) -> Result<(Bytes, Bindgen), Failure>
-    ensures { Gives (λ d. d) result (decoding bytes.now) }
+    ensures exact { Gives (λ d. d) result (decoding bytes.now) }
+    ensures cause { IfErr result (λ e. e ≢ failures.Memory → DecodeCause bytes.now (flat e)) }
+    ensures refused { IsOk result → (f : PlainFault) → ¬ DecodeCause bytes.now f }
 {
     let stripped = strip(alloc, bytes)?;
     let said = read_said(alloc, stripped.records.as_slice())?;
@@ -52,7 +60,9 @@ pub(crate) fn merge(
     first: &Bindgen,
     second: &Bindgen,
 ) -> Result<Merged<Bindgen>, Failure>
-    ensures { Gives (λ m. m) result (merging first.now second.now) }
+    ensures exact { Gives (λ m. m) result (merging first.now second.now) }
+    ensures cause { IfErr result (λ e. e ≢ failures.Memory → MergeCause first.now second.now (flat e)) }
+    ensures refused { IsOk result → (f : PlainFault) → ¬ MergeCause first.now second.now f }
 {
     Ok(record_joining::merge(alloc, first, second)?)
 }
