@@ -1,6 +1,6 @@
 -- Why tables can't be joined.
 use Rattle.std.proofs.Common.{◌≡◌, ℕ, Bool, true, false, List, [], ◌∷◌, ◌++◌, Option, None, Some, Ok, Err, cond, if◌then◌else◌, refl, sym, ap, subst, ◌∙◌, true≢false, is_some}
-use Rattle.std.specs.Prelude.{◌≢◌}
+use Rattle.std.specs.Prelude.{◌≢◌, Result, IfErr}
 use Rattle.std.specs.Cmp.{IsEquivalence}
 use Rattle.std.specs.List.{IsDistinct, AllByRecursion}
 use Rattle.std.specs.Map.{lookup, keys_of}
@@ -89,9 +89,9 @@ module _ {K X : Type 0} (eq : K → K → Bool) (laws : IsEquivalence eq) where
     apart_cause a b failures.Memory d h = memory refl
     apart_cause a b (failures.Refused r) d h = caused (apart_refused a b (failures.Refused r) d (h (λ m. cc)))
 
-    module _ (same : X → X → Bool) (itself : (x : X) → same x x ≡ true) where
+    module _ (same : X → X → Bool) (sames : IsEquivalence same) where
       differs_here : (y x : X) → same y x ≡ false → y ≢ x
-      differs_here y x h e = true≢false (sym (itself x) ∙ ap (λ z. same z x) (sym e) ∙ h)
+      differs_here y x h e = true≢false (sym (sames.refl x) ∙ ap (λ z. same z x) (sym e) ∙ h)
 
       -- where tables can't be joined, a key is in both with different values
       pub joined_refused : (a b : List (K × X)) (f : Failure) → IsDistinct eq (keys_of b) → joined eq same text a b ≡ Err f → Differs eq text a b f
@@ -124,3 +124,10 @@ of_imports a b f (caused c) = import_differs c
 pub of_exports : (a b : Wit) (f : Failure) → Unless (IsInBoth is_same_item key_text a.exports b.exports) f → WorldCause a b f
 of_exports a b f (memory e) = no_memory e
 of_exports a b f (caused c) = exported_twice c
+
+pub by_memory : (a b : Wit) → WorldCause a b failures.Memory
+by_memory a b = no_memory refl
+
+-- a cause for a copy is one for what it was copied of
+pub of_copy : (a b copied : Wit) (r : Result Wit Failure) → IfErr r (WorldCause copied b) → copied ≡ a → IfErr r (WorldCause a b)
+of_copy a b copied r c is = subst (λ (w : Wit). IfErr r (WorldCause w b)) is c
