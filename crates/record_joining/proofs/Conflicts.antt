@@ -11,7 +11,7 @@ use Rattle.record_json.specs.declared.fault.Failure.TheVariants as failures
 use Rattle.record_json.specs.Faults.{◌>>=◌}
 use Rattle.record_values.specs.declared.world.Wit.{Wit}
 use Rattle.record_values.specs.Names.{is_same_interface, is_same_item, name_text, key_text}
-use Rattle.record_joining.specs.Tables.{conflict, joined, with_entry, apart, or_else}
+use Rattle.record_joining.specs.Tables.{conflict, joined, apart, or_else}
 use Rattle.record_joining.specs.Causes.{Differs, IsInBoth, Unless, memory, caused, WorldCause, no_memory, interface_differs, import_differs, exported_twice}
 use Rattle.record_joining.proofs.Saying.{lookup_alike, lookup_last}
 
