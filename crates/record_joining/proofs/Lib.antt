@@ -1,3 +1,5 @@
 pub mod Chains
 pub mod Conflicts
 pub mod Saying
+pub mod Equal
+pub mod EqualRoles
