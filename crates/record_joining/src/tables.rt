@@ -3,7 +3,7 @@
 ghost use Rattle.std.specs.Prelude.{◌≡◌, [], ◌∷◌, IfOk, IfErr};
 ghost use Rattle.record_json.specs.Faults.{Gives};
 ghost use Rattle.record_joining.specs.Tables.{with_entry, joined, apart};
-ghost use Rattle.record_joining.specs.Causes.{Differs, IsInBoth, Unless};
+ghost use Rattle.record_joining.specs.Causes.{Differs, IsInBoth, Named, Unless};
 
 use comp_lists::{Keyed, Text, TryClone};
 use record_json::{Failure, Refusal};
@@ -94,7 +94,7 @@ pub(crate) fn add_all<K: Key + TryClone, X: TryClone + Eq>(
     more: &Keyed<K, X>,
 ) -> Result<(), Failure>
     ensures exact { Gives (λ _. table.new) result (joined K.eq X.eq K.name table.old more.now) }
-    ensures cause { IfErr result (Unless (Differs K.eq K.name table.old more.now)) }
+    ensures cause { IfErr result (Unless (Named (Differs K.eq K.name table.old more.now))) }
 {
     for (key, value) in more.entries() {
         put(alloc, table, key, value)?;
@@ -110,7 +110,7 @@ pub(crate) fn add_apart<K: Key + TryClone, X: TryClone>(
     more: &Keyed<K, X>,
 ) -> Result<(), Failure>
     ensures exact { Gives (λ _. table.new) result (apart K.eq (λ e. K.name e.0) table.old more.now) }
-    ensures cause { IfErr result (Unless (IsInBoth K.eq K.name table.old more.now)) }
+    ensures cause { IfErr result (Unless (Named (IsInBoth K.eq K.name table.old more.now))) }
 {
     for (key, value) in more.entries() {
         if table.contains(key) {
