@@ -3,3 +3,4 @@ pub mod Conflicts
 pub mod Saying
 pub mod Equal
 pub mod EqualRoles
+pub mod Agreeing

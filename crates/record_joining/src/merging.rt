@@ -65,7 +65,7 @@ fn join_wits(alloc: Global, first: &Wit, second: &Wit) -> Result<Wit, Failure>
 /// What two say of their world together: interfaces by name, imports and exports by key, in order.
 /// Interfaces of one name must be equal, imports of one key too, and no key of exports may be in both;
 /// else the refusal is `MergeConflict` with the text of the name or key.
-#[tactic(auto, using(crate::proofs::Saying::merged_says, crate::proofs::Conflicts::told))]
+#[tactic(auto, using(crate::proofs::Saying::merged_says, crate::proofs::Conflicts::told, crate::proofs::Agreeing::no_conflict))]
 pub fn merge_wit(alloc: Global, first: &Wit, second: &Wit) -> Result<Wit, Failure>
     ensures exact { Gives (λ w. w) result (merged_wit (record {
       interface = ⟦<Interface as PartialEq>⟧.eq;
@@ -73,6 +73,7 @@ pub fn merge_wit(alloc: Global, first: &Wit, second: &Wit) -> Result<Wit, Failur
     }) first.now second.now) }
     ensures says { IfOk result (Says first.now second.now) }
     ensures cause { IfErr result (λ e. e ≢ failures.Memory → (name : List ℕ) × (e ≡ conflict name) × WorldConflict first.now second.now name) }
+    ensures refused { IsOk result → (name : List ℕ) → ¬ WorldConflict first.now second.now name }
 {
     let joint = join_wits(alloc, first, second)?;
     Ok(joint)
@@ -107,6 +108,7 @@ pub fn merge(alloc: Global, first: &Bindgen, second: &Bindgen) -> Result<Merged<
       item = ⟦<Item as PartialEq>⟧.eq;
     }) first.now second.now) }
     ensures cause { IfErr result (λ e. e ≢ failures.Memory → (name : List ℕ) × (e ≡ conflict name) × WorldConflict first.now.wit second.now.wit name) }
+    ensures refused { IsOk result → (name : List ℕ) → ¬ WorldConflict first.now.wit second.now.wit name }
 {
     let wit = merge_wit(alloc, &first.wit, &second.wit)?;
     let exports = export_keys(alloc, &second.wit.exports)?;
