@@ -2,6 +2,10 @@
 use Rattle.std.proofs.Common.{◌≡◌, Bool, true, false, ℕ, List, refl, sym, ap, ◌∙◌, true≢false, rules, ◌&&◌}
 use Rattle.std.specs.Str.{bytes_eq}
 use Rattle.std.specs.Cmp.{IsEquivalence}
+use Rattle.std.specs.Cmp.Rules.{comparing}
+use Rattle.std.proofs.lemmas.Slice.Eq.{bytes_eq-Decides}
+use Rattle.std.proofs.lemmas.Bool.Decides.{Decides-eqb}
+use Rattle.record_values.specs.declared.names.TypeName.{TypeName}
 use Rattle.std.specs.Prelude.{nat_eq}
 use Rattle.std.specs.Bool.{beq}
 use Rattle.comp_bytes.specs.declared.space.ExportKind.{ExportKind}
@@ -23,7 +27,7 @@ use Rattle.record_values.specs.declared.roles.ImportRole.{ImportRole}
 use Rattle.record_values.specs.declared.roles.ImportRole.TheVariants as imports
 use Rattle.record_values.specs.declared.roles.ExportRole.{ExportRole}
 use Rattle.record_values.specs.declared.roles.ExportRole.TheVariants as exports
-use Rattle.record_values.specs.Names.{is_same_owner}
+use Rattle.record_values.specs.Names.{is_same_owner, is_same_type}
 use Rattle.record_values.specs.contracts.roles.IntrinsicPartialEq.TheImpl as intrinsic_eq
 use Rattle.record_values.specs.contracts.roles.PayloadKindPartialEq.TheImpl as payload_kind_eq
 use Rattle.record_values.specs.contracts.roles.PayloadOperationPartialEq.TheImpl as operation_eq
@@ -105,3 +109,92 @@ one_export_role (exports.Callback o n) (exports.Callback p m) e = let b = one_ow
 one_export_role (exports.Destructor a) (exports.Destructor b) e = ap exports.Destructor (one_type a b e)
 one_export_role (exports.Plain a) (exports.Plain b) e = ap exports.Plain (one_plain a b e)
 one_export_role x y e = search rules
+
+-- ---- and a role equals itself
+
+abbrev EqualsItself : {X : Type 0} → (X → X → Bool) → Type 0
+EqualsItself {X} eq = (x : X) → eq x x ≡ true
+
+and_so : (a b : Bool) → a ≡ true → b ≡ true → (a && b) ≡ true
+and_so true b e f = f
+and_so false b e f = absurd (true≢false (sym e))
+
+text_itself : EqualsItself bytes_eq
+text_itself x = (bytes_eq-Decides x x).1 refl
+
+number_itself : EqualsItself nat_eq
+number_itself x = (Decides-eqb x x).1 refl
+
+owner_laws : IsEquivalence is_same_owner
+owner_laws = Prim.search (comparing, rules)
+
+type_laws : IsEquivalence is_same_type
+type_laws = Prim.search (comparing, rules)
+
+truth_itself : EqualsItself beq
+truth_itself x = search rules
+
+kind_itself : EqualsItself kind_eq.eq-value.it
+kind_itself x = search rules
+
+encoding_itself : EqualsItself encoding_eq.eq-value.it
+encoding_itself x = search rules
+
+val_itself : EqualsItself val_eq.eq-value.it
+val_itself x = search rules
+
+abi_itself : EqualsItself abi_eq.eq-value.it
+abi_itself x = search rules
+
+intrinsic_itself : EqualsItself intrinsic_eq.eq-value.it
+intrinsic_itself x = search rules
+
+payload_kind_itself : EqualsItself payload_kind_eq.eq-value.it
+payload_kind_itself x = search rules
+
+operation_itself : EqualsItself operation_eq.eq-value.it
+operation_itself x = search rules
+
+plain_itself : EqualsItself plain_eq.eq-value.it
+plain_itself x = search rules
+
+owned_itself : (o : Owner) (n : List ℕ) → (is_same_owner o o && bytes_eq n n) ≡ true
+owned_itself o n = and_so (is_same_owner o o) (bytes_eq n n) (owner_laws.refl o) (text_itself n)
+
+called_itself : (o : Owner) (n : List ℕ) (a : AbiVariant) → (is_same_owner o o && (bytes_eq n n && abi_eq.eq-value.it a a)) ≡ true
+called_itself o n a = and_so (is_same_owner o o) (bytes_eq n n && abi_eq.eq-value.it a a) (owner_laws.refl o) (and_so (bytes_eq n n) (abi_eq.eq-value.it a a) (text_itself n) (abi_itself a))
+
+payload_itself : EqualsItself payload_eq.eq-value.it
+payload_itself payloads.Unit = refl
+payload_itself (payloads.Met i o f n) =
+    and_so (beq i i) (is_same_owner o o && (bytes_eq f f && nat_eq n n)) (truth_itself i)
+    (and_so (is_same_owner o o) (bytes_eq f f && nat_eq n n) (owner_laws.refl o) (and_so (bytes_eq f f) (nat_eq n n) (text_itself f) (number_itself n)))
+
+pub import_role_itself : EqualsItself import_eq.eq-value.it
+import_role_itself (imports.Function o n a) = called_itself o n a
+import_role_itself (imports.ImportedDrop a) = type_laws.refl a
+import_role_itself (imports.ExportedDrop a) = type_laws.refl a
+import_role_itself (imports.ExportedRep a) = type_laws.refl a
+import_role_itself (imports.ExportedNew a) = type_laws.refl a
+import_role_itself (imports.TaskReturn o n) = owned_itself o n
+import_role_itself (imports.Intrinsic a) = intrinsic_itself a
+import_role_itself (imports.SubtaskCancel a) = truth_itself a
+import_role_itself (imports.Payload k o p a) =
+    and_so (payload_kind_eq.eq-value.it k k) (operation_eq.eq-value.it o o && (payload_eq.eq-value.it p p && beq a a)) (payload_kind_itself k)
+    (and_so (operation_eq.eq-value.it o o) (payload_eq.eq-value.it p p && beq a a) (operation_itself o) (and_so (payload_eq.eq-value.it p p) (beq a a) (payload_itself p) (truth_itself a)))
+import_role_itself (imports.ErrorContextNew a) = encoding_itself a
+import_role_itself (imports.ErrorContextDebugMessage a) = encoding_itself a
+import_role_itself (imports.ContextGet t s) = and_so (val_eq.eq-value.it t t) (nat_eq s s) (val_itself t) (number_itself s)
+import_role_itself (imports.ContextSet t s) = and_so (val_eq.eq-value.it t t) (nat_eq s s) (val_itself t) (number_itself s)
+import_role_itself (imports.TlsGet a) = val_itself a
+import_role_itself (imports.TlsSet a) = val_itself a
+import_role_itself imports.Memory = refl
+import_role_itself (imports.MainExport n k) = and_so (bytes_eq n n) (kind_eq.eq-value.it k k) (text_itself n) (kind_itself k)
+import_role_itself (imports.AdapterExport a f) = and_so (bytes_eq a a) (bytes_eq f f) (text_itself a) (text_itself f)
+
+pub export_role_itself : EqualsItself export_eq.eq-value.it
+export_role_itself (exports.Function o n a) = called_itself o n a
+export_role_itself (exports.PostReturn o n) = owned_itself o n
+export_role_itself (exports.Callback o n) = owned_itself o n
+export_role_itself (exports.Destructor a) = type_laws.refl a
+export_role_itself (exports.Plain a) = plain_itself a

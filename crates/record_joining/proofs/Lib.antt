@@ -4,3 +4,4 @@ pub mod Saying
 pub mod Equal
 pub mod EqualRoles
 pub mod Agreeing
+pub mod RoleConflicts
