@@ -5,3 +5,4 @@ pub mod Equal
 pub mod EqualRoles
 pub mod Agreeing
 pub mod RoleConflicts
+pub mod Records

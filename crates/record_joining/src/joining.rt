@@ -1,10 +1,11 @@
 //! What the records of one module say together.
 
-ghost use Rattle.std.specs.Prelude.{◌≡◌};
+ghost use Rattle.std.specs.Prelude.{◌≡◌, IfErr};
 ghost use Rattle.std.specs.List.{list_any};
 ghost use Rattle.record_json.specs.Faults.{Gives};
 ghost use Rattle.record_joining.specs.Said.{no_wit};
 ghost use Rattle.record_joining.specs.Merging.{Tests};
+ghost use Rattle.record_joining.specs.Causes.{Named, Unless, TwoWorlds};
 ghost use Rattle.record_joining.specs.Joining.{RoleTests, worlds_after, roles_of, bindgen_of};
 
 use crate::assigning::{join_tables, take_roles};
@@ -17,11 +18,13 @@ use record_values::{ExportRole, ImportRole, Interface, Item, Record, Wit};
 use std::alloc::Global;
 
 /// What the records' worlds say together.
+#[tactic(auto, using(crate::proofs::Records::start, crate::proofs::Records::step, crate::proofs::Records::worlds_caused))]
 fn join_worlds(alloc: Global, records: &[Record]) -> Result<Wit, Failure>
-    ensures { Gives (λ w. w) result (worlds_after (record {
+    ensures exact { Gives (λ w. w) result (worlds_after (record {
       interface = ⟦<Interface as PartialEq>⟧.eq;
       item = ⟦<Item as PartialEq>⟧.eq;
     }) no_wit records.now) }
+    ensures cause { IfErr result (Unless (Named (TwoWorlds records.now))) }
 {
     let mut joint = empty_wit(alloc);
     for one in records {
