@@ -6,3 +6,4 @@ pub mod EqualRoles
 pub mod Agreeing
 pub mod RoleConflicts
 pub mod Records
+pub mod Bindgens

@@ -1,6 +1,7 @@
 -- Why records can't hold together.
-use Rattle.std.proofs.Common.{◌≡◌, ◌⊎◌, inl, inr, ℕ, Bool, true, false, List, [], ◌∷◌, ◌++◌, Option, None, Some, Result, Ok, Err, refl, sym, ap, subst, ◌∙◌, append_assoc, true≢false, is_some, is_ok}
+use Rattle.std.proofs.Common.{◌≡◌, ◌⊎◌, inl, inr, ℕ, Bool, true, false, List, [], ◌∷◌, ◌++◌, Option, None, Some, Result, Ok, Err, refl, sym, ap, subst, ◌∙◌, append_assoc, true≢false, is_some, is_ok, take, drop, length, get_or, ◌+◌, ◌<◌}
 use Rattle.std.specs.Prelude.{◌≢◌}
+use Rattle.std.proofs.lemmas.List.{take_more, take-append-drop, drop_more}
 use Rattle.std.specs.List.{flat_map, list_any}
 use Rattle.std.specs.Map.{lookup}
 use Rattle.std.specs.Str.{bytes_eq}
@@ -181,3 +182,20 @@ pub no_two_worlds : (records : List Record) (w v : Wit) (name : List ℕ) → wo
 no_two_worlds records w v name e two =
     let whole : records ≡ two.before ++ (two.first ∷ (two.between ++ two.second ∷ two.after)) = two.is ∙ append_assoc two.before (two.first ∷ two.between) (two.second ∷ two.after) in
     no_clash w v two.before two.between two.after two.first two.second name (ap (λ (xs : List Record). worlds_after world_tests w xs) (sym whole) ∙ e) two.clash
+
+seen_more : (records : List Record) (i : ℕ) (r : Record) → i < length records → get_or records i r ≡ r → take (i + 1) records ≡ take i records ++ r ∷ []
+seen_more records i r below is = take_more records i r below ∙ ap (λ (x : Record). take i records ++ x ∷ []) is
+
+pub loop_step : (records : List Record) (i : ℕ) (r : Record) (w v : Wit) → i < length records → get_or records i r ≡ r → WorldsFrom (take i records) w → merged_wit world_tests w r.wit ≡ Ok v → WorldsFrom (take (i + 1) records) v
+loop_step records i r w v below is from e = subst (λ (s : List Record). WorldsFrom s v) (sym (seen_more records i r below is)) (step (take i records) w v r from e)
+
+pub loop_caused : (records : List Record) (i : ℕ) (r : Record) (w : Wit) (f : Failure) → i < length records → get_or records i r ≡ r → WorldsFrom (take i records) w → Unless (Named (WorldConflict w r.wit)) f → Unless (Named (TwoWorlds records)) f
+loop_caused records i r w f below is from c =
+    worlds_caused records (take i records) (drop (i + 1) records) r w f from
+    (sym (take-append-drop i records) ∙ ap (λ (x : List Record). take i records ++ x) (drop_more records i r below ∙ ap (λ (x : Record). x ∷ drop (i + 1) records) is)) c
+
+pub loop_exact : (records : List Record) (i : ℕ) (r : Record) (w v : Wit) (whole : Result Wit Failure) → i < length records → get_or records i r ≡ r → merged_wit world_tests w r.wit ≡ Ok v
+    → worlds_after world_tests w (drop i records) ≡ whole → worlds_after world_tests v (drop (i + 1) records) ≡ whole
+loop_exact records i r w v whole below is e h =
+    sym (ap (λ (x : List Record). worlds_after world_tests w x) (drop_more records i r below ∙ ap (λ (x : Record). x ∷ drop (i + 1) records) is)
+    ∙ ap (λ (m : Result Wit Failure). m >>= λ u. worlds_after world_tests u (drop (i + 1) records)) e) ∙ h

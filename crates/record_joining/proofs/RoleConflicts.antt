@@ -30,10 +30,10 @@ use Rattle.record_joining.proofs.EqualRoles.{one_import_role, one_export_role, i
 use Rattle.record_joining.proofs.Saying.{lookup_alike}
 use Rattle.record_joining.proofs.Agreeing.{same_some, lookup_pushed, some_kept, entry_ok, entry_keeps}
 
-import_name_laws : IsEquivalence is_same_import
+pub import_name_laws : IsEquivalence is_same_import
 import_name_laws = Prim.search (comparing, rules)
 
-text_laws : IsEquivalence bytes_eq
+pub text_laws : IsEquivalence bytes_eq
 text_laws = lists_equiv nat_eq_equiv
 
 push_cases : {K X : Type 0} (eq : K → K → Bool) (k x : K) (v r : X) (es : List (K × X)) → lookup (eq k) (es ++ (x, v) ∷ []) ≡ Some r → (lookup (eq k) es ≡ Some r) ⊎ ((eq k x ≡ true) × (v ≡ r))
@@ -99,7 +99,7 @@ from_more {K} {R} eq same field seen table more a from e k r there =
 
 module _ {K R : Type 0} (eq : K → K → Bool) (same : R → R → Bool) (field : K → List ℕ) where
   -- where roles can't be joined, a name has two
-  roles_refused : (reflexive : (r : R) → same r r ≡ true) (all seen more : List (Assigned K R)) (table : List (K × R)) (f : Failure) → From eq seen table → all ≡ seen ++ more
+  pub roles_refused : (reflexive : (r : R) → same r r ≡ true) (all seen more : List (Assigned K R)) (table : List (K × R)) (f : Failure) → From eq seen table → all ≡ seen ++ more
       → roles_after eq same field table more ≡ Err f → Named (TwoRoles eq field all) f
   roles_refused reflexive all seen [] table f from whole e = absurd (true≢false (ap is_ok e))
   roles_refused reflexive all seen (a ∷ more) table f from whole e =
@@ -154,7 +154,7 @@ module _ {K R : Type 0} (eq : K → K → Bool) (same : R → R → Bool) (field
         let t = bind_ok (with_entry eq same field table b.key b.role) (λ x. roles_after eq same field x (before ++ (first ∷ (between ++ second ∷ after)))) joined e in
         roles_agree t.0 joined before between after first second alike t.2
 
-    no_two_roles : (all : List (Assigned K R)) (joined : List (K × R)) (name : List ℕ) → TwoRoles eq field all name → roles_after eq same field [] all ≡ Ok joined → ⊥
+    pub no_two_roles : (all : List (Assigned K R)) (joined : List (K × R)) (name : List ℕ) → TwoRoles eq field all name → roles_after eq same field [] all ≡ Ok joined → ⊥
     no_two_roles all joined name two e =
         let whole : all ≡ two.before ++ (two.first ∷ (two.between ++ two.second ∷ two.after)) = two.is ∙ append_assoc two.before (two.first ∷ two.between) (two.second ∷ two.after) in
         two.differ (roles_agree [] joined two.before two.between two.after two.first two.second two.same_key (ap (λ (xs : List (Assigned K R)). roles_after eq same field [] xs) (sym whole) ∙ e))
@@ -176,7 +176,7 @@ module _ (same : ExportRole → ExportRole → Bool) (one : IsOne same) where
       by true is h more = ([], es, e, refl, sym (one n (without_abi e.1) is))
       by false is h more = let k = more h in (e ∷ k.0, k.1, k.2, ap (λ (t : List (List ℕ × ExportRole)). e ∷ t) k.3, k.4)
 
-  fields_refused : (all seen es : List (List ℕ × ExportRole)) (table : List (ExportRole × List ℕ)) (f : Failure) → table ≡ map by_role seen → all ≡ seen ++ es
+  pub fields_refused : (all seen es : List (List ℕ × ExportRole)) (table : List (ExportRole × List ℕ)) (f : Failure) → table ≡ map by_role seen → all ≡ seen ++ es
       → apart same (λ e. e.1) table (map by_role es) ≡ Err f → Named (TwoFields all) f
   fields_refused all seen [] table f are whole e = absurd (true≢false (ap is_ok e))
   fields_refused all seen (x ∷ es) table f are whole e =
@@ -241,7 +241,7 @@ first_is same table more k x e =
       | inr h ↦ h.1 ∙ ap (λ (o : Option ExportRole). if is_some o then table else table ++ (k, x) ∷ []) (sym h.0)
     ]
 
-fields_are : (same : ExportRole → ExportRole → Bool) (table joined : List (List ℕ × ExportRole)) (all : List (Assigned (List ℕ) ExportRole)) → roles_after bytes_eq same (λ f. f) table all ≡ Ok joined → joined ≡ with_first_roles table all
+pub fields_are : (same : ExportRole → ExportRole → Bool) (table joined : List (List ℕ × ExportRole)) (all : List (Assigned (List ℕ) ExportRole)) → roles_after bytes_eq same (λ f. f) table all ≡ Ok joined → joined ≡ with_first_roles table all
 fields_are same table joined [] e = same_ok table joined e
   where
     same_ok : (a b : List (List ℕ × ExportRole)) → roles_after bytes_eq same (λ f. f) a [] ≡ Ok b → b ≡ a
@@ -249,3 +249,9 @@ fields_are same table joined [] e = same_ok table joined e
 fields_are same table joined (a ∷ more) e =
     let t = bind_ok (with_entry bytes_eq same (λ f. f) table a.key a.role) (λ x. roles_after bytes_eq same (λ f. f) x more) joined e in
     fields_are same t.0 joined more t.2 ∙ ap (λ (x : List (List ℕ × ExportRole)). with_first_roles x more) (first_is same table t.0 a.key a.role t.1)
+
+pub no_two_fields_in : (same : ExportRole → ExportRole → Bool) (reflexive : (r : ExportRole) → same r r ≡ true) (fields : List (List ℕ × ExportRole)) (joined : List (ExportRole × List ℕ)) (name : List ℕ) → TwoFields fields name
+    → one_field_each same fields ≡ Ok joined → ⊥
+no_two_fields_in same reflexive fields joined name two e =
+    let whole : fields ≡ two.before ++ (two.first ∷ (two.between ++ two.second ∷ two.after)) = two.is ∙ append_assoc two.before (two.first ∷ two.between) (two.second ∷ two.after) in
+    no_two_fields same reflexive joined two.after two.first two.second two.same_role [] two.before two.between (ap (λ (xs : List (List ℕ × ExportRole)). one_field_each same xs) (sym whole) ∙ e)
