@@ -1,6 +1,6 @@
 -- Why the records of one module can't hold together: worlds or roles.
 use Rattle.std.proofs.Common.{◌≡◌, ℕ, List, [], ◌∷◌, Result, Ok, Err, refl, sym, ap, subst, ◌∙◌, inl, inr, true≢false, is_ok}
-use Rattle.std.specs.Prelude.{◌≢◌, map}
+use Rattle.std.specs.Prelude.{◌≢◌, IfErr, IsErrAnd}
 use Rattle.std.specs.List.{flat_map, list_any}
 use Rattle.std.specs.Str.{bytes_eq}
 use Rattle.record_json.specs.declared.fault.Failure.{Failure}
@@ -23,6 +23,7 @@ use Rattle.record_joining.specs.Joining.{RoleTests, worlds_after, roles_after, w
 use Rattle.record_joining.specs.Encodings.{encodings_after}
 use Rattle.record_joining.specs.Causes.{Named, Unless, memory, caused, TwoWorlds, TwoRoles, TwoFields, first_roles, with_first_roles, all_import_roles, all_export_roles, RecordsConflict, worlds, import_roles, export_roles, two_fields}
 use Rattle.record_joining.proofs.Chains.{bind_ok, bind_err}
+use Rattle.record_joining.proofs.Conflicts.{told}
 use Rattle.record_joining.proofs.EqualRoles.{one_import_role, one_export_role, import_role_itself, export_role_itself}
 use Rattle.record_joining.proofs.Agreeing.{world_tests}
 use Rattle.record_joining.proofs.Records.{no_two_worlds}
@@ -115,3 +116,17 @@ no_conflicts records w r e h name (export_roles two) =
 no_conflicts records w r e h name (two_fields two) =
     let j = roles_joined records r h in
     no_two_fields_in export_eq.eq-value.it export_role_itself j.es j.fields name (subst (λ (es : List (List ℕ × ExportRole)). TwoFields es name) (sym (fields_are export_eq.eq-value.it [] j.es (all_export_roles records) j.exports_are)) two) j.fields_are
+
+pub roles_caused : (records : List Record) (f : Failure) → (f ≢ failures.Memory → roles_of role_tests records ≡ Err f) → Unless (Named (RecordsConflict records)) f
+roles_caused records failures.Memory e = memory refl
+roles_caused records (failures.Refused r) e =
+    let t = of_roles records (failures.Refused r) e (λ m. cc) in
+    caused (record { name = t.0; is = t.1; why = t.2 })
+
+pub if_told : {A : Type 0} (cause : List ℕ → Type 0) (r : Result A Failure) → IfErr r (Unless (Named cause)) → IfErr r (λ f. f ≢ failures.Memory → (name : List ℕ) × (f ≡ conflict name) × cause name)
+if_told cause (Ok x) h = h
+if_told cause (Err f) h = told cause f h
+
+pub err_so : {A : Type 0} (P : Failure → Type 0) (f : Failure) (r : Result A Failure) → IsErrAnd r (λ e. e ≡ f) → P f → IfErr r P
+err_so P f (Ok x) h p = absurd h
+err_so P f (Err e) h p = subst P (sym h) p

@@ -87,21 +87,33 @@ two_worlds : (all seen more : List Record) (r : Record) (w : Wit) (name : List �
 two_worlds all seen more r w name from whole (interface_differs c) =
     let h = from.interfaces c.key c.one c.first in
     record {
-      before = h.before; first = h.one; between = h.after; second = r; after = more;
+      before = h.before;
+      first = h.one;
+      between = h.after;
+      second = r;
+      after = more;
       is = whole ∙ ap (λ (x : List Record). x ++ r ∷ more) h.is;
       clash = interface_differs (record { key = c.key; one = c.one; other = c.other; first = h.has; second = c.second; unequal = c.unequal; told = c.told });
     }
 two_worlds all seen more r w name from whole (import_differs c) =
     let h = from.imports c.key c.one c.first in
     record {
-      before = h.before; first = h.one; between = h.after; second = r; after = more;
+      before = h.before;
+      first = h.one;
+      between = h.after;
+      second = r;
+      after = more;
       is = whole ∙ ap (λ (x : List Record). x ++ r ∷ more) h.is;
       clash = import_differs (record { key = c.key; one = c.one; other = c.other; first = h.has; second = c.second; unequal = c.unequal; told = c.told });
     }
 two_worlds all seen more r w name from whole (exported_twice c) =
     let h = from.exports c.key c.first in
     record {
-      before = h.before; first = h.one; between = h.after; second = r; after = more;
+      before = h.before;
+      first = h.one;
+      between = h.after;
+      second = r;
+      after = more;
       is = whole ∙ ap (λ (x : List Record). x ++ r ∷ more) h.is;
       clash = exported_twice (record { key = c.key; first = h.has; second = c.second; told = c.told });
     }
@@ -149,9 +161,9 @@ holds_now w b v e =
     let j = merged_is world_tests w b v e in
     record {
       interfaces = λ k x there. s.interfaces k ∙ or_new (lookup (is_same_interface k) w.interfaces) (lookup (is_same_interface k) b.interfaces) x
-        (λ y first. joined_agrees is_same_interface interfaces.eq-value.it name_text interface_laws one_interface w.interfaces b.interfaces v.interfaces j.interfaces k y x first there) there;
+          (λ y first. joined_agrees is_same_interface interfaces.eq-value.it name_text interface_laws one_interface w.interfaces b.interfaces v.interfaces j.interfaces k y x first there) there;
       imports = λ k x there. s.imports k ∙ or_new (lookup (is_same_item k) w.imports) (lookup (is_same_item k) b.imports) x
-        (λ y first. joined_agrees is_same_item items.eq-value.it key_text item_laws one_item w.imports b.imports v.imports j.imports k y x first there) there;
+          (λ y first. joined_agrees is_same_item items.eq-value.it key_text item_laws one_item w.imports b.imports v.imports j.imports k y x first there) there;
       exports = λ k there. ap is_some (s.exports k) ∙ some_or_new (lookup (is_same_item k) w.exports) (lookup (is_same_item k) b.exports) there;
     }
 

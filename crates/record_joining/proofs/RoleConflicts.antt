@@ -64,7 +64,7 @@ entry_err {K} {X} eq same text table k x f e = by (lookup (eq k) table) refl e
     by (Some y) there e = choose y (same y x) refl there e
 
 -- a role of the table was said of this name
-record RoleFrom {K R : Type 0} (eq : K → K → Bool) (seen : List (Assigned K R)) (k : K) (r : R) : Type 0 where
+pub record RoleFrom {K R : Type 0} (eq : K → K → Bool) (seen : List (Assigned K R)) (k : K) (r : R) : Type 0 where
   before : List (Assigned K R)
   a : Assigned K R
   between : List (Assigned K R)
@@ -72,7 +72,7 @@ record RoleFrom {K R : Type 0} (eq : K → K → Bool) (seen : List (Assigned K 
   same : eq k a.key ≡ true
   role : a.role ≡ r
 
-abbrev From : {K R : Type 0} → (K → K → Bool) → List (Assigned K R) → List (K × R) → Type 0
+abbrev pub From : {K R : Type 0} → (K → K → Bool) → List (Assigned K R) → List (K × R) → Type 0
 From {K} {R} eq seen table = (k : K) (r : R) → lookup (eq k) table ≡ Some r → RoleFrom eq seen k r
 
 from_more : {K R : Type 0} (eq : K → K → Bool) (same : R → R → Bool) (field : K → List ℕ) (seen : List (Assigned K R)) (table more : List (K × R)) (a : Assigned K R) → From eq seen table
