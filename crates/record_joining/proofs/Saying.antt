@@ -8,7 +8,7 @@ use Rattle.record_json.specs.declared.fault.Failure.{Failure}
 use Rattle.record_json.specs.Faults.{◌>>=◌}
 use Rattle.record_values.specs.declared.world.Wit.{Wit}
 use Rattle.record_values.specs.Names.{is_same_interface, is_same_item, name_text, key_text}
-use Rattle.record_joining.specs.Tables.{conflict, joined, with_entry, apart, or_else}
+use Rattle.record_joining.specs.Tables.{conflict, joined, apart, or_else}
 use Rattle.record_joining.specs.Merging.{Tests, Says, merged_wit, exports_apart}
 use Rattle.record_joining.proofs.Chains.{bind_ok}
 

@@ -1,5 +1,5 @@
 -- What is said of a world and of a module's core imports and exports, and what it is where nothing is said.
-use Rattle.std.specs.Prelude.{Bool, false, List, []}
+use Rattle.std.specs.Prelude.{Bool, false, []}
 use Rattle.std.specs.Ordering.{on, eq_of_both}
 use Rattle.std.specs.Str.{bytes_eq}
 use Rattle.record_values.specs.declared.world.Wit.{Wit}

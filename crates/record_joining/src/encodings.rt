@@ -101,12 +101,12 @@ pub(crate) fn export_encodings(alloc: Global, records: &[Record]) -> Result<Enco
 {
     let mut table = Keyed::new(alloc);
     for one in records {
-        let wit = &one.wit;
+        let world = &one.wit;
         add_items(
             alloc,
             &mut table,
-            &wit.interfaces,
-            &wit.exports,
+            &world.interfaces,
+            &world.exports,
             one.encoding,
         )?;
     }

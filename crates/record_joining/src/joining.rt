@@ -1,10 +1,13 @@
 //! What the records of one module say together.
 
-ghost use Rattle.std.specs.Prelude.{◌≡◌};
+ghost use Rattle.std.specs.Prelude.{◌≡◌, ◌≢◌, ℕ, List, IfErr, IsOk};
+ghost use Rattle.record_json.specs.declared.fault.Failure.TheVariants as failures;
 ghost use Rattle.std.specs.List.{list_any};
 ghost use Rattle.record_json.specs.Faults.{Gives};
 ghost use Rattle.record_joining.specs.Said.{no_wit};
 ghost use Rattle.record_joining.specs.Merging.{Tests};
+ghost use Rattle.record_joining.specs.Causes.{Named, Unless, TwoWorlds, RecordsConflict};
+ghost use Rattle.record_joining.specs.Tables.{conflict};
 ghost use Rattle.record_joining.specs.Joining.{RoleTests, worlds_after, roles_of, bindgen_of};
 
 use crate::assigning::{join_tables, take_roles};
@@ -17,11 +20,13 @@ use record_values::{ExportRole, ImportRole, Interface, Item, Record, Wit};
 use std::alloc::Global;
 
 /// What the records' worlds say together.
+#[tactic(auto, using(crate::proofs::Records::start, crate::proofs::Records::step, crate::proofs::Records::worlds_caused))]
 fn join_worlds(alloc: Global, records: &[Record]) -> Result<Wit, Failure>
-    ensures { Gives (λ w. w) result (worlds_after (record {
+    ensures exact { Gives (λ w. w) result (worlds_after (record {
       interface = ⟦<Interface as PartialEq>⟧.eq;
       item = ⟦<Item as PartialEq>⟧.eq;
     }) no_wit records.now) }
+    ensures cause { IfErr result (Unless (Named (TwoWorlds records.now))) }
 {
     let mut joint = empty_wit(alloc);
     for one in records {
@@ -68,12 +73,14 @@ fn bind_roles(alloc: Global, records: Seq<Record>) -> Result<Roles, Failure>
 /// [`merge_wit`](crate::merge_wit) joins two. A core import, or a field, that has two roles, and a role
 /// that two fields have, its form of calls apart, are `MergeConflict` with the field, of two that which
 /// comes later.
-#[tactic(auto, unfolding(crate::specs::Joining::bindgen_of))]
+#[tactic(auto, unfolding(crate::specs::Joining::bindgen_of), using(crate::proofs::Bindgens::of_worlds))]
 pub fn bindgen_of(alloc: Global, records: Seq<Record>) -> Result<Bindgen, Failure>
-    ensures { Gives (λ b. b) result (bindgen_of
+    ensures exact { Gives (λ b. b) result (bindgen_of
         (record { interface = ⟦<Interface as PartialEq>⟧.eq; item = ⟦<Item as PartialEq>⟧.eq })
         (record { import_role = ⟦<ImportRole as PartialEq>⟧.eq; export_role = ⟦<ExportRole as PartialEq>⟧.eq })
         records) }
+    ensures cause { IfErr result (λ e. e ≢ failures.Memory → (name : List ℕ) × (e ≡ conflict name) × RecordsConflict records name) }
+    ensures refused { IsOk result → (name : List ℕ) → ¬ RecordsConflict records name }
 {
     let wit = join_worlds(alloc, records.as_slice())?;
     let roles = bind_roles(alloc, records)?;

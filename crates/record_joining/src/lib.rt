@@ -22,6 +22,3 @@ mod tables;
 pub use bindgen::{Bindgen, FunctionOf, Roles, no_bindgen};
 pub use joining::bindgen_of;
 pub use merging::{merge, merge_wit};
-
-#[cfg(test)]
-mod tests;

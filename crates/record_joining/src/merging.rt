@@ -1,8 +1,11 @@
 //! What two say of their world together.
 
-ghost use Rattle.std.specs.Prelude.{◌≡◌, IfOk};
+ghost use Rattle.std.specs.Prelude.{◌≡◌, ◌≢◌, ℕ, List, IfOk, IfErr, IsOk};
+ghost use Rattle.record_json.specs.declared.fault.Failure.TheVariants as failures;
 ghost use Rattle.record_json.specs.Faults.{Gives};
 ghost use Rattle.record_joining.specs.Merging.{Tests, Says, merged_wit, merged, export_key, keys_of_exports};
+ghost use Rattle.record_joining.specs.Causes.{WorldConflict, Named, Unless};
+ghost use Rattle.record_joining.specs.Tables.{conflict};
 
 use crate::bindgen::{Bindgen, empty_roles};
 use crate::tables::{add_all, add_apart, copy};
@@ -13,12 +16,13 @@ use record_values::{Interface, Item, ItemKey, Wit};
 use std::alloc::{AllocError, Global};
 
 /// What two say of their world together; the first is taken over.
-#[tactic(auto, unfolding(crate::specs::Merging::merged_wit))]
+#[tactic(auto, unfolding(crate::specs::Merging::merged_wit), using(crate::proofs::Conflicts::of_interfaces, crate::proofs::Conflicts::of_imports, crate::proofs::Conflicts::of_exports))]
 pub(crate) fn add_wit(alloc: Global, first: Wit, second: &Wit) -> Result<Wit, Failure>
-    ensures { Gives (λ w. w) result (merged_wit (record {
+    ensures exact { Gives (λ w. w) result (merged_wit (record {
       interface = ⟦<Interface as PartialEq>⟧.eq;
       item = ⟦<Item as PartialEq>⟧.eq;
     }) first second.now) }
+    ensures cause { IfErr result (Unless (Named (WorldConflict first second.now))) }
 {
     let Wit {
         mut interfaces,
@@ -45,19 +49,33 @@ fn copy_wit(alloc: Global, wit: &Wit) -> Result<Wit, AllocError>
     })
 }
 
+/// What two say of their world together.
+#[tactic(auto, using(crate::proofs::Conflicts::by_memory, crate::proofs::Conflicts::of_copy))]
+fn join_wits(alloc: Global, first: &Wit, second: &Wit) -> Result<Wit, Failure>
+    ensures exact { Gives (λ w. w) result (merged_wit (record {
+      interface = ⟦<Interface as PartialEq>⟧.eq;
+      item = ⟦<Item as PartialEq>⟧.eq;
+    }) first.now second.now) }
+    ensures cause { IfErr result (Unless (Named (WorldConflict first.now second.now))) }
+{
+    let copied = copy_wit(alloc, first)?;
+    add_wit(alloc, copied, second)
+}
+
 /// What two say of their world together: interfaces by name, imports and exports by key, in order.
 /// Interfaces of one name must be equal, imports of one key too, and no key of exports may be in both;
 /// else the refusal is `MergeConflict` with the text of the name or key.
-#[tactic(auto, using(crate::proofs::Saying::merged_says))]
+#[tactic(auto, using(crate::proofs::Saying::merged_says, crate::proofs::Conflicts::told, crate::proofs::Agreeing::no_conflict))]
 pub fn merge_wit(alloc: Global, first: &Wit, second: &Wit) -> Result<Wit, Failure>
     ensures exact { Gives (λ w. w) result (merged_wit (record {
       interface = ⟦<Interface as PartialEq>⟧.eq;
       item = ⟦<Item as PartialEq>⟧.eq;
     }) first.now second.now) }
-    ensures says { IfOk result (λ w. Says first.now second.now w) }
+    ensures says { IfOk result (Says first.now second.now) }
+    ensures cause { IfErr result (λ e. e ≢ failures.Memory → (name : List ℕ) × (e ≡ conflict name) × WorldConflict first.now second.now name) }
+    ensures refused { IsOk result → (name : List ℕ) → ¬ WorldConflict first.now second.now name }
 {
-    let copied = copy_wit(alloc, first)?;
-    let joint = add_wit(alloc, copied, second)?;
+    let joint = join_wits(alloc, first, second)?;
     Ok(joint)
 }
 
@@ -85,10 +103,12 @@ fn export_keys(alloc: Global, exports: &Keyed<ItemKey, Item>) -> Result<Seq<Expo
 /// keys of what the second exports.
 #[tactic(auto, unfolding(crate::specs::Merging::merged))]
 pub fn merge(alloc: Global, first: &Bindgen, second: &Bindgen) -> Result<Merged<Bindgen>, Failure>
-    ensures { Gives (λ m. m) result (merged (record {
+    ensures exact { Gives (λ m. m) result (merged (record {
       interface = ⟦<Interface as PartialEq>⟧.eq;
       item = ⟦<Item as PartialEq>⟧.eq;
     }) first.now second.now) }
+    ensures cause { IfErr result (λ e. e ≢ failures.Memory → (name : List ℕ) × (e ≡ conflict name) × WorldConflict first.now.wit second.now.wit name) }
+    ensures refused { IsOk result → (name : List ℕ) → ¬ WorldConflict first.now.wit second.now.wit name }
 {
     let wit = merge_wit(alloc, &first.wit, &second.wit)?;
     let exports = export_keys(alloc, &second.wit.exports)?;

@@ -1,8 +1,9 @@
 //! Joining two tables.
 
-ghost use Rattle.std.specs.Prelude.{◌≡◌, [], ◌∷◌, IfOk, OnOk};
+ghost use Rattle.std.specs.Prelude.{◌≡◌, [], ◌∷◌, IfOk, IfErr};
 ghost use Rattle.record_json.specs.Faults.{Gives};
 ghost use Rattle.record_joining.specs.Tables.{with_entry, joined, apart};
+ghost use Rattle.record_joining.specs.Causes.{Differs, IsInBoth, Named, Unless};
 
 use comp_lists::{Keyed, Text, TryClone};
 use record_json::{Failure, Refusal};
@@ -86,12 +87,14 @@ fn put<K: Key + TryClone, X: TryClone + PartialEq>(
 }
 
 /// Adds what another table says.
-pub(crate) fn add_all<K: Key + TryClone, X: TryClone + PartialEq>(
+#[tactic(auto, using(crate::proofs::Conflicts::joined_cause))]
+pub(crate) fn add_all<K: Key + TryClone, X: TryClone + Eq>(
     alloc: Global,
     table: &mut Keyed<K, X>,
     more: &Keyed<K, X>,
 ) -> Result<(), Failure>
-    ensures { Gives (λ _. table.new) result (joined K.eq X.eq K.name table.old more.now) }
+    ensures exact { Gives (λ _. table.new) result (joined K.eq X.eq K.name table.old more.now) }
+    ensures cause { IfErr result (Unless (Named (Differs K.eq K.name table.old more.now))) }
 {
     for (key, value) in more.entries() {
         put(alloc, table, key, value)?;
@@ -100,12 +103,14 @@ pub(crate) fn add_all<K: Key + TryClone, X: TryClone + PartialEq>(
 }
 
 /// Adds the entries of a table that has no key of the other.
+#[tactic(auto, using(crate::proofs::Conflicts::apart_cause))]
 pub(crate) fn add_apart<K: Key + TryClone, X: TryClone>(
     alloc: Global,
     table: &mut Keyed<K, X>,
     more: &Keyed<K, X>,
 ) -> Result<(), Failure>
-    ensures { Gives (λ _. table.new) result (apart K.eq (λ e. K.name e.0) table.old more.now) }
+    ensures exact { Gives (λ _. table.new) result (apart K.eq (λ e. K.name e.0) table.old more.now) }
+    ensures cause { IfErr result (Unless (Named (IsInBoth K.eq K.name table.old more.now))) }
 {
     for (key, value) in more.entries() {
         if table.contains(key) {

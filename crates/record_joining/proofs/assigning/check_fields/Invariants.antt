@@ -1,4 +1,4 @@
-use Rattle.std.proofs.Common.{◌≡◌, [], map}
+use Rattle.std.proofs.Common.{◌≡◌, map}
 use Rattle.record_values.specs.contracts.roles.ExportRolePartialEq.TheImpl as roles
 use Rattle.record_joining.specs.Tables.{apart}
 use Rattle.record_joining.specs.Joining.{without_abi, one_field_each}

@@ -1,4 +1,6 @@
 use Rattle.std.proofs.Common.{◌≡◌}
+use Rattle.std.specs.List.{IsDistinct}
+use Rattle.std.specs.Map.{keys_of}
 use Rattle.record_joining.specs.Tables.{joined}
 use Rattle.record_joining.proofs.tables.add_all.Given as goal
 
@@ -6,4 +8,5 @@ abbrev pub invariant-loop-key : goal.invariant-loop-key
 invariant-loop-key g l =
     (goal.iterator-loop-key g).can_next l.key-iterator ×
     (goal.iterator-loop-key g).is_finite l.key-iterator ×
-    (joined g.K.PartialEq.eq g.X.PartialEq.eq g.K.Key.name l.table l.key-iterator ≡ joined g.K.PartialEq.eq g.X.PartialEq.eq g.K.Key.name l.fn.table l.more)
+    (joined g.K.PartialEq.eq g.X.PartialEq.eq g.K.Key.name l.table l.key-iterator ≡ joined g.K.PartialEq.eq g.X.PartialEq.eq g.K.Key.name l.fn.table l.more) ×
+    IsDistinct g.K.PartialEq.eq (keys_of l.more)
