@@ -1,7 +1,7 @@
 -- Why the records of one module can't hold together: worlds or roles.
-use Rattle.std.proofs.Common.{◌≡◌, ℕ, List, [], ◌∷◌, Result, Ok, Err, refl, sym, ap, subst, ◌∙◌, inl, inr, true≢false, is_ok}
+use Rattle.std.proofs.Common.{◌≡◌, ℕ, List, [], Result, Ok, Err, refl, sym, ap, subst, inl, inr, true≢false, is_ok}
 use Rattle.std.specs.Prelude.{◌≢◌, IfErr, IsErrAnd}
-use Rattle.std.specs.List.{flat_map, list_any}
+use Rattle.std.specs.List.{list_any}
 use Rattle.std.specs.Str.{bytes_eq}
 use Rattle.record_json.specs.declared.fault.Failure.{Failure}
 use Rattle.record_json.specs.declared.fault.Failure.TheVariants as failures
@@ -18,10 +18,10 @@ use Rattle.record_values.specs.contracts.roles.ExportRolePartialEq.TheImpl as ex
 use Rattle.record_joining.specs.declared.bindgen.Roles.{Roles}
 use Rattle.record_joining.specs.declared.assigning.RoleTables.{RoleTables}
 use Rattle.record_joining.specs.Said.{no_wit}
-use Rattle.record_joining.specs.Tables.{conflict, apart}
-use Rattle.record_joining.specs.Joining.{RoleTests, worlds_after, roles_after, without_abi, one_field_each, role_tables, roles_of}
+use Rattle.record_joining.specs.Tables.{conflict}
+use Rattle.record_joining.specs.Joining.{RoleTests, worlds_after, roles_after, one_field_each, role_tables, roles_of}
 use Rattle.record_joining.specs.Encodings.{encodings_after}
-use Rattle.record_joining.specs.Causes.{Named, Unless, memory, caused, TwoWorlds, TwoRoles, TwoFields, first_roles, with_first_roles, all_import_roles, all_export_roles, RecordsConflict, worlds, import_roles, export_roles, two_fields}
+use Rattle.record_joining.specs.Causes.{Named, Unless, memory, caused, TwoWorlds, TwoFields, first_roles, all_import_roles, all_export_roles, RecordsConflict, worlds, import_roles, export_roles, two_fields}
 use Rattle.record_joining.proofs.Chains.{bind_ok, bind_err}
 use Rattle.record_joining.proofs.Conflicts.{told}
 use Rattle.record_joining.proofs.EqualRoles.{one_import_role, one_export_role, import_role_itself, export_role_itself}

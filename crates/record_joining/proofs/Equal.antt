@@ -1,5 +1,5 @@
 -- Values that are equal are one.
-use Rattle.std.proofs.Common.{◌≡◌, Bool, true, false, ℕ, ◌+◌, List, [], ◌∷◌, Option, Some, None, refl, sym, ap, ◌∙◌, true≢false, rules, ◌&&◌, arith}
+use Rattle.std.proofs.Common.{◌≡◌, Bool, true, false, ℕ, List, [], ◌∷◌, Option, Some, None, refl, sym, ap, ◌∙◌, true≢false, rules, ◌&&◌, arith}
 use Rattle.std.specs.Str.{bytes_eq}
 use Rattle.std.specs.Option.{option_eq}
 use Rattle.std.specs.Cmp.Lexicographic.{pointwise}
@@ -13,13 +13,11 @@ use Rattle.record_values.specs.declared.names.InterfaceName.TheVariants as names
 use Rattle.record_values.specs.declared.names.Owner.{Owner}
 use Rattle.record_values.specs.declared.names.Owner.TheVariants as owners
 use Rattle.record_values.specs.declared.names.TypeName.{TypeName}
-use Rattle.record_values.specs.declared.types.Case.{Case}
 use Rattle.record_values.specs.declared.types.Node.{Node}
 use Rattle.record_values.specs.declared.types.Node.TheVariants as nodes
 use Rattle.record_values.specs.declared.types.Typed.{Typed}
 use Rattle.record_values.specs.declared.types.Func.{Func}
 use Rattle.record_values.specs.declared.types.Interface.{Interface}
-use Rattle.record_values.specs.declared.world.Item.{Item}
 use Rattle.record_values.specs.declared.world.Item.TheVariants as items
 use Rattle.record_values.specs.Names.{name_kind, name_text, owner_kind, owner_text, is_same_interface, is_same_owner, is_same_type}
 use Rattle.record_values.specs.contracts.types.CasePartialEq.TheImpl as case_eq

@@ -5,27 +5,16 @@ use Rattle.std.specs.Cmp.{IsEquivalence}
 use Rattle.std.specs.Cmp.Rules.{comparing}
 use Rattle.std.proofs.lemmas.Slice.Eq.{bytes_eq-Decides}
 use Rattle.std.proofs.lemmas.Bool.Decides.{Decides-eqb}
-use Rattle.record_values.specs.declared.names.TypeName.{TypeName}
 use Rattle.std.specs.Prelude.{nat_eq}
 use Rattle.std.specs.Bool.{beq}
-use Rattle.comp_bytes.specs.declared.space.ExportKind.{ExportKind}
 use Rattle.comp_bytes.specs.contracts.space.ExportKindPartialEq.TheImpl as kind_eq
-use Rattle.comp_worlds.specs.declared.encoding.StringEncoding.{StringEncoding}
 use Rattle.comp_worlds.specs.contracts.encoding.StringEncodingPartialEq.TheImpl as encoding_eq
-use Rattle.core_bytes.specs.declared.types.ValType.{ValType}
 use Rattle.core_bytes.specs.contracts.types.ValTypePartialEq.TheImpl as val_eq
 use Rattle.wit_data.specs.declared.functions.AbiVariant.{AbiVariant}
 use Rattle.wit_data.specs.contracts.functions.AbiVariantPartialEq.TheImpl as abi_eq
 use Rattle.record_values.specs.declared.names.Owner.{Owner}
-use Rattle.record_values.specs.declared.roles.Intrinsic.{Intrinsic}
-use Rattle.record_values.specs.declared.roles.PayloadKind.{PayloadKind}
-use Rattle.record_values.specs.declared.roles.PayloadOperation.{PayloadOperation}
-use Rattle.record_values.specs.declared.roles.Payload.{Payload}
 use Rattle.record_values.specs.declared.roles.Payload.TheVariants as payloads
-use Rattle.record_values.specs.declared.roles.PlainExport.{PlainExport}
-use Rattle.record_values.specs.declared.roles.ImportRole.{ImportRole}
 use Rattle.record_values.specs.declared.roles.ImportRole.TheVariants as imports
-use Rattle.record_values.specs.declared.roles.ExportRole.{ExportRole}
 use Rattle.record_values.specs.declared.roles.ExportRole.TheVariants as exports
 use Rattle.record_values.specs.Names.{is_same_owner, is_same_type}
 use Rattle.record_values.specs.contracts.roles.IntrinsicPartialEq.TheImpl as intrinsic_eq

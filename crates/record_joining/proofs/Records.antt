@@ -1,12 +1,8 @@
 -- Why records can't hold together.
-use Rattle.std.proofs.Common.{◌≡◌, ◌⊎◌, inl, inr, ℕ, Bool, true, false, List, [], ◌∷◌, ◌++◌, Option, None, Some, Result, Ok, Err, refl, sym, ap, subst, ◌∙◌, append_assoc, true≢false, is_some, is_ok, take, drop, length, get_or, ◌+◌, ◌<◌}
-use Rattle.std.specs.Prelude.{◌≢◌}
+use Rattle.std.proofs.Common.{◌≡◌, ◌⊎◌, inl, inr, ℕ, true, List, [], ◌∷◌, ◌++◌, Option, None, Some, Result, Ok, refl, sym, ap, subst, ◌∙◌, append_assoc, true≢false, is_some, take, drop, length, get_or, ◌+◌, ◌<◌}
 use Rattle.std.proofs.lemmas.List.{take_more, take-append-drop, drop_more}
-use Rattle.std.specs.List.{flat_map, list_any}
 use Rattle.std.specs.Map.{lookup}
-use Rattle.std.specs.Str.{bytes_eq}
 use Rattle.record_json.specs.declared.fault.Failure.{Failure}
-use Rattle.record_json.specs.declared.fault.Failure.TheVariants as failures
 use Rattle.record_json.specs.Faults.{◌>>=◌}
 use Rattle.record_values.specs.declared.names.InterfaceName.{InterfaceName}
 use Rattle.record_values.specs.declared.types.Interface.{Interface}
@@ -18,14 +14,14 @@ use Rattle.record_values.specs.Names.{is_same_interface, is_same_item, name_text
 use Rattle.record_values.specs.contracts.types.InterfacePartialEq.TheImpl as interfaces
 use Rattle.record_values.specs.contracts.world.ItemPartialEq.TheImpl as items
 use Rattle.record_joining.specs.Said.{no_wit}
-use Rattle.record_joining.specs.Tables.{conflict, or_else}
-use Rattle.record_joining.specs.Merging.{Tests, Says, merged_wit}
+use Rattle.record_joining.specs.Tables.{or_else}
+use Rattle.record_joining.specs.Merging.{Says, merged_wit}
 use Rattle.record_joining.specs.Joining.{worlds_after}
 use Rattle.record_joining.specs.Causes.{Named, Unless, memory, caused, WorldConflict, interface_differs, import_differs, exported_twice, TwoWorlds}
-use Rattle.record_joining.proofs.Chains.{bind_ok, bind_err}
+use Rattle.record_joining.proofs.Chains.{bind_ok}
 use Rattle.record_joining.proofs.Equal.{one_interface, one_item}
 use Rattle.record_joining.proofs.Saying.{merged_says, interface_laws, item_laws}
-use Rattle.record_joining.proofs.Agreeing.{world_tests, Joint, merged_is, joined_agrees, no_conflict}
+use Rattle.record_joining.proofs.Agreeing.{world_tests, merged_is, joined_agrees, no_conflict}
 
 or_cases : {X : Type 0} (o p : Option X) (x : X) → or_else o p ≡ Some x → (o ≡ Some x) ⊎ (p ≡ Some x)
 or_cases None p x h = inr h

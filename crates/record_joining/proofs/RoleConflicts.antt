@@ -1,6 +1,5 @@
 -- Why roles can't hold together.
-use Rattle.std.proofs.Common.{◌≡◌, ◌⊎◌, inl, inr, ℕ, Bool, true, false, List, [], ◌∷◌, ◌++◌, Option, None, Some, Result, Ok, Err, cond, if◌then◌else◌, map, refl, sym, ap, subst, ◌∙◌, append_assoc, true≢false, is_some, is_ok, rules}
-use Rattle.std.specs.Prelude.{◌≢◌}
+use Rattle.std.proofs.Common.{◌≡◌, ◌⊎◌, inl, inr, ℕ, Bool, true, false, List, [], ◌∷◌, ◌++◌, Option, None, Some, Ok, Err, cond, if◌then◌else◌, map, refl, sym, ap, ◌∙◌, append_assoc, true≢false, is_some, is_ok, rules}
 use Rattle.std.specs.Cmp.{IsEquivalence}
 use Rattle.std.specs.Cmp.Lexicographic.{lists_equiv}
 use Rattle.std.specs.Cmp.Rules.{comparing}
@@ -11,22 +10,14 @@ use Rattle.std.proofs.lemmas.Cmp.{nat_eq_equiv}
 use Rattle.std.proofs.lemmas.List.{map_push}
 use Rattle.comp_lists.specs.Tables.{with_first}
 use Rattle.record_json.specs.declared.fault.Failure.{Failure}
-use Rattle.record_json.specs.Faults.{◌>>=◌}
 use Rattle.record_values.specs.declared.record.Assigned.{Assigned}
-use Rattle.record_values.specs.declared.record.ImportName.{ImportName}
-use Rattle.record_values.specs.declared.record.Record.{Record}
-use Rattle.record_values.specs.declared.roles.ImportRole.{ImportRole}
 use Rattle.record_values.specs.declared.roles.ExportRole.{ExportRole}
 use Rattle.record_values.specs.Names.{is_same_import}
-use Rattle.record_values.specs.contracts.roles.ImportRolePartialEq.TheImpl as import_eq
-use Rattle.record_values.specs.contracts.roles.ExportRolePartialEq.TheImpl as export_eq
-use Rattle.record_joining.specs.declared.assigning.RoleTables.{RoleTables}
 use Rattle.record_joining.specs.Tables.{conflict, with_entry, apart}
-use Rattle.record_joining.specs.Joining.{RoleTests, roles_after, without_abi, one_field_each, role_tables}
-use Rattle.record_joining.specs.Causes.{Named, TwoRoles, TwoFields, with_first_roles, first_roles}
+use Rattle.record_joining.specs.Joining.{roles_after, without_abi, one_field_each}
+use Rattle.record_joining.specs.Causes.{Named, TwoRoles, TwoFields, with_first_roles}
 use Rattle.record_joining.proofs.Chains.{bind_ok, bind_err}
 use Rattle.record_joining.proofs.Equal.{IsOne}
-use Rattle.record_joining.proofs.EqualRoles.{one_import_role, one_export_role, import_role_itself, export_role_itself}
 use Rattle.record_joining.proofs.Saying.{lookup_alike}
 use Rattle.record_joining.proofs.Agreeing.{same_some, lookup_pushed, some_kept, entry_ok, entry_keeps}
 

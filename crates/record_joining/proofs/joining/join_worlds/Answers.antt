@@ -1,4 +1,4 @@
-use Rattle.std.proofs.Common.{rules, ◌≡◌, sym}
+use Rattle.std.proofs.Common.{rules, sym}
 use Rattle.record_joining.specs.Said.{no_wit}
 use Rattle.record_joining.specs.Joining.{worlds_after}
 use Rattle.record_joining.specs.Causes.{Named, Unless, TwoWorlds}
