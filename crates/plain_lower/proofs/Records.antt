@@ -1,6 +1,7 @@
 -- When decoding is refused: a refusal has a cause, and what is decoded has none.
 use Rattle.std.proofs.Common.{◌≡◌, ◌⊎◌, inl, inr, arith, ℕ, Bool, true, false, cond, ◌||◌, List, [], ◌∷◌, ◌++◌, Result, Ok, Err, refl, sym, ap, subst, ◌∙◌, true≢false}
 use Rattle.std.specs.Prelude.{◌≢◌, Contains, IfOk, IfErr, IsOk}
+use Rattle.std.specs.Result.{IsErrAnd}
 use Rattle.std.specs.List.{AllZip, AllByRecursion, flat_map, list_any}
 use Rattle.std.proofs.lemmas.List.Elements.{Contains-append_right}
 use Rattle.comp_lists.proofs.Lists.{AllByRecursion-contains}
@@ -158,12 +159,12 @@ said_caused bytes s (record_failures.Refused r) is c other =
         subst (λ (f : Failure). DecodeCause bytes (flat f)) is_r (conflict records name (record { pieces = ps; whole = m; read = whole }) c)
 
 -- a refusal of the sections has a cause
-pub sections_caused : (bytes : List ℕ) (f : SectionFault) → stripped bytes ≡ Err f → (of_section f ≢ failures.Memory) → DecodeCause bytes (flat (of_section f))
-sections_caused bytes f e other = by (of_section f) refl
+pub sections_caused : (bytes : List ℕ) (f : SectionFault) → (f ≢ section_faults.Memory → stripped bytes ≡ Err f) → (of_section f ≢ failures.Memory) → DecodeCause bytes (flat (of_section f))
+sections_caused bytes f h other = by (of_section f) refl
   where
     by : (d : Failure) → of_section f ≡ d → DecodeCause bytes (flat d)
     by failures.Memory is = absurd (other is)
-    by (failures.Refused r) is = section_caused bytes f r e is
+    by (failures.Refused r) is = section_caused bytes f r (h (λ m. other (ap of_section m))) is
 
 -- what was read and joined has no cause of a refusal
 pub no_cause : (bytes : List ℕ) (s : List ℕ × List (List ℕ)) (rs : List Record) → stripped bytes ≡ Ok s → records_in s.1 ≡ Ok rs → ((name : List ℕ) → RecordsConflict rs name → ⊥)
@@ -188,8 +189,15 @@ no_cause bytes s rs is read_so apart f c = let t = taken bytes s is in by t.0 t.
 
 -- ---- the steps, as calls answer them
 
-pub said_by_reading : {A : Type 0} (texts : List (List ℕ)) (e : RecordFailure) → (e ≢ record_failures.Memory → records_in texts ≡ Err e) → IfErr {A = A} (Err e) (λ d. d ≢ record_failures.Memory → SaidCause texts d)
-said_by_reading texts e h other = misread (h other)
+-- what holds of the failure holds of the one that a `?` makes of it
+pub handed_out : {A : Type 0} (P : Failure → Type 0) (r : Result A Failure) (d : Failure) → IsErrAnd r (λ e. e ≡ d) → (d ≢ failures.Memory → P d) → IfErr r (λ e. e ≢ failures.Memory → P e)
+handed_out P (Ok x) d is h = tt
+handed_out P (Err e) d is h = subst (λ (x : Failure). x ≢ failures.Memory → P x) (sym is) h
+
+pub said_by_reading : {A : Type 0} (texts : List (List ℕ)) (r : Result A RecordFailure) (d : RecordFailure) → IsErrAnd r (λ e. e ≡ d) → (d ≢ record_failures.Memory → records_in texts ≡ Err d)
+    → IfErr r (λ e. e ≢ record_failures.Memory → SaidCause texts e)
+said_by_reading texts (Ok x) d is h = tt
+said_by_reading texts (Err e) d is h = subst (λ (x : RecordFailure). x ≢ record_failures.Memory → SaidCause texts x) (sym is) (λ other. misread (h other))
 
 pub said_by_joining : (texts : List (List ℕ)) (records : List Record) (r : Result Bindgen RecordFailure) → records_in texts ≡ Ok records
     → IfErr r (λ e. e ≢ record_failures.Memory → (name : List ℕ) × (e ≡ conflict_of name) × RecordsConflict records name) → IfErr r (λ e. e ≢ record_failures.Memory → SaidCause texts e)
@@ -212,3 +220,15 @@ merge_caused a b (record_failures.Refused r) h other =
 
 pub merge_has_none : (a b : Bindgen) → ((name : List ℕ) → WorldConflict a.wit b.wit name → ⊥) → (f : PlainFault) → MergeCause a b f → ⊥
 merge_has_none a b h f (conflict_of_worlds name c) = h name c
+
+-- ---- decoding, with the texts as the calls hand them on
+
+pub decode_caused : (bytes kept : List ℕ) (texts held : List (List ℕ)) (e : RecordFailure) → stripped bytes ≡ Ok (kept, held) → texts ≡ held → (e ≢ record_failures.Memory → SaidCause texts e)
+    → (of_record e ≢ failures.Memory) → DecodeCause bytes (flat (of_record e))
+decode_caused bytes kept texts held e is same h other =
+    let not_memory : e ≢ record_failures.Memory = λ m. other (ap of_record m) in
+    said_caused bytes (kept, held) e is (subst (λ (ts : List (List ℕ)). SaidCause ts e) same (h not_memory)) not_memory
+
+pub decode_has_none : (bytes kept : List ℕ) (texts held : List (List ℕ)) → stripped bytes ≡ Ok (kept, held) → texts ≡ held → AreApart texts → (f : PlainFault) → DecodeCause bytes f → ⊥
+decode_has_none bytes kept texts held is same a f c =
+    no_cause bytes (kept, held) a.records is (ap records_in (sym same) ∙ a.are_read) a.no_conflict f c

@@ -1,6 +1,6 @@
 -- A world that was prepared keeps the invariant of worlds.
 use Rattle.std.proofs.Common.{arith, ◌≡◌, ℕ, Bool, true, false, cond, ◌&&◌, ◌||◌, List, [], ◌∷◌, ◌++◌, take, map, Option, Some, None, Result, Ok, Err, refl, sym, ap, subst, ◌∙◌, true≢false}
-use Rattle.std.specs.Prelude.{ok_or, is_some, Contains, if◌then◌else◌}
+use Rattle.std.specs.Prelude.{ok_or, is_some, Contains, if◌then◌else◌, OnOk, IfOk}
 use Rattle.std.specs.List.{IsDistinct, AllByRecursion, flat_map, list_any}
 use Rattle.std.specs.Map.{lookup, keys_of}
 use Rattle.std.specs.Str.{bytes_eq}
@@ -38,7 +38,7 @@ use Rattle.plain_lower.specs.declared.fault.Failure.{Failure}
 use Rattle.plain_lower.specs.declared.roles.Role.{Role}
 use Rattle.plain_lower.specs.declared.root.RootFunctions.{RootFunctions}
 use Rattle.plain_lower.specs.declared.importing.Group.{Group}
-use Rattle.plain_lower.specs.Faults.{◌>>=◌, lifted}
+use Rattle.plain_lower.specs.Faults.{◌>>=◌, lifted, Gives}
 use Rattle.plain_lower.specs.Roles.{function_of}
 use Rattle.record_values.specs.Names.{is_same_import}
 use Rattle.plain_lower.proofs.Chains.{bind_ok, passed, equivalence}
@@ -315,3 +315,9 @@ pub is_world : (joint : RootFunctions) (main : Option (Part RootFunctions)) (w :
     → IsDistinct bytes_eq (keys_of joint.exports) → IsDistinct bytes_eq (keys_of w.main.imports.modules) → IsWorld w
 is_world joint None w e = absurd cc
 is_world joint (Some main) w e = main_is_world joint main w e
+
+-- what a call that prepares main answers is a world
+pub answer_is_world : (joint : RootFunctions) (main : Part RootFunctions) (r : Result ComponentWorld Failure) → Gives (λ w. w) r (preparing_main joint main) → OnOk r (IsDistinct bytes_eq (keys_of joint.imports))
+    → OnOk r (IsDistinct bytes_eq (keys_of joint.exports)) → IfOk r (λ w. IsDistinct bytes_eq (keys_of w.main.imports.modules)) → IfOk r IsWorld
+answer_is_world joint main (Ok w) exact imports exports modules = main_is_world joint main w exact imports exports modules
+answer_is_world joint main (Err e) exact imports exports modules = tt

@@ -32,7 +32,7 @@ fn read_records(alloc: Global, texts: &[&[u8]]) -> Result<Seq<Record>, RecordFai
 }
 
 /// What the records together say.
-#[tactic(auto, unfolding(crate::specs::Joining::said_in), using(crate::proofs::Records::said_by_reading, crate::proofs::Records::said_by_joining, crate::proofs::Records::said_apart))]
+#[tactic(auto, unfolding(crate::specs::Joining::said_in), using(crate::proofs::Records::said_by_reading))]
 fn read_said(alloc: Global, texts: &[&[u8]]) -> Result<Bindgen, RecordFailure>
     ensures exact { GivesRecord (λ b. b) result (said_in (map (λ t. t.now) texts.now)) }
     ensures cause { IfErr result (λ e. e ≢ records.Memory → SaidCause (map (λ t. t.now) texts.now) e) }
