@@ -1,5 +1,5 @@
 -- When preparing is refused: a refusal has a cause, and a world that is answered has none.
-use Rattle.std.proofs.Common.{◌≡◌, ◌⊎◌, inl, inr, ◌==◌, arith, ℕ, Bool, true, false, length, List, [], ◌∷◌, ◌++◌, Option, Some, None, Result, Ok, Err, refl, sym, ap, subst, ◌∙◌, true≢false}
+use Rattle.std.proofs.Common.{◌≡◌, inl, inr, ◌==◌, arith, ℕ, Bool, true, false, length, List, [], ◌∷◌, Option, Some, None, Result, Ok, Err, refl, sym, ap, subst, ◌∙◌, true≢false}
 use Rattle.std.specs.Prelude.{◌≢◌, Contains, is_some, codes, if◌then◌else◌}
 use Rattle.std.specs.List.{AllByRecursion}
 use Rattle.std.specs.Str.{bytes_eq}
@@ -27,18 +27,16 @@ use Rattle.record_values.specs.declared.world.ItemKey.TheVariants as keys
 use Rattle.record_values.specs.Names.{is_same_import}
 use Rattle.plain_lower.specs.declared.fault.Failure.{Failure}
 use Rattle.plain_lower.specs.declared.fault.Failure.TheVariants as failures
-use Rattle.plain_lower.specs.declared.fault.Refusal.{Refusal}
-use Rattle.plain_lower.specs.declared.fault.Refusal.TheVariants as refusals
 use Rattle.plain_lower.specs.declared.fault.PlainFault.{PlainFault}
 use Rattle.plain_lower.specs.declared.roles.Role.{Role}
 use Rattle.plain_lower.specs.declared.root.RootFunctions.{RootFunctions}
 use Rattle.plain_lower.specs.Faults.{◌>>=◌, flat, flat_refusal}
 use Rattle.plain_lower.specs.Kinds.{import_kind, export_kind}
 use Rattle.plain_lower.specs.Layer.{is_memory}
-use Rattle.plain_lower.specs.Narrowing.{Encodings, left_out, plain_function, root_function, encoding_of, root_functions, import_by_abi, root_import, export_by_abi, root_export, root_imports, root_exports, roots_of, root_part, root_main, narrowed}
+use Rattle.plain_lower.specs.Narrowing.{Encodings, left_out, plain_function, root_function, encoding_of, root_functions, root_import, export_by_abi, root_export, root_imports, root_exports, roots_of, root_main, narrowed}
 use Rattle.plain_lower.specs.Preparing.{preparing, preparing_main, preparing_if, preparing_from, preparing_all}
 use Rattle.plain_lower.specs.Causes.{IsItem, import_of_world, export_of_world, import_of_main, export_of_main, IsRoleOfImport, import_role_of_all, import_role_of_main, IsRoleOfExport, export_role_of_all, export_role_of_main, PrepareCause, item_left_out, import_left_out, export_left_out, within}
-use Rattle.plain_lower.proofs.Chains.{refused, same_refusal, bind_ok, bind_err}
+use Rattle.plain_lower.proofs.Chains.{bind_ok, bind_err}
 use Rattle.plain_lower.proofs.Refusing as root
 
 -- what is refused because it isn't encoded yet is told as left out

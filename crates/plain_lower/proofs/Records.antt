@@ -10,7 +10,7 @@ use Rattle.core_sections.specs.declared.fault.SectionFault.TheVariants as sectio
 use Rattle.core_sections.specs.Sections.{◌>>=◌ as ◌>>>=◌, Piece, preamble, pieces_of}
 use Rattle.core_sections.specs.Stripping.{kept, removed, is_package, stripped}
 use Rattle.core_sections.specs.Grammar.{IsModule}
-use Rattle.core_sections.proofs.Modules.{stripped_takes, module_takes, module_again}
+use Rattle.core_sections.proofs.Modules.{module_takes, module_again}
 use Rattle.core_sections.proofs.Cuts.{is_cut}
 use Rattle.core_sections.proofs.Refusals.{stripped_no_module, stripped_package, whole_is_not_cut}
 use Rattle.record_json.specs.declared.fault.Failure.{Failure as RecordFailure}

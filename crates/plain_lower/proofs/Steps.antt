@@ -1,5 +1,5 @@
 -- Preparing main, step by step.
-use Rattle.std.proofs.Common.{◌≡◌, ℕ, List, [], Result, Ok, Err, refl, sym, ap, ◌∙◌}
+use Rattle.std.proofs.Common.{◌≡◌, ℕ, List, [], Ok, Err, refl, sym, ap, ◌∙◌}
 use Rattle.comp_worlds.specs.declared.exports.Export.{Export}
 use Rattle.comp_worlds.specs.declared.gathered.Part.{Part}
 use Rattle.comp_worlds.specs.declared.world.ComponentWorld.{ComponentWorld}
@@ -9,7 +9,7 @@ use Rattle.core_sections.specs.Entries.{module_of}
 use Rattle.plain_lower.specs.declared.fault.Failure.{Failure}
 use Rattle.plain_lower.specs.declared.importing.Group.{Group}
 use Rattle.plain_lower.specs.declared.root.RootFunctions.{RootFunctions}
-use Rattle.plain_lower.specs.Faults.{◌>>=◌, lifted}
+use Rattle.plain_lower.specs.Faults.{lifted}
 use Rattle.comp_worlds.specs.declared.gathered.ExportKey.{ExportKey}
 use Rattle.plain_lower.specs.Preparing.{groups_after, exports_after, required_after, world_of, preparing_main}
 

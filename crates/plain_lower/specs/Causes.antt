@@ -1,11 +1,9 @@
 -- When each fault is right: what of the bytes, of the records or of what was gathered is wrong. (The record
 -- is this project's own; what is asked of the bytes is the core standard's binary format.)
-use Rattle.std.specs.Prelude.{◌≡◌, ◌⊎◌, ℕ, Bool, true, false, List, [], ◌∷◌, ◌++◌, Option, Some, None, Ok, Err, Contains, is_some}
-use Rattle.std.specs.List.{AllZip, flat_map}
+use Rattle.std.specs.Prelude.{◌≡◌, ◌⊎◌, ℕ, true, false, List, [], ◌∷◌, ◌++◌, Option, Some, None, Ok, Err, Contains, is_some}
+use Rattle.std.specs.List.{AllZip}
 use Rattle.std.specs.Map.{lookup}
-use Rattle.std.specs.Str.{bytes_eq}
 use Rattle.comp_lists.specs.Found.{found}
-use Rattle.comp_worlds.specs.declared.encoding.StringEncoding.{StringEncoding}
 use Rattle.comp_worlds.specs.declared.exports.Export.{Export}
 use Rattle.comp_worlds.specs.declared.gathered.ExportKey.{ExportKey}
 use Rattle.comp_worlds.specs.declared.gathered.ExportKey.TheVariants as export_keys
@@ -42,7 +40,7 @@ use Rattle.record_values.specs.Names.{is_same_import}
 use Rattle.plain_lower.specs.Narrowing.{left_out, root_function, root_import, root_export, narrowed}
 use Rattle.plain_lower.specs.Faults.{flat_refusal, of_record_refusal, lifted}
 use Rattle.plain_lower.specs.Roles.{function_of}
-use Rattle.plain_lower.specs.Preparing.{Table, fits_import, fits_export, exports_after, by_function}
+use Rattle.plain_lower.specs.Preparing.{fits_import, fits_export, exports_after, by_function}
 
 -- ---- decoding
 

@@ -1,5 +1,4 @@
 -- When items and roles are equal: where all their parts are.
-use Rattle.std.specs.Prelude.{Bool}
 use Rattle.record_joining.specs.Joining.{RoleTests}
 use Rattle.record_joining.specs.Merging.{Tests}
 use Rattle.record_roles.specs.Equalities.{same_interface}

@@ -1,6 +1,6 @@
 -- What of a world is encoded yet: functions at its root that are synchronous and have no parameters and no result,
 -- and core imports and exports that are for one of them. All else is left out, under the name of its kind.
-use Rattle.std.specs.Prelude.{⊤, ℕ, ◌==◌, List, [], ◌∷◌, length, codes, Option, Some, None, Result, Ok, Err, is_some, if◌then◌else◌}
+use Rattle.std.specs.Prelude.{ℕ, ◌==◌, List, [], ◌∷◌, length, codes, Option, Some, None, Result, Ok, Err, is_some, if◌then◌else◌}
 use Rattle.std.specs.Option.{unwrap_or}
 use Rattle.std.specs.Map.{lookup}
 use Rattle.std.specs.Str.{bytes_eq}
@@ -14,7 +14,6 @@ use Rattle.wit_data.specs.declared.functions.AbiVariant.TheVariants as abis
 use Rattle.record_joining.specs.declared.bindgen.Bindgen.{Bindgen}
 use Rattle.record_joining.specs.declared.bindgen.FunctionOf.{FunctionOf}
 use Rattle.record_joining.specs.Said.{is_same_function}
-use Rattle.record_values.specs.declared.names.Owner.{Owner}
 use Rattle.record_values.specs.declared.names.Owner.TheVariants as owners
 use Rattle.record_values.specs.declared.record.ImportName.{ImportName}
 use Rattle.record_values.specs.declared.roles.ExportRole.{ExportRole}

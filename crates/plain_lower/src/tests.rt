@@ -222,6 +222,65 @@ fn records_are_told(rt: HostRuntime) -> Result<(), Fail> {
     Ok(())
 }
 
+/// What `decode` says of a module with two records.
+fn told_of_two(alloc: Global, first: &str, second: &str) -> Result<String, Fail> {
+    let one = with_section(alloc, &MODULE, "component-type", first.as_bytes(), false)?;
+    let both = with_section(alloc, &one, "component-type:x", second.as_bytes(), false)?;
+    decoded(alloc, &both)
+}
+
+/// What is said of two records, which are these.
+const TWO_RECORDS: [(&str, &str, &str); 8] = [
+    (
+        "P7 MergeConflict name=\"f\"",
+        r#"{"version":1,"imports":[{"func":{"name":"f"}}]}"#,
+        r#"{"version":1,"imports":[{"func":{"name":"f","params":[["x","u32"]]}}]}"#,
+    ),
+    (
+        "44",
+        r#"{"version":1,"imports":[{"func":{"name":"f","params":[["x","u32"]]}}]}"#,
+        r#"{"version":1,"encoding":"utf16","imports":[{"func":{"name":"f","params":[["x","u32"]]}}]}"#,
+    ),
+    (
+        "P7 MergeConflict name=\"g\"",
+        r#"{"version":1,"exports":[{"func":{"name":"g"}}]}"#,
+        r#"{"version":1,"exports":[{"func":{"name":"g"}}]}"#,
+    ),
+    (
+        "P7 MergeConflict name=\"a:b/c\"",
+        r#"{"version":1,"interfaces":[{"id":"a:b/c","types":[],"functions":[]}]}"#,
+        r#"{"version":1,"interfaces":[{"id":"a:b/c","types":[],"functions":[{"name":"f"}]}]}"#,
+    ),
+    (
+        "44",
+        r#"{"version":1,"interfaces":[{"id":"a:b/c","types":[],"functions":[{"name":"f"}]}],"imports":[{"interface":0}]}"#,
+        r#"{"version":1,"interfaces":[{"id":null,"types":[],"functions":[]},{"id":"a:b/c","types":[],"functions":[{"name":"f"}]}],"exports":[{"interface":1}]}"#,
+    ),
+    (
+        "P7 MergeConflict name=\"x\"",
+        r#"{"version":1,"core-imports":[{"module":"m","field":"x","role":["waitable-join"]}]}"#,
+        r#"{"version":1,"core-imports":[{"module":"m","field":"x","role":["subtask-drop"]}]}"#,
+    ),
+    (
+        "44",
+        r#"{"version":1,"core-imports":[{"module":"m","field":"x","role":["waitable-join"]}]}"#,
+        r#"{"version":1,"core-imports":[{"module":"n","field":"x","role":["subtask-drop"]}]}"#,
+    ),
+    (
+        "P7 MergeConflict name=\"y\"",
+        r#"{"version":1,"core-exports":[{"field":"x","role":["realloc"]}]}"#,
+        r#"{"version":1,"core-exports":[{"field":"y","role":["realloc"]}]}"#,
+    ),
+];
+
+#[test]
+fn two_records_are_joined(rt: HostRuntime) -> Result<(), Fail> {
+    for (said, first, second) in TWO_RECORDS {
+        assert_eq!(rt; told_of_two(rt.alloc(), first, second)?.as_str(), said);
+    }
+    Ok(())
+}
+
 const OPTIONS: EncoderOptions = EncoderOptions {
     validate: false,
     debug_names: false,

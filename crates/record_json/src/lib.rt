@@ -17,8 +17,8 @@ mod text;
 
 pub use fault::{Failure, Refusal};
 pub use members::{
-    bool_member, check_members, fault_at, fault_here, fault_under, is_one_of, left_out, only_member,
-    pair_items, read_bool, read_number, read_text, required, text_member, under,
+    bool_member, check_members, fault_at, fault_here, fault_under, is_one_of, left_out,
+    only_member, pair_items, read_bool, read_number, read_text, required, text_member, under,
 };
 pub use reading::{FromJson, list_member, read_list, under_index};
 pub use text::read_value;

@@ -25,11 +25,7 @@ pub trait FromJson: Drop {
 }
 
 /// What was read of the item at an index.
-pub fn under_index<T>(
-    alloc: Global,
-    index: usize,
-    read: Result<T, Failure>,
-) -> Result<T, Failure>
+pub fn under_index<T>(alloc: Global, index: usize, read: Result<T, Failure>) -> Result<T, Failure>
     ensures { Gives (λ x. x) result (under (decimal index) read) }
 {
     match read {

@@ -1,5 +1,5 @@
 -- The arguments of a role, which stand behind its kind in one array, and the values that many kinds take.
-use Rattle.std.specs.Prelude.{ℕ, ◌==◌, ◌^◌, List, codes, Bool, Option, Some, None, ok_or, option_and_then, Result, Ok, Err, if◌then◌else◌}
+use Rattle.std.specs.Prelude.{ℕ, ◌==◌, List, codes, Bool, Option, Some, None, ok_or, option_and_then, Result, Ok, Err, if◌then◌else◌}
 use Rattle.std.specs.Str.{bytes_eq}
 use Rattle.serde_json.specs.Data.{Data, Items, no_items, item}
 use Rattle.serde_json.specs.Find.{as_array}

@@ -1,5 +1,5 @@
 -- What a core import is for: which value of JSON is which role, and what must stand in the world for it.
-use Rattle.std.specs.Prelude.{⊤, ℕ, ◌^◌, ◌&&◌, List, [], ◌∷◌, ◌++◌, codes, Bool, true, false, Option, Some, None, ok_or, option_and_then, Result, Ok, Err, is_some, if◌then◌else◌}
+use Rattle.std.specs.Prelude.{ℕ, ◌^◌, List, [], ◌∷◌, codes, Bool, true, false, Option, Some, None, ok_or, option_and_then, Result, Ok, Err, is_some, if◌then◌else◌}
 use Rattle.std.specs.Option.{option_map_or}
 use Rattle.std.specs.List.{slice_get}
 use Rattle.std.specs.Str.{bytes_eq}

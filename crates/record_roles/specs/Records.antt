@@ -4,9 +4,8 @@
 -- and "utf8" where nothing is said), `context-slot-1` (whether the task's second slot of storage is free),
 -- `interfaces`, `imports` and `exports` (the world), `core-imports` (a list of {"module", "field", "role"}) and
 -- `core-exports` (a list of {"field", "role"}). All but `version` may be left out.
-use Rattle.std.specs.Prelude.{⊤, ℕ, suc, ◌==◌, List, [], ◌∷◌, codes, Bool, Option, Some, None, ok_or, option_and_then, Result, Ok, Err, if◌then◌else◌}
-use Rattle.std.specs.Fmt.{decimal}
-use Rattle.serde_json.specs.Data.{Data, Items, no_items, item}
+use Rattle.std.specs.Prelude.{⊤, ℕ, ◌==◌, List, [], ◌∷◌, codes, Bool, Option, Some, None, ok_or, option_and_then, Result, Ok, Err, if◌then◌else◌}
+use Rattle.serde_json.specs.Data.{Data}
 use Rattle.serde_json.specs.Find.{get, as_array, as_number, as_u64}
 use Rattle.comp_worlds.specs.declared.encoding.StringEncoding.{StringEncoding}
 use Rattle.comp_worlds.specs.declared.encoding.StringEncoding.TheVariants as encodings

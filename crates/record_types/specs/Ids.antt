@@ -1,6 +1,6 @@
 -- Ids of interfaces: three texts, joined by a colon and a slash, and after an at sign a version, if any
 -- (component model, explainer: `interfacename`).
-use Rattle.std.specs.Prelude.{ℕ, ◌==◌, ◌&&◌, ◌||◌, not, nat_lt, length, List, Bool, true, false, Option, Some, None, is_some, is_ok, Result, Ok, Err, if◌then◌else◌}
+use Rattle.std.specs.Prelude.{ℕ, ◌==◌, ◌&&◌, ◌||◌, not, nat_lt, length, List, Bool, false, Option, Some, None, is_some, is_ok, Result, Ok, Err, if◌then◌else◌}
 use Rattle.std.specs.List.{list_any, before_first, after_first, position_or_len}
 use Rattle.semver.specs.Parse.{version_parts}
 use Rattle.serde_json.specs.Data.{Data}

@@ -1,6 +1,6 @@
 -- Interfaces: objects with an id, types and functions. A type may name the types before it, and those of the
 -- interfaces before.
-use Rattle.std.specs.Prelude.{◌≡◌, ◌≢◌, ℕ, suc, List, [], ◌∷◌, ◌++◌, codes, Bool, false, Option, is_some, ok_or, Result, Ok, Err, ⊤, if◌then◌else◌}
+use Rattle.std.specs.Prelude.{◌≡◌, ◌≢◌, ℕ, suc, List, [], ◌∷◌, ◌++◌, codes, false, Option, is_some, ok_or, Result, Ok, Err, ⊤, if◌then◌else◌}
 use Rattle.std.specs.Fmt.{decimal}
 use Rattle.std.specs.Map.{lookup}
 use Rattle.std.specs.Str.{bytes_eq}

@@ -1,5 +1,5 @@
 -- References to named types: arrays of the place of an interface, or null for the world, and a name.
-use Rattle.std.specs.Prelude.{ℕ, ◌==◌, ◌&&◌, ◌^◌, nat_lt, length, List, codes, Bool, not, Option, Some, None, is_some, slice_get, ok_or, option_map, option_and_then, Result, Ok, Err, if◌then◌else◌}
+use Rattle.std.specs.Prelude.{ℕ, ◌==◌, ◌&&◌, ◌^◌, nat_lt, length, List, codes, not, Option, Some, None, is_some, slice_get, ok_or, option_and_then, Result, Ok, Err, if◌then◌else◌}
 use Rattle.std.specs.Map.{lookup}
 use Rattle.std.specs.Str.{bytes_eq}
 use Rattle.serde_json.specs.Data.{Data}

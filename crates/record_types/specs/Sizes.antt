@@ -1,7 +1,7 @@
 -- How large types are: how many types stand below one another in a type, and how many nodes its tree has.
 -- A part that isn't there is a node too, but no level. (The component model sets no limit; these are this
 -- project's own.)
-use Rattle.std.specs.Prelude.{ℕ, ◌+◌, min, max, nat_le, codes, Result, Ok, Err, if◌then◌else◌}
+use Rattle.std.specs.Prelude.{◌+◌, min, max, nat_le, codes, Result, Ok, Err, if◌then◌else◌}
 use Rattle.record_json.specs.declared.fault.Failure.{Failure}
 use Rattle.record_json.specs.Reading.{left_out}
 use Rattle.record_types.specs.declared.known.Size.{Size}

@@ -1,6 +1,6 @@
 -- Which type a value of JSON is: the name of a primitive type, or an object with one member, which says what
 -- the type is made of. Its nodes go behind those that are there, each behind its parts.
-use Rattle.std.specs.Prelude.{◌≡◌, ◌≢◌, ℕ, zero, suc, ◌==◌, ◌&&◌, nat_lt, length, List, [], ◌∷◌, ◌++◌, codes, Bool, true, false, not, Option, Some, None, is_some, ok_or, option_and_then, Result, Ok, Err, if◌then◌else◌}
+use Rattle.std.specs.Prelude.{◌≡◌, ◌≢◌, ℕ, zero, suc, nat_lt, length, List, [], ◌∷◌, ◌++◌, codes, Bool, not, Option, Some, None, is_some, ok_or, option_and_then, Result, Ok, Err, if◌then◌else◌}
 use Rattle.std.specs.Fmt.{decimal}
 use Rattle.std.specs.Str.{bytes_eq}
 use Rattle.serde_json.specs.Data.{Data, Items, no_items, item}
@@ -8,7 +8,7 @@ use Rattle.serde_json.specs.Find.{as_str, as_null, as_array}
 use Rattle.record_json.specs.declared.fault.Failure.{Failure}
 use Rattle.record_json.specs.declared.fault.Failure.TheVariants as failures
 use Rattle.record_json.specs.Faults.{◌>>=◌}
-use Rattle.record_json.specs.Reading.{under, here, left_out, text_of, single, pair_of, items_from, list_of}
+use Rattle.record_json.specs.Reading.{under, here, left_out, text_of, single, pair_of, items_from}
 use Rattle.record_values.specs.declared.names.TypeName.{TypeName}
 use Rattle.record_values.specs.declared.types.Case.{Case}
 use Rattle.record_values.specs.declared.types.Node.{Node}

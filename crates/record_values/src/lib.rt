@@ -26,6 +26,8 @@ mod world;
 pub use names::{InterfaceName, Owner, TypeName};
 pub use record::{Assigned, ImportName, Record};
 pub use renaming::{rename_interface, rename_item, rename_name};
-pub use roles::{ExportRole, ImportRole, Intrinsic, Payload, PayloadKind, PayloadOperation, PlainExport};
+pub use roles::{
+    ExportRole, ImportRole, Intrinsic, Payload, PayloadKind, PayloadOperation, PlainExport,
+};
 pub use types::{Case, Func, Interface, Node, Typed};
 pub use world::{Item, ItemKey, Wit};

@@ -56,11 +56,7 @@ fn rename_node(alloc: Global, renames: &Renames, node: &Node) -> Result<Node, Al
 }
 
 /// A type whose references follow.
-fn rename_nodes(
-    alloc: Global,
-    renames: &Renames,
-    nodes: &[Node],
-) -> Result<Seq<Node>, AllocError>
+fn rename_nodes(alloc: Global, renames: &Renames, nodes: &[Node]) -> Result<Seq<Node>, AllocError>
     ensures { IfOk result (λ ns. ns ≡ renamed_nodes renames.now nodes.now) }
 {
     let mut renamed = Seq::new(alloc);
@@ -79,11 +75,7 @@ fn rename_typed(alloc: Global, renames: &Renames, typed: &Typed) -> Result<Typed
     })
 }
 
-fn rename_types(
-    alloc: Global,
-    renames: &Renames,
-    types: &[Typed],
-) -> Result<Seq<Typed>, AllocError>
+fn rename_types(alloc: Global, renames: &Renames, types: &[Typed]) -> Result<Seq<Typed>, AllocError>
     ensures { IfOk result (λ ts. ts ≡ map (renamed_typed renames.now) types.now) }
 {
     let mut renamed = Seq::new(alloc);
@@ -144,9 +136,7 @@ pub fn rename_item(alloc: Global, renames: &Renames, item: &Item) -> Result<Item
 {
     match item {
         Item::Interface(name) => Ok(Item::Interface(rename_name(alloc, renames, name)?)),
-        Item::Function(function) => Ok(Item::Function(rename_function(
-            alloc, renames, function,
-        )?)),
+        Item::Function(function) => Ok(Item::Function(rename_function(alloc, renames, function)?)),
         Item::Type(nodes) => Ok(Item::Type(rename_nodes(alloc, renames, nodes.as_slice())?)),
     }
 }

@@ -19,13 +19,8 @@ pub enum Node {
     List,
     Option,
     /// A result, with its parts in this order where they are there.
-    Result {
-        has_ok: bool,
-        has_err: bool,
-    },
-    Tuple {
-        arity: usize,
-    },
+    Result { has_ok: bool, has_err: bool },
+    Tuple { arity: usize },
     /// A record, with a part for each field.
     Record(Seq<Text>),
     /// A variant, with a part for each case that has a type.
@@ -34,12 +29,8 @@ pub enum Node {
     Flags(Seq<Text>),
     Own(TypeName),
     Borrow(TypeName),
-    Stream {
-        has_item: bool,
-    },
-    Future {
-        has_item: bool,
-    },
+    Stream { has_item: bool },
+    Future { has_item: bool },
     /// A type that has a name.
     Named(TypeName),
     /// A resource. It stands alone, as the type of a name.
