@@ -1,0 +1,27 @@
+//! Worlds in which compatible versions of imported interfaces are one.
+//!
+//! Upward each call promises exactly what its definition in `specs/` gives, unless memory runs out.
+//! Nothing here knows how a record is spelled.
+//!
+//! In reading order: `compatible` (canonical ids), `groups` (which interface becomes which), `uses`
+//! (which interfaces one names), `standing` (what goes stands in what it becomes), `renamed` (the world
+//! without what goes), `order` (imports taken anew), `reach` (exported interfaces that reach exported
+//! ones), `settling` (the whole).
+#![tactic(auto)]
+
+mod compatible;
+mod groups;
+mod order;
+mod reach;
+mod renamed;
+mod settling;
+mod standing;
+mod uses;
+
+pub use compatible::Compatible;
+pub use groups::{Candidate, renames};
+pub use reach::check_reach;
+pub use settling::{Settled, settle};
+
+#[cfg(test)]
+mod tests;
