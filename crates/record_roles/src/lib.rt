@@ -19,6 +19,3 @@ mod record;
 mod sides;
 
 pub use record::read_record;
-
-#[cfg(test)]
-mod tests;
