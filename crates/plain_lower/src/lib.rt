@@ -30,6 +30,3 @@ mod root;
 pub use fault::PlainFault;
 pub use lower::PlainLower;
 pub use record_joining::Bindgen;
-
-#[cfg(test)]
-mod tests;
