@@ -3,12 +3,7 @@
 # answers. Needs `rt` in PATH; builds the program first.
 set -eu
 
-top=$(cd "$(dirname "$0")/.." && pwd)
-folder=$(mktemp -d)
-trap 'rm -rf "$folder"' EXIT
-(cd "$top/crates/component_new" && rt run >"$folder/build" 2>&1) || true
-program=$top/crates/component_new/out/component_new
-[ -x "$program" ] || { cat "$folder/build"; exit 1; }
+. "$(dirname "$0")/program.sh"
 cp "$top/examples/main.wasm" "$folder/main.wasm"
 printf '\0asm\001\0\0\0' >"$folder/empty.wasm"
 printf '\0asm' >"$folder/cut.wasm"

@@ -27,7 +27,8 @@ use Rattle.comp_bytes.specs.declared.def.Def.TheVariants as defs
 use Rattle.wit_data.specs.Keys.{name_of_key}
 use Rattle.wit_data.specs.declared.worlds.WorldKey.{WorldKey}
 use Rattle.wit_data.specs.declared.worlds.WorldKey.TheVariants as keys
-use Rattle.comp_worlds.specs.Worlds.{IsWorld, IsExportRole, IsImportGroup, core_imports, fields_of, root_export, core_name_of}
+use Rattle.comp_worlds.specs.CoreImports.{fields_of}
+use Rattle.comp_worlds.specs.Worlds.{IsWorld, IsExportRole, IsImportGroup, core_imports, root_export, core_name_of}
 use Rattle.comp_worlds.specs.declared.exports.Export.{Export as WorldExport}
 use Rattle.comp_worlds.specs.declared.exports.Export.TheVariants as exports
 use Rattle.comp_worlds.specs.declared.imports.ImportInstance.{ImportInstance}

@@ -14,7 +14,7 @@ use Rattle.comp_bytes.specs.declared.def.Item.{Item}
 use Rattle.comp_bytes.specs.declared.def.Item.TheVariants as items
 use Rattle.comp_bytes.specs.declared.def.Def.{Def}
 use Rattle.comp_bytes.specs.declared.def.Def.TheVariants as defs
-use Rattle.comp_worlds.specs.Worlds.{core_preamble}
+use Rattle.comp_worlds.specs.Worlds.{core_preamble, whole_of}
 use Rattle.comp_worlds.specs.declared.encoding.StringEncoding.{StringEncoding}
 use Rattle.comp_worlds.specs.declared.encoding.StringEncoding.TheVariants as encodings
 use Rattle.wit_data.specs.declared.functions.AbiVariant.TheVariants.{GuestImport, GuestExport}
@@ -59,7 +59,7 @@ abbrev exported_as : List ℕ × List ℕ → List ℕ × WorldExport
 exported_as e = (e.0, exports.WorldFunc (keys.Name e.1) e.1 GuestExport)
 
 abbrev root_world : (bytes : List ℕ) (imported exported : List (List ℕ)) (groups : List (List ℕ × List (List ℕ × List ℕ))) (core_exports : List (List ℕ × List ℕ)) → ComponentWorld
-root_world bytes imported exported groups core_exports = record {
+root_world bytes imported exported groups core_exports = whole_of (record {
   resolve = record { interfaces = []; types = []; worlds = record { imports = map entry imported; exports = map entry exported } ∷ [] };
   world = record { index = 0 };
   main = record {
@@ -70,7 +70,8 @@ root_world bytes imported exported groups core_exports = record {
   };
   main_exports = map keys.Name exported;
   adapters = [];
-}
+  can_use_context_slot_1 = false;
+})
 
 -- how a run ended: the core items, the functions, what each user instance was given, the exports, the events
 pub record Ended : Type 0 where

@@ -147,9 +147,10 @@ impl<L: Lower> ComponentEncoder<L> {
         if !self.has_main() {
             return Err(EncodeFault::NoModule);
         }
-        self.lower
-            .prepare(self.alloc, &self.gathered)
-            .map_err(|f| fault_of(&self.lower, f))
+        match self.lower.prepare(self.alloc, &self.gathered) {
+            Ok(world) => Ok(world),
+            Err(fault) => Err(fault_of(&self.lower, fault)),
+        }
     }
 
     /// The component of the world, checked where that is asked for.

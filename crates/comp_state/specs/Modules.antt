@@ -3,7 +3,8 @@
 use Rattle.std.specs.Prelude.{ℕ, List, [], ◌∷◌, map}
 use Rattle.comp_bytes.specs.declared.space.ExportKind.{ExportKind}
 use Rattle.comp_bytes.specs.declared.space.ExportKind.TheVariants as kinds
-use Rattle.comp_worlds.specs.Worlds.{CoreImport, core_imports}
+use Rattle.comp_worlds.specs.CoreImports.{CoreImport}
+use Rattle.comp_worlds.specs.Worlds.{core_imports}
 use Rattle.comp_worlds.specs.declared.imports.Import.{Import}
 use Rattle.comp_worlds.specs.declared.imports.Import.TheVariants as imports
 use Rattle.comp_worlds.specs.declared.exports.Export.{Export}

@@ -5,7 +5,8 @@ use Rattle.std.specs.List.{list_any}
 use Rattle.std.specs.Str.{bytes_eq}
 use Rattle.wit_data.specs.Keys.{name_of_key}
 use Rattle.comp_worlds.specs.Functions.{of_function}
-use Rattle.comp_worlds.specs.Worlds.{fields_of, imported_name, imported_functions}
+use Rattle.comp_worlds.specs.CoreImports.{fields_of}
+use Rattle.comp_worlds.specs.Worlds.{imported_name, imported_functions}
 use Rattle.wit_data.specs.declared.worlds.WorldKey.{WorldKey}
 use Rattle.comp_worlds.specs.declared.encoding.StringEncoding.{StringEncoding}
 use Rattle.comp_worlds.specs.declared.imports.Import.{Import}

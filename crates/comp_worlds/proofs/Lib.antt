@@ -1,2 +1,6 @@
 mod Lowered
 mod Walking
+mod Entering
+mod Standing
+mod Using
+mod Reaching

@@ -1,14 +1,9 @@
--- The step of the walk over all imports of a core module.
-use Rattle.std.proofs.Common.{◌≡◌, ◌∙◌, ap, ℕ, List, ◌∷◌, ◌++◌}
+-- The steps of walks that append to a list.
+use Rattle.std.proofs.Common.{◌≡◌, ◌∙◌, ap, List, ◌∷◌, ◌++◌}
 use Rattle.std.proofs.lemmas.List.{append_assoc}
 use Rattle.std.specs.List.{flat_map}
-use Rattle.comp_worlds.specs.declared.imports.ImportInstance.{ImportInstance}
-use Rattle.comp_worlds.specs.Worlds.{CoreImport, imports_from}
 
--- a list with the imports of a group, and those of the groups that follow
-pub walk_step : (done new : List CoreImport) (group : List ℕ × ImportInstance) (rest : List (List ℕ × ImportInstance))
-    → new ≡ done ++ imports_from group
-    → new ++ flat_map imports_from rest ≡ done ++ flat_map imports_from (group ∷ rest)
-walk_step done new group rest added =
-    ap (λ n. n ++ flat_map imports_from rest) added
-    ∙ append_assoc done (imports_from group) (flat_map imports_from rest)
+-- a list with what comes of one item, and what comes of those that follow
+pub item_step : {X A : Type 0} (f : X → List A) (done new : List A) (x : X) (rest : List X)
+    → new ≡ done ++ f x → new ++ flat_map f rest ≡ done ++ flat_map f (x ∷ rest)
+item_step f done new x rest added = ap (λ n. n ++ flat_map f rest) added ∙ append_assoc done (f x) (flat_map f rest)

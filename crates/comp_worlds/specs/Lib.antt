@@ -3,4 +3,9 @@ pub mod Options
 pub mod Laws
 pub mod Lookups
 pub mod Lowerings
+pub mod CoreImports
+pub mod Tables
+pub mod Uses
+pub mod Imported
+pub mod Mentions
 pub mod Worlds

@@ -10,7 +10,7 @@ use Rattle.wit_data.specs.Keys.{is_same_key}
 use Rattle.wit_data.specs.declared.functions.AbiVariant.{AbiVariant}
 use Rattle.wit_data.specs.declared.ids.TypeId.{TypeId}
 use Rattle.wit_data.specs.declared.worlds.WorldKey.{WorldKey}
-use Rattle.comp_worlds.specs.Worlds.{CoreImport, fields_of}
+use Rattle.comp_worlds.specs.CoreImports.{CoreImport, fields_of}
 use Rattle.comp_worlds.specs.declared.imports.Import.{Import}
 use Rattle.comp_worlds.specs.declared.imports.Import.TheVariants as imports
 use Rattle.comp_worlds.specs.declared.imports.ImportInstance.{ImportInstance}

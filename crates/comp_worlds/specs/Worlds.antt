@@ -1,6 +1,6 @@
 -- What a validated world says, and what holds of it (component model: the imports and exports of a
 -- world; core standard, binary format: the preamble of a module).
-use Rattle.std.specs.Prelude.{◌≡◌, ◌<◌, ℕ, List, [], ◌∷◌, Option, Some, None, map, take, get_or, length, Contains, IsSome}
+use Rattle.std.specs.Prelude.{◌≡◌, ◌<◌, ℕ, List, [], ◌∷◌, Option, Some, None, map, take, get_or, length, Contains, IsSome, is_some}
 use Rattle.std.specs.List.{flat_map, IsDistinct, AllByRecursion}
 use Rattle.std.specs.Str.{bytes_eq}
 use Rattle.comp_lists.specs.Found.{found}
@@ -20,6 +20,15 @@ use Rattle.comp_worlds.specs.declared.imports.ImportInstance.TheVariants as inst
 use Rattle.comp_worlds.specs.declared.exports.Export.{Export}
 use Rattle.comp_worlds.specs.declared.exports.Export.TheVariants as exports
 use Rattle.comp_worlds.specs.declared.world.ComponentWorld.{ComponentWorld}
+use Rattle.comp_worlds.specs.declared.world.ValidatedModule.{ValidatedModule}
+use Rattle.comp_worlds.specs.declared.world.WorldAdapter.{WorldAdapter}
+use Rattle.comp_worlds.specs.declared.world.WorldParts.{WorldParts}
+use Rattle.wit_data.specs.declared.resolve.Resolve.{Resolve}
+use Rattle.comp_worlds.specs.CoreImports.{CoreImport, imports_from}
+use Rattle.comp_worlds.specs.Imported.{Imported, imported}
+use Rattle.comp_worlds.specs.Lookups.{imported_memory}
+use Rattle.comp_worlds.specs.Mentions.{live_type_imports, exports_used}
+use Rattle.comp_worlds.specs.Uses.{used_by, all_imports}
 
 -- ---- what it says
 
@@ -41,20 +50,6 @@ imported_functions w = flat_map root_function (items_of w).imports
 
 abbrev pub exported_functions : ComponentWorld → List (List ℕ)
 exported_functions w = flat_map root_function (items_of w).exports
-
--- an import of a core module: its module, its field, and what it is for
-pub record CoreImport : Type 0 where
-  pub module_name : List ℕ
-  pub field : List ℕ
-  pub role : Import
-
--- the fields that a module imports from one other, each with what it is for
-abbrev pub fields_of : ImportInstance → List (List ℕ × Import)
-fields_of (instances.Names fields) = fields
-fields_of (instances.Whole which) = []
-
-abbrev pub imports_from : List ℕ × ImportInstance → List CoreImport
-imports_from group = map (λ f. record { module_name = group.0; field = f.0; role = f.1 }) (fields_of group.1)
 
 -- the imports of main, module by module
 abbrev pub core_imports : ComponentWorld → List CoreImport
@@ -108,6 +103,29 @@ pub record IsRequired (w : ComponentWorld) (key : WorldKey) : Type 0 where
   pub exported : Contains (map (λ e. e.0) (items_of w).exports) key
   pub stands : IsSome (core_name_of w key)
 
+-- ---- what follows from it
+
+-- what is lowered of what it imports
+abbrev pub import_map : Resolve → World → ValidatedModule → List (List ℕ × WorldAdapter) → Imported
+import_map r items main adapters = imported (used_by (all_imports main adapters) (is_some (imported_memory main.imports.modules))) r items.imports
+
+-- a world of these parts
+abbrev pub whole_with : WorldParts → World → ComponentWorld
+whole_with p items = record {
+  resolve = p.resolve;
+  world = p.world;
+  main = p.main;
+  main_exports = p.main_exports;
+  adapters = p.adapters;
+  import_map = import_map p.resolve items p.main p.adapters;
+  live_type_imports = live_type_imports (all_imports p.main p.adapters) p.resolve items;
+  exports_used = exports_used p.resolve items;
+  can_use_context_slot_1 = p.can_use_context_slot_1;
+}
+
+abbrev pub whole_of : WorldParts → ComponentWorld
+whole_of p = whole_with p (get_or p.resolve.worlds p.world.index no_items)
+
 -- what a core module begins with
 abbrev pub core_preamble : List ℕ
 core_preamble = 0x00 ∷ 0x61 ∷ 0x73 ∷ 0x6d ∷ 0x01 ∷ 0x00 ∷ 0x00 ∷ 0x00 ∷ []
@@ -126,3 +144,6 @@ pub record IsWorld (w : ComponentWorld) : Type 0 where
   pub export_roles : AllByRecursion (λ e. IsExportRole w e.1) w.main.exports.exports
   pub required : AllByRecursion (IsRequired w) w.main_exports
   pub alone : w.adapters ≡ []
+  pub import_map : w.import_map ≡ import_map w.resolve (items_of w) w.main w.adapters
+  pub live_type_imports : w.live_type_imports ≡ live_type_imports (all_imports w.main w.adapters) w.resolve (items_of w)
+  pub exports_used : w.exports_used ≡ exports_used w.resolve (items_of w)

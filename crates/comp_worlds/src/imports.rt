@@ -2,7 +2,7 @@
 
 ghost use Rattle.std.specs.Prelude.{◌≡◌, ◌++◌, map, IfOk, OnOk};
 ghost use Rattle.std.specs.List.{flat_map};
-ghost use Rattle.comp_worlds.specs.Worlds.{imports_from};
+ghost use Rattle.comp_worlds.specs.CoreImports.{imports_from};
 ghost use Rattle.comp_worlds.specs.Lookups.{memory_of_fields, imported_memory, core_import, field_imports};
 
 use crate::encoding::StringEncoding;
@@ -146,15 +146,26 @@ pub struct NamedImport<'a> {
 impl ImportMap {
     /// The imports whose fields are told one by one, module by module, in order. The only refusal is
     /// want of memory.
-    #[tactic(auto, using(crate::proofs::Walking::walk_step))]
     pub fn imports(&self, alloc: Global) -> Result<Vec<NamedImport<'_>>, AllocError>
         ensures { IfOk result (λ list. map core_import list.items ≡ flat_map imports_from self.now.modules) }
     {
         let mut list = Vec::new(alloc);
-        for (from, instance) in self.modules.entries() {
-            add_group(&mut list, from.as_str(), instance)?;
-        }
+        self.add_imports(&mut list)?;
         Ok(list)
+    }
+
+    /// Adds the imports whose fields are told one by one to a list.
+    #[tactic(auto, using(crate::proofs::Walking::item_step))]
+    pub(crate) fn add_imports<'a>(
+        &'a self,
+        list: &mut Vec<NamedImport<'a>>,
+    ) -> Result<(), AllocError>
+        ensures { OnOk result (map core_import list.new.items ≡ map core_import list.old.items ++ flat_map imports_from self.now.modules) }
+    {
+        for (from, instance) in self.modules.entries() {
+            add_group(list, from.as_str(), instance)?;
+        }
+        Ok(())
     }
 
     /// The type in which the memory of main is imported: in the first such import, where there are

@@ -11,25 +11,33 @@
 //! `metadata` (the encodings of functions), `world` (the validated world), `modules` (user modules by
 //! name, and where a module's realloc stands), `required` (which options a canonical function needs),
 //! `laws` (laws of those), `lowerings` (how imported functions are met), `options` (what the encoder was
-//! asked for), `gathered` (what was gathered before the world is prepared), `lower` (the trait).
+//! asked for), `gathered` (what was gathered before the world is prepared), `lower` (the trait). What follows
+//! from a world is made by `tables`: with `uses` (what core imports use) `imported` (how the world's imports are
+//! met), with `mentions` (what names which types) `reached` (live types, and exported interfaces that others name).
 //!
-//! What the look-ups answer is defined in `specs/Lookups.antt`.
+//! What the look-ups answer is defined in `specs/Lookups.antt`, what follows from a world in `specs/Imported.antt`
+//! and `specs/Mentions.antt`.
 #![tactic(auto)]
 
 mod encoding;
 mod exports;
 mod gathered;
+mod imported;
 mod imports;
 mod laws;
 mod libraries;
 mod lower;
 mod lowerings;
+mod mentions;
 mod metadata;
 mod modules;
 mod options;
 mod payloads;
+mod reached;
 mod required;
 mod roles;
+mod tables;
+mod uses;
 mod world;
 
 pub use encoding::StringEncoding;
@@ -45,7 +53,7 @@ pub use modules::CustomModule;
 pub use options::EncoderOptions;
 pub use payloads::{PayloadFuncKind, PayloadInfo, PayloadType};
 pub use required::{OptionFault, Options, RequiredOptions};
-pub use world::{ComponentWorld, ValidatedModule, WorldAdapter};
+pub use world::{ComponentWorld, ValidatedModule, WorldAdapter, WorldParts};
 
 #[cfg(test)]
 mod tests;

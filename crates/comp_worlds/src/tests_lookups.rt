@@ -360,6 +360,10 @@ fn world(alloc: Global, realloc: Option<&str>) -> Result<ComponentWorld, AllocEr
         main: reallocating(alloc, realloc)?,
         main_exports: Seq::new(alloc),
         adapters,
+        import_map: Keyed::new(alloc),
+        live_type_imports: Keyed::new(alloc),
+        exports_used: Keyed::new(alloc),
+        can_use_context_slot_1: false,
     })
 }
 

@@ -1,14 +1,21 @@
 //! The validated world.
 
-ghost use Rattle.std.specs.Prelude.{◌≡◌, ◌<◌, length};
-ghost use Rattle.comp_worlds.specs.Worlds.{items_of};
+ghost use Rattle.std.specs.Prelude.{◌≡◌, ◌<◌, length, get_or, IfOk};
+ghost use Rattle.std.specs.List.{AllByRecursion};
+ghost use Rattle.wit_data.specs.Sound.{IsSound, HasWorld};
+ghost use Rattle.comp_worlds.specs.Uses.{all_imports};
+ghost use Rattle.comp_worlds.specs.Mentions.{HasRole};
+ghost use Rattle.comp_worlds.specs.Worlds.{no_items, items_of, whole_of};
 
 use crate::exports::ExportMap;
 use crate::imports::ImportMap;
 use crate::libraries::LibraryInfo;
+use crate::lowerings::ImportedInterface;
 use crate::metadata::ModuleMetadata;
+use crate::tables::tables_of;
 use comp_lists::{Bytes, Keyed, Seq, Text};
-use wit_data::{Resolve, World, WorldId, WorldKey};
+use std::alloc::{AllocError, Global};
+use wit_data::{InterfaceId, Resolve, TypeId, World, WorldId, WorldKey};
 
 /// A core module, and what its imports and exports are for.
 #[derive(Drop)]
@@ -29,8 +36,8 @@ pub struct WorldAdapter {
 }
 
 /// The validated world: the items that the component imports and exports, its main module with the
-/// keys of the exports that it has to have, and its adapters, in order. `IsWorld` says what holds of
-/// it.
+/// keys of the exports that it has to have, its adapters, in order, and what follows from these.
+/// `IsWorld` says what holds of it.
 #[derive(Drop)]
 pub struct ComponentWorld {
     pub resolve: Resolve,
@@ -39,9 +46,53 @@ pub struct ComponentWorld {
     pub main: ValidatedModule,
     pub main_exports: Seq<WorldKey>,
     pub adapters: Keyed<Text, WorldAdapter>,
+    /// What is lowered of what the world imports: of its root, which has no key and stands first, and
+    /// of each imported interface, in the world's order.
+    pub import_map: Keyed<Option<WorldKey>, ImportedInterface>,
+    /// Of each imported interface those of its types that the component needs, in its order.
+    pub live_type_imports: Keyed<InterfaceId, Seq<TypeId>>,
+    /// Of each exported interface the other exported ones of which it needs types.
+    pub exports_used: Keyed<InterfaceId, Seq<InterfaceId>>,
+    /// Whether the second slot of a task's context is free for thread-local data.
+    pub can_use_context_slot_1: bool,
+}
+
+/// A world without what follows from it.
+#[derive(Drop)]
+pub struct WorldParts {
+    pub resolve: Resolve,
+    pub world: WorldId,
+    pub main: ValidatedModule,
+    pub main_exports: Seq<WorldKey>,
+    pub adapters: Keyed<Text, WorldAdapter>,
+    pub can_use_context_slot_1: bool,
 }
 
 impl ComponentWorld {
+    /// The world of these parts, with what follows from them. It takes time by the number of its core
+    /// imports, of its interfaces and their functions, and for the exported interfaces and once for the imported
+    /// ones together by the number of types and of their parts. The only refusal is want of memory.
+    pub fn of_parts(alloc: Global, parts: WorldParts) -> Result<ComponentWorld, AllocError>
+        requires sound { IsSound parts.resolve }
+        requires stands { parts.world.index < length parts.resolve.worlds }
+        requires roles { AllByRecursion (λ i. HasRole parts.resolve i.role) (all_imports parts.main parts.adapters) }
+        ensures { IfOk result (λ w. w ≡ whole_of parts) }
+    {
+        let items = items_in(&parts.resolve, parts.world);
+        let tables = tables_of(alloc, &parts.resolve, items, &parts.main, &parts.adapters)?;
+        Ok(ComponentWorld {
+            resolve: parts.resolve,
+            world: parts.world,
+            main: parts.main,
+            main_exports: parts.main_exports,
+            adapters: parts.adapters,
+            import_map: tables.import_map,
+            live_type_imports: tables.live_type_imports,
+            exports_used: tables.exports_used,
+            can_use_context_slot_1: parts.can_use_context_slot_1,
+        })
+    }
+
     /// The imports and exports of the world.
     pub fn items(&self) -> &World
         requires { self.now.world.index < length self.now.resolve.worlds }
@@ -49,4 +100,15 @@ impl ComponentWorld {
     {
         &self.resolve.worlds.as_slice()[self.world.index]
     }
+}
+
+/// The imports and exports of a world.
+#[tactic(auto, using(crate::proofs::Standing::world_sound))]
+fn items_in(resolve: &Resolve, world: WorldId) -> &World
+    requires sound { IsSound resolve.now }
+    requires stands { world.index < length resolve.now.worlds }
+    ensures items { result.now ≡ get_or resolve.now.worlds world.index no_items }
+    ensures sound { HasWorld resolve.now result.now }
+{
+    &resolve.worlds.as_slice()[world.index]
 }

@@ -1,11 +1,12 @@
 -- The steps of a start function do the deeds that they mean.
-use Rattle.std.proofs.Common.{◌≡◌, ℕ, ◌+◌, List, [], ◌∷◌, ◌++◌, length, map, reverse, Bool, true, false, Option, Some, None, refl, sym, ap, ◌∙◌, subst, arith, append_assoc, length-append}
+use Rattle.std.proofs.Common.{◌≡◌, ℕ, suc, ◌+◌, List, [], ◌∷◌, ◌++◌, length, map, reverse, Bool, true, false, Option, Some, None, refl, sym, ap, ◌∙◌, subst, arith, append_assoc, length-append}
 use Rattle.std.specs.Prelude.{slice_get, slice_set, if◌then◌else◌}
 use Rattle.std.specs.List.{flat_map}
 use Rattle.std.specs.Int.{w32}
 use Rattle.std.proofs.lemmas.Int.{of_z-to_z}
 use Rattle.std.proofs.Math.Seq.{set-append_seam}
 use Rattle.core_bytes.specs.declared.types.ValType.{ValType}
+use Rattle.core_bytes.specs.declared.types.ValType.TheVariants.{I32}
 use Rattle.core_bytes.specs.declared.types.FuncType.{FuncType}
 use Rattle.core_bytes.specs.declared.code.Instruction.{Instruction}
 use Rattle.core_bytes.specs.declared.code.Instruction.TheVariants.{Call, GlobalGet, GlobalSet, I32Add, I32Store}
@@ -14,12 +15,14 @@ use Rattle.core_runs.specs.declared.start.StartStep.TheVariants.{Fill, Thunk, Ho
 use Rattle.core_runs.specs.Hooks.{hook_number}
 use Rattle.core_runs.specs.Values.{Value, I32Value, I64Value, F32Value, F64Value, Function, fits, fit}
 use Rattle.core_runs.specs.Store.{Frame, Store, Cell, Kept, Foreign, Answer, Gives, Traps, Stored, Now, Outcome, Returned, Open}
-use Rattle.core_runs.specs.Execution.{with_item, where_true, and_then, asked, read_given, read_cell, write_cell, seen, body, exec}
+use Rattle.core_runs.specs.Execution.{with_item, where_true, and_then, asked, call_top, read_given, read_cell, write_cell, seen, body, exec}
 use Rattle.core_runs.specs.Expected.{Known, Is}
-use Rattle.core_runs.specs.Bodies.{start_step, sum_code}
-use Rattle.core_runs.specs.Starts.{Deed, Fills, Calls, Sums, Stores, Means, MeansEach, read_at, write_at, added, sum_of, deed_done, deeds_done, Filling, unfilled, filled, fill_deeds, with_globals}
+use Rattle.core_runs.specs.Bodies.{start_step, sum_code, tls_set}
+use Rattle.core_runs.specs.Starts.{Deed, Fills, Calls, Sets, Sums, Stores, SetsCell, Means, MeansEach, read_at, write_at, added, sum_of, deed_done, deeds_done, Filling, unfilled, filled, fill_deeds, with_globals}
 use Rattle.core_runs.specs.LawsOfStarts.{StartsAct, StartsFillFirst}
 use Rattle.core_runs.proofs.Runs.{has_all, checked, asked_fits, exec_generated}
+use Rattle.core_runs.proofs.NotStuck.{hook_fits}
+use Rattle.core_runs.proofs.Shims.{call_top_run}
 use Rattle.core_runs.proofs.Wrappers.{and_then_cong, and_then_assoc, and_then_fitting, no_results, opaque_run}
 
 -- a read goes on alike where what follows is alike
@@ -87,12 +90,24 @@ write_then g None v now k = refl
 write_then g (Some (Kept t old)) v now k = where_then (fits t v) _ k
 write_then g (Some (Foreign what t)) v now k = where_then (fits t v) _ k
 
+-- a call of a function that sets a cell writes it
+cell_set : (n : ℕ) (store : Store) (f g : ℕ) (v : Value) (now : Now) → SetsCell store f g → fit (I32 ∷ []) (v ∷ []) ≡ true → exec (suc n) store f (v ∷ []) now ≡ write_at g v now
+cell_set n store f g v now sets fine =
+    let code = (tls_set sets.local).instructions in
+    let call = exec n store in
+    let ran : body store call sets.frame code [] (v ∷ []) now ≡ write_at g v now =
+    ap (λ o. with_item o (λ x. with_item (slice_get now.globals x) (λ cell. write_cell x cell v now (λ after. Returned [] after)))) sets.names in
+    exec_generated n store f _ (v ∷ []) now sets.has
+    ∙ ap (λ b. where_true b (and_then (body store call sets.frame code [] (v ∷ []) now) (checked []))) fine
+    ∙ ap (λ o. and_then o (checked [])) ran
+    ∙ write_then g (slice_get now.globals g) v now (checked [])
+
 module _ (store : Store) (n : ℕ) (frame : Frame) where
   -- what code does behind a step
   abbrev pub behind : List Instruction → List Value → Now → Outcome
-  behind rest results after = body store (exec n store) frame rest [] [] after
+  behind rest results after = body store (exec (suc n) store) frame rest [] [] after
 
-  add_run : (v w : Value) (stack : List Value) (rest : List Instruction) (now : Now) → body store (exec n store) frame (I32Add ∷ rest) (w ∷ v ∷ stack) [] now ≡ added v w (λ s. body store (exec n store) frame rest (I32Value s ∷ stack) [] now)
+  add_run : (v w : Value) (stack : List Value) (rest : List Instruction) (now : Now) → body store (exec (suc n) store) frame (I32Add ∷ rest) (w ∷ v ∷ stack) [] now ≡ added v w (λ s. body store (exec (suc n) store) frame rest (I32Value s ∷ stack) [] now)
   add_run (I32Value x) (I32Value y) stack rest now = refl
   add_run (I32Value x) (I64Value y) stack rest now = refl
   add_run (I32Value x) (F32Value y) stack rest now = refl
@@ -101,16 +116,16 @@ module _ (store : Store) (n : ℕ) (frame : Frame) where
   add_run v (I32Value y) stack rest now = refl
   add_run v w stack rest now = refl
 
-  get_run : (local g : ℕ) (rest : List Instruction) (stack : List Value) (now : Now) → slice_get frame.globals local ≡ Some g → body store (exec n store) frame (GlobalGet local ∷ rest) stack [] now ≡ read_at g now (λ v after. body store (exec n store) frame rest (v ∷ stack) [] after)
+  get_run : (local g : ℕ) (rest : List Instruction) (stack : List Value) (now : Now) → slice_get frame.globals local ≡ Some g → body store (exec (suc n) store) frame (GlobalGet local ∷ rest) stack [] now ≡ read_at g now (λ v after. body store (exec (suc n) store) frame rest (v ∷ stack) [] after)
   get_run local g rest stack now h =
-      ap (λ o. with_item o (λ x. with_item (slice_get now.globals x) (λ cell. read_cell cell now (λ v after. body store (exec n store) frame rest (v ∷ stack) [] after)))) h
+      ap (λ o. with_item o (λ x. with_item (slice_get now.globals x) (λ cell. read_cell cell now (λ v after. body store (exec (suc n) store) frame rest (v ∷ stack) [] after)))) h
 
-  set_run : (local g : ℕ) (v : Value) (rest : List Instruction) (now : Now) → slice_get frame.globals local ≡ Some g → body store (exec n store) frame (GlobalSet local ∷ rest) (v ∷ []) [] now ≡ and_then (write_at g v now) (behind rest)
+  set_run : (local g : ℕ) (v : Value) (rest : List Instruction) (now : Now) → slice_get frame.globals local ≡ Some g → body store (exec (suc n) store) frame (GlobalSet local ∷ rest) (v ∷ []) [] now ≡ and_then (write_at g v now) (behind rest)
   set_run local g v rest now h =
-      ap (λ o. with_item o (λ x. with_item (slice_get now.globals x) (λ cell. write_cell x cell v now (λ after. body store (exec n store) frame rest [] [] after)))) h
+      ap (λ o. with_item o (λ x. with_item (slice_get now.globals x) (λ cell. write_cell x cell v now (λ after. body store (exec (suc n) store) frame rest [] [] after)))) h
       ∙ sym (write_then g (slice_get now.globals g) v now (behind rest))
 
-  sum_run : (base offset b o : ℕ) (rest : List Instruction) (stack : List Value) (now : Now) → slice_get frame.globals base ≡ Some b → slice_get frame.globals offset ≡ Some o → body store (exec n store) frame (sum_code base offset ++ rest) stack [] now ≡ sum_of b o now (λ s after. body store (exec n store) frame rest (I32Value s ∷ stack) [] after)
+  sum_run : (base offset b o : ℕ) (rest : List Instruction) (stack : List Value) (now : Now) → slice_get frame.globals base ≡ Some b → slice_get frame.globals offset ≡ Some o → body store (exec (suc n) store) frame (sum_code base offset ++ rest) stack [] now ≡ sum_of b o now (λ s after. body store (exec (suc n) store) frame rest (I32Value s ∷ stack) [] after)
   sum_run base offset b o rest stack now hb ho =
       get_run base b (GlobalGet offset ∷ I32Add ∷ rest) stack now hb
       ∙ cell_alike (slice_get now.globals b) now _ _ (λ v first.
@@ -118,39 +133,54 @@ module _ (store : Store) (n : ℕ) (frame : Frame) where
       ∙ cell_alike (slice_get first.globals o) first _ _ (λ w second. add_run v w stack rest second))
 
   -- one call of a function from outside that gives nothing
-  call_run : (index : ℕ) (target : Known) (what : ℕ) (arguments : List Value) (rest : List Instruction) (now : Now) → slice_get frame.functions index ≡ Some target.address → Is store target what → length target.signature.params ≡ length arguments → target.signature.results ≡ [] → body store (exec n store) frame (Call index ∷ rest) (reverse arguments ++ []) [] now ≡ and_then (asked target.address target.signature arguments now) (behind rest)
+  call_run : (index : ℕ) (target : Known) (what : ℕ) (arguments : List Value) (rest : List Instruction) (now : Now) → slice_get frame.functions index ≡ Some target.address → Is store target what → length target.signature.params ≡ length arguments → target.signature.results ≡ [] → body store (exec (suc n) store) frame (Call index ∷ rest) (reverse arguments ++ []) [] now ≡ and_then (asked target.address target.signature arguments now) (behind rest)
   call_run index target what arguments rest now names is len none =
-      let next = body store (exec n store) frame rest in
-      opaque_run store n frame index target.address what target.signature arguments [] next [] now names is len
+      let next = body store (exec (suc n) store) frame rest in
+      opaque_run store (suc n) frame index target.address what target.signature arguments [] next [] now names is len
       ∙ and_then_fitting target.signature.results (asked target.address target.signature arguments now) (λ rs after. next (reverse rs ++ []) [] after) (behind rest) (asked_fits target.address target.signature arguments now) (λ rs after fine.
       ap (λ l. next (reverse l ++ []) [] after) (no_results rs (subst (λ (ts : List ValType). fit ts rs ≡ true) none fine)))
 
-  store_run : (m a s : ℕ) (rest : List Instruction) (now : Now) → slice_get frame.memories 0 ≡ Some m → body store (exec n store) frame (I32Store ∷ rest) (I32Value s ∷ I32Value a ∷ []) [] now ≡ behind rest [] (seen now (Stored m a s))
+  store_run : (m a s : ℕ) (rest : List Instruction) (now : Now) → slice_get frame.memories 0 ≡ Some m → body store (exec (suc n) store) frame (I32Store ∷ rest) (I32Value s ∷ I32Value a ∷ []) [] now ≡ behind rest [] (seen now (Stored m a s))
   store_run m a s rest now h = ap (λ o. with_item o (λ x. behind rest [] (seen now (Stored x a s)))) h
 
+  -- one call of a function that sets a cell
+  cell_run : (index f g number : ℕ) (rest : List Instruction) (now : Now) → slice_get frame.functions index ≡ Some f → SetsCell store f g → fit (I32 ∷ []) (I32Value number ∷ []) ≡ true → body store (exec (suc n) store) frame (Call index ∷ rest) (I32Value number ∷ []) [] now ≡ and_then (write_at g (I32Value number) now) (behind rest)
+  cell_run index f g number rest now names sets fine =
+      let v = I32Value number in
+      let next = body store (exec (suc n) store) frame rest in
+      let k = λ (rs : List Value) (after : Now). next (reverse rs ++ []) [] after in
+      ap (λ o. with_item o (λ a. call_top store (exec (suc n) store) frame a next (v ∷ []) [] now)) names
+      ∙ call_top_run store (exec (suc n) store) frame f _ (v ∷ []) [] next [] now sets.has refl
+      ∙ ap (λ o. and_then o k) (cell_set n store f g (I32Value number) now sets fine)
+      ∙ write_then g (slice_get now.globals g) v now k
+      ∙ sym (write_then g (slice_get now.globals g) v now (behind rest))
+
   -- one step
-  step_run : (step : StartStep) (deed : Deed) (rest : List Instruction) (now : Now) → Means store frame step deed → body store (exec n store) frame (start_step step ++ rest) [] [] now ≡ and_then (deed_done deed now) (behind rest)
+  step_run : (step : StartStep) (deed : Deed) (rest : List Instruction) (now : Now) → Means store frame step deed → body store (exec (suc n) store) frame (start_step step ++ rest) [] [] now ≡ and_then (deed_done deed now) (behind rest)
   step_run (Fill global function) (Fills g f) rest now h =
-      ap (λ o. with_item o (λ a. body store (exec n store) frame (GlobalSet global ∷ rest) (Function a ∷ []) [] now)) h.0
+      ap (λ o. with_item o (λ a. body store (exec (suc n) store) frame (GlobalSet global ∷ rest) (Function a ∷ []) [] now)) h.0
       ∙ set_run global g (Function f) rest now h.1
   step_run (Thunk function) (Calls target arguments) rest now h =
-      subst (λ (vs : List Value). body store (exec n store) frame (Call function ∷ rest) [] [] now ≡ and_then (asked target.address target.signature vs now) (behind rest)) (sym h.2)
+      subst (λ (vs : List Value). body store (exec (suc n) store) frame (Call function ∷ rest) [] [] now ≡ and_then (asked target.address target.signature vs now) (behind rest)) (sym h.2)
       (call_run function target h.3.0 [] rest now h.0 h.3.1 (ap (λ (t : FuncType). length t.params) h.1) (ap (λ (t : FuncType). t.results) h.1))
   step_run (Hook hook moment) (Calls target arguments) rest now h =
-      subst (λ (vs : List Value). body store (exec n store) frame (Call hook ∷ rest) (I32Value (hook_number moment) ∷ []) [] now ≡ and_then (asked target.address target.signature vs now) (behind rest)) (sym h.2)
+      subst (λ (vs : List Value). body store (exec (suc n) store) frame (Call hook ∷ rest) (I32Value (hook_number moment) ∷ []) [] now ≡ and_then (asked target.address target.signature vs now) (behind rest)) (sym h.2)
       (call_run hook target h.3.0 (I32Value (hook_number moment) ∷ []) rest now h.0 h.3.1 (ap (λ (t : FuncType). length t.params) h.1) (ap (λ (t : FuncType). t.results) h.1))
+  step_run (Hook hook moment) (Sets g number) rest now h =
+      subst (λ (k : ℕ). body store (exec (suc n) store) frame (Call hook ∷ rest) (I32Value (hook_number moment) ∷ []) [] now ≡ and_then (write_at g (I32Value k) now) (behind rest)) (sym h.3)
+      (cell_run hook h.0 g (hook_number moment) rest now h.1 h.2 (hook_fits moment))
   step_run (AddressToGlobal base offset global) (Sums b o g) rest now h =
       sum_run base offset b o (GlobalSet global ∷ rest) [] now h.0 h.1
       ∙ sum_alike b o now _ _ (λ s after. set_run global g (I32Value s) rest after h.2)
       ∙ sym (sum_then b o now (λ s after. write_at g (I32Value s) after) (behind rest))
   step_run (AddressToMemory base offset address) (Stores b o m a) rest now h =
-      ap (λ x. body store (exec n store) frame (sum_code base offset ++ (I32Store ∷ rest)) (I32Value x ∷ []) [] now) (of_z-to_z w32 address h.4 ∙ sym h.3)
+      ap (λ x. body store (exec (suc n) store) frame (sum_code base offset ++ (I32Store ∷ rest)) (I32Value x ∷ []) [] now) (of_z-to_z w32 address h.4 ∙ sym h.3)
       ∙ sum_run base offset b o (I32Store ∷ rest) (I32Value a ∷ []) now h.0 h.1
       ∙ sum_alike b o now _ _ (λ s after. store_run m a s rest after h.2)
       ∙ sym (sum_then b o now (λ s after. Returned [] (seen after (Stored m a s))) (behind rest))
   step_run step deed rest now h = absurd h
 
-  steps_run : (steps : List StartStep) (deeds : List Deed) (now : Now) → MeansEach store frame steps deeds → body store (exec n store) frame (flat_map start_step steps) [] [] now ≡ deeds_done deeds now
+  steps_run : (steps : List StartStep) (deeds : List Deed) (now : Now) → MeansEach store frame steps deeds → body store (exec (suc n) store) frame (flat_map start_step steps) [] [] now ≡ deeds_done deeds now
   steps_run [] [] now h = refl
   steps_run (step ∷ steps) (deed ∷ deeds) now h =
       step_run step deed (flat_map start_step steps) now h.0
@@ -166,7 +196,7 @@ done_checked (d ∷ ds) now =
 
 pub starts_act : StartsAct
 starts_act steps deeds n store frame f now there means =
-    exec_generated n store f _ [] now there
+    exec_generated (suc n) store f _ [] now there
     ∙ ap (λ o. and_then o (checked [])) (steps_run store n frame steps deeds now means)
     ∙ done_checked deeds now
 

@@ -1,14 +1,14 @@
 -- Deeds that can be done are never stuck.
-use Rattle.std.proofs.Common.{◌≡◌, ℕ, zero, suc, ◌+◌, ◌%◌, ◌^◌, List, [], ◌∷◌, map, Bool, true, false, Option, Some, None, refl, sym, ap, ◌∙◌, subst}
+use Rattle.std.proofs.Common.{◌≡◌, ℕ, zero, suc, ◌+◌, ◌^◌, List, [], ◌∷◌, map, Bool, true, false, Option, Some, refl, sym, subst}
 use Rattle.std.specs.Prelude.{slice_get, slice_set, if◌then◌else◌, nat_lt, option_map}
 use Rattle.std.proofs.lemmas.Option.{slice_get-map}
 use Rattle.std.proofs.lemmas.Bool.{lt-ltb}
 use Rattle.core_bytes.specs.declared.types.ValType.{ValType}
 use Rattle.core_bytes.specs.declared.types.ValType.TheVariants.{I32}
-use Rattle.core_runs.specs.Values.{Value, I32Value, fits, fit}
+use Rattle.core_runs.specs.Values.{Value, I32Value, fit}
 use Rattle.core_runs.specs.Store.{Cell, Kept, Foreign, Answer, Gives, Traps, Called, SetForeign, Stored, Now, Outcome, Returned, Trapped, Open, Stuck}
-use Rattle.core_runs.specs.Execution.{with_item, where_true, and_then, answered, asked, seen, renewed, read_given, read_cell, write_cell}
-use Rattle.core_runs.specs.Starts.{Deed, Fills, Calls, Sums, Stores, read_at, write_at, added, sum_of, deed_done, deeds_done}
+use Rattle.core_runs.specs.Execution.{with_item, where_true, and_then, answered, seen, renewed, read_given, read_cell, write_cell}
+use Rattle.core_runs.specs.Starts.{Deed, Fills, Calls, Sets, Sums, Stores, read_at, write_at, added, sum_of, deed_done, deeds_done}
 use Rattle.core_runs.specs.Expected.{NotStuck}
 use Rattle.core_runs.specs.LawsOfStarts.{IsNumber, CanBeDone, CanEachBeDone, DeedsAreNotStuck}
 use Rattle.core_runs.proofs.Throughout.{below}
@@ -75,6 +75,8 @@ deed_keeps (Fills g f) now h = absurd h
 deed_keeps (Calls target arguments) now h =
     let call = Called target.address arguments in
     subst (λ b. Keeps now.globals (where_true b (answered target.signature.results now.answers (seen now call)))) (sym h) (answered_keeps target.signature.results now.answers (seen now call))
+deed_keeps (Sets g number) now h =
+    write_keeps now.globals g number (slice_get now.globals g) now refl h.0 (lt-ltb number (2 ^ 32) h.1)
 deed_keeps (Sums b o g) now h =
     sum_keeps b o now (λ s after. write_at g (I32Value s) after) h.0 h.1 (λ s left fine. write_keeps now.globals g s (slice_get now.globals g) (record now { answers = left }) refl h.2 fine)
 deed_keeps (Stores b o m a) now h =
@@ -83,6 +85,7 @@ deed_keeps (Stores b o m a) now h =
 still : (old new : List Cell) (d : Deed) → ((g : ℕ) → IsNumber (slice_get old g) → IsNumber (slice_get new g)) → CanBeDone old d → CanBeDone new d
 still old new (Fills g f) keeps h = h
 still old new (Calls target arguments) keeps h = h
+still old new (Sets g number) keeps h = (keeps g h.0, h.1)
 still old new (Sums b o g) keeps h = (keeps b h.0, keeps o h.1, keeps g h.2)
 still old new (Stores b o m a) keeps h = (keeps b h.0, keeps o h.1)
 

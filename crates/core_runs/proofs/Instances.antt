@@ -10,10 +10,10 @@ use Rattle.core_bytes.specs.declared.entry.ElementSegment.TheVariants as segment
 use Rattle.core_runs.specs.Values.{Value, fit}
 use Rattle.core_runs.specs.Store.{Frame, Func, Generated, signature_of, Store, Now, ByCode, Trapped}
 use Rattle.core_runs.specs.Execution.{exec}
-use Rattle.core_runs.specs.Bodies.{table_shim}
+use Rattle.core_runs.specs.Bodies.{table_shim, table_shims}
 use Rattle.core_runs.specs.Shims.{HasBody, HoldsSlot}
 use Rattle.core_runs.specs.Instances.{cons_if, bind, all_at, own_functions, new_frame, Made, instance_of, made_of, element_done, with_table, empty_table, slots_after}
-use Rattle.core_runs.specs.LawsOfInstances.{Slot, shim_bodies, shim_parts, Typed, Extends, ShimsMade, ShimsTrapAtFirst, SegmentsFill, FilledShimsHandOn}
+use Rattle.core_runs.specs.LawsOfInstances.{Slot, shim_of, shim_parts, Typed, Extends, ShimsMade, ShimsTrapAtFirst, SegmentsFill, FilledShimsHandOn}
 use Rattle.core_runs.proofs.Runs.{has_all}
 use Rattle.core_runs.proofs.Shims.{table_shim_at}
 
@@ -22,11 +22,11 @@ abbrev pub table_functions : Frame → ℕ → List Slot → List Func
 table_functions frame k [] = []
 table_functions frame k (s ∷ ss) = Generated frame s.type [] ((table_shim (length s.type.params) k s.index).instructions) ∷ table_functions frame (k + 1) ss
 
-own_table : (frame : Frame) (k : ℕ) (shims : List Slot) → Typed frame.types shims → own_functions frame (map (λ s. s.index) shims) (shim_bodies k shims) ≡ Some (table_functions frame k shims)
+own_table : (frame : Frame) (k : ℕ) (shims : List Slot) → Typed frame.types shims → own_functions frame (map (λ s. s.index) shims) (table_shims k (map shim_of shims)) ≡ Some (table_functions frame k shims)
 own_table frame k [] h = refl
 own_table frame k (s ∷ ss) h =
     let code = (table_shim (length s.type.params) k s.index).instructions in
-    ap (λ o. cons_if (option_map (λ type. Generated frame type [] code) o) (own_functions frame (map (λ x. x.index) ss) (shim_bodies (k + 1) ss))) h.0
+    ap (λ o. cons_if (option_map (λ type. Generated frame type [] code) o) (own_functions frame (map (λ x. x.index) ss) (table_shims (k + 1) (map shim_of ss)))) h.0
     ∙ ap (λ o. cons_if (Some (Generated frame s.type [] code)) o) (own_table frame (k + 1) ss h.1)
 
 -- what making the shim module's instance leaves

@@ -6,9 +6,12 @@ pub mod Wrappers
 pub mod NotStuck
 pub mod Meetings
 pub mod Worked
+pub mod WorkedModules
 pub mod Deeds
 pub mod Throughout
 pub mod Traces
 pub mod TlsCells
 pub mod Instances
 pub mod Doable
+pub mod Makings
+pub mod RefInstances

@@ -33,7 +33,7 @@ asked_runs : (f : ℕ) (s : FuncType) (arguments : List Value) (now : Now) → f
 asked_runs f s arguments now fine =
     subst (λ (b : Bool). NotStuck (where_true b (answered s.results now.answers (seen now (Called f arguments))))) (sym fine) (answered_runs s.results now.answers (seen now (Called f arguments)))
 
-hook_fits : (m : TaskHook) → fit (I32 ∷ []) (I32Value (hook_number m) ∷ []) ≡ true
+pub hook_fits : (m : TaskHook) → fit (I32 ∷ []) (I32Value (hook_number m) ∷ []) ≡ true
 hook_fits SyncStart = refl
 hook_fits SyncFinish = refl
 hook_fits AsyncStart = refl

@@ -11,8 +11,8 @@ use Rattle.core_bytes.specs.declared.types.FuncType.{FuncType}
 use Rattle.core_runs.specs.Values.{Value, I32Value, Function, fits, fit}
 use Rattle.core_runs.specs.Store.{Cell, Kept, Foreign, Answer, Gives, Traps, Event, Called, SetForeign, Stored, Now, Outcome, Returned, Trapped, Open, Stuck}
 use Rattle.core_runs.specs.Execution.{with_item, where_true, and_then, answered, asked, seen, renewed, read_given, read_cell, write_cell}
-use Rattle.core_runs.specs.Starts.{Deed, Fills, Calls, Sums, Stores, read_at, write_at, added, sum_of, deed_done, deeds_done, Filling, filled, with_globals, Filled, NoFills, Held, Throughout}
-use Rattle.core_runs.specs.LawsOfStarts.{FilledThroughout, NumbersAreRead, AddressesAreSums}
+use Rattle.core_runs.specs.Starts.{Deed, Fills, Calls, Sets, Sums, Stores, read_at, write_at, added, sum_of, deed_done, deeds_done, Filling, filled, with_globals, Filled, NoFills, Held, Throughout}
+use Rattle.core_runs.specs.LawsOfStarts.{CellsAreSet, FilledThroughout, NumbersAreRead, AddressesAreSums}
 use Rattle.core_runs.proofs.Runs.{has_front, has_all}
 use Rattle.core_runs.proofs.Refs.{function_stays}
 
@@ -93,6 +93,8 @@ deeds_throughout P stable stays [] now no_fills h = h
 deeds_throughout P stable stays (Fills g f ∷ ds) now no_fills h = absurd no_fills
 deeds_throughout P stable stays (Calls target arguments ∷ ds) now no_fills h =
     then_throughout P (asked target.address target.signature arguments now) _ (asked_throughout P stable target.address target.signature arguments now h) (λ rs after g. deeds_throughout P stable stays ds after no_fills g)
+deeds_throughout P stable stays (Sets g number ∷ ds) now no_fills h =
+    then_throughout P (deed_done (Sets g number) now) _ (write_throughout P stays g number now (slice_get now.globals g) refl h) (λ rs after k. deeds_throughout P stable stays ds after no_fills k)
 deeds_throughout P stable stays (Sums b o g ∷ ds) now no_fills h =
     then_throughout P (deed_done (Sums b o g) now) _ (sum_meets (Throughout P) tt b o now (λ s after. write_at g (I32Value s) after) (λ left. h) (λ s left. write_throughout P stays g s (record now { answers = left }) (slice_get now.globals g) refl h)) (λ rs after g. deeds_throughout P stable stays ds after no_fills g)
 deeds_throughout P stable stays (Stores b o m a ∷ ds) now no_fills h =
@@ -154,3 +156,9 @@ addresses_are_sums base offset x y now first second one two =
           ∙ ap (λ b. where_true b (Returned [] (seen second (SetForeign what (I32Value sum))))) (below (x + y)),
       λ m a. reads (λ s after. Returned [] (seen after (Stored m a s))),
     )
+
+-- a kept cell is set
+pub cells_are_set : CellsAreSet
+cells_are_set now g old number e fine =
+    ap (λ o. with_item o (λ c. write_cell g c (I32Value number) now (λ after. Returned [] after))) e
+    ∙ ap (λ b. where_true b (Returned [] (with_globals now (slice_set now.globals g (Kept I32 (I32Value number)))))) (lt-ltb number (2 ^ 32) fine)

@@ -6,7 +6,7 @@ use Rattle.core_bytes.specs.declared.types.ValType.{ValType}
 use Rattle.core_runs.specs.Values.{Value, I32Value, Function, fits, fit}
 use Rattle.core_runs.specs.Store.{Cell, Kept, Foreign, Answer, Gives, Traps, Event, Called, SetForeign, Stored, Now, Outcome, Returned, Trapped, Open, Stuck}
 use Rattle.core_runs.specs.Execution.{with_item, and_then, answered, seen, write_cell}
-use Rattle.core_runs.specs.Starts.{Deed, Fills, Calls, Sums, Stores, write_at, deed_done, deeds_done, Written, Makes, MakesEach, Traced}
+use Rattle.core_runs.specs.Starts.{Deed, Fills, Calls, Sets, Sums, Stores, write_at, deed_done, deeds_done, Written, Makes, MakesEach, Traced}
 use Rattle.core_runs.specs.LawsOfStarts.{DeedsAreTraced}
 use Rattle.core_runs.proofs.Throughout.{if_meets, sum_meets, where_meets}
 
@@ -63,6 +63,8 @@ deed_traced (Calls target arguments) ds now =
     let call = Called target.address arguments in
     where_meets (FirstTraced (Calls target arguments) ds now.events) tt (fit target.signature.params arguments) _ (λ fine.
     answered_traced (Calls target arguments) ds now.events call target.signature.results now.answers (seen now call) refl refl)
+deed_traced (Sets g number) ds now =
+    write_traced (Sets g number) ds g (I32Value number) now (slice_get now.globals g) (λ events h. h)
 deed_traced (Sums b o g) ds now =
     let d = Sums b o g in
     sum_meets (FirstTraced d ds now.events) tt b o now (λ s after. write_at g (I32Value s) after) (λ left. none_yet d ds now.events (record now { answers = left }) refl) (λ s left. write_traced d ds g (I32Value s) (record now { answers = left }) (slice_get now.globals g) (λ events h. (s, h)))

@@ -1,9 +1,13 @@
 -- The bodies that generated modules are made of, as values.
 -- Core standard, structure: functions, instructions (calls through a table, references to functions and tail calls).
-use Rattle.std.specs.Prelude.{ℕ, ℤ, pos, List, [], ◌∷◌, ◌++◌, map, Option, Some, None}
+use Rattle.std.specs.Prelude.{ℕ, ◌+◌, ℤ, pos, List, [], ◌∷◌, ◌++◌, map, Option, Some, None}
 use Rattle.std.specs.List.{range_with_len, flat_map}
 use Rattle.std.specs.Int.{cast_signed, w32}
 use Rattle.core_bytes.specs.declared.types.ValType.TheVariants.{I32}
+use Rattle.core_bytes.specs.declared.types.RefType.TheVariants.{FuncRef}
+use Rattle.core_bytes.specs.declared.types.TableType.{TableType}
+use Rattle.core_bytes.specs.declared.entry.ElementSegment.{ElementSegment}
+use Rattle.core_bytes.specs.declared.entry.ElementSegment.TheVariants as segments
 use Rattle.core_bytes.specs.declared.code.Instruction.{Instruction}
 use Rattle.core_bytes.specs.declared.code.Instruction.TheVariants.{Unreachable, Call, CallIndirect, ReturnCallRef, Select, LocalGet, LocalSet, GlobalGet, GlobalSet, I32Const, I32Add, I32Store, RefFunc}
 use Rattle.core_bytes.specs.declared.code.LocalRun.{LocalRun}
@@ -13,8 +17,10 @@ use Rattle.core_runs.specs.declared.bracket.TaskHook.TheVariants.{AsyncBlock, As
 use Rattle.core_runs.specs.declared.bracket.AfterHook.{AfterHook}
 use Rattle.core_runs.specs.declared.bracket.AfterHook.TheVariants.{Nothing, Always, ByStatus}
 use Rattle.core_runs.specs.declared.bracket.Bracket.{Bracket}
+use Rattle.core_runs.specs.declared.start.GlobalFill.{GlobalFill}
 use Rattle.core_runs.specs.declared.start.StartStep.{StartStep}
 use Rattle.core_runs.specs.declared.start.StartStep.TheVariants.{Fill, Thunk, Hook, AddressToGlobal, AddressToMemory}
+use Rattle.core_runs.specs.declared.tables.Shim.{Shim}
 use Rattle.core_runs.specs.Hooks.{hook_number}
 
 -- a body with no local variables
@@ -31,6 +37,19 @@ table_shim_code n place type = gets n ++ (I32Const place ∷ CallIndirect type 0
 
 abbrev pub table_shim : ℕ → ℕ → ℕ → Body
 table_shim n place type = plain (table_shim_code n (cast_signed w32 place) type)
+
+-- The bodies of shims from a place on: each goes through the place of its own.
+abbrev pub table_shims : ℕ → List Shim → List Body
+table_shims place [] = []
+table_shims place (s ∷ ss) = table_shim s.params place s.type_index ∷ table_shims (place + 1) ss
+
+-- A table of n places for functions, no more and no less.
+abbrev pub table_of_shims : ℕ → TableType
+table_of_shims n = record { element_type = FuncRef; minimum = n; maximum = Some n }
+
+-- What fills table 0 with functions, from its first place on.
+abbrev pub table_fill : List ℕ → ElementSegment
+table_fill functions = segments.Active None (pos 0) functions
 
 -- A shim in the reference form: of n parameters, through a global.
 abbrev pub ref_shim_code : ℕ → ℕ → ℕ → List Instruction
@@ -87,6 +106,10 @@ start_step (Hook hook moment) = hook_call hook moment
 start_step (AddressToGlobal base offset global) = sum_code base offset ++ (GlobalSet global ∷ [])
 start_step (AddressToMemory base offset address) =
     I32Const (cast_signed w32 address) ∷ (sum_code base offset ++ (I32Store ∷ []))
+
+-- a fill, as a step
+abbrev pub fill_step : GlobalFill → StartStep
+fill_step f = Fill f.global f.function
 
 -- A start function: its steps in order.
 abbrev pub start : List StartStep → Body

@@ -1,16 +1,16 @@
--- Laws of the table form as modules: the shims' instance, and the fill of its table.
+-- Laws of instances: their functions; and of the table form as modules: the shims' instance, and the fill of its table.
 -- This project's own, over the core standard's instantiation.
-use Rattle.std.specs.Prelude.{◌≡◌, ℕ, suc, pos, true, ◌+◌, ◌≤◌, ◌^◌, List, [], ◌∷◌, ◌++◌, length, map, Option, Some, None, slice_get}
-use Rattle.core_bytes.specs.declared.types.RefType.TheVariants.{FuncRef}
+use Rattle.std.specs.Prelude.{◌≡◌, ℕ, suc, true, ◌+◌, ◌≤◌, ◌^◌, List, [], ◌∷◌, ◌++◌, length, map, Option, Some, None, slice_get}
 use Rattle.core_bytes.specs.declared.types.FuncType.{FuncType}
 use Rattle.core_bytes.specs.declared.code.Body.{Body}
-use Rattle.core_bytes.specs.declared.entry.ElementSegment.TheVariants as segments
 use Rattle.core_bytes.specs.declared.section.Section.{Section}
 use Rattle.core_runs.specs.Values.{Value, fit}
 use Rattle.core_runs.specs.Store.{Frame, Func, signature_of, Store, Now, ByCode, Trapped}
 use Rattle.core_runs.specs.Execution.{exec}
-use Rattle.core_runs.specs.Bodies.{table_shim}
-use Rattle.core_runs.specs.Instances.{Parts, Made, instance_of, all_at, element_done}
+use Rattle.core_runs.specs.declared.tables.Shim.{Shim}
+use Rattle.core_runs.specs.Bodies.{table_shims, table_of_shims, table_fill}
+use Rattle.core_runs.specs.Shims.{HasBody}
+use Rattle.core_runs.specs.Instances.{Parts, Given, Made, new_frame, instance_of, all_at, element_done}
 use Rattle.core_runs.specs.Sections.{parts_of}
 
 -- a shim: its type, and that type's index
@@ -18,10 +18,9 @@ pub record Slot : Type 0 where
   pub index : ℕ
   pub type : FuncType
 
--- the bodies of the shims from a place on
-abbrev pub shim_bodies : ℕ → List Slot → List Body
-shim_bodies place [] = []
-shim_bodies place (s ∷ ss) = table_shim (length s.type.params) place s.index ∷ shim_bodies (place + 1) ss
+-- what the shim's code is made of
+abbrev pub shim_of : Slot → Shim
+shim_of s = record { params = length s.type.params; type_index = s.index }
 
 -- A module of shims in the table form: a table with a slot a shim, and nothing else but types and shims.
 abbrev pub shim_parts : List FuncType → List Slot → Parts
@@ -29,12 +28,12 @@ shim_parts types shims = record {
   types = types;
   imports = [];
   functions = map (λ s. s.index) shims;
-  tables = record { element_type = FuncRef; minimum = length shims; maximum = Some (length shims) } ∷ [];
+  tables = table_of_shims (length shims) ∷ [];
   memories = [];
   globals = [];
   start = None;
   elements = [];
-  bodies = shim_bodies 0 shims;
+  bodies = table_shims 0 (map shim_of shims);
   segments = [];
 }
 
@@ -49,6 +48,18 @@ pub record Extends (old new : Store) : Type 0 where
   pub more_tables : List (List (Option ℕ))
   pub functions : new.functions ≡ old.functions ++ more_functions
   pub tables : new.tables ≡ old.tables ++ more_tables
+
+-- The module's own function `f`, counted from 0, has this type, by this index, and this body.
+abbrev pub Defines : Parts → ℕ → ℕ → FuncType → Body → Type 0
+Defines m f index type code = (slice_get m.functions f ≡ Some index) × (slice_get m.types index ≡ Some type) × (slice_get m.bodies f ≡ Some code)
+
+-- An instance has the functions of its module, behind all that the store had, in a frame by which the module's indices
+-- name what was given and what is its own; and they stay, whatever is made after it.
+abbrev pub InstancesDefine : Type 0
+InstancesDefine =
+    (m : Parts) (given : List Given) (store : Store) (now : Now) (made : Made) → instance_of m given store now ≡ Some made →
+    (made.frame ≡ new_frame m given store now)
+    × ((f index : ℕ) (type : FuncType) (code : Body) (later : Store) → Defines m f index type code → Extends made.store later → HasBody later (length store.functions + f) made.frame type code)
 
 -- The sections are those of a module of shims, of which an instance is made.
 pub record ShimsMade (types : List FuncType) (shims : List Slot) (store : Store) (now : Now) (made : Made) : Type 0 where
@@ -66,7 +77,7 @@ ShimsTrapAtFirst =
 -- An element segment of another instance fills its table from slot 0 on.
 abbrev pub SegmentsFill : Type 0
 SegmentsFill =
-    (types : List FuncType) (shims : List Slot) (store : Store) (now : Now) (made : Made) (later : Store) (frame : Frame) (fs addresses : List ℕ) → ShimsMade types shims store now made → (e : Extends made.store later) → slice_get frame.tables 0 ≡ Some (length store.tables) → all_at frame.functions fs ≡ Some addresses → length addresses ≡ length shims → element_done frame (segments.Active None (pos 0) fs) later.tables ≡ Some (store.tables ++ map (λ a. Some a) addresses ∷ e.more_tables)
+    (types : List FuncType) (shims : List Slot) (store : Store) (now : Now) (made : Made) (later : Store) (frame : Frame) (fs addresses : List ℕ) → ShimsMade types shims store now made → (e : Extends made.store later) → slice_get frame.tables 0 ≡ Some (length store.tables) → all_at frame.functions fs ≡ Some addresses → length addresses ≡ length shims → element_done frame (table_fill fs) later.tables ≡ Some (store.tables ++ map (λ a. Some a) addresses ∷ e.more_tables)
 
 -- Where the table's slots hold these functions, each shim does what its function does.
 abbrev pub FilledShimsHandOn : Type 0

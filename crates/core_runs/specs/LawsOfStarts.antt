@@ -1,6 +1,6 @@
 -- Laws of start functions: what the values of `Bodies` do.
 -- This project's own, over the core standard's execution of instructions.
-use Rattle.std.specs.Prelude.{◌≡◌, ℕ, suc, ◌+◌, ◌%◌, ◌^◌, List, [], ◌∷◌, ◌++◌, length, map, true, Some, slice_get, slice_set, Option}
+use Rattle.std.specs.Prelude.{◌≡◌, ℕ, suc, ◌+◌, ◌%◌, ◌<◌, ◌^◌, List, [], ◌∷◌, ◌++◌, length, map, true, Some, slice_get, slice_set, Option}
 use Rattle.core_bytes.specs.declared.types.ValType.TheVariants.{I32}
 use Rattle.core_runs.specs.declared.start.StartStep.{StartStep}
 use Rattle.core_runs.specs.Values.{Value, I32Value, fits, fit}
@@ -9,17 +9,17 @@ use Rattle.core_runs.specs.Execution.{seen, exec}
 use Rattle.core_runs.specs.Bodies.{start}
 use Rattle.core_runs.specs.Expected.{NotStuck}
 use Rattle.core_runs.specs.Shims.{HasBody}
-use Rattle.core_runs.specs.Starts.{start_signature, Deed, Sums, Stores, MeansEach, read_at, deed_done, deeds_done, Filling, unfilled, filled, fill_deeds, with_globals, Filled, NoFills, Throughout, Traced, Fills, Calls}
+use Rattle.core_runs.specs.Starts.{start_signature, Deed, Sets, Sums, Stores, MeansEach, read_at, deed_done, deeds_done, Filling, unfilled, filled, fill_deeds, with_globals, Filled, NoFills, Throughout, Traced, Fills, Calls}
 
--- A start function does the deeds that its steps mean, in order.
+-- A start function does the deeds that its steps mean, in order. At most two generated functions are in progress.
 abbrev pub StartsAct : Type 0
 StartsAct =
-    (steps : List StartStep) (deeds : List Deed) (n : ℕ) (store : Store) (frame : Frame) (f : ℕ) (now : Now) → HasBody store f frame start_signature (start steps) → MeansEach store frame steps deeds → exec (suc n) store f [] now ≡ deeds_done deeds now
+    (steps : List StartStep) (deeds : List Deed) (n : ℕ) (store : Store) (frame : Frame) (f : ℕ) (now : Now) → HasBody store f frame start_signature (start steps) → MeansEach store frame steps deeds → exec (suc (suc n)) store f [] now ≡ deeds_done deeds now
 
 -- One that begins with fills goes on where all is filled and nothing else has changed: fills make no event.
 abbrev pub StartsFillFirst : Type 0
 StartsFillFirst =
-    (steps : List StartStep) (fills : List Filling) (deeds : List Deed) (pre post : List Cell) (n : ℕ) (store : Store) (frame : Frame) (f : ℕ) (now : Now) → HasBody store f frame start_signature (start steps) → MeansEach store frame steps (fill_deeds (length pre) fills ++ deeds) → now.globals ≡ pre ++ (map unfilled fills ++ post) → exec (suc n) store f [] now ≡ deeds_done deeds (with_globals now (pre ++ (map filled fills ++ post)))
+    (steps : List StartStep) (fills : List Filling) (deeds : List Deed) (pre post : List Cell) (n : ℕ) (store : Store) (frame : Frame) (f : ℕ) (now : Now) → HasBody store f frame start_signature (start steps) → MeansEach store frame steps (fill_deeds (length pre) fills ++ deeds) → now.globals ≡ pre ++ (map unfilled fills ++ post) → exec (suc (suc n)) store f [] now ≡ deeds_done deeds (with_globals now (pre ++ (map filled fills ++ post)))
 
 -- Deeds make exactly their events, in order; also in a run that ends early, as far as it came.
 abbrev pub DeedsAreTraced : Type 0
@@ -48,6 +48,11 @@ AddressesAreSums =
     × ((g what : ℕ) → slice_get second.globals g ≡ Some (Foreign what I32) → deed_done (Sums base offset g) now ≡ Returned [] (seen second (SetForeign what (I32Value ((x + y) % 2 ^ 32)))))
     × ((memory address : ℕ) → deed_done (Stores base offset memory address) now ≡ Returned [] (seen second (Stored memory address ((x + y) % 2 ^ 32))))
 
+-- A kept cell that is set holds the number, with no event.
+abbrev pub CellsAreSet : Type 0
+CellsAreSet =
+    (now : Now) (g old number : ℕ) → slice_get now.globals g ≡ Some (Kept I32 (I32Value old)) → number < 2 ^ 32 → deed_done (Sets g number) now ≡ Returned [] (with_globals now (slice_set now.globals g (Kept I32 (I32Value number))))
+
 -- an `i32` stands here, kept or a user's
 abbrev pub IsNumber : Option Cell → Type 0
 IsNumber (Some (Kept I32 (I32Value x))) = Unit {0}
@@ -58,6 +63,7 @@ IsNumber cell = ⊥
 abbrev pub CanBeDone : List Cell → Deed → Type 0
 CanBeDone globals (Fills g f) = ⊥
 CanBeDone globals (Calls target arguments) = fit target.signature.params arguments ≡ true
+CanBeDone globals (Sets g number) = IsNumber (slice_get globals g) × (number < 2 ^ 32)
 CanBeDone globals (Sums base offset g) = IsNumber (slice_get globals base) × IsNumber (slice_get globals offset) × IsNumber (slice_get globals g)
 CanBeDone globals (Stores base offset memory address) = IsNumber (slice_get globals base) × IsNumber (slice_get globals offset)
 

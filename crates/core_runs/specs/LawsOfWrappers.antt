@@ -7,7 +7,7 @@ use Rattle.core_runs.specs.declared.bracket.TaskHook.TheVariants.{AsyncBlock, As
 use Rattle.core_runs.specs.declared.bracket.AfterHook.TheVariants.{Nothing, Always, ByStatus}
 use Rattle.core_runs.specs.declared.bracket.Bracket.{Bracket}
 use Rattle.core_runs.specs.Values.{Value, I32Value, fit}
-use Rattle.core_runs.specs.Store.{Frame, Store, Now, Outcome, Returned, Trapped, Open, Stuck}
+use Rattle.core_runs.specs.Store.{Frame, Store, Now, Outcome, Returned}
 use Rattle.core_runs.specs.Execution.{and_then, asked, exec, acts}
 use Rattle.core_runs.specs.Expected.{Known, Is, hooked, expected, MeetsWithin, NotStuck}
 use Rattle.core_runs.specs.Bodies.{wrapper}

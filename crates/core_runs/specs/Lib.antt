@@ -14,3 +14,4 @@ pub mod LawsOfWrappers
 pub mod Instances
 pub mod Sections
 pub mod LawsOfInstances
+pub mod LawsOfRefInstances

@@ -12,6 +12,8 @@ use Rattle.core_runs.specs.Values.{Value, I32Value, Function}
 use Rattle.core_runs.specs.Store.{Frame, Store, Cell, Kept, Event, Called, SetForeign, Stored, Now, Outcome, Returned, Trapped, Open, Stuck}
 use Rattle.core_runs.specs.Execution.{with_item, and_then, asked, seen, read_cell, write_cell}
 use Rattle.core_runs.specs.Expected.{Known, Is, hook_signature}
+use Rattle.core_runs.specs.Bodies.{tls_set}
+use Rattle.core_runs.specs.Shims.{HasBody}
 
 -- the values stand in the list from this place on
 abbrev pub HasAt : {X : Type 0} → List X → ℕ → List X → Type 0
@@ -23,20 +25,31 @@ abbrev pub start_signature : FuncType
 start_signature = record { params = []; results = [] }
 
 -- What a step does, with addresses in the store: a global gets a function; a function is called from outside; a global
--- gets the sum of two others; the sum of two globals is stored.
+-- gets a number; a global gets the sum of two others; the sum of two globals is stored.
 pub data Deed : Type 0 where
   Fills : (global function : ℕ) → Deed
   Calls : (target : Known) → (arguments : List Value) → Deed
+  Sets : (global number : ℕ) → Deed
   Sums : (base offset global : ℕ) → Deed
   Stores : (base offset memory address : ℕ) → Deed
 
--- A step of a module of this frame means the deed: its indices name what the deed works on.
+-- The function at this address is one that sets a thread-local cell, the global at that one, whatever its module.
+pub record SetsCell (store : Store) (f global : ℕ) : Type 0 where
+  pub frame : Frame
+  pub local : ℕ
+  pub has : HasBody store f frame hook_signature (tls_set local)
+  pub names : slice_get frame.globals local ≡ Some global
+
+-- A step of a module of this frame means the deed: its indices name what the deed works on. A task hook may be a
+-- generated function that sets a cell to the hook's number.
 abbrev pub Means : Store → Frame → StartStep → Deed → Type 0
 Means store frame (Fill global function) (Fills g f) = (slice_get frame.functions function ≡ Some f) × (slice_get frame.globals global ≡ Some g)
 Means store frame (Thunk function) (Calls target arguments) =
     (slice_get frame.functions function ≡ Some target.address) × (target.signature ≡ start_signature) × (arguments ≡ []) × ((what : ℕ) × Is store target what)
 Means store frame (Hook hook moment) (Calls target arguments) =
     (slice_get frame.functions hook ≡ Some target.address) × (target.signature ≡ hook_signature) × (arguments ≡ I32Value (hook_number moment) ∷ []) × ((what : ℕ) × Is store target what)
+Means store frame (Hook hook moment) (Sets g number) =
+    (f : ℕ) × (slice_get frame.functions hook ≡ Some f) × SetsCell store f g × (number ≡ hook_number moment)
 Means store frame (AddressToGlobal base offset global) (Sums b o g) =
     (slice_get frame.globals base ≡ Some b) × (slice_get frame.globals offset ≡ Some o) × (slice_get frame.globals global ≡ Some g)
 Means store frame (AddressToMemory base offset address) (Stores b o m a) =
@@ -70,6 +83,7 @@ sum_of base offset now go =
 abbrev pub deed_done : Deed → Now → Outcome
 deed_done (Fills g f) now = write_at g (Function f) now
 deed_done (Calls target arguments) now = asked target.address target.signature arguments now
+deed_done (Sets g number) now = write_at g (I32Value number) now
 deed_done (Sums base offset g) now = sum_of base offset now (λ sum after. write_at g (I32Value sum) after)
 deed_done (Stores base offset memory address) now =
     sum_of base offset now (λ sum after. Returned [] (seen after (Stored memory address sum)))
@@ -130,6 +144,7 @@ Written v events = ⊥
 abbrev pub Makes : Deed → List Event → Type 0
 Makes (Fills g f) events = Written (Function f) events
 Makes (Calls target arguments) events = events ≡ Called target.address arguments ∷ []
+Makes (Sets g number) events = Written (I32Value number) events
 Makes (Sums base offset g) events = (sum : ℕ) × Written (I32Value sum) events
 Makes (Stores base offset memory address) events = (sum : ℕ) × (events ≡ Stored memory address sum ∷ [])
 

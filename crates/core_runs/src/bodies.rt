@@ -3,13 +3,13 @@
 //! Core standard, structure: functions, instructions. Each call answers the value of
 //! `specs/Bodies.antt`, and refuses only for want of memory.
 
-ghost use Rattle.std.specs.Prelude.{◌≡◌, ◌∷◌, ◌++◌, [], IfOk, OnOk};
+ghost use Rattle.std.specs.Prelude.{◌≡◌, ◌∷◌, ◌++◌, [], map, flat_map, IfOk, OnOk};
 ghost use Rattle.core_runs.specs.Bodies as bodies;
 ghost use Rattle.core_runs.specs.Shims.{ShimBySlot, ShimByGlobal};
 ghost use Rattle.core_runs.specs.Wrappers.{WrapperOf};
 
 use crate::bracket::{AfterHook, Bracket, TaskHook};
-use crate::start::StartStep;
+use crate::start::{GlobalFill, StartStep};
 use comp_lists::Seq;
 use core_bytes::{Body, Instruction, LocalRun, ValType};
 use std::alloc::{AllocError, Global};
@@ -90,14 +90,18 @@ pub fn wrapper_body(
     })
 }
 
-/// A start function: its steps, in order.
-pub fn start_body(alloc: Global, steps: &[StartStep]) -> Result<Body, AllocError>
-    ensures { IfOk result (λ made. made ≡ bodies.start steps.now) }
+/// A start function: all fills first, and then the steps, each in order.
+#[tactic(auto, using(crate::proofs::Growing::steps_joined))]
+pub fn start_body(
+    alloc: Global,
+    fills: &[GlobalFill],
+    steps: &[StartStep],
+) -> Result<Body, AllocError>
+    ensures { IfOk result (λ made. made ≡ bodies.start (map bodies.fill_step fills.now ++ steps.now)) }
 {
     let mut code = Vec::new(alloc);
-    for step in steps {
-        put_step(&mut code, *step)?;
-    }
+    put_fills(&mut code, fills)?;
+    put_steps(&mut code, steps)?;
     Ok(plain(alloc, code))
 }
 
@@ -225,6 +229,32 @@ fn put_sum(code: &mut Vec<Instruction>, base: u32, offset: u32) -> Result<(), Al
     put(code, Instruction::GlobalGet(base))?;
     put(code, Instruction::GlobalGet(offset))?;
     put(code, Instruction::I32Add)
+}
+
+/// The fills of a start function, in order.
+fn put_fills(code: &mut Vec<Instruction>, fills: &[GlobalFill]) -> Result<(), AllocError>
+    ensures { OnOk result (code.new.items ≡ code.old.items ++ flat_map bodies.start_step (map bodies.fill_step fills.now)) }
+{
+    for fill in fills {
+        put_step(
+            code,
+            StartStep::Fill {
+                global: fill.global,
+                function: fill.function,
+            },
+        )?;
+    }
+    Ok(())
+}
+
+/// The steps of a start function, in order.
+fn put_steps(code: &mut Vec<Instruction>, steps: &[StartStep]) -> Result<(), AllocError>
+    ensures { OnOk result (code.new.items ≡ code.old.items ++ flat_map bodies.start_step steps.now) }
+{
+    for step in steps {
+        put_step(code, *step)?;
+    }
+    Ok(())
 }
 
 /// One step of a start function.

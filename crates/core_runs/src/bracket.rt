@@ -2,8 +2,9 @@
 //!
 //! A task hook is a function of one `i32` that tells a host at which point of a task the guest is.
 
-ghost use Rattle.std.specs.Prelude.{◌≡◌, pos};
-ghost use Rattle.core_runs.specs.Hooks.{hook_number};
+ghost use Rattle.std.specs.Prelude.{◌≡◌, pos, Some};
+ghost use Rattle.core_runs.specs.Hooks.{hook_number, around, bracket_of};
+ghost use Rattle.core_runs.specs.declared.bracket.AfterHook.TheVariants.{Always, ByStatus};
 
 /// The moments at which a task hook is called, by the numbers that it is given.
 #[derive(Clone, Copy, PartialEq, Eq, Debug)]
@@ -45,4 +46,64 @@ pub enum AfterHook {
 pub struct Bracket {
     pub before: Option<TaskHook>,
     pub after: AfterHook,
+}
+
+/// What is wrapped where there is a task hook. An entry is the core function of a lift; one with a
+/// post-return is still running when its results are read, and ends with the post-return.
+#[derive(Clone, Copy, PartialEq, Eq, Debug)]
+pub enum Bracketed {
+    SyncEntry,
+    SyncEntryWithPostReturn,
+    PostReturn,
+    AsyncEntryWithCallback,
+    Callback,
+    StackfulEntry,
+    Destructor,
+    Realloc,
+}
+
+impl Bracketed {
+    /// The hooks round it.
+    pub fn bracket(self) -> Bracket
+        ensures { result ≡ bracket_of self }
+    {
+        match self {
+            Bracketed::SyncEntry => between(TaskHook::SyncStart, TaskHook::SyncFinish),
+            Bracketed::SyncEntryWithPostReturn => Bracket {
+                before: Some(TaskHook::SyncStart),
+                after: AfterHook::Nothing,
+            },
+            Bracketed::PostReturn => Bracket {
+                before: None,
+                after: AfterHook::Always(TaskHook::SyncFinish),
+            },
+            Bracketed::AsyncEntryWithCallback => by_status(TaskHook::AsyncStart),
+            Bracketed::Callback => by_status(TaskHook::AsyncResume),
+            Bracketed::StackfulEntry => between(TaskHook::AsyncStart, TaskHook::AsyncFinish),
+            Bracketed::Destructor => {
+                between(TaskHook::ResourceDtorStart, TaskHook::ResourceDtorFinish)
+            }
+            Bracketed::Realloc => between(TaskHook::ReallocStart, TaskHook::ReallocFinish),
+        }
+    }
+}
+
+/// A hook before the call, and one after it.
+fn between(first: TaskHook, last: TaskHook) -> Bracket
+    ensures { result ≡ around (Some first) (Always last) }
+{
+    Bracket {
+        before: Some(first),
+        after: AfterHook::Always(last),
+    }
+}
+
+/// A hook before the call, and one after it by the code that it gives.
+fn by_status(first: TaskHook) -> Bracket
+    ensures { result ≡ around (Some first) ByStatus }
+{
+    Bracket {
+        before: Some(first),
+        after: AfterHook::ByStatus,
+    }
 }

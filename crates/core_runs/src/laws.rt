@@ -1,7 +1,8 @@
 //! What the bodies do: each function's contract is a law, and its body does nothing.
 
-ghost use Rattle.core_runs.specs.LawsOfInstances.{ShimsTrapAtFirst, SegmentsFill, FilledShimsHandOn};
-ghost use Rattle.core_runs.specs.LawsOfStarts.{StartsAct, StartsFillFirst, DeedsAreTraced, FilledThroughout, NumbersAreRead, AddressesAreSums, DeedsAreNotStuck};
+ghost use Rattle.core_runs.specs.LawsOfInstances.{InstancesDefine, ShimsTrapAtFirst, SegmentsFill, FilledShimsHandOn};
+ghost use Rattle.core_runs.specs.LawsOfRefInstances.{RefShimsAreUnfilled, RefShimsTrapAtFirst, FilledRefShimsHandOn};
+ghost use Rattle.core_runs.specs.LawsOfStarts.{StartsAct, StartsFillFirst, DeedsAreTraced, FilledThroughout, NumbersAreRead, CellsAreSet, AddressesAreSums, DeedsAreNotStuck};
 ghost use Rattle.core_runs.specs.Cells.{TlsIsOneCell};
 ghost use Rattle.core_runs.specs.LawsOfShims.{TableShimsHandOn, EmptyTableShimsTrap, RefShimsHandOn, StubsTrap, EmptyRefShimsTrap};
 ghost use Rattle.core_runs.specs.LawsOfWrappers.{WrappersAct, ExpectedShapes, CallbacksAct, TargetsAreMet, ExpectedIsNotStuck};
@@ -78,6 +79,11 @@ pub fn numbers_are_read()
     ensures { NumbersAreRead }
 {}
 
+/// A thread-local cell that a start function sets holds the number, with no event.
+pub fn cells_are_set()
+    ensures { CellsAreSet }
+{}
+
 /// An address is initialised to the sum of two globals: in a global, or in memory 0.
 pub fn addresses_are_sums()
     ensures { AddressesAreSums }
@@ -111,4 +117,25 @@ pub fn filled_shims_hand_on()
 /// Deeds that can be done are never stuck.
 pub fn deeds_are_not_stuck()
     ensures { DeedsAreNotStuck }
+{}
+
+/// An instance has the functions of its module, and they stay, whatever is made after it.
+pub fn instances_define()
+    ensures { InstancesDefine }
+{}
+
+/// Where an instance of shims in the reference form is made, each global holds its stub, and a start
+/// function that begins with fills can fill them.
+pub fn ref_shims_are_unfilled()
+    ensures { RefShimsAreUnfilled }
+{}
+
+/// Before its global is filled each shim of that instance traps, with no event, whatever else is made.
+pub fn ref_shims_trap_at_first()
+    ensures { RefShimsTrapAtFirst }
+{}
+
+/// Where the global of a shim of that instance holds a function, the shim acts as that function.
+pub fn filled_ref_shims_hand_on()
+    ensures { FilledRefShimsHandOn }
 {}

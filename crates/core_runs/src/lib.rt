@@ -7,32 +7,37 @@
 //!
 //! The bodies are those of shims, which hand a call on to what a slot of a table or a global holds; of
 //! stubs; of wrappers, which call task hooks round a function ([`Bracket`]); of start functions
-//! ([`StartStep`]); and of the two functions of a thread-local cell. Upward this crate promises: a body
+//! ([`StartStep`]); and of the two functions of a thread-local cell. Beside them stand the table of
+//! shims and what fills it ([`table_of_shims`], [`table_fill`]). Upward this crate promises: a body
 //! is the value of `specs/Bodies.antt`, and does what the contract says for all arguments, answers and
 //! types, and whatever else stands in the store.
 //!
 //! In reading order: `bracket` (task hooks), `start` (steps of start functions), `bodies` (what is
-//! built), `laws` (what the bodies do). `specs/Instances.antt` says what making an instance of a module
-//! does. Worked examples stand in `proofs/Worked.antt`.
+//! built), `tables` (shims of a module in the table form), `laws` (what the bodies do). `specs/Instances.antt` says what making an instance of a module
+//! does. Worked examples stand in `proofs/Worked.antt` (bodies) and `proofs/WorkedModules.antt` (whole
+//! modules, made and run).
 #![tactic(auto)]
 
 mod bodies;
 mod bracket;
 mod laws;
 mod start;
+mod tables;
 
 pub use bodies::{
     ref_shim_body, start_body, stub_body, table_shim_body, tls_get_body, tls_set_body, wrapper_body,
 };
-pub use bracket::{AfterHook, Bracket, TaskHook};
+pub use bracket::{AfterHook, Bracket, Bracketed, TaskHook};
 pub use laws::{
-    addresses_are_sums, callbacks_act, deeds_are_not_stuck, deeds_are_traced, empty_ref_shims_trap,
-    empty_table_shims_trap, expected_is_not_stuck, expected_shapes, filled_shims_hand_on,
-    filled_throughout, numbers_are_read, ref_shims_hand_on, segments_fill, shims_trap_at_first,
-    starts_act, starts_fill_first, stubs_trap, table_shims_hand_on, targets_are_met,
-    tls_is_one_cell, wrappers_act,
+    addresses_are_sums, callbacks_act, cells_are_set, deeds_are_not_stuck, deeds_are_traced,
+    empty_ref_shims_trap, empty_table_shims_trap, expected_is_not_stuck, expected_shapes,
+    filled_ref_shims_hand_on, filled_shims_hand_on, filled_throughout, instances_define,
+    numbers_are_read, ref_shims_are_unfilled, ref_shims_hand_on, ref_shims_trap_at_first,
+    segments_fill, shims_trap_at_first, starts_act, starts_fill_first, stubs_trap,
+    table_shims_hand_on, targets_are_met, tls_is_one_cell, wrappers_act,
 };
-pub use start::StartStep;
+pub use start::{GlobalFill, StartStep};
+pub use tables::{Shim, table_fill, table_of_shims, table_shim_bodies};
 
 #[cfg(test)]
 mod tests;

@@ -2,6 +2,13 @@
 
 use crate::bracket::TaskHook;
 
+/// A global of the module that gets a reference to one of its functions, by their indices.
+#[derive(Clone, Copy, PartialEq, Eq, Debug)]
+pub struct GlobalFill {
+    pub global: u32,
+    pub function: u32,
+}
+
 /// A step of a start function, with indices of its module.
 #[derive(Clone, Copy, PartialEq, Eq, Debug)]
 pub enum StartStep {

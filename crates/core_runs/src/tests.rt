@@ -4,7 +4,7 @@ use crate::bodies::{
     ref_shim_body, start_body, stub_body, table_shim_body, tls_get_body, tls_set_body, wrapper_body,
 };
 use crate::bracket::{AfterHook, Bracket, TaskHook};
-use crate::start::StartStep;
+use crate::start::{GlobalFill, StartStep};
 use comp_bytes::spelled;
 use core_bytes::Body;
 use std::alloc::{AllocError, Global};
@@ -113,11 +113,11 @@ fn a_post_return_is_wrapped(rt: HostRuntime) {
 #[test]
 fn start_functions_have_their_steps_in_order(rt: HostRuntime) {
     let alloc = rt.alloc();
+    let fills = [GlobalFill {
+        global: 1,
+        function: 2,
+    }];
     let steps = [
-        StartStep::Fill {
-            global: 1,
-            function: 2,
-        },
         StartStep::Hook {
             hook: 3,
             moment: TaskHook::InitializeStart,
@@ -127,7 +127,7 @@ fn start_functions_have_their_steps_in_order(rt: HostRuntime) {
     assert!(rt;
         is_spelled(
             alloc,
-            start_body(alloc, steps.as_slice()),
+            start_body(alloc, &fills, &steps),
             &[
                 0x0c, 0x00, 0xd2, 0x02, 0x24, 0x01, 0x41, 0x06, 0x10, 0x03, 0x10, 0x04, 0x0b
             ]
@@ -146,7 +146,7 @@ fn addresses_are_initialised(rt: HostRuntime) {
     assert!(rt;
         is_spelled(
             alloc,
-            start_body(alloc, memory.as_slice()),
+            start_body(alloc, &[], &memory),
             &[
                 0x0d, 0x00, 0x41, 0xc0, 0x00, 0x23, 0x00, 0x23, 0x01, 0x6a, 0x36, 0x02, 0x00, 0x0b
             ]
@@ -160,7 +160,7 @@ fn addresses_are_initialised(rt: HostRuntime) {
     assert!(rt;
         is_spelled(
             alloc,
-            start_body(alloc, global.as_slice()),
+            start_body(alloc, &[], &global),
             &[0x09, 0x00, 0x23, 0x00, 0x23, 0x01, 0x6a, 0x24, 0x02, 0x0b]
         )
     );

@@ -3,6 +3,8 @@ pub mod Loop
 pub mod Laws
 pub mod Modules
 pub mod Cuts
-pub mod Items
+pub mod Repeated
 pub mod Places
 pub mod Refusals
+pub mod Expressions
+pub mod Worked

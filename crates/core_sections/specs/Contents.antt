@@ -13,7 +13,6 @@ use Rattle.core_sections.specs.declared.entries.EntityType.TheVariants as entiti
 use Rattle.core_sections.specs.declared.entries.CoreImport.{CoreImport}
 use Rattle.core_sections.specs.declared.entries.ExportKind.{ExportKind}
 use Rattle.core_sections.specs.declared.entries.ExportKind.TheVariants as kinds
-use Rattle.core_sections.specs.declared.entries.ExportedItem.{ExportedItem}
 use Rattle.core_sections.specs.declared.entries.CoreExport.{CoreExport}
 
 abbrev pub byte_at : List ℕ → Option (ℕ × List ℕ)
@@ -29,7 +28,12 @@ span_of n =
     else if n == 2 then 2 ^ 14
     else if n == 3 then 2 ^ 21
     else if n == 4 then 2 ^ 28
-    else 2 ^ 35
+    else if n == 5 then 2 ^ 35
+    else if n == 6 then 2 ^ 42
+    else if n == 7 then 2 ^ 49
+    else if n == 8 then 2 ^ 56
+    else if n == 9 then 2 ^ 63
+    else 2 ^ 70
 
 -- A heap type is a signed number of 33 bits. Below half the span it is the index of a type. From there on it
 -- stands for itself less the span: -12 to -23 are the abstract heap types, and -16 is that of all functions.
@@ -210,4 +214,4 @@ export_at bytes = do
   b ← byte_at n.1
   k ← kind_of b.0
   i ← leb_at (2 ^ 32) b.1
-  Some (record { name = n.0; item = record { kind = k; index = i.0 } }, i.1)
+  Some (record { name = n.0; index = record { kind = k; index = i.0 } }, i.1)

@@ -4,4 +4,6 @@ pub mod Stripping
 pub mod Grammar
 pub mod Reading
 pub mod Contents
+pub mod Constants
+pub mod Definitions
 pub mod Entries

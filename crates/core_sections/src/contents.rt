@@ -3,17 +3,17 @@
 ghost use Rattle.std.specs.Prelude.{◌≡◌, ◌^◌};
 ghost use Rattle.core_sections.specs.Numbers.{leb_at, name_at};
 ghost use Rattle.core_sections.specs.Reading.{Gives};
-ghost use Rattle.core_sections.specs.Contents.{byte_at, span_of, heap_at, heap_of, ref_type_at, val_type_at, func_type_at, number_at, limits_at, limits_of, maximum_at, mutable_of, global_at, table_at, tag_at, entity_at, import_at, kind_of, export_at};
+ghost use Rattle.core_sections.specs.Contents.{byte_at, span_of, heap_at, heap_of, ref_type_at, val_type_at, func_type_at, number_at, limits_at, limits_of, maximum_at, mutable_of, function_at, memory_at, global_at, table_at, tag_at, entity_at, import_at, kind_of, export_at};
 
 use crate::entries::{
-    CoreExport, CoreImport, EntityType, ExportKind, ExportedItem, FuncType, Limits, ValType,
+    CoreExport, CoreImport, EntityType, ExportIndex, ExportKind, FuncType, Limits, ValType,
 };
 use crate::numbers::{read_below, read_name, read_u32, read_u64};
 use crate::reading::{Read, ReadFault, read_vec};
 use comp_lists::Text;
 use std::alloc::Global;
 
-fn read_byte(bytes: &[u8]) -> Result<(u8, &[u8]), ReadFault>
+pub(crate) fn read_byte(bytes: &[u8]) -> Result<(u8, &[u8]), ReadFault>
     ensures { Gives (λ x. (x.0, x.1.now)) result (byte_at bytes.now) }
 {
     match bytes {
@@ -22,7 +22,7 @@ fn read_byte(bytes: &[u8]) -> Result<(u8, &[u8]), ReadFault>
     }
 }
 
-fn read_index(bytes: &[u8]) -> Result<(u32, &[u8]), ReadFault>
+pub(crate) fn read_index(bytes: &[u8]) -> Result<(u32, &[u8]), ReadFault>
     ensures { Gives (λ x. (x.0, x.1.now)) result (leb_at (2 ^ 32) bytes.now) }
 {
     read_u32(bytes).ok_or(ReadFault::Malformed)
@@ -38,7 +38,7 @@ fn read_text(alloc: Global, bytes: &[u8]) -> Result<(Text, &[u8]), ReadFault>
 }
 
 /// How many values so many bytes of a number can have.
-fn span_of(bytes: usize) -> u64
+pub(crate) fn span_of(bytes: usize) -> u128
     ensures { result ≡ span_of bytes }
 {
     match bytes {
@@ -46,13 +46,18 @@ fn span_of(bytes: usize) -> u64
         2 => 1 << 14,
         3 => 1 << 21,
         4 => 1 << 28,
-        _ => 1 << 35,
+        5 => 1 << 35,
+        6 => 1 << 42,
+        7 => 1 << 49,
+        8 => 1 << 56,
+        9 => 1 << 63,
+        _ => 1 << 70,
     }
 }
 
 /// Whether a signed number of 33 bits, given by its bits and their span, is the heap type of all
 /// functions: an index of a type isn't, and a negative number is one of the abstract heap types.
-fn heap_type(bits: u64, span: u64) -> Result<bool, ReadFault>
+fn heap_type(bits: u128, span: u128) -> Result<bool, ReadFault>
     ensures { Gives (λ x. x) result (heap_of bits span) }
 {
     if bits < span / 2 {
@@ -72,13 +77,13 @@ fn heap_type(bits: u64, span: u64) -> Result<bool, ReadFault>
     }
 }
 
-fn read_heap(bytes: &[u8]) -> Result<(bool, &[u8]), ReadFault>
+pub(crate) fn read_heap(bytes: &[u8]) -> Result<(bool, &[u8]), ReadFault>
     ensures { Gives (λ x. (x.0, x.1.now)) result (heap_at bytes.now) }
 {
     let Some((bits, rest)) = read_below(1 << 35, bytes) else {
         return Err(ReadFault::Malformed);
     };
-    let is_func = heap_type(bits as u64, span_of(bytes.len() - rest.len()))?;
+    let is_func = heap_type(bits, span_of(bytes.len() - rest.len()))?;
     Ok((is_func, rest))
 }
 
@@ -105,19 +110,10 @@ fn read_ref_type(kind: u8, bytes: &[u8]) -> Result<(ValType, &[u8]), ReadFault>
     }
 }
 
-impl Read for u32 {
-    ghost use Rattle.std.specs.Prelude.{◌^◌};
-    ghost use Rattle.core_sections.specs.Numbers.{leb_at};
-
-    ghost at = { leb_at (2 ^ 32) };
-
-    fn read(_alloc: Global, bytes: &[u8]) -> Result<(u32, &[u8]), ReadFault> {
-        read_index(bytes)
-    }
-}
-
 impl Read for ValType {
     ghost use Rattle.core_sections.specs.Contents.{val_type_at};
+
+    type Value = ValType;
 
     ghost at = { val_type_at };
 
@@ -138,6 +134,8 @@ impl Read for ValType {
 impl Read for FuncType {
     ghost use Rattle.core_sections.specs.Contents.{func_type_at};
 
+    type Value = FuncType;
+
     ghost at = { func_type_at };
 
     #[tactic(auto, unfolding(crate::specs::Contents::func_type_at))]
@@ -146,8 +144,8 @@ impl Read for FuncType {
         if byte != 0x60 {
             return Err(ReadFault::Malformed);
         }
-        let (params, rest) = read_vec(alloc, rest)?;
-        let (results, rest) = read_vec(alloc, rest)?;
+        let (params, rest) = read_vec::<ValType>(alloc, rest)?;
+        let (results, rest) = read_vec::<ValType>(alloc, rest)?;
         Ok((FuncType { params, results }, rest))
     }
 }
@@ -199,6 +197,8 @@ fn read_limits_of(
 impl Read for Limits {
     ghost use Rattle.core_sections.specs.Contents.{limits_at};
 
+    type Value = Limits;
+
     ghost at = { limits_at };
 
     #[tactic(auto, unfolding(crate::specs::Contents::limits_at))]
@@ -226,7 +226,21 @@ fn mutable(byte: u8) -> Result<bool, ReadFault>
     }
 }
 
-fn read_global(alloc: Global, bytes: &[u8]) -> Result<(EntityType, &[u8]), ReadFault>
+pub(crate) fn read_function(bytes: &[u8]) -> Result<(EntityType, &[u8]), ReadFault>
+    ensures { Gives (λ x. (x.0, x.1.now)) result (function_at bytes.now) }
+{
+    let (index, rest) = read_index(bytes)?;
+    Ok((EntityType::Function(index), rest))
+}
+
+pub(crate) fn read_memory(alloc: Global, bytes: &[u8]) -> Result<(EntityType, &[u8]), ReadFault>
+    ensures { Gives (λ x. (x.0, x.1.now)) result (memory_at bytes.now) }
+{
+    let (limits, rest) = Limits::read(alloc, bytes)?;
+    Ok((EntityType::Memory(limits), rest))
+}
+
+pub(crate) fn read_global(alloc: Global, bytes: &[u8]) -> Result<(EntityType, &[u8]), ReadFault>
     ensures { Gives (λ x. (x.0, x.1.now)) result (global_at bytes.now) }
 {
     let (val_type, rest) = ValType::read(alloc, bytes)?;
@@ -235,7 +249,7 @@ fn read_global(alloc: Global, bytes: &[u8]) -> Result<(EntityType, &[u8]), ReadF
     Ok((EntityType::Global { val_type, mutable }, rest))
 }
 
-fn read_table(alloc: Global, bytes: &[u8]) -> Result<(EntityType, &[u8]), ReadFault>
+pub(crate) fn read_table(alloc: Global, bytes: &[u8]) -> Result<(EntityType, &[u8]), ReadFault>
     ensures { Gives (λ x. (x.0, x.1.now)) result (table_at bytes.now) }
 {
     let (kind, rest) = read_byte(bytes)?;
@@ -258,21 +272,17 @@ fn read_tag(bytes: &[u8]) -> Result<(EntityType, &[u8]), ReadFault>
 impl Read for EntityType {
     ghost use Rattle.core_sections.specs.Contents.{entity_at};
 
+    type Value = EntityType;
+
     ghost at = { entity_at };
 
     #[tactic(auto, unfolding(crate::specs::Contents::entity_at))]
     fn read(alloc: Global, bytes: &[u8]) -> Result<(EntityType, &[u8]), ReadFault> {
         let (kind, rest) = read_byte(bytes)?;
         match kind {
-            0 => {
-                let (index, rest) = read_index(rest)?;
-                Ok((EntityType::Function(index), rest))
-            }
+            0 => read_function(rest),
             1 => read_table(alloc, rest),
-            2 => {
-                let (limits, rest) = Limits::read(alloc, rest)?;
-                Ok((EntityType::Memory(limits), rest))
-            }
+            2 => read_memory(alloc, rest),
             3 => read_global(alloc, rest),
             4 => read_tag(rest),
             _ => Err(ReadFault::Malformed),
@@ -282,6 +292,8 @@ impl Read for EntityType {
 
 impl Read for CoreImport {
     ghost use Rattle.core_sections.specs.Contents.{import_at};
+
+    type Value = CoreImport;
 
     ghost at = { import_at };
 
@@ -315,6 +327,8 @@ fn export_kind(byte: u8) -> Result<ExportKind, ReadFault>
 impl Read for CoreExport {
     ghost use Rattle.core_sections.specs.Contents.{export_at};
 
+    type Value = CoreExport;
+
     ghost at = { export_at };
 
     #[tactic(auto, unfolding(crate::specs::Contents::export_at))]
@@ -323,7 +337,7 @@ impl Read for CoreExport {
         let (byte, rest) = read_byte(rest)?;
         let kind = export_kind(byte)?;
         let (index, rest) = read_index(rest)?;
-        let item = ExportedItem { kind, index };
-        Ok((CoreExport { name, item }, rest))
+        let index = ExportIndex { kind, index };
+        Ok((CoreExport { name, index }, rest))
     }
 }

@@ -1,90 +1,26 @@
-//! The entries of a core module.
+//! The entries of a core module, section by section.
 
-ghost use Rattle.std.specs.Prelude.{◌≡◌, ◌++◌, Ok, nat_lt, map, length, option_map, IfOk, IfErr, IsTrue};
-ghost use Rattle.std.specs.List.{list_all, filter_map};
+ghost use Rattle.std.specs.Prelude.{◌≡◌, map, IfOk};
 ghost use Rattle.core_sections.specs.Reading.{Gives};
-ghost use Rattle.core_sections.specs.Sections.{Gives as GivesSections, view, body_view};
-ghost use Rattle.core_sections.specs.Entries.{function_of, has_type_below, is_exportable, with_exports, after_types, imported, after_imports, defined, after_functions, after_exports, after_section, after_body, module_of};
+ghost use Rattle.core_sections.specs.Sections.{body_view, Gives as GivesSections};
+ghost use Rattle.core_sections.specs.Entries.{with_export, with_exports, after_types, after_imports, after_definitions, after_exports, after_section, after_body, module_of};
 
-use crate::entries::{CoreExport, CoreImport, EntityType, ExportKind, ExportedItem, FuncType};
+use crate::definitions::{Functions, Globals, Memories, Tables};
+use crate::entries::{CoreExport, CoreImport, EntityType, ExportedItem, FuncType};
 use crate::fault::SectionFault;
-use crate::reading::{ReadFault, read_all};
+use crate::items::{Items, add_items, exported_item, no_items};
+use crate::reading::{Read, ReadFault, read_all};
 use crate::sections::{Content, PREAMBLE, sections_of};
 use comp_lists::{Keyed, Seq, Text};
 use std::alloc::{AllocError, Global};
 
-/// The types, imports, functions and exports of a core module.
+/// The types, imports, items and exports of a core module.
 #[derive(Drop)]
 pub struct CoreModule {
     pub types: Seq<FuncType>,
     pub imports: Seq<CoreImport>,
-    /// For each function, imported or defined, the index of its type.
-    pub functions: Seq<u32>,
+    pub items: Items,
     pub exports: Keyed<Text, ExportedItem>,
-}
-
-fn function_of(entity: &EntityType) -> Option<u32>
-    ensures { result ≡ function_of entity.now }
-{
-    match *entity {
-        EntityType::Function(index) => Some(index),
-        _ => None,
-    }
-}
-
-fn has_type_below(count: usize, entity: &EntityType) -> bool
-    ensures { result ≡ has_type_below count entity.now }
-{
-    match *entity {
-        EntityType::Function(index) => (index as usize) < count,
-        EntityType::Tag(index) => (index as usize) < count,
-        _ => true,
-    }
-}
-
-fn is_exportable(count: usize, item: &ExportedItem) -> bool
-    ensures { result ≡ is_exportable count item.now }
-{
-    match item.kind {
-        ExportKind::Function => (item.index as usize) < count,
-        _ => true,
-    }
-}
-
-/// Whether each function and tag of these imports has one of so many types.
-fn have_types_below(count: usize, imports: &[CoreImport]) -> bool
-    ensures { result ≡ list_all (λ i. has_type_below count i.entity) imports.now }
-{
-    for import in imports {
-        if !has_type_below(count, &import.entity) {
-            return false;
-        }
-    }
-    true
-}
-
-/// The indices of the types of imported functions.
-fn functions_of(alloc: Global, imports: &[CoreImport]) -> Result<Seq<u32>, AllocError>
-    ensures { IfOk result (λ fs. fs ≡ filter_map (λ i. function_of i.entity) imports.now) }
-{
-    let mut functions = Seq::new(alloc);
-    for import in imports {
-        if let Some(index) = function_of(&import.entity) {
-            functions.push(index)?;
-        }
-    }
-    Ok(functions)
-}
-
-fn are_below(count: usize, indices: &[u32]) -> bool
-    ensures { result ≡ list_all (λ f. nat_lt f count) indices.now }
-{
-    for index in indices {
-        if *index as usize >= count {
-            return false;
-        }
-    }
-    true
 }
 
 #[tactic(auto, unfolding(crate::specs::Entries::after_types))]
@@ -94,102 +30,107 @@ fn add_types(alloc: Global, so_far: CoreModule, contents: &[u8]) -> Result<CoreM
     let CoreModule {
         mut types,
         imports,
-        functions,
+        items,
         exports,
     } = so_far;
-    types.append(read_all(alloc, contents)?)?;
+    types.append(read_all::<FuncType>(alloc, contents)?)?;
     Ok(CoreModule {
         types,
         imports,
-        functions,
+        items,
         exports,
     })
 }
 
-/// A module with further imports.
-fn import_all(
-    alloc: Global,
-    so_far: CoreModule,
-    more: Seq<CoreImport>,
-) -> Result<CoreModule, ReadFault>
-    ensures { Gives (λ m. m) result (imported so_far more) }
+/// What these imports are.
+fn entities_of(alloc: Global, imports: &[CoreImport]) -> Result<Vec<EntityType>, AllocError>
+    ensures { IfOk result (λ v. v.items ≡ map (λ i. i.entity) imports.now) }
 {
-    if !have_types_below(so_far.types.len(), more.as_slice()) {
-        return Err(ReadFault::Malformed);
+    let mut entities = Vec::new(alloc);
+    for import in imports {
+        entities.push(import.entity)?;
     }
-    let CoreModule {
-        types,
-        mut imports,
-        mut functions,
-        exports,
-    } = so_far;
-    functions.append(functions_of(alloc, more.as_slice())?)?;
-    imports.append(more)?;
-    Ok(CoreModule {
-        types,
-        imports,
-        functions,
-        exports,
-    })
+    Ok(entities)
 }
 
 #[tactic(auto, unfolding(crate::specs::Entries::after_imports))]
 fn add_imports(alloc: Global, so_far: CoreModule, contents: &[u8]) -> Result<CoreModule, ReadFault>
     ensures { Gives (λ m. m) result (after_imports so_far contents.now) }
 {
-    let more = read_all(alloc, contents)?;
-    import_all(alloc, so_far, more)
-}
-
-/// A module with further functions of its own.
-fn define_all(so_far: CoreModule, more: Seq<u32>) -> Result<CoreModule, ReadFault>
-    ensures { Gives (λ m. m) result (defined so_far more) }
-{
-    if !are_below(so_far.types.len(), more.as_slice()) {
-        return Err(ReadFault::Malformed);
-    }
     let CoreModule {
         types,
-        imports,
-        mut functions,
+        mut imports,
+        items,
         exports,
     } = so_far;
-    functions.append(more)?;
+    let more = read_all::<CoreImport>(alloc, contents)?;
+    let entities = entities_of(alloc, more.as_slice())?;
+    let items = add_items(types.len(), items, &entities)?;
+    imports.append(more)?;
     Ok(CoreModule {
         types,
         imports,
-        functions,
+        items,
         exports,
     })
 }
 
-#[tactic(auto, unfolding(crate::specs::Entries::after_functions))]
-fn add_functions(
+/// A module with further items of its own.
+#[tactic(auto, unfolding(crate::specs::Entries::after_definitions))]
+fn add_definitions<T: Read<Value = EntityType>>(
     alloc: Global,
     so_far: CoreModule,
     contents: &[u8],
 ) -> Result<CoreModule, ReadFault>
-    ensures { Gives (λ m. m) result (after_functions so_far contents.now) }
+    ensures { Gives (λ m. m) result (after_definitions T.at so_far contents.now) }
 {
-    let more = read_all(alloc, contents)?;
-    define_all(so_far, more)
+    let CoreModule {
+        types,
+        imports,
+        items,
+        exports,
+    } = so_far;
+    let more = read_all::<T>(alloc, contents)?;
+    let items = add_items(types.len(), items, more.as_slice())?;
+    Ok(CoreModule {
+        types,
+        imports,
+        items,
+        exports,
+    })
+}
+
+/// A table with an export more, whose name isn't there yet.
+fn add_export(
+    table: Keyed<Text, ExportedItem>,
+    name: Text,
+    item: ExportedItem,
+) -> Result<Keyed<Text, ExportedItem>, ReadFault>
+    ensures { Gives (λ t. t) result (with_export table name item) }
+{
+    let mut all = table;
+    if all.contains(&name) {
+        return Err(ReadFault::Malformed);
+    }
+    all.add(name, item)?;
+    Ok(all)
 }
 
 /// A table with further exports.
 fn add_all(
-    count: usize,
+    items: &Items,
     table: Keyed<Text, ExportedItem>,
     exports: Vec<CoreExport>,
 ) -> Result<Keyed<Text, ExportedItem>, ReadFault>
-    ensures { Gives (λ t. t) result (with_exports count table exports.items) }
+    ensures { Gives (λ t. t) result (with_exports items.now table exports.items) }
 {
     let mut all = table;
     for export in exports {
-        let CoreExport { name, item } = export;
-        if !is_exportable(count, &item) || all.contains(&name) {
+        let CoreExport { name, index } = export;
+        let Some(item) = exported_item(items, index) else {
             return Err(ReadFault::Malformed);
-        }
-        all.add(name, item)?;
+        };
+        all = add_export(all, name, item)?;
     }
     Ok(all)
 }
@@ -201,15 +142,15 @@ fn add_exports(alloc: Global, so_far: CoreModule, contents: &[u8]) -> Result<Cor
     let CoreModule {
         types,
         imports,
-        functions,
+        items,
         exports,
     } = so_far;
-    let more: Seq<CoreExport> = read_all(alloc, contents)?;
-    let exports = add_all(functions.len(), exports, more.into_vec())?;
+    let more = read_all::<CoreExport>(alloc, contents)?;
+    let exports = add_all(&items, exports, more.into_vec())?;
     Ok(CoreModule {
         types,
         imports,
-        functions,
+        items,
         exports,
     })
 }
@@ -226,7 +167,10 @@ fn add_section(
     match id {
         1 => add_types(alloc, so_far, contents),
         2 => add_imports(alloc, so_far, contents),
-        3 => add_functions(alloc, so_far, contents),
+        3 => add_definitions::<Functions>(alloc, so_far, contents),
+        4 => add_definitions::<Tables>(alloc, so_far, contents),
+        5 => add_definitions::<Memories>(alloc, so_far, contents),
+        6 => add_definitions::<Globals>(alloc, so_far, contents),
         7 => add_exports(alloc, so_far, contents),
         _ => Ok(so_far),
     }
@@ -247,8 +191,7 @@ fn add_content(
 
 /// The entries of a core module.
 ///
-/// Indices of types, indices of exported functions and names of exports are checked; those of other
-/// exports aren't. The fault is `NotModule`, or `Section` at the first section that is cut short or
+/// Indices of types, of exported items but tags, and names of exports are checked. The fault is `NotModule`, or `Section` at the first section that is cut short or
 /// whose contents are malformed, or want of memory.
 #[tactic(auto, unfolding(crate::specs::Entries::module_of), using(crate::proofs::Places::all_before))]
 pub fn read_module(alloc: Global, bytes: &[u8]) -> Result<CoreModule, SectionFault>
@@ -258,7 +201,7 @@ pub fn read_module(alloc: Global, bytes: &[u8]) -> Result<CoreModule, SectionFau
     let mut entries = CoreModule {
         types: Seq::new(alloc),
         imports: Seq::new(alloc),
-        functions: Seq::new(alloc),
+        items: no_items(alloc),
         exports: Keyed::new(alloc),
     };
     let mut place = PREAMBLE.len();

@@ -32,7 +32,7 @@ pub struct Limits {
     pub is_wide: bool,
 }
 
-/// What an import is.
+/// What an import or a definition is.
 #[derive(Clone, Copy, Debug, PartialEq, Eq)]
 pub enum EntityType {
     /// A function, by the index of its type.
@@ -54,7 +54,7 @@ pub struct CoreImport {
 
 /// What kind of item an export names.
 #[derive(Clone, Copy, Debug, PartialEq, Eq)]
-pub enum ExportKind {
+pub(crate) enum ExportKind {
     Function,
     Table,
     Memory,
@@ -62,17 +62,25 @@ pub enum ExportKind {
     Tag,
 }
 
-/// The item that an export names.
+/// Which item an export names.
 #[derive(Clone, Copy, Debug, PartialEq, Eq)]
-pub struct ExportedItem {
+pub(crate) struct ExportIndex {
     pub kind: ExportKind,
     /// Its index among the items of its kind.
     pub index: u32,
 }
 
-/// An export.
+/// An export, as it is spelled.
 #[derive(Debug, Drop)]
-pub struct CoreExport {
+pub(crate) struct CoreExport {
     pub name: Text,
-    pub item: ExportedItem,
+    pub index: ExportIndex,
+}
+
+/// The item that an export names.
+#[derive(Clone, Copy, Debug, PartialEq, Eq)]
+pub enum ExportedItem {
+    Entity(EntityType),
+    /// A tag. Its type isn't known, since the section of tags is passed over.
+    Tag,
 }

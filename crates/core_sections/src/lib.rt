@@ -5,28 +5,31 @@
 //! [`read_bytes`]. [`strip`] takes a module apart at its section headers alone: what it
 //! keeps and what it hands out are the sections of the module, byte for byte, and its contract has
 //! the binary format apart from any way of reading it (`specs/Grammar.antt`). [`read_module`] reads
-//! types, imports, functions and exports, and passes over every other section. Nothing is reserved by
-//! a number that was only read. Component types themselves aren't looked into here.
+//! types, imports, functions, tables, memories, globals and exports, and passes over every other section.
+//! Nothing is reserved by a number that was only read. Component types themselves aren't looked into here.
 //!
 //! In reading order: `fault`, `numbers` (numbers and names), `sections` (headers), `stripping`;
-//! then `entries` (types, imports, exports), `reading` (lists of anything), `contents` (how each
-//! entry is spelled), `core_module` (a module's entries).
+//! then `entries` (types, imports, exports), `reading` (lists of anything), `contents` (how types, imports
+//! and exports are spelled), `constants` (constant expressions), `definitions` (what a module defines),
+//! `items` (its items by kind), `core_module` (a module's entries).
 #![tactic(auto)]
 
+mod constants;
 mod contents;
 mod core_module;
+mod definitions;
 mod entries;
 mod fault;
+mod items;
 mod numbers;
 mod reading;
 mod sections;
 mod stripping;
 
 pub use core_module::{CoreModule, read_module};
-pub use entries::{
-    CoreExport, CoreImport, EntityType, ExportKind, ExportedItem, FuncType, Limits, ValType,
-};
+pub use entries::{CoreImport, EntityType, ExportedItem, FuncType, Limits, ValType};
 pub use fault::SectionFault;
+pub use items::Items;
 pub use numbers::read_bytes;
 pub use sections::{Content, Section, sections_of};
 pub use stripping::{Stripped, strip};

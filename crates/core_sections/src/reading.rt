@@ -36,13 +36,15 @@ impl<T: Drop> From<AllocFailed<T>> for ReadFault {
     }
 }
 
-/// A value that stands at the front of bytes.
-pub(crate) trait Read: Drop {
+/// A kind of values that stand at the front of bytes.
+pub(crate) trait Read {
     ghost use Rattle.std.specs.Prelude.{ℕ, List, Option};
 
-    ghost at: { List ℕ → Option (Self × List ℕ) };
+    type Value: Drop;
 
-    fn read(alloc: Global, bytes: &[u8]) -> Result<(Self, &[u8]), ReadFault>
+    ghost at: { List ℕ → Option (Self.Value × List ℕ) };
+
+    fn read(alloc: Global, bytes: &[u8]) -> Result<(Self::Value, &[u8]), ReadFault>
         ensures { Gives (λ x. (x.0, x.1.now)) result (at bytes.now) };
 }
 
@@ -51,7 +53,7 @@ fn read_items<T: Read>(
     alloc: Global,
     count: u32,
     bytes: &[u8],
-) -> Result<(Seq<T>, &[u8]), ReadFault>
+) -> Result<(Seq<T::Value>, &[u8]), ReadFault>
     ensures { Gives (λ x. (x.0, x.1.now)) result (items_at T.at count bytes.now) }
 {
     let mut items = Seq::new(alloc);
@@ -66,21 +68,24 @@ fn read_items<T: Read>(
 
 /// A count, and so many values.
 #[tactic(auto, unfolding(crate::specs::Reading::vec_at))]
-pub(crate) fn read_vec<T: Read>(alloc: Global, bytes: &[u8]) -> Result<(Seq<T>, &[u8]), ReadFault>
+pub(crate) fn read_vec<T: Read>(
+    alloc: Global,
+    bytes: &[u8],
+) -> Result<(Seq<T::Value>, &[u8]), ReadFault>
     ensures { Gives (λ x. (x.0, x.1.now)) result (vec_at T.at bytes.now) }
 {
     let Some((count, rest)) = read_u32(bytes) else {
         return Err(ReadFault::Malformed);
     };
-    read_items(alloc, count, rest)
+    read_items::<T>(alloc, count, rest)
 }
 
 /// A count, so many values, and nothing after them.
 #[tactic(auto, unfolding(crate::specs::Reading::all_of))]
-pub(crate) fn read_all<T: Read>(alloc: Global, bytes: &[u8]) -> Result<Seq<T>, ReadFault>
+pub(crate) fn read_all<T: Read>(alloc: Global, bytes: &[u8]) -> Result<Seq<T::Value>, ReadFault>
     ensures { Gives (λ x. x) result (all_of T.at bytes.now) }
 {
-    let (items, rest) = read_vec(alloc, bytes)?;
+    let (items, rest) = read_vec::<T>(alloc, bytes)?;
     if !rest.is_empty() {
         return Err(ReadFault::Malformed);
     }

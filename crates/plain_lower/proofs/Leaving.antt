@@ -137,7 +137,7 @@ data Stops (b : Bindgen) (d : Failure) : Type 0 where
   at_export_role : (e : List ℕ × ExportRole) → Contains b.roles.export_roles e → root_export e.1 ≡ Err d → Stops b d
 
 abbrev after_imports : Bindgen → List (List ℕ × StringEncoding) → List (List ℕ × StringEncoding) → List (ImportName × Role) → Result RootFunctions Failure
-after_imports b is es irs = root_exports [] b.roles.export_roles >>= λ ers. Ok (record { imports = is; exports = es; import_roles = irs; export_roles = ers })
+after_imports b is es irs = root_exports [] b.roles.export_roles >>= λ ers. Ok (record { imports = is; exports = es; import_roles = irs; export_roles = ers; context_slot_1 = b.roles.context_slot_1 })
 
 abbrev after_sides : Bindgen → List (List ℕ × StringEncoding) → List (List ℕ × StringEncoding) → Result RootFunctions Failure
 after_sides b is es = root_imports [] b.roles.import_roles >>= λ irs. after_imports b is es irs
@@ -157,7 +157,7 @@ roots_stop b d e =
                 elim (bind_err (root_imports [] b.roles.import_roles) (after_imports b is.0 es.0) d es.2) [
                   | inl h ↦ let s = imports_stop [] b.roles.import_roles d h in at_import_role s.0 s.1 s.2
                   | inr irs ↦
-                      elim (bind_err (root_exports [] b.roles.export_roles) (λ ers. Ok (record { imports = is.0; exports = es.0; import_roles = irs.0; export_roles = ers })) d irs.2) [
+                      elim (bind_err (root_exports [] b.roles.export_roles) (λ ers. Ok (record { imports = is.0; exports = es.0; import_roles = irs.0; export_roles = ers; context_slot_1 = b.roles.context_slot_1 })) d irs.2) [
                         | inl h ↦ let s = exports_stop [] b.roles.export_roles d h in at_export_role s.0 s.1 s.2
                         | inr ers ↦ absurd cc
                       ]
@@ -177,7 +177,7 @@ roots_pass b r e =
     let is = bind_ok (root_functions b.roles.import_encodings [] b.wit.imports) (after_one_side b) r e in
     let es = bind_ok (root_functions b.roles.export_encodings [] b.wit.exports) (after_sides b is.0) r is.2 in
     let irs = bind_ok (root_imports [] b.roles.import_roles) (after_imports b is.0 es.0) r es.2 in
-    let ers = bind_ok (root_exports [] b.roles.export_roles) (λ ers. Ok (record { imports = is.0; exports = es.0; import_roles = irs.0; export_roles = ers })) r irs.2 in
+    let ers = bind_ok (root_exports [] b.roles.export_roles) (λ ers. Ok (record { imports = is.0; exports = es.0; import_roles = irs.0; export_roles = ers; context_slot_1 = b.roles.context_slot_1 })) r irs.2 in
     record {
       imports = functions_pass b.roles.import_encodings [] is.0 b.wit.imports is.1;
       exports = functions_pass b.roles.export_encodings [] es.0 b.wit.exports es.1;

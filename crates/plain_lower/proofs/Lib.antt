@@ -5,6 +5,5 @@ pub mod Keys
 pub mod Leaving
 pub mod Records
 pub mod Refusing
-pub mod Steps
 pub mod Telling
 pub mod Valid

@@ -1,5 +1,5 @@
 -- A world that was prepared keeps the invariant of worlds.
-use Rattle.std.proofs.Common.{arith, ◌≡◌, ℕ, Bool, true, false, cond, ◌&&◌, ◌||◌, List, [], ◌∷◌, ◌++◌, take, map, Option, Some, None, Result, Ok, Err, refl, sym, ap, subst, ◌∙◌, true≢false}
+use Rattle.std.proofs.Common.{arith, ◌≡◌, ◌<◌, length, ℕ, Bool, true, false, cond, ◌&&◌, ◌||◌, List, [], ◌∷◌, ◌++◌, take, map, Option, Some, None, Result, Ok, Err, refl, sym, ap, subst, ◌∙◌, true≢false}
 use Rattle.std.specs.Prelude.{ok_or, is_some, Contains, if◌then◌else◌, OnOk, IfOk}
 use Rattle.std.specs.List.{IsDistinct, AllByRecursion, flat_map, list_any}
 use Rattle.std.specs.Map.{lookup, keys_of}
@@ -26,7 +26,11 @@ use Rattle.wit_data.specs.declared.resolve.Resolve.{Resolve}
 use Rattle.wit_data.specs.Values.{values_from}
 use Rattle.wit_data.specs.Sizes.{AreSmall}
 use Rattle.wit_data.specs.Sound.{HasEntry, IsSound}
-use Rattle.comp_worlds.specs.Worlds.{items_of, root_function, imported_functions, exported_functions, IsWorld, IsItem, IsImportRole, IsImportGroup, IsExportRole, IsRequired, core_preamble}
+use Rattle.comp_worlds.specs.CoreImports.{CoreImport as CoreUse, imports_from}
+use Rattle.comp_worlds.specs.Mentions.{HasRole}
+use Rattle.comp_worlds.specs.Uses.{all_imports}
+use Rattle.comp_worlds.specs.declared.world.WorldParts.{WorldParts}
+use Rattle.comp_worlds.specs.Worlds.{items_of, root_function, imported_functions, exported_functions, IsWorld, IsItem, IsImportRole, IsImportGroup, IsExportRole, IsRequired, core_preamble, whole_of}
 use Rattle.core_sections.specs.declared.fault.SectionFault.{SectionFault}
 use Rattle.core_sections.specs.declared.core_module.CoreModule.{CoreModule}
 use Rattle.core_sections.specs.declared.entries.CoreImport.{CoreImport}
@@ -42,7 +46,7 @@ use Rattle.plain_lower.specs.Faults.{◌>>=◌, lifted, Gives}
 use Rattle.plain_lower.specs.Roles.{function_of}
 use Rattle.record_values.specs.Names.{is_same_import}
 use Rattle.plain_lower.proofs.Chains.{bind_ok, passed, equivalence}
-use Rattle.plain_lower.specs.Preparing.{Table, no_role, unfit, not_exported, fits_import, fits_export, imported_by, fitting, import_of, world_items, with_field, fields_in, group_after, groups_after, instances_of, export_as, with_export, export_of_role, exports_after, by_function, required_key, required_after, world_of, preparing_main, preparing_if}
+use Rattle.plain_lower.specs.Preparing.{Table, no_role, unfit, not_exported, fits_import, fits_export, imported_by, fitting, import_of, world_items, with_field, fields_in, group_after, groups_after, instances_of, StandAnywhere, export_as, with_export, export_of_role, exports_after, by_function, required_key, required_after, parts_of, world_of, preparing_main, preparing_if}
 
 -- ---- keys and items
 
@@ -174,6 +178,44 @@ all_roles : (w : ComponentWorld) (t : Table) → (items_of w).imports ≡ world_
     → AllByRecursion (IsImportGroup w) (instances_of gs)
 all_roles w t same [] h = tt
 all_roles w t same (g ∷ gs) h = (let good = h.0 in (good.apart, group_roles w t same g.fields good.roles), all_roles w t same gs h.1)
+
+-- ---- what roles name
+
+role_stands : (t : Table) (r : Resolve) (import : Import) → IsFor t import → HasRole r import
+role_stands t r import is = subst (HasRole r) (sym is.is) tt
+
+fields_stand : (t : Table) (r : Resolve) (m : List ℕ) (fs : List (List ℕ × Import)) (rest : List CoreUse) → AllByRecursion (λ f. IsFor t f.1) fs → AllByRecursion (λ i. HasRole r i.role) rest
+    → AllByRecursion (λ i. HasRole r i.role) (map (λ f. record { module_name = m; field = f.0; role = f.1 }) fs ++ rest)
+fields_stand t r m [] rest h more = more
+fields_stand t r m (f ∷ fs) rest h more = (role_stands t r f.1 h.0, fields_stand t r m fs rest h.1 more)
+
+-- what the imports of groups name stands in any resolve
+groups_stand : (t : Table) (r : Resolve) (gs : List Group) → AllByRecursion (IsGood t) gs → AllByRecursion (λ i. HasRole r i.role) (flat_map imports_from (instances_of gs))
+groups_stand t r [] h = tt
+groups_stand t r (g ∷ gs) h = let good = h.0 in fields_stand t r g.name g.fields (flat_map imports_from (instances_of gs)) good.roles (groups_stand t r gs h.1)
+
+ends_too : (P : CoreUse → Type 0) (xs : List CoreUse) → AllByRecursion P xs → AllByRecursion P (xs ++ [])
+ends_too P [] h = tt
+ends_too P (x ∷ xs) h = (h.0, ends_too P xs h.1)
+
+pub read_stand : (t : Table) (own : RootFunctions) (core : CoreModule) (groups : List Group) → groups_after t own core [] core.imports ≡ Ok groups → StandAnywhere groups
+read_stand t own core groups e r = ends_too (λ i. HasRole r i.role) (flat_map imports_from (instances_of groups)) (groups_stand t r groups (groups_good t own core [] groups core.imports tt e))
+
+-- ---- the parts of a world
+
+module _ (joint : RootFunctions) (main : Part RootFunctions) (groups : List Group) (exported : List (List ℕ × Export)) (required : List WorldKey) (p : WorldParts) (is : p ≡ parts_of joint main groups exported required) where
+  pub parts_sound : IsSound p.resolve
+  parts_sound = subst (λ (x : WorldParts). IsSound x.resolve) (sym is) (alone_sound joint.imports joint.exports)
+
+  pub parts_stand : p.world.index < length p.resolve.worlds
+  parts_stand = subst (λ (x : WorldParts). x.world.index < length x.resolve.worlds) (sym is) (omega arith)
+
+  pub parts_roles : StandAnywhere groups → AllByRecursion (λ i. HasRole p.resolve i.role) (all_imports p.main p.adapters)
+  parts_roles stand = subst (λ (x : WorldParts). AllByRecursion (λ i. HasRole x.resolve i.role) (all_imports x.main x.adapters)) (sym is) (stand (one_world joint.imports joint.exports))
+
+  pub parts_world : (w : ComponentWorld) → w ≡ whole_of p → w ≡ world_of joint main groups exported required
+  unfolding world_of
+  parts_world w made = made ∙ ap whole_of is
 
 -- ---- exports
 
@@ -309,6 +351,9 @@ main_is_world joint main w e imports_apart exports_apart modules_apart =
       export_roles = export_roles v joint.exports refl exported of;
       required = all_required v joint.exports refl exported refl d.0 met;
       alone = refl;
+      import_map = refl;
+      live_type_imports = refl;
+      exports_used = refl;
     })
 
 pub is_world : (joint : RootFunctions) (main : Option (Part RootFunctions)) (w : ComponentWorld) → preparing_if joint main ≡ Ok w → IsDistinct bytes_eq (keys_of joint.imports)

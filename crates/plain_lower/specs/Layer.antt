@@ -4,6 +4,7 @@ use Rattle.std.specs.Prelude.{ℕ, Bool, true, false, List, [], ◌∷◌}
 use Rattle.std.specs.Result.{result_unwrap_or}
 use Rattle.comp_worlds.specs.declared.gathered.Gathered.{Gathered}
 use Rattle.comp_worlds.specs.declared.gathered.Merged.{Merged}
+use Rattle.comp_worlds.specs.Worlds.{whole_of}
 use Rattle.comp_worlds.specs.declared.world.ComponentWorld.{ComponentWorld}
 use Rattle.plain_lower.specs.declared.fault.PlainFault.{PlainFault}
 use Rattle.plain_lower.specs.declared.fault.PlainFault.TheVariants as faults
@@ -23,7 +24,7 @@ abbrev pub merged : Bindgen → Bindgen → Merged Bindgen
 merged a b = result_unwrap_or (merging a b) (record { joint = nothing_said; exports = [] })
 
 abbrev pub no_world : ComponentWorld
-no_world = record {
+no_world = whole_of (record {
   resolve = record { interfaces = []; types = []; worlds = record { imports = []; exports = [] } ∷ [] };
   world = record { index = 0 };
   main = record {
@@ -34,7 +35,8 @@ no_world = record {
   };
   main_exports = [];
   adapters = [];
-}
+  can_use_context_slot_1 = false;
+})
 
 abbrev pub prepared : Gathered Bindgen → ComponentWorld
 prepared g = result_unwrap_or (preparing_all g) no_world

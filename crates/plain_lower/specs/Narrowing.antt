@@ -99,7 +99,7 @@ roots_of b = do
   es ← root_functions b.roles.export_encodings [] b.wit.exports
   irs ← root_imports [] b.roles.import_roles
   ers ← root_exports [] b.roles.export_roles
-  Ok (record { imports = is; exports = es; import_roles = irs; export_roles = ers })
+  Ok (record { imports = is; exports = es; import_roles = irs; export_roles = ers; context_slot_1 = b.roles.context_slot_1 })
 
 abbrev pub root_part : Part Bindgen → Result (Part RootFunctions) Failure
 root_part p = roots_of p.own >>= λ own. Ok (record { bytes = p.bytes; own = own; required = p.required })

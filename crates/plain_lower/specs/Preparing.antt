@@ -6,7 +6,7 @@
 -- (Canonical ABI: the flattening of such a function). Each required export has to be a core export's.
 use Rattle.std.specs.Prelude.{ℕ, ◌==◌, ◌&&◌, Bool, true, false, List, [], ◌∷◌, ◌++◌, length, map, Option, Some, None, ok_or, Result, Ok, Err, is_some, if◌then◌else◌}
 use Rattle.std.specs.Option.{option_map_or}
-use Rattle.std.specs.List.{slice_get, flat_map}
+use Rattle.std.specs.List.{slice_get, flat_map, AllByRecursion}
 use Rattle.std.specs.Map.{lookup}
 use Rattle.std.specs.Str.{bytes_eq}
 use Rattle.comp_lists.specs.Found.{found}
@@ -32,15 +32,19 @@ use Rattle.comp_worlds.specs.declared.gathered.Gathered.{Gathered}
 use Rattle.comp_worlds.specs.declared.metadata.FunctionKey.{FunctionKey}
 use Rattle.comp_worlds.specs.declared.world.ValidatedModule.{ValidatedModule}
 use Rattle.comp_worlds.specs.declared.world.ComponentWorld.{ComponentWorld}
-use Rattle.comp_worlds.specs.Worlds.{root_export}
+use Rattle.comp_worlds.specs.declared.world.WorldParts.{WorldParts}
+use Rattle.comp_worlds.specs.CoreImports.{imports_from}
+use Rattle.comp_worlds.specs.Mentions.{HasRole}
+use Rattle.wit_data.specs.declared.resolve.Resolve.{Resolve}
+use Rattle.comp_worlds.specs.Worlds.{root_export, whole_of}
 use Rattle.core_sections.specs.declared.core_module.CoreModule.{CoreModule}
 use Rattle.core_sections.specs.declared.entries.FuncType.{FuncType}
 use Rattle.core_sections.specs.declared.entries.EntityType.{EntityType}
 use Rattle.core_sections.specs.declared.entries.CoreImport.{CoreImport}
-use Rattle.core_sections.specs.declared.entries.ExportKind.{ExportKind}
-use Rattle.core_sections.specs.declared.entries.ExportKind.TheVariants as kinds
+use Rattle.core_sections.specs.declared.entries.EntityType.TheVariants as entities
 use Rattle.core_sections.specs.declared.entries.ExportedItem.{ExportedItem}
-use Rattle.core_sections.specs.Entries.{function_of as type_of_import, module_of}
+use Rattle.core_sections.specs.declared.entries.ExportedItem.TheVariants as exported_items
+use Rattle.core_sections.specs.Entries.{module_of}
 use Rattle.plain_lower.specs.declared.fault.Failure.{Failure}
 use Rattle.plain_lower.specs.declared.fault.Failure.TheVariants as failures
 use Rattle.plain_lower.specs.declared.fault.Refusal.TheVariants as refusals
@@ -77,18 +81,16 @@ has_empty_type core index = option_map_or is_empty_type (slice_get core.types in
 
 -- the import is a function of such a type
 abbrev pub fits_import : CoreModule → EntityType → Bool
-fits_import core e = option_map_or (has_empty_type core) (type_of_import e) false
+fits_import core (entities.Function index) = has_empty_type core index
+fits_import core (entities.Table t l) = false
+fits_import core (entities.Memory l) = false
+fits_import core (entities.Global t m) = false
+fits_import core (entities.Tag index) = false
 
-abbrev pub is_function : ExportKind → Bool
-is_function kinds.Function = true
-is_function kinds.Table = false
-is_function kinds.Memory = false
-is_function kinds.Global = false
-is_function kinds.Tag = false
-
--- the export is a function of such a type
+-- the export names such a function
 abbrev pub fits_export : CoreModule → ExportedItem → Bool
-fits_export core e = is_function e.kind && option_map_or (has_empty_type core) (slice_get core.functions e.index) false
+fits_export core (exported_items.Entity e) = fits_import core e
+fits_export core exported_items.Tag = false
 
 -- ---- imports
 
@@ -132,6 +134,10 @@ groups_after table own core groups (i ∷ is) = group_after table own core group
 
 abbrev pub instances_of : List Group → List (List ℕ × ImportInstance)
 instances_of gs = map (λ g. (g.name, instances.Names g.fields)) gs
+
+-- what the imports of these groups name stands in any resolve
+abbrev pub StandAnywhere : List Group → Type 0
+StandAnywhere gs = (r : Resolve) → AllByRecursion (λ i. HasRole r i.role) (flat_map imports_from (instances_of gs) ++ [])
 
 -- ---- exports
 
@@ -187,8 +193,8 @@ main_of main groups exported = record {
   metadata = record { import_encodings = encodings_of main.own.imports; export_encodings = encodings_of main.own.exports };
 }
 
-unfoldable pub world_of : RootFunctions → Part RootFunctions → List Group → List (List ℕ × Export) → List WorldKey → ComponentWorld
-world_of joint main groups exported required = record {
+abbrev pub parts_of : RootFunctions → Part RootFunctions → List Group → List (List ℕ × Export) → List WorldKey → WorldParts
+parts_of joint main groups exported required = record {
   resolve = record {
     interfaces = [];
     types = [];
@@ -198,15 +204,24 @@ world_of joint main groups exported required = record {
   main = main_of main groups exported;
   main_exports = required;
   adapters = [];
+  can_use_context_slot_1 = main.own.context_slot_1;
 }
+
+unfoldable pub world_of : RootFunctions → Part RootFunctions → List Group → List (List ℕ × Export) → List WorldKey → ComponentWorld
+world_of joint main groups exported required = whole_of (parts_of joint main groups exported required)
+
+-- the world, once it is known what main's core imports and exports are for
+abbrev pub world_behind : RootFunctions → Part RootFunctions → List Group → List (List ℕ × Export) → Result ComponentWorld Failure
+world_behind joint main groups exported = do
+  required ← required_after joint.exports exported [] main.required
+  Ok (world_of joint main groups exported required)
 
 unfoldable pub preparing_main : RootFunctions → Part RootFunctions → Result ComponentWorld Failure
 preparing_main joint main = do
   core ← lifted (module_of main.bytes)
   groups ← groups_after joint.imports main.own core [] core.imports
   exported ← exports_after joint.exports main.own core [] core.exports
-  required ← required_after joint.exports exported [] main.required
-  Ok (world_of joint main groups exported required)
+  world_behind joint main groups exported
 
 -- nothing at all is no module
 abbrev pub preparing_if : RootFunctions → Option (Part RootFunctions) → Result ComponentWorld Failure

@@ -3,7 +3,7 @@
 ghost use Rattle.std.specs.Prelude.{◌≡◌};
 ghost use Rattle.plain_lower.specs.Preparing.{has_empty_type, fits_import, fits_export};
 
-use core_sections::{CoreModule, EntityType, ExportKind, ExportedItem};
+use core_sections::{CoreModule, EntityType, ExportedItem};
 
 /// Whether the function type of this index has no parameters and no results.
 fn has_empty_type(core: &CoreModule, index: u32) -> bool
@@ -29,11 +29,8 @@ pub(crate) fn fits_import(core: &CoreModule, entity: &EntityType) -> bool
 pub(crate) fn fits_export(core: &CoreModule, item: &ExportedItem) -> bool
     ensures { result ≡ fits_export core.now item.now }
 {
-    match item.kind {
-        ExportKind::Function => match core.functions.as_slice().get(item.index as usize) {
-            Some(index) => has_empty_type(core, *index),
-            None => false,
-        },
-        _ => false,
+    match item {
+        ExportedItem::Entity(entity) => fits_import(core, entity),
+        ExportedItem::Tag => false,
     }
 }

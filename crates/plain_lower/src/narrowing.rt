@@ -180,5 +180,6 @@ pub(crate) fn roots_of(alloc: Global, said: &Bindgen) -> Result<RootFunctions, F
         exports,
         import_roles,
         export_roles,
+        context_slot_1: said.roles.context_slot_1,
     })
 }

@@ -7,7 +7,7 @@ ghost use Rattle.std.specs.Str.{bytes_eq};
 ghost use Rattle.plain_lower.specs.Faults.{Gives};
 ghost use Rattle.comp_worlds.specs.Worlds.{IsWorld};
 ghost use Rattle.plain_lower.specs.Narrowing.{root_part};
-ghost use Rattle.plain_lower.specs.Preparing.{world_items, encodings_of, instances_of, main_of, world_of, preparing_main, preparing_part, preparing_all};
+ghost use Rattle.plain_lower.specs.Preparing.{world_items, encodings_of, instances_of, main_of, parts_of, StandAnywhere, world_of, world_behind, preparing_main, preparing_part, preparing_all};
 
 use crate::exporting::{read_exports, require_all};
 use crate::fault::{Failure, Refusal};
@@ -17,7 +17,7 @@ use crate::root::RootFunctions;
 use comp_lists::{Keyed, Seq, Text};
 use comp_worlds::{
     ComponentWorld, Export, ExportKey, ExportMap, FunctionKey, Gathered, ImportInstance, ImportMap,
-    ModuleMetadata, Part, StringEncoding, ValidatedModule,
+    ModuleMetadata, Part, StringEncoding, ValidatedModule, WorldParts,
 };
 use core_sections::read_module;
 use record_joining::Bindgen;
@@ -167,8 +167,38 @@ fn resolve_of(alloc: Global, world: World) -> Result<Resolve, AllocError>
     })
 }
 
+/// The parts of the world that is made of these.
+fn parts_of(
+    alloc: Global,
+    joint: &RootFunctions,
+    main: Part<RootFunctions>,
+    groups: Vec<Group>,
+    exports: Keyed<Text, Export>,
+    main_exports: Seq<WorldKey>,
+) -> Result<WorldParts, AllocError>
+    requires apart { IsDistinct bytes_eq (keys_of (instances_of groups.items)) }
+    ensures parts { IfOk result (λ p. p ≡ parts_of joint.now main groups.items exports main_exports) }
+    ensures imports { OnOk result (IsDistinct bytes_eq (keys_of joint.now.imports)) }
+    ensures exports { OnOk result (IsDistinct bytes_eq (keys_of joint.now.exports)) }
+    ensures modules { IfOk result (λ p. IsDistinct bytes_eq (keys_of p.main.imports.modules)) }
+{
+    let world = World {
+        imports: world_side(alloc, &joint.imports)?,
+        exports: world_side(alloc, &joint.exports)?,
+    };
+    let can_use_context_slot_1 = main.own.context_slot_1;
+    Ok(WorldParts {
+        resolve: resolve_of(alloc, world)?,
+        world: WorldId { index: 0 },
+        main: validated(alloc, main, groups, exports)?,
+        main_exports,
+        adapters: Keyed::new(alloc),
+        can_use_context_slot_1,
+    })
+}
+
 /// The world that is made of these.
-#[tactic(auto, unfolding(crate::specs::Preparing::world_of))]
+#[tactic(auto, using(crate::proofs::Valid::parts_stand, crate::proofs::Valid::parts_world))]
 fn world_of(
     alloc: Global,
     joint: &RootFunctions,
@@ -177,27 +207,40 @@ fn world_of(
     exports: Keyed<Text, Export>,
     main_exports: Seq<WorldKey>,
 ) -> Result<ComponentWorld, AllocError>
-    requires { IsDistinct bytes_eq (keys_of (instances_of groups.items)) }
+    requires apart { IsDistinct bytes_eq (keys_of (instances_of groups.items)) }
+    requires roles { StandAnywhere groups.items }
     ensures world { IfOk result (λ w. w ≡ world_of joint.now main groups.items exports main_exports) }
     ensures imports { OnOk result (IsDistinct bytes_eq (keys_of joint.now.imports)) }
     ensures exports { OnOk result (IsDistinct bytes_eq (keys_of joint.now.exports)) }
     ensures modules { IfOk result (λ w. IsDistinct bytes_eq (keys_of w.main.imports.modules)) }
 {
-    let world = World {
-        imports: world_side(alloc, &joint.imports)?,
-        exports: world_side(alloc, &joint.exports)?,
-    };
-    Ok(ComponentWorld {
-        resolve: resolve_of(alloc, world)?,
-        world: WorldId { index: 0 },
-        main: validated(alloc, main, groups, exports)?,
-        main_exports,
-        adapters: Keyed::new(alloc),
-    })
+    let parts = parts_of(alloc, joint, main, groups, exports, main_exports)?;
+    let world = ComponentWorld::of_parts(alloc, parts)?;
+    Ok(world)
+}
+
+/// The validated world, once it is known what main's core imports and exports are for.
+fn world_behind(
+    alloc: Global,
+    joint: &RootFunctions,
+    main: Part<RootFunctions>,
+    groups: Vec<Group>,
+    exports: Keyed<Text, Export>,
+) -> Result<ComponentWorld, Failure>
+    requires apart { IsDistinct bytes_eq (keys_of (instances_of groups.items)) }
+    requires roles { StandAnywhere groups.items }
+    ensures exact { Gives (λ w. w) result (world_behind joint.now main groups.items exports) }
+    ensures imports { OnOk result (IsDistinct bytes_eq (keys_of joint.now.imports)) }
+    ensures exports { OnOk result (IsDistinct bytes_eq (keys_of joint.now.exports)) }
+    ensures modules { IfOk result (λ w. IsDistinct bytes_eq (keys_of w.main.imports.modules)) }
+{
+    let required = require_all(alloc, &joint.exports, &exports, main.required.as_slice())?;
+    let world = world_of(alloc, joint, main, groups, exports, required)?;
+    Ok(world)
 }
 
 /// The validated world of what all modules say and main.
-#[tactic(auto, unfolding(crate::specs::Preparing::preparing_main), using(crate::proofs::Steps::required_refused))]
+#[tactic(auto, unfolding(crate::specs::Preparing::preparing_main))]
 fn prepare_main(
     alloc: Global,
     joint: &RootFunctions,
@@ -211,8 +254,7 @@ fn prepare_main(
     let core = read_module(alloc, main.bytes.as_slice())?;
     let groups = read_imports(alloc, &joint.imports, &main.own, &core)?;
     let exports = read_exports(alloc, &joint.exports, &main.own, &core)?;
-    let required = require_all(alloc, &joint.exports, &exports, main.required.as_slice())?;
-    Ok(world_of(alloc, joint, main, groups, exports, required)?)
+    world_behind(alloc, joint, main, groups, exports)
 }
 
 /// The validated world, or the refusal.

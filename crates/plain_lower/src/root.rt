@@ -17,4 +17,6 @@ pub(crate) struct RootFunctions {
     pub import_roles: Keyed<ImportName, Role>,
     /// What the core exports of the module are for, by field. Several modules together have none.
     pub export_roles: Keyed<Text, Role>,
+    /// Whether the second slot of a task's context is free for thread-local data.
+    pub context_slot_1: bool,
 }

@@ -60,7 +60,8 @@ one_payload (payloads.Met i o f n) (payloads.Met j p g m) e =
     let c = both (is_same_owner o p) (bytes_eq f g && nat_eq n m) b.1 in
     let d = both (bytes_eq f g) (nat_eq n m) c.1 in
     ap (λ z. payloads.Met z o f n) (one_truth i j b.0) ∙ ap (λ z. payloads.Met j z f n) (one_owner o p c.0) ∙ ap (λ z. payloads.Met j p z n) (one_text f g d.0) ∙ ap (λ z. payloads.Met j p g z) (one_number n m d.1)
-one_payload x y e = search rules
+one_payload payloads.Unit payloads.Unit e = refl
+one_payload x y e = absurd (true≢false (sym e))
 
 pub one_import_role : IsOne import_eq.eq-value.it
 one_import_role (imports.Function o n a) (imports.Function p m d) e =
@@ -86,7 +87,9 @@ one_import_role (imports.TlsGet a) (imports.TlsGet b) e = ap imports.TlsGet (one
 one_import_role (imports.TlsSet a) (imports.TlsSet b) e = ap imports.TlsSet (one_val a b e)
 one_import_role (imports.MainExport n k) (imports.MainExport m j) e = let b = both (bytes_eq n m) (kind_eq.eq-value.it k j) e in ap (λ z. imports.MainExport z k) (one_text n m b.0) ∙ ap (λ z. imports.MainExport m z) (one_kind k j b.1)
 one_import_role (imports.AdapterExport a f) (imports.AdapterExport b g) e = let c = both (bytes_eq a b) (bytes_eq f g) e in ap (λ z. imports.AdapterExport z f) (one_text a b c.0) ∙ ap (λ z. imports.AdapterExport b z) (one_text f g c.1)
-one_import_role x y e = search rules
+one_import_role imports.Memory imports.Memory e = refl
+one_import_role (imports.SubtaskCancel a) (imports.SubtaskCancel b) e = ap imports.SubtaskCancel (one_truth a b e)
+one_import_role x y e = absurd (true≢false (sym e))
 
 pub one_export_role : IsOne export_eq.eq-value.it
 one_export_role (exports.Function o n a) (exports.Function p m d) e =
@@ -97,7 +100,7 @@ one_export_role (exports.PostReturn o n) (exports.PostReturn p m) e = let b = on
 one_export_role (exports.Callback o n) (exports.Callback p m) e = let b = one_owned o p n m e in ap (λ z. exports.Callback z n) b.0 ∙ ap (λ z. exports.Callback p z) b.1
 one_export_role (exports.Destructor a) (exports.Destructor b) e = ap exports.Destructor (one_type a b e)
 one_export_role (exports.Plain a) (exports.Plain b) e = ap exports.Plain (one_plain a b e)
-one_export_role x y e = search rules
+one_export_role x y e = absurd (true≢false (sym e))
 
 -- ---- and a role equals itself
 

@@ -1,8 +1,9 @@
-//! What is read of whole records: the path of each fault, and the names of interfaces.
+//! What is read of whole records: the names of interfaces, and where they stand. Which records are refused, and
+//! with which path, is a list of cases of the program `tell_records`.
 
 use crate::placed::{PlacedInterface, RecordWorld};
 use crate::world::read_world;
-use record_json::{Failure, Refusal, read_value};
+use record_json::{Failure, read_value};
 use record_values::InterfaceName;
 use std::alloc::{AllocError, Global};
 use std::test::Fail;
@@ -43,25 +44,11 @@ fn interfaces(alloc: Global, world: &RecordWorld) -> Result<String, AllocError> 
     Ok(out)
 }
 
-fn fault(alloc: Global, failure: &Failure) -> Result<String, AllocError> {
-    match failure {
-        Failure::Memory => String::from_str(alloc, "memory"),
-        Failure::Refused(Refusal::Json) => String::from_str(alloc, "no JSON"),
-        Failure::Refused(Refusal::Record { path }) => String::from_str(alloc, path.as_str()),
-        Failure::Refused(Refusal::LeftOut { what }) => String::from_str(alloc, what.as_str()),
-        Failure::Refused(Refusal::MergeConflict { name }) => {
-            let mut out = String::from_str(alloc, "conflict ")?;
-            out.push_str(name.as_str())?;
-            Ok(out)
-        }
-    }
-}
-
-/// The interfaces that are read of a text, or the fault.
+/// The interfaces that are read of a text.
 fn told(alloc: Global, text: &str) -> Result<String, AllocError> {
     match read(alloc, text) {
         Ok(world) => interfaces(alloc, &world),
-        Err(failure) => fault(alloc, &failure),
+        Err(_) => String::from_str(alloc, "refused"),
     }
 }
 
@@ -77,43 +64,6 @@ fn first_other(alloc: Global, lines: &str) -> Result<String, AllocError> {
     Ok(String::new(alloc))
 }
 
-/// Records with one fault each.
-const WRONG: &str = r#"/interfaces <- {"interfaces":{}}
-/imports <- {"imports":{}}
-/exports/0 <- {"exports":[1]}
-/imports/0/interface <- {"imports":[{}]}
-/imports/0/x <- {"imports":[{"x":1}]}
-/exports/0/type <- {"exports":[{"type":{"name":"t","type":"u8"}}]}
-/imports/0/interface <- {"imports":[{"interface":0}]}
-/imports/0/interface <- {"imports":[{"interface":-1}]}
-/imports/0/interface <- {"interfaces":[{"id":"a:b/c","types":[{"name":"t","type":"u8"}],"functions":[]}],"imports":[{"interface":4294967296}]}
-/imports/0/interface <- {"interfaces":[{"id":"a:b/c","types":[{"name":"t","type":"u8"}],"functions":[]}],"imports":[{"interface":1.0}]}
-/imports/0/name <- {"interfaces":[{"id":null,"types":[],"functions":[{"name":"g"}]}],"imports":[{"name":"a:b","interface":0}]}
-/imports/0/name <- {"interfaces":[{"id":null,"types":[],"functions":[{"name":"g"}]}],"imports":[{"name":1,"interface":0}]}
-/imports/0/interface <- {"interfaces":[{"id":null,"types":[],"functions":[{"name":"g"}]}],"imports":[{"interface":0}]}
-/imports/0/interface <- {"interfaces":[{"id":"a:b/c","types":[{"name":"t","type":"u8"}],"functions":[]}],"imports":[{"name":"a","interface":0}]}
-/exports/0/interface <- {"interfaces":[{"id":"a:b/c","types":[{"name":"t","type":"u8"}],"functions":[]}],"exports":[{"name":"a","interface":0}]}
-/imports/0/func <- {"imports":[{"func":1}]}
-/imports/0/x <- {"imports":[{"func":{"name":"f"},"x":1}]}
-/imports/1 <- {"imports":[{"func":{"name":"f"}},{"func":{"name":"f"}}]}
-/exports/1 <- {"exports":[{"func":{"name":"f"}},{"func":{"name":"f"}}]}
-/imports/1 <- {"interfaces":[{"id":"a:b/c","types":[{"name":"t","type":"u8"}],"functions":[]}],"imports":[{"interface":0},{"interface":0}]}
-/imports/1 <- {"interfaces":[{"id":null,"types":[],"functions":[{"name":"g"}]}],"imports":[{"name":"a","interface":0},{"name":"b","interface":0}]}
-/exports/1 <- {"interfaces":[{"id":null,"types":[],"functions":[{"name":"g"}]},{"id":null,"types":[],"functions":[{"name":"g"}]}],"exports":[{"name":"a","interface":0},{"name":"a","interface":1}]}
-/imports/1 <- {"interfaces":[{"id":null,"types":[],"functions":[{"name":"g"}]}],"imports":[{"func":{"name":"f"}},{"name":"f","interface":0}]}
-/imports/1 <- {"interfaces":[{"id":"a:b/c","types":[{"name":"t","type":"u8"}],"functions":[]},{"id":"a:b/c","types":[{"name":"t","type":"u8"}],"functions":[]}],"imports":[{"interface":0},{"interface":1}]}
-conflict a:b/c <- {"interfaces":[{"id":"a:b/c","types":[{"name":"t","type":"u8"}],"functions":[]},{"id":"a:b/c","types":[{"name":"t","type":"u16"}],"functions":[]}]}
-conflict a:b/c <- {"interfaces":[{"id":"a:b/c","types":[{"name":"t","type":"u8"}],"functions":[]},{"id":"a:b/c","types":[{"name":"t","type":"u16"}],"functions":[]}],"imports":[{"interface":0}]}
-/imports/0 <- {"interfaces":[{"id":"a:b/c","types":[{"name":"t","type":"u8"}],"functions":[]},{"id":"a:b/d","types":[{"name":"s","type":{"ref":[0,"t"]}}],"functions":[]}],"imports":[{"interface":1}]}
-/imports/0 <- {"interfaces":[{"id":"a:b/c","types":[{"name":"t","type":"u8"}],"functions":[]},{"id":"a:b/d","types":[{"name":"s","type":{"ref":[0,"t"]}}],"functions":[]}],"imports":[{"interface":1},{"interface":0}]}
-/imports/0 <- {"interfaces":[{"id":"a:b/c","types":[{"name":"t","type":"u8"}],"functions":[]}],"imports":[{"func":{"name":"f","params":[["x",{"ref":[0,"t"]}]]}}]}
-/imports/0 <- {"interfaces":[{"id":"a:b/c","types":[{"name":"t","type":"u8"}],"functions":[]}],"imports":[{"type":{"name":"u","type":{"ref":[0,"t"]}}}]}
-/exports/0 <- {"interfaces":[{"id":"a:b/c","types":[{"name":"t","type":"u8"}],"functions":[]}],"exports":[{"func":{"name":"f","result":{"list":{"ref":[0,"t"]}}}},{"interface":0}]}
-/exports/0 <- {"interfaces":[{"id":"a:b/c","types":[{"name":"t","type":"u8"}],"functions":[]},{"id":"a:b/d","types":[{"name":"s","type":{"ref":[0,"t"]}}],"functions":[]}],"exports":[{"interface":1}]}
-/imports/1/type/name <- {"imports":[{"type":{"name":"t","type":"u8"}},{"type":{"name":"t","type":"u8"}}]}
-/imports/0/func/params/0/1/ref/1 <- {"imports":[{"func":{"name":"f","params":[["x",{"ref":[null,"t"]}]]}},{"type":{"name":"t","type":"u8"}}]}
-/exports/0 <- {"interfaces":[{"id":"a:b/r","types":[{"name":"r","type":{"resource":true}}],"functions":[{"name":"[method]r.f","params":[["self",{"borrow":[0,"r"]}]]}]},{"id":null,"types":[],"functions":[{"name":"g","params":[["x",{"own":[0,"r"]}]]}]}],"exports":[{"name":"n","interface":1}]}"#;
-
 /// Records without a fault.
 const RIGHT: &str = r#" <- {}
 Id a:b/c imported;Id a:b/d imported exported;Exported n exported; <- {"interfaces":[{"id":"a:b/c","types":[{"name":"t","type":"u8"}],"functions":[]},{"id":"a:b/d","types":[{"name":"s","type":{"ref":[0,"t"]}}],"functions":[]},{"id":null,"types":[],"functions":[{"name":"g"}]}],"imports":[{"interface":0},{"interface":1}],"exports":[{"name":"n","interface":2},{"interface":1}]}
@@ -128,8 +78,6 @@ Imported f imported; <- {"interfaces":[{"id":null,"types":[],"functions":[]}],"i
 
 #[test]
 fn worlds_are_told(rt: HostRuntime) -> Result<(), Fail> {
-    for lines in [WRONG, RIGHT] {
-        assert_eq!(rt; first_other(rt.alloc(), lines)?.as_str(), "");
-    }
+    assert_eq!(rt; first_other(rt.alloc(), RIGHT)?.as_str(), "");
     Ok(())
 }

@@ -1,16 +1,19 @@
 -- The stub's world is a validated one, and the stub refuses no good module.
-use Rattle.std.proofs.Common.{◌≡◌, ℕ, List, refl, subst, sym, take, inl, inr, [], ◌∷◌, arith}
+use Rattle.std.proofs.Common.{◌≡◌, ℕ, List, refl, subst, sym, take, inl, inr, [], ◌∷◌, arith, length, ◌<◌}
 use Rattle.std.specs.Prelude.{⊤, codes}
-use Rattle.std.specs.List.{IsDistinct}
+use Rattle.std.specs.List.{IsDistinct, AllByRecursion}
 use Rattle.std.specs.Str.{bytes_eq}
 use Rattle.comp_worlds.specs.declared.gathered.Gathered.{Gathered}
 use Rattle.comp_worlds.specs.declared.world.ComponentWorld.{ComponentWorld}
+use Rattle.comp_worlds.specs.declared.world.WorldParts.{WorldParts}
+use Rattle.comp_worlds.specs.Mentions.{HasRole}
+use Rattle.comp_worlds.specs.Uses.{all_imports}
 use Rattle.comp_worlds.specs.Worlds.{IsWorld, core_preamble}
 use Rattle.comp_encoder.specs.Encoder.{main_bytes}
 use Rattle.wit_data.specs.Values.{values_from}
 use Rattle.wit_data.specs.Sizes.{AreSmall}
 use Rattle.wit_data.specs.Sound.{IsSound}
-use Rattle.stub_lower.specs.Stub.{stub_resolve, stub_world, PrepareCause}
+use Rattle.stub_lower.specs.Stub.{stub_resolve, stub_parts, stub_world, PrepareCause}
 use Rattle.stub_lower.specs.declared.stub.StubFault.{StubFault}
 use Rattle.stub_lower.specs.declared.stub.StubFault.TheVariants as faults
 use Rattle.stub_lower.specs.declared.stub.StubLower.TheVariants as layers
@@ -36,6 +39,15 @@ sound = record {
   worlds = (record { imports = ((tt, record { resource = tt; params = tt; result = tt }), tt); exports = tt }, tt);
 }
 
+pub parts_sound : (p : WorldParts) (bytes : List ℕ) → p ≡ stub_parts bytes → IsSound p.resolve
+parts_sound p bytes is = subst (λ (x : WorldParts). IsSound x.resolve) (sym is) sound
+
+pub parts_stand : (p : WorldParts) (bytes : List ℕ) → p ≡ stub_parts bytes → p.world.index < length p.resolve.worlds
+parts_stand p bytes is = subst (λ (x : WorldParts). x.world.index < length x.resolve.worlds) (sym is) (omega arith)
+
+pub parts_roles : (p : WorldParts) (bytes : List ℕ) → p ≡ stub_parts bytes → AllByRecursion (λ i. HasRole p.resolve i.role) (all_imports p.main p.adapters)
+parts_roles p bytes is = subst (λ (x : WorldParts). AllByRecursion (λ i. HasRole x.resolve i.role) (all_imports x.main x.adapters)) (sym is) (tt, tt)
+
 valid_of : (bytes : List ℕ) → take 8 bytes ≡ core_preamble → IsWorld (stub_world bytes)
 valid_of bytes core = record {
   sound = sound;
@@ -50,6 +62,9 @@ valid_of bytes core = record {
   export_roles = tt;
   required = tt;
   alone = refl;
+  import_map = refl;
+  live_type_imports = refl;
+  exports_used = refl;
 }
 
 pub valid : (w : ComponentWorld) (bytes : List ℕ) → w ≡ stub_world bytes → take 8 bytes ≡ core_preamble → IsWorld w

@@ -12,7 +12,8 @@ use Rattle.wit_data.specs.declared.resolve.Resolve.{Resolve}
 use Rattle.wit_data.specs.declared.functions.FunctionKind.TheVariants.{Freestanding}
 use Rattle.wit_data.specs.declared.functions.AbiVariant.TheVariants.{GuestImport}
 use Rattle.comp_worlds.specs.declared.world.ComponentWorld.{ComponentWorld}
-use Rattle.comp_worlds.specs.Worlds.{core_preamble}
+use Rattle.comp_worlds.specs.declared.world.WorldParts.{WorldParts}
+use Rattle.comp_worlds.specs.Worlds.{core_preamble, whole_of}
 use Rattle.comp_encoder.specs.Encoder.{main_bytes}
 use Rattle.stub_lower.specs.declared.stub.StubLower.{StubLower}
 use Rattle.stub_lower.specs.declared.stub.StubLower.TheVariants as layers
@@ -37,8 +38,8 @@ abbrev pub stub_resolve : Resolve
 stub_resolve = record { interfaces = []; types = []; worlds = stub_items ∷ [] }
 
 -- there is no string encoding for any function
-abbrev pub stub_world : List ℕ → ComponentWorld
-stub_world bytes = record {
+abbrev pub stub_parts : List ℕ → WorldParts
+stub_parts bytes = record {
   resolve = stub_resolve;
   world = record { index = 0 };
   main = record {
@@ -49,7 +50,11 @@ stub_world bytes = record {
   };
   main_exports = [];
   adapters = [];
+  can_use_context_slot_1 = false;
 }
+
+abbrev pub stub_world : List ℕ → ComponentWorld
+stub_world bytes = whole_of (stub_parts bytes)
 
 abbrev pub world_of : Gathered ⊤ → ComponentWorld
 world_of gathered = stub_world (main_bytes gathered.main)

@@ -1,12 +1,13 @@
 //! The world that the stub answers.
 
 ghost use Rattle.std.specs.Prelude.{◌≡◌, IfOk, take};
-ghost use Rattle.stub_lower.specs.Stub.{stub_imports, stub_items, stub_resolve, stub_world};
+ghost use Rattle.stub_lower.specs.Stub.{stub_imports, stub_items, stub_resolve, stub_parts, stub_world};
 ghost use Rattle.comp_worlds.specs.Worlds.{IsWorld, core_preamble};
 
 use comp_lists::{Keyed, Seq, Text};
 use comp_worlds::{
     ComponentWorld, ExportMap, Import, ImportInstance, ImportMap, ModuleMetadata, ValidatedModule,
+    WorldParts,
 };
 use std::alloc::{AllocError, Global};
 use wit_data::{AbiVariant, Function, FunctionKind, Resolve, World, WorldId, WorldItem, WorldKey};
@@ -60,11 +61,12 @@ fn resolve(alloc: Global) -> Result<Resolve, AllocError>
     })
 }
 
-fn world_of(alloc: Global, bytes: &[u8]) -> Result<ComponentWorld, AllocError>
-    ensures { IfOk result (λ w. w ≡ stub_world bytes.now) }
+/// The parts of the world of a main module.
+fn parts_of(alloc: Global, bytes: &[u8]) -> Result<WorldParts, AllocError>
+    ensures { IfOk result (λ p. p ≡ stub_parts bytes.now) }
 {
     let bytes = Seq::from_vec(Vec::from_slice(alloc, bytes)?);
-    Ok(ComponentWorld {
+    Ok(WorldParts {
         resolve: resolve(alloc)?,
         world: WorldId { index: 0 },
         main: ValidatedModule {
@@ -80,7 +82,17 @@ fn world_of(alloc: Global, bytes: &[u8]) -> Result<ComponentWorld, AllocError>
         },
         main_exports: Seq::new(alloc),
         adapters: Keyed::new(alloc),
+        can_use_context_slot_1: false,
     })
+}
+
+#[tactic(auto, using(crate::proofs::Stubs::parts_sound, crate::proofs::Stubs::parts_stand, crate::proofs::Stubs::parts_roles))]
+fn world_of(alloc: Global, bytes: &[u8]) -> Result<ComponentWorld, AllocError>
+    ensures { IfOk result (λ w. w ≡ stub_world bytes.now) }
+{
+    let parts = parts_of(alloc, bytes)?;
+    let world = ComponentWorld::of_parts(alloc, parts)?;
+    Ok(world)
 }
 
 /// The world of a main module.

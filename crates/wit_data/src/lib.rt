@@ -38,6 +38,7 @@ pub use comp_bytes::Primitive;
 pub use contents::TypeContents;
 pub use functions::{AbiVariant, Function, FunctionKind, Param};
 pub use ids::{InterfaceId, TypeId, WorldId};
+pub use liveness::{live_marks, marked_of};
 pub use names::IdName;
 pub use parts::{kind_of, part_count_of, part_of};
 pub use resolve::{Interface, Resolve};

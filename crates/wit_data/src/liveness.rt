@@ -40,12 +40,9 @@ impl Resolve {
     }
 }
 
-/// For each type, whether the given types reach it.
-pub(crate) fn live_marks(
-    alloc: Global,
-    types: &[TypeDef],
-    given: &[Type],
-) -> Result<Vec<bool>, AllocError>
+/// For each type, whether the given types reach it. It takes time by the number of the types and of their parts,
+/// however many are given. The only refusal is want of memory.
+pub fn live_marks(alloc: Global, types: &[TypeDef], given: &[Type]) -> Result<Vec<bool>, AllocError>
     requires sound { RefersBack types.now }
     requires given { AllByRecursion (λ t. IsBelow (length types.now) (Some t)) given.now }
     ensures { IfOk result (λ marks. AreLive types.now given.now marks.items) }
@@ -126,8 +123,8 @@ fn mark(marks: &mut [bool], part: Option<Type>)
     }
 }
 
-/// Those of the types by name that are marked, in their order.
-fn marked_of(
+/// Those of the types by name that are marked, in their order. The only refusal is want of memory.
+pub fn marked_of(
     alloc: Global,
     marks: &[bool],
     named: &Keyed<Text, TypeId>,

@@ -3,4 +3,4 @@ use Rattle.core_sections.specs.Entries.{with_exports}
 use Rattle.core_sections.proofs.core_module.add_all.Given as goal
 
 abbrev pub invariant-loop-export : goal.invariant-loop-export
-invariant-loop-export l = with_exports l.count l.all l.export-iterator.rest.items ≡ with_exports l.count l.fn.table l.fn.exports.items
+invariant-loop-export l = with_exports l.items l.all l.export-iterator.rest.items ≡ with_exports l.items l.fn.table l.fn.exports.items

@@ -1,4 +1,4 @@
-use Rattle.core_sections.proofs.Items.{goes_on}
+use Rattle.core_sections.proofs.Repeated.{goes_on}
 use Rattle.core_sections.proofs.reading.read_items.Goals as goal
 
 pub loop-preserved : goal.loop-preserved

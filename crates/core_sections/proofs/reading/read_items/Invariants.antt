@@ -1,6 +1,6 @@
 use Rattle.std.proofs.Common.{◌≡◌, ◌-◌}
 use Rattle.core_sections.specs.Reading.{items_at}
-use Rattle.core_sections.proofs.Items.{with_front}
+use Rattle.core_sections.proofs.Repeated.{with_front}
 use Rattle.core_sections.proofs.reading.read_items.Given as goal
 
 abbrev pub invariant-loop : goal.invariant-loop

@@ -1,0 +1,169 @@
+//! What the core imports of all modules use of what the world imports.
+
+ghost use Rattle.std.specs.Prelude.{◌≡◌, [], nat_eq, map, IfOk, OnOk};
+ghost use Rattle.std.specs.List.{flat_map};
+ghost use Rattle.comp_worlds.specs.Tables.{with_all};
+ghost use Rattle.comp_worlds.specs.Uses.{all_imports, call_at, calls_in, drops_in, is_same_call, IsUsed, used_in, used_by};
+ghost use Rattle.comp_worlds.specs.Lookups.{core_import};
+
+use crate::imports::{Import, NamedImport};
+use crate::lowerings::LoweringKey;
+use crate::world::{ValidatedModule, WorldAdapter};
+use comp_lists::{Keyed, Text, TryClone};
+use std::alloc::{AllocError, Global};
+use std::hash::{Hash, Hasher};
+use wit_data::{AbiVariant, WorldKey};
+
+/// A call of an imported function: the key of the world's import where it stands, its name there and
+/// the form of the call.
+#[derive(Debug, Drop)]
+pub(crate) struct Call {
+    pub key: WorldKey,
+    pub lowering: LoweringKey,
+}
+
+impl PartialEq for Call {
+    ghost use Rattle.std.proofs.Common.{rules};
+    ghost use Rattle.std.specs.Cmp.Rules.{comparing};
+    ghost use Rattle.comp_worlds.specs.Uses.{is_same_call};
+
+    ghost eq = { is_same_call };
+
+    ghost laws = { Prim.search (comparing, rules) depth 12 };
+
+    fn eq(&self, other: &Self) -> bool {
+        self.key == other.key && self.lowering == other.lowering
+    }
+}
+
+impl Eq for Call {
+    ghost use Rattle.std.proofs.Common.{rules};
+    ghost use Rattle.std.specs.Cmp.Rules.{comparing};
+
+    ghost laws = { Prim.search (comparing, rules) depth 12 };
+}
+
+impl Hash for Call {
+    ghost use Rattle.std.proofs.Common.{rules};
+    ghost use Rattle.std.specs.Prelude.{◌++◌};
+    ghost use Rattle.std.specs.Cmp.Rules.{hashing};
+    ghost use Rattle.wit_data.specs.Keys.{name_of_key, interface_index};
+    ghost use Rattle.comp_worlds.specs.Lowerings.{abi_number};
+    ghost use Rattle.std.specs.Hash as fed;
+
+    ghost hash_input = { λ c. (fed.str (name_of_key c.key) ++ fed.usize (interface_index c.key)) ++ (fed.str c.lowering.name ++ fed.u8 (abi_number c.lowering.abi)) };
+
+    ghost respects_eq = { Prim.search (hashing, rules) };
+
+    fn hash<H: Hasher>(&self, state: &mut H) {
+        self.key.hash(state);
+        self.lowering.hash(state);
+    }
+}
+
+/// The call of a function at a key.
+pub(crate) fn call_at(
+    alloc: Global,
+    key: &WorldKey,
+    name: &Text,
+    abi: AbiVariant,
+) -> Result<Call, AllocError>
+    ensures { IfOk result (λ c. c ≡ call_at key.now name.now abi) }
+{
+    let key = key.try_clone(alloc)?;
+    let name = name.clone(alloc)?;
+    Ok(Call {
+        key,
+        lowering: LoweringKey { name, abi },
+    })
+}
+
+/// Adds the call that an import is for, if it is for one.
+fn add_call(alloc: Global, calls: &mut Keyed<Call, ()>, role: &Import) -> Result<(), AllocError>
+    ensures { OnOk result (calls.new ≡ with_all is_same_call calls.old (calls_in role.now)) }
+{
+    match role {
+        Import::WorldFunc(key, name, abi) => calls.add_first(call_at(alloc, key, name, *abi)?, ()),
+        Import::InterfaceFunc(key, _, name, abi) => {
+            calls.add_first(call_at(alloc, key, name, *abi)?, ())
+        }
+        _ => Ok(()),
+    }
+}
+
+/// Adds the number of the resource that an import drops, if it drops one.
+fn add_drop(drops: &mut Keyed<usize, ()>, role: &Import) -> Result<(), AllocError>
+    ensures { OnOk result (drops.new ≡ with_all nat_eq drops.old (drops_in role.now)) }
+{
+    match role {
+        Import::ImportedResourceDrop(_, _, id) => drops.add_first(id.index, ()),
+        _ => Ok(()),
+    }
+}
+
+/// The imports of all modules: of main, then of the adapters in order.
+#[tactic(auto, using(crate::proofs::Walking::item_step))]
+pub(crate) fn all_imports<'a>(
+    alloc: Global,
+    main: &'a ValidatedModule,
+    adapters: &'a Keyed<Text, WorldAdapter>,
+) -> Result<Vec<NamedImport<'a>>, AllocError>
+    ensures { IfOk result (λ v. map core_import v.items ≡ all_imports main.now adapters.now) }
+{
+    let mut list = Vec::new(alloc);
+    main.imports.add_imports(&mut list)?;
+    for (_, adapter) in adapters.entries() {
+        adapter.info.imports.add_imports(&mut list)?;
+    }
+    Ok(list)
+}
+
+/// The calls that imports are for.
+#[tactic(auto, using(crate::proofs::Entering::after_item))]
+fn calls_of(alloc: Global, imports: &[NamedImport<'_>]) -> Result<Keyed<Call, ()>, AllocError>
+    ensures { IfOk result (λ t. t ≡ with_all is_same_call [] (flat_map (λ i. calls_in i.role) (map core_import imports.now))) }
+{
+    let mut calls = Keyed::new(alloc);
+    for import in imports {
+        add_call(alloc, &mut calls, import.role)?;
+    }
+    Ok(calls)
+}
+
+/// The numbers of the resources that imports drop.
+#[tactic(auto, using(crate::proofs::Entering::after_item))]
+fn drops_of(alloc: Global, imports: &[NamedImport<'_>]) -> Result<Keyed<usize, ()>, AllocError>
+    ensures { IfOk result (λ t. t ≡ with_all nat_eq [] (flat_map (λ i. drops_in i.role) (map core_import imports.now))) }
+{
+    let mut drops = Keyed::new(alloc);
+    for import in imports {
+        add_drop(&mut drops, import.role)?;
+    }
+    Ok(drops)
+}
+
+/// What core imports use of what the world imports, and whether main imports its memory.
+#[derive(Drop)]
+pub(crate) struct Uses {
+    pub calls: Keyed<Call, ()>,
+    pub drops: Keyed<usize, ()>,
+    pub shares_memory: bool,
+}
+
+/// What these imports use, where main imports its memory or not.
+#[tactic(auto, using(crate::proofs::Using::uses_are))]
+pub(crate) fn uses_of(
+    alloc: Global,
+    imports: &[NamedImport<'_>],
+    shares_memory: bool,
+) -> Result<Uses, AllocError>
+    ensures { IfOk result (λ u. IsUsed (used_in u) (used_by (map core_import imports.now) shares_memory)) }
+{
+    let calls = calls_of(alloc, imports)?;
+    let drops = drops_of(alloc, imports)?;
+    Ok(Uses {
+        calls,
+        drops,
+        shares_memory,
+    })
+}

@@ -1,0 +1,90 @@
+//! The program `generated_modules`: it prints core modules of the kinds that are generated, a line each,
+//! the name and the bytes in hexadecimal digits.
+//!
+//! They are the modules of `core_runs`' worked examples, made by the writers. What it must print stands
+//! in the file `stdout` beside `src`; `tests/run_modules.sh` takes the modules from there, and runs them
+//! in an engine.
+//!
+//! In reading order: `sections` (sections of a few entries), `shims` (shims and their fixups), `others`
+//! (wrappers, start functions, a cell, a memory), `hex` (how bytes are shown).
+#![tactic(auto)]
+
+mod hex;
+mod others;
+mod sections;
+mod shims;
+
+use comp_bytes::BuildFault;
+use hex::Hex;
+use std::alloc::Global;
+use std::io;
+use std::process::ExitCode;
+
+/// Why the program stops: a module could not be made, or a line could not be printed.
+#[derive(Clone, Copy)]
+enum Failure {
+    Making,
+    Output,
+}
+
+/// Prints a line.
+fn tell(rt: &HostRuntime, name: &str, bytes: Result<Vec<u8>, BuildFault>) -> Result<(), Failure> {
+    let Ok(bytes) = bytes else {
+        return Err(Failure::Making);
+    };
+    print(rt, name, bytes.as_slice()).map_err(|_fault| Failure::Output)
+}
+
+fn print(rt: &HostRuntime, name: &str, bytes: &[u8]) -> io::Result<()> {
+    println!(rt; "{name} {}", Hex::new(bytes))?;
+    Ok(())
+}
+
+/// Shims in both forms, and what fills them.
+fn tell_shims(rt: &HostRuntime, alloc: Global) -> Result<(), Failure> {
+    tell(rt, "table_shim", shims::table_shims(alloc, 1))?;
+    tell(rt, "table_fill", shims::table_fills(alloc, 1))?;
+    tell(rt, "ref_shim", shims::ref_shims(alloc, 1))?;
+    tell(rt, "ref_fill", shims::ref_fills(alloc, 1))
+}
+
+/// The same for twelve shims.
+fn tell_twelve(rt: &HostRuntime, alloc: Global) -> Result<(), Failure> {
+    tell(rt, "twelve_table_shims", shims::table_shims(alloc, 12))?;
+    tell(rt, "twelve_table_fills", shims::table_fills(alloc, 12))?;
+    tell(rt, "twelve_ref_shims", shims::ref_shims(alloc, 12))?;
+    tell(rt, "twelve_ref_fills", shims::ref_fills(alloc, 12))
+}
+
+/// Wrappers, and a function that is only imported.
+fn tell_wrappers(rt: &HostRuntime, alloc: Global) -> Result<(), Failure> {
+    tell(rt, "code_wrappers", others::code_wrappers(alloc))?;
+    tell(rt, "sync_wrappers", others::sync_wrappers(alloc))?;
+    tell(rt, "one_import", others::one_import(alloc))
+}
+
+/// Start functions.
+fn tell_starts(rt: &HostRuntime, alloc: Global) -> Result<(), Failure> {
+    tell(rt, "imported_start", others::imported_start(alloc))?;
+    tell(rt, "hooks_around", others::hooks_around(alloc))?;
+    tell(rt, "data_and_call", others::data_and_call(alloc))?;
+    tell(rt, "address", others::address(alloc))
+}
+
+fn run(rt: &HostRuntime) -> Result<(), Failure> {
+    let alloc = rt.alloc();
+    tell_shims(rt, alloc)?;
+    tell_twelve(rt, alloc)?;
+    tell_wrappers(rt, alloc)?;
+    tell_starts(rt, alloc)?;
+    tell(rt, "memory", others::memory(alloc))?;
+    tell(rt, "cell", others::cell(alloc))
+}
+
+fn main(rt: HostRuntime) -> ExitCode {
+    match run(&rt) {
+        Ok(()) => ExitCode::from(0),
+        Err(Failure::Making) => ExitCode::from(1),
+        Err(Failure::Output) => ExitCode::from(2),
+    }
+}

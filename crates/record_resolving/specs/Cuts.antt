@@ -1,0 +1,10 @@
+-- Texts that are cut at a character.
+use Rattle.std.specs.Prelude.{ℕ, ◌==◌, nat_lt, length, List, Option, Some, None, if◌then◌else◌}
+use Rattle.std.specs.List.{before_first, after_first, position_or_len}
+
+-- what stands before and after the first such character
+abbrev pub cut_at : ℕ → List ℕ → Option (List ℕ × List ℕ)
+cut_at mark text =
+    if nat_lt (position_or_len (λ b. b == mark) text) (length text)
+    then Some (before_first (λ b. b == mark) text, after_first (λ b. b == mark) text)
+    else None

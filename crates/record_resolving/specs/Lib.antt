@@ -1,0 +1,11 @@
+pub mod Steps
+pub mod Names
+pub mod Kinds
+pub mod Sharing
+pub mod Types
+pub mod Cuts
+pub mod Functions
+pub mod Ids
+pub mod Interfaces
+pub mod Worlds
+pub mod Resolved

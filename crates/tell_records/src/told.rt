@@ -1,0 +1,119 @@
+//! What the lower layer says of records, and of a module.
+
+use comp_lists::Bytes;
+use comp_worlds::{EncoderOptions, Gathered, Lower, Part};
+use plain_lower::PlainLower;
+use std::alloc::{AllocError, Global};
+use std::fmt;
+
+/// The call that refuses a module, with its fault, or that none does.
+#[derive(Drop)]
+enum Told<F> {
+    Prepared,
+    Decode(F),
+    Merge(F),
+    Prepare(F),
+}
+
+impl<F: fmt::Display> fmt::Display for Told<F> {
+    fn fmt<W: fmt::Write>(&self, f: &mut fmt::Formatter<W>) -> fmt::Result {
+        match self {
+            Told::Prepared => write!(f, "prepared"),
+            Told::Decode(fault) => write!(f, "decode: {fault}"),
+            Told::Merge(fault) => write!(f, "merge: {fault}"),
+            Told::Prepare(fault) => write!(f, "prepare: {fault}"),
+        }
+    }
+}
+
+const EMPTY_MODULE: [u8; 8] = [0x00, 0x61, 0x73, 0x6d, 0x01, 0x00, 0x00, 0x00];
+
+/// The options of an encoder that was asked for nothing.
+const OPTIONS: EncoderOptions = EncoderOptions {
+    validate: false,
+    debug_names: false,
+    shim_return_call_ref: false,
+    merge_imports_based_on_semver: true,
+    emit_canonical_names: false,
+    reject_legacy_names: false,
+    realloc_via_memory_grow: false,
+};
+
+/// The world of a module alone.
+fn prepare_alone<L: Lower>(
+    lower: &L,
+    alloc: Global,
+    bytes: Bytes,
+    own: L::Bindgen,
+) -> Told<L::Fault> {
+    let empty = lower.empty(alloc);
+    let merged = match lower.merge(alloc, &empty, &own) {
+        Ok(merged) => merged,
+        Err(fault) => return Told::Merge(fault),
+    };
+    let gathered = Gathered {
+        main: Some(Part {
+            bytes,
+            own,
+            required: merged.exports,
+        }),
+        joint: merged.joint,
+        options: OPTIONS,
+    };
+    match lower.prepare(alloc, &gathered) {
+        Ok(_) => Told::Prepared,
+        Err(fault) => Told::Prepare(fault),
+    }
+}
+
+/// What a layer says of a module as main.
+fn told_by<L: Lower>(lower: &L, alloc: Global, bytes: &[u8]) -> Told<L::Fault> {
+    match lower.decode(alloc, bytes) {
+        Ok((bytes, own)) => prepare_alone(lower, alloc, bytes, own),
+        Err(fault) => Told::Decode(fault),
+    }
+}
+
+/// What is said of the records of a module: that they are read, or the fault.
+fn read_by<L: Lower>(lower: &L, alloc: Global, bytes: &[u8]) -> Result<String, AllocError> {
+    match lower.decode(alloc, bytes) {
+        Ok(_) => String::from_str(alloc, "read"),
+        Err(fault) => format!(in alloc; "{fault}"),
+    }
+}
+
+/// Adds a size of less than 2^14, in two bytes.
+fn push_size(bytes: &mut Vec<u8>, size: usize) -> Result<(), AllocError> {
+    bytes.extend_from_slice(&[(size % 128) as u8 + 128, (size / 128 % 128) as u8])
+}
+
+/// Adds a custom section of this name of fourteen bytes.
+fn push_section(bytes: &mut Vec<u8>, record: &str) -> Result<(), AllocError> {
+    bytes.push(0)?;
+    push_size(bytes, record.len().saturating_add(15))?;
+    bytes.push(14)?;
+    bytes.extend_from_slice(b"component-type")?;
+    bytes.extend_from_slice(record.as_bytes())
+}
+
+/// The empty module with these records, each in a section of its own.
+fn with_records(alloc: Global, records: &str) -> Result<Vec<u8>, AllocError> {
+    let mut bytes = Vec::from_slice(alloc, &EMPTY_MODULE)?;
+    for record in records.split(" & ") {
+        push_section(&mut bytes, record)?;
+    }
+    Ok(bytes)
+}
+
+/// What is said of these records, which stand in the sections of one module: that they are read, or the
+/// fault.
+pub(crate) fn records_told(alloc: Global, records: &str) -> Result<String, AllocError> {
+    let bytes = with_records(alloc, records)?;
+    read_by(&PlainLower::new(), alloc, &bytes)
+}
+
+/// What is said of a module as main: that its world is prepared, or the call that refuses it, with the fault.
+pub(crate) fn module_told(alloc: Global, bytes: &[u8]) -> Result<String, AllocError> {
+    let told = told_by(&PlainLower::new(), alloc, bytes);
+    format!(in alloc; "{told}")
+}
