@@ -46,7 +46,7 @@ use Rattle.plain_lower.specs.Faults.{◌>>=◌, lifted, Gives}
 use Rattle.plain_lower.specs.Roles.{function_of}
 use Rattle.record_values.specs.Names.{is_same_import}
 use Rattle.plain_lower.proofs.Chains.{bind_ok, passed, equivalence}
-use Rattle.plain_lower.specs.Preparing.{Table, no_role, unfit, not_exported, fits_import, fits_export, imported_by, fitting, import_of, world_items, with_field, fields_in, group_after, groups_after, instances_of, StandAnywhere, export_as, with_export, export_of_role, exports_after, by_function, required_key, required_after, parts_of, world_of, preparing_main, preparing_if}
+use Rattle.plain_lower.specs.Preparing.{Table, no_role, unfit, not_exported, fits_import, fits_export, imported_by, fitting, import_of, world_items, one_world, with_field, fields_in, group_after, groups_after, instances_of, StandAnywhere, export_as, with_export, export_of_role, exports_after, by_function, required_key, required_after, parts_of, world_of, world_behind, roles_in, preparing_by_roles, preparing_main, preparing_if}
 
 -- ---- keys and items
 
@@ -82,9 +82,6 @@ items_stand r (e ∷ es) = ((tt, record { resource = tt; params = tt; result = t
 no_types_small : AreSmall []
 unfolding values_from
 no_types_small = record { labels = tt; nodes = tt; levels = tt }
-
-abbrev one_world : Table → Table → Resolve
-one_world imported exported = record { interfaces = []; types = []; worlds = record { imports = world_items imported; exports = world_items exported } ∷ [] }
 
 alone_sound : (imported exported : Table) → IsSound (one_world imported exported)
 alone_sound imported exported = record {
@@ -362,6 +359,33 @@ is_world joint None w e = absurd cc
 is_world joint (Some main) w e = main_is_world joint main w e
 
 -- what a call that prepares main answers is a world
+-- the same, where the roles are read first
+pub by_roles : (joint : RootFunctions) (main : Part RootFunctions) → preparing_by_roles joint main ≡ preparing_main joint main
+unfolding preparing_main
+by_roles joint main = by (lifted (module_of main.bytes)) where
+  behind : List Group × List (List ℕ × Export) → Result ComponentWorld Failure
+  behind roles = world_behind joint main roles.0 roles.1
+
+  by_exports : (gs : List Group) (r : Result (List (List ℕ × Export)) Failure) → ((r >>= λ exported. Ok (gs, exported)) >>= behind) ≡ (r >>= λ exported. world_behind joint main gs exported)
+  by_exports gs (Ok exported) = refl
+  by_exports gs (Err e) = refl
+
+  by_groups : (core : CoreModule) (r : Result (List Group) Failure)
+      → ((r >>= λ groups. exports_after joint.exports main.own core [] core.exports >>= λ exported. Ok (groups, exported)) >>= behind)
+      ≡ (r >>= λ groups. exports_after joint.exports main.own core [] core.exports >>= λ exported. world_behind joint main groups exported)
+  by_groups core (Ok gs) = by_exports gs (exports_after joint.exports main.own core [] core.exports)
+  by_groups core (Err e) = refl
+
+  by : (r : Result CoreModule Failure)
+      → ((r >>= λ core. roles_in joint main.own core) >>= behind)
+      ≡ (r >>= λ core. groups_after joint.imports main.own core [] core.imports >>= λ groups.
+      exports_after joint.exports main.own core [] core.exports >>= λ exported. world_behind joint main groups exported)
+  by (Ok core) = by_groups core (groups_after joint.imports main.own core [] core.imports)
+  by (Err e) = refl
+
+pub gives_by_roles : (joint : RootFunctions) (main : Part RootFunctions) (r : Result ComponentWorld Failure) → Gives (λ w. w) r (preparing_by_roles joint main) → Gives (λ w. w) r (preparing_main joint main)
+gives_by_roles joint main r = subst (Gives (λ w. w) r) (by_roles joint main)
+
 pub answer_is_world : (joint : RootFunctions) (main : Part RootFunctions) (r : Result ComponentWorld Failure) → Gives (λ w. w) r (preparing_main joint main) → OnOk r (IsDistinct bytes_eq (keys_of joint.imports))
     → OnOk r (IsDistinct bytes_eq (keys_of joint.exports)) → IfOk r (λ w. IsDistinct bytes_eq (keys_of w.main.imports.modules)) → IfOk r IsWorld
 answer_is_world joint main (Ok w) exact imports exports modules = main_is_world joint main w exact imports exports modules

@@ -30,6 +30,7 @@ use Rattle.comp_worlds.specs.declared.gathered.ExportKey.TheVariants as export_k
 use Rattle.comp_worlds.specs.declared.gathered.Part.{Part}
 use Rattle.comp_worlds.specs.declared.gathered.Gathered.{Gathered}
 use Rattle.comp_worlds.specs.declared.metadata.FunctionKey.{FunctionKey}
+use Rattle.comp_worlds.specs.declared.metadata.ModuleMetadata.{ModuleMetadata}
 use Rattle.comp_worlds.specs.declared.world.ValidatedModule.{ValidatedModule}
 use Rattle.comp_worlds.specs.declared.world.ComponentWorld.{ComponentWorld}
 use Rattle.comp_worlds.specs.declared.world.WorldParts.{WorldParts}
@@ -185,21 +186,25 @@ world_items table = map (λ e. (keys.Name e.0, items.Function (plain_function e.
 abbrev pub encodings_of : Table → List (FunctionKey × StringEncoding)
 encodings_of table = map (λ e. (record { key = keys.Name e.0; function = e.0 }, e.1)) table
 
+-- the string encodings of the functions that a module imports and exports
+abbrev pub metadata_of : RootFunctions → ModuleMetadata
+metadata_of own = record { import_encodings = encodings_of own.imports; export_encodings = encodings_of own.exports }
+
 abbrev pub main_of : Part RootFunctions → List Group → List (List ℕ × Export) → ValidatedModule
 main_of main groups exported = record {
   bytes = main.bytes;
   imports = record { modules = instances_of groups };
   exports = record { exports = exported };
-  metadata = record { import_encodings = encodings_of main.own.imports; export_encodings = encodings_of main.own.exports };
+  metadata = metadata_of main.own;
 }
+
+-- a world with these imports and exports, with no interfaces and no types
+abbrev pub one_world : Table → Table → Resolve
+one_world imported exported = record { interfaces = []; types = []; worlds = record { imports = world_items imported; exports = world_items exported } ∷ [] }
 
 abbrev pub parts_of : RootFunctions → Part RootFunctions → List Group → List (List ℕ × Export) → List WorldKey → WorldParts
 parts_of joint main groups exported required = record {
-  resolve = record {
-    interfaces = [];
-    types = [];
-    worlds = record { imports = world_items joint.imports; exports = world_items joint.exports } ∷ [];
-  };
+  resolve = one_world joint.imports joint.exports;
   world = record { index = 0 };
   main = main_of main groups exported;
   main_exports = required;
@@ -215,6 +220,19 @@ abbrev pub world_behind : RootFunctions → Part RootFunctions → List Group �
 world_behind joint main groups exported = do
   required ← required_after joint.exports exported [] main.required
   Ok (world_of joint main groups exported required)
+
+-- what the imports and exports of main are for
+abbrev pub roles_in : RootFunctions → RootFunctions → CoreModule → Result (List Group × List (List ℕ × Export)) Failure
+roles_in joint own core = do
+  groups ← groups_after joint.imports own core [] core.imports
+  exported ← exports_after joint.exports own core [] core.exports
+  Ok (groups, exported)
+
+abbrev pub main_roles : RootFunctions → Part RootFunctions → Result (List Group × List (List ℕ × Export)) Failure
+main_roles joint main = lifted (module_of main.bytes) >>= λ core. roles_in joint main.own core
+
+abbrev pub preparing_by_roles : RootFunctions → Part RootFunctions → Result ComponentWorld Failure
+preparing_by_roles joint main = main_roles joint main >>= λ roles. world_behind joint main roles.0 roles.1
 
 unfoldable pub preparing_main : RootFunctions → Part RootFunctions → Result ComponentWorld Failure
 preparing_main joint main = do

@@ -7,7 +7,7 @@ ghost use Rattle.std.specs.Str.{bytes_eq};
 ghost use Rattle.plain_lower.specs.Faults.{Gives};
 ghost use Rattle.comp_worlds.specs.Worlds.{IsWorld};
 ghost use Rattle.plain_lower.specs.Narrowing.{root_part};
-ghost use Rattle.plain_lower.specs.Preparing.{world_items, encodings_of, instances_of, main_of, parts_of, StandAnywhere, world_of, world_behind, preparing_main, preparing_part, preparing_all};
+ghost use Rattle.plain_lower.specs.Preparing.{world_items, encodings_of, instances_of, metadata_of, main_of, one_world, parts_of, StandAnywhere, world_of, roles_in, main_roles, preparing_by_roles, world_behind, preparing_main, preparing_part, preparing_all};
 
 use crate::exporting::{read_exports, require_all};
 use crate::fault::{Failure, Refusal};
@@ -19,7 +19,7 @@ use comp_worlds::{
     ComponentWorld, Export, ExportKey, ExportMap, FunctionKey, Gathered, ImportInstance, ImportMap,
     ModuleMetadata, Part, StringEncoding, ValidatedModule, WorldParts,
 };
-use core_sections::read_module;
+use core_sections::{CoreModule, read_module};
 use record_joining::Bindgen;
 use std::alloc::{AllocError, Global};
 use std::hash::Hash;
@@ -130,6 +130,35 @@ fn import_map(alloc: Global, groups: Vec<Group>) -> Result<ImportMap, AllocError
     })
 }
 
+/// The string encodings of the functions that a module imports and exports.
+fn metadata_of(alloc: Global, own: &RootFunctions) -> Result<ModuleMetadata, AllocError>
+    ensures { IfOk result (λ m. m ≡ metadata_of own.now) }
+{
+    let import_encodings = encoding_table(alloc, &own.imports)?;
+    let export_encodings = encoding_table(alloc, &own.exports)?;
+    Ok(ModuleMetadata {
+        import_encodings,
+        export_encodings,
+    })
+}
+
+/// Main, with the tables of what its imports and exports are for.
+fn with_tables(
+    main: Part<RootFunctions>,
+    imports: ImportMap,
+    exports: Keyed<Text, Export>,
+    metadata: ModuleMetadata,
+) -> ValidatedModule
+    ensures { result ≡ record { bytes = main.bytes; imports = imports; exports = record { exports = exports }; metadata = metadata } }
+{
+    ValidatedModule {
+        bytes: main.bytes,
+        imports,
+        exports: ExportMap { exports },
+        metadata,
+    }
+}
+
 /// Main, and what its imports and exports are for.
 fn validated(
     alloc: Global,
@@ -140,18 +169,9 @@ fn validated(
     requires { IsDistinct bytes_eq (keys_of (instances_of groups.items)) }
     ensures { IfOk result (λ m. m ≡ main_of main groups.items exports) }
 {
-    let Part { bytes, own, .. } = main;
     let imports = import_map(alloc, groups)?;
-    let metadata = ModuleMetadata {
-        import_encodings: encoding_table(alloc, &own.imports)?,
-        export_encodings: encoding_table(alloc, &own.exports)?,
-    };
-    Ok(ValidatedModule {
-        bytes,
-        imports,
-        exports: ExportMap { exports },
-        metadata,
-    })
+    let metadata = metadata_of(alloc, &main.own)?;
+    Ok(with_tables(main, imports, exports, metadata))
 }
 
 /// One world, with no interfaces and no types.
@@ -165,6 +185,37 @@ fn resolve_of(alloc: Global, world: World) -> Result<Resolve, AllocError>
         types: Seq::new(alloc),
         worlds,
     })
+}
+
+/// The imports and exports of a world, alone.
+fn world_alone(alloc: Global, joint: &RootFunctions) -> Result<Resolve, AllocError>
+    ensures world { IfOk result (λ r. r ≡ one_world joint.now.imports joint.now.exports) }
+    ensures imports { OnOk result (IsDistinct bytes_eq (keys_of joint.now.imports)) }
+    ensures exports { OnOk result (IsDistinct bytes_eq (keys_of joint.now.exports)) }
+{
+    let imports = world_side(alloc, &joint.imports)?;
+    let exports = world_side(alloc, &joint.exports)?;
+    resolve_of(alloc, World { imports, exports })
+}
+
+/// The parts of a world of main alone.
+fn with_main(
+    alloc: Global,
+    resolve: Resolve,
+    main: ValidatedModule,
+    main_exports: Seq<WorldKey>,
+    can_use_context_slot_1: bool,
+) -> WorldParts
+    ensures { result ≡ record { resolve = resolve; world = record { index = 0 }; main = main; main_exports = main_exports; adapters = []; can_use_context_slot_1 = can_use_context_slot_1 } }
+{
+    WorldParts {
+        resolve,
+        world: WorldId { index: 0 },
+        main,
+        main_exports,
+        adapters: Keyed::new(alloc),
+        can_use_context_slot_1,
+    }
 }
 
 /// The parts of the world that is made of these.
@@ -182,19 +233,10 @@ fn parts_of(
     ensures exports { OnOk result (IsDistinct bytes_eq (keys_of joint.now.exports)) }
     ensures modules { IfOk result (λ p. IsDistinct bytes_eq (keys_of p.main.imports.modules)) }
 {
-    let world = World {
-        imports: world_side(alloc, &joint.imports)?,
-        exports: world_side(alloc, &joint.exports)?,
-    };
-    let can_use_context_slot_1 = main.own.context_slot_1;
-    Ok(WorldParts {
-        resolve: resolve_of(alloc, world)?,
-        world: WorldId { index: 0 },
-        main: validated(alloc, main, groups, exports)?,
-        main_exports,
-        adapters: Keyed::new(alloc),
-        can_use_context_slot_1,
-    })
+    let slot_1 = main.own.context_slot_1;
+    let main = validated(alloc, main, groups, exports)?;
+    let resolve = world_alone(alloc, joint)?;
+    Ok(with_main(alloc, resolve, main, main_exports, slot_1))
 }
 
 /// The world that is made of these.
@@ -239,21 +281,51 @@ fn world_behind(
     Ok(world)
 }
 
+/// What main's core imports and exports are for.
+type MainRoles = (Vec<Group>, Keyed<Text, Export>);
+
+/// What the imports and exports of this core module are for.
+fn roles_in(
+    alloc: Global,
+    joint: &RootFunctions,
+    own: &RootFunctions,
+    core: &CoreModule,
+) -> Result<MainRoles, Failure>
+    ensures exact { Gives (λ r. (r.0.items, r.1)) result (roles_in joint.now own.now core.now) }
+    ensures stand { IfOk result (λ r. StandAnywhere r.0.items) }
+    ensures apart { IfOk result (λ r. IsDistinct bytes_eq (keys_of (instances_of r.0.items))) }
+{
+    let groups = read_imports(alloc, &joint.imports, own, core)?;
+    let exports = read_exports(alloc, &joint.exports, own, core)?;
+    Ok((groups, exports))
+}
+
+/// What the imports and exports of main are for.
+fn main_roles(
+    alloc: Global,
+    joint: &RootFunctions,
+    main: &Part<RootFunctions>,
+) -> Result<MainRoles, Failure>
+    ensures exact { Gives (λ r. (r.0.items, r.1)) result (main_roles joint.now main.now) }
+    ensures stand { IfOk result (λ r. StandAnywhere r.0.items) }
+    ensures apart { IfOk result (λ r. IsDistinct bytes_eq (keys_of (instances_of r.0.items))) }
+{
+    let core = read_module(alloc, main.bytes.as_slice())?;
+    roles_in(alloc, joint, &main.own, &core)
+}
+
 /// The validated world of what all modules say and main.
-#[tactic(auto, unfolding(crate::specs::Preparing::preparing_main))]
 fn prepare_main(
     alloc: Global,
     joint: &RootFunctions,
     main: Part<RootFunctions>,
 ) -> Result<ComponentWorld, Failure>
-    ensures exact { Gives (λ w. w) result (preparing_main joint.now main) }
+    ensures exact { Gives (λ w. w) result (preparing_by_roles joint.now main) }
     ensures imports { OnOk result (IsDistinct bytes_eq (keys_of joint.now.imports)) }
     ensures exports { OnOk result (IsDistinct bytes_eq (keys_of joint.now.exports)) }
     ensures modules { IfOk result (λ w. IsDistinct bytes_eq (keys_of w.main.imports.modules)) }
 {
-    let core = read_module(alloc, main.bytes.as_slice())?;
-    let groups = read_imports(alloc, &joint.imports, &main.own, &core)?;
-    let exports = read_exports(alloc, &joint.exports, &main.own, &core)?;
+    let (groups, exports) = main_roles(alloc, joint, &main)?;
     world_behind(alloc, joint, main, groups, exports)
 }
 

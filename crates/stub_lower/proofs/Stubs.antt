@@ -40,15 +40,19 @@ sound = record {
 }
 
 pub parts_sound : (p : WorldParts) (bytes : List ℕ) → p ≡ stub_parts bytes → IsSound p.resolve
+unfolding stub_parts
 parts_sound p bytes is = subst (λ (x : WorldParts). IsSound x.resolve) (sym is) sound
 
 pub parts_stand : (p : WorldParts) (bytes : List ℕ) → p ≡ stub_parts bytes → p.world.index < length p.resolve.worlds
+unfolding stub_parts
 parts_stand p bytes is = subst (λ (x : WorldParts). x.world.index < length x.resolve.worlds) (sym is) (omega arith)
 
 pub parts_roles : (p : WorldParts) (bytes : List ℕ) → p ≡ stub_parts bytes → AllByRecursion (λ i. HasRole p.resolve i.role) (all_imports p.main p.adapters)
+unfolding stub_parts
 parts_roles p bytes is = subst (λ (x : WorldParts). AllByRecursion (λ i. HasRole x.resolve i.role) (all_imports x.main x.adapters)) (sym is) (tt, tt)
 
 valid_of : (bytes : List ℕ) → take 8 bytes ≡ core_preamble → IsWorld (stub_world bytes)
+unfolding stub_parts stub_world
 valid_of bytes core = record {
   sound = sound;
   stands = omega arith;

@@ -4,6 +4,7 @@ use Rattle.comp_worlds.specs.declared.gathered.Gathered.{Gathered}
 use Rattle.comp_worlds.specs.declared.gathered.Merged.{Merged}
 use Rattle.comp_worlds.specs.declared.imports.ImportMap.{ImportMap}
 use Rattle.comp_worlds.specs.declared.imports.ImportInstance.TheVariants.{Names}
+use Rattle.comp_worlds.specs.declared.imports.Import.{Import}
 use Rattle.comp_worlds.specs.declared.imports.Import.TheVariants as roles
 use Rattle.wit_data.specs.declared.worlds.World.{World}
 use Rattle.wit_data.specs.declared.worlds.WorldKey.TheVariants.{Name}
@@ -27,8 +28,14 @@ abbrev pub merged_of : ⊤ → ⊤ → Merged ⊤
 merged_of first second = record { joint = tt; exports = [] }
 
 -- main imports `f` of `$root`, which is the root function `f`
+abbrev pub stub_role : Import
+stub_role = roles.WorldFunc (Name (codes "f")) (codes "f") GuestImport
+
+abbrev pub stub_fields : List (List ℕ × Import)
+stub_fields = (codes "f", stub_role) ∷ []
+
 abbrev pub stub_imports : ImportMap
-stub_imports = record { modules = (codes "$root", Names ((codes "f", roles.WorldFunc (Name (codes "f")) (codes "f") GuestImport) ∷ [])) ∷ [] }
+stub_imports = record { modules = (codes "$root", Names stub_fields) ∷ [] }
 
 -- the world imports the root function `f`, and exports nothing
 abbrev pub stub_items : World
@@ -38,7 +45,7 @@ abbrev pub stub_resolve : Resolve
 stub_resolve = record { interfaces = []; types = []; worlds = stub_items ∷ [] }
 
 -- there is no string encoding for any function
-abbrev pub stub_parts : List ℕ → WorldParts
+unfoldable pub stub_parts : List ℕ → WorldParts
 stub_parts bytes = record {
   resolve = stub_resolve;
   world = record { index = 0 };
@@ -53,7 +60,7 @@ stub_parts bytes = record {
   can_use_context_slot_1 = false;
 }
 
-abbrev pub stub_world : List ℕ → ComponentWorld
+unfoldable pub stub_world : List ℕ → ComponentWorld
 stub_world bytes = whole_of (stub_parts bytes)
 
 abbrev pub world_of : Gathered ⊤ → ComponentWorld

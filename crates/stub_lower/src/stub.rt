@@ -1,6 +1,6 @@
 //! The layer.
 
-ghost use Rattle.std.specs.Prelude.{◌≡◌, ◌≢◌, IfOk, IfErr, IsOk, take};
+ghost use Rattle.std.specs.Prelude.{◌≡◌, ◌≢◌, IfOk, IfErr, IsOk, MatchBool, take};
 ghost use Rattle.comp_worlds.specs.Worlds.{IsWorld, core_preamble};
 ghost use Rattle.stub_lower.specs.Stub.{stub_world};
 ghost use Rattle.stub_lower.specs.declared.stub.StubFault.TheVariants.{Memory};
@@ -40,6 +40,13 @@ pub enum StubLower {
     Refusing,
 }
 
+/// Whether these are the bytes of a core module, by their beginning.
+fn is_core_module(bytes: &[u8]) -> bool
+    ensures { MatchBool result (take 8 bytes.now ≡ core_preamble) (take 8 bytes.now ≢ core_preamble) }
+{
+    bytes.starts_with(b"\0asm\x01\0\0\0")
+}
+
 /// The world of a core module.
 fn world_of_core(alloc: Global, bytes: &[u8]) -> Result<ComponentWorld, StubFault>
     ensures ok { IfOk result (λ w. w ≡ stub_world bytes.now) }
@@ -47,7 +54,7 @@ fn world_of_core(alloc: Global, bytes: &[u8]) -> Result<ComponentWorld, StubFaul
     ensures refused { IsOk result → take 8 bytes.now ≡ core_preamble }
     ensures cause { IfErr result (λ f. f ≢ Memory → take 8 bytes.now ≢ core_preamble) }
 {
-    if bytes.starts_with(b"\0asm\x01\0\0\0") {
+    if is_core_module(bytes) {
         Ok(world(alloc, bytes)?)
     } else {
         Err(StubFault::Refused)

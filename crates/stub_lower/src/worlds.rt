@@ -1,7 +1,7 @@
 //! The world that the stub answers.
 
 ghost use Rattle.std.specs.Prelude.{◌≡◌, IfOk, take};
-ghost use Rattle.stub_lower.specs.Stub.{stub_imports, stub_items, stub_resolve, stub_parts, stub_world};
+ghost use Rattle.stub_lower.specs.Stub.{stub_role, stub_fields, stub_imports, stub_items, stub_resolve, stub_parts, stub_world};
 ghost use Rattle.comp_worlds.specs.Worlds.{IsWorld, core_preamble};
 
 use comp_lists::{Keyed, Seq, Text};
@@ -12,20 +12,34 @@ use comp_worlds::{
 use std::alloc::{AllocError, Global};
 use wit_data::{AbiVariant, Function, FunctionKind, Resolve, World, WorldId, WorldItem, WorldKey};
 
-/// Main imports `f` of `$root`, which is the root function `f`.
-fn imports(alloc: Global) -> Result<ImportMap, AllocError>
-    ensures { IfOk result (λ m. m ≡ stub_imports) }
+/// The root function `f`, as main imports it.
+fn role(alloc: Global) -> Result<Import, AllocError>
+    ensures { IfOk result (λ r. r ≡ stub_role) }
 {
     let key = WorldKey::Name(Text::from_str(alloc, "f")?);
     let name = Text::from_str(alloc, "f")?;
-    let role = Import::WorldFunc(key, name, AbiVariant::GuestImport);
+    Ok(Import::WorldFunc(key, name, AbiVariant::GuestImport))
+}
+
+/// The field `f` is that function.
+fn fields(alloc: Global) -> Result<Keyed<Text, Import>, AllocError>
+    ensures { IfOk result (λ t. t ≡ stub_fields) }
+{
+    let name = Text::from_str(alloc, "f")?;
+    let role = role(alloc)?;
     let mut fields = Keyed::new(alloc);
-    fields.add_first(Text::from_str(alloc, "f")?, role)?;
+    fields.add_first(name, role)?;
+    Ok(fields)
+}
+
+/// Main imports that field of `$root`.
+fn imports(alloc: Global) -> Result<ImportMap, AllocError>
+    ensures { IfOk result (λ m. m ≡ stub_imports) }
+{
+    let name = Text::from_str(alloc, "$root")?;
+    let fields = fields(alloc)?;
     let mut modules = Keyed::new(alloc);
-    modules.add_first(
-        Text::from_str(alloc, "$root")?,
-        ImportInstance::Names(fields),
-    )?;
+    modules.add_first(name, ImportInstance::Names(fields))?;
     Ok(ImportMap { modules })
 }
 
@@ -62,6 +76,7 @@ fn resolve(alloc: Global) -> Result<Resolve, AllocError>
 }
 
 /// The parts of the world of a main module.
+#[tactic(auto, unfolding(crate::specs::Stub::stub_parts))]
 fn parts_of(alloc: Global, bytes: &[u8]) -> Result<WorldParts, AllocError>
     ensures { IfOk result (λ p. p ≡ stub_parts bytes.now) }
 {
@@ -86,7 +101,7 @@ fn parts_of(alloc: Global, bytes: &[u8]) -> Result<WorldParts, AllocError>
     })
 }
 
-#[tactic(auto, using(crate::proofs::Stubs::parts_sound, crate::proofs::Stubs::parts_stand, crate::proofs::Stubs::parts_roles))]
+#[tactic(auto, using(crate::proofs::Stubs::parts_stand, crate::proofs::Stubs::parts_roles), unfolding(crate::specs::Stub::stub_world))]
 fn world_of(alloc: Global, bytes: &[u8]) -> Result<ComponentWorld, AllocError>
     ensures { IfOk result (λ w. w ≡ stub_world bytes.now) }
 {
