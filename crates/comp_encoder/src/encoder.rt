@@ -175,6 +175,8 @@ impl<L: Lower> ComponentEncoder<L> {
         ensures cause { IfErr result (IsEncodeRefusal L.Lower self.now) }
     {
         let world = self.world()?;
-        Ok(self.output(&world)?)
+        let output = self.output(&world);
+        drop(world);
+        Ok(output?)
     }
 }
