@@ -16,7 +16,7 @@ use wit_data::{AbiVariant, Function, InterfaceId, TypeId, WorldKey};
 
 /// What an import of a core module is for. Where a role stands in an interface, its key and its
 /// interface tell which; at the root of the world there is no interface.
-#[derive(Debug, Drop, PartialEq, Eq)]
+#[derive(Drop)]
 pub enum Import {
     /// A function that the world imports at its root: its key, its name, and how it is called.
     WorldFunc(WorldKey, Text, AbiVariant),

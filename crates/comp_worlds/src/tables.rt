@@ -64,6 +64,31 @@ fn live_type_imports(
     Ok(table)
 }
 
+/// What follows from a world whose core imports are these.
+fn tables_with(
+    alloc: Global,
+    imports: &[NamedImport<'_>],
+    shares_memory: bool,
+    resolve: &Resolve,
+    world: &World,
+) -> Result<Tables, AllocError>
+    requires sound { IsSound resolve.now }
+    requires stands { HasWorld resolve.now world.now }
+    requires roles { AllByRecursion (λ i. HasRole resolve.now i.role) (map core_import imports.now) }
+    ensures imports { IfOk result (λ t. t.import_map ≡ imported (used_by (map core_import imports.now) shares_memory) resolve.now world.now.imports) }
+    ensures live { IfOk result (λ t. t.live_type_imports ≡ live_type_imports (map core_import imports.now) resolve.now world.now) }
+    ensures used { IfOk result (λ t. t.exports_used ≡ exports_used resolve.now world.now) }
+{
+    let import_map = import_map(alloc, imports, shares_memory, resolve, world)?;
+    let live_type_imports = live_type_imports(alloc, imports, resolve, world)?;
+    let exports_used = exports_used(alloc, resolve, world)?;
+    Ok(Tables {
+        import_map,
+        live_type_imports,
+        exports_used,
+    })
+}
+
 /// What follows from these parts of a world.
 pub(crate) fn tables_of(
     alloc: Global,
@@ -80,11 +105,6 @@ pub(crate) fn tables_of(
     ensures used { IfOk result (λ t. t.exports_used ≡ exports_used resolve.now world.now) }
 {
     let list = all_imports(alloc, main, adapters)?;
-    let imports = list.as_slice();
     let shares_memory = main.imports.imported_memory().is_some();
-    Ok(Tables {
-        import_map: import_map(alloc, imports, shares_memory, resolve, world)?,
-        live_type_imports: live_type_imports(alloc, imports, resolve, world)?,
-        exports_used: exports_used(alloc, resolve, world)?,
-    })
+    tables_with(alloc, list.as_slice(), shares_memory, resolve, world)
 }

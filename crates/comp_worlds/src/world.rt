@@ -12,7 +12,7 @@ use crate::imports::ImportMap;
 use crate::libraries::LibraryInfo;
 use crate::lowerings::ImportedInterface;
 use crate::metadata::ModuleMetadata;
-use crate::tables::tables_of;
+use crate::tables::{Tables, tables_of};
 use comp_lists::{Bytes, Keyed, Seq, Text};
 use std::alloc::{AllocError, Global};
 use wit_data::{InterfaceId, Resolve, TypeId, World, WorldId, WorldKey};
@@ -79,18 +79,13 @@ impl ComponentWorld {
         ensures { IfOk result (λ w. w ≡ whole_of parts) }
     {
         let items = items_in(&parts.resolve, parts.world);
-        let tables = tables_of(alloc, &parts.resolve, items, &parts.main, &parts.adapters)?;
-        Ok(ComponentWorld {
-            resolve: parts.resolve,
-            world: parts.world,
-            main: parts.main,
-            main_exports: parts.main_exports,
-            adapters: parts.adapters,
-            import_map: tables.import_map,
-            live_type_imports: tables.live_type_imports,
-            exports_used: tables.exports_used,
-            can_use_context_slot_1: parts.can_use_context_slot_1,
-        })
+        match tables_of(alloc, &parts.resolve, items, &parts.main, &parts.adapters) {
+            Ok(tables) => Ok(with_tables(parts, tables)),
+            Err(refused) => {
+                drop(parts);
+                Err(refused)
+            }
+        }
     }
 
     /// The imports and exports of the world.
@@ -99,6 +94,23 @@ impl ComponentWorld {
         ensures { result.now ≡ items_of self.now }
     {
         &self.resolve.worlds.as_slice()[self.world.index]
+    }
+}
+
+/// The world of these parts, from which these tables follow.
+fn with_tables(parts: WorldParts, tables: Tables) -> ComponentWorld
+    ensures { result ≡ record { resolve = parts.resolve; world = parts.world; main = parts.main; main_exports = parts.main_exports; adapters = parts.adapters; import_map = tables.import_map; live_type_imports = tables.live_type_imports; exports_used = tables.exports_used; can_use_context_slot_1 = parts.can_use_context_slot_1 } }
+{
+    ComponentWorld {
+        resolve: parts.resolve,
+        world: parts.world,
+        main: parts.main,
+        main_exports: parts.main_exports,
+        adapters: parts.adapters,
+        import_map: tables.import_map,
+        live_type_imports: tables.live_type_imports,
+        exports_used: tables.exports_used,
+        can_use_context_slot_1: parts.can_use_context_slot_1,
     }
 }
 
