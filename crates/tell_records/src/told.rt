@@ -1,7 +1,9 @@
 //! What the lower layer says of records, and of a module.
 
+ghost use Rattle.std.specs.Prelude.{IsSome};
+
 use comp_lists::Bytes;
-use comp_worlds::{EncoderOptions, Gathered, Lower, Part};
+use comp_worlds::{EncoderOptions, Gathered, Lower, Merged, Part};
 use plain_lower::PlainLower;
 use std::alloc::{AllocError, Global};
 use std::fmt;
@@ -39,6 +41,38 @@ const OPTIONS: EncoderOptions = EncoderOptions {
     realloc_via_memory_grow: false,
 };
 
+/// What a layer says of the world of what was gathered.
+fn prepare_told<L: Lower>(
+    lower: &L,
+    alloc: Global,
+    gathered: &Gathered<L::Bindgen>,
+) -> Told<L::Fault>
+    requires { IsSome gathered.now.main }
+{
+    match lower.prepare(alloc, gathered) {
+        Ok(world) => {
+            drop(world);
+            Told::Prepared
+        }
+        Err(fault) => Told::Prepare(fault),
+    }
+}
+
+/// A module alone, with what it says.
+fn gathered_alone<B>(bytes: Bytes, own: B, merged: Merged<B>) -> Gathered<B>
+    ensures { IsSome result.main }
+{
+    Gathered {
+        main: Some(Part {
+            bytes,
+            own,
+            required: merged.exports,
+        }),
+        joint: merged.joint,
+        options: OPTIONS,
+    }
+}
+
 /// The world of a module alone.
 fn prepare_alone<L: Lower>(
     lower: &L,
@@ -47,22 +81,16 @@ fn prepare_alone<L: Lower>(
     own: L::Bindgen,
 ) -> Told<L::Fault> {
     let empty = lower.empty(alloc);
-    let merged = match lower.merge(alloc, &empty, &own) {
-        Ok(merged) => merged,
-        Err(fault) => return Told::Merge(fault),
-    };
-    let gathered = Gathered {
-        main: Some(Part {
-            bytes,
-            own,
-            required: merged.exports,
-        }),
-        joint: merged.joint,
-        options: OPTIONS,
-    };
-    match lower.prepare(alloc, &gathered) {
-        Ok(_) => Told::Prepared,
-        Err(fault) => Told::Prepare(fault),
+    let merged = lower.merge(alloc, &empty, &own);
+    drop(empty);
+    match merged {
+        Ok(merged) => {
+            let gathered = gathered_alone(bytes, own, merged);
+            let told = prepare_told(lower, alloc, &gathered);
+            drop(gathered);
+            told
+        }
+        Err(fault) => Told::Merge(fault),
     }
 }
 
