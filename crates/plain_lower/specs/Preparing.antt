@@ -4,7 +4,7 @@
 -- A core import has to have a role, and no module and field may be imported twice; a core export without one is
 -- for nothing. What a role is for has to have the core type of a function without parameters and results
 -- (Canonical ABI: the flattening of such a function). Each required export has to be a core export's.
-use Rattle.std.specs.Prelude.{ℕ, ◌==◌, ◌&&◌, Bool, true, false, List, [], ◌∷◌, ◌++◌, length, map, Option, Some, None, ok_or, Result, Ok, Err, is_some, if◌then◌else◌}
+use Rattle.std.specs.Prelude.{ℕ, ◌==◌, ◌&&◌, Bool, false, List, [], ◌∷◌, ◌++◌, length, map, Option, Some, None, ok_or, Result, Ok, Err, is_some, if◌then◌else◌}
 use Rattle.std.specs.Option.{option_map_or}
 use Rattle.std.specs.List.{slice_get, flat_map, AllByRecursion}
 use Rattle.std.specs.Map.{lookup}
@@ -216,12 +216,17 @@ world_behind joint main groups exported = do
   required ← required_after joint.exports exported [] main.required
   Ok (world_of joint main groups exported required)
 
-unfoldable pub preparing_main : RootFunctions → Part RootFunctions → Result ComponentWorld Failure
-preparing_main joint main = do
-  core ← lifted (module_of main.bytes)
+-- the world of main, which is this core module
+abbrev pub preparing_core : RootFunctions → Part RootFunctions → CoreModule → Result ComponentWorld Failure
+preparing_core joint main core = do
   groups ← groups_after joint.imports main.own core [] core.imports
   exported ← exports_after joint.exports main.own core [] core.exports
   world_behind joint main groups exported
+
+unfoldable pub preparing_main : RootFunctions → Part RootFunctions → Result ComponentWorld Failure
+preparing_main joint main = do
+  core ← lifted (module_of main.bytes)
+  preparing_core joint main core
 
 -- nothing at all is no module
 abbrev pub preparing_if : RootFunctions → Option (Part RootFunctions) → Result ComponentWorld Failure

@@ -7,19 +7,19 @@ ghost use Rattle.std.specs.Str.{bytes_eq};
 ghost use Rattle.plain_lower.specs.Faults.{Gives};
 ghost use Rattle.comp_worlds.specs.Worlds.{IsWorld};
 ghost use Rattle.plain_lower.specs.Narrowing.{root_part};
-ghost use Rattle.plain_lower.specs.Preparing.{world_items, encodings_of, instances_of, main_of, parts_of, StandAnywhere, world_of, world_behind, preparing_main, preparing_part, preparing_all};
+ghost use Rattle.plain_lower.specs.Preparing.{world_items, encodings_of, instances_of, main_of, parts_of, StandAnywhere, world_of, world_behind, preparing_core, preparing_main, preparing_part, preparing_all};
 
 use crate::exporting::{read_exports, require_all};
 use crate::fault::{Failure, Refusal};
 use crate::importing::{Group, read_imports};
 use crate::narrowing::roots_of;
 use crate::root::RootFunctions;
-use comp_lists::{Keyed, Seq, Text};
+use comp_lists::{Bytes, Keyed, Seq, Text};
 use comp_worlds::{
     ComponentWorld, Export, ExportKey, ExportMap, FunctionKey, Gathered, ImportInstance, ImportMap,
     ModuleMetadata, Part, StringEncoding, ValidatedModule, WorldParts,
 };
-use core_sections::read_module;
+use core_sections::{CoreModule, read_module};
 use record_joining::Bindgen;
 use std::alloc::{AllocError, Global};
 use std::hash::Hash;
@@ -130,6 +130,63 @@ fn import_map(alloc: Global, groups: Vec<Group>) -> Result<ImportMap, AllocError
     })
 }
 
+/// How the functions that main imports and exports spell texts.
+fn metadata_of(alloc: Global, own: &RootFunctions) -> Result<ModuleMetadata, AllocError>
+    ensures { IfOk result (λ m. m ≡ record {
+      import_encodings = encodings_of own.now.imports;
+      export_encodings = encodings_of own.now.exports;
+    }) }
+{
+    let import_encodings = encoding_table(alloc, &own.imports)?;
+    let export_encodings = encoding_table(alloc, &own.exports)?;
+    Ok(ModuleMetadata {
+        import_encodings,
+        export_encodings,
+    })
+}
+
+/// What main's imports are for, and how its functions spell texts.
+#[derive(Drop)]
+struct MainTables {
+    imports: ImportMap,
+    metadata: ModuleMetadata,
+}
+
+/// What main's imports are for, by these groups, and how its functions spell texts.
+fn main_tables(
+    alloc: Global,
+    own: &RootFunctions,
+    groups: Vec<Group>,
+) -> Result<MainTables, AllocError>
+    requires { IsDistinct bytes_eq (keys_of (instances_of groups.items)) }
+    ensures imports { IfOk result (λ t. t.imports.modules ≡ instances_of groups.items) }
+    ensures metadata { IfOk result (λ t. t.metadata ≡ record {
+      import_encodings = encodings_of own.now.imports;
+      export_encodings = encodings_of own.now.exports;
+    }) }
+{
+    let imports = import_map(alloc, groups)?;
+    let metadata = metadata_of(alloc, own)?;
+    Ok(MainTables { imports, metadata })
+}
+
+/// Main with these tables.
+fn module_with(bytes: Bytes, tables: MainTables, exports: Keyed<Text, Export>) -> ValidatedModule
+    ensures { result ≡ record {
+      bytes = bytes;
+      imports = tables.imports;
+      exports = record { exports = exports };
+      metadata = tables.metadata;
+    } }
+{
+    ValidatedModule {
+        bytes,
+        imports: tables.imports,
+        exports: ExportMap { exports },
+        metadata: tables.metadata,
+    }
+}
+
 /// Main, and what its imports and exports are for.
 fn validated(
     alloc: Global,
@@ -140,18 +197,8 @@ fn validated(
     requires { IsDistinct bytes_eq (keys_of (instances_of groups.items)) }
     ensures { IfOk result (λ m. m ≡ main_of main groups.items exports) }
 {
-    let Part { bytes, own, .. } = main;
-    let imports = import_map(alloc, groups)?;
-    let metadata = ModuleMetadata {
-        import_encodings: encoding_table(alloc, &own.imports)?,
-        export_encodings: encoding_table(alloc, &own.exports)?,
-    };
-    Ok(ValidatedModule {
-        bytes,
-        imports,
-        exports: ExportMap { exports },
-        metadata,
-    })
+    let tables = main_tables(alloc, &main.own, groups)?;
+    Ok(module_with(main.bytes, tables, exports))
 }
 
 /// One world, with no interfaces and no types.
@@ -165,6 +212,21 @@ fn resolve_of(alloc: Global, world: World) -> Result<Resolve, AllocError>
         types: Seq::new(alloc),
         worlds,
     })
+}
+
+/// One world of these functions.
+fn resolve_sides(alloc: Global, joint: &RootFunctions) -> Result<Resolve, AllocError>
+    ensures resolve { IfOk result (λ r. r ≡ record {
+      interfaces = [];
+      types = [];
+      worlds = record { imports = world_items joint.now.imports; exports = world_items joint.now.exports } ∷ [];
+    }) }
+    ensures imports { OnOk result (IsDistinct bytes_eq (keys_of joint.now.imports)) }
+    ensures exports { OnOk result (IsDistinct bytes_eq (keys_of joint.now.exports)) }
+{
+    let imports = world_side(alloc, &joint.imports)?;
+    let exports = world_side(alloc, &joint.exports)?;
+    resolve_of(alloc, World { imports, exports })
 }
 
 /// The parts of the world that is made of these.
@@ -182,15 +244,13 @@ fn parts_of(
     ensures exports { OnOk result (IsDistinct bytes_eq (keys_of joint.now.exports)) }
     ensures modules { IfOk result (λ p. IsDistinct bytes_eq (keys_of p.main.imports.modules)) }
 {
-    let world = World {
-        imports: world_side(alloc, &joint.imports)?,
-        exports: world_side(alloc, &joint.exports)?,
-    };
     let can_use_context_slot_1 = main.own.context_slot_1;
+    let resolve = resolve_sides(alloc, joint)?;
+    let main = validated(alloc, main, groups, exports)?;
     Ok(WorldParts {
-        resolve: resolve_of(alloc, world)?,
+        resolve,
         world: WorldId { index: 0 },
-        main: validated(alloc, main, groups, exports)?,
+        main,
         main_exports,
         adapters: Keyed::new(alloc),
         can_use_context_slot_1,
@@ -239,6 +299,23 @@ fn world_behind(
     Ok(world)
 }
 
+/// The validated world of what all modules say and main, which is this core module.
+fn prepare_core(
+    alloc: Global,
+    joint: &RootFunctions,
+    main: Part<RootFunctions>,
+    core: &CoreModule,
+) -> Result<ComponentWorld, Failure>
+    ensures exact { Gives (λ w. w) result (preparing_core joint.now main core.now) }
+    ensures imports { OnOk result (IsDistinct bytes_eq (keys_of joint.now.imports)) }
+    ensures exports { OnOk result (IsDistinct bytes_eq (keys_of joint.now.exports)) }
+    ensures modules { IfOk result (λ w. IsDistinct bytes_eq (keys_of w.main.imports.modules)) }
+{
+    let groups = read_imports(alloc, &joint.imports, &main.own, core)?;
+    let exports = read_exports(alloc, &joint.exports, &main.own, core)?;
+    world_behind(alloc, joint, main, groups, exports)
+}
+
 /// The validated world of what all modules say and main.
 #[tactic(auto, unfolding(crate::specs::Preparing::preparing_main))]
 fn prepare_main(
@@ -252,9 +329,7 @@ fn prepare_main(
     ensures modules { IfOk result (λ w. IsDistinct bytes_eq (keys_of w.main.imports.modules)) }
 {
     let core = read_module(alloc, main.bytes.as_slice())?;
-    let groups = read_imports(alloc, &joint.imports, &main.own, &core)?;
-    let exports = read_exports(alloc, &joint.exports, &main.own, &core)?;
-    world_behind(alloc, joint, main, groups, exports)
+    prepare_core(alloc, joint, main, &core)
 }
 
 /// The validated world, or the refusal.
