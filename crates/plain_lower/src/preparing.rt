@@ -364,9 +364,9 @@ fn copy_key(alloc: Global, key: &ExportKey) -> Result<ExportKey, AllocError>
 fn root_part(alloc: Global, part: &Part<Bindgen>) -> Result<Part<RootFunctions>, Failure>
     ensures { Gives (λ p. p) result (root_part part.now) }
 {
-    let own = roots_of(alloc, &part.own)?;
     let bytes = part.bytes.clone(alloc)?;
     let required = copy_keys(alloc, part.required.as_slice())?;
+    let own = roots_of(alloc, &part.own)?;
     Ok(Part {
         bytes,
         own,

@@ -1,4 +1,5 @@
 pub mod Chains
+pub mod Apart
 pub mod Conflicts
 pub mod Saying
 pub mod Equal

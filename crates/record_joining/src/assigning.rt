@@ -1,9 +1,9 @@
 //! What core imports and core exports are for, as the records of one module say together.
 
-ghost use Rattle.std.specs.Prelude.{◌≡◌, [], IfOk};
+ghost use Rattle.std.specs.Prelude.{◌≡◌, [], ◌∷◌, ◌++◌, IfOk, OnOk};
 ghost use Rattle.std.specs.List.{flat_map};
 ghost use Rattle.record_json.specs.Faults.{Gives};
-ghost use Rattle.record_joining.specs.Tables.{with_entry};
+ghost use Rattle.record_joining.specs.Tables.{with_entry, apart};
 ghost use Rattle.record_joining.specs.Joining.{RoleTests, roles_after, without_abi, one_field_each, role_tables};
 
 use crate::tables::Key;
@@ -27,23 +27,38 @@ pub(crate) struct RoleTables {
     pub(crate) exports: Keyed<Text, ExportRole>,
 }
 
+/// The roles of a record.
+fn roles_in(one: Record) -> AssignedRoles
+    ensures { result ≡ record { imports = one.import_roles; exports = one.export_roles } }
+{
+    AssignedRoles {
+        imports: one.import_roles,
+        exports: one.export_roles,
+    }
+}
+
+/// Adds more roles.
+fn add_roles(assigned: &mut AssignedRoles, more: AssignedRoles) -> Result<(), AllocError>
+    ensures imports { OnOk result (assigned.new.imports ≡ assigned.old.imports ++ more.imports) }
+    ensures exports { OnOk result (assigned.new.exports ≡ assigned.old.exports ++ more.exports) }
+{
+    assigned.imports.append(more.imports)?;
+    assigned.exports.append(more.exports)
+}
+
 /// Takes the roles out of records.
 pub(crate) fn take_roles(alloc: Global, records: Seq<Record>) -> Result<AssignedRoles, AllocError>
     ensures imports { IfOk result (λ a. a.imports ≡ flat_map (λ r. r.import_roles) records) }
     ensures exports { IfOk result (λ a. a.exports ≡ flat_map (λ r. r.export_roles) records) }
 {
-    let mut imports = Seq::new(alloc);
-    let mut exports = Seq::new(alloc);
+    let mut assigned = AssignedRoles {
+        imports: Seq::new(alloc),
+        exports: Seq::new(alloc),
+    };
     for one in records.into_vec() {
-        let Record {
-            import_roles,
-            export_roles,
-            ..
-        } = one;
-        imports.append(import_roles)?;
-        exports.append(export_roles)?;
+        add_roles(&mut assigned, roles_in(one))?;
     }
-    Ok(AssignedRoles { imports, exports })
+    Ok(assigned)
 }
 
 /// Adds a role, unless its name has it.
@@ -108,7 +123,36 @@ fn copy_without_abi(alloc: Global, role: &ExportRole) -> Result<ExportRole, Allo
     }
 }
 
+/// Adds the field of a role, which has to be new.
+fn put_field(
+    fields: &mut Keyed<ExportRole, Text>,
+    role: ExportRole,
+    field: Text,
+) -> Result<(), Failure>
+    ensures { Gives (λ _. fields.new) result (apart ⟦<ExportRole as PartialEq>⟧.eq (λ e. e.1) fields.old ((role, field) ∷ [])) }
+{
+    if fields.contains(&role) {
+        return Err(Failure::Refused(Refusal::MergeConflict { name: field }));
+    }
+    Ok(fields.add(role, field)?)
+}
+
+/// Adds the field of a role, its form of calls apart.
+fn add_field(
+    alloc: Global,
+    fields: &mut Keyed<ExportRole, Text>,
+    field: &Text,
+    role: &ExportRole,
+) -> Result<(), Failure>
+    ensures { Gives (λ _. fields.new) result (apart ⟦<ExportRole as PartialEq>⟧.eq (λ e. e.1) fields.old ((without_abi role.now, field.now) ∷ [])) }
+{
+    let field = field.clone(alloc)?;
+    let role = copy_without_abi(alloc, role)?;
+    put_field(fields, role, field)
+}
+
 /// Each role is that of one field, its form of calls apart. The answer is the field of each.
+#[tactic(auto, using(crate::proofs::Apart::goes_on, crate::proofs::Apart::stops))]
 fn check_fields(
     alloc: Global,
     roles: &Keyed<Text, ExportRole>,
@@ -117,12 +161,7 @@ fn check_fields(
 {
     let mut fields: Keyed<ExportRole, Text> = Keyed::new(alloc);
     for (field, role) in roles.entries() {
-        let field = field.clone(alloc)?;
-        let role = copy_without_abi(alloc, role)?;
-        if fields.contains(&role) {
-            return Err(Failure::Refused(Refusal::MergeConflict { name: field }));
-        }
-        fields.add(role, field)?;
+        add_field(alloc, &mut fields, field, role)?;
     }
     Ok(fields)
 }

@@ -12,6 +12,13 @@ use std::alloc::{AllocError, Global};
 /// Functions beside their encodings.
 type Encodings = Keyed<FunctionOf, StringEncoding>;
 
+/// The encodings of imported and of exported functions.
+#[derive(Drop)]
+pub(crate) struct BothEncodings {
+    pub(crate) imports: Encodings,
+    pub(crate) exports: Encodings,
+}
+
 /// Adds functions of an import or export that the table lacks.
 fn add_functions(
     alloc: Global,
@@ -78,7 +85,7 @@ fn add_items(
 }
 
 /// The encodings of the functions that records import.
-pub(crate) fn import_encodings(alloc: Global, records: &[Record]) -> Result<Encodings, AllocError>
+fn import_encodings(alloc: Global, records: &[Record]) -> Result<Encodings, AllocError>
     ensures { IfOk result (λ t. t ≡ encodings_after (λ w. w.imports) [] records.now) }
 {
     let mut table = Keyed::new(alloc);
@@ -96,7 +103,7 @@ pub(crate) fn import_encodings(alloc: Global, records: &[Record]) -> Result<Enco
 }
 
 /// The encodings of the functions that records export.
-pub(crate) fn export_encodings(alloc: Global, records: &[Record]) -> Result<Encodings, AllocError>
+fn export_encodings(alloc: Global, records: &[Record]) -> Result<Encodings, AllocError>
     ensures { IfOk result (λ t. t ≡ encodings_after (λ w. w.exports) [] records.now) }
 {
     let mut table = Keyed::new(alloc);
@@ -111,4 +118,14 @@ pub(crate) fn export_encodings(alloc: Global, records: &[Record]) -> Result<Enco
         )?;
     }
     Ok(table)
+}
+
+/// The encodings of the functions that records import and export.
+pub(crate) fn both_encodings(alloc: Global, records: &[Record]) -> Result<BothEncodings, AllocError>
+    ensures imports { IfOk result (λ e. e.imports ≡ encodings_after (λ w. w.imports) [] records.now) }
+    ensures exports { IfOk result (λ e. e.exports ≡ encodings_after (λ w. w.exports) [] records.now) }
+{
+    let imports = import_encodings(alloc, records)?;
+    let exports = export_encodings(alloc, records)?;
+    Ok(BothEncodings { imports, exports })
 }

@@ -2,17 +2,17 @@
 
 ghost use Rattle.std.specs.Prelude.{◌≡◌, ◌≢◌, ℕ, List, IfErr, IsOk};
 ghost use Rattle.record_json.specs.declared.fault.Failure.TheVariants as failures;
-ghost use Rattle.std.specs.List.{list_any};
+ghost use Rattle.std.specs.List.{flat_map, list_any};
 ghost use Rattle.record_json.specs.Faults.{Gives};
 ghost use Rattle.record_joining.specs.Said.{no_wit};
 ghost use Rattle.record_joining.specs.Merging.{Tests};
 ghost use Rattle.record_joining.specs.Causes.{Named, Unless, TwoWorlds, RecordsConflict};
 ghost use Rattle.record_joining.specs.Tables.{conflict};
-ghost use Rattle.record_joining.specs.Joining.{RoleTests, worlds_after, roles_of, bindgen_of};
+ghost use Rattle.record_joining.specs.Joining.{RoleTests, worlds_after, role_tables, roles_of, bindgen_of};
 
-use crate::assigning::{join_tables, take_roles};
+use crate::assigning::{RoleTables, join_tables, take_roles};
 use crate::bindgen::{Bindgen, Roles, empty_wit};
-use crate::encodings::{export_encodings, import_encodings};
+use crate::encodings::both_encodings;
 use crate::merging::add_wit;
 use comp_lists::Seq;
 use record_json::Failure;
@@ -47,6 +47,17 @@ fn has_slot(records: &[Record]) -> bool
     false
 }
 
+/// What the core imports and fields of these records are for.
+fn join_all_roles(alloc: Global, records: Seq<Record>) -> Result<RoleTables, Failure>
+    ensures { Gives (λ t. t) result (role_tables (record {
+      import_role = ⟦<ImportRole as PartialEq>⟧.eq;
+      export_role = ⟦<ExportRole as PartialEq>⟧.eq;
+    }) (flat_map (λ r. r.import_roles) records) (flat_map (λ r. r.export_roles) records)) }
+{
+    let assigned = take_roles(alloc, records)?;
+    join_tables(alloc, assigned)
+}
+
 /// What the records say beside their worlds.
 #[tactic(auto, unfolding(crate::specs::Joining::roles_of))]
 fn bind_roles(alloc: Global, records: Seq<Record>) -> Result<Roles, Failure>
@@ -55,16 +66,14 @@ fn bind_roles(alloc: Global, records: Seq<Record>) -> Result<Roles, Failure>
       export_role = ⟦<ExportRole as PartialEq>⟧.eq;
     }) records) }
 {
-    let import_encodings = import_encodings(alloc, records.as_slice())?;
-    let export_encodings = export_encodings(alloc, records.as_slice())?;
+    let encodings = both_encodings(alloc, records.as_slice())?;
     let context_slot_1 = has_slot(records.as_slice());
-    let assigned = take_roles(alloc, records)?;
-    let tables = join_tables(alloc, assigned)?;
+    let tables = join_all_roles(alloc, records)?;
     Ok(Roles {
         import_roles: tables.imports,
         export_roles: tables.exports,
-        import_encodings,
-        export_encodings,
+        import_encodings: encodings.imports,
+        export_encodings: encodings.exports,
         context_slot_1,
     })
 }

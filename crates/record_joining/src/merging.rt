@@ -1,6 +1,6 @@
 //! What two say of their world together.
 
-ghost use Rattle.std.specs.Prelude.{◌≡◌, ◌≢◌, ℕ, List, IfOk, IfErr, IsOk};
+ghost use Rattle.std.specs.Prelude.{◌≡◌, ◌≢◌, ℕ, List, [], ◌∷◌, ◌++◌, IfOk, IfErr, OnOk, IsOk};
 ghost use Rattle.record_json.specs.declared.fault.Failure.TheVariants as failures;
 ghost use Rattle.record_json.specs.Faults.{Gives};
 ghost use Rattle.record_joining.specs.Merging.{Tests, Says, merged_wit, merged, export_key, keys_of_exports};
@@ -15,8 +15,21 @@ use record_json::Failure;
 use record_values::{Interface, Item, ItemKey, Wit};
 use std::alloc::{AllocError, Global};
 
-/// What two say of their world together; the first is taken over.
+/// Adds to a world what another says.
 #[tactic(auto, unfolding(crate::specs::Merging::merged_wit), using(crate::proofs::Conflicts::of_interfaces, crate::proofs::Conflicts::of_imports, crate::proofs::Conflicts::of_exports))]
+fn add_to(alloc: Global, wit: &mut Wit, more: &Wit) -> Result<(), Failure>
+    ensures exact { Gives (λ _. wit.new) result (merged_wit (record {
+      interface = ⟦<Interface as PartialEq>⟧.eq;
+      item = ⟦<Item as PartialEq>⟧.eq;
+    }) wit.old more.now) }
+    ensures cause { IfErr result (Unless (Named (WorldConflict wit.old more.now))) }
+{
+    add_all(alloc, &mut wit.interfaces, &more.interfaces)?;
+    add_all(alloc, &mut wit.imports, &more.imports)?;
+    add_apart(alloc, &mut wit.exports, &more.exports)
+}
+
+/// What two say of their world together; the first is taken over.
 pub(crate) fn add_wit(alloc: Global, first: Wit, second: &Wit) -> Result<Wit, Failure>
     ensures exact { Gives (λ w. w) result (merged_wit (record {
       interface = ⟦<Interface as PartialEq>⟧.eq;
@@ -24,21 +37,12 @@ pub(crate) fn add_wit(alloc: Global, first: Wit, second: &Wit) -> Result<Wit, Fa
     }) first second.now) }
     ensures cause { IfErr result (Unless (Named (WorldConflict first second.now))) }
 {
-    let Wit {
-        mut interfaces,
-        mut imports,
-        mut exports,
-    } = first;
-    add_all(alloc, &mut interfaces, &second.interfaces)?;
-    add_all(alloc, &mut imports, &second.imports)?;
-    add_apart(alloc, &mut exports, &second.exports)?;
-    Ok(Wit {
-        interfaces,
-        imports,
-        exports,
-    })
+    let mut joint = first;
+    add_to(alloc, &mut joint, second)?;
+    Ok(joint)
 }
 
+/// A copy of a world.
 fn copy_wit(alloc: Global, wit: &Wit) -> Result<Wit, AllocError>
     ensures { IfOk result (λ w. w ≡ wit.now) }
 {
@@ -79,6 +83,7 @@ pub fn merge_wit(alloc: Global, first: &Wit, second: &Wit) -> Result<Wit, Failur
     Ok(joint)
 }
 
+/// The key of an export, as the world has it.
 fn to_export_key(alloc: Global, key: &ItemKey) -> Result<ExportKey, AllocError>
     ensures { IfOk result (λ k. k ≡ export_key key.now) }
 {
@@ -88,13 +93,21 @@ fn to_export_key(alloc: Global, key: &ItemKey) -> Result<ExportKey, AllocError>
     }
 }
 
+/// Adds the key of an export.
+fn push_key(alloc: Global, keys: &mut Seq<ExportKey>, key: &ItemKey) -> Result<(), AllocError>
+    ensures { OnOk result (keys.new ≡ keys.old ++ export_key key.now ∷ []) }
+{
+    let key = to_export_key(alloc, key)?;
+    Ok(keys.push(key)?)
+}
+
 /// The keys of exports, in order.
 fn export_keys(alloc: Global, exports: &Keyed<ItemKey, Item>) -> Result<Seq<ExportKey>, AllocError>
     ensures { IfOk result (λ ks. ks ≡ keys_of_exports exports.now) }
 {
     let mut keys = Seq::new(alloc);
     for (key, _) in exports.entries() {
-        keys.push(to_export_key(alloc, key)?)?;
+        push_key(alloc, &mut keys, key)?;
     }
     Ok(keys)
 }

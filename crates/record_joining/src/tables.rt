@@ -1,6 +1,7 @@
 //! Joining two tables.
 
-ghost use Rattle.std.specs.Prelude.{◌≡◌, [], ◌∷◌, IfOk, IfErr};
+ghost use Rattle.std.specs.Prelude.{◌≡◌, [], ◌∷◌, ◌++◌, None, IfOk, IfErr, OnOk};
+ghost use Rattle.std.specs.Map.{lookup};
 ghost use Rattle.record_json.specs.Faults.{Gives};
 ghost use Rattle.record_joining.specs.Tables.{with_entry, joined, apart};
 ghost use Rattle.record_joining.specs.Causes.{Differs, IsInBoth, Named, Unless};
@@ -58,6 +59,21 @@ impl Key for Text {
     }
 }
 
+/// Adds a copy of an entry whose key is new.
+fn add_copy<K: TryClone + Eq + Hash + Drop, X: TryClone>(
+    alloc: Global,
+    table: &mut Keyed<K, X>,
+    key: &K,
+    value: &X,
+) -> Result<(), AllocError>
+    requires { lookup (K.eq key.now) table.old ≡ None }
+    ensures { OnOk result (table.new ≡ table.old ++ (key.now, value.now) ∷ []) }
+{
+    let key = key.try_clone(alloc)?;
+    let value = value.try_clone(alloc)?;
+    table.add(key, value)
+}
+
 /// Adds what an entry says.
 fn put<K: Key + TryClone, X: TryClone + PartialEq>(
     alloc: Global,
@@ -77,12 +93,7 @@ fn put<K: Key + TryClone, X: TryClone + PartialEq>(
                 }))
             }
         }
-        None => {
-            let key = key.try_clone(alloc)?;
-            let value = value.try_clone(alloc)?;
-            table.add(key, value)?;
-            Ok(())
-        }
+        None => Ok(add_copy(alloc, table, key, value)?),
     }
 }
 
@@ -118,7 +129,7 @@ pub(crate) fn add_apart<K: Key + TryClone, X: TryClone>(
                 name: key.to_text(alloc)?,
             }));
         }
-        table.add(key.try_clone(alloc)?, value.try_clone(alloc)?)?;
+        add_copy(alloc, table, key, value)?;
     }
     Ok(())
 }
@@ -133,7 +144,7 @@ pub(crate) fn copy<K: TryClone + Eq + Hash, X: TryClone>(
 {
     let mut copied = Keyed::new(alloc);
     for (key, value) in table.entries() {
-        copied.add(key.try_clone(alloc)?, value.try_clone(alloc)?)?;
+        add_copy(alloc, &mut copied, key, value)?;
     }
     Ok(copied)
 }

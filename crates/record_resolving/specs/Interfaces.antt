@@ -84,6 +84,12 @@ made_of s = record { interfaces = map seen s.interfaces; ids = s.ids }
 abbrev pub interface_id : ℕ → InterfaceId
 interface_id n = record { index = n }
 
+-- one more interface that is made: its name, its number, its id, and its types and functions
+abbrev pub with_made : InterfaceName → InterfaceId → Option Id → Types × Functions → Made → Result Made Failure
+with_made name number id items made = do
+  ids ← with_new is_same_interface made.ids name number
+  Ok (record { interfaces = made.interfaces ++ (id, items.0, items.1) ∷ []; ids = ids })
+
 -- the interface of this name, made as the next one
 unfoldable pub with_interface : Side → InterfaceName → Interface → Made × Making → Result (Made × Making) Failure
 with_interface side name i so_far = do

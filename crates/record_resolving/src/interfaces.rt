@@ -1,10 +1,13 @@
 //! Interfaces: their types and functions.
 
-ghost use Rattle.std.specs.Prelude.{◌≡◌, []};
+ghost use Rattle.std.specs.Prelude.{◌≡◌, [], ◌∷◌, ◌++◌, OnOk, map, option_map};
 ghost use Rattle.std.specs.Str.{bytes_eq};
 ghost use Rattle.record_json.specs.Faults.{Gives};
+ghost use Rattle.record_values.specs.declared.names.Owner.TheVariants as owners;
+ghost use Rattle.wit_data.specs.declared.types.TypeOwner.TheVariants as places;
+ghost use Rattle.wit_data.specs.Names.{name_parts};
 ghost use Rattle.record_resolving.specs.Steps.{Becomes, Makes};
-ghost use Rattle.record_resolving.specs.Interfaces.{with_type_of, types_from, with_function_of, functions_from, items_of, made_of, with_interface, with_named};
+ghost use Rattle.record_resolving.specs.Interfaces.{with_type_of, types_from, with_function_of, functions_from, items_of, seen, made_of, with_made, with_interface, with_named};
 
 use crate::functions::make_function;
 use crate::ids::id_of;
@@ -13,8 +16,8 @@ use crate::types::make_named;
 use comp_lists::{Keyed, Seq, Text, TryClone};
 use record_json::{Failure, fault_here};
 use record_values::{Func, Interface, InterfaceName, Owner, Typed};
-use std::alloc::Global;
-use wit_data::{Function, InterfaceId, TypeId, TypeOwner};
+use std::alloc::{AllocError, Global};
+use wit_data::{Function, IdName, InterfaceId, TypeId, TypeOwner};
 
 /// Types by name.
 type Types = Keyed<Text, TypeId>;
@@ -121,6 +124,56 @@ fn make_items(
     Ok((types, functions))
 }
 
+/// The types and functions of the interface of this name, which gets this number.
+fn make_numbered(
+    alloc: Global,
+    making: &mut Making,
+    side: Side,
+    name: &InterfaceName,
+    number: InterfaceId,
+    interface: &Interface,
+) -> Result<(Types, Functions), Failure>
+    ensures { Makes result making.new (items_of side (owners.Interface name.now) (places.Interface number) interface.now making.old) }
+{
+    let owner = Owner::Interface(name.try_clone(alloc)?);
+    let place = TypeOwner::Interface(number);
+    make_items(alloc, making, side, &owner, place, interface)
+}
+
+/// Adds an interface that is made, behind the others.
+fn push_made(
+    standing: &mut Standing,
+    id: Option<IdName>,
+    items: (Types, Functions),
+) -> Result<(), AllocError>
+    ensures interfaces { OnOk result (map seen standing.new.interfaces ≡ map seen standing.old.interfaces ++ (option_map name_parts id, items.0, items.1) ∷ []) }
+    ensures ids { standing.new.ids ≡ standing.old.ids }
+{
+    let (types, functions) = items;
+    Ok(
+        standing.interfaces.push(wit_data::Interface {
+            id,
+            types,
+            functions,
+        })?,
+    )
+}
+
+/// Adds an interface that is made, behind the others and by name.
+fn put_made(
+    alloc: Global,
+    standing: &mut Standing,
+    name: &InterfaceName,
+    number: InterfaceId,
+    id: Option<IdName>,
+    items: (Types, Functions),
+) -> Result<(), Failure>
+    ensures { Becomes result (made_of standing.new) (with_made name.now number (option_map name_parts id) items (made_of standing.old)) }
+{
+    push_made(standing, id, items)?;
+    put_new(alloc, &mut standing.ids, name.try_clone(alloc)?, number)
+}
+
 /// The interface of this name, made as the next one.
 #[tactic(auto, unfolding(crate::specs::Interfaces::with_interface))]
 fn add_interface(
@@ -137,15 +190,8 @@ fn add_interface(
         index: standing.interfaces.len(),
     };
     let id = id_of(alloc, name)?;
-    let owner = Owner::Interface(name.try_clone(alloc)?);
-    let place = TypeOwner::Interface(number);
-    let (types, functions) = make_items(alloc, making, side, &owner, place, interface)?;
-    standing.interfaces.push(wit_data::Interface {
-        id,
-        types,
-        functions,
-    })?;
-    put_new(alloc, &mut standing.ids, name.try_clone(alloc)?, number)
+    let items = make_numbered(alloc, making, side, name, number, interface)?;
+    put_made(alloc, standing, name, number, id, items)
 }
 
 /// The interface of this name, looked up and made.

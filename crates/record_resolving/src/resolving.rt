@@ -164,6 +164,16 @@ fn resolve_behind(
     put_together(alloc, inward.kept, inward.imports, exports)
 }
 
+/// No interfaces.
+fn nothing_standing(alloc: Global) -> Standing
+    ensures { result ≡ record { interfaces = []; ids = [] } }
+{
+    Standing {
+        interfaces: Seq::new(alloc),
+        ids: Keyed::new(alloc),
+    }
+}
+
 /// The imports and then the exports, whose interfaces these are.
 #[tactic(auto, unfolding(crate::specs::Resolved::resolved_among))]
 fn resolve_among(
@@ -175,10 +185,7 @@ fn resolve_among(
     ensures { Gives seen_whole result (resolved_among imported.now exported wit.now) }
 {
     let mut making = nothing_made(alloc, exported);
-    let mut standing = Standing {
-        interfaces: Seq::new(alloc),
-        ids: Keyed::new(alloc),
-    };
+    let mut standing = nothing_standing(alloc);
     let imports = import_all(alloc, &mut making, imported, wit, &mut standing)?;
     resolve_behind(alloc, imported, wit, imports, standing, making)
 }

@@ -1,13 +1,13 @@
 //! Which imported interface becomes which.
 
-ghost use Rattle.std.specs.Prelude.{◌≡◌, [], Ok, IfOk, OnOk};
+ghost use Rattle.std.specs.Prelude.{◌≡◌, [], ◌++◌, Ok, IfOk, OnOk};
 ghost use Rattle.std.specs.Map.{lookup};
 ghost use Rattle.std.specs.Str.{bytes_eq};
 ghost use Rattle.std.specs.Option.{option_copied};
 ghost use Rattle.record_json.specs.Faults.{Gives};
 ghost use Rattle.indexmap.specs.IndexMap.{insert_entry};
 ghost use Rattle.record_settling.specs.Compatible.{compatible};
-ghost use Rattle.record_settling.specs.Groups.{with_item, interfaces_after, candidate_by, candidate, candidates, is_newest, with_candidate, greatest_after, with_rename, renames_after, renames};
+ghost use Rattle.record_settling.specs.Groups.{with_item, interfaces_after, candidate_by, candidate, candidates, is_newest, with_candidate, greatest_after, with_rename, renames_after, renames_of, renames};
 
 use crate::compatible::{Compatible, compatible_of};
 use comp_lists::{Keyed, Seq, Text, TryClone};
@@ -98,12 +98,21 @@ fn candidate_of(alloc: Global, item: &Item) -> Result<Seq<Candidate>, Failure>
     }
 }
 
+/// Adds an import, where it is an interface that has a canonical id.
+fn add_found(alloc: Global, found: &mut Seq<Candidate>, item: &Item) -> Result<(), Failure>
+    ensures { Gives (λ _. found.new) result (Ok (found.old ++ candidate item.now)) }
+{
+    let more = candidate_of(alloc, item)?;
+    Ok(found.append(more)?)
+}
+
+/// The imported interfaces that have a canonical id, in order.
 fn candidates(alloc: Global, imports: &Keyed<ItemKey, Item>) -> Result<Seq<Candidate>, Failure>
     ensures { Gives (λ cs. cs) result (Ok (candidates imports.now)) }
 {
     let mut found = Seq::new(alloc);
     for (_key, item) in imports.entries() {
-        found.append(candidate_of(alloc, item)?)?;
+        add_found(alloc, &mut found, item)?;
     }
     Ok(found)
 }
@@ -217,6 +226,30 @@ fn renames_after(
     Ok(renames)
 }
 
+/// What becomes of these interfaces, in their order.
+fn renames_among(
+    alloc: Global,
+    exported: &Interfaces,
+    candidates: &[Candidate],
+) -> Result<Renames, AllocError>
+    ensures { IfOk result (λ rs. rs ≡ renames_of exported.now candidates.now) }
+{
+    let greatest = greatest_of(alloc, candidates)?;
+    renames_after(alloc, exported, &greatest, candidates)
+}
+
+/// What becomes of the imported interfaces, where these are exported.
+fn renames_beside(
+    alloc: Global,
+    exported: &Interfaces,
+    imports: &Keyed<ItemKey, Item>,
+) -> Result<Renames, Failure>
+    ensures { Gives (λ rs. rs) result (Ok (renames_of exported.now (candidates imports.now))) }
+{
+    let candidates = candidates(alloc, imports)?;
+    Ok(renames_among(alloc, exported, candidates.as_slice())?)
+}
+
 /// What becomes of the imported interfaces, in their order: of those of one canonical id each becomes
 /// the one of greatest version, and one that is also exported stays. The only refusal is want of
 /// memory.
@@ -225,7 +258,5 @@ pub fn renames(alloc: Global, wit: &Wit) -> Result<Keyed<InterfaceName, Interfac
     ensures { Gives (λ rs. rs) result (Ok (renames wit.now)) }
 {
     let exported = interfaces_among(alloc, &wit.exports)?;
-    let candidates = candidates(alloc, &wit.imports)?;
-    let greatest = greatest_of(alloc, candidates.as_slice())?;
-    Ok(renames_after(alloc, &exported, &greatest, candidates.as_slice())?)
+    renames_beside(alloc, &exported, &wit.imports)
 }

@@ -2,7 +2,9 @@
 
 ghost use Rattle.std.specs.Prelude.{◌≡◌, [], IfOk, OnOk};
 ghost use Rattle.std.specs.Option.{option_copied};
+ghost use Rattle.comp_lists.specs.Tables.{with_first};
 ghost use Rattle.record_json.specs.Faults.{Gives};
+ghost use Rattle.record_values.specs.Names.{is_same_item};
 ghost use Rattle.record_settling.specs.Order.{waiting_item, waiting, is_taken, all_taken, is_ready, first_ready, with_taken, taken_anew, interfaces_taken, with_other, others_after, ordered_by, ordered, in_order_by, in_order, first_lesser};
 ghost use Rattle.record_values.specs.declared.world.Item.TheVariants as items;
 
@@ -118,13 +120,26 @@ fn take_anew(alloc: Global, all: &[Waiting]) -> Result<Option<Taken>, AllocError
     Ok(Some(taken))
 }
 
+/// Adds an interface that is taken.
+fn put_taken(
+    alloc: Global,
+    table: &mut Keyed<ItemKey, Item>,
+    name: &InterfaceName,
+    key: &ItemKey,
+) -> Result<(), AllocError>
+    ensures { OnOk result (table.new ≡ with_first is_same_item table.old key.now (items.Interface name.now)) }
+{
+    let key = key.try_clone(alloc)?;
+    table.add_first(key, Item::Interface(name.try_clone(alloc)?))
+}
+
+/// The interfaces that are taken, in their order.
 fn interfaces_taken(alloc: Global, taken: &Taken) -> Result<Keyed<ItemKey, Item>, AllocError>
     ensures { IfOk result (λ t. t ≡ interfaces_taken [] taken.now) }
 {
     let mut table = Keyed::new(alloc);
     for (name, key) in taken.entries() {
-        let key = key.try_clone(alloc)?;
-        table.add_first(key, Item::Interface(name.try_clone(alloc)?))?;
+        put_taken(alloc, &mut table, name, key)?;
     }
     Ok(table)
 }
@@ -188,6 +203,7 @@ fn order(
     order_by(alloc, imports, &taken)
 }
 
+/// A world whose imports are taken anew; this interface is named where they can't be.
 fn put_in_order(alloc: Global, lesser: &InterfaceName, wit: Wit) -> Result<Wit, Failure>
     ensures { Gives (λ w. w) result (in_order_by lesser.now wit (ordered wit.interfaces wit.imports)) }
 {

@@ -118,17 +118,23 @@ with_facts ts key (Some facts) = with_first bytes_eq ts (key_text key) facts
 abbrev pub with_type : Types → ReadItem → Types
 with_type ts x = with_facts ts x.key x.facts
 
--- items, after these; the first stands at this index, and each may name the world's types before it
-abbrev pub items_from : Side → List ReadInterface → ℕ → List ReadItem → Types → Items → Result ReadItems Failure
-items_from side is i xs ts no_items = Ok (record { items = xs; types = ts })
-items_from side is i xs ts (item d ds) = do
-  x ← under (decimal i) (item_of side is ts d)
-  items_from side is (suc i) (xs ++ x ∷ []) (with_type ts x) ds
+-- items with the one at this index, which may name the world's types before it
+unfoldable pub with_read : Side → List ReadInterface → ℕ → ReadItems → Data → Result ReadItems Failure
+with_read side is i read d = do
+  x ← under (decimal i) (item_of side is read.types d)
+  Ok (record { items = read.items ++ x ∷ []; types = with_type read.types x })
+
+-- items, after these; the first stands at this index
+abbrev pub items_from : Side → List ReadInterface → ℕ → ReadItems → Items → Result ReadItems Failure
+items_from side is i read no_items = Ok read
+items_from side is i read (item d ds) = do
+  more ← with_read side is i read d
+  items_from side is (suc i) more ds
 
 unfoldable pub items_of : Side → List ReadInterface → Types → Data → Result ReadItems Failure
 items_of side is ts d = do
   ds ← ok_or (as_array d) here
-  items_from side is 0 [] ts ds
+  items_from side is 0 (record { items = []; types = ts }) ds
 
 -- a side that may be left out
 abbrev pub items_if : Side → List ReadInterface → Types → List ℕ → Option Data → Result ReadItems Failure

@@ -13,7 +13,6 @@ use Rattle.record_types.specs.declared.known.ReadInterface.{ReadInterface}
 use Rattle.record_values.specs.declared.names.InterfaceName.{InterfaceName}
 use Rattle.record_values.specs.declared.names.InterfaceName.TheVariants as names
 use Rattle.record_values.specs.declared.types.Interface.{Interface}
-use Rattle.record_values.specs.declared.world.ItemKey.{ItemKey}
 use Rattle.record_values.specs.declared.world.Item.{Item}
 use Rattle.record_values.specs.declared.world.Item.TheVariants as items
 use Rattle.record_values.specs.Names.{is_same_interface, is_same_item}
@@ -74,14 +73,20 @@ with_seen seen (items.Interface name) = with_first is_same_interface seen name t
 with_seen seen (items.Function f) = seen
 with_seen seen (items.Type nodes) = seen
 
+-- items by key with one more, at this index, whose key and whose interface have to be new
+abbrev pub with_item : ℕ → SideTable → Entry → Result SideTable Failure
+with_item i t e =
+    if is_some (lookup (is_same_item e.key) t.items) then Err (under_failure (decimal i) here)
+    else if is_seen t.interfaces e.item then Err (under_failure (decimal i) here)
+    else Ok (record { items = t.items ++ (e.key, e.item) ∷ []; interfaces = with_seen t.interfaces e.item })
+
 -- items by key, after these; the first stands at this index
-abbrev pub side_from : ℕ → List (ItemKey × Item) → Standing → List Entry → Result SideTable Failure
-side_from i table seen [] = Ok (record { items = table; interfaces = seen })
-side_from i table seen (e ∷ es) =
-    if is_some (lookup (is_same_item e.key) table) then Err (under_failure (decimal i) here)
-    else if is_seen seen e.item then Err (under_failure (decimal i) here)
-    else side_from (suc i) (table ++ (e.key, e.item) ∷ []) (with_seen seen e.item) es
+abbrev pub side_from : ℕ → SideTable → List Entry → Result SideTable Failure
+side_from i t [] = Ok t
+side_from i t (e ∷ es) = do
+  more ← with_item i t e
+  side_from (suc i) more es
 
 abbrev pub side_at : Side → List Entry → Result SideTable Failure
-side_at sides.Import es = under (codes "imports") (side_from 0 [] [] es)
-side_at sides.Export es = under (codes "exports") (side_from 0 [] [] es)
+side_at sides.Import es = under (codes "imports") (side_from 0 (record { items = []; interfaces = [] }) es)
+side_at sides.Export es = under (codes "exports") (side_from 0 (record { items = []; interfaces = [] }) es)

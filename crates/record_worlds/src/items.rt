@@ -5,7 +5,7 @@ ghost use Rattle.std.specs.List.{list_any};
 ghost use Rattle.serde_json.specs.Find.{get};
 ghost use Rattle.serde_json.specs.View.{view, items_view};
 ghost use Rattle.record_json.specs.Faults.{Gives};
-ghost use Rattle.record_worlds.specs.Items.{holds_colon, place_of, plain_name_of, key_of, named_key, id_key, interface_at, other_item, function_item, type_item, interface_item, item_of, with_type, items_from, items_of, items_if, interfaces_if, world_items_of, world_function, world_type};
+ghost use Rattle.record_worlds.specs.Items.{holds_colon, place_of, plain_name_of, key_of, named_key, id_key, interface_at, other_item, function_item, type_item, interface_item, item_of, with_type, with_read, items_from, items_of, items_if, interfaces_if, world_items_of, world_function, world_type};
 
 use comp_lists::{Keyed, Seq, Text};
 use record_json::{
@@ -283,6 +283,25 @@ fn note_type(
     }
 }
 
+/// Reads the item at an index behind those that were read.
+#[tactic(auto, unfolding(crate::specs::Items::with_read))]
+fn add_value(
+    alloc: Global,
+    side: Side,
+    interfaces: &[ReadInterface],
+    read: &mut ReadItems,
+    index: usize,
+    value: &Value,
+) -> Result<(), Failure>
+    ensures { Gives (λ _. read.new) result (with_read side interfaces.now index read.old (view value.now)) }
+{
+    let item = read_item(alloc, side, interfaces, &read.types, value);
+    let item = under_index(alloc, index, item)?;
+    note_type(alloc, &mut read.types, &item)?;
+    Ok(read.items.push(item)?)
+}
+
+/// The items of a list; these types of the world are known before it.
 fn read_values(
     alloc: Global,
     side: Side,
@@ -290,17 +309,16 @@ fn read_values(
     types: Keyed<Text, TypeFacts>,
     values: &[Value],
 ) -> Result<ReadItems, Failure>
-    ensures { Gives (λ r. r) result (items_from side interfaces.now 0 [] types (items_view values.now)) }
+    ensures { Gives (λ r. r) result (items_from side interfaces.now 0 (record { items = []; types = types }) (items_view values.now)) }
 {
-    let mut items = Seq::new(alloc);
-    let mut types = types;
+    let mut read = ReadItems {
+        items: Seq::new(alloc),
+        types,
+    };
     for (index, value) in values.iter().enumerate() {
-        let item = read_item(alloc, side, interfaces, &types, value);
-        let item = under_index(alloc, index, item)?;
-        note_type(alloc, &mut types, &item)?;
-        items.push(item)?;
+        add_value(alloc, side, interfaces, &mut read, index, value)?;
     }
-    Ok(ReadItems { items, types })
+    Ok(read)
 }
 
 #[tactic(auto, unfolding(crate::specs::Items::items_of))]

@@ -2,7 +2,11 @@
 
 ghost use Rattle.std.specs.Prelude.{◌≡◌, [], OnOk, IfOk};
 ghost use Rattle.record_json.specs.Faults.{Gives};
-ghost use Rattle.record_worlds.specs.Tables.{renamed_content, with_interface, with_same, interfaces_from, is_seen, with_seen, side_from, side_at};
+ghost use Rattle.comp_lists.specs.Tables.{with_first};
+ghost use Rattle.record_values.specs.Names.{is_same_item};
+ghost use Rattle.record_values.specs.Renaming.{renamed};
+ghost use Rattle.record_worlds.specs.Naming.{place_name};
+ghost use Rattle.record_worlds.specs.Tables.{renamed_content, with_interface, with_same, interfaces_from, is_seen, with_seen, with_item, side_from, side_at};
 
 use crate::items::Side;
 use crate::naming::{Entry, Names, place_name};
@@ -83,6 +87,21 @@ fn add_interface(
     }
 }
 
+/// Adds the interface at a place of a record, unless the world hasn't it.
+fn add_read(
+    alloc: Global,
+    names: &Names,
+    table: &mut Interfaces,
+    index: usize,
+    read: &ReadInterface,
+) -> Result<(), Failure>
+    ensures { Gives (λ _. table.new) result (with_interface ⟦<Interface as PartialEq>⟧.eq table.old (renamed names.now (place_name index)) (renamed_content names.now read.now)) }
+{
+    let name = rename_name(alloc, names, &place_name(index))?;
+    let interface = rename_content(alloc, names, read)?;
+    add_interface(alloc, table, name, interface)
+}
+
 /// The interfaces of a record that have an id or stand in the world.
 pub(crate) fn table_interfaces(
     alloc: Global,
@@ -93,9 +112,7 @@ pub(crate) fn table_interfaces(
 {
     let mut table = Keyed::new(alloc);
     for (index, read) in interfaces.iter().enumerate() {
-        let name = rename_name(alloc, names, &place_name(index))?;
-        let interface = rename_content(alloc, names, read)?;
-        add_interface(alloc, &mut table, name, interface)?;
+        add_read(alloc, names, &mut table, index, read)?;
     }
     Ok(table)
 }
@@ -126,22 +143,49 @@ pub(crate) fn note_seen(
     }
 }
 
-fn table_entries(alloc: Global, entries: &[Entry]) -> Result<SideTable, Failure>
-    ensures { Gives (λ t. t) result (side_from 0 [] [] entries.now) }
+/// Adds an entry: its item, unless its key has one, and its interface, where it is one.
+fn put_entry(alloc: Global, table: &mut SideTable, entry: &Entry) -> Result<(), AllocError>
+    ensures { OnOk result (table.new ≡ record {
+      items = with_first is_same_item table.old.items entry.now.key entry.now.item;
+      interfaces = with_seen table.old.interfaces entry.now.item;
+    }) }
 {
-    let mut items = Keyed::new(alloc);
-    let mut interfaces = Keyed::new(alloc);
-    for (index, entry) in entries.iter().enumerate() {
-        if items.contains(&entry.key) {
-            return under_index(alloc, index, Err(fault_here(alloc)));
-        }
-        if is_seen(&interfaces, &entry.item) {
-            return under_index(alloc, index, Err(fault_here(alloc)));
-        }
-        note_seen(alloc, &mut interfaces, &entry.item)?;
-        items.add(entry.key.try_clone(alloc)?, entry.item.try_clone(alloc)?)?;
+    note_seen(alloc, &mut table.interfaces, &entry.item)?;
+    let key = entry.key.try_clone(alloc)?;
+    let item = entry.item.try_clone(alloc)?;
+    table.items.add_first(key, item)
+}
+
+/// Adds the entry at an index: its key and its interface have to be new.
+fn add_entry(
+    alloc: Global,
+    table: &mut SideTable,
+    index: usize,
+    entry: &Entry,
+) -> Result<(), Failure>
+    ensures { Gives (λ _. table.new) result (with_item index table.old entry.now) }
+{
+    if table.items.contains(&entry.key) {
+        return under_index(alloc, index, Err(fault_here(alloc)));
     }
-    Ok(SideTable { items, interfaces })
+    if is_seen(&table.interfaces, &entry.item) {
+        return under_index(alloc, index, Err(fault_here(alloc)));
+    }
+    Ok(put_entry(alloc, table, entry)?)
+}
+
+/// The items of a side by key, with faults told from its list.
+fn table_entries(alloc: Global, entries: &[Entry]) -> Result<SideTable, Failure>
+    ensures { Gives (λ t. t) result (side_from 0 (record { items = []; interfaces = [] }) entries.now) }
+{
+    let mut table = SideTable {
+        items: Keyed::new(alloc),
+        interfaces: Keyed::new(alloc),
+    };
+    for (index, entry) in entries.iter().enumerate() {
+        add_entry(alloc, &mut table, index, entry)?;
+    }
+    Ok(table)
 }
 
 /// The items of a side by key: no key and no interface stands twice.

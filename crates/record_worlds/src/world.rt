@@ -1,21 +1,23 @@
 //! What a record says of the world.
 
-ghost use Rattle.std.specs.Prelude.{◌≡◌};
+ghost use Rattle.std.specs.Prelude.{◌≡◌, IfOk};
 ghost use Rattle.serde_json.specs.View.{view};
 ghost use Rattle.record_json.specs.Faults.{Gives};
+ghost use Rattle.record_worlds.specs.Places.{placed_from};
 ghost use Rattle.record_worlds.specs.Worlds.{once_checked, sides_of, standing_of, joined_world, named_world_of, world_of};
 
 use crate::items::{Side, WorldItems, read_world_items};
 use crate::naming::{Entry, Names, names_of, rename_entries};
-use crate::placed::RecordWorld;
+use crate::placed::{PlacedInterface, RecordWorld};
 use crate::places::place_interfaces;
 use crate::rules::check_rules;
 use crate::tables::{Interfaces, SideTable, table_interfaces, table_side};
+use comp_lists::Seq;
 use record_json::Failure;
 use record_types::ReadInterface;
 use record_values::{Interface, Wit};
 use serde_json::Value;
-use std::alloc::Global;
+use std::alloc::{AllocError, Global};
 
 /// The items of both sides by key.
 #[derive(Drop)]
@@ -60,6 +62,38 @@ fn check_sides(
     checked(check, sides)
 }
 
+/// The interfaces of a record by their places, where the world has these sides.
+fn place_sides(
+    alloc: Global,
+    names: &Names,
+    all: &[ReadInterface],
+    sides: &Sides,
+) -> Result<Seq<PlacedInterface>, AllocError>
+    ensures { IfOk result (λ p. p ≡ placed_from names.now sides.now.imports.interfaces sides.now.exports.interfaces 0 all.now) }
+{
+    let imported = &sides.imports.interfaces;
+    let exported = &sides.exports.interfaces;
+    place_interfaces(alloc, names, imported, exported, all)
+}
+
+/// The world of these interfaces and sides.
+fn world_with(interfaces: Interfaces, sides: Sides, placed: Seq<PlacedInterface>) -> RecordWorld
+    ensures { result ≡ record {
+      wit = record { interfaces = interfaces; imports = sides.imports.items; exports = sides.exports.items };
+      interfaces = placed;
+    } }
+{
+    let Sides { imports, exports } = sides;
+    RecordWorld {
+        wit: Wit {
+            interfaces,
+            imports: imports.items,
+            exports: exports.items,
+        },
+        interfaces: placed,
+    }
+}
+
 /// What is known of the world, from the items of its sides.
 fn join_world(
     alloc: Global,
@@ -72,18 +106,9 @@ fn join_world(
 {
     match sides {
         Err(failure) => Err(failure),
-        Ok(Sides { imports, exports }) => {
-            let imported = &imports.interfaces;
-            let exported = &exports.interfaces;
-            let placed = place_interfaces(alloc, names, imported, exported, all)?;
-            Ok(RecordWorld {
-                wit: Wit {
-                    interfaces,
-                    imports: imports.items,
-                    exports: exports.items,
-                },
-                interfaces: placed,
-            })
+        Ok(sides) => {
+            let placed = place_sides(alloc, names, all, &sides)?;
+            Ok(world_with(interfaces, sides, placed))
         }
     }
 }

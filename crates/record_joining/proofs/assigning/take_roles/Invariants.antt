@@ -4,5 +4,5 @@ use Rattle.record_joining.proofs.assigning.take_roles.Given as goal
 
 abbrev pub invariant-loop-one : goal.invariant-loop-one
 invariant-loop-one l =
-    (l.imports ++ flat_map (λ r. r.import_roles) l.one-iterator.rest.items ≡ flat_map (λ r. r.import_roles) l.fn.records) ×
-    (l.exports ++ flat_map (λ r. r.export_roles) l.one-iterator.rest.items ≡ flat_map (λ r. r.export_roles) l.fn.records)
+    (l.assigned.imports ++ flat_map (λ r. r.import_roles) l.one-iterator.rest.items ≡ flat_map (λ r. r.import_roles) l.fn.records) ×
+    (l.assigned.exports ++ flat_map (λ r. r.export_roles) l.one-iterator.rest.items ≡ flat_map (λ r. r.export_roles) l.fn.records)
