@@ -106,8 +106,13 @@ fn read_task_return(
 fn read_alone(alloc: Global, role: ImportRole, value: &Value) -> Result<ImportRole, Failure>
     ensures { Gives (λ r. r) result (alone role (view value.now)) }
 {
-    no_argument(alloc, value)?;
-    Ok(role)
+    match no_argument(alloc, value) {
+        Ok(_) => Ok(role),
+        Err(failure) => {
+            drop(role);
+            Err(failure)
+        }
+    }
 }
 
 #[tactic(auto, unfolding(crate::specs::ImportRoles::subtask_cancel_of))]

@@ -218,6 +218,25 @@ fn import_roles_of(
     core_imports_member(alloc, world, &met, value)
 }
 
+/// A record of this world, with these roles.
+fn with_roles(
+    world: RecordWorld,
+    encoding: StringEncoding,
+    context_slot_1: bool,
+    import_roles: Seq<Assigned<ImportName, ImportRole>>,
+    export_roles: Seq<Assigned<Text, ExportRole>>,
+) -> Record
+    ensures { result ≡ record { wit = world.wit; encoding = encoding; context_slot_1 = context_slot_1; import_roles = import_roles; export_roles = export_roles } }
+{
+    Record {
+        wit: world.wit,
+        encoding,
+        context_slot_1,
+        import_roles,
+        export_roles,
+    }
+}
+
 /// What a record says, of which the world was read.
 #[tactic(auto, unfolding(crate::specs::Records::with_world))]
 fn add_world(
@@ -231,13 +250,7 @@ fn add_world(
 {
     let import_roles = import_roles_of(alloc, &world, value)?;
     let export_roles = core_exports_member(alloc, &world, value)?;
-    Ok(Record {
-        wit: world.wit,
-        encoding,
-        context_slot_1,
-        import_roles,
-        export_roles,
-    })
+    Ok(with_roles(world, encoding, context_slot_1, import_roles, export_roles))
 }
 
 #[tactic(auto, unfolding(crate::specs::Records::record_of))]
