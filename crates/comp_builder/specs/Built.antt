@@ -1,6 +1,6 @@
 -- What a builder of a component holds, and what its calls answer: definitions count their items up in each index
 -- space. Component model, binary format: index spaces.
-use Rattle.std.specs.Prelude.{ℕ, ◌≡◌, ◌+◌, ◌≤◌, ◌^◌, List, [], ◌∷◌, ◌++◌, Option, Some, None, Result, Ok, Err, get_or}
+use Rattle.std.specs.Prelude.{ℕ, ◌≡◌, ◌+◌, ◌≤◌, ◌^◌, List, [], ◌∷◌, ◌++◌, Option, Some, None, Result, Ok, Err, get_or, option_to_list}
 use Rattle.comp_bytes.specs.Spaces.{place, items_in}
 use Rattle.comp_bytes.specs.declared.def.Def.{Def}
 use Rattle.comp_bytes.specs.declared.name.Name.{Name}
@@ -24,6 +24,22 @@ name_of s index (Some text) = record { space = s; index = index; text = text } �
 -- one definition more, with the debug name of its item
 abbrev pub and_then : Built → Space → Def → Option (List ℕ) → Built
 and_then b s d debug = record { defs = b.defs ++ d ∷ []; names = b.names ++ name_of s (items_in s b.defs) debug }
+
+-- want of memory, or this count, which is more than a space can have
+abbrev pub Passes : ℕ → BuildFault → Type 0
+Passes count Memory = Unit {0}
+Passes count (TooMany n) = (2 ^ 32 ≤ n) × (n ≡ count)
+
+-- the count behind the item with this index, and its debug name
+abbrev pub IsNext : Space → ℕ → Option (List ℕ) → Result (ℕ × Option Name) BuildFault → Type 0
+IsNext s index debug (Ok (count, name)) = (count ≡ index + 1) × (option_to_list name ≡ name_of s index debug)
+IsNext s index debug (Err e) = Passes (index + 1) e
+
+-- Two lists that grow by an item and its name, if a step before has found these. An error changes nothing.
+abbrev pub Pushes : {A N : Type 0} → List A → List A → List N → List N → A → Result (ℕ × Option N) BuildFault → Result ℕ BuildFault → Type 0
+Pushes old new names added item (Ok (count, name)) (Ok answer) = (answer ≡ count) × (new ≡ old ++ item ∷ []) × (added ≡ names ++ option_to_list name)
+Pushes old new names added item (Ok (count, name)) (Err e) = (e ≡ Memory) × (new ≡ old) × (added ≡ names)
+Pushes old new names added item (Err fault) result = (result ≡ Err fault) × (new ≡ old) × (added ≡ names)
 
 -- each counter is the number of items of its space
 abbrev pub Counts : List ℕ → List Def → Type 0

@@ -3,7 +3,7 @@
 
 ghost use Rattle.std.specs.Prelude.{◌≡◌, ◌+◌, ◌<◌, ◌≤◌, ◌^◌, ◌++◌, ◌∷◌, [], List, ℕ, length, IfOk, IfErr, OnOk, OnErr, MatchResult, Some, None, Option, option_to_list};
 ghost use Rattle.comp_bytes.specs.Spaces.{place, items_in, space_of};
-ghost use Rattle.comp_builder.specs.Built.{Built, nothing_built, and_then, name_of, Counts, Full, Adds};
+ghost use Rattle.comp_builder.specs.Built.{Built, nothing_built, and_then, name_of, Passes, IsNext, Pushes, Counts, Full, Adds};
 ghost use Rattle.comp_bytes.specs.Places.{IsAt};
 ghost use Rattle.comp_bytes.specs.Grammar.{Spells, spelling_of};
 ghost use Rattle.comp_bytes.specs.Written.{Refused};
@@ -40,23 +40,23 @@ impl Model for ComponentBuilder {
 }
 
 /// Adds to both lists, or to none.
-fn push_both(
-    defs: &mut Defs,
-    names: &mut Vec<Name>,
-    def: Def,
-    name: Option<Name>,
+fn push_both<T: Drop, N: Drop>(
+    items: &mut Seq<T>,
+    names: &mut Vec<N>,
+    item: T,
+    name: Option<N>,
 ) -> Result<(), AllocError>
-    ensures ok { OnOk result ((defs.new ≡ defs.old ++ def ∷ []) × (names.new.items ≡ names.old.items ++ option_to_list name)) }
-    ensures err { OnErr result ((defs.new ≡ defs.old) × (names.new.items ≡ names.old.items)) }
+    ensures ok { OnOk result ((items.new ≡ items.old ++ item ∷ []) × (names.new.items ≡ names.old.items ++ option_to_list name)) }
+    ensures err { OnErr result ((items.new ≡ items.old) × (names.new.items ≡ names.old.items)) }
 {
     match name {
         None => {
-            defs.push(def)?;
+            items.push(item)?;
             Ok(())
         }
         Some(name) => {
             names.push(name)?;
-            if defs.push(def).is_err() {
+            if items.push(item).is_err() {
                 let _ = names.pop();
                 return Err(AllocError);
             }
@@ -82,6 +82,53 @@ fn named_item(
             text: Text::from_str(alloc, text)?,
         })),
     }
+}
+
+/// The count of a space behind the item with this index, and the item's debug name.
+fn next_item(
+    alloc: Global,
+    space: Space,
+    index: u32,
+    debug: Option<&str>,
+) -> Result<(u32, Option<Name>), BuildFault>
+    ensures { IsNext space index (option_now debug.entry) result }
+{
+    let count = next_count(index)?;
+    let name = named_item(alloc, space, index, debug)?;
+    Ok((count, name))
+}
+
+/// Adds an item and its name, once their place is known, and answers the count behind it.
+fn push_next<T: Drop, N: Drop>(
+    items: &mut Seq<T>,
+    names: &mut Vec<N>,
+    item: T,
+    next: Result<(u32, Option<N>), BuildFault>,
+) -> Result<u32, BuildFault>
+    ensures { Pushes items.old items.new names.old.items names.new.items item next result }
+{
+    let (count, name) = next?;
+    push_both(items, names, item, name)?;
+    Ok(count)
+}
+
+/// Adds a definition that makes the item of a space with this index, with its debug name, and answers
+/// the count behind it.
+fn push_item(
+    defs: &mut Defs,
+    names: &mut Vec<Name>,
+    def: Def,
+    space: Space,
+    index: u32,
+    debug: Option<&str>,
+) -> Result<u32, BuildFault>
+    ensures ok { OnOk result ((defs.new ≡ defs.old ++ def ∷ []) × (names.new.items ≡ names.old.items ++ name_of space index (option_now debug.entry))) }
+    ensures count { IfOk result (λ count. count ≡ index + 1) }
+    ensures err { OnErr result ((defs.new ≡ defs.old) × (names.new.items ≡ names.old.items)) }
+    ensures full { IfErr result (Passes (index + 1)) }
+{
+    let next = next_item(*names.allocator(), space, index, debug);
+    push_next(defs, names, def, next)
 }
 
 impl ComponentBuilder {
@@ -113,9 +160,7 @@ impl ComponentBuilder {
         ensures at { IfOk result (λ index. IsAt self.new.defs space index def) }
     {
         let index = self.counts[space.place()];
-        let next = next_count(index)?;
-        let name = named_item(self.allocator(), space, index, debug)?;
-        push_both(&mut self.defs, &mut self.names, def, name)?;
+        let next = push_item(&mut self.defs, &mut self.names, def, space, index, debug)?;
         self.counts[space.place()] = next;
         Ok(index)
     }

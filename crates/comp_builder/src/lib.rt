@@ -17,8 +17,3 @@ mod builder;
 mod defining;
 
 pub use builder::ComponentBuilder;
-
-#[cfg(test)]
-mod every_kind;
-#[cfg(test)]
-mod tests;

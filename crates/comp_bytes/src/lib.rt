@@ -52,6 +52,3 @@ pub use types::{
     InstanceType, Member, Primitive, TypeDef,
 };
 pub use writing::{byte_of_flag, byte_of_kind};
-
-#[cfg(test)]
-mod tests;

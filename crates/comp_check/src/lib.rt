@@ -32,6 +32,3 @@ pub use checking::check;
 pub use fault::{CheckFault, IndexFault};
 pub use indexes::check_indexes;
 pub use reading::read_component;
-
-#[cfg(test)]
-mod tests;

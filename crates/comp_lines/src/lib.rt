@@ -19,6 +19,3 @@ mod parts;
 mod texts;
 
 pub use listing::describe;
-
-#[cfg(test)]
-mod tests;

@@ -24,6 +24,3 @@ mod version;
 pub use fault::NameFault;
 pub use form::is_formed;
 pub use names::check_names;
-
-#[cfg(test)]
-mod tests;

@@ -30,6 +30,3 @@ mod values;
 
 pub use component::read_component;
 pub use fault::ReadFault;
-
-#[cfg(test)]
-mod tests;

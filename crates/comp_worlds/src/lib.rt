@@ -54,8 +54,3 @@ pub use options::EncoderOptions;
 pub use payloads::{PayloadFuncKind, PayloadInfo, PayloadType};
 pub use required::{OptionFault, Options, RequiredOptions};
 pub use world::{ComponentWorld, ValidatedModule, WorldAdapter, WorldParts};
-
-#[cfg(test)]
-mod tests;
-#[cfg(test)]
-mod tests_lookups;

@@ -48,6 +48,3 @@ pub use section::{
 pub use types::{
     ConstExpr, EntityType, FuncType, GlobalType, MemoryType, RefType, TableType, ValType,
 };
-
-#[cfg(test)]
-mod tests;

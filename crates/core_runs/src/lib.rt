@@ -38,6 +38,3 @@ pub use laws::{
 };
 pub use start::{GlobalFill, StartStep};
 pub use tables::{Shim, table_fill, table_of_shims, table_shim_bodies};
-
-#[cfg(test)]
-mod tests;

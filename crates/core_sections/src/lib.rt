@@ -33,6 +33,3 @@ pub use items::Items;
 pub use numbers::read_bytes;
 pub use sections::{Content, Section, sections_of};
 pub use stripping::{Stripped, strip};
-
-#[cfg(test)]
-mod tests;

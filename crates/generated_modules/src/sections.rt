@@ -1,10 +1,10 @@
 //! Sections of a few entries.
 
-use comp_bytes::ExportKind;
+use comp_bytes::{BuildFault, ExportKind};
 use core_bytes::{
     Body, Code, ConstExpr, DefinedGlobal, ElementSection, ElementSegment, EntityType,
     ExportSection, FunctionSection, GlobalSection, GlobalType, ImportSection, MemorySection,
-    MemoryType, Section, TableSection, TableType, TypeSection, ValType,
+    MemoryType, Module, Section, TableSection, TableType, TypeSection, ValType,
 };
 use std::alloc::{AllocError, Global};
 
@@ -35,6 +35,7 @@ pub(crate) fn types(
     Ok(Section::Types(section))
 }
 
+/// Imports, each by its two names.
 pub(crate) fn imports(
     alloc: Global,
     all: &[(&str, &str, EntityType)],
@@ -46,6 +47,7 @@ pub(crate) fn imports(
     Ok(Section::Imports(section))
 }
 
+/// Functions of these types.
 pub(crate) fn functions(alloc: Global, all: &[u32]) -> Result<Section, AllocError> {
     let mut section = FunctionSection::new(alloc);
     for type_index in all {
@@ -63,12 +65,14 @@ pub(crate) fn functions_of_one_type(alloc: Global, count: usize) -> Result<Secti
     Ok(Section::Functions(section))
 }
 
+/// One table.
 pub(crate) fn table(alloc: Global, table_type: TableType) -> Result<Section, AllocError> {
     let mut section = TableSection::new(alloc);
     section.table(table_type)?;
     Ok(Section::Tables(section))
 }
 
+/// One memory.
 pub(crate) fn memory(alloc: Global) -> Result<Section, AllocError> {
     let mut section = MemorySection::new(alloc);
     section.memory(MEMORY)?;
@@ -88,6 +92,7 @@ pub(crate) fn globals(
     Ok(Section::Globals(section))
 }
 
+/// Exports of items by their indices.
 pub(crate) fn exports(
     alloc: Global,
     all: &[(&str, ExportKind, u32)],
@@ -114,27 +119,34 @@ pub(crate) fn element(alloc: Global, segment: &ElementSegment) -> Result<Section
 }
 
 /// One body more.
-pub(crate) fn put_body(code: &mut Code, body: &Body) -> Result<(), AllocError> {
+pub(crate) fn put_body(code: &mut Code, body: Result<Body, AllocError>) -> Result<(), AllocError> {
+    let body = body?;
     code.body(body.locals.as_slice(), body.instructions.as_slice())
 }
 
 /// One body.
-pub(crate) fn code(alloc: Global, body: &Body) -> Result<Section, AllocError> {
+pub(crate) fn code(alloc: Global, body: Result<Body, AllocError>) -> Result<Section, AllocError> {
     let mut code = Code::new(alloc);
     put_body(&mut code, body)?;
     Ok(Section::Code(code))
 }
 
-/// Two bodies.
-pub(crate) fn code_of_two(
+/// One section more.
+pub(crate) fn put(
+    module: &mut Module,
+    section: Result<Section, AllocError>,
+) -> Result<(), AllocError> {
+    module.section(section?)
+}
+
+/// The bytes of a module, once its sections are there.
+pub(crate) fn finish(
     alloc: Global,
-    first: &Body,
-    second: &Body,
-) -> Result<Section, AllocError> {
-    let mut code = Code::new(alloc);
-    put_body(&mut code, first)?;
-    put_body(&mut code, second)?;
-    Ok(Section::Code(code))
+    module: &Module,
+    put: Result<(), AllocError>,
+) -> Result<Vec<u8>, BuildFault> {
+    put?;
+    module.bytes(alloc)
 }
 
 /// A global that changes, and is this at first.

@@ -3,8 +3,8 @@
 ghost use Rattle.std.specs.Prelude.{◌≤◌};
 
 use crate::sections::{
-    PAIR, changing, code, element, functions, functions_of_one_type, globals, put_body, table,
-    types,
+    PAIR, changing, code, element, finish, functions, functions_of_one_type, globals, put,
+    put_body, table, types,
 };
 use comp_bytes::{BuildFault, ExportKind};
 use comp_lists::Seq;
@@ -40,10 +40,12 @@ const SHIMS: [Shim; 12] = [
     SHIM, SHIM, SHIM, SHIM, SHIM, SHIM, SHIM, SHIM, SHIM, SHIM, SHIM, SHIM,
 ];
 
+/// The type of the shims.
 fn shim_types(alloc: Global) -> Result<Section, AllocError> {
     types(alloc, &[(&PAIR, &[])])
 }
 
+/// The shims and their table.
 fn table_exports(alloc: Global, count: usize) -> Result<Section, AllocError> {
     let mut section = ExportSection::new(alloc);
     for (name, number) in NAMES.iter().zip(NUMBERS.iter()).take(count) {
@@ -53,20 +55,34 @@ fn table_exports(alloc: Global, count: usize) -> Result<Section, AllocError> {
     Ok(Section::Exports(section))
 }
 
+/// The shims.
+fn table_bodies(alloc: Global, count: usize) -> Result<Section, AllocError>
+    requires { count ≤ 12 }
+{
+    Ok(Section::Code(table_shim_bodies(alloc, &SHIMS[..count])?))
+}
+
+/// The sections of shims in the table form.
+fn put_table_shims(module: &mut Module, alloc: Global, count: usize) -> Result<(), AllocError>
+    requires { count ≤ 12 }
+{
+    put(module, shim_types(alloc))?;
+    put(module, functions_of_one_type(alloc, count))?;
+    put(module, table(alloc, table_of_shims(count as u32)))?;
+    put(module, table_exports(alloc, count))?;
+    put(module, table_bodies(alloc, count))
+}
+
 /// Shims in the table form.
 pub(crate) fn table_shims(alloc: Global, count: usize) -> Result<Vec<u8>, BuildFault>
     requires { count ≤ 12 }
 {
-    let bodies = table_shim_bodies(alloc, &SHIMS[..count])?;
     let mut module = Module::new(alloc);
-    module.section(shim_types(alloc)?)?;
-    module.section(functions_of_one_type(alloc, count)?)?;
-    module.section(table(alloc, table_of_shims(count as u32))?)?;
-    module.section(table_exports(alloc, count)?)?;
-    module.section(Section::Code(bodies))?;
-    module.bytes(alloc)
+    let put = put_table_shims(&mut module, alloc, count);
+    finish(alloc, &module, put)
 }
 
+/// The functions that shims call, and their table.
 fn table_imports(alloc: Global, count: usize) -> Result<Section, AllocError>
     requires { count ≤ 12 }
 {
@@ -79,18 +95,32 @@ fn table_imports(alloc: Global, count: usize) -> Result<Section, AllocError>
     Ok(Section::Imports(section))
 }
 
+/// The segment that fills their table.
+fn table_segment(alloc: Global, count: usize) -> Result<Section, AllocError>
+    requires { count ≤ 12 }
+{
+    element(alloc, &table_fill(alloc, &NUMBERS[..count])?)
+}
+
+/// The sections of what fills their table.
+fn put_table_fills(module: &mut Module, alloc: Global, count: usize) -> Result<(), AllocError>
+    requires { count ≤ 12 }
+{
+    put(module, shim_types(alloc))?;
+    put(module, table_imports(alloc, count))?;
+    put(module, table_segment(alloc, count))
+}
+
 /// What fills their table.
 pub(crate) fn table_fills(alloc: Global, count: usize) -> Result<Vec<u8>, BuildFault>
     requires { count ≤ 12 }
 {
-    let segment = table_fill(alloc, &NUMBERS[..count])?;
     let mut module = Module::new(alloc);
-    module.section(shim_types(alloc)?)?;
-    module.section(table_imports(alloc, count)?)?;
-    module.section(element(alloc, &segment)?)?;
-    module.bytes(alloc)
+    let put = put_table_fills(&mut module, alloc, count);
+    finish(alloc, &module, put)
 }
 
+/// The globals and the functions of the shims.
 fn ref_exports(alloc: Global, count: usize) -> Result<Section, AllocError> {
     let mut section = ExportSection::new(alloc);
     for number in NUMBERS.iter().take(count) {
@@ -101,8 +131,10 @@ fn ref_exports(alloc: Global, count: usize) -> Result<Section, AllocError> {
 
 /// The global and the function of one shim.
 fn put_ref_exports(section: &mut ExportSection, number: u32) -> Result<(), AllocError> {
-    if let (Some(global), Some(name)) = (GLOBALS.get(number as usize), NAMES.get(number as usize)) {
+    if let Some(global) = GLOBALS.get(number as usize) {
         section.export(global, ExportKind::Global, number)?;
+    }
+    if let Some(name) = NAMES.get(number as usize) {
         section.export(name, ExportKind::Func, number.saturating_add(1))?;
     }
     Ok(())
@@ -111,11 +143,25 @@ fn put_ref_exports(section: &mut ExportSection, number: u32) -> Result<(), Alloc
 /// A stub, and the shims.
 fn ref_bodies(alloc: Global, count: usize) -> Result<Section, AllocError> {
     let mut code = Code::new(alloc);
-    put_body(&mut code, &stub_body(alloc)?)?;
+    put_body(&mut code, stub_body(alloc))?;
     for number in NUMBERS.iter().take(count) {
-        put_body(&mut code, &ref_shim_body(alloc, 2, *number, 0)?)?;
+        put_body(&mut code, ref_shim_body(alloc, 2, *number, 0))?;
     }
     Ok(Section::Code(code))
+}
+
+/// The sections of shims in the reference form.
+fn put_ref_shims(module: &mut Module, alloc: Global, count: usize) -> Result<(), AllocError>
+    requires { count ≤ 12 }
+{
+    put(module, shim_types(alloc))?;
+    put(module, functions_of_one_type(alloc, count + 1))?;
+    put(
+        module,
+        globals(alloc, count, changing(HELD, ConstExpr::RefFunc(0))),
+    )?;
+    put(module, ref_exports(alloc, count))?;
+    put(module, ref_bodies(alloc, count))
 }
 
 /// Shims in the reference form.
@@ -123,14 +169,11 @@ pub(crate) fn ref_shims(alloc: Global, count: usize) -> Result<Vec<u8>, BuildFau
     requires { count ≤ 12 }
 {
     let mut module = Module::new(alloc);
-    module.section(shim_types(alloc)?)?;
-    module.section(functions_of_one_type(alloc, count + 1)?)?;
-    module.section(globals(alloc, count, changing(HELD, ConstExpr::RefFunc(0)))?)?;
-    module.section(ref_exports(alloc, count)?)?;
-    module.section(ref_bodies(alloc, count)?)?;
-    module.bytes(alloc)
+    let put = put_ref_shims(&mut module, alloc, count);
+    finish(alloc, &module, put)
 }
 
+/// The functions that shims call, and their globals.
 fn ref_imports(alloc: Global, count: usize) -> Result<Section, AllocError> {
     let mut section = ImportSection::new(alloc);
     for (name, global) in NAMES.iter().zip(GLOBALS.iter()).take(count) {
@@ -162,20 +205,34 @@ fn ref_start(alloc: Global, count: usize) -> Result<Section, AllocError> {
             function: *number,
         })?;
     }
-    code(alloc, &start_body(alloc, fills.as_slice(), &[])?)
+    code(alloc, start_body(alloc, fills.as_slice(), &[]))
+}
+
+/// The functions that fill their globals, as such that code may refer to.
+fn declared(alloc: Global, count: usize) -> Result<Section, AllocError>
+    requires { count ≤ 12 }
+{
+    let functions = Seq::from_vec(Vec::from_slice(alloc, &NUMBERS[..count])?);
+    element(alloc, &ElementSegment::Declared(functions))
+}
+
+/// The sections of what fills their globals.
+fn put_ref_fills(module: &mut Module, alloc: Global, count: usize) -> Result<(), AllocError>
+    requires { count ≤ 12 }
+{
+    put(module, types(alloc, &[(&PAIR, &[]), (&[], &[])]))?;
+    put(module, ref_imports(alloc, count))?;
+    put(module, functions(alloc, &[1]))?;
+    put(module, Ok(Section::Start(count as u32)))?;
+    put(module, declared(alloc, count))?;
+    put(module, ref_start(alloc, count))
 }
 
 /// What fills their globals.
 pub(crate) fn ref_fills(alloc: Global, count: usize) -> Result<Vec<u8>, BuildFault>
     requires { count ≤ 12 }
 {
-    let declared = Seq::from_vec(Vec::from_slice(alloc, &NUMBERS[..count])?);
     let mut module = Module::new(alloc);
-    module.section(types(alloc, &[(&PAIR, &[]), (&[], &[])])?)?;
-    module.section(ref_imports(alloc, count)?)?;
-    module.section(functions(alloc, &[1])?)?;
-    module.section(Section::Start(count as u32))?;
-    module.section(element(alloc, &ElementSegment::Declared(declared))?)?;
-    module.section(ref_start(alloc, count)?)?;
-    module.bytes(alloc)
+    let put = put_ref_fills(&mut module, alloc, count);
+    finish(alloc, &module, put)
 }

@@ -46,8 +46,3 @@ pub use signatures::{WasmSignature, WasmType};
 pub use types::{Case, Field, ResultType, Type, TypeDef, TypeDefKind, TypeOwner};
 pub use versions::{CanonicalVersion, canonical_version};
 pub use worlds::{World, WorldItem, WorldKey};
-
-#[cfg(test)]
-mod tests;
-#[cfg(test)]
-mod tests_names;

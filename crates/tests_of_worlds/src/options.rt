@@ -1,11 +1,11 @@
 //! Sets of options and the options of a set. The expected sets were worked out from the Canonical ABI.
 
-use crate::encoding::StringEncoding;
-use crate::payloads::{PayloadFuncKind, PayloadInfo, PayloadType};
-use crate::required::{OptionFault, RequiredOptions};
 use bitflags::Flags;
 use comp_bytes::{CanonicalOption, Primitive};
 use comp_lists::{Seq, Text};
+use comp_worlds::{
+    OptionFault, PayloadFuncKind, PayloadInfo, PayloadType, RequiredOptions, StringEncoding,
+};
 use std::alloc::{AllocError, Global};
 use wit_data::{
     AbiVariant, Function, FunctionKind, Param, Resolve, Type, TypeContents, TypeDef, TypeDefKind,

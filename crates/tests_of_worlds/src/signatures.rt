@@ -1,17 +1,13 @@
 //! Core signatures, over every kind of type and every form of call. The expected values are those of an
 //! independent encoder that was written from the Canonical ABI (`flatten_functype`, `flatten_type`, `join`).
 
-use super::making::{Made, Part, Row, at, function_of, of, prim, resolve_of};
-use crate::functions::{AbiVariant, Function};
-use crate::ids::TypeId;
-use crate::resolve::Resolve;
-use crate::signatures::{WasmSignature, WasmType};
-use crate::types::Type;
+use crate::making::{Made, Part, Row, at, function_of, of, prim, resolve_of};
 use comp_bytes::Primitive::{
     Bool, Char, ErrorContext, F32, F64, S8, S16, S32, S64, String as Texts, U8, U16, U32, U64,
 };
 use std::alloc::{AllocError, Global};
 use std::test::Fail;
+use wit_data::{AbiVariant, Function, Resolve, Type, TypeId, WasmSignature, WasmType};
 
 /// A letter a core type: `i` for i32, `l` for i64, `f` for f32, `d` for f64.
 fn letter(ty: WasmType) -> char {

@@ -1,10 +1,7 @@
 //! What no clause says: that modules are read.
 
-use crate::core_module::read_module;
-use crate::entries::{EntityType, ExportedItem, Limits, ValType};
-use crate::fault::SectionFault;
-use crate::stripping::strip;
 use comp_lists::Text;
+use core_sections::{EntityType, ExportedItem, Limits, SectionFault, ValType, read_module, strip};
 use std::alloc::Global;
 use std::test::Fail;
 

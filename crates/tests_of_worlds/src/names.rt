@@ -2,14 +2,12 @@
 //! component model's explainer (`canonversion`, `versionsuffix`, `interfacename`) and from the Canonical
 //! ABI (`store`, `load`), by hand.
 
-use crate::liveness::live_marks;
-use crate::soundness::refer_back;
-use crate::*;
 use bitflags::Flags;
 use comp_lists::{Keyed, Seq, Text};
 use semver::Version;
 use std::alloc::Global;
 use std::test::*;
+use wit_data::*;
 
 /// The canonical version of a text, where memory allows.
 fn canonical(alloc: Global, text: &str) -> Option<CanonicalVersion> {
@@ -383,52 +381,5 @@ fn reached_by_none(resolve: &Resolve, alloc: Global) -> Option<usize> {
 fn no_types_reach_nothing(rt: HostRuntime) -> Result<(), Fail> {
     let resolve = named_rows(rt.alloc(), &[0, 1, 2]).ok_or("memory")?;
     assert_eq!(rt; reached_by_none(&resolve, rt.alloc()).ok_or("memory")?, 0);
-    Ok(())
-}
-
-/// A resource, and so many tuples, each of the type before it twice.
-fn doubling(alloc: Global, count: usize) -> Option<Seq<TypeDef>> {
-    let mut types = Seq::new(alloc);
-    for index in 0..count {
-        let kind = if index == 0 {
-            TypeDefKind::Resource
-        } else {
-            tuple_of(alloc, &[by_number(index - 1), by_number(index - 1)])?
-        };
-        types
-            .push(TypeDef {
-                name: None,
-                kind,
-                owner: TypeOwner::None,
-            })
-            .ok()?;
-    }
-    Some(types)
-}
-
-/// How many types a type reaches.
-fn reached_count(alloc: Global, types: &[TypeDef], index: usize) -> Option<usize> {
-    if !refer_back(types) || index >= types.len() {
-        return None;
-    }
-    let given = [Type::Id(TypeId { index })];
-    let marks = live_marks(alloc, types, &given).ok()?;
-    let mut count: usize = 0;
-    for mark in &marks {
-        if *mark {
-            count = count.saturating_add(1);
-        }
-    }
-    Some(count)
-}
-
-/// Of 60 tuples a walk from the last would meet 2^60 types.
-#[test]
-fn types_that_are_met_often_are_gone_through_once(rt: HostRuntime) -> Result<(), Fail> {
-    let types = doubling(rt.alloc(), 61).ok_or("memory")?;
-    let count = reached_count(rt.alloc(), types.as_slice(), 60).ok_or("memory")?;
-    assert_eq!(rt; count, 61);
-    let count = reached_count(rt.alloc(), types.as_slice(), 30).ok_or("memory")?;
-    assert_eq!(rt; count, 31);
     Ok(())
 }

@@ -1,14 +1,11 @@
 //! Look-ups in the tables of a world. The expected answers were worked out by hand.
 
-use crate::encoding::StringEncoding;
-use crate::exports::{Export, ExportMap};
-use crate::imports::{Import, ImportInstance, ImportMap};
-use crate::libraries::{LibraryInfo, MainOrAdapter};
-use crate::lowerings::LoweringKey;
-use crate::metadata::{FunctionKey, ModuleMetadata};
-use crate::modules::CustomModule;
-use crate::world::{ComponentWorld, ValidatedModule, WorldAdapter};
 use comp_lists::{Keyed, Seq, Text};
+use comp_worlds::{
+    ComponentWorld, CustomModule, Export, ExportMap, FunctionKey, Import, ImportInstance,
+    ImportMap, LibraryInfo, LoweringKey, MainOrAdapter, ModuleMetadata, StringEncoding,
+    ValidatedModule, WorldAdapter,
+};
 use core_bytes::MemoryType;
 use std::alloc::{AllocError, Global};
 use wit_data::{
@@ -66,21 +63,6 @@ fn the_first_of_a_role_is_found(rt: HostRuntime) {
     assert_eq!(rt; found.resource_dtor(resource(4)), Some("free another"));
     assert_eq!(rt; found.resource_dtor(resource(5)), None);
     assert_eq!(rt; name_at_first(&found), Some("memory"));
-}
-
-#[test]
-fn nothing_is_found_in_nothing(rt: HostRuntime) {
-    let alloc = rt.alloc();
-    let roles = vec![in alloc; ("other", Export::ReallocForAdapter)].expect(&rt, "memory");
-    let found = exports(alloc, roles).expect(&rt, "memory");
-    assert_eq!(rt; found.memory(), None);
-    assert_eq!(rt; found.initialize(), None);
-    assert_eq!(rt; found.wasm_task_hook(), None);
-    assert_eq!(rt; found.resource_dtor(resource(0)), None);
-    assert_eq!(rt; found.general_purpose_realloc(), None);
-    assert_eq!(rt; found.import_realloc_fallback(), None);
-    assert_eq!(rt; found.import_realloc_for(None, "f"), None);
-    assert_eq!(rt; found.reallocs(alloc).expect(&rt, "memory").len(), 0);
 }
 
 /// The key of an interface, or of the root function of a name.
@@ -180,27 +162,6 @@ fn functions_are_found_by_key_and_name(rt: HostRuntime) {
     }
 }
 
-/// Functions that are not there: of another name, of another interface.
-const ABSENT: [(Option<usize>, &str); 4] = [
-    (None, "h"),
-    (Some(0), "h"),
-    (Some(1), "g"),
-    (Some(2), "f"),
-];
-
-#[test]
-fn no_other_function_is_found(rt: HostRuntime) {
-    let alloc = rt.alloc();
-    let all = all_functions(alloc).expect(&rt, "memory");
-    for (interface, name) in ABSENT {
-        let key = key(alloc, interface, name).expect(&rt, "memory");
-        let function = function(alloc, name).expect(&rt, "memory");
-        assert_eq!(rt; all.abi(&key, &function), None);
-        assert_eq!(rt; all.post_return(&key, &function), None);
-        assert_eq!(rt; all.callback(&key, &function), None);
-    }
-}
-
 #[test]
 fn reallocs_come_in_order(rt: HostRuntime) {
     let alloc = rt.alloc();
@@ -223,17 +184,6 @@ fn reallocs_come_in_order(rt: HostRuntime) {
     assert_eq!(rt; found.import_realloc_fallback(), Some("imports"));
     assert_eq!(rt; found.import_realloc_for(None, "f"), Some("imports"));
     assert_eq!(rt; found.export_realloc_for(&key, "f"), Some("exports"));
-}
-
-#[test]
-fn the_general_realloc_stands_for_both(rt: HostRuntime) {
-    let alloc = rt.alloc();
-    let roles = vec![in alloc; ("all", Export::GeneralPurposeRealloc)].expect(&rt, "memory");
-    let found = exports(alloc, roles).expect(&rt, "memory");
-    let key = WorldKey::Interface(InterfaceId { index: 0 });
-    assert_eq!(rt; found.import_realloc_fallback(), None);
-    assert_eq!(rt; found.import_realloc_for(None, "f"), Some("all"));
-    assert_eq!(rt; found.export_realloc_for(&key, "f"), Some("all"));
 }
 
 /// An import of main's memory in this size, or of something else.
@@ -329,72 +279,78 @@ fn reallocating(alloc: Global, name: Option<&str>) -> Result<ValidatedModule, Al
     Ok(module(alloc, ExportMap { exports }))
 }
 
-/// An adapter with a realloc of its own, which is a library if so told.
-fn adapter(alloc: Global, is_library: bool) -> Result<WorldAdapter, AllocError> {
-    let library_info = if is_library {
-        Some(LibraryInfo {
-            arguments: Seq::new(alloc),
-        })
-    } else {
-        None
-    };
+/// A library with a realloc of its own.
+fn library(alloc: Global) -> Result<WorldAdapter, AllocError> {
     Ok(WorldAdapter {
         info: reallocating(alloc, Some("its"))?,
         required_exports: Seq::new(alloc),
-        library_info,
+        library_info: Some(LibraryInfo {
+            arguments: Seq::new(alloc),
+        }),
     })
 }
 
-/// A world with a plain adapter and a library.
-fn world(alloc: Global, realloc: Option<&str>) -> Result<ComponentWorld, AllocError> {
+/// A library of this name.
+fn libraries(alloc: Global, name: &str) -> Result<Keyed<Text, WorldAdapter>, AllocError> {
     let mut adapters = Keyed::new(alloc);
-    adapters.add_first(Text::from_str(alloc, "plain")?, adapter(alloc, false)?)?;
-    adapters.add_first(Text::from_str(alloc, "library")?, adapter(alloc, true)?)?;
-    Ok(ComponentWorld {
+    adapters.add_first(Text::from_str(alloc, name)?, library(alloc)?)?;
+    Ok(adapters)
+}
+
+/// A world of this main module with these adapters.
+fn world(
+    alloc: Global,
+    main: ValidatedModule,
+    adapters: Keyed<Text, WorldAdapter>,
+) -> ComponentWorld {
+    ComponentWorld {
         resolve: Resolve {
             interfaces: Seq::new(alloc),
             types: Seq::new(alloc),
             worlds: Seq::new(alloc),
         },
         world: WorldId { index: 0 },
-        main: reallocating(alloc, realloc)?,
+        main,
         main_exports: Seq::new(alloc),
         adapters,
         import_map: Keyed::new(alloc),
         live_type_imports: Keyed::new(alloc),
         exports_used: Keyed::new(alloc),
         can_use_context_slot_1: false,
-    })
-}
-
-const MODULES: [CustomModule<'static>; 4] = [
-    CustomModule::Main,
-    CustomModule::Adapter("plain"),
-    CustomModule::Adapter("library"),
-    CustomModule::Adapter("unknown"),
-];
-
-#[test]
-fn a_realloc_of_its_own_stays(rt: HostRuntime) {
-    let alloc = rt.alloc();
-    let world = world(alloc, Some("main's")).expect(&rt, "memory");
-    for which in MODULES {
-        assert_eq!(rt;
-            world.resolve_realloc(which, Some("own")),
-            Some((which, "own"))
-        );
     }
 }
 
+/// A world with a realloc in main, and a library.
+fn reallocating_world(alloc: Global) -> Result<ComponentWorld, AllocError> {
+    let adapters = libraries(alloc, "library")?;
+    Ok(world(alloc, reallocating(alloc, Some("main's"))?, adapters))
+}
+
+/// A module, its own realloc, and whose realloc it takes.
+const REALLOCS: [(
+    CustomModule<'static>,
+    Option<&str>,
+    Option<(CustomModule<'static>, &str)>,
+); 4] = [
+    (CustomModule::Main, None, None),
+    (
+        CustomModule::Adapter("library"),
+        Some("own"),
+        Some((CustomModule::Adapter("library"), "own")),
+    ),
+    (
+        CustomModule::Adapter("library"),
+        None,
+        Some((CustomModule::Main, "main's")),
+    ),
+    (CustomModule::Adapter("unknown"), None, None),
+];
+
 #[test]
 fn a_library_takes_the_realloc_of_main(rt: HostRuntime) {
-    let alloc = rt.alloc();
-    let answers = [None, None, Some((CustomModule::Main, "main's")), None];
-    let taken = world(alloc, Some("main's")).expect(&rt, "memory");
-    let bare = world(alloc, None).expect(&rt, "memory");
-    for place in 0..4 {
-        assert_eq!(rt; taken.resolve_realloc(MODULES[place], None), answers[place]);
-        assert_eq!(rt; bare.resolve_realloc(MODULES[place], None), None);
+    let world = reallocating_world(rt.alloc()).expect(&rt, "memory");
+    for (which, own, taken) in REALLOCS {
+        assert_eq!(rt; world.resolve_realloc(which, own), taken);
     }
 }
 

@@ -1,12 +1,12 @@
 //! Resolves that tests are run on, made of plain rows.
 
-use crate::functions::{Function, FunctionKind, Param};
-use crate::ids::TypeId;
-use crate::resolve::Resolve;
-use crate::types::{Case, Field, ResultType, Type, TypeDef, TypeDefKind, TypeOwner};
 use comp_bytes::Primitive;
 use comp_lists::{Seq, Text};
 use std::alloc::{AllocError, Global};
+use wit_data::{
+    Case, Field, Function, FunctionKind, Param, Resolve, ResultType, Type, TypeDef, TypeDefKind,
+    TypeId, TypeOwner,
+};
 
 /// What may stand in a place for a type.
 pub(crate) type Part = Option<Type>;

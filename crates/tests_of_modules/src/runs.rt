@@ -1,12 +1,11 @@
 //! The bytes of the bodies, as they stand in a code section, behind their size.
 
-use crate::bodies::{
-    ref_shim_body, start_body, stub_body, table_shim_body, tls_get_body, tls_set_body, wrapper_body,
-};
-use crate::bracket::{AfterHook, Bracket, TaskHook};
-use crate::start::{GlobalFill, StartStep};
 use comp_bytes::spelled;
 use core_bytes::Body;
+use core_runs::{
+    AfterHook, Bracket, GlobalFill, StartStep, TaskHook, ref_shim_body, start_body, stub_body,
+    table_shim_body, tls_get_body, tls_set_body, wrapper_body,
+};
 use std::alloc::{AllocError, Global};
 
 /// Whether a body was made, and its bytes are these.

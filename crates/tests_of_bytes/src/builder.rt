@@ -1,6 +1,6 @@
 //! Whole components, built call by call.
 
-use super::*;
+use comp_builder::ComponentBuilder;
 use comp_bytes::{
     BuildFault, CoreArgument, CoreInlineExport, Description, ExportKind, ExternName, FuncTypeDef,
     Sort,

@@ -1,15 +1,14 @@
 //! Numbers that name nothing, in each place; and types at the limits, and one past them.
 
-use super::making::{Made, Row, at, of, prim, resolve_of, unnamed};
-use crate::functions::{Function, FunctionKind, Param};
-use crate::ids::{InterfaceId, TypeId, WorldId};
-use crate::resolve::{Interface, Resolve};
-use crate::types::{Type, TypeDef, TypeDefKind, TypeOwner};
-use crate::worlds::{World, WorldItem, WorldKey};
+use crate::making::{Made, Row, at, of, prim, resolve_of, unnamed};
 use comp_bytes::Primitive::U32;
 use comp_lists::{Keyed, Seq, Text};
 use std::alloc::{AllocError, Global};
 use std::test::Fail;
+use wit_data::{
+    Function, FunctionKind, Interface, InterfaceId, Param, Resolve, Type, TypeDef, TypeDefKind,
+    TypeId, TypeOwner, World, WorldId, WorldItem, WorldKey,
+};
 
 /// Where a number stands.
 #[derive(Clone, Copy, Debug, PartialEq, Eq)]

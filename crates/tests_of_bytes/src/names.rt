@@ -1,11 +1,11 @@
 //! The form of names, and faults of components, from outside examples.
 
-use super::*;
 use comp_bytes::{
     Argument, CoreInlineExport, Def, Defs, Description, ExportKind, ExternName, InstanceType, Item,
     Member, Sort,
 };
 use comp_lists::{Seq, Text};
+use comp_names::{NameFault, check_names, is_formed};
 use std::alloc::{AllocError, Global};
 use std::test::*;
 

@@ -1,7 +1,7 @@
 //! Whole components, and the places of faults.
 
-use super::*;
 use comp_bytes::{Alias, Def, Description, ExportKind, Item, Sort, TypeDef};
+use comp_read::{ReadFault, read_component};
 use std::alloc::Global;
 use std::test::*;
 

@@ -1,7 +1,7 @@
 //! Components that are accepted, and the faults of others.
 
-use super::*;
 use comp_bytes::Space;
+use comp_check::{CheckFault, IndexFault, check, check_indexes, read_component};
 use std::alloc::Global;
 use std::test::*;
 

@@ -1,6 +1,6 @@
 //! One component with every kind of definition, against bytes worked out by hand from the binary format.
 
-use super::*;
+use comp_builder::ComponentBuilder;
 use comp_bytes::*;
 use comp_lists::{Bytes, Seq, Text};
 use std::alloc::Global;

@@ -1,6 +1,6 @@
 //! Counts, comparisons and spaces, and what no clause says.
 
-use super::*;
+use comp_bytes::*;
 use comp_lists::{Seq, Text};
 use std::alloc::Global;
 use std::test::*;
@@ -12,20 +12,20 @@ fn plain_name(alloc: Global, name: &str) -> Result<ExternName, BuildFault> {
     })
 }
 
-/// What a count of these is refused with.
-fn refused(count: u128) -> Option<Excess> {
-    fault::counted(count).err()
+/// What one item more than these is refused with.
+fn refused(count: u32) -> Option<Excess> {
+    next_count(count).err()
 }
 
 #[test]
 fn a_fault_is_displayed(rt: HostRuntime) -> Result<(), Fail> {
     let memory = format!(in rt.alloc(); "{}", BuildFault::Memory)?;
     assert_eq!(rt; memory.as_str(), "B1 Memory");
-    let excess = refused(1 << 32).ok_or("2^32 passes the limit")?;
+    let excess = refused(u32::MAX).ok_or("2^32 passes the limit")?;
     assert!(rt; excess.get() == 1 << 32);
     let many = format!(in rt.alloc(); "{}", BuildFault::TooMany { excess })?;
     assert_eq!(rt; many.as_str(), "B2 TooMany excess=4294967296");
-    assert!(rt; refused((1 << 32) - 1).is_none());
+    assert!(rt; refused(u32::MAX - 1).is_none());
     Ok(())
 }
 

@@ -1,11 +1,11 @@
 //! Lines of definitions, as they are worked out by hand.
 
-use super::*;
 use comp_bytes::{
     Alias, Argument, BuildFault, CanonicalOption, ComponentExportKind, CoreArgument,
     CoreInlineExport, CoreModule, Def, Defs, Description, ExportKind, ExternName, FuncTypeDef,
     InstanceType, Intrinsic, Item, Sort, TypeDef,
 };
+use comp_lines::describe;
 use comp_lists::{Bytes, Seq, Text};
 use std::alloc::Global;
 use std::test::*;
