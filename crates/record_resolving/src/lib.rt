@@ -29,6 +29,3 @@ mod types;
 mod worlds;
 
 pub use resolving::{Resolved, resolve};
-
-#[cfg(test)]
-mod tests;

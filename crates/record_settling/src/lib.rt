@@ -22,6 +22,3 @@ pub use compatible::Compatible;
 pub use groups::{Candidate, renames};
 pub use reach::check_reach;
 pub use settling::{Settled, settle};
-
-#[cfg(test)]
-mod tests;

@@ -28,6 +28,3 @@ pub use functions::read_function;
 pub use interfaces::read_interfaces;
 pub use known::{ReadInterface, Scope, Size, TypeFacts};
 pub use named::read_named_type;
-
-#[cfg(test)]
-mod tests;

@@ -20,6 +20,3 @@ mod world;
 
 pub use placed::{PlacedInterface, RecordWorld};
 pub use world::read_world;
-
-#[cfg(test)]
-mod tests;

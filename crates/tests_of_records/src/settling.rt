@@ -1,6 +1,6 @@
 //! Worlds with compatible interfaces: the imports that are left and their order, or the refusal.
 
-use crate::settling::settle;
+use record_settling::settle;
 use comp_lists::{Keyed, Seq, Text};
 use record_json::{Failure, Refusal};
 use record_values::{Interface, InterfaceName, Item, ItemKey, Node, Owner, TypeName, Typed, Wit};
