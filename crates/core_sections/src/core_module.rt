@@ -3,7 +3,7 @@
 ghost use Rattle.std.specs.Prelude.{◌≡◌, map, IfOk};
 ghost use Rattle.core_sections.specs.Reading.{Gives};
 ghost use Rattle.core_sections.specs.Sections.{body_view, Gives as GivesSections};
-ghost use Rattle.core_sections.specs.Entries.{with_export, with_exports, after_types, after_imports, after_definitions, after_exports, after_section, after_body, module_of};
+ghost use Rattle.core_sections.specs.Entries.{with_items, with_export, with_exports, after_types, after_imports, after_definitions, after_exports, after_section, after_body, module_of};
 
 use crate::definitions::{Functions, Globals, Memories, Tables};
 use crate::entries::{CoreExport, CoreImport, EntityType, ExportedItem, FuncType};
@@ -27,13 +27,14 @@ pub struct CoreModule {
 fn add_types(alloc: Global, so_far: CoreModule, contents: &[u8]) -> Result<CoreModule, ReadFault>
     ensures { Gives (λ m. m) result (after_types so_far contents.now) }
 {
+    let more = read_all::<FuncType>(alloc, contents)?;
     let CoreModule {
         mut types,
         imports,
         items,
         exports,
     } = so_far;
-    types.append(read_all::<FuncType>(alloc, contents)?)?;
+    types.append(more)?;
     Ok(CoreModule {
         types,
         imports,
@@ -53,19 +54,31 @@ fn entities_of(alloc: Global, imports: &[CoreImport]) -> Result<Vec<EntityType>,
     Ok(entities)
 }
 
+/// Adds what these imports are, each of which names one of so many types, where it names one.
+fn add_imported(
+    alloc: Global,
+    count: usize,
+    items: Items,
+    imports: &[CoreImport],
+) -> Result<Items, ReadFault>
+    ensures { Gives (λ s. s) result (with_items count items (map (λ i. i.entity) imports.now)) }
+{
+    let entities = entities_of(alloc, imports)?;
+    add_items(count, items, &entities)
+}
+
 #[tactic(auto, unfolding(crate::specs::Entries::after_imports))]
 fn add_imports(alloc: Global, so_far: CoreModule, contents: &[u8]) -> Result<CoreModule, ReadFault>
     ensures { Gives (λ m. m) result (after_imports so_far contents.now) }
 {
+    let more = read_all::<CoreImport>(alloc, contents)?;
     let CoreModule {
         types,
         mut imports,
         items,
         exports,
     } = so_far;
-    let more = read_all::<CoreImport>(alloc, contents)?;
-    let entities = entities_of(alloc, more.as_slice())?;
-    let items = add_items(types.len(), items, &entities)?;
+    let items = add_imported(alloc, types.len(), items, more.as_slice())?;
     imports.append(more)?;
     Ok(CoreModule {
         types,
@@ -84,13 +97,13 @@ fn add_definitions<T: Read<Value = EntityType>>(
 ) -> Result<CoreModule, ReadFault>
     ensures { Gives (λ m. m) result (after_definitions T.at so_far contents.now) }
 {
+    let more = read_all::<T>(alloc, contents)?;
     let CoreModule {
         types,
         imports,
         items,
         exports,
     } = so_far;
-    let more = read_all::<T>(alloc, contents)?;
     let items = add_items(types.len(), items, more.as_slice())?;
     Ok(CoreModule {
         types,
@@ -139,13 +152,13 @@ fn add_all(
 fn add_exports(alloc: Global, so_far: CoreModule, contents: &[u8]) -> Result<CoreModule, ReadFault>
     ensures { Gives (λ m. m) result (after_exports so_far contents.now) }
 {
+    let more = read_all::<CoreExport>(alloc, contents)?;
     let CoreModule {
         types,
         imports,
         items,
         exports,
     } = so_far;
-    let more = read_all::<CoreExport>(alloc, contents)?;
     let exports = add_all(&items, exports, more.into_vec())?;
     Ok(CoreModule {
         types,
