@@ -2,7 +2,7 @@
 
 ghost use Rattle.std.specs.Prelude.{None};
 
-use crate::store::{Store, StoreFault};
+use command_line::{Store, StoreFault};
 use std::alloc::Global;
 use std::rt::Files as FileSystem;
 use std::{fs, io};

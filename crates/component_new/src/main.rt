@@ -3,31 +3,17 @@
 //!
 //! `component_new new OUT MAIN [--validate]` reads the module from the file MAIN and puts its component
 //! into the file OUT. `component_new defs FILE` writes on standard output a line for each definition of
-//! the component in FILE. All that it does with files, what it writes and what it says of a failure is in
-//! the contract of [`running::run`]; `main` only hands it the system's arguments, files and streams.
-//!
-//! In reading order: `arguments` (what is asked for), `store` (files by their names), `fault` (why a
-//! run fails), `making` (from a file to a file), `telling` (the line that tells a failure), `listing` (a
-//! component on standard output), `running` (a run), `files` (the files of the system).
+//! the component in FILE. All of that is in the contract of [`command_line::run`]; `main` only hands it the
+//! system's arguments, streams and, in `files`, files.
 #![tactic(auto)]
 
-mod arguments;
-mod fault;
 mod files;
-mod listing;
-mod making;
-mod running;
-mod store;
-mod telling;
-#[cfg(test)]
-mod tests;
 
+use command_line::{MEMORY, USAGE, run, say};
 use files::Files;
-use running::run;
 use std::env::{self, Env};
 use std::io::{self, ErrorKind};
 use std::process::ExitCode;
-use telling::{MEMORY, USAGE, say};
 
 /// The arguments after the program's name.
 fn words<R: Env + AllocGlobal>(rt: &R) -> io::Result<Vec<String>> {

@@ -1,0 +1,21 @@
+-- What the program's arguments ask for. (The program's own: its command line.)
+use Rattle.std.specs.Prelude.{ℕ, Bool, true, false, List, [], ◌∷◌, ◌&&◌, codes, Option, Some, None, if◌then◌else◌}
+use Rattle.std.specs.Str.{bytes_eq}
+use Rattle.command_line.specs.declared.arguments.Request.{Request}
+use Rattle.command_line.specs.declared.arguments.Request.TheVariants as requests
+
+abbrev pub making : List ℕ → List ℕ → Bool → Request
+making out main validate = requests.New (record { out = out; main = main; validate = validate })
+
+-- what the words after the program's name ask for: `defs` with a file; or `new` with the component's file and the
+-- module's, and then, or not, `--validate`
+abbrev pub request_of : List (List ℕ) → Option Request
+request_of (command ∷ file ∷ []) = if bytes_eq command (codes "defs") then Some (requests.Defs file) else None
+request_of (command ∷ out ∷ main ∷ []) = if bytes_eq command (codes "new") then Some (making out main false) else None
+request_of (command ∷ out ∷ main ∷ flag ∷ []) = if bytes_eq command (codes "new") && bytes_eq flag (codes "--validate") then Some (making out main true) else None
+request_of _ = None
+
+-- whether the definitions of a component are asked for
+abbrev pub is_listing : Option Request → Bool
+is_listing (Some (requests.Defs file)) = true
+is_listing _ = false

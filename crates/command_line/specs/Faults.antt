@@ -1,0 +1,36 @@
+-- Why a run fails, and with which exit status. (The program's own.)
+use Rattle.std.specs.Prelude.{ℕ, Bool, List, ⊤, Result, Ok, Err, if◌then◌else◌}
+use Rattle.comp_check.specs.declared.fault.CheckFault.TheVariants as checks
+use Rattle.comp_encoder.specs.declared.fault.EncodeFault.TheVariants as encode_faults
+use Rattle.command_line.specs.declared.store.StoreFault.{StoreFault}
+use Rattle.command_line.specs.declared.store.StoreFault.TheVariants as store_faults
+use Rattle.command_line.specs.declared.fault.RunFault.{RunFault}
+use Rattle.command_line.specs.declared.fault.RunFault.TheVariants.{Usage, Read, Write, Encode, Check}
+
+-- want of memory where a component is made
+abbrev pub no_memory : {F : Type 0} → RunFault F
+no_memory = Encode encode_faults.Memory
+
+-- want of memory, by whether the definitions of a component are asked for
+abbrev pub want_of_memory : {F : Type 0} → Bool → RunFault F
+want_of_memory listing = if listing then Check checks.Memory else no_memory
+
+abbrev pub of_read : {F : Type 0} → Bool → List ℕ → StoreFault → RunFault F
+of_read listing name store_faults.Device = Read name
+of_read listing name store_faults.Memory = want_of_memory listing
+
+abbrev pub of_put : {F : Type 0} → List ℕ → StoreFault → RunFault F
+of_put name store_faults.Device = Write name
+of_put name store_faults.Memory = no_memory
+
+-- 1 where the fault is a refusal of the device
+abbrev pub told_faults : {F : Type 0} → Result ⊤ (RunFault F) → ℕ
+told_faults (Err (Read name)) = 1
+told_faults (Err (Write name)) = 1
+told_faults _ = 0
+
+-- the exit status
+abbrev pub status_of : {F : Type 0} → Result ⊤ (RunFault F) → ℕ
+status_of (Ok x) = 0
+status_of (Err Usage) = 2
+status_of (Err _) = 1

@@ -1,0 +1,77 @@
+//! What the program is asked for.
+
+ghost use Rattle.std.specs.Prelude.{◌≡◌, map, string_bytes, IfOk, IfErr, IsSome};
+ghost use Rattle.command_line.specs.Arguments.{request_of, making, is_listing};
+ghost use Rattle.command_line.specs.declared.arguments.Request.TheVariants as requests;
+
+use comp_lists::Text;
+use std::alloc::{AllocError, Global};
+
+/// The names of the files of a run of `new`: where the component goes, and where the module is; and
+/// whether the component is checked.
+#[derive(Drop)]
+pub(crate) struct Arguments {
+    pub out: Text,
+    pub main: Text,
+    pub validate: bool,
+}
+
+/// What a run is asked for.
+#[derive(Drop)]
+pub(crate) enum Request {
+    /// The component of a module.
+    New(Arguments),
+    /// The definitions of the component in a file.
+    Defs { file: Text },
+}
+
+impl Request {
+    fn making(alloc: Global, out: &str, main: &str, validate: bool) -> Result<Request, AllocError>
+        ensures { IfOk result (λ r. r ≡ making out.now main.now validate) }
+    {
+        let out = Text::from_str(alloc, out)?;
+        let main = Text::from_str(alloc, main)?;
+        Ok(Request::New(Arguments {
+            out,
+            main,
+            validate,
+        }))
+    }
+
+    fn listing(alloc: Global, file: &str) -> Result<Request, AllocError>
+        ensures { IfOk result (λ r. r ≡ requests.Defs file.now) }
+    {
+        let file = Text::from_str(alloc, file)?;
+        Ok(Request::Defs { file })
+    }
+
+    /// What the words after the program's name ask for, where they ask for anything.
+    pub(crate) fn read(alloc: Global, words: &[String]) -> Result<Option<Request>, AllocError>
+        ensures ok { IfOk result (λ r. r ≡ request_of (map string_bytes words.now)) }
+        ensures err { IfErr result (λ _. IsSome (request_of (map string_bytes words.now))) }
+    {
+        match words {
+            [command, file] if command.as_str() == "defs" => {
+                Ok(Some(Request::listing(alloc, file.as_str())?))
+            }
+            [command, out, main] if command.as_str() == "new" => {
+                Ok(Some(Request::making(alloc, out, main, false)?))
+            }
+            [command, out, main, flag]
+                if command.as_str() == "new" && flag.as_str() == "--validate" => {
+                Ok(Some(Request::making(alloc, out, main, true)?))
+            }
+            _ => Ok(None),
+        }
+    }
+}
+
+/// Whether the words ask for the definitions of a component.
+pub(crate) fn is_listing(words: &[String]) -> bool
+    ensures { result ≡ is_listing (request_of (map string_bytes words.now)) }
+{
+    match words {
+        [command, _] => command.as_str() == "defs",
+        _ => false,
+    }
+}

@@ -1,0 +1,59 @@
+//! Why a run fails.
+
+ghost use Rattle.std.specs.Prelude.{◌≡◌};
+ghost use Rattle.command_line.specs.Faults.{of_read, of_put, want_of_memory};
+
+use crate::store::StoreFault;
+use comp_check::CheckFault;
+use comp_encoder::EncodeFault;
+use comp_lists::Text;
+
+/// Why a run fails; `F` are the faults of the lower layer.
+#[derive(Drop)]
+pub(crate) enum RunFault<F> {
+    /// The arguments are not those of the program.
+    Usage,
+    /// The module's file can't be read.
+    Read { name: Text },
+    /// The component's file can't be put.
+    Write { name: Text },
+    /// Standard output can't be written.
+    Out,
+    /// There is no component. Want of memory is told in this way wherever it is met by `new`.
+    Encode(EncodeFault<F>),
+    /// The bytes of a file are no component. Want of memory is told in this way wherever it is met by
+    /// `defs`.
+    Check(CheckFault),
+}
+
+/// What want of memory is to a run.
+pub(crate) fn want_of_memory<F>(listing: bool) -> RunFault<F>
+    ensures { result ≡ want_of_memory listing }
+{
+    if listing {
+        RunFault::Check(CheckFault::Memory)
+    } else {
+        RunFault::Encode(EncodeFault::Memory)
+    }
+}
+
+/// What a refusal of the store to read a file is to the run. `listing` is whether it was read to tell
+/// its definitions.
+pub(crate) fn read_fault<F>(listing: bool, fault: StoreFault, name: Text) -> RunFault<F>
+    ensures { result ≡ of_read listing name fault }
+{
+    match fault {
+        StoreFault::Device => RunFault::Read { name },
+        StoreFault::Memory => want_of_memory(listing),
+    }
+}
+
+/// What a refusal of the store to put a file is to the run.
+pub(crate) fn put_fault<F>(fault: StoreFault, name: Text) -> RunFault<F>
+    ensures { result ≡ of_put name fault }
+{
+    match fault {
+        StoreFault::Device => RunFault::Write { name },
+        StoreFault::Memory => RunFault::Encode(EncodeFault::Memory),
+    }
+}

@@ -1,0 +1,77 @@
+//! A component, told on standard output.
+
+ghost use Rattle.std.specs.Prelude.{◌≡◌, ◌∷◌, [], List, IfOk, IfErr, map, string_bytes};
+ghost use Rattle.comp_bytes.specs.Grammar.{Spells};
+ghost use Rattle.comp_bytes.specs.declared.def.Def.{Def};
+ghost use Rattle.comp_check.specs.Faults.{IsUnread};
+ghost use Rattle.comp_lines.specs.Lines.{lines};
+ghost use Rattle.command_line.specs.Events.{happen};
+ghost use Rattle.command_line.specs.declared.store.Event.{Event};
+ghost use Rattle.command_line.specs.Listing.{told, Listed};
+ghost use Rattle.command_line.specs.Telling.{Puts};
+
+use crate::fault::{RunFault, read_fault};
+use crate::store::Store;
+use crate::telling::put;
+use comp_bytes::BuildFault;
+use comp_check::{CheckFault, read_component};
+use comp_lines::describe;
+use comp_lists::Text;
+use std::alloc::Global;
+use std::io::Write;
+
+/// The lines of the definitions that the bytes of a component spell.
+fn lines_of(alloc: Global, bytes: &[u8]) -> Result<Vec<String>, CheckFault>
+    ensures ok { IfOk result (λ found. (ds : List Def) × Spells bytes.now ds × (map string_bytes found.items ≡ lines ds)) }
+    ensures cause { IfErr result (λ e. IsUnread bytes.now e) }
+{
+    let definitions = read_component(alloc, bytes)?;
+    match describe(alloc, &definitions) {
+        Ok(lines) => Ok(lines),
+        Err(BuildFault::Memory) => Err(CheckFault::Memory),
+        Err(BuildFault::TooMany { .. }) => unreachable!(),
+    }
+}
+
+/// Writes a line with its end. Whether all of it was written.
+fn put_line<W: Write>(writer: &mut W, line: &str) -> bool
+    ensures { Puts (W.contents writer.old) (W.contents writer.new) (told (line.now ∷ [])) result }
+{
+    put(writer, line.as_bytes()) && put(writer, b"\n")
+}
+
+/// Writes lines with their ends. Whether all of them were written.
+fn put_lines<W: Write>(writer: &mut W, lines: &[String]) -> bool
+    ensures { Puts (W.contents writer.old) (W.contents writer.new) (told (map string_bytes lines.now)) result }
+{
+    for line in lines {
+        if !put_line(writer, line.as_str()) {
+            return false;
+        }
+    }
+    true
+}
+
+/// Reads a component, and tells its definitions, a line each.
+pub(crate) fn list<S: Store, W: Write, F>(
+    alloc: Global,
+    file: Text,
+    store: &mut S,
+    out: &mut W,
+) -> Result<(), RunFault<F>>
+    ensures { (es : List Event) × (S.events store.new ≡ happen (S.events store.old) es) × Listed file es (W.contents out.old) (W.contents out.new) result }
+{
+    let bytes = match store.read(alloc, file.as_str()) {
+        Ok(bytes) => bytes,
+        Err(fault) => return Err(read_fault(true, fault, file)),
+    };
+    let lines = match lines_of(alloc, &bytes) {
+        Ok(lines) => lines,
+        Err(fault) => return Err(RunFault::Check(fault)),
+    };
+    if put_lines(out, &lines) {
+        Ok(())
+    } else {
+        Err(RunFault::Out)
+    }
+}

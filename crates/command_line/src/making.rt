@@ -1,0 +1,57 @@
+//! From a file to a file.
+
+ghost use Rattle.std.specs.Prelude.{◌≡◌, List, IfOk, IfErr};
+ghost use Rattle.command_line.specs.Events.{happen};
+ghost use Rattle.command_line.specs.declared.store.Event.{Event};
+ghost use Rattle.command_line.specs.Making.{IsMade, IsMakeRefusal, Made};
+
+use crate::arguments::Arguments;
+use crate::fault::{RunFault, put_fault, read_fault};
+use crate::store::Store;
+use comp_encoder::{ComponentEncoder, EncodeFault};
+use comp_worlds::Lower;
+use std::alloc::Global;
+
+/// The component of a module, checked or not, by an encoder that is given nothing else.
+fn component_of<L: Lower + Drop>(
+    alloc: Global,
+    lower: L,
+    validate: bool,
+    bytes: &[u8],
+) -> Result<Vec<u8>, EncodeFault<L::Fault>>
+    ensures ok { IfOk result (λ component. IsMade L.Lower lower validate bytes.now component.items) }
+    ensures cause { IfErr result (IsMakeRefusal L.Lower lower validate bytes.now) }
+{
+    let mut encoder = ComponentEncoder::new(alloc, lower);
+    encoder.validate(validate);
+    encoder.add_module(bytes)?;
+    encoder.encode()
+}
+
+/// Reads a module, and puts its component.
+pub(crate) fn make<L: Lower + Drop, S: Store>(
+    alloc: Global,
+    lower: L,
+    arguments: Arguments,
+    store: &mut S,
+) -> Result<(), RunFault<L::Fault>>
+    ensures { (es : List Event) × (S.events store.new ≡ happen (S.events store.old) es) × Made L.Lower lower arguments es result }
+{
+    let Arguments {
+        out,
+        main,
+        validate,
+    } = arguments;
+    let bytes = match store.read(alloc, main.as_str()) {
+        Ok(bytes) => bytes,
+        Err(fault) => return Err(read_fault(false, fault, main)),
+    };
+    let component = match component_of(alloc, lower, validate, &bytes) {
+        Ok(component) => component,
+        Err(fault) => return Err(RunFault::Encode(fault)),
+    };
+    match store.put(out.as_str(), &component) {
+        Ok(()) => Ok(()),
+        Err(fault) => Err(put_fault(fault, out)),
+    }
+}

@@ -1,0 +1,94 @@
+//! A run of the program.
+
+ghost use Rattle.std.specs.Prelude.{◌≡◌, map, string_bytes};
+ghost use Rattle.command_line.specs.Arguments.{request_of, is_listing};
+ghost use Rattle.command_line.specs.Running.{Performed, Ran, RanOver, Told};
+ghost use Rattle.command_line.specs.Faults.{status_of};
+ghost use Rattle.command_line.specs.Telling.{memory_line_of};
+
+use crate::arguments::{Request, is_listing};
+use crate::fault::{RunFault, want_of_memory};
+use crate::listing::list;
+use crate::making::make;
+use crate::store::Store;
+use crate::telling::tell;
+use comp_worlds::Lower;
+use plain_lower::PlainLower;
+use std::alloc::Global;
+use std::fmt::Display;
+use std::io::Write;
+
+/// Does what the words after the program's name ask for.
+fn perform<L: Lower + Drop, S: Store, W: Write>(
+    alloc: Global,
+    lower: L,
+    words: &[String],
+    store: &mut S,
+    out: &mut W,
+) -> Result<(), RunFault<L::Fault>>
+    ensures { Performed L.Lower lower (request_of (map string_bytes words.now)) (S.events store.old) (S.events store.new) (W.contents out.old) (W.contents out.new) result }
+{
+    match Request::read(alloc, words) {
+        Ok(Some(Request::New(arguments))) => make(alloc, lower, arguments, store),
+        Ok(Some(Request::Defs { file })) => list(alloc, file, store, out),
+        Ok(None) => Err(RunFault::Usage),
+        Err(_) => Err(want_of_memory(is_listing(words))),
+    }
+}
+
+/// Tells how a run ended: nothing of success, a line of a failure.
+fn report<W: Write, F: Display>(
+    alloc: Global,
+    writer: &mut W,
+    listing: bool,
+    done: &Result<(), RunFault<F>>,
+)
+    ensures { Told (memory_line_of listing) (W.contents writer.old) (W.contents writer.new) done.now }
+{
+    match done {
+        Ok(()) => {}
+        Err(fault) => tell(alloc, writer, listing, fault),
+    }
+}
+
+/// The exit status: 0 after success, 2 where the arguments are wrong, else 1.
+fn status_of<F>(done: &Result<(), RunFault<F>>) -> u8
+    ensures { result ≡ status_of done.now }
+{
+    match done {
+        Ok(()) => 0,
+        Err(RunFault::Usage) => 2,
+        Err(_) => 1,
+    }
+}
+
+/// Runs the program over any lower layer. `words` are the arguments after the program's name; the
+/// answer is the exit status.
+pub fn run_with<L: Lower + Drop, S: Store, W: Write, E: Write>(
+    alloc: Global,
+    lower: L,
+    words: &[String],
+    store: &mut S,
+    out: &mut W,
+    err: &mut E,
+) -> u8
+    ensures ran { Ran L.Lower lower (map string_bytes words.now) (S.events store.old) (S.events store.new) (W.contents out.old) (W.contents out.new) (E.contents err.old) (E.contents err.new) result }
+{
+    let done = perform(alloc, lower, words, store, out);
+    report(alloc, err, is_listing(words), &done);
+    status_of(&done)
+}
+
+/// Runs the program. `words` are the arguments after the program's name; the answer is the exit
+/// status.
+pub fn run<S: Store, W: Write, E: Write>(
+    alloc: Global,
+    words: &[String],
+    store: &mut S,
+    out: &mut W,
+    err: &mut E,
+) -> u8
+    ensures ran { RanOver ⟦<PlainLower as Lower>⟧ (map string_bytes words.now) (S.events store.old) (S.events store.new) (W.contents out.old) (W.contents out.new) (E.contents err.old) (E.contents err.new) result }
+{
+    run_with(alloc, PlainLower::new(), words, store, out, err)
+}

@@ -1,0 +1,46 @@
+//! Files by their names.
+
+ghost use Rattle.std.specs.Prelude.{◌≡◌, List, Option};
+ghost use Rattle.command_line.specs.Events.{happen, events_of_read, events_of_put};
+
+use comp_lists::{Bytes, Text};
+use std::alloc::Global;
+
+/// Why a file could not be read or put.
+#[derive(Clone, Copy, Debug, PartialEq, Eq)]
+pub enum StoreFault {
+    /// The file is not there, or the device refused.
+    Device,
+    /// A growth was refused. Nothing was done.
+    Memory,
+}
+
+/// What a store did, as its history tells it.
+#[derive(Debug, Drop)]
+pub enum Event {
+    /// A file was read, and had these bytes.
+    Read { name: Text, bytes: Bytes },
+    /// The device refused to read a file.
+    NotRead { name: Text },
+    /// These bytes were put into a file.
+    Put { name: Text, bytes: Bytes },
+    /// The device refused to put these bytes into a file.
+    NotPut { name: Text, bytes: Bytes },
+}
+
+/// Files by their names.
+pub trait Store {
+    ghost use Rattle.command_line.specs.declared.store.Event.{Event as Happened};
+
+    /// What was read and put so far, in order, where that is known. It isn't known of the files of a
+    /// system, which others change too.
+    ghost events: { Self → Option (List Happened) };
+
+    /// All bytes of a file.
+    fn read(&mut self, alloc: Global, name: &str) -> Result<Vec<u8>, StoreFault>
+        ensures { events self.new ≡ happen (events self.old) (events_of_read name.now result) };
+
+    /// Makes these bytes the contents of a file, in place of what it had.
+    fn put(&mut self, name: &str, bytes: &[u8]) -> Result<(), StoreFault>
+        ensures { events self.new ≡ happen (events self.old) (events_of_put name.now bytes.now result) };
+}
