@@ -1,8 +1,8 @@
 //! Small worlds: how many types they come to, or that they are refused.
 
-use record_resolving::resolve;
 use comp_lists::{Keyed, Seq, Text};
 use record_json::{Failure, Refusal};
+use record_resolving::resolve;
 use record_values::{Func, Interface, InterfaceName, Item, ItemKey, Node, Typed, Wit};
 use std::alloc::{AllocError, Global};
 use std::test::*;

@@ -1,8 +1,8 @@
 //! Worlds with compatible interfaces: the imports that are left and their order, or the refusal.
 
-use record_settling::settle;
 use comp_lists::{Keyed, Seq, Text};
 use record_json::{Failure, Refusal};
+use record_settling::settle;
 use record_values::{Interface, InterfaceName, Item, ItemKey, Node, Owner, TypeName, Typed, Wit};
 use std::alloc::{AllocError, Global};
 use std::test::*;

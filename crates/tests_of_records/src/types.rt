@@ -1,10 +1,11 @@
 //! What no clause says: the nodes and sizes of types, and functions, each worked out from the format. Which records
 //! are refused, and with which path, is a list of cases of the program `tell_records`.
 
-use record_types::{ReadInterface, Scope, Size, TypeFacts};
-use record_types::{read_function, read_interfaces, read_named_type};
 use comp_lists::{Keyed, Seq, Text};
 use record_json::{Failure, Refusal, read_value};
+use record_types::{
+    ReadInterface, Scope, Size, TypeFacts, read_function, read_interfaces, read_named_type,
+};
 use record_values::{Func, Node};
 use std::alloc::{AllocError, Global};
 use std::test::Fail;

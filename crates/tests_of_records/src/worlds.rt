@@ -1,9 +1,9 @@
 //! What is read of whole records: the names of interfaces, and where they stand. Which records are refused, and
 //! with which path, is a list of cases of the program `tell_records`.
 
-use record_worlds::{PlacedInterface, RecordWorld, read_world};
 use record_json::{Failure, read_value};
 use record_values::InterfaceName;
+use record_worlds::{PlacedInterface, RecordWorld, read_world};
 use std::alloc::{AllocError, Global};
 use std::test::Fail;
 
