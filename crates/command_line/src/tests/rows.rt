@@ -2,7 +2,7 @@
 
 use super::modules::{COMPONENT, CUT, EMPTY, EMPTY_COMPONENT, MAIN, OPEN, PACKAGE};
 use comp_encoder::{ComponentEncoder, EncodeFault, Lower};
-use plain_lower::{PlainFault, PlainLower};
+use plain_lower::PlainLower;
 use std::alloc::{AllocError, Global};
 use std::fmt::Display;
 use std::test::Fail;
@@ -19,8 +19,12 @@ fn fault_text<T, F: Display>(
 }
 
 /// What `encode` says after one module.
-fn encoded(alloc: Global, bytes: &[u8]) -> Result<Vec<u8>, EncodeFault<PlainFault>> {
-    let mut encoder = ComponentEncoder::new(alloc, PlainLower::new());
+fn encoded<L: Lower + Drop>(
+    alloc: Global,
+    lower: L,
+    bytes: &[u8],
+) -> Result<Vec<u8>, EncodeFault<L::Fault>> {
+    let mut encoder = ComponentEncoder::new(alloc, lower);
     encoder.module(bytes)?.encode()
 }
 
@@ -39,8 +43,14 @@ fn given_twice<L: Lower + Drop>(
 #[test]
 fn a_module_becomes_its_component(rt: HostRuntime) -> Result<(), Fail> {
     let alloc = rt.alloc();
-    assert_eq!(rt; encoded(alloc, MAIN)?.as_slice(), COMPONENT);
-    assert_eq!(rt; encoded(alloc, EMPTY)?.as_slice(), EMPTY_COMPONENT);
+    assert_eq!(rt;
+        encoded(alloc, PlainLower::new(), MAIN)?.as_slice(),
+        COMPONENT
+    );
+    assert_eq!(rt;
+        encoded(alloc, PlainLower::new(), EMPTY)?.as_slice(),
+        EMPTY_COMPONENT
+    );
     Ok(())
 }
 
@@ -62,7 +72,7 @@ fn refusals_of_the_layer_are_told(rt: HostRuntime) -> Result<(), Fail> {
         (OPEN, "E3 Lower: P5 Json"),
     ];
     for (bytes, fault) in told {
-        let text = fault_text(alloc, &encoded(alloc, bytes))?;
+        let text = fault_text(alloc, &encoded(alloc, PlainLower::new(), bytes))?;
         assert_eq!(rt; text.as_str(), fault);
     }
     Ok(())
