@@ -14,7 +14,8 @@ use Rattle.comp_bytes.specs.declared.def.Item.{Item}
 use Rattle.comp_bytes.specs.declared.def.Item.TheVariants as items
 use Rattle.comp_bytes.specs.declared.def.Def.{Def}
 use Rattle.comp_bytes.specs.declared.def.Def.TheVariants as defs
-use Rattle.comp_worlds.specs.Worlds.{core_preamble, whole_of}
+use Rattle.comp_bytes.specs.Core.{core_preamble}
+use Rattle.comp_worlds.specs.Worlds.{whole_of}
 use Rattle.comp_worlds.specs.declared.encoding.StringEncoding.{StringEncoding}
 use Rattle.comp_worlds.specs.declared.encoding.StringEncoding.TheVariants as encodings
 use Rattle.wit_data.specs.declared.functions.AbiVariant.TheVariants.{GuestImport, GuestExport}
@@ -66,6 +67,7 @@ root_world bytes imported exported groups core_exports = whole_of (record {
     bytes = bytes;
     imports = record { modules = map group groups };
     exports = record { exports = map exported_as core_exports };
+    offered = [];
     metadata = record { import_encodings = map encoded imported; export_encodings = map encoded exported };
   };
   main_exports = map keys.Name exported;

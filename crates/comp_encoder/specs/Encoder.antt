@@ -39,7 +39,7 @@ required_of (Some part) = part.required
 module _ {L B F : Type 0} (l : lower.Ghosts L B F) where
   -- an encoder that was given nothing
   abbrev pub fresh : L → Encoder L B
-  fresh layer = record { lower = layer; gathered = record { main = None; joint = l.empty_is layer; options = default_options } }
+  fresh layer = record { lower = layer; gathered = record { main = None; adapters = []; joint = l.empty_is layer; options = default_options } }
 
   -- What an accepted module leaves: it is main, its keys are required beside those of the modules
   -- that were accepted before it, and what it says is joined to what they said.

@@ -55,6 +55,7 @@ impl<L: Lower> ComponentEncoder<L> {
             lower,
             gathered: Gathered {
                 main: None,
+                adapters: Keyed::new(alloc),
                 joint,
                 options: EncoderOptions {
                     validate: false,

@@ -1,9 +1,10 @@
 -- What a validated world says, and what holds of it (component model: the imports and exports of a
 -- world; core standard, binary format: the preamble of a module).
-use Rattle.std.specs.Prelude.{◌≡◌, ◌<◌, ℕ, List, [], ◌∷◌, Option, Some, None, map, take, get_or, length, Contains, IsSome, is_some}
+use Rattle.std.specs.Prelude.{◌≡◌, ◌<◌, ℕ, List, [], ◌∷◌, Option, Some, None, map, get_or, length, Contains, IsSome, is_some}
 use Rattle.std.specs.List.{flat_map, IsDistinct, AllByRecursion}
 use Rattle.std.specs.Str.{bytes_eq}
 use Rattle.comp_lists.specs.Found.{found}
+use Rattle.comp_bytes.specs.Core.{IsCoreModule}
 use Rattle.wit_data.specs.declared.functions.Function.{Function}
 use Rattle.wit_data.specs.declared.functions.FunctionKind.TheVariants.{Freestanding}
 use Rattle.wit_data.specs.declared.functions.AbiVariant.TheVariants.{GuestImport, GuestExport}
@@ -126,15 +127,11 @@ whole_with p items = record {
 abbrev pub whole_of : WorldParts → ComponentWorld
 whole_of p = whole_with p (get_or p.resolve.worlds p.world.index no_items)
 
--- what a core module begins with
-abbrev pub core_preamble : List ℕ
-core_preamble = 0x00 ∷ 0x61 ∷ 0x73 ∷ 0x6d ∷ 0x01 ∷ 0x00 ∷ 0x00 ∷ 0x00 ∷ []
-
 -- what holds of every validated world
 pub record IsWorld (w : ComponentWorld) : Type 0 where
   pub sound : IsSound w.resolve
   pub stands : w.world.index < length w.resolve.worlds
-  pub core : take 8 w.main.bytes ≡ core_preamble
+  pub core : IsCoreModule w.main.bytes
   pub imports : AllByRecursion IsItem (items_of w).imports
   pub exports : AllByRecursion IsItem (items_of w).exports
   pub import_names_apart : IsDistinct bytes_eq (imported_functions w)

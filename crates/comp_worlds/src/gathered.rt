@@ -1,7 +1,8 @@
 //! What was gathered before the world is prepared.
 
+use crate::libraries::LibraryInfo;
 use crate::options::EncoderOptions;
-use comp_lists::{Bytes, Seq, Text};
+use comp_lists::{Bytes, Keyed, Seq, Text};
 
 /// A required export: by its name, or an interface by its id, so that no later merge moves it.
 #[derive(Debug, Drop, PartialEq, Eq, Hash)]
@@ -26,10 +27,19 @@ pub struct Merged<B> {
     pub exports: Seq<ExportKey>,
 }
 
-/// All that an encoder was given: main, what all modules say together, and the options.
+/// A module beside main as it was given, and what makes it a library, where it is one.
+#[derive(Drop)]
+pub struct GatheredAdapter<B> {
+    pub part: Part<B>,
+    pub library_info: Option<LibraryInfo>,
+}
+
+/// All that an encoder was given: main, its adapters by their names, in order, what all modules say together, and
+/// the options.
 #[derive(Drop)]
 pub struct Gathered<B> {
     pub main: Option<Part<B>>,
+    pub adapters: Keyed<Text, GatheredAdapter<B>>,
     pub joint: B,
     pub options: EncoderOptions,
 }

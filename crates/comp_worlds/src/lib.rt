@@ -8,7 +8,7 @@
 //! In reading order: `encoding` (string encodings), `libraries` (what the imports of a library are met
 //! with), `payloads` (streams and futures), `imports` and `exports` (what the imports and exports of a
 //! core module are for, and what is looked up in them), `roles` (what exports are looked for),
-//! `metadata` (the encodings of functions), `world` (the validated world), `modules` (user modules by
+//! `metadata` (the encodings of functions), `offered` (the types of core exports), `world` (the validated world), `modules` (user modules by
 //! name, and where a module's realloc stands), `required` (which options a canonical function needs),
 //! `laws` (laws of those), `lowerings` (how imported functions are met), `options` (what the encoder was
 //! asked for), `gathered` (what was gathered before the world is prepared), `lower` (the trait). What follows
@@ -31,6 +31,7 @@ mod lowerings;
 mod mentions;
 mod metadata;
 mod modules;
+mod offered;
 mod options;
 mod payloads;
 mod reached;
@@ -42,7 +43,7 @@ mod world;
 
 pub use encoding::StringEncoding;
 pub use exports::{Export, ExportMap};
-pub use gathered::{ExportKey, Gathered, Merged, Part};
+pub use gathered::{ExportKey, Gathered, GatheredAdapter, Merged, Part};
 pub use imports::{Import, ImportInstance, ImportMap, NamedImport};
 pub use laws::{ends_as_told, lowering_adds_realloc};
 pub use libraries::{Instance, Item, LibraryArgument, LibraryInfo, MainOrAdapter};
@@ -50,6 +51,7 @@ pub use lower::Lower;
 pub use lowerings::{ImportedInterface, Lowering, LoweringKey};
 pub use metadata::{FunctionKey, ModuleMetadata};
 pub use modules::CustomModule;
+pub use offered::ExternType;
 pub use options::EncoderOptions;
 pub use payloads::{PayloadFuncKind, PayloadInfo, PayloadType};
 pub use required::{OptionFault, Options, RequiredOptions};

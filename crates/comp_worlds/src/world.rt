@@ -12,6 +12,7 @@ use crate::imports::ImportMap;
 use crate::libraries::LibraryInfo;
 use crate::lowerings::ImportedInterface;
 use crate::metadata::ModuleMetadata;
+use crate::offered::ExternType;
 use crate::tables::{Tables, tables_of};
 use comp_lists::{Bytes, Keyed, Seq, Text};
 use std::alloc::{AllocError, Global};
@@ -23,6 +24,9 @@ pub struct ValidatedModule {
     pub bytes: Bytes,
     pub imports: ImportMap,
     pub exports: ExportMap,
+    /// The types of what it offers to others, by the names of its core exports: of those whose types are made of the
+    /// four number types, references to any function, and tables and memories with limits below 2^32.
+    pub offered: Keyed<Text, ExternType>,
     pub metadata: ModuleMetadata,
 }
 

@@ -14,7 +14,8 @@ use Rattle.wit_data.specs.declared.functions.FunctionKind.TheVariants.{Freestand
 use Rattle.wit_data.specs.declared.functions.AbiVariant.TheVariants.{GuestImport}
 use Rattle.comp_worlds.specs.declared.world.ComponentWorld.{ComponentWorld}
 use Rattle.comp_worlds.specs.declared.world.WorldParts.{WorldParts}
-use Rattle.comp_worlds.specs.Worlds.{core_preamble, whole_of}
+use Rattle.comp_bytes.specs.Core.{core_preamble}
+use Rattle.comp_worlds.specs.Worlds.{whole_of}
 use Rattle.comp_encoder.specs.Encoder.{main_bytes}
 use Rattle.stub_lower.specs.declared.stub.StubLower.{StubLower}
 use Rattle.stub_lower.specs.declared.stub.StubLower.TheVariants as layers
@@ -53,6 +54,7 @@ stub_parts bytes = record {
     bytes = bytes;
     imports = stub_imports;
     exports = record { exports = [] };
+    offered = [];
     metadata = record { import_encodings = []; export_encodings = [] };
   };
   main_exports = [];

@@ -2,7 +2,8 @@
 
 ghost use Rattle.std.specs.Prelude.{◌≡◌, IfOk, take};
 ghost use Rattle.stub_lower.specs.Stub.{stub_role, stub_fields, stub_imports, stub_items, stub_resolve, stub_parts, stub_world};
-ghost use Rattle.comp_worlds.specs.Worlds.{IsWorld, core_preamble};
+ghost use Rattle.comp_bytes.specs.Core.{core_preamble};
+ghost use Rattle.comp_worlds.specs.Worlds.{IsWorld};
 
 use comp_lists::{Keyed, Seq, Text};
 use comp_worlds::{
@@ -90,6 +91,7 @@ fn parts_of(alloc: Global, bytes: &[u8]) -> Result<WorldParts, AllocError>
             exports: ExportMap {
                 exports: Keyed::new(alloc),
             },
+            offered: Keyed::new(alloc),
             metadata: ModuleMetadata {
                 import_encodings: Keyed::new(alloc),
                 export_encodings: Keyed::new(alloc),
