@@ -58,6 +58,14 @@ module _ {L B F : Type 0} (l : lower.Ghosts L B F) where
   abbrev pub validating : Encoder L B → Bool → Encoder L B
   validating e on = record e { gathered = record e.gathered { options = record e.gathered.options { validate = on } } }
 
+  -- the encoder with the merging of compatible versions on or off
+  abbrev pub merging_versions : Encoder L B → Bool → Encoder L B
+  merging_versions e on = record e { gathered = record e.gathered { options = record e.gathered.options { merge_imports_based_on_semver = on } } }
+
+  -- the encoder with the refusal of names in an older mangling on or off
+  abbrev pub rejecting_legacy_names : Encoder L B → Bool → Encoder L B
+  rejecting_legacy_names e on = record e { gathered = record e.gathered { options = record e.gathered.options { reject_legacy_names = on } } }
+
   -- the validated world of what was gathered
   pub record IsWorldOf (e : Encoder L B) (w : ComponentWorld) : Type 0 where
     pub prepared : w ≡ l.prepared e.lower e.gathered

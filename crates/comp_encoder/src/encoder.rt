@@ -1,7 +1,7 @@
 //! The encoder's calls.
 
 ghost use Rattle.std.specs.Prelude.{◌≡◌, ◌++◌, IfOk, IfErr, OnOk, OnErr, IsOk, if◌then◌else◌, ◌≢◌, [], MatchBool};
-ghost use Rattle.comp_encoder.specs.Encoder.{fresh, validating, after_module, main_bytes, IsWorldOf};
+ghost use Rattle.comp_encoder.specs.Encoder.{fresh, validating, merging_versions, rejecting_legacy_names, after_module, main_bytes, IsWorldOf};
 ghost use Rattle.comp_encoder.specs.Refusals.{ModuleCause, IsModuleRefusal, NoWorldCause, NoEncodeCause, IsEncodeRefusal};
 ghost use Rattle.comp_worlds.specs.Worlds.{IsWorld};
 ghost use Rattle.comp_encoder.specs.Component.{IsComponentOf, IsEncoding};
@@ -9,6 +9,7 @@ ghost use Rattle.comp_encoder.specs.Outputs.{NoOutputCause, IsOutputRefusal};
 
 use crate::fault::EncodeFault;
 use crate::output::{OutputFault, component_bytes};
+use comp_lists::Keyed;
 use comp_worlds::{ComponentWorld, EncoderOptions, Gathered, Lower, Part};
 use std::alloc::Global;
 use std::marker::Model;
@@ -77,6 +78,26 @@ impl<L: Lower> ComponentEncoder<L> {
         ensures set { result.now ≡ validating L.Lower self.old on }
     {
         self.gathered.options.validate = on;
+        self
+    }
+
+    /// Whether imported interfaces whose versions are compatible become one, that of the greatest version. It
+    /// is on at first.
+    pub fn merge_imports_based_on_semver(&mut self, on: bool) -> &mut Self
+        ensures same_reference { result.ghost_name ≡ self.entry.ghost_name }
+        ensures set { result.now ≡ merging_versions L.Lower self.old on }
+    {
+        self.gathered.options.merge_imports_based_on_semver = on;
+        self
+    }
+
+    /// Whether the lower layer refuses names of core imports and exports in an older mangling. It is off at
+    /// first, and changes nothing where, as in records, roles have no mangling.
+    pub fn reject_legacy_names(&mut self, on: bool) -> &mut Self
+        ensures same_reference { result.ghost_name ≡ self.entry.ghost_name }
+        ensures set { result.now ≡ rejecting_legacy_names L.Lower self.old on }
+    {
+        self.gathered.options.reject_legacy_names = on;
         self
     }
 

@@ -34,8 +34,8 @@ use Rattle.plain_lower.specs.Faults.{◌>>=◌, flat, flat_refusal}
 use Rattle.plain_lower.specs.Kinds.{import_kind, export_kind}
 use Rattle.plain_lower.specs.Layer.{is_memory}
 use Rattle.plain_lower.specs.Narrowing.{Encodings, left_out, plain_function, root_function, encoding_of, root_functions, root_import, export_by_abi, root_export, root_imports, root_exports, roots_of, root_main, narrowed}
-use Rattle.plain_lower.specs.Preparing.{preparing, preparing_main, preparing_if, preparing_from, preparing_all}
-use Rattle.plain_lower.specs.Causes.{IsItem, import_of_world, export_of_world, import_of_main, export_of_main, IsRoleOfImport, import_role_of_all, import_role_of_main, IsRoleOfExport, export_role_of_all, export_role_of_main, PrepareCause, item_left_out, import_left_out, export_left_out, within}
+use Rattle.plain_lower.specs.Preparing.{preparing, preparing_main, preparing_if, preparing_from, preparing_settled}
+use Rattle.plain_lower.specs.Causes.{IsItem, import_of_world, export_of_world, import_of_main, export_of_main, IsRoleOfImport, import_role_of_all, import_role_of_main, IsRoleOfExport, export_role_of_all, export_role_of_main, SettledCause, item_left_out, import_left_out, export_left_out, within}
 use Rattle.plain_lower.proofs.Chains.{bind_ok, bind_err}
 use Rattle.plain_lower.proofs.Refusing as root
 
@@ -190,17 +190,17 @@ no_pass r y d a b = let clash : Ok y ≡ Err d = sym a ∙ b in cc
 
 -- ---- preparing
 
-joint_stops : (g : Gathered Bindgen) (d : Failure) → Stops g.joint d → PrepareCause g (flat d)
-joint_stops g d (at_import e c h) = let t = item_told e.0 e.1 d h in subst (λ (x : Failure). PrepareCause g (flat x)) (sym t.1) (item_left_out e t.0 (import_of_world c) (h ∙ ap Err t.1))
-joint_stops g d (at_export e c h) = let t = item_told e.0 e.1 d h in subst (λ (x : Failure). PrepareCause g (flat x)) (sym t.1) (item_left_out e t.0 (export_of_world c) (h ∙ ap Err t.1))
-joint_stops g d (at_import_role e c h) = let t = import_told e.1 d h in subst (λ (x : Failure). PrepareCause g (flat x)) (sym t.1) (import_left_out e t.0 (import_role_of_all c) (h ∙ ap Err t.1))
-joint_stops g d (at_export_role e c h) = let t = export_told e.1 d h in subst (λ (x : Failure). PrepareCause g (flat x)) (sym t.1) (export_left_out e t.0 (export_role_of_all c) (h ∙ ap Err t.1))
+joint_stops : (g : Gathered Bindgen) (d : Failure) → Stops g.joint d → SettledCause g (flat d)
+joint_stops g d (at_import e c h) = let t = item_told e.0 e.1 d h in subst (λ (x : Failure). SettledCause g (flat x)) (sym t.1) (item_left_out e t.0 (import_of_world c) (h ∙ ap Err t.1))
+joint_stops g d (at_export e c h) = let t = item_told e.0 e.1 d h in subst (λ (x : Failure). SettledCause g (flat x)) (sym t.1) (item_left_out e t.0 (export_of_world c) (h ∙ ap Err t.1))
+joint_stops g d (at_import_role e c h) = let t = import_told e.1 d h in subst (λ (x : Failure). SettledCause g (flat x)) (sym t.1) (import_left_out e t.0 (import_role_of_all c) (h ∙ ap Err t.1))
+joint_stops g d (at_export_role e c h) = let t = export_told e.1 d h in subst (λ (x : Failure). SettledCause g (flat x)) (sym t.1) (export_left_out e t.0 (export_role_of_all c) (h ∙ ap Err t.1))
 
-main_stops : (g : Gathered Bindgen) (main : Part Bindgen) (d : Failure) → g.main ≡ Some main → Stops main.own d → PrepareCause g (flat d)
-main_stops g main d m (at_import e c h) = let t = item_told e.0 e.1 d h in subst (λ (x : Failure). PrepareCause g (flat x)) (sym t.1) (item_left_out e t.0 (import_of_main main m c) (h ∙ ap Err t.1))
-main_stops g main d m (at_export e c h) = let t = item_told e.0 e.1 d h in subst (λ (x : Failure). PrepareCause g (flat x)) (sym t.1) (item_left_out e t.0 (export_of_main main m c) (h ∙ ap Err t.1))
-main_stops g main d m (at_import_role e c h) = let t = import_told e.1 d h in subst (λ (x : Failure). PrepareCause g (flat x)) (sym t.1) (import_left_out e t.0 (import_role_of_main main m c) (h ∙ ap Err t.1))
-main_stops g main d m (at_export_role e c h) = let t = export_told e.1 d h in subst (λ (x : Failure). PrepareCause g (flat x)) (sym t.1) (export_left_out e t.0 (export_role_of_main main m c) (h ∙ ap Err t.1))
+main_stops : (g : Gathered Bindgen) (main : Part Bindgen) (d : Failure) → g.main ≡ Some main → Stops main.own d → SettledCause g (flat d)
+main_stops g main d m (at_import e c h) = let t = item_told e.0 e.1 d h in subst (λ (x : Failure). SettledCause g (flat x)) (sym t.1) (item_left_out e t.0 (import_of_main main m c) (h ∙ ap Err t.1))
+main_stops g main d m (at_export e c h) = let t = item_told e.0 e.1 d h in subst (λ (x : Failure). SettledCause g (flat x)) (sym t.1) (item_left_out e t.0 (export_of_main main m c) (h ∙ ap Err t.1))
+main_stops g main d m (at_import_role e c h) = let t = import_told e.1 d h in subst (λ (x : Failure). SettledCause g (flat x)) (sym t.1) (import_left_out e t.0 (import_role_of_main main m c) (h ∙ ap Err t.1))
+main_stops g main d m (at_export_role e c h) = let t = export_told e.1 d h in subst (λ (x : Failure). SettledCause g (flat x)) (sym t.1) (export_left_out e t.0 (export_role_of_main main m c) (h ∙ ap Err t.1))
 
 -- what was gathered, where main and what is said are encoded
 record Narrow (g : Gathered Bindgen) (main : Part Bindgen) : Type 0 where
@@ -213,7 +213,7 @@ abbrev part_of : Part Bindgen → RootFunctions → Part RootFunctions
 part_of p own = record { bytes = p.bytes; own = own; required = p.required }
 
 abbrev gathered_of : Gathered Bindgen → RootFunctions → Option (Part RootFunctions) → Gathered RootFunctions
-gathered_of g joint main = record { main = main; joint = joint; options = g.options }
+gathered_of g joint main = record { main = main; adapters = []; joint = joint; options = g.options }
 
 part_is : (p : Part Bindgen) (own : RootFunctions) → roots_of p.own ≡ Ok own → root_main (Some p) ≡ Ok (Some (part_of p own))
 part_is p own e = by (roots_of p.own) e
@@ -258,8 +258,8 @@ by_parts joint (Some p) = by (roots_of p.own)
     by (Ok own) = refl
     by (Err f) = refl
 
-all_by_parts : (g : Gathered Bindgen) → preparing_all g ≡ (roots_of g.joint >>= λ joint. root_main g.main >>= λ main. preparing_if joint main)
-unfolding preparing_all
+all_by_parts : (g : Gathered Bindgen) → preparing_settled g ≡ (roots_of g.joint >>= λ joint. root_main g.main >>= λ main. preparing_if joint main)
+unfolding preparing_settled
 all_by_parts g = by (roots_of g.joint)
   where
     by : (r : Result RootFunctions Failure) → (r >>= λ joint. preparing_from joint g.main) ≡ (r >>= λ joint. root_main g.main >>= λ main. preparing_if joint main)
@@ -274,13 +274,13 @@ record Steps (g : Gathered Bindgen) (w : ComponentWorld) : Type 0 where
   main_is : root_main g.main ≡ Ok main
   prepared : preparing_if joint main ≡ Ok w
 
-steps : (g : Gathered Bindgen) (w : ComponentWorld) → preparing_all g ≡ Ok w → Steps g w
+steps : (g : Gathered Bindgen) (w : ComponentWorld) → preparing_settled g ≡ Ok w → Steps g w
 steps g w e =
     let a = bind_ok (roots_of g.joint) (λ joint. root_main g.main >>= λ main. preparing_if joint main) w (sym (all_by_parts g) ∙ e) in
     let b = bind_ok (root_main g.main) (λ main. preparing_if a.0 main) w a.2 in
     record { joint = a.0; joint_is = a.1; main = b.0; main_is = b.1; prepared = b.2 }
 
-pub has_cause : (g : Gathered Bindgen) (d : Failure) → is_some g.main ≡ true → (d ≢ failures.Memory → preparing_all g ≡ Err d) → is_memory (flat d) ≡ false → PrepareCause g (flat d)
+pub has_cause : (g : Gathered Bindgen) (d : Failure) → is_some g.main ≡ true → (d ≢ failures.Memory → preparing_settled g ≡ Err d) → is_memory (flat d) ≡ false → SettledCause g (flat d)
 has_cause g failures.Memory some h other = absurd (true≢false other)
 has_cause g (failures.Refused r) some h other =
     elim (bind_err (roots_of g.joint) (λ joint. root_main g.main >>= λ main. preparing_if joint main) (failures.Refused r) (sym (all_by_parts g) ∙ h (λ m. cc))) [
@@ -295,7 +295,7 @@ has_cause g (failures.Refused r) some h other =
           ]
     ]
   where
-    of_main : (g : Gathered Bindgen) (d : Failure) (m : Option (Part Bindgen)) → g.main ≡ m → is_some m ≡ true → root_main g.main ≡ Err d → PrepareCause g (flat d)
+    of_main : (g : Gathered Bindgen) (d : Failure) (m : Option (Part Bindgen)) → g.main ≡ m → is_some m ≡ true → root_main g.main ≡ Err d → SettledCause g (flat d)
     of_main g d None is some k = absurd (true≢false (sym some))
     of_main g d (Some p) is some k = main_stops g p d is (roots_stop p.own d (main_stop p d (ap root_main (sym is) ∙ k)))
 
@@ -324,7 +324,7 @@ own_pass g w main s is =
     let q = main_pass main s.main (ap root_main (sym is) ∙ s.main_is) in
     roots_pass main.own q.0 q.1
 
-pub no_cause : (g : Gathered Bindgen) (w : ComponentWorld) → preparing_all g ≡ Ok w → (f : PlainFault) → PrepareCause g f → ⊥
+pub no_cause : (g : Gathered Bindgen) (w : ComponentWorld) → preparing_settled g ≡ Ok w → (f : PlainFault) → SettledCause g f → ⊥
 no_cause g w e f (item_left_out x what said h) = by said
   where
     by : IsItem g x → ⊥

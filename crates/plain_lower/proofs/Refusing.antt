@@ -24,6 +24,7 @@ use Rattle.core_sections.specs.declared.core_module.CoreModule.{CoreModule}
 use Rattle.core_sections.specs.declared.entries.CoreImport.{CoreImport}
 use Rattle.core_sections.specs.declared.entries.ExportedItem.{ExportedItem}
 use Rattle.core_sections.specs.Entries.{module_of}
+use Rattle.record_modules.specs.Offered.{offered}
 use Rattle.plain_lower.specs.declared.fault.Failure.{Failure}
 use Rattle.plain_lower.specs.declared.fault.Failure.TheVariants as failures
 use Rattle.plain_lower.specs.declared.fault.Refusal.{Refusal}
@@ -352,7 +353,7 @@ unlifted_ok main core e = by (module_of main.bytes) e
 
 -- what preparing gives of main, step by step
 abbrev after_exports : Gathered RootFunctions → Part RootFunctions → CoreModule → List Group → List (List ℕ × Export) → Result ComponentWorld Failure
-after_exports g main core groups exported = required_after g.joint.exports exported [] main.required >>= λ required. Ok (world_of g.joint main groups exported required)
+after_exports g main core groups exported = required_after g.joint.exports exported [] main.required >>= λ required. Ok (world_of g.joint main groups exported (offered core) required)
 
 abbrev after_groups : Gathered RootFunctions → Part RootFunctions → CoreModule → List Group → Result ComponentWorld Failure
 after_groups g main core groups = exports_after g.joint.exports main.own core [] core.exports >>= λ exported. after_exports g main core groups exported
@@ -374,7 +375,7 @@ main_refused g main r is e =
                 elim (bind_err (exports_after g.joint.exports main.own core [] core.exports) (after_exports g main core b.0) (failures.Refused r) b.2) [
                   | inl h ↦ exports_refused g main core [] core.exports [] r m refl h
                   | inr c ↦
-                      elim (bind_err (required_after g.joint.exports c.0 [] main.required) (λ required. Ok (world_of g.joint main b.0 c.0 required)) (failures.Refused r) c.2) [
+                      elim (bind_err (required_after g.joint.exports c.0 [] main.required) (λ required. Ok (world_of g.joint main b.0 c.0 (offered core) required)) (failures.Refused r) c.2) [
                         | inl h ↦ required_refused g main core c.0 [] main.required [] r m c.1 refl h
                         | inr d ↦ absurd cc
                       ]
@@ -398,7 +399,7 @@ main_prepared g main w e =
     let a = bind_ok (lifted (module_of main.bytes)) (after_reading g main) w e in
     let b = bind_ok (groups_after g.joint.imports main.own a.0 [] (let core : CoreModule = a.0 in core.imports)) (after_groups g main a.0) w a.2 in
     let c = bind_ok (exports_after g.joint.exports main.own a.0 [] (let core : CoreModule = a.0 in core.exports)) (after_exports g main a.0 b.0) w b.2 in
-    let d = bind_ok (required_after g.joint.exports c.0 [] main.required) (λ required. Ok (world_of g.joint main b.0 c.0 required)) w c.2 in
+    let d = bind_ok (required_after g.joint.exports c.0 [] main.required) (λ required. Ok (world_of g.joint main b.0 c.0 (offered a.0) required)) w c.2 in
     record { core = a.0; read = unlifted_ok main a.0 a.1; groups = b.0; grouped = b.1; exported = c.0; exports_are = c.1; required = d.0; required_are = d.1 }
 
 -- what was prepared of main, whose entries are these

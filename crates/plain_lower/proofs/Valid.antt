@@ -9,6 +9,8 @@ use Rattle.std.proofs.lemmas.Map.Keys.{IsDistinct-push}
 use Rattle.std.proofs.lemmas.Map.Views.{Contains-keys_from_lookup}
 use Rattle.std.proofs.lemmas.Slice.Eq.{bytes_eq-Decides}
 use Rattle.comp_lists.specs.Found.{found}
+use Rattle.comp_bytes.specs.Core.{core_preamble}
+use Rattle.record_modules.specs.Offered.{offered}
 use Rattle.comp_lists.specs.Tables.{with_first}
 use Rattle.comp_lists.proofs.Lists.{AllByRecursion-push, Contains-map}
 use Rattle.wit_data.specs.declared.worlds.WorldKey.{WorldKey}
@@ -30,7 +32,7 @@ use Rattle.comp_worlds.specs.CoreImports.{CoreImport as CoreUse, imports_from}
 use Rattle.comp_worlds.specs.Mentions.{HasRole}
 use Rattle.comp_worlds.specs.Uses.{all_imports}
 use Rattle.comp_worlds.specs.declared.world.WorldParts.{WorldParts}
-use Rattle.comp_worlds.specs.Worlds.{items_of, root_function, imported_functions, exported_functions, IsWorld, IsItem, IsImportRole, IsImportGroup, IsExportRole, IsRequired, core_preamble, whole_of}
+use Rattle.comp_worlds.specs.Worlds.{items_of, root_function, imported_functions, exported_functions, IsWorld, IsItem, IsImportRole, IsImportGroup, IsExportRole, IsRequired, whole_of}
 use Rattle.core_sections.specs.declared.fault.SectionFault.{SectionFault}
 use Rattle.core_sections.specs.declared.core_module.CoreModule.{CoreModule}
 use Rattle.core_sections.specs.declared.entries.CoreImport.{CoreImport}
@@ -46,7 +48,7 @@ use Rattle.plain_lower.specs.Faults.{◌>>=◌, lifted, Gives}
 use Rattle.plain_lower.specs.Roles.{function_of}
 use Rattle.record_values.specs.Names.{is_same_import}
 use Rattle.plain_lower.proofs.Chains.{bind_ok, passed, equivalence}
-use Rattle.plain_lower.specs.Preparing.{Table, no_role, unfit, not_exported, fits_import, fits_export, imported_by, fitting, import_of, world_items, one_world, with_field, fields_in, group_after, groups_after, instances_of, StandAnywhere, export_as, with_export, export_of_role, exports_after, by_function, required_key, required_after, parts_of, world_of, world_behind, roles_in, preparing_by_roles, preparing_main, preparing_if}
+use Rattle.plain_lower.specs.Preparing.{Table, Offered, MainRoles, no_role, unfit, not_exported, fits_import, fits_export, imported_by, fitting, import_of, world_items, one_world, with_field, fields_in, group_after, groups_after, instances_of, StandAnywhere, export_as, with_export, export_of_role, exports_after, by_function, required_key, required_after, parts_of, world_of, world_behind, roles_in, preparing_by_roles, preparing_main, preparing_if}
 
 -- ---- keys and items
 
@@ -200,7 +202,7 @@ read_stand t own core groups e r = ends_too (λ i. HasRole r i.role) (flat_map i
 
 -- ---- the parts of a world
 
-module _ (joint : RootFunctions) (main : Part RootFunctions) (groups : List Group) (exported : List (List ℕ × Export)) (required : List WorldKey) (p : WorldParts) (is : p ≡ parts_of joint main groups exported required) where
+module _ (joint : RootFunctions) (main : Part RootFunctions) (groups : List Group) (exported : List (List ℕ × Export)) (offers : Offered) (required : List WorldKey) (p : WorldParts) (is : p ≡ parts_of joint main groups exported offers required) where
   pub parts_sound : IsSound p.resolve
   parts_sound = subst (λ (x : WorldParts). IsSound x.resolve) (sym is) (alone_sound joint.imports joint.exports)
 
@@ -210,7 +212,7 @@ module _ (joint : RootFunctions) (main : Part RootFunctions) (groups : List Grou
   pub parts_roles : StandAnywhere groups → AllByRecursion (λ i. HasRole p.resolve i.role) (all_imports p.main p.adapters)
   parts_roles stand = subst (λ (x : WorldParts). AllByRecursion (λ i. HasRole x.resolve i.role) (all_imports x.main x.adapters)) (sym is) (stand (one_world joint.imports joint.exports))
 
-  pub parts_world : (w : ComponentWorld) → w ≡ whole_of p → w ≡ world_of joint main groups exported required
+  pub parts_world : (w : ComponentWorld) → w ≡ whole_of p → w ≡ world_of joint main groups exported offers required
   unfolding world_of
   parts_world w made = made ∙ ap whole_of is
 
@@ -320,20 +322,20 @@ pub main_is_world : (joint : RootFunctions) (main : Part RootFunctions) (w : Com
 unfolding preparing_main world_of
 main_is_world joint main w e imports_apart exports_apart modules_apart =
     let a = bind_ok (lifted (module_of main.bytes)) (λ core. groups_after joint.imports main.own core [] core.imports >>= λ groups. exports_after joint.exports main.own core [] core.exports >>= λ exported.
-    required_after joint.exports exported [] main.required >>= λ required. Ok (world_of joint main groups exported required)) w e in
+    required_after joint.exports exported [] main.required >>= λ required. Ok (world_of joint main groups exported (offered core) required)) w e in
     let core : CoreModule = a.0 in
     let b = bind_ok (groups_after joint.imports main.own core [] core.imports) (λ groups. exports_after joint.exports main.own core [] core.exports >>= λ exported.
-    required_after joint.exports exported [] main.required >>= λ required. Ok (world_of joint main groups exported required)) w a.2 in
+    required_after joint.exports exported [] main.required >>= λ required. Ok (world_of joint main groups exported (offered core) required)) w a.2 in
     let groups : List Group = b.0 in
     let c = bind_ok (exports_after joint.exports main.own core [] core.exports) (λ exported.
-    required_after joint.exports exported [] main.required >>= λ required. Ok (world_of joint main groups exported required)) w b.2 in
+    required_after joint.exports exported [] main.required >>= λ required. Ok (world_of joint main groups exported (offered core) required)) w b.2 in
     let exported : List (List ℕ × Export) = c.0 in
-    let d = bind_ok (required_after joint.exports exported [] main.required) (λ required. Ok (world_of joint main groups exported required)) w c.2 in
-    let made : world_of joint main groups exported d.0 ≡ w = cc (d.2) in
+    let d = bind_ok (required_after joint.exports exported [] main.required) (λ required. Ok (world_of joint main groups exported (offered core) required)) w c.2 in
+    let made : world_of joint main groups exported (offered core) d.0 ≡ w = cc (d.2) in
     let good = groups_good joint.imports main.own core [] groups core.imports tt b.1 in
     let of = exports_good joint.exports main.own core [] exported core.exports tt c.1 in
     let met = keys_met joint.exports exported [] d.0 main.required tt d.1 in
-    let v : ComponentWorld = world_of joint main groups exported d.0 in
+    let v : ComponentWorld = world_of joint main groups exported (offered core) d.0 in
     let apart : IsDistinct bytes_eq (keys_of v.main.imports.modules) = subst (λ (x : ComponentWorld). IsDistinct bytes_eq (keys_of x.main.imports.modules)) (sym made) modules_apart in
     subst IsWorld made (record {
       sound = alone_sound joint.imports joint.exports;
@@ -363,23 +365,24 @@ is_world joint (Some main) w e = main_is_world joint main w e
 pub by_roles : (joint : RootFunctions) (main : Part RootFunctions) → preparing_by_roles joint main ≡ preparing_main joint main
 unfolding preparing_main
 by_roles joint main = by (lifted (module_of main.bytes)) where
-  behind : List Group × List (List ℕ × Export) → Result ComponentWorld Failure
-  behind roles = world_behind joint main roles.0 roles.1
+  behind : MainRoles → Result ComponentWorld Failure
+  behind roles = world_behind joint main roles.0 roles.1 roles.2
 
-  by_exports : (gs : List Group) (r : Result (List (List ℕ × Export)) Failure) → ((r >>= λ exported. Ok (gs, exported)) >>= behind) ≡ (r >>= λ exported. world_behind joint main gs exported)
-  by_exports gs (Ok exported) = refl
-  by_exports gs (Err e) = refl
+  by_exports : (core : CoreModule) (gs : List Group) (r : Result (List (List ℕ × Export)) Failure)
+      → ((r >>= λ exported. Ok (gs, exported, offered core)) >>= behind) ≡ (r >>= λ exported. world_behind joint main gs exported (offered core))
+  by_exports core gs (Ok exported) = refl
+  by_exports core gs (Err e) = refl
 
   by_groups : (core : CoreModule) (r : Result (List Group) Failure)
-      → ((r >>= λ groups. exports_after joint.exports main.own core [] core.exports >>= λ exported. Ok (groups, exported)) >>= behind)
-      ≡ (r >>= λ groups. exports_after joint.exports main.own core [] core.exports >>= λ exported. world_behind joint main groups exported)
-  by_groups core (Ok gs) = by_exports gs (exports_after joint.exports main.own core [] core.exports)
+      → ((r >>= λ groups. exports_after joint.exports main.own core [] core.exports >>= λ exported. Ok (groups, exported, offered core)) >>= behind)
+      ≡ (r >>= λ groups. exports_after joint.exports main.own core [] core.exports >>= λ exported. world_behind joint main groups exported (offered core))
+  by_groups core (Ok gs) = by_exports core gs (exports_after joint.exports main.own core [] core.exports)
   by_groups core (Err e) = refl
 
   by : (r : Result CoreModule Failure)
       → ((r >>= λ core. roles_in joint main.own core) >>= behind)
       ≡ (r >>= λ core. groups_after joint.imports main.own core [] core.imports >>= λ groups.
-      exports_after joint.exports main.own core [] core.exports >>= λ exported. world_behind joint main groups exported)
+      exports_after joint.exports main.own core [] core.exports >>= λ exported. world_behind joint main groups exported (offered core))
   by (Ok core) = by_groups core (groups_after joint.imports main.own core [] core.imports)
   by (Err e) = refl
 

@@ -1,6 +1,6 @@
 -- When each fault is right: what of the bytes, of the records or of what was gathered is wrong. (The record
 -- is this project's own; what is asked of the bytes is the core standard's binary format.)
-use Rattle.std.specs.Prelude.{◌≡◌, ◌⊎◌, ℕ, true, false, List, [], ◌∷◌, ◌++◌, Option, Some, None, Ok, Err, Contains, is_some}
+use Rattle.std.specs.Prelude.{◌≡◌, ◌⊎◌, ℕ, true, false, List, [], ◌∷◌, ◌++◌, Option, Some, None, Ok, Err, Contains, IsTrue, codes, is_some}
 use Rattle.std.specs.List.{AllZip}
 use Rattle.std.specs.Map.{lookup}
 use Rattle.comp_lists.specs.Found.{found}
@@ -8,6 +8,7 @@ use Rattle.comp_worlds.specs.declared.exports.Export.{Export}
 use Rattle.comp_worlds.specs.declared.gathered.ExportKey.{ExportKey}
 use Rattle.comp_worlds.specs.declared.gathered.ExportKey.TheVariants as export_keys
 use Rattle.comp_worlds.specs.declared.gathered.Gathered.{Gathered}
+use Rattle.comp_worlds.specs.declared.gathered.GatheredAdapter.{GatheredAdapter}
 use Rattle.comp_worlds.specs.declared.gathered.Part.{Part}
 use Rattle.core_sections.specs.Sections.{Piece, preamble}
 use Rattle.core_sections.specs.Stripping.{removed, is_package}
@@ -40,7 +41,8 @@ use Rattle.record_values.specs.Names.{is_same_import}
 use Rattle.plain_lower.specs.Narrowing.{left_out, root_function, root_import, root_export, narrowed}
 use Rattle.plain_lower.specs.Faults.{flat_refusal, of_record_refusal, lifted}
 use Rattle.plain_lower.specs.Roles.{function_of}
-use Rattle.plain_lower.specs.Preparing.{fits_import, fits_export, exports_after, by_function}
+use Rattle.record_settling.specs.Settled.{settled}
+use Rattle.plain_lower.specs.Preparing.{fits_import, fits_export, exports_after, by_function, settling}
 
 -- ---- decoding
 
@@ -149,10 +151,21 @@ pub data IsRoleOfExport (g : Gathered Bindgen) (e : List ℕ × ExportRole) : Ty
   export_role_of_all : Contains g.joint.roles.export_roles e → IsRoleOfExport g e
   export_role_of_main : (main : Part Bindgen) → g.main ≡ Some main → Contains main.own.roles.export_roles e → IsRoleOfExport g e
 
-pub data PrepareCause (g : Gathered Bindgen) : PlainFault → Type 0 where
+-- where the imports are settled
+pub data SettledCause (g : Gathered Bindgen) : PlainFault → Type 0 where
   -- an import or an export, or what a core import or export is for, isn't encoded yet
-  item_left_out : (e : ItemKey × Item) (what : List ℕ) → IsItem g e → root_function e.0 e.1 ≡ Err (left_out what) → PrepareCause g (faults.LeftOut what)
-  import_left_out : (e : ImportName × ImportRole) (what : List ℕ) → IsRoleOfImport g e → root_import e.1 ≡ Err (left_out what) → PrepareCause g (faults.LeftOut what)
-  export_left_out : (e : List ℕ × ExportRole) (what : List ℕ) → IsRoleOfExport g e → root_export e.1 ≡ Err (left_out what) → PrepareCause g (faults.LeftOut what)
+  item_left_out : (e : ItemKey × Item) (what : List ℕ) → IsItem g e → root_function e.0 e.1 ≡ Err (left_out what) → SettledCause g (faults.LeftOut what)
+  import_left_out : (e : ImportName × ImportRole) (what : List ℕ) → IsRoleOfImport g e → root_import e.1 ≡ Err (left_out what) → SettledCause g (faults.LeftOut what)
+  export_left_out : (e : List ℕ × ExportRole) (what : List ℕ) → IsRoleOfExport g e → root_export e.1 ≡ Err (left_out what) → SettledCause g (faults.LeftOut what)
   -- all of it is, and something else is wrong
-  within : (p : Gathered RootFunctions) (f : PlainFault) → narrowed g ≡ Ok p → RootCause p f → PrepareCause g f
+  within : (p : Gathered RootFunctions) (f : PlainFault) → narrowed g ≡ Ok p → RootCause p f → SettledCause g f
+
+pub data PrepareCause (g : Gathered Bindgen) : PlainFault → Type 0 where
+  -- reallocs are to grow the memory, and there is an adapter that is no library
+  grows : (a : List ℕ × GatheredAdapter Bindgen) → IsTrue g.options.realloc_via_memory_grow → Contains g.adapters a → a.1.library_info ≡ None → PrepareCause g faults.MemoryGrow
+  -- no world with an adapter is encoded yet
+  adapter_left_out : (a : List ℕ × GatheredAdapter Bindgen) → Contains g.adapters a → PrepareCause g (faults.LeftOut (codes "adapter"))
+  -- compatible versions of imported interfaces can't be one, and this is why
+  unsettled : (r : RecordRefusal) → settled g.options.merge_imports_based_on_semver g.joint.wit ≡ Err (record_failures.Refused r) → PrepareCause g (flat_refusal (of_record_refusal r))
+  -- they are, and something else is wrong
+  behind : (s : Gathered Bindgen) (f : PlainFault) → settling g ≡ Ok s → SettledCause s f → PrepareCause g f

@@ -61,6 +61,7 @@ flat_refusal (refusals.RoleMissing m f) = faults.RoleMissing m f
 flat_refusal (refusals.ExportMissing function) = faults.ExportMissing function
 flat_refusal (refusals.CoreType name) = faults.CoreType name
 flat_refusal (refusals.ImportTwice m f) = faults.ImportTwice m f
+flat_refusal refusals.MemoryGrow = faults.MemoryGrow
 
 -- the fault that callers see
 abbrev pub flat : Failure → PlainFault

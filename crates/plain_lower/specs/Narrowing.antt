@@ -113,4 +113,4 @@ unfoldable pub narrowed : Gathered Bindgen → Result (Gathered RootFunctions) F
 narrowed g = do
   joint ← roots_of g.joint
   main ← root_main g.main
-  Ok (record { main = main; joint = joint; options = g.options })
+  Ok (record { main = main; adapters = []; joint = joint; options = g.options })

@@ -4,9 +4,9 @@
 -- A core import has to have a role, and no module and field may be imported twice; a core export without one is
 -- for nothing. What a role is for has to have the core type of a function without parameters and results
 -- (Canonical ABI: the flattening of such a function). Each required export has to be a core export's.
-use Rattle.std.specs.Prelude.{ℕ, ◌==◌, ◌&&◌, Bool, true, false, List, [], ◌∷◌, ◌++◌, length, map, Option, Some, None, ok_or, Result, Ok, Err, is_some, if◌then◌else◌}
+use Rattle.std.specs.Prelude.{ℕ, ◌==◌, ◌&&◌, Bool, true, false, List, [], ◌∷◌, ◌++◌, length, map, Option, Some, None, ok_or, Result, Ok, Err, is_some, not, codes, ⊤, if◌then◌else◌}
 use Rattle.std.specs.Option.{option_map_or}
-use Rattle.std.specs.List.{slice_get, flat_map, AllByRecursion}
+use Rattle.std.specs.List.{slice_get, flat_map, AllByRecursion, list_any}
 use Rattle.std.specs.Map.{lookup}
 use Rattle.std.specs.Str.{bytes_eq}
 use Rattle.comp_lists.specs.Found.{found}
@@ -29,6 +29,8 @@ use Rattle.comp_worlds.specs.declared.gathered.ExportKey.{ExportKey}
 use Rattle.comp_worlds.specs.declared.gathered.ExportKey.TheVariants as export_keys
 use Rattle.comp_worlds.specs.declared.gathered.Part.{Part}
 use Rattle.comp_worlds.specs.declared.gathered.Gathered.{Gathered}
+use Rattle.comp_worlds.specs.declared.gathered.GatheredAdapter.{GatheredAdapter}
+use Rattle.comp_worlds.specs.declared.offered.ExternType.{ExternType}
 use Rattle.comp_worlds.specs.declared.metadata.FunctionKey.{FunctionKey}
 use Rattle.comp_worlds.specs.declared.metadata.ModuleMetadata.{ModuleMetadata}
 use Rattle.comp_worlds.specs.declared.world.ValidatedModule.{ValidatedModule}
@@ -52,14 +54,21 @@ use Rattle.plain_lower.specs.declared.fault.Refusal.TheVariants as refusals
 use Rattle.plain_lower.specs.declared.roles.Role.{Role}
 use Rattle.record_joining.specs.declared.bindgen.Bindgen.{Bindgen}
 use Rattle.plain_lower.specs.declared.root.RootFunctions.{RootFunctions}
-use Rattle.plain_lower.specs.Narrowing.{roots_of, root_part}
+use Rattle.record_modules.specs.Offered.{offered}
+use Rattle.record_settling.specs.Settled.{settled}
+use Rattle.record_values.specs.declared.world.Wit.{Wit}
+use Rattle.plain_lower.specs.Narrowing.{left_out, roots_of, root_part}
 use Rattle.plain_lower.specs.declared.importing.Group.{Group}
-use Rattle.plain_lower.specs.Faults.{◌>>=◌, lifted}
+use Rattle.plain_lower.specs.Faults.{◌>>=◌, lifted, read}
 use Rattle.plain_lower.specs.Roles.{function_of}
 use Rattle.record_values.specs.Names.{is_same_import}
 
 abbrev pub Table : Type 0
 Table = List (List ℕ × StringEncoding)
+
+-- what a module offers to others
+abbrev pub Offered : Type 0
+Offered = List (List ℕ × ExternType)
 
 abbrev pub no_role : List ℕ → List ℕ → Failure
 no_role m f = failures.Refused (refusals.RoleMissing m f)
@@ -190,11 +199,12 @@ encodings_of table = map (λ e. (record { key = keys.Name e.0; function = e.0 },
 abbrev pub metadata_of : RootFunctions → ModuleMetadata
 metadata_of own = record { import_encodings = encodings_of own.imports; export_encodings = encodings_of own.exports }
 
-abbrev pub main_of : Part RootFunctions → List Group → List (List ℕ × Export) → ValidatedModule
-main_of main groups exported = record {
+abbrev pub main_of : Part RootFunctions → List Group → List (List ℕ × Export) → Offered → ValidatedModule
+main_of main groups exported offers = record {
   bytes = main.bytes;
   imports = record { modules = instances_of groups };
   exports = record { exports = exported };
+  offered = offers;
   metadata = metadata_of main.own;
 }
 
@@ -202,44 +212,47 @@ main_of main groups exported = record {
 abbrev pub one_world : Table → Table → Resolve
 one_world imported exported = record { interfaces = []; types = []; worlds = record { imports = world_items imported; exports = world_items exported } ∷ [] }
 
-abbrev pub parts_of : RootFunctions → Part RootFunctions → List Group → List (List ℕ × Export) → List WorldKey → WorldParts
-parts_of joint main groups exported required = record {
+abbrev pub parts_of : RootFunctions → Part RootFunctions → List Group → List (List ℕ × Export) → Offered → List WorldKey → WorldParts
+parts_of joint main groups exported offers required = record {
   resolve = one_world joint.imports joint.exports;
   world = record { index = 0 };
-  main = main_of main groups exported;
+  main = main_of main groups exported offers;
   main_exports = required;
   adapters = [];
   can_use_context_slot_1 = main.own.context_slot_1;
 }
 
-unfoldable pub world_of : RootFunctions → Part RootFunctions → List Group → List (List ℕ × Export) → List WorldKey → ComponentWorld
-world_of joint main groups exported required = whole_of (parts_of joint main groups exported required)
+unfoldable pub world_of : RootFunctions → Part RootFunctions → List Group → List (List ℕ × Export) → Offered → List WorldKey → ComponentWorld
+world_of joint main groups exported offers required = whole_of (parts_of joint main groups exported offers required)
 
 -- the world, once it is known what main's core imports and exports are for
-abbrev pub world_behind : RootFunctions → Part RootFunctions → List Group → List (List ℕ × Export) → Result ComponentWorld Failure
-world_behind joint main groups exported = do
+abbrev pub world_behind : RootFunctions → Part RootFunctions → List Group → List (List ℕ × Export) → Offered → Result ComponentWorld Failure
+world_behind joint main groups exported offers = do
   required ← required_after joint.exports exported [] main.required
-  Ok (world_of joint main groups exported required)
+  Ok (world_of joint main groups exported offers required)
 
--- what the imports and exports of main are for
-abbrev pub roles_in : RootFunctions → RootFunctions → CoreModule → Result (List Group × List (List ℕ × Export)) Failure
+-- what the imports and exports of main are for, and what it offers
+abbrev pub MainRoles : Type 0
+MainRoles = List Group × List (List ℕ × Export) × Offered
+
+abbrev pub roles_in : RootFunctions → RootFunctions → CoreModule → Result MainRoles Failure
 roles_in joint own core = do
   groups ← groups_after joint.imports own core [] core.imports
   exported ← exports_after joint.exports own core [] core.exports
-  Ok (groups, exported)
+  Ok (groups, exported, offered core)
 
-abbrev pub main_roles : RootFunctions → Part RootFunctions → Result (List Group × List (List ℕ × Export)) Failure
+abbrev pub main_roles : RootFunctions → Part RootFunctions → Result MainRoles Failure
 main_roles joint main = lifted (module_of main.bytes) >>= λ core. roles_in joint main.own core
 
 abbrev pub preparing_by_roles : RootFunctions → Part RootFunctions → Result ComponentWorld Failure
-preparing_by_roles joint main = main_roles joint main >>= λ roles. world_behind joint main roles.0 roles.1
+preparing_by_roles joint main = main_roles joint main >>= λ roles. world_behind joint main roles.0 roles.1 roles.2
 
 unfoldable pub preparing_main : RootFunctions → Part RootFunctions → Result ComponentWorld Failure
 preparing_main joint main = do
   core ← lifted (module_of main.bytes)
   groups ← groups_after joint.imports main.own core [] core.imports
   exported ← exports_after joint.exports main.own core [] core.exports
-  world_behind joint main groups exported
+  world_behind joint main groups exported (offered core)
 
 -- nothing at all is no module
 abbrev pub preparing_if : RootFunctions → Option (Part RootFunctions) → Result ComponentWorld Failure
@@ -257,8 +270,43 @@ abbrev pub preparing_from : RootFunctions → Option (Part Bindgen) → Result C
 preparing_from joint None = Err (failures.Refused refusals.NotModule)
 preparing_from joint (Some p) = preparing_part joint p
 
--- what was gathered, where all of it is encoded yet
-unfoldable pub preparing_all : Gathered Bindgen → Result ComponentWorld Failure
-preparing_all g = do
+-- what was gathered, where all of it is encoded yet and the imports are settled
+unfoldable pub preparing_settled : Gathered Bindgen → Result ComponentWorld Failure
+preparing_settled g = do
   joint ← roots_of g.joint
   preparing_from joint g.main
+
+-- ---- what comes before
+
+-- an adapter that is no library
+abbrev pub is_plain : List ℕ × GatheredAdapter Bindgen → Bool
+is_plain a = not (is_some a.1.library_info)
+
+abbrev pub Adapters : Type 0
+Adapters = List (List ℕ × GatheredAdapter Bindgen)
+
+-- no world with adapters is encoded yet
+abbrev pub none_there : Adapters → Result ⊤ Failure
+none_there [] = Ok tt
+none_there (a ∷ as) = Err (left_out (codes "adapter"))
+
+-- A realloc that grows the memory is only for libraries, since an adapter shares main's memory.
+abbrev pub adapters_pass : Bool → Adapters → Result ⊤ Failure
+adapters_pass grows as = if grows && list_any is_plain as then Err (failures.Refused refusals.MemoryGrow) else none_there as
+
+-- what was gathered, with compatible versions of imported interfaces as one where that is asked for
+abbrev pub with_wit : Gathered Bindgen → Wit → Gathered Bindgen
+with_wit g wit = record g { joint = record { wit = wit; roles = g.joint.roles } }
+
+abbrev pub settling : Gathered Bindgen → Result (Gathered Bindgen) Failure
+settling g = read (settled g.options.merge_imports_based_on_semver g.joint.wit) >>= λ s. Ok (with_wit g s.wit)
+
+-- what all modules say then, as far as it is encoded yet
+abbrev pub settled_roots : Bool → Bindgen → Result RootFunctions Failure
+settled_roots merging joint = read (settled merging joint.wit) >>= λ s. roots_of (record { wit = s.wit; roles = joint.roles })
+
+unfoldable pub preparing_all : Gathered Bindgen → Result ComponentWorld Failure
+preparing_all g = do
+  _ ← adapters_pass g.options.realloc_via_memory_grow g.adapters
+  s ← settling g
+  preparing_settled s

@@ -65,6 +65,7 @@ pub(crate) enum Refusal {
     ExportMissing { function: Text },
     CoreType { name: Text },
     ImportTwice { module: Text, field: Text },
+    MemoryGrow,
 }
 
 /// Why a step within this crate ended early. The flat [`PlainFault`] is made of it once, at the top.
@@ -154,6 +155,7 @@ impl From<Refusal> for PlainFault {
             Refusal::ExportMissing { function } => PlainFault::ExportMissing { function },
             Refusal::CoreType { name } => PlainFault::CoreType { name },
             Refusal::ImportTwice { module, field } => PlainFault::ImportTwice { module, field },
+            Refusal::MemoryGrow => PlainFault::MemoryGrow,
         }
     }
 }

@@ -10,13 +10,13 @@ use crate::roles::Role;
 use crate::root::RootFunctions;
 use comp_lists::{Keyed, Text, TryClone};
 use comp_worlds::StringEncoding;
-use record_joining::{Bindgen, FunctionOf};
-use record_values::{ExportRole, Func, ImportName, ImportRole, Item, ItemKey, Owner};
+use record_joining::{FunctionOf, Roles};
+use record_values::{ExportRole, Func, ImportName, ImportRole, Item, ItemKey, Owner, Wit};
 use std::alloc::{AllocError, Global};
 use wit_data::AbiVariant;
 
 /// The refusal of what isn't encoded yet.
-fn left_out<T>(alloc: Global, what: &str) -> Result<T, Failure>
+pub(crate) fn left_out<T>(alloc: Global, what: &str) -> Result<T, Failure>
     ensures { Gives (λ x. x) result (Err (left_out what.now)) }
 {
     Err(Failure::Refused(Refusal::LeftOut {
@@ -168,18 +168,18 @@ fn root_exports(
 
 /// What is said, as far as it is encoded yet.
 #[tactic(auto, unfolding(crate::specs::Narrowing::roots_of))]
-pub(crate) fn roots_of(alloc: Global, said: &Bindgen) -> Result<RootFunctions, Failure>
-    ensures { Gives (λ r. r) result (roots_of said.now) }
+pub(crate) fn roots_of(alloc: Global, wit: &Wit, said: &Roles) -> Result<RootFunctions, Failure>
+    ensures { Gives (λ r. r) result (roots_of (record { wit = wit.now; roles = said.now })) }
 {
-    let imports = root_functions(alloc, &said.roles.import_encodings, &said.wit.imports)?;
-    let exports = root_functions(alloc, &said.roles.export_encodings, &said.wit.exports)?;
-    let import_roles = root_imports(alloc, &said.roles.import_roles)?;
-    let export_roles = root_exports(alloc, &said.roles.export_roles)?;
+    let imports = root_functions(alloc, &said.import_encodings, &wit.imports)?;
+    let exports = root_functions(alloc, &said.export_encodings, &wit.exports)?;
+    let import_roles = root_imports(alloc, &said.import_roles)?;
+    let export_roles = root_exports(alloc, &said.export_roles)?;
     Ok(RootFunctions {
         imports,
         exports,
         import_roles,
         export_roles,
-        context_slot_1: said.roles.context_slot_1,
+        context_slot_1: said.context_slot_1,
     })
 }

@@ -1,26 +1,29 @@
 //! The validated world.
 
 ghost use Rattle.std.specs.Prelude.{◌≡◌, [], ◌∷◌, IfOk, OnOk};
-ghost use Rattle.std.specs.List.{IsDistinct};
+ghost use Rattle.std.specs.List.{IsDistinct, list_any};
 ghost use Rattle.std.specs.Map.{keys_of};
 ghost use Rattle.std.specs.Str.{bytes_eq};
 ghost use Rattle.plain_lower.specs.Faults.{Gives};
 ghost use Rattle.comp_worlds.specs.Worlds.{IsWorld};
 ghost use Rattle.plain_lower.specs.Narrowing.{root_part};
-ghost use Rattle.plain_lower.specs.Preparing.{world_items, encodings_of, instances_of, metadata_of, main_of, one_world, parts_of, StandAnywhere, world_of, roles_in, main_roles, preparing_by_roles, world_behind, preparing_main, preparing_part, preparing_all};
+ghost use Rattle.plain_lower.specs.Preparing.{world_items, encodings_of, instances_of, metadata_of, main_of, one_world, parts_of, StandAnywhere, world_of, roles_in, main_roles, preparing_by_roles, world_behind, preparing_main, preparing_part, preparing_from, is_plain, adapters_pass, settled_roots, preparing_all};
 
 use crate::exporting::{read_exports, require_all};
 use crate::fault::{Failure, Refusal};
 use crate::importing::{Group, read_imports};
-use crate::narrowing::roots_of;
+use crate::narrowing::{left_out, roots_of};
 use crate::root::RootFunctions;
 use comp_lists::{Keyed, Seq, Text};
 use comp_worlds::{
-    ComponentWorld, Export, ExportKey, ExportMap, FunctionKey, Gathered, ImportInstance, ImportMap,
+    ComponentWorld, Export, ExportKey, ExportMap, ExternType, FunctionKey, Gathered, GatheredAdapter,
+    ImportInstance, ImportMap,
     ModuleMetadata, Part, StringEncoding, ValidatedModule, WorldParts,
 };
 use core_sections::{CoreModule, read_module};
 use record_joining::Bindgen;
+use record_modules::offered;
+use record_settling::settle;
 use std::alloc::{AllocError, Global};
 use std::hash::Hash;
 use wit_data::{Function, FunctionKind, Resolve, World, WorldId, WorldItem, WorldKey};
@@ -147,31 +150,34 @@ fn with_tables(
     main: Part<RootFunctions>,
     imports: ImportMap,
     exports: Keyed<Text, Export>,
+    offered: Keyed<Text, ExternType>,
     metadata: ModuleMetadata,
 ) -> ValidatedModule
-    ensures { result ≡ record { bytes = main.bytes; imports = imports; exports = record { exports = exports }; metadata = metadata } }
+    ensures { result ≡ record { bytes = main.bytes; imports = imports; exports = record { exports = exports }; offered = offered; metadata = metadata } }
 {
     ValidatedModule {
         bytes: main.bytes,
         imports,
         exports: ExportMap { exports },
+        offered,
         metadata,
     }
 }
 
-/// Main, and what its imports and exports are for.
+/// Main, what its imports and exports are for, and what it offers.
 fn validated(
     alloc: Global,
     main: Part<RootFunctions>,
     groups: Vec<Group>,
     exports: Keyed<Text, Export>,
+    offered: Keyed<Text, ExternType>,
 ) -> Result<ValidatedModule, AllocError>
     requires { IsDistinct bytes_eq (keys_of (instances_of groups.items)) }
-    ensures { IfOk result (λ m. m ≡ main_of main groups.items exports) }
+    ensures { IfOk result (λ m. m ≡ main_of main groups.items exports offered) }
 {
     let imports = import_map(alloc, groups)?;
     let metadata = metadata_of(alloc, &main.own)?;
-    Ok(with_tables(main, imports, exports, metadata))
+    Ok(with_tables(main, imports, exports, offered, metadata))
 }
 
 /// One world, with no interfaces and no types.
@@ -225,16 +231,17 @@ fn parts_of(
     main: Part<RootFunctions>,
     groups: Vec<Group>,
     exports: Keyed<Text, Export>,
+    offered: Keyed<Text, ExternType>,
     main_exports: Seq<WorldKey>,
 ) -> Result<WorldParts, AllocError>
     requires apart { IsDistinct bytes_eq (keys_of (instances_of groups.items)) }
-    ensures parts { IfOk result (λ p. p ≡ parts_of joint.now main groups.items exports main_exports) }
+    ensures parts { IfOk result (λ p. p ≡ parts_of joint.now main groups.items exports offered main_exports) }
     ensures imports { OnOk result (IsDistinct bytes_eq (keys_of joint.now.imports)) }
     ensures exports { OnOk result (IsDistinct bytes_eq (keys_of joint.now.exports)) }
     ensures modules { IfOk result (λ p. IsDistinct bytes_eq (keys_of p.main.imports.modules)) }
 {
     let slot_1 = main.own.context_slot_1;
-    let main = validated(alloc, main, groups, exports)?;
+    let main = validated(alloc, main, groups, exports, offered)?;
     let resolve = world_alone(alloc, joint)?;
     Ok(with_main(alloc, resolve, main, main_exports, slot_1))
 }
@@ -247,16 +254,17 @@ fn world_of(
     main: Part<RootFunctions>,
     groups: Vec<Group>,
     exports: Keyed<Text, Export>,
+    offered: Keyed<Text, ExternType>,
     main_exports: Seq<WorldKey>,
 ) -> Result<ComponentWorld, AllocError>
     requires apart { IsDistinct bytes_eq (keys_of (instances_of groups.items)) }
     requires roles { StandAnywhere groups.items }
-    ensures world { IfOk result (λ w. w ≡ world_of joint.now main groups.items exports main_exports) }
+    ensures world { IfOk result (λ w. w ≡ world_of joint.now main groups.items exports offered main_exports) }
     ensures imports { OnOk result (IsDistinct bytes_eq (keys_of joint.now.imports)) }
     ensures exports { OnOk result (IsDistinct bytes_eq (keys_of joint.now.exports)) }
     ensures modules { IfOk result (λ w. IsDistinct bytes_eq (keys_of w.main.imports.modules)) }
 {
-    let parts = parts_of(alloc, joint, main, groups, exports, main_exports)?;
+    let parts = parts_of(alloc, joint, main, groups, exports, offered, main_exports)?;
     let world = ComponentWorld::of_parts(alloc, parts)?;
     Ok(world)
 }
@@ -268,21 +276,22 @@ fn world_behind(
     main: Part<RootFunctions>,
     groups: Vec<Group>,
     exports: Keyed<Text, Export>,
+    offered: Keyed<Text, ExternType>,
 ) -> Result<ComponentWorld, Failure>
     requires apart { IsDistinct bytes_eq (keys_of (instances_of groups.items)) }
     requires roles { StandAnywhere groups.items }
-    ensures exact { Gives (λ w. w) result (world_behind joint.now main groups.items exports) }
+    ensures exact { Gives (λ w. w) result (world_behind joint.now main groups.items exports offered) }
     ensures imports { OnOk result (IsDistinct bytes_eq (keys_of joint.now.imports)) }
     ensures exports { OnOk result (IsDistinct bytes_eq (keys_of joint.now.exports)) }
     ensures modules { IfOk result (λ w. IsDistinct bytes_eq (keys_of w.main.imports.modules)) }
 {
     let required = require_all(alloc, &joint.exports, &exports, main.required.as_slice())?;
-    let world = world_of(alloc, joint, main, groups, exports, required)?;
+    let world = world_of(alloc, joint, main, groups, exports, offered, required)?;
     Ok(world)
 }
 
-/// What main's core imports and exports are for.
-type MainRoles = (Vec<Group>, Keyed<Text, Export>);
+/// What main's core imports and exports are for, and what it offers.
+type MainRoles = (Vec<Group>, Keyed<Text, Export>, Keyed<Text, ExternType>);
 
 /// What the imports and exports of this core module are for.
 fn roles_in(
@@ -291,13 +300,14 @@ fn roles_in(
     own: &RootFunctions,
     core: &CoreModule,
 ) -> Result<MainRoles, Failure>
-    ensures exact { Gives (λ r. (r.0.items, r.1)) result (roles_in joint.now own.now core.now) }
+    ensures exact { Gives (λ r. (r.0.items, r.1, r.2)) result (roles_in joint.now own.now core.now) }
     ensures stand { IfOk result (λ r. StandAnywhere r.0.items) }
     ensures apart { IfOk result (λ r. IsDistinct bytes_eq (keys_of (instances_of r.0.items))) }
 {
     let groups = read_imports(alloc, &joint.imports, own, core)?;
     let exports = read_exports(alloc, &joint.exports, own, core)?;
-    Ok((groups, exports))
+    let offered = offered(alloc, core)?;
+    Ok((groups, exports, offered))
 }
 
 /// What the imports and exports of main are for.
@@ -306,7 +316,7 @@ fn main_roles(
     joint: &RootFunctions,
     main: &Part<RootFunctions>,
 ) -> Result<MainRoles, Failure>
-    ensures exact { Gives (λ r. (r.0.items, r.1)) result (main_roles joint.now main.now) }
+    ensures exact { Gives (λ r. (r.0.items, r.1, r.2)) result (main_roles joint.now main.now) }
     ensures stand { IfOk result (λ r. StandAnywhere r.0.items) }
     ensures apart { IfOk result (λ r. IsDistinct bytes_eq (keys_of (instances_of r.0.items))) }
 {
@@ -325,8 +335,8 @@ fn prepare_main(
     ensures exports { OnOk result (IsDistinct bytes_eq (keys_of joint.now.exports)) }
     ensures modules { IfOk result (λ w. IsDistinct bytes_eq (keys_of w.main.imports.modules)) }
 {
-    let (groups, exports) = main_roles(alloc, joint, &main)?;
-    world_behind(alloc, joint, main, groups, exports)
+    let (groups, exports, offered) = main_roles(alloc, joint, &main)?;
+    world_behind(alloc, joint, main, groups, exports, offered)
 }
 
 /// The validated world, or the refusal.
@@ -366,7 +376,7 @@ fn root_part(alloc: Global, part: &Part<Bindgen>) -> Result<Part<RootFunctions>,
 {
     let bytes = part.bytes.clone(alloc)?;
     let required = copy_keys(alloc, part.required.as_slice())?;
-    let own = roots_of(alloc, &part.own)?;
+    let own = roots_of(alloc, &part.own.wit, &part.own.roles)?;
     Ok(Part {
         bytes,
         own,
@@ -387,8 +397,60 @@ fn prepare_part(
     prepare_world(alloc, joint, main)
 }
 
+/// Whether there is an adapter that is no library.
+fn is_any_plain(adapters: &Keyed<Text, GatheredAdapter<Bindgen>>) -> bool
+    ensures { result ≡ list_any is_plain adapters.now }
+{
+    for (_, adapter) in adapters.entries() {
+        if adapter.library_info.is_none() {
+            return true;
+        }
+    }
+    false
+}
+
+/// Refuses adapters, with which no world is encoded yet.
+fn refuse_adapters(
+    alloc: Global,
+    grows: bool,
+    adapters: &Keyed<Text, GatheredAdapter<Bindgen>>,
+) -> Result<(), Failure>
+    ensures { Gives (λ _. tt) result (adapters_pass grows adapters.now) }
+{
+    if grows && is_any_plain(adapters) {
+        return Err(Failure::Refused(Refusal::MemoryGrow));
+    }
+    for _ in adapters.entries() {
+        return left_out(alloc, "adapter");
+    }
+    Ok(())
+}
+
+/// What all modules say, where compatible versions of imported interfaces are one, as far as it is encoded yet.
+fn settled_roots(alloc: Global, merging: bool, joint: &Bindgen) -> Result<RootFunctions, Failure>
+    ensures { Gives (λ r. r) result (settled_roots merging joint.now) }
+{
+    let settled = settle(alloc, merging, &joint.wit)?;
+    roots_of(alloc, &settled.wit, &joint.roles)
+}
+
+/// The validated world of what was gathered, once it is known what all modules say.
+fn prepare_from(
+    alloc: Global,
+    joint: &RootFunctions,
+    main: &Option<Part<Bindgen>>,
+) -> Result<ComponentWorld, Failure>
+    ensures exact { Gives (λ w. w) result (preparing_from joint.now main.now) }
+    ensures valid { IfOk result IsWorld }
+{
+    match main {
+        Some(main) => prepare_part(alloc, joint, main),
+        None => Err(Failure::Refused(Refusal::NotModule)),
+    }
+}
+
 /// The validated world of what was gathered.
-#[tactic(auto, unfolding(crate::specs::Preparing::preparing_all))]
+#[tactic(auto, using(crate::proofs::Settling::gives_by_roots))]
 pub(crate) fn prepare(
     alloc: Global,
     gathered: &Gathered<Bindgen>,
@@ -396,9 +458,9 @@ pub(crate) fn prepare(
     ensures exact { Gives (λ w. w) result (preparing_all gathered.now) }
     ensures valid { IfOk result IsWorld }
 {
-    let joint = roots_of(alloc, &gathered.joint)?;
-    match &gathered.main {
-        Some(main) => prepare_part(alloc, &joint, main),
-        None => Err(Failure::Refused(Refusal::NotModule)),
-    }
+    let grows = gathered.options.realloc_via_memory_grow;
+    refuse_adapters(alloc, grows, &gathered.adapters)?;
+    let merging = gathered.options.merge_imports_based_on_semver;
+    let joint = settled_roots(alloc, merging, &gathered.joint)?;
+    prepare_from(alloc, &joint, &gathered.main)
 }

@@ -2,7 +2,7 @@
 
 ghost use Rattle.std.specs.Prelude.{IsSome};
 
-use comp_lists::Bytes;
+use comp_lists::{Bytes, Keyed};
 use comp_worlds::{EncoderOptions, Gathered, Lower, Merged, Part};
 use plain_lower::PlainLower;
 use std::alloc::{AllocError, Global};
@@ -59,7 +59,7 @@ fn prepare_told<L: Lower>(
 }
 
 /// A module alone, with what it says.
-fn gathered_alone<B>(bytes: Bytes, own: B, merged: Merged<B>) -> Gathered<B>
+fn gathered_alone<B>(alloc: Global, bytes: Bytes, own: B, merged: Merged<B>) -> Gathered<B>
     ensures { IsSome result.main }
 {
     Gathered {
@@ -68,6 +68,7 @@ fn gathered_alone<B>(bytes: Bytes, own: B, merged: Merged<B>) -> Gathered<B>
             own,
             required: merged.exports,
         }),
+        adapters: Keyed::new(alloc),
         joint: merged.joint,
         options: OPTIONS,
     }
@@ -85,7 +86,7 @@ fn prepare_alone<L: Lower>(
     drop(empty);
     match merged {
         Ok(merged) => {
-            let gathered = gathered_alone(bytes, own, merged);
+            let gathered = gathered_alone(alloc, bytes, own, merged);
             let told = prepare_told(lower, alloc, &gathered);
             drop(gathered);
             told

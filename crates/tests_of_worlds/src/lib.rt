@@ -13,3 +13,5 @@ mod options;
 mod signatures;
 #[cfg(test)]
 mod soundness;
+#[cfg(test)]
+mod tables;

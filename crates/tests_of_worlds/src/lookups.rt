@@ -263,6 +263,7 @@ fn module(alloc: Global, exports: ExportMap) -> ValidatedModule {
             modules: Keyed::new(alloc),
         },
         exports,
+        offered: Keyed::new(alloc),
         metadata: ModuleMetadata {
             import_encodings,
             export_encodings,

@@ -284,3 +284,31 @@ fn a_type_has_at_most_10000_nodes(rt: HostRuntime) -> Result<(), Fail> {
     assert!(rt; !is_sound_with(alloc, 99)?);
     Ok(())
 }
+
+/// A tuple of two `u32`, and as many further ones of two of the one before.
+fn doubled(alloc: Global, count: usize) -> Result<Resolve, AllocError> {
+    let mut types = Seq::new(alloc);
+    let mut inner = Type::Primitive(U32);
+    for index in 0..count {
+        let mut parts = Seq::new(alloc);
+        parts.push(inner)?;
+        parts.push(inner)?;
+        types.push(unnamed(TypeDefKind::Tuple(parts)))?;
+        inner = Type::Id(TypeId { index });
+    }
+    Ok(Resolve {
+        interfaces: Seq::new(alloc),
+        types,
+        worlds: Seq::new(alloc),
+    })
+}
+
+/// Of 90 types that double there are more than 2^90 paths to the `u32`: a walk over each of them would never end.
+#[test]
+fn shared_types_are_counted_once(rt: HostRuntime) -> Result<(), Fail> {
+    let alloc = rt.alloc();
+    assert!(rt; doubled(alloc, 12)?.is_sound());
+    assert!(rt; !doubled(alloc, 13)?.is_sound());
+    assert!(rt; !doubled(alloc, 90)?.is_sound());
+    Ok(())
+}

@@ -1,6 +1,6 @@
 use Rattle.plain_lower.specs.Causes.{PrepareCause}
 use Rattle.plain_lower.proofs.Telling.{told}
-use Rattle.plain_lower.proofs.Leaving.{no_cause, has_cause}
+use Rattle.plain_lower.proofs.Settling.{no_cause, has_cause}
 use Rattle.plain_lower.proofs.lower.PlainLowerLower.prepare.Goals as goal
 
 pub returns-clause-refused : goal.returns-clause-refused

@@ -1,0 +1,19 @@
+-- The core imports of the world whose tables are tested. (For tests alone; no standard speaks of it.)
+use Rattle.std.specs.Prelude.{ℕ, List, [], ◌∷◌, codes}
+use Rattle.wit_data.specs.declared.worlds.WorldKey.TheVariants as keys
+use Rattle.wit_data.specs.declared.functions.AbiVariant.TheVariants as abis
+use Rattle.comp_worlds.specs.declared.imports.Import.{Import}
+use Rattle.comp_worlds.specs.declared.imports.Import.TheVariants as roles
+use Rattle.comp_worlds.specs.declared.imports.ImportInstance.{ImportInstance}
+use Rattle.comp_worlds.specs.declared.imports.ImportInstance.TheVariants as instances
+use Rattle.comp_worlds.specs.declared.imports.ImportMap.{ImportMap}
+
+-- a function of the first interface, by its name
+abbrev pub role_of : List ℕ → Import
+role_of name = roles.InterfaceFunc (keys.Interface (record { index = 0 })) (record { index = 0 }) name abis.GuestImport
+
+abbrev pub fields_of : List ℕ → List (List ℕ × Import)
+fields_of name = (name, role_of name) ∷ []
+
+abbrev pub core_imports : ImportMap
+core_imports = record { modules = (codes "a", instances.Names (fields_of (codes "f"))) ∷ (codes "b", instances.Names (fields_of (codes "g"))) ∷ [] }
