@@ -9,3 +9,6 @@
 mod offering;
 
 pub use offering::{extern_type, memory_type, offered};
+
+#[cfg(test)]
+mod tests;
