@@ -1,0 +1,2 @@
+mod Converting
+mod Apart
