@@ -16,4 +16,4 @@ Stand r imports adapters = AllByRecursion (λ i. HasRole r i.role) (flat_map imp
 pub roles_stand : (p : WorldParts) → p.main.imports ≡ core_imports → p.adapters ≡ [] → AllByRecursion (λ i. HasRole p.resolve i.role) (all_imports p.main p.adapters)
 roles_stand p is alone =
     subst (λ (adapters : List (List ℕ × WorldAdapter)). Stand p.resolve p.main.imports adapters) (sym alone)
-    (subst (λ (imports : ImportMap). Stand p.resolve imports []) (sym is) (tt, tt, tt))
+    (subst (λ (imports : ImportMap). Stand p.resolve imports []) (sym is) (tt, (tt, tt)))

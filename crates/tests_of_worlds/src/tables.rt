@@ -16,7 +16,9 @@ use wit_data::{
     TypeDef, TypeDefKind, TypeId, TypeOwner, World, WorldId, WorldItem, WorldKey,
 };
 
-const fn interface(index: usize) -> InterfaceId {
+const fn interface(index: usize) -> InterfaceId
+    ensures { result ≡ record { index = index } }
+{
     InterfaceId { index }
 }
 
