@@ -1,2 +1,3 @@
 mod Converting
 mod Apart
+mod Standing

@@ -1,1 +1,4 @@
 pub mod Offered
+pub mod Asked
+pub mod Shapes
+pub mod Fitting
