@@ -9,6 +9,7 @@ ghost use Rattle.comp_encoder.specs.Outputs.{NoOutputCause, IsOutputRefusal};
 
 use crate::fault::EncodeFault;
 use crate::output::{OutputFault, component_bytes};
+use comp_lists::Keyed;
 use comp_worlds::{ComponentWorld, EncoderOptions, Gathered, Lower, Part};
 use std::alloc::Global;
 use std::marker::Model;
