@@ -1,5 +1,5 @@
 -- What the definitions so far have put into the store, and what main's imports find among the arguments.
-use Rattle.std.proofs.Common.{◌≡◌, ◌∙◌, ℕ, ◌<◌, true, List, [], ◌∷◌, length, map, filter, refl, sym, ap, subst, Option, Some, None, is_some, arith}
+use Rattle.std.proofs.Common.{◌≡◌, ◌∙◌, ℕ, ◌<◌, true, true≢false, List, [], ◌∷◌, length, map, filter, refl, sym, ap, subst, Option, Some, None, is_some, arith}
 use Rattle.std.proofs.lemmas.List.Sums.{length-filter}
 use Rattle.std.proofs.lemmas.Option.{same_Some}
 use Rattle.std.specs.Str.{bytes_eq}
@@ -15,7 +15,12 @@ use Rattle.comp_bytes.specs.declared.space.ExportKind.{ExportKind}
 use Rattle.comp_bytes.specs.declared.space.ExportKind.TheVariants as kinds
 use Rattle.comp_bytes.specs.declared.def.CoreArgument.{CoreArgument}
 use Rattle.comp_bytes.specs.declared.def.CoreInlineExport.{CoreInlineExport}
+use Rattle.comp_bytes.specs.declared.space.Sort.TheVariants as sorts
+use Rattle.comp_bytes.specs.declared.types.Alias.TheVariants as aliases
+use Rattle.comp_bytes.specs.declared.types.Description.TheVariants as descriptions
+use Rattle.comp_bytes.specs.declared.def.Item.TheVariants as items
 use Rattle.comp_bytes.specs.declared.def.Def.{Def}
+use Rattle.comp_bytes.specs.declared.def.Def.TheVariants as defs
 use Rattle.wit_data.specs.declared.worlds.WorldKey.TheVariants as keys
 use Rattle.comp_worlds.specs.CoreImports.{CoreImport, imports_from, fields_of}
 use Rattle.comp_worlds.specs.Worlds.{imported_name}
@@ -24,17 +29,18 @@ use Rattle.comp_worlds.specs.declared.imports.Import.{Import}
 use Rattle.comp_worlds.specs.declared.imports.Import.TheVariants as imports
 use Rattle.comp_worlds.specs.declared.imports.ImportInstance.{ImportInstance}
 use Rattle.comp_worlds.specs.declared.world.ComponentWorld.{ComponentWorld}
-use Rattle.comp_shims.specs.Store.{Thing, Export, Imported, Store}
+use Rattle.comp_shims.specs.Store.{Thing, Export, OfUser, Imported, Lifting, Store}
 use Rattle.comp_shims.specs.Targets.{Main}
 use Rattle.comp_state.specs.Links.{link_of}
-use Rattle.comp_state.specs.Facts.{IsLowered, IsCoreItemFor, IsEntryFor, IsArgumentFor, IsMain, IsAliased, IsLiftFor}
+use Rattle.comp_state.specs.Facts.{plain_function, IsLowered, IsCoreItemFor, IsEntryFor, IsArgumentFor, IsMain, IsAliased, IsLiftFor}
 use Rattle.comp_state.specs.Modules.{import_kind}
 use Rattle.comp_encoder.specs.Machine.{Scope, Machine, address_at, is_of, all_some}
 use Rattle.comp_encoder.specs.Instances.{of_kind, given_to}
 use Rattle.comp_encoder.specs.Running.{core_argument}
+use Rattle.comp_encoder.specs.Meeting.{IsOpaque}
 use Rattle.comp_encoder.specs.Linking.{import_type}
-use Rattle.comp_encoder.proofs.Zips.{AllZip-filter, filter-both, all_some-each, all_some-zip, found-along, FindsIn, found-each, AllByRecursion-join}
-use Rattle.comp_encoder.proofs.Stores.{IsUserExport, IsUserInstance, IsNamedEntry, IsBag, IsLoweredItem, IsLiftedItem, IsAliasedItem, DefIs, Means, makes, IsServedBy, IsServedAs, IsPlanned, IsMainExport, IsLiftedFrom, Agrees}
+use Rattle.comp_encoder.proofs.Zips.{AllZip-filter, filter-both, filter-at, all_some-each, all_some-zip, found-along, FindsIn, found-each, AllByRecursion-join}
+use Rattle.comp_encoder.proofs.Stores.{IsUserExport, IsUserInstance, IsNamedEntry, IsBag, IsLoweredItem, IsLiftedItem, IsAliasedItem, IsPlainFunction, DefIs, Means, makes, IsServedBy, IsServedAs, IsPlanned, IsMainExport, IsLiftedFrom, Agrees}
 
 makes-space : (space : Space) (d : Def) → is_space space (space_of d) ≡ true → makes d ≡ true
 makes-space space d e = by (space_of d) e
@@ -89,12 +95,33 @@ module _ {w : ComponentWorld} {earlier : List Def} {c : Scope} {s : Store} (a : 
       let t : (t : Thing) × (slice_get (filter (is_of space) c.items) index ≡ Some t) = there (filter (is_of space) c.items) index (omega (arith, same, counted)) in
       (t.0.address, ap (option_map (λ (t : Thing). t.address)) t.1)
 
+  -- a function of the scope is a plain one
+  plain_def : (d : Def) (x : ℕ) → is_space spaces.Func (space_of d) ≡ true → DefIs w c.items s d x → IsPlainFunction s x
+  plain_def (defs.Item (items.Import name (descriptions.Func kind))) x e h = record { function = Imported (name.name ∷ []) plain_function; stands = h; plain = refl }
+  plain_def (defs.Item (items.Lift core options kind)) x e h = record { function = Lifting h.of [] plain_function; stands = h.is; plain = refl }
+  plain_def (defs.Item (items.Export name sorts.Func index description)) x e h = h.1
+  plain_def (defs.Item (items.CoreModule bytes)) x e h = absurd (true≢false (sym e))
+  plain_def (defs.Item (items.CoreInstantiate number arguments)) x e h = absurd (true≢false (sym e))
+  plain_def (defs.Item (items.CoreExports entries)) x e h = absurd (true≢false (sym e))
+  plain_def (defs.Item (items.Alias (aliases.CoreExport kinds.Func instance name))) x e h = absurd (true≢false (sym e))
+  plain_def (defs.Item (items.Type t)) x e h = absurd (true≢false (sym e))
+  plain_def (defs.Item (items.Lower function options)) x e h = absurd (true≢false (sym e))
+  plain_def d x e h = absurd h
+
+  pub function_there : (index : ℕ) → index < items_in spaces.Func earlier → (x : ℕ) × (address_at spaces.Func index c.items ≡ Some x) × IsPlainFunction s x
+  function_there index l =
+      let counted : length (in_space spaces.Func earlier) ≡ items_in spaces.Func earlier = length-filter (λ d. is_space spaces.Func (space_of d)) earlier in
+      let d : (d : Def) × (slice_get (in_space spaces.Func earlier) index ≡ Some d) = there (in_space spaces.Func earlier) index (subst (λ n. index < n) (sym counted) l) in
+      let at : IsAt earlier spaces.Func index d.0 = record { made = d.1 } in
+      let x : (x : ℕ) × (address_at spaces.Func index c.items ≡ Some x) × DefIs w c.items s d.0 x = thing_there at in
+      (x.0, x.1, plain_def d.0 x.0 (filter-at (λ d. is_space spaces.Func (space_of d)) earlier index d.0 d.1) x.2)
+
   pub lowered_there : {index : ℕ} {text : List ℕ} → IsLowered earlier index text → (x : ℕ) × (address_at spaces.CoreFunc index c.items ≡ Some x) × IsServedBy s x text
   lowered_there {index} {text} h =
       let l : (x : ℕ) × (address_at spaces.CoreFunc index c.items ≡ Some x) × IsLoweredItem c.items s h.function x = thing_there h.made in
-      let f : (x : ℕ) × (address_at spaces.Func h.function c.items ≡ Some x) × (slice_get s.functions x ≡ Some (Imported (text ∷ []))) = thing_there h.of.made in
+      let f : (x : ℕ) × (address_at spaces.Func h.function c.items ≡ Some x) × (slice_get s.functions x ≡ Some (Imported (text ∷ []) plain_function)) = thing_there h.of.made in
       let same : f.0 ≡ l.2.of = same_Some f.0 l.2.of (sym f.1 ∙ l.2.at) in
-      (l.0, l.1, record { of = l.2.of; is = l.2.is; imported = subst (λ n. slice_get s.functions n ≡ Some (Imported (text ∷ []))) same f.2 })
+      (l.0, l.1, record { of = l.2.of; is = l.2.is; imported = subst (λ n. slice_get s.functions n ≡ Some (Imported (text ∷ []) plain_function)) same f.2 })
 
   pub main_there : {index : ℕ} → IsMain earlier index → (x : ℕ) × (address_at spaces.CoreInstance index c.items ≡ Some x) × IsUserInstance w s 0 x
   main_there h = thing_there h.made
@@ -107,7 +134,7 @@ module _ {w : ComponentWorld} {earlier : List Def} {c : Scope} {s : Store} (a : 
       let exports : m.2.exports ≡ l.2.exports = same_Some m.2.exports l.2.exports (sym m.2.stands ∙ (ap (slice_get s.core_instances) same ∙ l.2.stands)) in
       let each : AllByRecursion (IsUserExport s m.2.user) l.2.exports = subst (AllByRecursion (IsUserExport s m.2.user)) exports m.2.each in
       let e : (l.2.export.name ≡ name) × IsUserExport s m.2.user l.2.export = found-each (λ (e : Export). e.name) (IsUserExport s m.2.user) name l.2.exports l.2.export each l.2.found in
-      (l.0, l.1, record { user = m.2.user; is = rw (← l.2.is, e.1.1, e.0) refl; of = m.2.is })
+      (l.0, l.1, record { user = m.2.user; is = subst (λ n. IsOpaque s n (OfUser m.2.user name)) l.2.is (subst (λ t. IsOpaque s l.2.export.address (OfUser m.2.user t)) e.0 e.1.1); of = m.2.is })
 
   pub lift_there : {index : ℕ} {key : WorldKey} (h : IsLiftFor w earlier index key) → (x : ℕ) × (address_at spaces.Func index c.items ≡ Some x) × IsLiftedFrom s x h.name
   lift_there {index} {key} h =

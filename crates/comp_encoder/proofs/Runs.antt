@@ -27,9 +27,11 @@ use Rattle.comp_worlds.specs.declared.imports.Import.{Import}
 use Rattle.comp_worlds.specs.declared.imports.Import.TheVariants as imports
 use Rattle.comp_worlds.specs.declared.world.ComponentWorld.{ComponentWorld}
 use Rattle.comp_shims.specs.Targets.{Main, OfRoot, Lowered, Lifted}
-use Rattle.comp_shims.specs.Answers.{CoreType, Answer}
-use Rattle.comp_shims.specs.Store.{Thing, Export, Lowering, Lifting, UserInstance, Store, Now}
+use Rattle.core_bytes.specs.declared.types.ValType.{ValType}
+use Rattle.core_runs.specs.Store.{Answer, Now}
+use Rattle.comp_shims.specs.Store.{Thing, Export, Lowering, Lifting, UserInstance, Store}
 use Rattle.comp_state.specs.Roles.{used_functions}
+use Rattle.comp_state.specs.Facts.{plain_function}
 use Rattle.comp_state.specs.Rules.{IsRight, RightAfter, Landmark, ImportNamed, ModuleIs, InstanceOf, ExportNamed, landmark, imports_marked, exports_marked, IsBuilt}
 use Rattle.comp_state.specs.Modules.{user_modules}
 use Rattle.comp_state.specs.Links.{link_of}
@@ -57,7 +59,7 @@ module _ {w : ComponentWorld} {earlier : List Def} {c : Scope} {s : Store} (a : 
   step ok _ h = absurd h
 
 -- the questions of a list, in order
-abbrev asked_by : List Def → List (List CoreType)
+abbrev asked_by : List Def → List (List ValType)
 asked_by ds = flat_map asks ds
 
 abbrev Resolves : ComponentWorld → List Def → List Def → Scope → Store → Type 0
@@ -213,7 +215,7 @@ planned_meets w s t i h = by t i.role h
   where
     by : (t : Thing) (role : Import) → (t.space ≡ spaces.CoreFunc) × IsServedAs s t.address (imported_name role) → Meets w s t (link_of w Main role)
     by t (imports.WorldFunc (keys.Name text) function abi) h =
-        subst (λ space. MeetsIn w s space t.address (Lowered (OfRoot text) [])) (sym h.0) (record { item = Lowering h.1.of []; is = h.1.is; meets = (h.1.imported, tt) })
+        subst (λ space. MeetsIn w s space t.address (Lowered (OfRoot text) [])) (sym h.0) (record { item = Lowering h.1.of []; is = h.1.is; meets = (record { type = plain_function; is = h.1.imported }, tt) })
     by t role h = absurd h.1
 
 users_served : (w : ComponentWorld) (s : Store) (us : List UserInstance) → map (λ (u : UserInstance). u.module_number) us ≡ 0 ∷ [] → AllByRecursion (IsPlannedUser w s) us → AllZip (IsServed w s) us (user_modules w)
@@ -260,7 +262,7 @@ module _ (w : ComponentWorld) (m : Machine) (names : map (λ (e : Export). e.nam
         target = Lifted (record { of = Main; name = is.1.name }) [];
         found = ap (export_named (name_of_key key)) functions_all ∙ (x.1 ∙ ap (λ (e : Export). Some e) whole);
         said = ap (option_map (λ n. Lifted (record { of = Main; name = n }) [])) (ap (core_name_of w) (named_key w key stands ∙ ap keys.Name (sym is.0))) ∙ is.1.said;
-        meets = record { function = Lifting is.1.is.core []; is = is.1.is.is; meets = (main_export w m.store is.1.is.core is.1.name is.1.is.of, tt) };
+        meets = record { function = Lifting is.1.is.core [] plain_function; is = is.1.is.is; meets = (main_export w m.store is.1.is.core is.1.name is.1.is.of, tt) };
       }
 
   provided_each : (required : List WorldKey) → AllByRecursion (IsRequired w) required → AllByRecursion (λ key. list_any (bytes_eq (name_of_key key)) (map name_of_key w.main_exports) ≡ true) required → AllByRecursion (IsProvided w m) (map (λ key. (Main, key)) required)
@@ -278,7 +280,7 @@ linked_at_end w ds m ok built a = record {
 start : (w : ComponentWorld) → Agrees w [] (fresh_machine []).scope (fresh_machine []).store
 start w = record { means = tt; modules = refl; instances = refl; served = tt; exports = refl; lifted = tt }
 
-module _ (e : Scope) (t : Store) (questions : List (List CoreType)) (answers : List Answer) where
+module _ (e : Scope) (t : Store) (questions : List (List ValType)) (answers : List Answer) where
   not_stuck : (o : Outcome) → IsGood e t questions answers o → o ≡ Stuck → ⊥
   not_stuck o h same = subst (IsGood e t questions answers) same h
 

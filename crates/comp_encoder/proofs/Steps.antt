@@ -1,5 +1,5 @@
 -- A definition that keeps its rule runs, and the store agrees with the longer list.
-use Rattle.std.proofs.Common.{◌≡◌, ◌∙◌, ℕ, suc, ◌<◌, Bool, true, false, List, [], ◌∷◌, ◌++◌, length, map, filter, refl, sym, ap, subst, append-nil, append_assoc, add-one, length-append, Some, None, is_some, IsTrue, if◌then◌else◌, cond, ◌||◌}
+use Rattle.std.proofs.Common.{◌≡◌, ◌∙◌, ℕ, suc, ◌<◌, Bool, true, false, List, [], ◌∷◌, ◌++◌, length, map, filter, refl, sym, ap, ap₂, subst, append-nil, append_assoc, add-one, length-append, Some, None, is_some, IsTrue, if◌then◌else◌, cond, ◌||◌}
 use Rattle.std.proofs.lemmas.List.{map-append}
 use Rattle.std.proofs.lemmas.List.Elements.{filter-append}
 use Rattle.std.proofs.lemmas.Grind.{flat_map-append}
@@ -7,7 +7,7 @@ use Rattle.std.proofs.lemmas.Option.{none-some, same_Some}
 use Rattle.std.proofs.lemmas.Slice.Eq.{bytes_eq-Decides}
 use Rattle.std.specs.Str.{bytes_eq}
 use Rattle.std.specs.List.{slice_get, flat_map, list_any, AllZip, AllByRecursion, IsDistinct}
-use Rattle.std.specs.Option.{option_map}
+use Rattle.std.specs.Option.{option_map, option_and_then}
 use Rattle.comp_lists.proofs.Lists.{slice_get-append, slice_get-end, AllZip-weaker, AllZip-end, AllByRecursion-weaker, AllByRecursion-push}
 use Rattle.comp_bytes.specs.Spaces.{kind_space, space_of, items_in}
 use Rattle.comp_bytes.specs.ScopeNames.{def_export}
@@ -25,6 +25,7 @@ use Rattle.comp_bytes.specs.declared.def.Item.TheVariants as items
 use Rattle.comp_bytes.specs.declared.def.Def.{Def}
 use Rattle.comp_bytes.specs.declared.def.Def.TheVariants as defs
 use Rattle.wit_data.specs.Keys.{name_of_key}
+use Rattle.wit_data.specs.declared.functions.AbiVariant.{AbiVariant}
 use Rattle.wit_data.specs.declared.worlds.WorldKey.{WorldKey}
 use Rattle.wit_data.specs.declared.worlds.WorldKey.TheVariants as keys
 use Rattle.comp_worlds.specs.CoreImports.{fields_of}
@@ -34,20 +35,26 @@ use Rattle.comp_worlds.specs.declared.exports.Export.TheVariants as exports
 use Rattle.comp_worlds.specs.declared.imports.ImportInstance.{ImportInstance}
 use Rattle.comp_worlds.specs.declared.imports.ImportInstance.TheVariants as instances
 use Rattle.comp_worlds.specs.declared.world.ComponentWorld.{ComponentWorld}
-use Rattle.comp_shims.specs.Answers.{CoreType, Value, Answer, Gives, Traps}
+use Rattle.core_bytes.specs.declared.types.ValType.{ValType}
+use Rattle.core_bytes.specs.declared.types.FuncType.{FuncType}
+use Rattle.core_runs.specs.Values.{Value}
+use Rattle.core_runs.specs.Store.{Func, Opaque, Answer, Gives, Traps, Instantiated, Now}
+use Rattle.core_runs.specs.Execution.{answered, seen}
 use Rattle.comp_shims.specs.Targets.{Main, Target, Lifted}
-use Rattle.comp_shims.specs.Store.{Thing, Export, CoreItem, Lowering, OfUser, Imported, Lifting, FunctionType, UserInstance, Store, Now}
+use Rattle.comp_shims.specs.Store.{Thing, Export, CoreItem, Lowering, OfUser, Imported, Lifting, FunctionType, UserInstance, Store}
 use Rattle.comp_lists.specs.Found.{found}
 use Rattle.comp_state.specs.Links.{lift_of}
 use Rattle.comp_state.specs.Facts.{plain_function, IsFunctionType}
 use Rattle.comp_state.specs.Rules.{InstantiatesMain, AliasesMain, ExportsRequired, IsEntry, AreEntries}
-use Rattle.comp_encoder.specs.Machine.{Scope, Machine, Outcome, Done, Trapped, Open, Stuck, address_at, is_of, export_named, all_some, answered}
-use Rattle.comp_encoder.specs.Instances.{ExportType, exported_from, given_to, new_user}
-use Rattle.comp_encoder.specs.Running.{core_argument, core_entry, run}
+use Rattle.comp_encoder.specs.Machine.{Scope, Machine, Outcome, Done, Trapped, Open, Stuck, address_at, is_of, export_named, all_some, resumed, with_opaque, new_core_instance}
+use Rattle.comp_encoder.specs.Instances.{exported_by, with_exports, with_user, given_to, new_user}
+use Rattle.comp_encoder.specs.Signatures.{function_type, core_signature, entry_type}
+use Rattle.comp_encoder.specs.Running.{core_argument, core_entry, type_of_function, lowered_signature, run}
+use Rattle.comp_encoder.specs.Meeting.{IsOpaque}
 use Rattle.comp_encoder.specs.Linking.{def_instantiates, module_meanings, import_type, export_type, LetsRun}
 use Rattle.comp_encoder.proofs.Zips.{all_some-self, found-each, found-listed, slice_get-middle}
-use Rattle.comp_encoder.proofs.Stores.{IsUserExport, IsUserInstance, IsNamedEntry, Means, makes, IsPlanned, IsPlannedUser, IsLiftedFrom, IsLiftedExport, NumberedFrom, Agrees, Keeps, address_at-append, Means-kept, IsPlannedUser-kept, IsLiftedExport-kept}
-use Rattle.comp_encoder.proofs.Given.{IsOffered, address_there, main_there, lift_there, thing_there, arguments_there, given_there}
+use Rattle.comp_encoder.proofs.Stores.{IsUserExport, IsUserInstance, IsNamedEntry, Means, makes, IsPlanned, IsPlannedUser, IsLiftedFrom, IsLiftedExport, IsPlainFunction, NumberedFrom, Agrees, Keeps, address_at-append, Means-kept, IsPlannedUser-kept, IsLiftedExport-kept}
+use Rattle.comp_encoder.proofs.Given.{IsOffered, address_there, function_there, main_there, lift_there, thing_there, arguments_there, given_there}
 
 -- the machine of a scope, a store, and what changes
 abbrev pub machine : Scope → Store → Now → Machine
@@ -55,44 +62,40 @@ machine c s now = record { scope = c; store = s; now = now }
 
 -- with nothing seen yet, and no answer to come
 abbrev pub no_answers : Now
-no_answers = record { globals = []; answers = []; events = [] }
+no_answers = record { globals = []; answers = []; events = []; moments = [] }
 
 -- a run ends with this scope and this store, or by an answer that doesn't let it
-abbrev pub IsGood : Scope → Store → List (List CoreType) → List Answer → Outcome → Type 0
+abbrev pub IsGood : Scope → Store → List (List ValType) → List Answer → Outcome → Type 0
 IsGood c s questions answers (Done m) = (m.scope ≡ c) × (m.store ≡ s)
 IsGood c s questions answers (Trapped m) = LetsRun questions answers → ⊥
 IsGood c s questions answers (Open m) = LetsRun questions answers → ⊥
 IsGood c s questions answers Stuck = ⊥
 
--- a machine by its parts
-after_is : (c : Scope) (s : Store) (m : Machine) → m.scope ≡ c → m.store ≡ s → machine c s m.now ≡ m
-after_is c s m scope store = rw (← scope, ← store) refl
-
 -- what a definition asks the outside for
-abbrev pub asks : Def → List (List CoreType)
+abbrev pub asks : Def → List (List ValType)
 asks d = map (λ n. []) (def_instantiates d)
 
 -- one question more
-one_more : (c : Scope) (s : Store) (questions : List (List CoreType)) (cell : ℕ) (answers : List Answer) (o : Outcome) → IsGood c s questions answers o → IsGood c s ([] ∷ questions) (Gives [] cell ∷ answers) o
+one_more : (c : Scope) (s : Store) (questions : List (List ValType)) (cell : ℕ) (answers : List Answer) (o : Outcome) → IsGood c s questions answers o → IsGood c s ([] ∷ questions) (Gives [] cell ∷ answers) o
 one_more c s questions cell answers (Done m) h = h
 one_more c s questions cell answers (Trapped m) h = λ l. h l.1
 one_more c s questions cell answers (Open m) h = λ l. h l.1
 one_more c s questions cell answers Stuck h = h
 
-pub good_answered : (c : Scope) (s : Store) (questions : List (List CoreType)) (answers : List Answer) (m : Machine) (next : List Value → Machine → Outcome) →
-    ((values : List Value) (cell : ℕ) (rest : List Answer) (after : Machine) → after.scope ≡ m.scope → after.store ≡ m.store → after.now.answers ≡ rest → IsGood c s questions rest (next values after)) →
-    IsGood c s ([] ∷ questions) answers (answered [] answers m next)
-good_answered c s questions [] m next h = λ l. l
-good_answered c s questions (Traps ∷ answers) m next h = λ l. l
-good_answered c s questions (Gives [] cell ∷ answers) m next h = one_more c s questions cell answers _ (h [] cell answers _ refl refl refl)
-good_answered c s questions (Gives (v ∷ values) cell ∷ answers) m next h = λ l. absurd (no l.0)
+pub good_answered : (c : Scope) (s : Store) (questions : List (List ValType)) (answers : List Answer) (now : Now) (m : Machine) (next : List Value → Machine → Outcome) →
+    ((values : List Value) (after : Now) → IsGood c s questions after.answers (next values (record m { now = after }))) →
+    IsGood c s ([] ∷ questions) answers (resumed (answered [] answers now) m next)
+good_answered c s questions [] now m next h = λ l. l
+good_answered c s questions (Traps ∷ answers) now m next h = λ l. l
+good_answered c s questions (Gives [] number ∷ answers) now m next h = one_more c s questions number answers _ (h [] _)
+good_answered c s questions (Gives (v ∷ values) number ∷ answers) now m next h = λ l. absurd (no l.0)
   where
     no : IsTrue false → ⊥
     no e = cc
 
 -- a definition runs, and then the rest does from this scope and this store
 pub record Runs (w : ComponentWorld) (d : Def) (c : Scope) (s : Store) (c' : Scope) (s' : Store) : Type 0 where
-  pub goes : (e : Scope) (t : Store) (questions : List (List CoreType)) (rest : List Def) → ((now : Now) → IsGood e t questions now.answers (run (module_meanings w) rest (machine c' s' now))) →
+  pub goes : (e : Scope) (t : Store) (questions : List (List ValType)) (rest : List Def) → ((now : Now) → IsGood e t questions now.answers (run (module_meanings w) rest (machine c' s' now))) →
       (now : Now) → IsGood e t (asks d ++ questions) now.answers (run (module_meanings w) (d ∷ rest) (machine c s now))
 
 abbrev pub Steps : ComponentWorld → List Def → Scope → Store → Def → Type 0
@@ -116,18 +119,82 @@ numbered-push : (k : ℕ) (ts : List Thing) (n : ℕ) (t : Thing) → NumberedFr
 numbered-push k [] n t h e = (e ∙ sym h, ap suc h)
 numbered-push k (x ∷ ts) n t h e = (h.0, numbered-push (suc k) ts n t h.1 e)
 
+-- an opaque function stands where it was put, and is what is known of it
+opaque_there : (item : CoreItem) (signature : FuncType) (s : Store) → IsOpaque (with_opaque item signature s) (length s.code.functions) item
+opaque_there item signature s =
+    record { what = length s.known; signature = signature; stands = slice_get-end s.code.functions (Opaque (length s.known) signature); known = slice_get-end s.known item }
+
+-- a lowering of a plain function has the plain type
+plain_lowered : (m : Machine) (x : ℕ) → IsPlainFunction m.store x → lowered_signature m x [] ≡ Some (function_type [] [])
+plain_lowered m x h = ap (option_and_then (λ f. core_signature (type_of_function f) [])) h.stands ∙ ap (λ t. core_signature t []) h.plain
+
+-- what main exports: functions, by the places of what is known of them, and by their addresses
+abbrev opaques : ℕ → List (List ℕ × WorldExport) → List Func
+opaques k [] = []
+opaques k (e ∷ es) = Opaque k (function_type [] []) ∷ opaques (suc k) es
+
+abbrev of_user : ℕ → List (List ℕ × WorldExport) → List CoreItem
+of_user user es = map (λ e. OfUser user e.0) es
+
+abbrev exports_from : ℕ → List (List ℕ × WorldExport) → List Export
+exports_from k [] = []
+exports_from k (e ∷ es) = record { space = spaces.CoreFunc; name = e.0; address = k } ∷ exports_from (suc k) es
+
+abbrev exporting : ℕ → List (List ℕ × WorldExport) → Store → Store
+exporting user es s = record s { code = record s.code { functions = s.code.functions ++ opaques (length s.known) es }; known = s.known ++ of_user user es }
+
+longer : {X : Type 0} (xs : List X) (x : X) → length (xs ++ x ∷ []) ≡ suc (length xs)
+longer xs x = length-append xs (x ∷ []) ∙ add-one (length xs)
+
+opaques-next : (fs : List Func) (ks : List CoreItem) (item : CoreItem) (es : List (List ℕ × WorldExport)) →
+    (fs ++ Opaque (length ks) (function_type [] []) ∷ []) ++ opaques (length (ks ++ item ∷ [])) es ≡ fs ++ Opaque (length ks) (function_type [] []) ∷ opaques (suc (length ks)) es
+opaques-next fs ks item es =
+    let o : Func = Opaque (length ks) (function_type [] []) in
+    append_assoc fs (o ∷ []) (opaques (length (ks ++ item ∷ [])) es) ∙ ap (λ n. fs ++ o ∷ opaques n es) (longer ks item)
+
+exporting-next : (user : ℕ) (e : List ℕ × WorldExport) (es : List (List ℕ × WorldExport)) (s : Store) → exporting user es (with_opaque (OfUser user e.0) (function_type [] []) s) ≡ exporting user (e ∷ es) s
+exporting-next user e es s =
+    ap₂ (λ fs ks. record s { code = record s.code { functions = fs }; known = ks }) (opaques-next s.code.functions s.known (OfUser user e.0) es) (append_assoc s.known (OfUser user e.0 ∷ []) (of_user user es))
+
+exported : (w : ComponentWorld) (user : ℕ) (es : List (List ℕ × WorldExport)) → AllByRecursion (λ e. IsExportRole w e.1) es → (c : Scope) (s : Store) (now : Now) →
+    with_exports user (map export_type es) (machine c s now) ≡ machine c (exporting user es s) now
+exported w user [] roles c s now =
+    ap₂ (λ fs ks. machine c (record s { code = record s.code { functions = fs }; known = ks }) now) (sym (append-nil s.code.functions)) (sym (append-nil s.known))
+exported w user ((name, exports.WorldFunc (keys.Name text) function abi) ∷ es) roles c s now =
+    ap (λ (a : AbiVariant). with_exports user (map export_type es) (machine c (with_opaque (OfUser user name) (entry_type a) s) now)) roles.0.2
+    ∙ (exported w user es roles.1 c (with_opaque (OfUser user name) (function_type [] []) s) now
+    ∙ ap (λ t. machine c t now) (exporting-next user (name, exports.WorldFunc (keys.Name text) function abi) es s))
+exported w user ((name, role) ∷ es) roles c s now = absurd roles.0
+
+exported_at : (w : ComponentWorld) (user : ℕ) (es : List (List ℕ × WorldExport)) → AllByRecursion (λ e. IsExportRole w e.1) es → (c : Scope) (s : Store) (now : Now) →
+    exported_by user (map export_type es) (machine c s now) ≡ exports_from (length s.code.functions) es
+exported_at w user [] roles c s now = refl
+exported_at w user ((name, exports.WorldFunc (keys.Name text) function abi) ∷ es) roles c s now =
+    ap (λ l. record { space = spaces.CoreFunc; name = name; address = length s.code.functions } ∷ l) (
+    ap (λ (a : AbiVariant). exported_by user (map export_type es) (machine c (with_opaque (OfUser user name) (entry_type a) s) now)) roles.0.2
+    ∙ (exported_at w user es roles.1 c (with_opaque (OfUser user name) (function_type [] []) s) now
+    ∙ ap (λ n. exports_from n es) (longer s.code.functions (Opaque (length s.known) (function_type [] [])))))
+exported_at w user ((name, role) ∷ es) roles c s now = absurd roles.0
+
 -- what a user instance exports stands at the addresses that it was given
-user_exports : (w : ComponentWorld) (s : Store) (user : ℕ) (before : List CoreItem) (es : List (List ℕ × WorldExport)) → AllByRecursion (λ e. IsExportRole w e.1) es → s.core ≡ before ++ map (λ (e : ExportType). OfUser user e.name) (map export_type es) →
-    AllByRecursion (IsUserExport s user) (exported_from (length before) (map export_type es))
-user_exports w s user before [] roles e = tt
-user_exports w s user before ((name, exports.WorldFunc (keys.Name text) function abi) ∷ es) roles e =
-    let more : List CoreItem = map (λ (x : ExportType). OfUser user x.name) (map export_type es) in
-    let next : s.core ≡ (before ++ OfUser user name ∷ []) ++ more = e ∙ sym (append_assoc before (OfUser user name ∷ []) more) in
-    let counted : length (before ++ OfUser user name ∷ []) ≡ suc (length before) = length-append before (OfUser user name ∷ []) ∙ add-one (length before) in (
-      (refl, ap (λ l. slice_get l (length before)) e ∙ slice_get-middle before (OfUser user name) more),
-      subst (λ n. AllByRecursion (IsUserExport s user) (exported_from n (map export_type es))) counted (user_exports w s user (before ++ OfUser user name ∷ []) es roles.1 next),
+user_exports : (s : Store) (user : ℕ) (fs : List Func) (ks : List CoreItem) (es : List (List ℕ × WorldExport)) → s.code.functions ≡ fs ++ opaques (length ks) es → s.known ≡ ks ++ of_user user es →
+    AllByRecursion (IsUserExport s user) (exports_from (length fs) es)
+user_exports s user fs ks [] functions known = tt
+user_exports s user fs ks (e ∷ es) functions known =
+    let o : Func = Opaque (length ks) (function_type [] []) in
+    let item : CoreItem = OfUser user e.0 in (
+      (
+        refl,
+        record {
+          what = length ks;
+          signature = function_type [] [];
+          stands = ap (λ l. slice_get l (length fs)) functions ∙ slice_get-middle fs o (opaques (suc (length ks)) es);
+          known = ap (λ l. slice_get l (length ks)) known ∙ slice_get-middle ks item (of_user user es);
+        },
+      ),
+      subst (λ n. AllByRecursion (IsUserExport s user) (exports_from n es)) (longer fs o)
+          (user_exports s user (fs ++ o ∷ []) (ks ++ item ∷ []) es (functions ∙ sym (opaques-next fs ks item es)) (known ∙ sym (append_assoc ks (item ∷ []) (of_user user es)))),
     )
-user_exports w s user before ((name, role) ∷ es) roles e = absurd roles.0
 
 or_true : (b c : Bool) → c ≡ true → (b || c) ≡ true
 or_true true c e = refl
@@ -159,7 +226,7 @@ fields_apart w [] h = tt
 fields_apart w ((name, instances.Names fields) ∷ gs) h = (h.0.0, fields_apart w gs h.1)
 fields_apart w ((name, instances.Whole which) ∷ gs) h = absurd h.0
 
-export_names : (k : ℕ) (es : List (List ℕ × WorldExport)) → map (λ (e : Export). e.name) (exported_from k (map export_type es)) ≡ map (λ e. e.0) es
+export_names : (k : ℕ) (es : List (List ℕ × WorldExport)) → map (λ (e : Export). e.name) (exports_from k es) ≡ map (λ e. e.0) es
 export_names k [] = refl
 export_names k (e ∷ es) = ap (λ l. e.0 ∷ l) (export_names (suc k) es)
 
@@ -195,54 +262,58 @@ module _ {w : ComponentWorld} {earlier : List Def} {c : Scope} {s : Store} (a : 
   pub step_type : Steps w earlier c s (defs.Item (items.Type (types.Func plain_function)))
   step_type =
       let t : Thing = record { space = spaces.Type; address = length s.types } in
-      let s' : Store = record s { types = s.types ++ FunctionType ∷ [] } in
+      let s' : Store = record s { types = s.types ++ FunctionType plain_function ∷ [] } in
       let k : Keeps c.items (c.items ++ t ∷ []) s s' = record {
         things = λ space i x e. address_at-append c.items (t ∷ []) space i x e;
-        core = λ i x e. e;
+        code = λ i x e. e;
+        known = λ i x e. e;
         instances = λ i x e. e;
         functions = λ i x e. e;
-        types = λ i x e. slice_get-append s.types (FunctionType ∷ []) i x e;
+        types = λ i x e. slice_get-append s.types (FunctionType plain_function ∷ []) i x e;
         users = λ i x e. e;
       } in (
         with_thing c t,
         s',
         record { goes = λ e u questions rest h now. h now },
-        agrees_plain (defs.Item (items.Type (types.Func plain_function))) s' t k (record { space = refl; is = slice_get-end s.types FunctionType }) refl refl refl refl refl,
+        agrees_plain (defs.Item (items.Type (types.Func plain_function))) s' t k (record { space = refl; is = slice_get-end s.types (FunctionType plain_function) }) refl refl refl refl refl,
       )
 
   -- the type of this index is one of functions
-  type_there : {index : ℕ} → IsFunctionType earlier index → (x : ℕ) × (address_at spaces.Type index c.items ≡ Some x) × (slice_get s.types x ≡ Some FunctionType)
+  type_there : {index : ℕ} → IsFunctionType earlier index → (x : ℕ) × (address_at spaces.Type index c.items ≡ Some x) × (slice_get s.types x ≡ Some (FunctionType plain_function))
   type_there h = thing_there a h.made
 
   pub step_import : (name : ExternName) (kind : ℕ) → IsFunctionType earlier kind → Steps w earlier c s (defs.Item (items.Import name (descriptions.Func kind)))
   step_import name kind h =
       let d : Def = defs.Item (items.Import name (descriptions.Func kind)) in
       let t : Thing = record { space = spaces.Func; address = length s.functions } in
-      let s' : Store = record s { functions = s.functions ++ Imported (name.name ∷ []) ∷ [] } in
+      let s' : Store = record s { functions = s.functions ++ Imported (name.name ∷ []) plain_function ∷ [] } in
       let k : Keeps c.items (c.items ++ t ∷ []) s s' = record {
         things = λ space i x e. address_at-append c.items (t ∷ []) space i x e;
-        core = λ i x e. e;
+        code = λ i x e. e;
+        known = λ i x e. e;
         instances = λ i x e. e;
-        functions = λ i x e. slice_get-append s.functions (Imported (name.name ∷ []) ∷ []) i x e;
+        functions = λ i x e. slice_get-append s.functions (Imported (name.name ∷ []) plain_function ∷ []) i x e;
         types = λ i x e. e;
         users = λ i x e. e;
       } in
-      let y : (x : ℕ) × (address_at spaces.Type kind c.items ≡ Some x) × (slice_get s.types x ≡ Some FunctionType) = type_there h in (
+      let y : (x : ℕ) × (address_at spaces.Type kind c.items ≡ Some x) × (slice_get s.types x ≡ Some (FunctionType plain_function)) = type_there h in (
         with_thing c t,
         s',
         record { goes = λ e u questions rest g now. rw (y.1, y.2) (g now) },
-        agrees_plain d s' t k (record { space = refl; is = slice_get-end s.functions (Imported (name.name ∷ [])) }) refl refl refl refl refl,
+        agrees_plain d s' t k (record { space = refl; is = slice_get-end s.functions (Imported (name.name ∷ []) plain_function) }) refl refl refl refl refl,
       )
 
   pub step_lower : (function : ℕ) → function < items_in spaces.Func earlier → Steps w earlier c s (defs.Item (items.Lower function []))
   step_lower function l =
       let d : Def = defs.Item (items.Lower function []) in
-      let x : (x : ℕ) × (address_at spaces.Func function c.items ≡ Some x) = address_there a spaces.Func function l in
-      let t : Thing = record { space = spaces.CoreFunc; address = length s.core } in
-      let s' : Store = record s { core = s.core ++ Lowering x.0 [] ∷ [] } in
+      let x : (x : ℕ) × (address_at spaces.Func function c.items ≡ Some x) × IsPlainFunction s x = function_there a function l in
+      let t : Thing = record { space = spaces.CoreFunc; address = length s.code.functions } in
+      let item : CoreItem = Lowering x.0 [] in
+      let s' : Store = with_opaque item (function_type [] []) s in
       let k : Keeps c.items (c.items ++ t ∷ []) s s' = record {
         things = λ space i y e. address_at-append c.items (t ∷ []) space i y e;
-        core = λ i y e. slice_get-append s.core (Lowering x.0 [] ∷ []) i y e;
+        code = λ i y e. slice_get-append s.code.functions (Opaque (length s.known) (function_type [] []) ∷ []) i y e;
+        known = λ i y e. slice_get-append s.known (item ∷ []) i y e;
         instances = λ i y e. e;
         functions = λ i y e. e;
         types = λ i y e. e;
@@ -250,29 +321,32 @@ module _ {w : ComponentWorld} {earlier : List Def} {c : Scope} {s : Store} (a : 
       } in (
         with_thing c t,
         s',
-        record { goes = λ e u questions rest g now. rw x.1 (g now) },
-        agrees_plain d s' t k (record { space = refl; is = record { of = x.0; at = address_at-append c.items (t ∷ []) spaces.Func function x.0 x.1; is = slice_get-end s.core (Lowering x.0 []) } }) refl refl refl refl refl,
+        record { goes = λ e u questions rest g now. rw (x.1, plain_lowered (machine c s now) x.0 x.2) (g now) },
+        agrees_plain d s' t k
+            (record { space = refl; is = record { of = x.0; at = address_at-append c.items (t ∷ []) spaces.Func function x.0 x.1; is = opaque_there item (function_type [] []) s } })
+            refl refl refl refl refl,
       )
 
   pub step_lift : (core kind : ℕ) → core < items_in spaces.CoreFunc earlier → IsFunctionType earlier kind → Steps w earlier c s (defs.Item (items.Lift core [] kind))
   step_lift core kind l h =
       let d : Def = defs.Item (items.Lift core [] kind) in
       let x : (x : ℕ) × (address_at spaces.CoreFunc core c.items ≡ Some x) = address_there a spaces.CoreFunc core l in
-      let y : (x : ℕ) × (address_at spaces.Type kind c.items ≡ Some x) × (slice_get s.types x ≡ Some FunctionType) = type_there h in
+      let y : (x : ℕ) × (address_at spaces.Type kind c.items ≡ Some x) × (slice_get s.types x ≡ Some (FunctionType plain_function)) = type_there h in
       let t : Thing = record { space = spaces.Func; address = length s.functions } in
-      let s' : Store = record s { functions = s.functions ++ Lifting x.0 [] ∷ [] } in
+      let s' : Store = record s { functions = s.functions ++ Lifting x.0 [] plain_function ∷ [] } in
       let k : Keeps c.items (c.items ++ t ∷ []) s s' = record {
         things = λ space i y e. address_at-append c.items (t ∷ []) space i y e;
-        core = λ i y e. e;
+        code = λ i y e. e;
+        known = λ i y e. e;
         instances = λ i y e. e;
-        functions = λ i y e. slice_get-append s.functions (Lifting x.0 [] ∷ []) i y e;
+        functions = λ i y e. slice_get-append s.functions (Lifting x.0 [] plain_function ∷ []) i y e;
         types = λ i y e. e;
         users = λ i y e. e;
       } in (
         with_thing c t,
         s',
         record { goes = λ e u questions rest g now. rw (x.1, y.1, y.2) (g now) },
-        agrees_plain d s' t k (record { space = refl; is = record { of = x.0; at = address_at-append c.items (t ∷ []) spaces.CoreFunc core x.0 x.1; is = slice_get-end s.functions (Lifting x.0 []) } }) refl refl refl refl refl,
+        agrees_plain d s' t k (record { space = refl; is = record { of = x.0; at = address_at-append c.items (t ∷ []) spaces.CoreFunc core x.0 x.1; is = slice_get-end s.functions (Lifting x.0 [] plain_function) } }) refl refl refl refl refl,
       )
 
   pub step_bag : (entries : List CoreInlineExport) → AreEntries earlier entries → Steps w earlier c s (defs.Item (items.CoreExports entries))
@@ -288,7 +362,8 @@ module _ {w : ComponentWorld} {earlier : List Def} {c : Scope} {s : Store} (a : 
       let s' : Store = record s { core_instances = s.core_instances ++ found.0 ∷ [] } in
       let k : Keeps c.items (c.items ++ t ∷ []) s s' = record {
         things = λ space i y e. address_at-append c.items (t ∷ []) space i y e;
-        core = λ i y e. e;
+        code = λ i y e. e;
+        known = λ i y e. e;
         instances = λ i y e. slice_get-append s.core_instances (found.0 ∷ []) i y e;
         functions = λ i y e. e;
         types = λ i y e. e;
@@ -320,7 +395,8 @@ module _ {w : ComponentWorld} {earlier : List Def} {c : Scope} {s : Store} (a : 
       let t : Thing = record { space = spaces.CoreFunc; address = x.0.address } in
       let k : Keeps c.items (c.items ++ t ∷ []) s s = record {
         things = λ space i y e. address_at-append c.items (t ∷ []) space i y e;
-        core = λ i y e. e;
+        code = λ i y e. e;
+        known = λ i y e. e;
         instances = λ i y e. e;
         functions = λ i y e. e;
         types = λ i y e. e;
@@ -354,7 +430,8 @@ module _ {w : ComponentWorld} {earlier : List Def} {c : Scope} {s : Store} (a : 
       let c' : Scope = record c { items = c.items ++ t ∷ []; exports = c.exports ++ x ∷ [] } in
       let k : Keeps c.items (c.items ++ t ∷ []) s s = record {
         things = λ space i y e. address_at-append c.items (t ∷ []) space i y e;
-        core = λ i y e. e;
+        code = λ i y e. e;
+        known = λ i y e. e;
         instances = λ i y e. e;
         functions = λ i y e. e;
         types = λ i y e. e;
@@ -364,7 +441,8 @@ module _ {w : ComponentWorld} {earlier : List Def} {c : Scope} {s : Store} (a : 
         c',
         s,
         record { goes = λ e u questions rest g now. rw f.1 (g now) },
-        agrees_with d c' s t refl k (record { space = refl; is = address_at-append c.items (t ∷ []) spaces.Func index f.0 f.1 })
+        agrees_with d c' s t refl k
+            (record { space = refl; is = (address_at-append c.items (t ∷ []) spaces.Func index f.0 f.1, record { function = Lifting f.2.core [] plain_function; stands = f.2.is; plain = refl }) })
             (rw (filter-push (is_of spaces.CoreModule) false c.items t refl) a.modules)
             (sym (append-nil (map (λ (u : UserInstance). u.module_number) s.users)))
             a.served
@@ -379,7 +457,8 @@ module _ {w : ComponentWorld} {earlier : List Def} {c : Scope} {s : Store} (a : 
       let s' : Store = record s { core_modules = s.core_modules ++ bytes ∷ [] } in
       let k : Keeps c.items (c.items ++ t ∷ []) s s' = record {
         things = λ space i y e. address_at-append c.items (t ∷ []) space i y e;
-        core = λ i y e. e;
+        code = λ i y e. e;
+        known = λ i y e. e;
         instances = λ i y e. e;
         functions = λ i y e. e;
         types = λ i y e. e;
@@ -423,20 +502,20 @@ module _ {w : ComponentWorld} {earlier : List Def} {c : Scope} {s : Store} (a : 
   pub step_instantiate : IsWorld w → (number : ℕ) (arguments : List CoreArgument) → InstantiatesMain w earlier number arguments → Steps w earlier c s (defs.Item (items.CoreInstantiate number arguments))
   step_instantiate ok number arguments h =
       let d : Def = defs.Item (items.CoreInstantiate 0 arguments) in
-      let exports : List ExportType = map export_type w.main.exports.exports in
+      let es : List (List ℕ × WorldExport) = w.main.exports.exports in
       let user : ℕ = length s.users in
       let args : (ys : List (List ℕ × List Export)) × (all_some (map (core_argument (machine c s no_answers)) arguments) ≡ Some ys) × AllZip (IsOffered s) ys w.main.imports.modules =
       arguments_there a (machine c s no_answers) refl refl arguments w.main.imports.modules h.each in
       let given : (ts : List Thing) × (all_some (map (given_to args.0) (map import_type (core_imports w))) ≡ Some ts) × AllZip (IsPlanned s) ts (core_imports w) =
       given_there s args.0 w.main.imports.modules args.2 ok.modules_apart (fields_apart w w.main.imports.modules ok.import_roles) in
       let instance : UserInstance = record { module_number = 0; given = given.0 } in
-      let own : List Export = exported_from (length s.core) exports in
-      let more : List CoreItem = map (λ (e : ExportType). OfUser user e.name) exports in
+      let own : List Export = exports_from (length s.code.functions) es in
       let t : Thing = record { space = spaces.CoreInstance; address = length s.core_instances } in
-      let s' : Store = record s { core = s.core ++ more; core_instances = s.core_instances ++ own ∷ []; users = s.users ++ instance ∷ [] } in
+      let s' : Store = record (exporting user es s) { core_instances = s.core_instances ++ own ∷ []; users = s.users ++ instance ∷ [] } in
       let k : Keeps c.items (c.items ++ t ∷ []) s s' = record {
         things = λ space i y e. address_at-append c.items (t ∷ []) space i y e;
-        core = λ i y e. slice_get-append s.core more i y e;
+        code = λ i y e. slice_get-append s.code.functions (opaques (length s.known) es) i y e;
+        known = λ i y e. slice_get-append s.known (of_user user es) i y e;
         instances = λ i y e. slice_get-append s.core_instances (own ∷ []) i y e;
         functions = λ i y e. e;
         types = λ i y e. e;
@@ -445,15 +524,15 @@ module _ {w : ComponentWorld} {earlier : List Def} {c : Scope} {s : Store} (a : 
       let scoped : 0 < items_in spaces.CoreModule earlier = subst (λ n. n < items_in spaces.CoreModule earlier) h.main h.scoped in
       let planned : AllByRecursion (IsPlannedUser w s') (s.users ++ instance ∷ []) =
       AllByRecursion-push (IsPlannedUser w s') s.users instance (AllByRecursion-weaker (IsPlannedUser-kept w k) s.users a.served) (IsPlannedUser-kept w k instance given.2) in
+      let new : (now : Now) → new_user 0 (map export_type es) given.0 (machine c s now) ≡ machine (with_thing c t) s' now = λ now.
+      ap₂ (λ l m. new_core_instance l (with_user 0 given.0 m)) (exported_at w user es ok.export_roles c s now) (exported w user es ok.export_roles c s now) in
       let steps : Steps w earlier c s d = (
         with_thing c t,
         s',
         record {
           goes = λ e u questions rest g now. rw (first_address scoped, args.1, given.1) (
-              good_answered e u questions now.answers _ _
-              (λ values cell left after scope store answers.
-              subst (λ (m : Machine). IsGood e u questions left (run (module_meanings w) rest (new_user 0 exports given.0 m))) (after_is c s after scope store)
-              (subst (λ l. IsGood e u questions l (run (module_meanings w) rest (machine (with_thing c t) s' after.now))) answers (g after.now))));
+              good_answered e u questions now.answers (seen now (Instantiated 0)) (machine c s now) _
+              (λ values after. subst (λ (m : Machine). IsGood e u questions after.answers (run (module_meanings w) rest m)) (sym (new after)) (g after)));
         },
         agrees_with d (with_thing c t) s' t refl k
             (record {
@@ -463,8 +542,8 @@ module _ {w : ComponentWorld} {earlier : List Def} {c : Scope} {s : Store} (a : 
                 user = user;
                 stands = slice_get-end s.core_instances own;
                 is = record { instance = instance; stands = slice_get-end s.users instance; of = refl };
-                names = export_names (length s.core) w.main.exports.exports;
-                each = user_exports w s' user s.core w.main.exports.exports ok.export_roles refl;
+                names = export_names (length s.code.functions) es;
+                each = user_exports s' user s.code.functions s.known es refl refl;
               };
             })
             (rw (filter-push (is_of spaces.CoreModule) false c.items t refl) a.modules)

@@ -22,14 +22,18 @@ use Rattle.comp_worlds.specs.CoreImports.{CoreImport}
 use Rattle.comp_worlds.specs.Worlds.{core_imports, core_name_of, imported_name}
 use Rattle.comp_worlds.specs.declared.world.ComponentWorld.{ComponentWorld}
 use Rattle.comp_shims.specs.Targets.{Main, Lifted}
+use Rattle.core_runs.specs.Store.{Func, Opaque}
 use Rattle.comp_shims.specs.Store.{Thing, Export, CoreItem, Lowering, OfUser, Function, Imported, Lifting, TypeItem, FunctionType, UserInstance, Store}
+use Rattle.comp_state.specs.Facts.{plain_function}
 use Rattle.comp_encoder.specs.Machine.{Scope, address_at, is_of, export_named}
+use Rattle.comp_encoder.specs.Running.{type_of_function}
+use Rattle.comp_encoder.specs.Meeting.{IsOpaque}
 use Rattle.comp_encoder.specs.Linking.{def_instantiates}
 use Rattle.comp_encoder.proofs.Zips.{mapped_some}
 
 -- an export of this user instance
 abbrev pub IsUserExport : Store → ℕ → Export → Type 0
-IsUserExport s user e = (e.space ≡ spaces.CoreFunc) × (slice_get s.core e.address ≡ Some (OfUser user e.name))
+IsUserExport s user e = (e.space ≡ spaces.CoreFunc) × IsOpaque s e.address (OfUser user e.name)
 
 -- the user instance of this number is one of this module
 pub record IsInstanceOf (s : Store) (user number : ℕ) : Type 0 where
@@ -60,12 +64,12 @@ pub record IsBag (things : List Thing) (s : Store) (entries : List CoreInlineExp
 pub record IsLoweredItem (things : List Thing) (s : Store) (function address : ℕ) : Type 0 where
   pub of : ℕ
   pub at : address_at spaces.Func function things ≡ Some of
-  pub is : slice_get s.core address ≡ Some (Lowering of [])
+  pub is : IsOpaque s address (Lowering of [])
 
 pub record IsLiftedItem (things : List Thing) (s : Store) (core address : ℕ) : Type 0 where
   pub of : ℕ
   pub at : address_at spaces.CoreFunc core things ≡ Some of
-  pub is : slice_get s.functions address ≡ Some (Lifting of [])
+  pub is : slice_get s.functions address ≡ Some (Lifting of [] plain_function)
 
 pub record IsAliasedItem (things : List Thing) (s : Store) (instance : ℕ) (name : List ℕ) (address : ℕ) : Type 0 where
   pub from : ℕ
@@ -76,17 +80,23 @@ pub record IsAliasedItem (things : List Thing) (s : Store) (instance : ℕ) (nam
   pub found : export_named name exports ≡ Some export
   pub is : export.address ≡ address
 
+-- the function at this address is a plain one
+pub record IsPlainFunction (s : Store) (address : ℕ) : Type 0 where
+  pub function : Function
+  pub stands : slice_get s.functions address ≡ Some function
+  pub plain : type_of_function function ≡ plain_function
+
 -- what stands at the address of a definition's item
 abbrev pub ItemIs : ComponentWorld → List Thing → Store → Item → ℕ → Type 0
 ItemIs w things s (items.CoreModule bytes) a = Unit {0}
 ItemIs w things s (items.CoreInstantiate number arguments) a = IsUserInstance w s 0 a
 ItemIs w things s (items.CoreExports entries) a = IsBag things s entries a
 ItemIs w things s (items.Alias (aliases.CoreExport kinds.Func instance name)) a = IsAliasedItem things s instance name a
-ItemIs w things s (items.Type t) a = slice_get s.types a ≡ Some FunctionType
+ItemIs w things s (items.Type t) a = slice_get s.types a ≡ Some (FunctionType plain_function)
 ItemIs w things s (items.Lift core options kind) a = IsLiftedItem things s core a
 ItemIs w things s (items.Lower function options) a = IsLoweredItem things s function a
-ItemIs w things s (items.Import name (descriptions.Func kind)) a = slice_get s.functions a ≡ Some (Imported (name.name ∷ []))
-ItemIs w things s (items.Export name sorts.Func index description) a = address_at spaces.Func index things ≡ Some a
+ItemIs w things s (items.Import name (descriptions.Func kind)) a = slice_get s.functions a ≡ Some (Imported (name.name ∷ []) plain_function)
+ItemIs w things s (items.Export name sorts.Func index description) a = (address_at spaces.Func index things ≡ Some a) × IsPlainFunction s a
 ItemIs w things s _ a = ⊥
 
 abbrev pub DefIs : ComponentWorld → List Thing → Store → Def → ℕ → Type 0
@@ -105,8 +115,8 @@ makes d = is_some (space_of d)
 -- the core function is a lowering of the root function of this name
 pub record IsServedBy (s : Store) (address : ℕ) (text : List ℕ) : Type 0 where
   pub of : ℕ
-  pub is : slice_get s.core address ≡ Some (Lowering of [])
-  pub imported : slice_get s.functions of ≡ Some (Imported (text ∷ []))
+  pub is : IsOpaque s address (Lowering of [])
+  pub imported : slice_get s.functions of ≡ Some (Imported (text ∷ []) plain_function)
 
 abbrev pub IsServedAs : Store → ℕ → Option (List ℕ) → Type 0
 IsServedAs s address None = ⊥
@@ -122,13 +132,13 @@ IsPlannedUser w s u = AllZip (IsPlanned s) u.given (core_imports w)
 -- the core function is main's export of this name
 pub record IsMainExport (s : Store) (address : ℕ) (name : List ℕ) : Type 0 where
   pub user : ℕ
-  pub is : slice_get s.core address ≡ Some (OfUser user name)
+  pub is : IsOpaque s address (OfUser user name)
   pub of : IsInstanceOf s user 0
 
 -- the function is lifted from main's export of this name
 pub record IsLiftedFrom (s : Store) (address : ℕ) (name : List ℕ) : Type 0 where
   pub core : ℕ
-  pub is : slice_get s.functions address ≡ Some (Lifting core [])
+  pub is : slice_get s.functions address ≡ Some (Lifting core [] plain_function)
   pub of : IsMainExport s core name
 
 -- the export is a lift of the core export that is for it
@@ -155,7 +165,8 @@ pub record Agrees (w : ComponentWorld) (earlier : List Def) (c : Scope) (s : Sto
 -- what stood stands
 pub record Keeps (a b : List Thing) (s t : Store) : Type 0 where
   pub things : (space : Space) (i x : ℕ) → address_at space i a ≡ Some x → address_at space i b ≡ Some x
-  pub core : (i : ℕ) (x : CoreItem) → slice_get s.core i ≡ Some x → slice_get t.core i ≡ Some x
+  pub code : (i : ℕ) (x : Func) → slice_get s.code.functions i ≡ Some x → slice_get t.code.functions i ≡ Some x
+  pub known : (i : ℕ) (x : CoreItem) → slice_get s.known i ≡ Some x → slice_get t.known i ≡ Some x
   pub instances : (i : ℕ) (x : List Export) → slice_get s.core_instances i ≡ Some x → slice_get t.core_instances i ≡ Some x
   pub functions : (i : ℕ) (x : Function) → slice_get s.functions i ≡ Some x → slice_get t.functions i ≡ Some x
   pub types : (i : ℕ) (x : TypeItem) → slice_get s.types i ≡ Some x → slice_get t.types i ≡ Some x
@@ -171,21 +182,28 @@ module _ {a b : List Thing} {s t : Store} (k : Keeps a b s t) where
   pub IsInstanceOf-kept : {user number : ℕ} → IsInstanceOf s user number → IsInstanceOf t user number
   IsInstanceOf-kept {user} h = record { instance = h.instance; stands = k.users user h.instance h.stands; of = h.of }
 
+  pub IsOpaque-kept : {address : ℕ} {item : CoreItem} → IsOpaque s address item → IsOpaque t address item
+  IsOpaque-kept {address} {item} h =
+      record { what = h.what; signature = h.signature; stands = k.code address (Opaque h.what h.signature) h.stands; known = k.known h.what item h.known }
+
+  IsPlainFunction-kept : (address : ℕ) → IsPlainFunction s address → IsPlainFunction t address
+  IsPlainFunction-kept address h = record { function = h.function; stands = k.functions address h.function h.stands; plain = h.plain }
+
   exports-kept : (user : ℕ) (e : Export) → IsUserExport s user e → IsUserExport t user e
-  exports-kept user e h = (h.0, k.core e.address (OfUser user e.name) h.1)
+  exports-kept user e h = (h.0, IsOpaque-kept h.1)
 
   entry-kept : (e : CoreInlineExport) (x : Export) → IsNamedEntry a e x → IsNamedEntry b e x
   entry-kept e x h = record { named = h.named; space = h.space; at = k.things (kind_space e.kind) e.index x.address h.at }
 
   IsServedAs-kept : (address : ℕ) (o : Option (List ℕ)) → IsServedAs s address o → IsServedAs t address o
   IsServedAs-kept address None h = h
-  IsServedAs-kept address (Some name) h = record { of = h.of; is = k.core address (Lowering h.of []) h.is; imported = k.functions h.of (Imported (name ∷ [])) h.imported }
+  IsServedAs-kept address (Some name) h = record { of = h.of; is = IsOpaque-kept h.is; imported = k.functions h.of (Imported (name ∷ []) plain_function) h.imported }
 
   IsPlanned-kept : (x : Thing) (i : CoreImport) → IsPlanned s x i → IsPlanned t x i
   IsPlanned-kept x i h = (h.0, IsServedAs-kept x.address (imported_name i.role) h.1)
 
   pub IsMainExport-kept : {address : ℕ} {name : List ℕ} → IsMainExport s address name → IsMainExport t address name
-  IsMainExport-kept {address} {name} h = record { user = h.user; is = k.core address (OfUser h.user name) h.is; of = IsInstanceOf-kept h.of }
+  IsMainExport-kept {address} {name} h = record { user = h.user; is = IsOpaque-kept h.is; of = IsInstanceOf-kept h.of }
 
 module _ (w : ComponentWorld) {a b : List Thing} {s t : Store} (k : Keeps a b s t) where
   instance-kept : (number address : ℕ) → IsUserInstance w s number address → IsUserInstance w t number address
@@ -211,11 +229,11 @@ module _ (w : ComponentWorld) {a b : List Thing} {s t : Store} (k : Keeps a b s 
     found = h.found;
     is = h.is;
   }
-  item-kept (items.Type type) x h = k.types x FunctionType h
-  item-kept (items.Lift core options kind) x h = record { of = h.of; at = k.things spaces.CoreFunc core h.of h.at; is = k.functions x (Lifting h.of []) h.is }
-  item-kept (items.Lower function options) x h = record { of = h.of; at = k.things spaces.Func function h.of h.at; is = k.core x (Lowering h.of []) h.is }
-  item-kept (items.Import name (descriptions.Func kind)) x h = k.functions x (Imported (name.name ∷ [])) h
-  item-kept (items.Export name sorts.Func index description) x h = k.things spaces.Func index x h
+  item-kept (items.Type type) x h = k.types x (FunctionType plain_function) h
+  item-kept (items.Lift core options kind) x h = record { of = h.of; at = k.things spaces.CoreFunc core h.of h.at; is = k.functions x (Lifting h.of [] plain_function) h.is }
+  item-kept (items.Lower function options) x h = record { of = h.of; at = k.things spaces.Func function h.of h.at; is = IsOpaque-kept k h.is }
+  item-kept (items.Import name (descriptions.Func kind)) x h = k.functions x (Imported (name.name ∷ []) plain_function) h
+  item-kept (items.Export name sorts.Func index description) x h = (k.things spaces.Func index x h.0, IsPlainFunction-kept k x h.1)
   item-kept _ x h = h
 
   def-kept : (d : Def) (x : ℕ) → DefIs w a s d x → DefIs w b t d x
@@ -233,5 +251,5 @@ module _ (w : ComponentWorld) {a b : List Thing} {s t : Store} (k : Keeps a b s 
     name = h.name;
     space = h.space;
     said = h.said;
-    is = record { core = h.is.core; is = k.functions e.address (Lifting h.is.core []) h.is.is; of = IsMainExport-kept k h.is.of };
+    is = record { core = h.is.core; is = k.functions e.address (Lifting h.is.core [] plain_function) h.is.is; of = IsMainExport-kept k h.is.of };
   }

@@ -1,5 +1,5 @@
 -- Worked examples: worlds, lists of definitions, and how running them ends.
-use Rattle.std.proofs.Common.{◌≡◌, ℕ, List, [], ◌∷◌, refl, sym, ap, subst, ◌∙◌, Bool, true≢false, Option, Some, None, false, map, take, arith}
+use Rattle.std.proofs.Common.{◌≡◌, ℕ, zero, suc, List, [], ◌∷◌, refl, sym, ap, subst, ◌∙◌, Bool, true, false, true≢false, Option, Some, None, map, take, arith}
 use Rattle.std.proofs.lemmas.Option.{same_Some}
 use Rattle.std.specs.List.{slice_get}
 use Rattle.std.specs.Str.{bytes_eq}
@@ -10,6 +10,9 @@ use Rattle.comp_bytes.specs.declared.space.Space.TheVariants as spaces
 use Rattle.comp_bytes.specs.declared.types.TypeDef.TheVariants as types
 use Rattle.comp_bytes.specs.declared.types.Description.TheVariants as descriptions
 use Rattle.comp_bytes.specs.declared.types.Alias.TheVariants as aliases
+use Rattle.comp_bytes.specs.declared.types.ComponentValType.TheVariants as values
+use Rattle.comp_bytes.specs.declared.types.Primitive.TheVariants as primitives
+use Rattle.comp_bytes.specs.declared.canon.Intrinsic.TheVariants as intrinsics
 use Rattle.comp_bytes.specs.declared.def.Item.{Item}
 use Rattle.comp_bytes.specs.declared.def.Item.TheVariants as items
 use Rattle.comp_bytes.specs.declared.def.Def.{Def}
@@ -32,16 +35,27 @@ use Rattle.comp_worlds.specs.declared.imports.ImportInstance.TheVariants as inst
 use Rattle.comp_worlds.specs.declared.exports.Export.{Export as WorldExport}
 use Rattle.comp_worlds.specs.declared.exports.Export.TheVariants as exports
 use Rattle.comp_worlds.specs.declared.world.ComponentWorld.{ComponentWorld}
-use Rattle.comp_shims.specs.Answers.{Answer, Gives, Traps, Event, Instantiated, Called, I32Value}
-use Rattle.comp_shims.specs.Store.{Thing, Export, CoreItem, Lowering, OfUser, Function, Imported, Lifting, UserInstance, Store}
+use Rattle.core_bytes.specs.declared.types.ValType.TheVariants.{I32, I64}
+use Rattle.core_bytes.specs.declared.types.RefType.TheVariants.{FuncRef}
+use Rattle.core_bytes.specs.declared.types.FuncType.{FuncType}
+use Rattle.core_bytes.specs.declared.types.MemoryType.{MemoryType}
+use Rattle.comp_worlds.specs.declared.offered.ExternType.{ExternType}
+use Rattle.comp_worlds.specs.declared.offered.ExternType.TheVariants as externs
+use Rattle.core_runs.specs.Values.{I32Value}
+use Rattle.core_runs.specs.Store.{Store as CodeStore, Func, Opaque, Cell, Foreign, Answer, Gives, Traps, Event, Instantiated, Called}
+use Rattle.core_runs.specs.Execution.{exec, acts}
+use Rattle.comp_shims.specs.Store.{Thing, Export, CoreItem, Lowering, IntrinsicOf, OfUser, Function, Imported, Lifting, UserInstance, Store}
 use Rattle.comp_bytes.specs.Places.{in_space}
-use Rattle.comp_state.specs.Facts.{IsFunctionType, IsImported, IsLowered, IsArgumentFor, IsMain, IsLiftFor}
+use Rattle.comp_state.specs.Facts.{plain_function, IsFunctionType, IsImported, IsLowered, IsArgumentFor, IsMain, IsLiftFor}
 use Rattle.std.specs.List.{IsDistinct}
 use Rattle.comp_state.specs.Rules.{IsBuilt}
-use Rattle.comp_encoder.specs.Machine.{Machine, Outcome, Done, Trapped, Open, Stuck, acts}
+use Rattle.comp_encoder.specs.Machine.{Machine, Outcome, Done, Trapped, Open, Stuck, new_core_function, resumed}
+use Rattle.comp_encoder.specs.Instances.{ExportType, new_user}
+use Rattle.comp_encoder.specs.Signatures.{function_type}
 use Rattle.comp_shims.specs.Targets.{OfRoot, Lowered}
 use Rattle.comp_encoder.specs.Meeting.{CoreMeets, CoreFunctionMeets}
 use Rattle.comp_encoder.specs.Linking.{outcome, IsLinked}
+use Rattle.comp_encoder.specs.Running.{fresh_machine}
 
 -- a world of root functions: those that it imports and exports, what main imports, and what main exports
 abbrev entry : List ℕ → WorldKey × WorldItem
@@ -75,17 +89,26 @@ root_world bytes imported exported groups core_exports = whole_of (record {
   can_use_context_slot_1 = false;
 })
 
--- how a run ended: the core items, the functions, what each user instance was given, the exports, the events
+-- how a run ended: the core functions, what is known of them, the functions, what each user instance was given, the exports, the events
 pub record Ended : Type 0 where
-  pub core : List CoreItem
+  pub code : List Func
+  pub known : List CoreItem
   pub functions : List Function
   pub users : List UserInstance
   pub exported : List Export
   pub events : List Event
 
 abbrev ended : Outcome → Option Ended
-ended (Done m) = Some (record { core = m.store.core; functions = m.store.functions; users = m.store.users; exported = m.scope.exports; events = m.now.events })
+ended (Done m) = Some (record { code = m.store.code.functions; known = m.store.known; functions = m.store.functions; users = m.store.users; exported = m.scope.exports; events = m.now.events })
 ended _ = None
+
+-- opaque functions of the plain core type, by the places of what is known of them
+abbrev plain_type : FuncType
+plain_type = function_type [] []
+
+abbrev opaque_from : ℕ → ℕ → List Func
+opaque_from k zero = []
+opaque_from k (suc n) = Opaque k plain_type ∷ opaque_from (suc k) n
 
 abbrev made : List Answer
 made = Gives [] 0 ∷ []
@@ -101,8 +124,9 @@ abbrev one_each : ComponentWorld
 one_each = root_world core (f ∷ []) (g ∷ []) ((root, (f, f) ∷ []) ∷ []) ((g, g) ∷ [])
 
 pub one_each_ends : ended (outcome one_each one_import_one_export made) ≡ Some (record {
-  core = Lowering 0 [] ∷ OfUser 0 g ∷ [];
-  functions = Imported (f ∷ []) ∷ Lifting 1 [] ∷ [];
+  code = opaque_from 0 2;
+  known = Lowering 0 [] ∷ OfUser 0 g ∷ [];
+  functions = Imported (f ∷ []) plain_function ∷ Lifting 1 [] plain_function ∷ [];
   users = record { module_number = 0; given = core_function 0 ∷ [] } ∷ [];
   exported = function_export g 1 ∷ [];
   events = Instantiated 0 ∷ [];
@@ -110,7 +134,7 @@ pub one_each_ends : ended (outcome one_each one_import_one_export made) ≡ Some
 one_each_ends = refl
 
 abbrev then_calls : ℕ → Outcome → Outcome
-then_calls function (Done m) = acts [] function [] m (λ results after. Done after)
+then_calls function (Done m) = resumed (acts m.store.code function [] m.now) m (λ results after. Done after)
 then_calls function o = o
 
 -- where the outside traps, has no answer left, or answers with a value, the run isn't done
@@ -131,24 +155,46 @@ one_each_of_wrong_types = refl
 
 -- once it is done, a call of what main's import was given is seen, and nothing else
 pub one_each_called : ended (then_calls 0 (outcome one_each one_import_one_export (Gives [] 0 ∷ Gives [] 0 ∷ []))) ≡ Some (record {
-  core = Lowering 0 [] ∷ OfUser 0 g ∷ [];
-  functions = Imported (f ∷ []) ∷ Lifting 1 [] ∷ [];
+  code = opaque_from 0 2;
+  known = Lowering 0 [] ∷ OfUser 0 g ∷ [];
+  functions = Imported (f ∷ []) plain_function ∷ Lifting 1 [] plain_function ∷ [];
   users = record { module_number = 0; given = core_function 0 ∷ [] } ∷ [];
   exported = function_export g 1 ∷ [];
   events = Instantiated 0 ∷ Called 0 [] ∷ [];
 })
+unfolding acts exec
 one_each_called = refl
 
 -- a list that lacks an item is stuck
 pub nothing_to_lower : outcome one_each (defs.Item (items.Lower 0 []) ∷ []) made ≡ Stuck
 nothing_to_lower = refl
 
+-- so is a lowering of a function with a parameter, whose core type isn't known so far
+pub lowers_a_parameter : outcome one_each (map defs.Item (
+    items.Type (types.Func (record { async_ = false; params = record { name = f; ty = values.Primitive primitives.U32 } ∷ []; result = None }))
+    ∷ items.Import (plain f) (descriptions.Func 0)
+    ∷ items.Lower 0 []
+    ∷ [])) made ≡ Stuck
+lowers_a_parameter = refl
+
+-- an intrinsic is an opaque function of its core type
+pub intrinsic_ends : ended (outcome one_each (defs.Item (items.Intrinsic intrinsics.WaitableJoin) ∷ []) []) ≡ Some (record {
+  code = Opaque 0 (function_type (I32 ∷ I32 ∷ []) []) ∷ [];
+  known = IntrinsicOf intrinsics.WaitableJoin [] ∷ [];
+  functions = [];
+  users = [];
+  exported = [];
+  events = [];
+})
+intrinsic_ends = refl
+
 -- the empty module, which imports and exports nothing
 abbrev empty_module : ComponentWorld
 empty_module = root_world core_preamble [] [] [] []
 
 pub empty_module_ends : ended (outcome empty_module (map defs.Item (items.CoreModule core_preamble ∷ items.CoreInstantiate 0 [] ∷ [])) made) ≡ Some (record {
-  core = [];
+  code = [];
+  known = [];
   functions = [];
   users = record { module_number = 0; given = [] } ∷ [];
   exported = [];
@@ -199,13 +245,52 @@ two_twice_defs first second = map defs.Item (
 
 -- an exported name is a core item of the other name, as the roles say
 pub two_twice_ends : ended (outcome two_twice (two_twice_defs 0 1) made) ≡ Some (record {
-  core = Lowering 0 [] ∷ Lowering 1 [] ∷ Lowering 0 [] ∷ Lowering 1 [] ∷ OfUser 0 k ∷ OfUser 0 g ∷ [];
-  functions = Imported (f ∷ []) ∷ Imported (h ∷ []) ∷ Lifting 4 [] ∷ Lifting 5 [] ∷ [];
+  code = opaque_from 0 6;
+  known = Lowering 0 [] ∷ Lowering 1 [] ∷ Lowering 0 [] ∷ Lowering 1 [] ∷ OfUser 0 k ∷ OfUser 0 g ∷ [];
+  functions = Imported (f ∷ []) plain_function ∷ Imported (h ∷ []) plain_function ∷ Lifting 4 [] plain_function ∷ Lifting 5 [] plain_function ∷ [];
   users = record { module_number = 0; given = core_function 0 ∷ core_function 1 ∷ core_function 2 ∷ core_function 3 ∷ [] } ∷ [];
   exported = function_export g 2 ∷ function_export k 3 ∷ [];
   events = Instantiated 0 ∷ [];
 })
 two_twice_ends = refl
+
+-- a user instance with exports of each kind: each item stands at an address of its own, behind one that was there
+abbrev export_of_type : List ℕ → ExternType → ExportType
+export_of_type name type = record { name = name; type = type }
+
+abbrev one_page : MemoryType
+one_page = record { minimum = 1; maximum = None }
+
+abbrev each_kind : List ExportType
+each_kind =
+    export_of_type f (externs.Func plain_type)
+    ∷ export_of_type g (externs.Memory one_page)
+    ∷ export_of_type h (externs.Global (record { val_type = I64; mutable = true }))
+    ∷ export_of_type k (externs.Table (record { element_type = FuncRef; minimum = 2; maximum = None }))
+    ∷ export_of_type a (externs.Func (function_type (I32 ∷ []) []))
+    ∷ []
+
+abbrev core_items : Machine → List (List Export) × CodeStore × List CoreItem × List Cell
+core_items m = (m.store.core_instances, m.store.code, m.store.known, m.now.globals)
+
+pub each_kind_stands : core_items (new_user 0 each_kind [] (new_core_function (Lowering 0 []) plain_type (fresh_machine []))) ≡ (
+  (
+      record { space = spaces.CoreFunc; name = f; address = 1 }
+      ∷ record { space = spaces.CoreMemory; name = g; address = 0 }
+      ∷ record { space = spaces.CoreGlobal; name = h; address = 0 }
+      ∷ record { space = spaces.CoreTable; name = k; address = 0 }
+      ∷ record { space = spaces.CoreFunc; name = a; address = 2 }
+      ∷ []
+      ) ∷ [],
+  record {
+    functions = Opaque 0 plain_type ∷ Opaque 1 plain_type ∷ Opaque 3 (function_type (I32 ∷ []) []) ∷ [];
+    tables = (None ∷ None ∷ []) ∷ [];
+    memories = one_page ∷ [];
+  },
+  Lowering 0 [] ∷ OfUser 0 f ∷ OfUser 0 h ∷ OfUser 0 a ∷ [],
+  Foreign 2 I64 ∷ [],
+)
+each_kind_stands = refl
 
 abbrev machine_of : Outcome → Option Machine
 machine_of (Done m) = Some m
@@ -216,20 +301,26 @@ linked_if_done w (Some m) = IsLinked w m
 linked_if_done w None = ⊥
 
 abbrev is_h : Function → Bool
-is_h (Imported (name ∷ path)) = bytes_eq name h
+is_h (Imported (name ∷ path) type) = bytes_eq name h
 is_h _ = false
 
+abbrev what_of : Func → ℕ
+what_of (Opaque what signature) = what
+what_of _ = 0
+
 -- a lowering of h is none of f
-another_function : (s : Store) → slice_get s.core 0 ≡ Some (Lowering 1 []) → slice_get s.functions 1 ≡ Some (Imported (h ∷ [])) → CoreFunctionMeets two_twice s 0 (Lowered (OfRoot f) []) → ⊥
-another_function s lowering functions m =
-    let same : m.item ≡ Lowering 1 [] = same_Some m.item (Lowering 1 []) (sym m.is ∙ lowering) in
+another_function : (s : Store) → slice_get s.code.functions 0 ≡ Some (Opaque 0 plain_type) → slice_get s.known 0 ≡ Some (Lowering 1 []) → slice_get s.functions 1 ≡ Some (Imported (h ∷ []) plain_function) →
+    CoreFunctionMeets two_twice s 0 (Lowered (OfRoot f) []) → ⊥
+another_function s code known functions m =
+    let opaque : Opaque m.is.what m.is.signature ≡ Opaque 0 plain_type = same_Some (Opaque m.is.what m.is.signature) (Opaque 0 plain_type) (sym m.is.stands ∙ code) in
+    let same : m.item ≡ Lowering 1 [] = same_Some m.item (Lowering 1 []) (sym m.is.known ∙ (ap (slice_get s.known) (ap what_of opaque) ∙ known)) in
     let meets : CoreMeets two_twice s (Lowering 1 []) (Lowered (OfRoot f) []) = subst (λ x. CoreMeets two_twice s x (Lowered (OfRoot f) [])) same m.meets in
-    let path : Imported (h ∷ []) ≡ Imported (f ∷ []) = same_Some (Imported (h ∷ [])) (Imported (f ∷ [])) (sym functions ∙ meets.0) in
+    let path : Imported (h ∷ []) plain_function ≡ Imported (f ∷ []) meets.0.type = same_Some (Imported (h ∷ []) plain_function) (Imported (f ∷ []) meets.0.type) (sym functions ∙ meets.0.is) in
     absurd (true≢false (ap is_h path))
 
 -- where the two are crossed, the run ends, but it isn't linked
 pub crossed_is_not_linked : linked_if_done two_twice (machine_of (outcome two_twice (two_twice_defs 1 0) made)) → ⊥
-crossed_is_not_linked l = another_function _ refl refl l.imports.0.0
+crossed_is_not_linked l = another_function _ refl refl refl l.imports.0.0
 
 -- one list that keeps every rule, so that no rule is a contradiction
 abbrev ds : ℕ → List Def

@@ -1,5 +1,5 @@
 -- Lists that go along with each other, and look-ups in them.
-use Rattle.std.proofs.Common.{◌≡◌, ◌∙◌, ℕ, suc, Bool, true, false, true≢false, List, [], ◌∷◌, ◌++◌, length, map, filter, refl, sym, ap, subst, Option, Some, None, cond, if◌then◌else◌, ◌||◌, append_assoc}
+use Rattle.std.proofs.Common.{◌≡◌, ◌∙◌, ℕ, zero, suc, Bool, true, false, true≢false, List, [], ◌∷◌, ◌++◌, length, map, filter, refl, sym, ap, subst, Option, Some, None, cond, if◌then◌else◌, ◌||◌, append_assoc}
 use Rattle.std.proofs.lemmas.Option.{same_Some, none-some}
 use Rattle.std.proofs.lemmas.Bool.{false_from_ne_true}
 use Rattle.std.proofs.lemmas.Slice.Eq.{bytes_eq-Decides}
@@ -34,6 +34,16 @@ filter-both p q within (x ∷ xs) = by (filter-both p q within xs) (p x) refl (q
     by rest false e true f = rw e rest
     by rest true e false f = absurd (true≢false (sym (within x e) ∙ f))
     by rest false e false f = rest
+
+-- what passes a filter passes its test
+pub filter-at : {A : Type 0} (p : A → Bool) (xs : List A) (i : ℕ) (x : A) → slice_get (filter p xs) i ≡ Some x → p x ≡ true
+filter-at p [] i x e = absurd (none-some x e)
+filter-at {A} p (y ∷ xs) i x e = by (λ j f. filter-at p xs j x f) (p y) refl i e
+  where
+    by : ((j : ℕ) → slice_get (filter p xs) j ≡ Some x → p x ≡ true) → (b : Bool) → p y ≡ b → (j : ℕ) → slice_get (if b then y ∷ filter p xs else filter p xs) j ≡ Some x → p x ≡ true
+    by rest true t zero f = subst (λ z. p z ≡ true) (same_Some y x f) t
+    by rest true t (suc j) f = rest j f
+    by rest false t j f = rest j f
 
 -- a test that all pass
 pub filter-all : {A : Type 0} (p : A → Bool) (xs : List A) → AllByRecursion (λ x. p x ≡ true) xs → filter p xs ≡ xs

@@ -1,6 +1,7 @@
 pub mod Encoder
 pub mod Machine
 pub mod Instances
+pub mod Signatures
 pub mod Running
 pub mod Meeting
 pub mod Linking

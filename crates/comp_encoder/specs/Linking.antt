@@ -13,14 +13,17 @@ use Rattle.comp_worlds.specs.CoreImports.{CoreImport}
 use Rattle.wit_data.specs.declared.worlds.WorldKey.{WorldKey}
 use Rattle.comp_worlds.specs.declared.exports.Export.{Export}
 use Rattle.comp_worlds.specs.declared.world.ComponentWorld.{ComponentWorld}
+use Rattle.core_bytes.specs.declared.types.ValType.{ValType}
+use Rattle.core_runs.specs.Values.{fit}
+use Rattle.core_runs.specs.Store.{Answer, Gives, Traps}
 use Rattle.comp_shims.specs.Targets.{UserModule, Target}
-use Rattle.comp_shims.specs.Answers.{CoreType, Answer, Gives, Traps, fit}
 use Rattle.comp_shims.specs.Store.{UserInstance, Store}
 use Rattle.comp_state.specs.Roles.{used_functions}
-use Rattle.comp_state.specs.Modules.{WorldModule, user_modules, import_kind, kind_of_export, required_exports}
+use Rattle.comp_state.specs.Modules.{WorldModule, user_modules, import_kind, required_exports}
 use Rattle.comp_state.specs.Links.{link_of, lift_of}
 use Rattle.comp_encoder.specs.Machine.{Machine, Outcome, Done, Stuck, export_of}
 use Rattle.comp_encoder.specs.Instances.{ModuleMeaning, OfType, ImportType, ExportType}
+use Rattle.comp_encoder.specs.Signatures.{type_of_export}
 use Rattle.comp_encoder.specs.Running.{run, fresh_machine}
 use Rattle.comp_encoder.specs.Meeting.{Meets}
 
@@ -68,12 +71,12 @@ pub record IsComposed (w : ComponentWorld) (ds : List Def) : Type 0 where
   pub exports : flat_map def_export ds ≡ stated_exports w
   pub instances : flat_map def_instantiates ds ≡ numbers_from 0 (length (user_modules w))
 
--- what the user modules are to a run: their types, as validation found them
+-- what the user modules are to a run: the types of what they import and export
 abbrev pub import_type : CoreImport → ImportType
 import_type i = record { module_name = i.module_name; field = i.field; kind = import_kind i.role }
 
 abbrev pub export_type : List ℕ × Export → ExportType
-export_type e = record { name = e.0; kind = kind_of_export e.1 }
+export_type e = record { name = e.0; type = type_of_export e.1 }
 
 abbrev pub meaning_of : WorldModule → ModuleMeaning
 meaning_of m = OfType (map import_type m.imports) (map export_type m.exports)
@@ -86,11 +89,11 @@ abbrev pub outcome : ComponentWorld → List Def → List Answer → Outcome
 outcome w ds answers = run (module_meanings w) ds (fresh_machine answers)
 
 -- what the outside is asked for by a run to the end, by the types of the results: to instantiate each user module
-abbrev pub questions : ComponentWorld → List (List CoreType)
+abbrev pub questions : ComponentWorld → List (List ValType)
 questions w = map (λ m. []) (user_modules w)
 
 -- these answers answer them, and let a run go on to its end
-abbrev pub LetsRun : List (List CoreType) → List Answer → Type 0
+abbrev pub LetsRun : List (List ValType) → List Answer → Type 0
 LetsRun [] answers = Unit {0}
 LetsRun (types ∷ rest) [] = ⊥
 LetsRun (types ∷ rest) (Traps ∷ answers) = ⊥

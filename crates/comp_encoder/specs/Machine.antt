@@ -1,13 +1,16 @@
 -- A component that is being run, and the ways in which a run ends (core standard, execution: configurations,
 -- results; component model, explainer: index spaces).
-use Rattle.std.specs.Prelude.{ℕ, Bool, List, [], ◌∷◌, ◌++◌, Option, Some, None, length, map, filter, slice_get, if◌then◌else◌}
+use Rattle.std.specs.Prelude.{ℕ, Bool, List, [], ◌∷◌, ◌++◌, Option, Some, None, length, map, filter, slice_get}
 use Rattle.std.specs.Option.{option_map}
 use Rattle.comp_lists.specs.Found.{found}
 use Rattle.comp_bytes.specs.Spaces.{is_space}
 use Rattle.comp_bytes.specs.declared.space.Space.{Space}
 use Rattle.comp_bytes.specs.declared.space.Space.TheVariants as spaces
-use Rattle.comp_shims.specs.Answers.{CoreType, Value, I32Value, I64Value, fit, Answer, Gives, Traps, Event, Called}
-use Rattle.comp_shims.specs.Store.{Thing, Export, CoreItem, Function, TypeItem, ComponentItem, Store, Now}
+use Rattle.core_bytes.specs.declared.types.FuncType.{FuncType}
+use Rattle.core_runs.specs.Values.{Value}
+use Rattle.core_runs.specs.Store.{Opaque, Now, ByAnswer, ByCode}
+use Rattle.core_runs.specs.Store as core
+use Rattle.comp_shims.specs.Store.{Thing, Export, CoreItem, Function, TypeItem, ComponentItem, Store}
 
 -- the items of the component so far, those of the scopes around it (innermost first), and its exports
 pub record Scope : Type 0 where
@@ -21,7 +24,7 @@ pub record Machine : Type 0 where
   pub now : Now
 
 -- A run is done; or was ended by an answer that is a trap; or is open, past the answers; or is stuck: a
--- name or a kind isn't there, or generated code traps.
+-- name, a kind or a core type isn't there, or generated code traps.
 pub data Outcome : Type 0 where
   Done : (machine : Machine) → Outcome
   Trapped : (machine : Machine) → Outcome
@@ -71,8 +74,12 @@ abbrev pub new_core_instance : List Export → Machine → Machine
 new_core_instance exports m =
     with_item spaces.CoreInstance (length m.store.core_instances) (record m { store = record m.store { core_instances = m.store.core_instances ++ exports ∷ [] } })
 
-abbrev pub new_core_function : CoreItem → Machine → Machine
-new_core_function item m = with_item spaces.CoreFunc (length m.store.core) (record m { store = record m.store { core = m.store.core ++ item ∷ [] } })
+-- an opaque function more; and a core function that is one
+abbrev pub with_opaque : CoreItem → FuncType → Store → Store
+with_opaque item signature s = record s { code = record s.code { functions = s.code.functions ++ Opaque (length s.known) signature ∷ [] }; known = s.known ++ item ∷ [] }
+
+abbrev pub new_core_function : CoreItem → FuncType → Machine → Machine
+new_core_function item signature m = with_item spaces.CoreFunc (length m.store.code.functions) (record m { store = with_opaque item signature m.store })
 
 abbrev pub new_function : Function → Machine → Machine
 new_function function m = with_item spaces.Func (length m.store.functions) (record m { store = record m.store { functions = m.store.functions ++ function ∷ [] } })
@@ -87,25 +94,11 @@ new_component component m =
 abbrev pub new_instance : List Export → Machine → Machine
 new_instance exports m = with_item spaces.Instance (length m.store.instances) (record m { store = record m.store { instances = m.store.instances ++ exports ∷ [] } })
 
--- A call of the outside may change the task's thread-local cell: it is the one number among the globals.
-abbrev pub renewed : ℕ → Value → Value
-renewed number (I32Value n) = I32Value number
-renewed number (I64Value n) = I64Value number
-renewed number value = value
-
--- The next answer, asked for values of these types: past the answers, and where the values are of other
--- types, the run is open.
-abbrev pub answered : List CoreType → List Answer → Machine → (List Value → Next) → Outcome
-answered types [] m next = Open m
-answered types (Traps ∷ answers) m next = Trapped (record m { now = record m.now { answers = answers } })
-answered types (Gives values cell ∷ answers) m next =
-    if fit types values then next values (record m { now = record m.now { globals = map (renewed cell) m.now.globals; answers = answers } }) else Open m
-
--- the outside does what is seen as this event, and answers with values of these types
-abbrev pub asked : List CoreType → Event → Machine → (List Value → Next) → Outcome
-asked types event m next = answered types m.now.answers (record m { now = record m.now { events = m.now.events ++ event ∷ [] } }) next
-
--- What a call of a core function does, by the types of its results: a lowering, an intrinsic and a function
--- of a user module are opaque, so that the call is seen, and the outside answers it.
-abbrev pub acts : List CoreType → ℕ → List Value → Machine → (List Value → Next) → Outcome
-acts results function arguments m next = asked results (Called function arguments) m next
+-- How the run goes on where core code, or the outside, has ended like this. Code that traps by itself makes the
+-- run stuck.
+abbrev pub resumed : core.Outcome → Machine → (List Value → Next) → Outcome
+resumed (core.Returned values now) m next = next values (record m { now = now })
+resumed (core.Trapped ByAnswer now) m next = Trapped (record m { now = now })
+resumed (core.Trapped ByCode now) m next = Stuck
+resumed (core.Open now) m next = Open (record m { now = now })
+resumed core.Stuck m next = Stuck

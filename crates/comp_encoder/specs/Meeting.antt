@@ -4,6 +4,9 @@ use Rattle.std.specs.Prelude.{◌≡◌, ℕ, List, [], ◌∷◌, Some, slice_g
 use Rattle.std.specs.List.{AllZip}
 use Rattle.comp_bytes.specs.declared.space.Space.{Space}
 use Rattle.comp_bytes.specs.declared.space.Space.TheVariants as spaces
+use Rattle.comp_bytes.specs.declared.types.FuncTypeDef.{FuncTypeDef}
+use Rattle.core_bytes.specs.declared.types.FuncType.{FuncType}
+use Rattle.core_runs.specs.Store.{Opaque}
 use Rattle.comp_worlds.specs.declared.world.ComponentWorld.{ComponentWorld}
 use Rattle.comp_shims.specs.Targets.{WorldFunction, OfRoot, OfInterface, ExportPlace, TargetOption, Realloc, Encoding, Async, PostReturn, Callback, Target, Lowered, ExportOf, Lifted}
 use Rattle.comp_shims.specs.Store.{Thing, HeldOption, HeldEncoding, HeldRealloc, HeldPostReturn, HeldAsync, HeldCallback, CoreItem, Lowering, OfUser, Function, Imported, Lifting, UserInstance, Store}
@@ -23,11 +26,18 @@ pub record IsExportOf (w : ComponentWorld) (s : Store) (user : ℕ) (name : List
   pub same_module : world_module.of ≡ place.of
   pub same_name : name ≡ place.name
 
+-- the core function at this address is opaque, and is this item
+pub record IsOpaque (s : Store) (address : ℕ) (item : CoreItem) : Type 0 where
+  pub what : ℕ
+  pub signature : FuncType
+  pub stands : slice_get s.code.functions address ≡ Some (Opaque what signature)
+  pub known : slice_get s.known what ≡ Some item
+
 -- the core function at this address is this export
 pub record IsCoreExport (w : ComponentWorld) (s : Store) (address : ℕ) (place : ExportPlace) : Type 0 where
   pub user : ℕ
   pub name : List ℕ
-  pub is : slice_get s.core address ≡ Some (OfUser user name)
+  pub is : IsOpaque s address (OfUser user name)
   pub of : IsExportOf w s user name place
 
 -- an option is the same one, and a function that it names is the export that it should be
@@ -43,20 +53,25 @@ MeetsOption w s _ _ = ⊥
 abbrev pub MeetOptions : ComponentWorld → Store → List HeldOption → List TargetOption → Type 0
 MeetOptions w s held options = AllZip (MeetsOption w s) held options
 
+-- the function at this address is imported by these names
+pub record IsImport (s : Store) (function : ℕ) (path : List (List ℕ)) : Type 0 where
+  pub type : FuncTypeDef
+  pub is : slice_get s.functions function ≡ Some (Imported path type)
+
 -- a core function meets a target
 abbrev pub CoreMeets : ComponentWorld → Store → CoreItem → Target → Type 0
-CoreMeets w s (Lowering function held) (Lowered of options) = (slice_get s.functions function ≡ Some (Imported (path_of of))) × MeetOptions w s held options
+CoreMeets w s (Lowering function held) (Lowered of options) = IsImport s function (path_of of) × MeetOptions w s held options
 CoreMeets w s (OfUser user name) (ExportOf place) = IsExportOf w s user name place
 CoreMeets w s _ _ = ⊥
 
 -- a function meets a target: it lifts the core function that it should
 abbrev pub FunctionMeets : ComponentWorld → Store → Function → Target → Type 0
-FunctionMeets w s (Lifting core held) (Lifted entry options) = IsCoreExport w s core entry × MeetOptions w s held options
+FunctionMeets w s (Lifting core held type) (Lifted entry options) = IsCoreExport w s core entry × MeetOptions w s held options
 FunctionMeets w s _ _ = ⊥
 
 pub record CoreFunctionMeets (w : ComponentWorld) (s : Store) (address : ℕ) (target : Target) : Type 0 where
   pub item : CoreItem
-  pub is : slice_get s.core address ≡ Some item
+  pub is : IsOpaque s address item
   pub meets : CoreMeets w s item target
 
 pub record LiftedFunctionMeets (w : ComponentWorld) (s : Store) (address : ℕ) (target : Target) : Type 0 where

@@ -5,6 +5,7 @@ use Rattle.std.specs.Option.{option_map, option_and_then}
 use Rattle.comp_bytes.specs.Spaces.{kind_space, sort_space, description_space}
 use Rattle.comp_bytes.specs.References.{Reference, intrinsic_references, where_some, description_references}
 use Rattle.comp_bytes.specs.declared.space.Space.TheVariants as spaces
+use Rattle.comp_bytes.specs.declared.types.FuncTypeDef.{FuncTypeDef}
 use Rattle.comp_bytes.specs.declared.types.Description.{Description}
 use Rattle.comp_bytes.specs.declared.canon.CanonicalOption.{CanonicalOption}
 use Rattle.comp_bytes.specs.declared.canon.CanonicalOption.TheVariants as canonical
@@ -16,10 +17,12 @@ use Rattle.comp_bytes.specs.declared.def.Item.TheVariants as items
 use Rattle.comp_bytes.specs.declared.def.Def.{Def}
 use Rattle.comp_bytes.specs.declared.def.Def.TheVariants as defs
 use Rattle.comp_worlds.specs.declared.encoding.StringEncoding.TheVariants as encodings
-use Rattle.comp_shims.specs.Answers.{Answer}
-use Rattle.comp_shims.specs.Store.{Thing, Export, HeldOption, HeldEncoding, HeldMemory, HeldRealloc, HeldPostReturn, HeldAsync, HeldCallback, Lowering, IntrinsicOf, Lifting, InstanceTypeOf, ComponentItem}
+use Rattle.core_bytes.specs.declared.types.FuncType.{FuncType}
+use Rattle.core_runs.specs.Store.{Answer}
+use Rattle.comp_shims.specs.Store.{Thing, Export, HeldOption, HeldEncoding, HeldMemory, HeldRealloc, HeldPostReturn, HeldAsync, HeldCallback, Lowering, IntrinsicOf, Function, Imported, Lifting, InstanceTypeOf, ComponentItem}
 use Rattle.comp_encoder.specs.Machine.{Machine, Outcome, Done, Stuck, Next, with_some, all_some, address_at, export_of, with_item, new_core_module, new_core_instance, new_core_function, new_function, new_type, new_component, new_instance}
 use Rattle.comp_encoder.specs.Instances.{ModuleMeaning, instantiate_module, aliased, type_item, with_function_type, announced, described, instance_of_type}
+use Rattle.comp_encoder.specs.Signatures.{core_signature, intrinsic_signature}
 
 -- an argument of a core instantiation, and an entry of a core instance that is made of items at hand
 abbrev pub core_argument : Machine → CoreArgument → Option (List ℕ × List Export)
@@ -45,6 +48,14 @@ held m (canonical.Callback index) = option_map (λ a. HeldCallback a) (address_a
 abbrev pub options_held : Machine → List CanonicalOption → Option (List HeldOption)
 options_held m options = all_some (map (held m) options)
 
+-- the type of a function, and the core type of a lowering of the one at an address
+abbrev pub type_of_function : Function → FuncTypeDef
+type_of_function (Imported path type) = type
+type_of_function (Lifting core options type) = type
+
+abbrev pub lowered_signature : Machine → ℕ → List HeldOption → Option FuncType
+lowered_signature m function options = option_and_then (λ f. core_signature (type_of_function f) options) (slice_get m.store.functions function)
+
 -- what a reference to the own scope names
 abbrev pub named : Machine → Reference → Option Thing
 named m r = option_map (λ (a : ℕ). record { space = r.space; address = a }) (address_at r.space r.index m.scope.items)
@@ -65,10 +76,12 @@ module _ (modules : List ModuleMeaning) (met : List ℕ → Description → Mach
   item_effect (items.InstanceType t) m next = next (new_type (InstanceTypeOf t.members (m.scope.items ∷ m.scope.around)) m)
   item_effect (items.Lift index options type) m next =
       with_some (address_at spaces.CoreFunc index m.scope.items)
-      (λ core. with_some (options_held m options) (λ os. with_function_type type m (next (new_function (Lifting core os) m))))
+      (λ core. with_some (options_held m options) (λ os. with_function_type type m (λ f. next (new_function (Lifting core os f) m))))
   item_effect (items.Lower index options) m next =
-      with_some (address_at spaces.Func index m.scope.items) (λ function. with_some (options_held m options) (λ os. next (new_core_function (Lowering function os) m)))
-  item_effect (items.Intrinsic i) m next = with_some (all_some (map (named m) (intrinsic_references i))) (λ things. next (new_core_function (IntrinsicOf i things) m))
+      with_some (address_at spaces.Func index m.scope.items)
+      (λ function. with_some (options_held m options) (λ os. with_some (lowered_signature m function os) (λ signature. next (new_core_function (Lowering function os) signature m))))
+  item_effect (items.Intrinsic i) m next =
+      with_some (all_some (map (named m) (intrinsic_references i))) (λ things. with_some (intrinsic_signature i) (λ signature. next (new_core_function (IntrinsicOf i things) signature m)))
   item_effect (items.Import name description) m next = met name.name description m next
   item_effect (items.Export name sort index description) m next =
       with_some (address_at (sort_space sort) index m.scope.items)
@@ -113,6 +126,16 @@ run modules (d ∷ ds) m = effect modules d m (run modules ds)
 abbrev pub fresh_machine : List Answer → Machine
 fresh_machine answers = record {
   scope = record { items = []; around = []; exports = [] };
-  store = record { core_modules = []; core = []; tables = []; core_instances = []; functions = []; types = []; components = []; instances = []; users = [] };
-  now = record { globals = []; answers = answers; events = [] };
+  store = record {
+    core_modules = [];
+    code = record { functions = []; tables = []; memories = [] };
+    known = [];
+    core_instances = [];
+    functions = [];
+    types = [];
+    components = [];
+    instances = [];
+    users = [];
+  };
+  now = record { globals = []; answers = answers; events = []; moments = [] };
 }

@@ -6,8 +6,8 @@
 //! The promise upward: what an encoder holds after each call (`specs/Encoder.antt`), when a call
 //! refuses (`specs/Refusals.antt`), and what the bytes that `encode` answers are to the validated
 //! world (`IsComponentOf` in `specs/Component.antt`): they spell a list of definitions that links when
-//! it is run (`specs/Linking.antt`; the machine stands in `specs/Machine.antt`, `Instances` and
-//! `Running`). A refusal leaves the encoder as it was.
+//! it is run (`specs/Linking.antt`; the machine stands in `specs/Machine.antt`, `Instances`, `Signatures`
+//! and `Running`, over what `core_runs` says of core code). A refusal leaves the encoder as it was.
 //!
 //! In reading order: `fault` (why a call refuses), `output` (the component of a world, as bytes),
 //! `encoder` (the calls). Nothing here knows of

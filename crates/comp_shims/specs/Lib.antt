@@ -1,3 +1,2 @@
 pub mod Targets
-pub mod Answers
 pub mod Store

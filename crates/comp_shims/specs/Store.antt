@@ -3,11 +3,12 @@
 -- index space is an address. Nothing holds itself: what refers to an item holds its address.
 use Rattle.std.specs.Prelude.{ℕ, List, Option}
 use Rattle.comp_bytes.specs.declared.space.Space.{Space}
+use Rattle.comp_bytes.specs.declared.types.FuncTypeDef.{FuncTypeDef}
 use Rattle.comp_bytes.specs.declared.types.Member.{Member}
 use Rattle.comp_bytes.specs.declared.canon.Intrinsic.{Intrinsic}
 use Rattle.comp_bytes.specs.declared.def.Item.{Item}
 use Rattle.comp_worlds.specs.declared.encoding.StringEncoding.{StringEncoding}
-use Rattle.comp_shims.specs.Answers.{Value, Answer, Event}
+use Rattle.core_runs.specs.Store.{Store as CodeStore}
 
 -- an item of an index space, by the address of what it is
 pub record Thing : Type 0 where
@@ -29,22 +30,23 @@ pub data HeldOption : Type 0 where
   HeldAsync : HeldOption
   HeldCallback : (function : ℕ) → HeldOption
 
--- a core function, table, memory or global, by what it is: a lowering of a function, an intrinsic with
--- what it names, or what a user instance exports under a name
+-- a core item that is opaque, by what it is: a lowering of a function, an intrinsic with what it names, or
+-- what a user instance exports under a name
 pub data CoreItem : Type 0 where
   Lowering : (function : ℕ) (options : List HeldOption) → CoreItem
   IntrinsicOf : (intrinsic : Intrinsic) (names : List Thing) → CoreItem
   OfUser : (user : ℕ) (name : List ℕ) → CoreItem
 
--- a function, by what it is: one that is imported, by the names that lead to it, or a lift
+-- A function, by what it is: one that is imported, by the names that lead to it, or a lift. Its type names
+-- others by their addresses.
 pub data Function : Type 0 where
-  Imported : (path : List (List ℕ)) → Function
-  Lifting : (core : ℕ) (options : List HeldOption) → Function
+  Imported : (path : List (List ℕ)) (type : FuncTypeDef) → Function
+  Lifting : (core : ℕ) (options : List HeldOption) (type : FuncTypeDef) → Function
 
--- a type, as far as a run needs it: resource types are told apart by their addresses, and an instance
--- type says what an import of it has
+-- A type, as far as a run needs it: a function type names others by their addresses, resource types are told
+-- apart by their own, and an instance type says what an import of it has.
 pub data TypeItem : Type 0 where
-  FunctionType : TypeItem
+  FunctionType : (type : FuncTypeDef) → TypeItem
   ValueType : TypeItem
   ImportedResource : (path : List (List ℕ)) → TypeItem
   OwnResource : (destructor : Option ℕ) → TypeItem
@@ -60,21 +62,16 @@ pub record UserInstance : Type 0 where
   pub module_number : ℕ
   pub given : List Thing
 
--- What stays what it is. A core instance is a map from names to items, an instance one from sorts and
--- names; a table has its slots, each empty or a function.
+-- What stays what it is. Core functions, tables and memories stand in `code`, globals in what a run changes.
+-- What an opaque function is, or a global of a user's module, stands in `known`, at the place that it has. A
+-- core instance is a map from names to items, an instance one from sorts and names.
 pub record Store : Type 0 where
   pub core_modules : List (List ℕ)
-  pub core : List CoreItem
-  pub tables : List (List (Option ℕ))
+  pub code : CodeStore
+  pub known : List CoreItem
   pub core_instances : List (List Export)
   pub functions : List Function
   pub types : List TypeItem
   pub components : List ComponentItem
   pub instances : List (List Export)
   pub users : List UserInstance
-
--- What a run changes: the globals of generated modules, the answers that are left, and what was seen.
-pub record Now : Type 0 where
-  pub globals : List Value
-  pub answers : List Answer
-  pub events : List Event

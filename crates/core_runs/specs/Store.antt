@@ -44,8 +44,10 @@ pub data Answer : Type 0 where
   Gives : List Value → ℕ → Answer
   Traps : Answer
 
--- What is seen of a run from outside, in order.
+-- What is seen of a run from outside, in order: a user module is instantiated, by its number; an opaque function is
+-- called; a global of a user's module is set; memory is written.
 pub data Event : Type 0 where
+  Instantiated : (user_module : ℕ) → Event
   Called : (function : ℕ) → (arguments : List Value) → Event
   SetForeign : (global : ℕ) → Value → Event
   Stored : (memory address number : ℕ) → Event
