@@ -8,7 +8,6 @@ use Rattle.comp_worlds.specs.Worlds.{core_imports}
 use Rattle.comp_worlds.specs.declared.imports.Import.{Import}
 use Rattle.comp_worlds.specs.declared.imports.Import.TheVariants as imports
 use Rattle.comp_worlds.specs.declared.exports.Export.{Export}
-use Rattle.comp_worlds.specs.declared.exports.Export.TheVariants as exports
 use Rattle.wit_data.specs.declared.worlds.WorldKey.{WorldKey}
 use Rattle.comp_worlds.specs.declared.world.ComponentWorld.{ComponentWorld}
 use Rattle.comp_shims.specs.Targets.{UserModule, Main}
@@ -22,16 +21,12 @@ pub record WorldModule : Type 0 where
 abbrev pub user_modules : ComponentWorld → List WorldModule
 user_modules w = record { of = Main; bytes = w.main.bytes; imports = core_imports w; exports = w.main.exports.exports } ∷ []
 
--- the kind of an import, and of an export, by what it is for
+-- the kind of an import, by what it is for
 abbrev pub import_kind : Import → ExportKind
 import_kind (imports.MainModuleMemory type) = kinds.Memory
 import_kind (imports.MainModuleExport name kind) = kind
 import_kind (imports.Item item) = item.kind
 import_kind role = kinds.Func
-
-abbrev pub kind_of_export : Export → ExportKind
-kind_of_export (exports.Memory type) = kinds.Memory
-kind_of_export role = kinds.Func
 
 -- what has to be exported, by module
 abbrev pub required_exports : ComponentWorld → List (UserModule × WorldKey)

@@ -27,24 +27,24 @@ use Rattle.plain_lower.proofs.Leaving as leaving
 
 -- ---- adapters
 
-plain_there : (as : Adapters) → list_any is_plain as ≡ true → (a : List ℕ × GatheredAdapter Bindgen) × Contains as a × (is_plain a ≡ true)
+plain_there : (all : Adapters) → list_any is_plain all ≡ true → (a : List ℕ × GatheredAdapter Bindgen) × Contains all a × (is_plain a ≡ true)
 plain_there [] h = absurd (true≢false (sym h))
-plain_there (a ∷ as) h = by (is_plain a) refl h (λ k. plain_there as k)
+plain_there (a ∷ all) h = by (is_plain a) refl h (λ k. plain_there all k)
   where
-    by : (b : Bool) → is_plain a ≡ b → (b || list_any is_plain as) ≡ true → (list_any is_plain as ≡ true → (x : List ℕ × GatheredAdapter Bindgen) × Contains as x × (is_plain x ≡ true))
-        → (x : List ℕ × GatheredAdapter Bindgen) × Contains (a ∷ as) x × (is_plain x ≡ true)
-    by true is h more = (a, Contains-append_right [] (a ∷ as) a (0, omega arith, refl), is)
-    by false is h more = let k = more h in (k.0, Contains-append_right (a ∷ []) as k.0 k.1, k.2)
+    by : (b : Bool) → is_plain a ≡ b → (b || list_any is_plain all) ≡ true → (list_any is_plain all ≡ true → (x : List ℕ × GatheredAdapter Bindgen) × Contains all x × (is_plain x ≡ true))
+        → (x : List ℕ × GatheredAdapter Bindgen) × Contains (a ∷ all) x × (is_plain x ≡ true)
+    by true is h more = (a, Contains-append_right [] (a ∷ all) a (0, omega arith, refl), is)
+    by false is h more = let k = more h in (k.0, Contains-append_right (a ∷ []) all k.0 k.1, k.2)
 
 no_library : {X : Type 0} (o : Option X) → not (is_some o) ≡ true → o ≡ None
 no_library None h = refl
 no_library (Some x) h = absurd (true≢false (sym h))
 
-some_there : (g : Gathered Bindgen) (as : Adapters) (r : Refusal) → g.adapters ≡ as → none_there as ≡ refused r → PrepareCause g (flat_refusal r)
+some_there : (g : Gathered Bindgen) (all : Adapters) (r : Refusal) → g.adapters ≡ all → none_there all ≡ refused r → PrepareCause g (flat_refusal r)
 some_there g [] r is e = absurd cc
-some_there g (a ∷ as) r is e =
+some_there g (a ∷ all) r is e =
     subst (λ (x : Refusal). PrepareCause g (flat_refusal x)) (same_refusal (refusals.LeftOut (codes "adapter")) r (cc (e)))
-    (adapter_left_out a (subst (λ (xs : Adapters). Contains xs a) (sym is) (Contains-append_right [] (a ∷ as) a (0, omega arith, refl))))
+    (adapter_left_out a (subst (λ (xs : Adapters). Contains xs a) (sym is) (Contains-append_right [] (a ∷ all) a (0, omega arith, refl))))
 
 adapters_refused : (g : Gathered Bindgen) (r : Refusal) → adapters_pass g.options.realloc_via_memory_grow g.adapters ≡ refused r → PrepareCause g (flat_refusal r)
 adapters_refused g r e = by g.options.realloc_via_memory_grow (list_any is_plain g.adapters) refl refl e
@@ -59,11 +59,11 @@ adapters_refused g r e = by g.options.realloc_via_memory_grow (list_any is_plain
     by true false on there e = some_there g g.adapters r refl e
     by false b on there e = some_there g g.adapters r refl e
 
-none_pass : (on : Bool) (as : Adapters) (x : ⊤) → adapters_pass on as ≡ Ok x → as ≡ []
+none_pass : (on : Bool) (all : Adapters) (x : ⊤) → adapters_pass on all ≡ Ok x → all ≡ []
 none_pass on [] x e = refl
-none_pass on (a ∷ as) x e = by (on && list_any is_plain (a ∷ as)) e
+none_pass on (a ∷ all) x e = by (on && list_any is_plain (a ∷ all)) e
   where
-    by : (b : Bool) → (if b then Err (failures.Refused refusals.MemoryGrow) else none_there (a ∷ as)) ≡ Ok x → a ∷ as ≡ []
+    by : (b : Bool) → (if b then Err (failures.Refused refusals.MemoryGrow) else none_there (a ∷ all)) ≡ Ok x → a ∷ all ≡ []
     by true e = absurd cc
     by false e = absurd cc
 

@@ -288,11 +288,11 @@ Adapters = List (List ℕ × GatheredAdapter Bindgen)
 -- no world with adapters is encoded yet
 abbrev pub none_there : Adapters → Result ⊤ Failure
 none_there [] = Ok tt
-none_there (a ∷ as) = Err (left_out (codes "adapter"))
+none_there (a ∷ more) = Err (left_out (codes "adapter"))
 
 -- A realloc that grows the memory is only for libraries, since an adapter shares main's memory.
 abbrev pub adapters_pass : Bool → Adapters → Result ⊤ Failure
-adapters_pass grows as = if grows && list_any is_plain as then Err (failures.Refused refusals.MemoryGrow) else none_there as
+adapters_pass grows all = if grows && list_any is_plain all then Err (failures.Refused refusals.MemoryGrow) else none_there all
 
 -- what was gathered, with compatible versions of imported interfaces as one where that is asked for
 abbrev pub with_wit : Gathered Bindgen → Wit → Gathered Bindgen
