@@ -68,7 +68,7 @@ none_pass on (a ∷ all) x e = by (on && list_any is_plain (a ∷ all)) e
     by false e = absurd cc
 
 no_adapter : (g : Gathered Bindgen) (a : List ℕ × GatheredAdapter Bindgen) → g.adapters ≡ [] → Contains g.adapters a → ⊥
-no_adapter g a is c = let c' : Contains [] a = subst (λ (xs : Adapters). Contains xs a) is c in omega arith (c'.1)
+no_adapter g a is c = let h : Contains [] a = subst (λ (xs : Adapters). Contains xs a) is c in absurd (omega (arith, h.1))
 
 -- ---- versions
 

@@ -7,7 +7,7 @@ ghost use Rattle.std.specs.Str.{bytes_eq};
 ghost use Rattle.plain_lower.specs.Faults.{Gives};
 ghost use Rattle.comp_worlds.specs.Worlds.{IsWorld};
 ghost use Rattle.plain_lower.specs.Narrowing.{root_part};
-ghost use Rattle.plain_lower.specs.Preparing.{world_items, encodings_of, instances_of, metadata_of, main_of, one_world, parts_of, StandAnywhere, world_of, roles_in, main_roles, preparing_by_roles, world_behind, preparing_main, preparing_part, preparing_from, is_plain, adapters_pass, settled_roots, preparing_all};
+ghost use Rattle.plain_lower.specs.Preparing.{world_items, encodings_of, instances_of, metadata_of, main_of, one_world, parts_of, StandAnywhere, world_of, roles_in, main_roles, preparing_by_roles, world_behind, preparing_main, preparing_part, preparing_from, is_plain, none_there, adapters_pass, settled_roots, preparing_all};
 
 use crate::exporting::{read_exports, require_all};
 use crate::fault::{Failure, Refusal};
@@ -410,6 +410,20 @@ fn is_any_plain(adapters: &Keyed<Text, GatheredAdapter<Bindgen>>) -> bool
 }
 
 /// Refuses adapters, with which no world is encoded yet.
+fn refuse_any(
+    alloc: Global,
+    adapters: &Keyed<Text, GatheredAdapter<Bindgen>>,
+) -> Result<(), Failure>
+    ensures { Gives (λ _. tt) result (none_there adapters.now) }
+{
+    let mut entries = adapters.entries();
+    match entries.next() {
+        Some(_) => left_out(alloc, "adapter"),
+        None => Ok(()),
+    }
+}
+
+/// Refuses adapters: those that would grow main's memory, and then all others.
 fn refuse_adapters(
     alloc: Global,
     grows: bool,
@@ -418,12 +432,10 @@ fn refuse_adapters(
     ensures { Gives (λ _. tt) result (adapters_pass grows adapters.now) }
 {
     if grows && is_any_plain(adapters) {
-        return Err(Failure::Refused(Refusal::MemoryGrow));
+        Err(Failure::Refused(Refusal::MemoryGrow))
+    } else {
+        refuse_any(alloc, adapters)
     }
-    for _ in adapters.entries() {
-        return left_out(alloc, "adapter");
-    }
-    Ok(())
 }
 
 /// What all modules say, where compatible versions of imported interfaces are one, as far as it is encoded yet.
