@@ -16,9 +16,9 @@ use crate::narrowing::{left_out, roots_of};
 use crate::root::RootFunctions;
 use comp_lists::{Keyed, Seq, Text};
 use comp_worlds::{
-    ComponentWorld, Export, ExportKey, ExportMap, ExternType, FunctionKey, Gathered, GatheredAdapter,
-    ImportInstance, ImportMap,
-    ModuleMetadata, Part, StringEncoding, ValidatedModule, WorldParts,
+    ComponentWorld, Export, ExportKey, ExportMap, ExternType, FunctionKey, Gathered,
+    GatheredAdapter, ImportInstance, ImportMap, ModuleMetadata, Part, StringEncoding,
+    ValidatedModule, WorldParts,
 };
 use core_sections::{CoreModule, read_module};
 use record_joining::Bindgen;

@@ -208,30 +208,32 @@ fn parts(alloc: Global) -> Result<WorldParts, AllocError>
 
 /// The world of these parts, where they are sound.
 #[tactic(auto, using(crate::proofs::Standing::roles_stand))]
-fn whole(alloc: Global, parts: WorldParts) -> Option<ComponentWorld>
+fn whole(alloc: Global, parts: WorldParts) -> Result<Option<ComponentWorld>, AllocError>
     requires imports { parts.main.imports ≡ core_imports }
     requires alone { parts.adapters ≡ [] }
 {
     if !parts.resolve.is_sound() || parts.resolve.worlds.is_empty() || parts.world.index != 0 {
         drop(parts);
-        return None;
+        return Ok(None);
     }
-    ComponentWorld::of_parts(alloc, parts).ok()
+    let world = ComponentWorld::of_parts(alloc, parts)?;
+    Ok(Some(world))
 }
 
-fn made(alloc: Global) -> Option<ComponentWorld> {
-    let parts = parts(alloc).ok()?;
-    whole(alloc, parts)
-}
-
-/// How a function of `i` is met: its options, and the numbers of core parameters and results, if they are told.
-fn met(alloc: Global, world: &ComponentWorld, name: &str) -> Option<(u8, Option<(usize, usize)>)> {
-    let key = Some(WorldKey::Interface(interface(0)));
-    let called = LoweringKey {
-        name: Text::from_str(alloc, name).ok()?,
+/// A function of `i`, as it is imported.
+fn called(alloc: Global, name: &str) -> Result<LoweringKey, AllocError> {
+    Ok(LoweringKey {
+        name: Text::from_str(alloc, name)?,
         abi: AbiVariant::GuestImport,
-    };
-    match world.import_map.get(&key)?.lowerings.get(&called)? {
+    })
+}
+
+/// How a function is met: its options, and the numbers of core parameters and results, if they are told.
+type Met = Option<(u8, Option<(usize, usize)>)>;
+
+fn met(world: &ComponentWorld, called: &LoweringKey) -> Met {
+    let key = Some(WorldKey::Interface(interface(0)));
+    match world.import_map.get(&key)?.lowerings.get(called)? {
         Lowering::Direct { options } => Some((options.bits(), None)),
         Lowering::Indirect { sig, options } => {
             Some((options.bits(), Some((sig.params.len(), sig.results.len()))))
@@ -240,30 +242,58 @@ fn met(alloc: Global, world: &ComponentWorld, name: &str) -> Option<(u8, Option<
     }
 }
 
-#[test]
-fn functions_with_a_list_are_met_by_a_table(rt: HostRuntime) {
-    let alloc = rt.alloc();
-    let world = made(alloc).expect(&rt, "memory");
-    assert_eq!(rt; met(alloc, &world, "f"), Some((1, Some((2, 0)))));
-    assert_eq!(rt; met(alloc, &world, "g"), Some((0, None)));
-    assert_eq!(rt; met(alloc, &world, "h"), None);
+/// What the tables say: how `f`, `g` and a function `h` of `i` are met, how many types of `i` are live and which is
+/// the first, and the same of the interfaces that `k` and `j` need.
+#[derive(Clone, Copy, Debug, PartialEq, Eq)]
+struct Told {
+    met: [Met; 3],
+    live: Option<(usize, Option<TypeId>)>,
+    needed: [Option<(usize, Option<InterfaceId>)>; 2],
 }
 
-#[test]
-fn types_are_live_where_functions_need_them(rt: HostRuntime) {
-    let world = made(rt.alloc()).expect(&rt, "memory");
-    let live = world
-        .live_type_imports
-        .get(&interface(0))
-        .expect(&rt, "live");
-    assert_eq!(rt; live.as_slice(), [TypeId { index: 1 }].as_slice());
+fn live(world: &ComponentWorld) -> Option<(usize, Option<TypeId>)> {
+    let live = world.live_type_imports.get(&interface(0))?.as_slice();
+    Some((live.len(), live.first().copied()))
 }
 
+fn needed(world: &ComponentWorld, index: usize) -> Option<(usize, Option<InterfaceId>)> {
+    let needed = world.exports_used.get(&interface(index))?.as_slice();
+    Some((needed.len(), needed.first().copied()))
+}
+
+fn tell(alloc: Global, world: &ComponentWorld) -> Result<Told, AllocError> {
+    let f = called(alloc, "f")?;
+    let g = called(alloc, "g")?;
+    let h = called(alloc, "h")?;
+    Ok(Told {
+        met: [met(world, &f), met(world, &g), met(world, &h)],
+        live: live(world),
+        needed: [needed(world, 1), needed(world, 2)],
+    })
+}
+
+/// The same of the world of these parts, where they are sound.
+fn made(alloc: Global) -> Result<Option<Told>, AllocError> {
+    let parts = parts(alloc)?;
+    match whole(alloc, parts)? {
+        Some(world) => {
+            let told = tell(alloc, &world);
+            drop(world);
+            Ok(Some(told?))
+        }
+        None => Ok(None),
+    }
+}
+
+/// A function with a list is met through a table, since main has the memory; one without is lowered directly. Of `i` the
+/// record is live, which a core import needs, and of `k` and `j` only `j` needs another.
 #[test]
-fn exported_interfaces_tell_what_they_need(rt: HostRuntime) {
-    let world = made(rt.alloc()).expect(&rt, "memory");
-    let first = world.exports_used.get(&interface(1)).expect(&rt, "used");
-    assert_eq!(rt; first.is_empty(), true);
-    let second = world.exports_used.get(&interface(2)).expect(&rt, "used");
-    assert_eq!(rt; second.as_slice(), [interface(1)].as_slice());
+fn tables_follow_from_the_parts(rt: HostRuntime) {
+    let told = made(rt.alloc()).expect(&rt, "memory").expect(&rt, "sound");
+    let expected = Told {
+        met: [Some((1, Some((2, 0)))), Some((0, None)), None],
+        live: Some((1, Some(TypeId { index: 1 }))),
+        needed: [Some((0, None)), Some((1, Some(interface(1))))],
+    };
+    assert_eq!(rt; told, expected);
 }
