@@ -2,10 +2,10 @@
 
 ghost use Rattle.std.specs.Prelude.{◌≡◌, codes};
 ghost use Rattle.serde_json.specs.Find.{get};
-ghost use Rattle.serde_json.specs.View.{view};
+ghost use Rattle.serde_json.specs.View.{view, items_view};
 ghost use Rattle.record_json.specs.Faults.{Gives};
 ghost use Rattle.std.specs.Fmt.{decimal};
-ghost use Rattle.record_json.specs.Reading.{under};
+ghost use Rattle.record_json.specs.Reading.{under, items_from};
 ghost use Rattle.record_roles.specs.Payloads.{all_met};
 ghost use Rattle.record_roles.specs.Records.{import_role_at, export_role_at, core_import_of, core_export_of, core_imports_of, core_exports_of, core_imports_if, core_exports_if, version_of, encoding_if, only_known, with_world, record_of, record_in};
 
@@ -94,6 +94,23 @@ fn import_at(
     under_index(alloc, index, import)
 }
 
+/// What these core imports are for, each refusal under its index.
+fn read_imports(
+    alloc: Global,
+    world: &RecordWorld,
+    met: &Met,
+    values: &[Value],
+) -> Result<Seq<Assigned<ImportName, ImportRole>>, Failure>
+    ensures { Gives (λ x. x) result (items_from (core_import_of world.now met.now) 0 (items_view values.now)) }
+{
+    let mut items = Seq::new(alloc);
+    for (index, value) in values.iter().enumerate() {
+        let item = import_at(alloc, world, met, index, value)?;
+        items.push(item)?;
+    }
+    Ok(items)
+}
+
 #[tactic(auto, unfolding(crate::specs::Records::core_imports_of))]
 fn read_core_imports(
     alloc: Global,
@@ -103,12 +120,36 @@ fn read_core_imports(
 ) -> Result<Seq<Assigned<ImportName, ImportRole>>, Failure>
     ensures { Gives (λ x. x) result (core_imports_of world.now met.now (view value.now)) }
 {
-    let Some(values) = value.as_array() else {
-        return Err(fault_here(alloc));
-    };
+    match value.as_array() {
+        Some(values) => read_imports(alloc, world, met, values),
+        None => Err(fault_here(alloc)),
+    }
+}
+
+/// The core export at an index.
+fn export_at(
+    alloc: Global,
+    world: &RecordWorld,
+    index: usize,
+    value: &Value,
+) -> Result<Assigned<Text, ExportRole>, Failure>
+    ensures { Gives (λ a. a) result (under (decimal index) (core_export_of world.now (view value.now))) }
+{
+    let export = read_core_export(alloc, world, value);
+    under_index(alloc, index, export)
+}
+
+/// What these core exports are for, each refusal under its index.
+fn read_exports(
+    alloc: Global,
+    world: &RecordWorld,
+    values: &[Value],
+) -> Result<Seq<Assigned<Text, ExportRole>>, Failure>
+    ensures { Gives (λ x. x) result (items_from (core_export_of world.now) 0 (items_view values.now)) }
+{
     let mut items = Seq::new(alloc);
     for (index, value) in values.iter().enumerate() {
-        let item = import_at(alloc, world, met, index, value)?;
+        let item = export_at(alloc, world, index, value)?;
         items.push(item)?;
     }
     Ok(items)
@@ -122,15 +163,10 @@ fn read_core_exports(
 ) -> Result<Seq<Assigned<Text, ExportRole>>, Failure>
     ensures { Gives (λ x. x) result (core_exports_of world.now (view value.now)) }
 {
-    let Some(values) = value.as_array() else {
-        return Err(fault_here(alloc));
-    };
-    let mut items = Seq::new(alloc);
-    for (index, value) in values.iter().enumerate() {
-        let item = under_index(alloc, index, read_core_export(alloc, world, value))?;
-        items.push(item)?;
+    match value.as_array() {
+        Some(values) => read_exports(alloc, world, values),
+        None => Err(fault_here(alloc)),
     }
-    Ok(items)
 }
 
 fn core_imports_member(
