@@ -338,13 +338,24 @@ fn first_taken(alloc: Global, resolve: &Resolve) -> Result<Option<usize>, AllocE
     Ok(None)
 }
 
+/// Whether a slot of a task's context can hold a number of f32.
+fn takes_float(alloc: Global, resolve: &Resolve) -> Result<bool, AllocError> {
+    let slot = Import::ContextGet {
+        ty: ValType::F32,
+        slot: 0,
+    };
+    takes_import(alloc, resolve, &slot, ">f")
+}
+
 #[test]
 fn nothing_fits_what_is_not_there(rt: HostRuntime) -> Result<(), Fail> {
     let alloc = rt.alloc();
     let resolve = resolve(alloc)?;
     let taken = first_taken(alloc, &resolve);
+    let float = takes_float(alloc, &resolve);
     drop(resolve);
     assert_eq!(rt; taken?, None);
+    assert!(rt; !float?);
     Ok(())
 }
 
