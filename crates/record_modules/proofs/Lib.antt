@@ -1,3 +1,3 @@
 mod Converting
 mod Apart
-mod Standing
+pub mod Standing

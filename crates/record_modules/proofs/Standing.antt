@@ -1,11 +1,10 @@
 -- The functions that are found in a sound resolve stand in it.
-use Rattle.std.proofs.Common.{arith, ◌≡◌, ℕ, zero, suc, Bool, true, false, cond, List, [], ◌∷◌, Option, Some, None, refl, sym, subst}
+use Rattle.std.proofs.Common.{◌≡◌, ℕ, zero, suc, Bool, true, false, cond, List, [], ◌∷◌, Option, Some, None, sym, subst}
 use Rattle.std.specs.Prelude.{slice_get, option_map, map}
 use Rattle.std.specs.Option.{unwrap_or, option_and_then, option_to_list}
 use Rattle.std.specs.List.{AllByRecursion}
 use Rattle.std.specs.Map.{lookup}
 use Rattle.std.specs.Str.{bytes_eq}
-use Rattle.comp_lists.specs.Found.{found}
 use Rattle.wit_data.specs.Keys.{is_same_key}
 use Rattle.wit_data.specs.Sound.{IsSound, HasAll, HasFunction, HasItem, HasEntry, HasType, HasWorld}
 use Rattle.wit_data.specs.declared.functions.Function.{Function}

@@ -16,7 +16,6 @@ use Rattle.wit_data.specs.declared.functions.AbiVariant.{AbiVariant}
 use Rattle.wit_data.specs.declared.functions.AbiVariant.TheVariants.{GuestImport, GuestExport}
 use Rattle.wit_data.specs.declared.functions.Function.{Function}
 use Rattle.wit_data.specs.declared.functions.FunctionKind.TheVariants.{Freestanding}
-use Rattle.wit_data.specs.declared.functions.Param.{Param}
 use Rattle.wit_data.specs.declared.ids.InterfaceId.{InterfaceId}
 use Rattle.wit_data.specs.declared.ids.WorldId.{WorldId}
 use Rattle.wit_data.specs.declared.resolve.Resolve.{Resolve}
@@ -66,7 +65,7 @@ called r abi f = function (map number (signature abi r.types f).params) (map num
 abbrev pub post_return : Resolve → Function → FuncType
 post_return r f = function (map number (signature GuestExport r.types f).results) []
 
--- a function whose one parameter is the result of this one
+-- `task.return` is passed the result: it is flattened as a function whose one parameter is the result of this one
 abbrev pub returning : Function → Function
 returning f = record { name = []; kind = Freestanding; params = map (λ t. record { name = []; ty = t }) (option_to_list f.result); result = None }
 
@@ -127,6 +126,7 @@ built_in (imports.TlsBaseGet ty) = getter ty
 built_in (imports.TlsBaseSet ty) = setter ty
 built_in role = None
 
+-- the built-in function that an import is for
 abbrev pub intrinsic : Import → Option FuncType
 intrinsic role = option_or (built_in role) (payload_function role)
 

@@ -1,6 +1,6 @@
 -- Whether the core type of an import or an export is that for which its role asks (component model, binary format:
 -- `canon`: core types are compared when a component is validated).
-use Rattle.std.specs.Prelude.{ℕ, Bool, false, ◌&&◌, List, Option, Some, None}
+use Rattle.std.specs.Prelude.{Bool, false, ◌&&◌, List, Option, Some, None}
 use Rattle.std.specs.Cmp.Lexicographic.{pointwise}
 use Rattle.std.specs.List.{slice_get}
 use Rattle.std.specs.Option.{option_eq, option_map_or, IfSome}

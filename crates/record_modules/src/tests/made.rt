@@ -1,0 +1,169 @@
+//! A world that tests are run on, and core modules of one function type.
+//!
+//! The world imports `f: func(string)` and an interface with `g: func() -> u64`; it exports
+//! `h: func(u64) -> string` and an interface with `k: func(f32) -> f64`.
+
+use comp_lists::{Keyed, Seq, Text};
+use core_sections::{CoreModule, FuncType, Items, ValType};
+use std::alloc::{AllocError, Global};
+use wit_data::{
+    Function, FunctionKind, Interface, InterfaceId, Param, Primitive, Resolve, Type, World,
+    WorldId, WorldItem, WorldKey,
+};
+
+/// The one world.
+pub(crate) const WORLD: WorldId = WorldId { index: 0 };
+
+/// The imported and the exported interface.
+pub(crate) const IMPORTED: InterfaceId = InterfaceId { index: 0 };
+
+pub(crate) const EXPORTED: InterfaceId = InterfaceId { index: 1 };
+
+/// A function of at most one parameter.
+fn function(
+    alloc: Global,
+    name: &str,
+    param: Option<Primitive>,
+    returned: Option<Primitive>,
+) -> Result<Function, AllocError> {
+    let name = Text::from_str(alloc, name)?;
+    let mut params = Seq::new(alloc);
+    if let Some(param) = param {
+        params.push(Param {
+            name: Text::new(alloc),
+            ty: Type::Primitive(param),
+        })?;
+    }
+    Ok(Function {
+        name,
+        kind: FunctionKind::Freestanding,
+        params,
+        result: returned.map(|ty| Type::Primitive(ty)),
+    })
+}
+
+/// `h: func(u64) -> string`.
+pub(crate) fn h(alloc: Global) -> Result<Function, AllocError> {
+    function(alloc, "h", Some(Primitive::U64), Some(Primitive::String))
+}
+
+/// `k: func(f32) -> f64`.
+pub(crate) fn k(alloc: Global) -> Result<Function, AllocError> {
+    function(alloc, "k", Some(Primitive::F32), Some(Primitive::F64))
+}
+
+/// An interface without a name, of one function.
+fn interface(alloc: Global, function: Function) -> Result<Interface, AllocError> {
+    let name = function.name.clone(alloc)?;
+    let mut functions = Keyed::new(alloc);
+    functions.add_first(name, function)?;
+    Ok(Interface {
+        id: None,
+        types: Keyed::new(alloc),
+        functions,
+    })
+}
+
+fn imported_interface(alloc: Global) -> Result<Interface, AllocError> {
+    let g = function(alloc, "g", None, Some(Primitive::U64))?;
+    interface(alloc, g)
+}
+
+fn exported_interface(alloc: Global) -> Result<Interface, AllocError> {
+    let k = k(alloc)?;
+    interface(alloc, k)
+}
+
+fn interfaces(alloc: Global) -> Result<Seq<Interface>, AllocError> {
+    let mut interfaces = Seq::new(alloc);
+    interfaces.push(imported_interface(alloc)?)?;
+    interfaces.push(exported_interface(alloc)?)?;
+    Ok(interfaces)
+}
+
+/// A function at the root, and an interface.
+fn side(
+    alloc: Global,
+    function: Function,
+    interface: InterfaceId,
+) -> Result<Keyed<WorldKey, WorldItem>, AllocError> {
+    let key = WorldKey::Name(function.name.clone(alloc)?);
+    let mut entries = Keyed::new(alloc);
+    entries.add_first(key, WorldItem::Function(function))?;
+    let key = WorldKey::Interface(interface);
+    entries.add_first(key, WorldItem::Interface(interface))?;
+    Ok(entries)
+}
+
+fn imports(alloc: Global) -> Result<Keyed<WorldKey, WorldItem>, AllocError> {
+    let f = function(alloc, "f", Some(Primitive::String), None)?;
+    side(alloc, f, IMPORTED)
+}
+
+fn exports(alloc: Global) -> Result<Keyed<WorldKey, WorldItem>, AllocError> {
+    let h = h(alloc)?;
+    side(alloc, h, EXPORTED)
+}
+
+fn worlds(alloc: Global) -> Result<Seq<World>, AllocError> {
+    let imports = imports(alloc)?;
+    let exports = exports(alloc)?;
+    let mut worlds = Seq::new(alloc);
+    worlds.push(World { imports, exports })?;
+    Ok(worlds)
+}
+
+/// The world's resolve.
+pub(crate) fn resolve(alloc: Global) -> Result<Resolve, AllocError> {
+    let interfaces = interfaces(alloc)?;
+    let worlds = worlds(alloc)?;
+    Ok(Resolve {
+        interfaces,
+        types: Seq::new(alloc),
+        worlds,
+    })
+}
+
+/// The type of a letter: `i` is i32, `l` i64, `f` f32, and all others are f64.
+fn value(letter: char) -> ValType {
+    match letter {
+        'i' => ValType::I32,
+        'l' => ValType::I64,
+        'f' => ValType::F32,
+        _ => ValType::F64,
+    }
+}
+
+/// The type of a function by the letters of its parameters, `>`, and those of its results.
+fn func_type(alloc: Global, letters: &str) -> Result<FuncType, AllocError> {
+    let mut params = Seq::new(alloc);
+    let mut results = Seq::new(alloc);
+    let mut is_behind = false;
+    for letter in letters.chars() {
+        if letter == '>' {
+            is_behind = true;
+        } else if is_behind {
+            results.push(value(letter))?;
+        } else {
+            params.push(value(letter))?;
+        }
+    }
+    Ok(FuncType { params, results })
+}
+
+/// A module whose one type is that of the letters.
+pub(crate) fn module(alloc: Global, letters: &str) -> Result<CoreModule, AllocError> {
+    let mut types = Seq::new(alloc);
+    types.push(func_type(alloc, letters)?)?;
+    Ok(CoreModule {
+        types,
+        imports: Seq::new(alloc),
+        items: Items {
+            functions: Seq::new(alloc),
+            tables: Seq::new(alloc),
+            memories: Seq::new(alloc),
+            globals: Seq::new(alloc),
+        },
+        exports: Keyed::new(alloc),
+    })
+}
