@@ -16,6 +16,3 @@ mod offering;
 
 pub use fitting::{fits_export, fits_import};
 pub use offering::{extern_type, memory_type, offered};
-
-#[cfg(test)]
-mod tests;

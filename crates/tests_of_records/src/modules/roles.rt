@@ -4,12 +4,12 @@
 ghost use Rattle.std.specs.Prelude.{IsTrue};
 ghost use Rattle.record_modules.specs.Fitting.{HasReturned};
 
-use crate::fitting::{fits_export, fits_import};
-use crate::tests::made::{EXPORTED, IMPORTED, WORLD, h, k, module, resolve};
+use crate::modules::made::{EXPORTED, IMPORTED, WORLD, h, k, module, resolve};
 use comp_lists::Text;
 use comp_worlds::{Export, Import, PayloadInfo, PayloadType, StringEncoding};
 use core_bytes::{MemoryType, ValType};
 use core_sections::{EntityType, ExportedItem, Limits};
+use record_modules::{fits_export, fits_import};
 use std::alloc::{AllocError, Global};
 use std::test::Fail;
 use wit_data::{AbiVariant, Resolve, TypeId, WorldKey};

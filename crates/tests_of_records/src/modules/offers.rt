@@ -1,10 +1,10 @@
 //! What is offered of a whole module, by an independent reader of the same bytes.
 
-use crate::offering::{memory_type, offered};
 use comp_lists::{Keyed, Text};
 use comp_worlds::ExternType;
 use core_bytes::{MemoryType, RefType, ValType};
 use core_sections::{Limits, read_module};
+use record_modules::{memory_type, offered};
 use std::alloc::{AllocError, Global};
 use std::test::Fail;
 
