@@ -8,8 +8,8 @@
 //! What is to be said was worked out by an independent implementation of the same formats, written in Python. The
 //! records have one fault each, or none. The modules are main modules of random worlds (the first 200 of at most
 //! 1,500 bytes by the generator's seeds), and 200 in which one place of the bytes, or of the record, was changed; those of
-//! `versions.txt` import several versions of an interface, and those of `cuts.txt` are one module cut short at every place, counts that
-//! nothing holds, a pair of names that stands twice, and records that are nested deep.
+//! `versions.txt` import several versions of an interface, and those of `hostile.txt` are one module cut short at every place, with and without its
+//! record, counts that nothing holds, a pair of names that stands twice, records that are nested deep, are no JSON or a binary package.
 //!
 //! In reading order: `told` (what is said of a module), `cases` (lines, and how many are told how).
 #![tactic(auto)]
