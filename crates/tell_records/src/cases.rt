@@ -1,6 +1,6 @@
 //! Cases, a line each, and how many are told how.
 
-use crate::told::{module_told, records_told};
+use crate::told::{module_told, modules_told, records_told};
 use std::alloc::{AllocError, Global};
 use std::fmt;
 
@@ -11,12 +11,15 @@ pub(crate) enum Kind {
     Records,
     /// Modules, in hexadecimal digits.
     Modules,
+    /// Two modules, with ` & ` between them.
+    Pairs,
 }
 
 impl Kind {
     pub(crate) fn of(word: &str) -> Kind {
         match word {
             "records" => Kind::Records,
+            "pairs" => Kind::Pairs,
             _ => Kind::Modules,
         }
     }
@@ -30,14 +33,32 @@ pub(crate) struct Count {
     otherwise: u32,
 }
 
-/// What is said of records, or of a module in hexadecimal digits.
+/// What is said of a module in hexadecimal digits.
+fn said_of_module(alloc: Global, text: &str) -> Result<String, AllocError> {
+    match hex::decode(alloc, text.as_bytes()) {
+        Ok(bytes) => module_told(alloc, &bytes),
+        Err(_) => String::from_str(alloc, "no digits"),
+    }
+}
+
+/// What is said of two modules in hexadecimal digits.
+fn said_of_pair(alloc: Global, text: &str) -> Result<String, AllocError> {
+    let (first, second) = text.split_once(" & ").unwrap_or((text, ""));
+    match hex::decode(alloc, first.as_bytes()) {
+        Ok(first) => match hex::decode(alloc, second.as_bytes()) {
+            Ok(second) => modules_told(alloc, &first, &second),
+            Err(_) => String::from_str(alloc, "no digits"),
+        },
+        Err(_) => String::from_str(alloc, "no digits"),
+    }
+}
+
+/// What is said of a case.
 fn said_of(alloc: Global, kind: Kind, text: &str) -> Result<String, AllocError> {
     match kind {
         Kind::Records => records_told(alloc, text),
-        Kind::Modules => match hex::decode(alloc, text.as_bytes()) {
-            Ok(bytes) => module_told(alloc, &bytes),
-            Err(_) => String::from_str(alloc, "no digits"),
-        },
+        Kind::Modules => said_of_module(alloc, text),
+        Kind::Pairs => said_of_pair(alloc, text),
     }
 }
 

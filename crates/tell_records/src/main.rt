@@ -1,15 +1,16 @@
 //! The program `tell_records`: what the lower layer says of records and of modules, each in turn.
 //!
-//! Its words go by twos: `records` or `modules`, and a FILE of such cases. Each line of the file has what is to
+//! Its words go by twos: `records`, `modules` or `pairs`, and a FILE of such cases. Each line of the file has what is to
 //! be said, an arrow, and the records of a module, with ` & ` between two of them, or a whole module in hexadecimal
-//! digits. Printed is each line of which something else is said, with that, and then how many were told as they
+//! digits, or two modules that are given as main one after the other. Printed is each line of which something else is said, with that, and then how many were told as they
 //! are to be. A world that needs what isn't encoded yet counts as left out.
 //!
 //! What is to be said was worked out by an independent implementation of the same formats, written in Python. The
 //! records have one fault each, or none. The modules are main modules of random worlds (the first 200 of at most
 //! 1,500 bytes by the generator's seeds), and 200 in which one place of the bytes, or of the record, was changed; those of
 //! `versions.txt` import several versions of an interface, and those of `hostile.txt` are one module cut short at every place, with and without its
-//! record, counts that nothing holds, a pair of names that stands twice, records that are nested deep, are no JSON or a binary package.
+//! record, counts that nothing holds, a pair of names that stands twice, records that are nested deep, are no JSON or a binary package; the
+//! pairs are small worlds of the same kind, two different ones, or one and what a change in its record made of it.
 //!
 //! In reading order: `told` (what is said of a module), `cases` (lines, and how many are told how).
 #![tactic(auto)]

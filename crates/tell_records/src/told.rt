@@ -2,8 +2,8 @@
 
 ghost use Rattle.std.specs.Prelude.{IsSome};
 
-use comp_lists::{Bytes, Keyed};
-use comp_worlds::{EncoderOptions, Gathered, Lower, Merged, Part};
+use comp_lists::{Bytes, Keyed, Seq};
+use comp_worlds::{EncoderOptions, ExportKey, Gathered, Lower, Merged, Part};
 use plain_lower::PlainLower;
 use std::alloc::{AllocError, Global};
 use std::fmt;
@@ -58,48 +58,125 @@ fn prepare_told<L: Lower>(
     }
 }
 
-/// A module alone, with what it says.
-fn gathered_alone<B>(alloc: Global, bytes: Bytes, own: B, merged: Merged<B>) -> Gathered<B>
+/// A module without its records, what it says, and what it says together with those before it.
+type Given<B> = (Bytes, B, Merged<B>);
+
+/// A module that is given behind others, which say this together.
+fn given_behind<L: Lower>(
+    lower: &L,
+    alloc: Global,
+    joint: &L::Bindgen,
+    bytes: &[u8],
+) -> Result<Given<L::Bindgen>, Told<L::Fault>> {
+    match lower.decode(alloc, bytes) {
+        Ok((bytes, own)) => match lower.merge(alloc, joint, &own) {
+            Ok(merged) => Ok((bytes, own, merged)),
+            Err(fault) => Err(Told::Merge(fault)),
+        },
+        Err(fault) => Err(Told::Decode(fault)),
+    }
+}
+
+/// A module that is given first.
+fn given_first<L: Lower>(
+    lower: &L,
+    alloc: Global,
+    bytes: &[u8],
+) -> Result<Given<L::Bindgen>, Told<L::Fault>> {
+    let empty = lower.empty(alloc);
+    let given = given_behind(lower, alloc, &empty, bytes);
+    drop(empty);
+    given
+}
+
+/// Main as it was given last, which has to export this.
+fn gathered_with<B>(
+    alloc: Global,
+    bytes: Bytes,
+    own: B,
+    joint: B,
+    required: Seq<ExportKey>,
+) -> Gathered<B>
     ensures { IsSome result.main }
 {
     Gathered {
         main: Some(Part {
             bytes,
             own,
-            required: merged.exports,
+            required,
         }),
         adapters: Keyed::new(alloc),
-        joint: merged.joint,
+        joint,
         options: OPTIONS,
     }
 }
 
-/// The world of a module alone.
-fn prepare_alone<L: Lower>(
-    lower: &L,
-    alloc: Global,
-    bytes: Bytes,
-    own: L::Bindgen,
-) -> Told<L::Fault> {
-    let empty = lower.empty(alloc);
-    let merged = lower.merge(alloc, &empty, &own);
-    drop(empty);
-    match merged {
-        Ok(merged) => {
-            let gathered = gathered_alone(alloc, bytes, own, merged);
-            let told = prepare_told(lower, alloc, &gathered);
-            drop(gathered);
-            told
-        }
-        Err(fault) => Told::Merge(fault),
-    }
+/// The world of what was given.
+fn prepare_given<L: Lower>(lower: &L, alloc: Global, given: Given<L::Bindgen>) -> Told<L::Fault> {
+    let (bytes, own, merged) = given;
+    let gathered = gathered_with(alloc, bytes, own, merged.joint, merged.exports);
+    let told = prepare_told(lower, alloc, &gathered);
+    drop(gathered);
+    told
 }
 
 /// What a layer says of a module as main.
 fn told_by<L: Lower>(lower: &L, alloc: Global, bytes: &[u8]) -> Told<L::Fault> {
-    match lower.decode(alloc, bytes) {
-        Ok((bytes, own)) => prepare_alone(lower, alloc, bytes, own),
-        Err(fault) => Told::Decode(fault),
+    match given_first(lower, alloc, bytes) {
+        Ok(given) => prepare_given(lower, alloc, given),
+        Err(told) => told,
+    }
+}
+
+/// All keys that two modules have to export.
+fn with_keys<B: Drop>(keys: Seq<ExportKey>, given: Given<B>) -> Result<Given<B>, AllocError> {
+    let (bytes, own, merged) = given;
+    let Merged { joint, exports } = merged;
+    let mut all = keys;
+    match all.append(exports) {
+        Ok(()) => Ok((
+            bytes,
+            own,
+            Merged {
+                joint,
+                exports: all,
+            },
+        )),
+        Err(refused) => Err(AllocError::from(refused)),
+    }
+}
+
+/// What a layer says of two modules that are given as main, one after the other.
+fn told_by_both<L: Lower>(
+    lower: &L,
+    alloc: Global,
+    first: &[u8],
+    second: &[u8],
+) -> Result<Told<L::Fault>, AllocError> {
+    match given_first(lower, alloc, first) {
+        Ok((_, _, merged)) => {
+            let Merged { joint, exports } = merged;
+            let given = given_behind(lower, alloc, &joint, second);
+            drop(joint);
+            told_behind(lower, alloc, exports, given)
+        }
+        Err(told) => Ok(told),
+    }
+}
+
+/// What a layer says of the second, where the first has to export these keys.
+fn told_behind<L: Lower>(
+    lower: &L,
+    alloc: Global,
+    keys: Seq<ExportKey>,
+    given: Result<Given<L::Bindgen>, Told<L::Fault>>,
+) -> Result<Told<L::Fault>, AllocError> {
+    match given {
+        Ok(given) => match with_keys(keys, given) {
+            Ok(given) => Ok(prepare_given(lower, alloc, given)),
+            Err(refused) => Err(refused),
+        },
+        Err(told) => Ok(told),
     }
 }
 
@@ -144,5 +221,15 @@ pub(crate) fn records_told(alloc: Global, records: &str) -> Result<String, Alloc
 /// What is said of a module as main: that its world is prepared, or the call that refuses it, with the fault.
 pub(crate) fn module_told(alloc: Global, bytes: &[u8]) -> Result<String, AllocError> {
     let told = told_by(&PlainLower::new(), alloc, bytes);
+    format!(in alloc; "{told}")
+}
+
+/// What is said of two modules as main, one after the other.
+pub(crate) fn modules_told(
+    alloc: Global,
+    first: &[u8],
+    second: &[u8],
+) -> Result<String, AllocError> {
+    let told = told_by_both(&PlainLower::new(), alloc, first, second)?;
     format!(in alloc; "{told}")
 }
