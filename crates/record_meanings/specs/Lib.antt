@@ -1,0 +1,6 @@
+pub mod Sides
+pub mod Keys
+pub mod Places
+pub mod Imports
+pub mod Exports
+pub mod Metadata

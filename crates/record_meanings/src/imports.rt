@@ -1,0 +1,283 @@
+//! What the roles of core imports mean.
+
+ghost use Rattle.std.specs.Prelude.{◌≡◌, Some, option_map, IfOk};
+ghost use Rattle.std.specs.Option.{option_copied};
+ghost use Rattle.comp_worlds.specs.declared.imports.Import.TheVariants as variants;
+ghost use Rattle.record_meanings.specs.declared.sides.Side.TheVariants as sides;
+ghost use Rattle.record_meanings.specs.Places.{function_place, resource_of};
+ghost use Rattle.record_meanings.specs.Imports.{memory_type, function_type, called, imported_drop, exported_drop, exported_rep, exported_new, task_return, task_return_of, intrinsic, import_meant};
+
+use crate::copies::copy_function;
+use crate::places::{Place, Resource, function_at, function_place, place_of, resource_of};
+use crate::sides::Side;
+use comp_bytes::ExportKind;
+use comp_lists::{Text, TryClone};
+use comp_worlds::{ExternType, Import};
+use core_bytes::{FuncType, MemoryType};
+use record_resolving::Resolved;
+use record_values::{ImportRole, Intrinsic, Owner, TypeName};
+use std::alloc::{AllocError, Global};
+use wit_data::{AbiVariant, Function};
+
+/// The type of a memory.
+pub(crate) fn memory_type(ty: Option<&ExternType>) -> Option<MemoryType>
+    ensures { result ≡ memory_type (option_copied ty.entry) }
+{
+    match ty {
+        Some(ExternType::Memory(memory)) => Some(*memory),
+        _ => None,
+    }
+}
+
+/// The type of a function.
+fn function_type(ty: Option<&ExternType>) -> Option<&FuncType>
+    ensures { option_copied result ≡ function_type (option_copied ty.entry) }
+{
+    match ty {
+        Some(ExternType::Func(function)) => Some(function),
+        _ => None,
+    }
+}
+
+/// A function that is called at its place.
+fn called(place: Place, name: Text, abi: AbiVariant) -> Import
+    ensures { result ≡ called name abi place }
+{
+    match place.interface {
+        None => Import::WorldFunc(place.key, name, abi),
+        Some(id) => Import::InterfaceFunc(place.key, id, name, abi),
+    }
+}
+
+fn function_meant(
+    alloc: Global,
+    resolved: &Resolved,
+    owner: &Owner,
+    name: &Text,
+    abi: AbiVariant,
+) -> Result<Option<Import>, AllocError>
+    ensures { IfOk result (λ i. i ≡ option_map (called name.now abi) (function_place sides.Imported resolved.now owner.now name.now)) }
+{
+    let function = name.clone(alloc)?;
+    match function_place(alloc, resolved, Side::Imported, owner, name)? {
+        Some(place) => Ok(Some(called(place, function, abi))),
+        None => Ok(None),
+    }
+}
+
+fn imported_drop(resource: Resource) -> Import
+    ensures { result ≡ imported_drop resource }
+{
+    let place = resource.place;
+    Import::ImportedResourceDrop(place.key, place.interface, resource.id)
+}
+
+fn exported_drop(resource: Resource) -> Import
+    ensures { result ≡ exported_drop resource }
+{
+    Import::ExportedResourceDrop(resource.place.key, resource.id)
+}
+
+fn exported_rep(resource: Resource) -> Import
+    ensures { result ≡ exported_rep resource }
+{
+    Import::ExportedResourceRep(resource.place.key, resource.id)
+}
+
+fn exported_new(resource: Resource) -> Import
+    ensures { result ≡ exported_new resource }
+{
+    Import::ExportedResourceNew(resource.place.key, resource.id)
+}
+
+fn imported_drop_meant(
+    alloc: Global,
+    resolved: &Resolved,
+    named: &TypeName,
+) -> Result<Option<Import>, AllocError>
+    ensures { IfOk result (λ i. i ≡ option_map imported_drop (resource_of sides.Imported resolved.now named.now)) }
+{
+    match resource_of(alloc, resolved, Side::Imported, named)? {
+        Some(resource) => Ok(Some(imported_drop(resource))),
+        None => Ok(None),
+    }
+}
+
+fn exported_drop_meant(
+    alloc: Global,
+    resolved: &Resolved,
+    named: &TypeName,
+) -> Result<Option<Import>, AllocError>
+    ensures { IfOk result (λ i. i ≡ option_map exported_drop (resource_of sides.Exported resolved.now named.now)) }
+{
+    match resource_of(alloc, resolved, Side::Exported, named)? {
+        Some(resource) => Ok(Some(exported_drop(resource))),
+        None => Ok(None),
+    }
+}
+
+fn exported_rep_meant(
+    alloc: Global,
+    resolved: &Resolved,
+    named: &TypeName,
+) -> Result<Option<Import>, AllocError>
+    ensures { IfOk result (λ i. i ≡ option_map exported_rep (resource_of sides.Exported resolved.now named.now)) }
+{
+    match resource_of(alloc, resolved, Side::Exported, named)? {
+        Some(resource) => Ok(Some(exported_rep(resource))),
+        None => Ok(None),
+    }
+}
+
+fn exported_new_meant(
+    alloc: Global,
+    resolved: &Resolved,
+    named: &TypeName,
+) -> Result<Option<Import>, AllocError>
+    ensures { IfOk result (λ i. i ≡ option_map exported_new (resource_of sides.Exported resolved.now named.now)) }
+{
+    match resource_of(alloc, resolved, Side::Exported, named)? {
+        Some(resource) => Ok(Some(exported_new(resource))),
+        None => Ok(None),
+    }
+}
+
+fn task_return(place: Place, function: Function) -> Import
+    ensures { result ≡ task_return place function }
+{
+    Import::ExportedTaskReturn(place.key, place.interface, function)
+}
+
+fn task_return_meant(
+    alloc: Global,
+    resolved: &Resolved,
+    owner: &Owner,
+    name: &Text,
+) -> Result<Option<Import>, AllocError>
+    ensures { IfOk result (λ i. i ≡ task_return_of resolved.now owner.now name.now) }
+{
+    let Some(place) = place_of(alloc, resolved, Side::Exported, owner, name)? else {
+        return Ok(None);
+    };
+    match function_at(resolved, Side::Exported, &place, name) {
+        Some(function) => Ok(Some(task_return(place, copy_function(alloc, function)?))),
+        None => Ok(None),
+    }
+}
+
+fn intrinsic(built_in: Intrinsic) -> Import
+    ensures { result ≡ intrinsic built_in }
+{
+    match built_in {
+        Intrinsic::TaskCancel => Import::ExportedTaskCancel,
+        Intrinsic::BackpressureInc => Import::BackpressureInc,
+        Intrinsic::BackpressureDec => Import::BackpressureDec,
+        Intrinsic::WaitableSetNew => Import::WaitableSetNew,
+        Intrinsic::WaitableSetWait => Import::WaitableSetWait,
+        Intrinsic::WaitableSetPoll => Import::WaitableSetPoll,
+        Intrinsic::WaitableSetDrop => Import::WaitableSetDrop,
+        Intrinsic::WaitableJoin => Import::WaitableJoin,
+        Intrinsic::SubtaskDrop => Import::SubtaskDrop,
+        Intrinsic::ErrorContextDrop => Import::ErrorContextDrop,
+    }
+}
+
+fn memory_meant(ty: Option<&ExternType>) -> Option<Import>
+    ensures { result ≡ option_map variants.MainModuleMemory (memory_type (option_copied ty.entry)) }
+{
+    match memory_type(ty) {
+        Some(memory) => Some(Import::MainModuleMemory(memory)),
+        None => None,
+    }
+}
+
+fn main_export(alloc: Global, name: &Text, kind: ExportKind) -> Result<Option<Import>, AllocError>
+    ensures { IfOk result (λ i. i ≡ Some (variants.MainModuleExport name.now kind)) }
+{
+    let name = name.clone(alloc)?;
+    Ok(Some(Import::MainModuleExport { name, kind }))
+}
+
+fn adapter_export(
+    alloc: Global,
+    adapter: &Text,
+    function: &Text,
+    ty: &FuncType,
+) -> Result<Import, AllocError>
+    ensures { IfOk result (λ i. i ≡ variants.AdapterExport adapter.now function.now ty.now) }
+{
+    let ty = ty.try_clone(alloc)?;
+    let adapter = adapter.clone(alloc)?;
+    let func = function.clone(alloc)?;
+    Ok(Import::AdapterExport { adapter, func, ty })
+}
+
+fn adapter_export_meant(
+    alloc: Global,
+    adapter: &Text,
+    function: &Text,
+    ty: Option<&ExternType>,
+) -> Result<Option<Import>, AllocError>
+    ensures { IfOk result (λ i. i ≡ option_map (variants.AdapterExport adapter.now function.now) (function_type (option_copied ty.entry))) }
+{
+    match function_type(ty) {
+        Some(ty) => Ok(Some(adapter_export(alloc, adapter, function, ty)?)),
+        None => Ok(None),
+    }
+}
+
+/// What a core import with this field, this role and this type is for, where functions, types and
+/// interfaces go by number.
+///
+/// It is none where the role names something that the world lacks (an interface, a function or a type), or where an
+/// import for a memory or for an adapter's export isn't of the type of one. The only refusal is want of memory.
+pub fn import_meant(
+    alloc: Global,
+    resolved: &Resolved,
+    field: &Text,
+    role: &ImportRole,
+    ty: Option<&ExternType>,
+) -> Result<Option<Import>, AllocError>
+    ensures { IfOk result (λ i. i ≡ import_meant resolved.now field.now role.now (option_copied ty.entry)) }
+{
+    match role {
+        ImportRole::Function { owner, name, abi } => function_meant(
+            alloc, resolved, owner, name, *abi,
+        ),
+        ImportRole::ImportedDrop(named) => imported_drop_meant(alloc, resolved, named),
+        ImportRole::ExportedDrop(named) => exported_drop_meant(alloc, resolved, named),
+        ImportRole::ExportedRep(named) => exported_rep_meant(alloc, resolved, named),
+        ImportRole::ExportedNew(named) => exported_new_meant(alloc, resolved, named),
+        ImportRole::TaskReturn { owner, function } => task_return_meant(
+            alloc, resolved, owner, function,
+        ),
+        ImportRole::Intrinsic(built_in) => Ok(Some(intrinsic(*built_in))),
+        ImportRole::SubtaskCancel { is_async } => Ok(Some(Import::SubtaskCancel {
+            async_: *is_async,
+        })),
+        ImportRole::Payload { .. } => Ok(None),
+        ImportRole::ErrorContextNew(encoding) => Ok(Some(Import::ErrorContextNew {
+            encoding: *encoding,
+        })),
+        ImportRole::ErrorContextDebugMessage(encoding) => Ok(Some(
+            Import::ErrorContextDebugMessage {
+                encoding: *encoding,
+            },
+        )),
+        ImportRole::ContextGet { ty, slot } => Ok(Some(Import::ContextGet {
+            ty: *ty,
+            slot: *slot,
+        })),
+        ImportRole::ContextSet { ty, slot } => Ok(Some(Import::ContextSet {
+            ty: *ty,
+            slot: *slot,
+        })),
+        ImportRole::TlsGet(ty) => Ok(Some(Import::TlsBaseGet { ty: *ty })),
+        ImportRole::TlsSet(ty) => Ok(Some(Import::TlsBaseSet { ty: *ty })),
+        ImportRole::Memory => Ok(memory_meant(ty)),
+        ImportRole::MainExport { name, kind } => main_export(alloc, name, *kind),
+        ImportRole::AdapterExport { adapter, function } => adapter_export_meant(
+            alloc, adapter, function, ty,
+        ),
+    }
+}

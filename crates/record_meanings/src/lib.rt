@@ -1,0 +1,16 @@
+//! What roles, keys and encodings of a record mean in the resolve that was made of its world.
+#![tactic(auto)]
+
+mod copies;
+mod exports;
+mod imports;
+mod keys;
+mod metadata;
+mod places;
+mod sides;
+
+pub use exports::export_meant;
+pub use imports::import_meant;
+pub use keys::{export_key_meant, key_meant};
+pub use metadata::metadata_meant;
+pub use sides::Side;
