@@ -14,7 +14,6 @@ use Rattle.record_values.specs.declared.roles.PlainExport.TheVariants as plain
 use Rattle.record_resolving.specs.declared.resolving.Resolved.{Resolved}
 use Rattle.record_meanings.specs.declared.sides.Side.TheVariants as sides
 use Rattle.record_meanings.specs.declared.places.Place.{Place}
-use Rattle.record_meanings.specs.declared.places.Resource.{Resource}
 use Rattle.record_meanings.specs.Places.{function_place, resource_of}
 use Rattle.record_meanings.specs.Imports.{memory_type}
 

@@ -1,6 +1,6 @@
 -- What the role of a core import means, where functions, types and interfaces go by number (Canonical ABI: `canon lower`
 -- and the built-in functions).
-use Rattle.std.specs.Prelude.{ℕ, Bool, List, Option, Some, None, option_map}
+use Rattle.std.specs.Prelude.{ℕ, List, Option, Some, None, option_map}
 use Rattle.std.specs.Option.{option_and_then}
 use Rattle.core_bytes.specs.declared.types.FuncType.{FuncType}
 use Rattle.core_bytes.specs.declared.types.MemoryType.{MemoryType}
@@ -22,6 +22,7 @@ use Rattle.record_meanings.specs.declared.sides.Side.TheVariants as sides
 use Rattle.record_meanings.specs.declared.places.Place.{Place}
 use Rattle.record_meanings.specs.declared.places.Resource.{Resource}
 use Rattle.record_meanings.specs.Places.{place_of, function_at, function_place, resource_of}
+use Rattle.record_meanings.specs.Payloads.{payload_meant, payload_import}
 
 -- ---- what the core import is, by its type
 
@@ -89,7 +90,7 @@ import_meant r field (roles.ExportedNew t) ty = option_map exported_new (resourc
 import_meant r field (roles.TaskReturn owner name) ty = task_return_of r owner name
 import_meant r field (roles.Intrinsic i) ty = Some (intrinsic i)
 import_meant r field (roles.SubtaskCancel is_async) ty = Some (imports.SubtaskCancel is_async)
-import_meant r field (roles.Payload kind operation payload is_async) ty = None
+import_meant r field (roles.Payload kind operation payload is_async) ty = option_map (payload_import kind operation is_async) (payload_meant r field kind payload)
 import_meant r field (roles.ErrorContextNew encoding) ty = Some (imports.ErrorContextNew encoding)
 import_meant r field (roles.ErrorContextDebugMessage encoding) ty = Some (imports.ErrorContextDebugMessage encoding)
 import_meant r field (roles.ContextGet word slot) ty = Some (imports.ContextGet word slot)

@@ -4,3 +4,5 @@ pub mod Places
 pub mod Imports
 pub mod Exports
 pub mod Metadata
+pub mod Payloads
+pub mod Walks

@@ -5,9 +5,13 @@ ghost use Rattle.std.specs.Option.{option_copied};
 ghost use Rattle.comp_worlds.specs.declared.imports.Import.TheVariants as variants;
 ghost use Rattle.record_meanings.specs.declared.sides.Side.TheVariants as sides;
 ghost use Rattle.record_meanings.specs.Places.{function_place, resource_of};
+ghost use Rattle.wit_data.specs.Sound.{IsSound};
+ghost use Rattle.record_meanings.specs.Payloads as payloads;
+ghost use Rattle.record_meanings.specs.Payloads.{payload_import};
 ghost use Rattle.record_meanings.specs.Imports.{memory_type, function_type, called, imported_drop, exported_drop, exported_rep, exported_new, task_return, task_return_of, intrinsic, import_meant};
 
 use crate::copies::copy_function;
+use crate::payloads::{payload_import, payload_meant};
 use crate::places::{Place, Resource, function_at, function_place, place_of, resource_of};
 use crate::sides::Side;
 use comp_bytes::ExportKind;
@@ -15,7 +19,9 @@ use comp_lists::{Text, TryClone};
 use comp_worlds::{ExternType, Import};
 use core_bytes::{FuncType, MemoryType};
 use record_resolving::Resolved;
-use record_values::{ImportRole, Intrinsic, Owner, TypeName};
+use record_values::{
+    ImportRole, Intrinsic, Owner, Payload, PayloadKind, PayloadOperation, TypeName,
+};
 use std::alloc::{AllocError, Global};
 use wit_data::{AbiVariant, Function};
 
@@ -182,6 +188,24 @@ fn intrinsic(built_in: Intrinsic) -> Import
     }
 }
 
+fn payload_role(
+    alloc: Global,
+    resolved: &Resolved,
+    field: &Text,
+    kind: PayloadKind,
+    operation: PayloadOperation,
+    payload: &Payload,
+    is_async: bool,
+) -> Result<Option<Import>, AllocError>
+    requires { IsSound resolved.now.resolve }
+    ensures { IfOk result (λ i. i ≡ option_map (payload_import kind operation is_async) (payloads.payload_meant resolved.now field.now kind payload.now)) }
+{
+    match payload_meant(alloc, resolved, field, kind, payload)? {
+        Some(info) => Ok(Some(payload_import(kind, operation, is_async, info))),
+        None => Ok(None),
+    }
+}
+
 fn memory_meant(ty: Option<&ExternType>) -> Option<Import>
     ensures { result ≡ option_map variants.MainModuleMemory (memory_type (option_copied ty.entry)) }
 {
@@ -238,6 +262,7 @@ pub fn import_meant(
     role: &ImportRole,
     ty: Option<&ExternType>,
 ) -> Result<Option<Import>, AllocError>
+    requires { IsSound resolved.now.resolve }
     ensures { IfOk result (λ i. i ≡ import_meant resolved.now field.now role.now (option_copied ty.entry)) }
 {
     match role {
@@ -255,7 +280,14 @@ pub fn import_meant(
         ImportRole::SubtaskCancel { is_async } => Ok(Some(Import::SubtaskCancel {
             async_: *is_async,
         })),
-        ImportRole::Payload { .. } => Ok(None),
+        ImportRole::Payload {
+            kind,
+            operation,
+            payload,
+            is_async,
+        } => payload_role(
+            alloc, resolved, field, *kind, *operation, payload, *is_async,
+        ),
         ImportRole::ErrorContextNew(encoding) => Ok(Some(Import::ErrorContextNew {
             encoding: *encoding,
         })),

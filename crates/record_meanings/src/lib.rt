@@ -6,8 +6,10 @@ mod exports;
 mod imports;
 mod keys;
 mod metadata;
+mod payloads;
 mod places;
 mod sides;
+mod walks;
 
 pub use exports::export_meant;
 pub use imports::import_meant;
