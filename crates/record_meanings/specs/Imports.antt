@@ -77,6 +77,17 @@ intrinsic intrinsics.WaitableJoin = imports.WaitableJoin
 intrinsic intrinsics.SubtaskDrop = imports.SubtaskDrop
 intrinsic intrinsics.ErrorContextDrop = imports.ErrorContextDrop
 
+abbrev pub built_in : ImportRole → Option Import
+built_in (roles.Intrinsic i) = Some (intrinsic i)
+built_in (roles.SubtaskCancel is_async) = Some (imports.SubtaskCancel is_async)
+built_in (roles.ErrorContextNew encoding) = Some (imports.ErrorContextNew encoding)
+built_in (roles.ErrorContextDebugMessage encoding) = Some (imports.ErrorContextDebugMessage encoding)
+built_in (roles.ContextGet word slot) = Some (imports.ContextGet word slot)
+built_in (roles.ContextSet word slot) = Some (imports.ContextSet word slot)
+built_in (roles.TlsGet word) = Some (imports.TlsBaseGet word)
+built_in (roles.TlsSet word) = Some (imports.TlsBaseSet word)
+built_in role = None
+
 -- ---- roles
 
 -- What an import of this field and this type is for. Functions and resources whose roles say so are the world's imports,
@@ -88,15 +99,8 @@ import_meant r field (roles.ExportedDrop t) ty = option_map exported_drop (resou
 import_meant r field (roles.ExportedRep t) ty = option_map exported_rep (resource_of sides.Exported r t)
 import_meant r field (roles.ExportedNew t) ty = option_map exported_new (resource_of sides.Exported r t)
 import_meant r field (roles.TaskReturn owner name) ty = task_return_of r owner name
-import_meant r field (roles.Intrinsic i) ty = Some (intrinsic i)
-import_meant r field (roles.SubtaskCancel is_async) ty = Some (imports.SubtaskCancel is_async)
 import_meant r field (roles.Payload kind operation payload is_async) ty = option_map (payload_import kind operation is_async) (payload_meant r field kind payload)
-import_meant r field (roles.ErrorContextNew encoding) ty = Some (imports.ErrorContextNew encoding)
-import_meant r field (roles.ErrorContextDebugMessage encoding) ty = Some (imports.ErrorContextDebugMessage encoding)
-import_meant r field (roles.ContextGet word slot) ty = Some (imports.ContextGet word slot)
-import_meant r field (roles.ContextSet word slot) ty = Some (imports.ContextSet word slot)
-import_meant r field (roles.TlsGet word) ty = Some (imports.TlsBaseGet word)
-import_meant r field (roles.TlsSet word) ty = Some (imports.TlsBaseSet word)
 import_meant r field roles.Memory ty = option_map imports.MainModuleMemory (memory_type ty)
 import_meant r field (roles.MainExport name kind) ty = Some (imports.MainModuleExport name kind)
 import_meant r field (roles.AdapterExport adapter name) ty = option_map (imports.AdapterExport adapter name) (function_type ty)
+import_meant r field role ty = built_in role

@@ -8,7 +8,7 @@ ghost use Rattle.record_meanings.specs.Places.{function_place, resource_of};
 ghost use Rattle.wit_data.specs.Sound.{IsSound};
 ghost use Rattle.record_meanings.specs.Payloads as payloads;
 ghost use Rattle.record_meanings.specs.Payloads.{payload_import};
-ghost use Rattle.record_meanings.specs.Imports.{memory_type, function_type, called, imported_drop, exported_drop, exported_rep, exported_new, task_return, task_return_of, intrinsic, import_meant};
+ghost use Rattle.record_meanings.specs.Imports.{memory_type, function_type, called, imported_drop, exported_drop, exported_rep, exported_new, task_return, task_return_of, intrinsic, built_in, import_meant};
 
 use crate::copies::copy_function;
 use crate::payloads::{payload_import, payload_meant};
@@ -171,10 +171,10 @@ fn task_return_meant(
     }
 }
 
-fn intrinsic(built_in: Intrinsic) -> Import
-    ensures { result ≡ intrinsic built_in }
+fn intrinsic(which: Intrinsic) -> Import
+    ensures { result ≡ intrinsic which }
 {
-    match built_in {
+    match which {
         Intrinsic::TaskCancel => Import::ExportedTaskCancel,
         Intrinsic::BackpressureInc => Import::BackpressureInc,
         Intrinsic::BackpressureDec => Import::BackpressureDec,
@@ -203,6 +203,25 @@ fn payload_role(
     match payload_meant(alloc, resolved, field, kind, payload)? {
         Some(info) => Ok(Some(payload_import(kind, operation, is_async, info))),
         None => Ok(None),
+    }
+}
+
+/// A built-in function that names nothing in the world.
+fn built_in(role: &ImportRole) -> Option<Import>
+    ensures { result ≡ built_in role.now }
+{
+    match *role {
+        ImportRole::Intrinsic(which) => Some(intrinsic(which)),
+        ImportRole::SubtaskCancel { is_async } => Some(Import::SubtaskCancel { async_: is_async }),
+        ImportRole::ErrorContextNew(encoding) => Some(Import::ErrorContextNew { encoding }),
+        ImportRole::ErrorContextDebugMessage(encoding) => Some(Import::ErrorContextDebugMessage {
+            encoding,
+        }),
+        ImportRole::ContextGet { ty, slot } => Some(Import::ContextGet { ty, slot }),
+        ImportRole::ContextSet { ty, slot } => Some(Import::ContextSet { ty, slot }),
+        ImportRole::TlsGet(ty) => Some(Import::TlsBaseGet { ty }),
+        ImportRole::TlsSet(ty) => Some(Import::TlsBaseSet { ty }),
+        _ => None,
     }
 }
 
@@ -253,8 +272,11 @@ fn adapter_export_meant(
 /// What a core import with this field, this role and this type is for, where functions, types and
 /// interfaces go by number.
 ///
-/// It is none where the role names something that the world lacks (an interface, a function or a type), or where an
-/// import for a memory or for an adapter's export isn't of the type of one. The only refusal is want of memory.
+/// Functions and resources of imports are looked up on the world's imported side, those of exports on its exported
+/// side. An import for a memory has the memory's type, one for an adapter's export the function's.
+///
+/// It is none where the role names something that this side lacks (an interface, a function, a type, or a stream or
+/// future by its number), or where such an import is no memory or no function. The only refusal is want of memory.
 pub fn import_meant(
     alloc: Global,
     resolved: &Resolved,
@@ -276,10 +298,6 @@ pub fn import_meant(
         ImportRole::TaskReturn { owner, function } => task_return_meant(
             alloc, resolved, owner, function,
         ),
-        ImportRole::Intrinsic(built_in) => Ok(Some(intrinsic(*built_in))),
-        ImportRole::SubtaskCancel { is_async } => Ok(Some(Import::SubtaskCancel {
-            async_: *is_async,
-        })),
         ImportRole::Payload {
             kind,
             operation,
@@ -288,28 +306,18 @@ pub fn import_meant(
         } => payload_role(
             alloc, resolved, field, *kind, *operation, payload, *is_async,
         ),
-        ImportRole::ErrorContextNew(encoding) => Ok(Some(Import::ErrorContextNew {
-            encoding: *encoding,
-        })),
-        ImportRole::ErrorContextDebugMessage(encoding) => Ok(Some(
-            Import::ErrorContextDebugMessage {
-                encoding: *encoding,
-            },
-        )),
-        ImportRole::ContextGet { ty, slot } => Ok(Some(Import::ContextGet {
-            ty: *ty,
-            slot: *slot,
-        })),
-        ImportRole::ContextSet { ty, slot } => Ok(Some(Import::ContextSet {
-            ty: *ty,
-            slot: *slot,
-        })),
-        ImportRole::TlsGet(ty) => Ok(Some(Import::TlsBaseGet { ty: *ty })),
-        ImportRole::TlsSet(ty) => Ok(Some(Import::TlsBaseSet { ty: *ty })),
         ImportRole::Memory => Ok(memory_meant(ty)),
         ImportRole::MainExport { name, kind } => main_export(alloc, name, *kind),
         ImportRole::AdapterExport { adapter, function } => adapter_export_meant(
             alloc, adapter, function, ty,
         ),
+        ImportRole::Intrinsic(_)
+        | ImportRole::SubtaskCancel { .. }
+        | ImportRole::ErrorContextNew(_)
+        | ImportRole::ErrorContextDebugMessage(_)
+        | ImportRole::ContextGet { .. }
+        | ImportRole::ContextSet { .. }
+        | ImportRole::TlsGet(_)
+        | ImportRole::TlsSet(_) => Ok(built_in(role)),
     }
 }
