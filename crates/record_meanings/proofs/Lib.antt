@@ -1,2 +1,3 @@
 mod Walking
 mod Standing
+mod Naming

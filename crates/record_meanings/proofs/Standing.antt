@@ -25,17 +25,17 @@ use Rattle.record_meanings.specs.Sides.{items_in, items_of, item_at}
 use Rattle.record_meanings.specs.Places.{function_in_place, function_at}
 
 -- what holds of all holds of the one at a number, if there is one
-abbrev IfThere : {X : Type 0} → (X → Type 0) → Option X → Type 0
+abbrev pub IfThere : {X : Type 0} → (X → Type 0) → Option X → Type 0
 IfThere P None = Unit {0}
 IfThere P (Some x) = P x
 
-at_number : {X : Type 0} (P : X → Type 0) (xs : List X) (n : ℕ) → AllByRecursion P xs → IfThere P (slice_get xs n)
+pub at_number : {X : Type 0} (P : X → Type 0) (xs : List X) (n : ℕ) → AllByRecursion P xs → IfThere P (slice_get xs n)
 at_number P [] n h = tt
 at_number P (x ∷ xs) zero h = h.0
 at_number P (x ∷ xs) (suc n) h = at_number P xs n h.1
 
 -- and of the one that is looked up
-looked_up : {K X : Type 0} (P : X → Type 0) (test : K → Bool) (es : List (K × X)) → AllByRecursion (λ e. P e.1) es → IfThere P (lookup test es)
+pub looked_up : {K X : Type 0} (P : X → Type 0) (test : K → Bool) (es : List (K × X)) → AllByRecursion (λ e. P e.1) es → IfThere P (lookup test es)
 looked_up P test [] h = tt
 looked_up P test (e ∷ es) h = by (test e.0) (lookup test es) (looked_up P test es h.1)
   where
@@ -52,7 +52,7 @@ side_stands r side None h = tt
 side_stands r sides.Imported (Some w) h = items_alone r w.imports h.imports
 side_stands r sides.Exported (Some w) h = items_alone r w.exports h.exports
 
-item_stands : (r : Resolved) (side : Side) (key : WorldKey) → IsSound r.resolve → IfThere (HasItem r.resolve) (item_at side r key)
+pub item_stands : (r : Resolved) (side : Side) (key : WorldKey) → IsSound r.resolve → IfThere (HasItem r.resolve) (item_at side r key)
 item_stands r side key sound =
     looked_up (HasItem r.resolve) (is_same_key key) (items_of side r) (side_stands r.resolve side (slice_get r.resolve.worlds 0) (at_number (HasWorld r.resolve) r.resolve.worlds 0 sound.worlds))
 
@@ -66,7 +66,7 @@ functions_stand : (r : Resolve) (o : Option Interface) → IfThere (HasAll r) o 
 functions_stand r None h = tt
 functions_stand r (Some i) h = h.functions
 
-place_stands : (r : Resolved) (side : Side) (key : WorldKey) (interface : Option InterfaceId) (name : List ℕ) → IsSound r.resolve → IfThere (HasFunction r.resolve) (function_in_place side r key interface name)
+pub place_stands : (r : Resolved) (side : Side) (key : WorldKey) (interface : Option InterfaceId) (name : List ℕ) → IsSound r.resolve → IfThere (HasFunction r.resolve) (function_in_place side r key interface name)
 place_stands r side key None name sound = root_stands r.resolve (item_at side r key) (item_stands r side key sound)
 place_stands r side key (Some id) name sound =
     looked_up (HasFunction r.resolve) (bytes_eq name) (functions_of r.resolve id) (functions_stand r.resolve (slice_get r.resolve.interfaces id.index) (at_number (HasAll r.resolve) r.resolve.interfaces id.index sound.interfaces))

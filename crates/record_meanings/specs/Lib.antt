@@ -6,3 +6,4 @@ pub mod Exports
 pub mod Metadata
 pub mod Payloads
 pub mod Walks
+pub mod Named

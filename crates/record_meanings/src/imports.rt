@@ -1,7 +1,8 @@
 //! What the roles of core imports mean.
 
 ghost use Rattle.std.specs.Prelude.{◌≡◌, Some, option_map, IfOk};
-ghost use Rattle.std.specs.Option.{option_copied};
+ghost use Rattle.std.specs.Option.{option_copied, IfSome};
+ghost use Rattle.record_meanings.specs.Named.{HasNamed};
 ghost use Rattle.comp_worlds.specs.declared.imports.Import.TheVariants as variants;
 ghost use Rattle.record_meanings.specs.declared.sides.Side.TheVariants as sides;
 ghost use Rattle.record_meanings.specs.Places.{function_place, resource_of};
@@ -269,15 +270,8 @@ fn adapter_export_meant(
     }
 }
 
-/// What a core import with this field, this role and this type is for, where functions, types and
-/// interfaces go by number.
-///
-/// Functions and resources of imports are looked up on the world's imported side, those of exports on its exported
-/// side. An import for a memory has the memory's type, one for an adapter's export the function's.
-///
-/// It is none where the role names something that this side lacks (an interface, a function, a type, or a stream or
-/// future by its number), or where such an import is no memory or no function. The only refusal is want of memory.
-pub fn import_meant(
+/// What the role of a core import means.
+fn role_meant(
     alloc: Global,
     resolved: &Resolved,
     field: &Text,
@@ -320,4 +314,30 @@ pub fn import_meant(
         | ImportRole::TlsGet(_)
         | ImportRole::TlsSet(_) => Ok(built_in(role)),
     }
+}
+
+/// What a core import with this field, this role and this type is for, where functions, types and
+/// interfaces go by number.
+///
+/// Functions and resources of imports are looked up on the world's imported side, those of exports on its exported
+/// side. An import for a memory has the memory's type, one for an adapter's export the function's.
+///
+/// It is none where the role names something that this side lacks (an interface, a function, a type, or a stream or
+/// future by its number), or where such an import is no memory or no function. The only refusal is want of memory.
+///
+/// What the answer names stands in the resolve.
+#[tactic(auto, using(crate::proofs::Naming::meant_names))]
+pub fn import_meant(
+    alloc: Global,
+    resolved: &Resolved,
+    field: &Text,
+    role: &ImportRole,
+    ty: Option<&ExternType>,
+) -> Result<Option<Import>, AllocError>
+    requires { IsSound resolved.now.resolve }
+    ensures exact { IfOk result (λ i. i ≡ import_meant resolved.now field.now role.now (option_copied ty.entry)) }
+    ensures stands { IfOk result (λ i. IfSome i (HasNamed resolved.now.resolve)) }
+{
+    let meant = role_meant(alloc, resolved, field, role, ty)?;
+    Ok(meant)
 }
