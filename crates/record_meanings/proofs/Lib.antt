@@ -1,0 +1,4 @@
+mod Walking
+mod Standing
+mod Naming
+mod Worked

@@ -1,0 +1,47 @@
+-- Keys of a world's imports and exports, where interfaces go by number (component model: names of imports and exports).
+use Rattle.std.specs.Prelude.{Bool, false, List, [], ◌∷◌, Option, Some, None, is_some, if◌then◌else◌}
+use Rattle.std.specs.Option.{option_and_then}
+use Rattle.wit_data.specs.declared.ids.InterfaceId.{InterfaceId}
+use Rattle.wit_data.specs.contracts.ids.InterfaceIdPartialEq.TheImpl as same_id
+use Rattle.wit_data.specs.declared.worlds.WorldItem.{WorldItem}
+use Rattle.wit_data.specs.declared.worlds.WorldItem.TheVariants as items
+use Rattle.wit_data.specs.declared.worlds.WorldKey.{WorldKey}
+use Rattle.wit_data.specs.declared.worlds.WorldKey.TheVariants as keys
+use Rattle.comp_worlds.specs.declared.gathered.ExportKey.{ExportKey}
+use Rattle.comp_worlds.specs.declared.gathered.ExportKey.TheVariants as required
+use Rattle.record_values.specs.declared.names.InterfaceName.TheVariants as names
+use Rattle.record_values.specs.declared.world.ItemKey.{ItemKey}
+use Rattle.record_values.specs.declared.world.ItemKey.TheVariants as item_keys
+use Rattle.record_resolving.specs.declared.resolving.Resolved.{Resolved}
+use Rattle.record_meanings.specs.declared.sides.Side.{Side}
+use Rattle.record_meanings.specs.declared.sides.Side.TheVariants as sides
+use Rattle.record_meanings.specs.Sides.{interface_of, items_of, item_at}
+
+-- a key, if something stands there on this side of the world
+abbrev pub standing : Side → Resolved → WorldKey → Option WorldKey
+standing side r key = if is_some (item_at side r key) then Some key else None
+
+-- what the key of a record means: a plain name is itself, an id stands for its interface
+abbrev pub key_meant : Side → Resolved → ItemKey → Option WorldKey
+key_meant side r (item_keys.Name text) = standing side r (keys.Name text)
+key_meant side r (item_keys.Interface id) = option_and_then (λ i. standing side r (keys.Interface i)) (interface_of side r (names.Id id))
+
+-- what the key of a required export means
+abbrev pub export_key_meant : Resolved → ExportKey → Option WorldKey
+export_key_meant r (required.Name text) = key_meant sides.Exported r (item_keys.Name text)
+export_key_meant r (required.Interface id) = key_meant sides.Exported r (item_keys.Interface id)
+
+abbrev pub is_interface : InterfaceId → WorldItem → Bool
+is_interface id (items.Interface other) = same_id.eq-value.it id other
+is_interface id (items.Function f) = false
+is_interface id (items.NamedType t) = false
+
+-- the first key at which this interface stands
+abbrev pub key_among : InterfaceId → List (WorldKey × WorldItem) → Option WorldKey
+key_among id [] = None
+key_among id (e ∷ es) = if is_interface id e.1 then Some e.0 else key_among id es
+
+-- The key of an interface of a side: the interface itself, or else the name under which the side has it.
+abbrev pub interface_key : Side → Resolved → InterfaceId → Option WorldKey
+interface_key side r id =
+    if is_some (item_at side r (keys.Interface id)) then Some (keys.Interface id) else key_among id (items_of side r)

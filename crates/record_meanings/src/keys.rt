@@ -1,0 +1,141 @@
+//! Keys of a world's imports and exports.
+
+ghost use Rattle.std.specs.Prelude.{◌≡◌, is_some, IfOk};
+ghost use Rattle.record_meanings.specs.Sides.{items_of, item_at};
+ghost use Rattle.record_meanings.specs.Keys.{standing, key_meant, export_key_meant, is_interface, key_among, interface_key};
+ghost use Rattle.record_values.specs.declared.world.ItemKey.TheVariants as item_keys;
+
+use crate::sides::{Side, interface_of, item_at, items_in};
+use comp_lists::{Keyed, Text, TryClone};
+use comp_worlds::ExportKey;
+use record_resolving::Resolved;
+use record_values::{InterfaceName, ItemKey};
+use std::alloc::{AllocError, Global};
+use wit_data::{InterfaceId, WorldItem, WorldKey};
+
+fn standing(resolved: &Resolved, side: Side, key: WorldKey) -> Option<WorldKey>
+    ensures { result ≡ standing side resolved.now key }
+{
+    if item_at(resolved, side, &key).is_some() {
+        Some(key)
+    } else {
+        None
+    }
+}
+
+/// The key of a plain name.
+fn name_meant(
+    alloc: Global,
+    resolved: &Resolved,
+    side: Side,
+    name: &Text,
+) -> Result<Option<WorldKey>, AllocError>
+    ensures { IfOk result (λ k. k ≡ key_meant side resolved.now (item_keys.Name name.now)) }
+{
+    let key = WorldKey::Name(name.clone(alloc)?);
+    Ok(standing(resolved, side, key))
+}
+
+/// The key of the interface with this id.
+fn id_meant(
+    alloc: Global,
+    resolved: &Resolved,
+    side: Side,
+    id: &Text,
+) -> Result<Option<WorldKey>, AllocError>
+    ensures { IfOk result (λ k. k ≡ key_meant side resolved.now (item_keys.Interface id.now)) }
+{
+    let name = InterfaceName::Id(id.clone(alloc)?);
+    match interface_of(resolved, side, &name) {
+        Some(interface) => Ok(standing(resolved, side, WorldKey::Interface(interface))),
+        None => Ok(None),
+    }
+}
+
+/// What the key of a record means on a side of the resolved world: a plain name is itself, an id stands for its interface.
+/// It is none where nothing stands there. The only refusal is want of memory.
+pub fn key_meant(
+    alloc: Global,
+    resolved: &Resolved,
+    side: Side,
+    key: &ItemKey,
+) -> Result<Option<WorldKey>, AllocError>
+    ensures { IfOk result (λ k. k ≡ key_meant side resolved.now key.now) }
+{
+    match key {
+        ItemKey::Name(name) => name_meant(alloc, resolved, side, name),
+        ItemKey::Interface(id) => id_meant(alloc, resolved, side, id),
+    }
+}
+
+/// What the key of a required export means. It is none where the world doesn't export it. The only refusal is want of
+/// memory.
+pub fn export_key_meant(
+    alloc: Global,
+    resolved: &Resolved,
+    key: &ExportKey,
+) -> Result<Option<WorldKey>, AllocError>
+    ensures { IfOk result (λ k. k ≡ export_key_meant resolved.now key.now) }
+{
+    match key {
+        ExportKey::Name(name) => name_meant(alloc, resolved, Side::Exported, name),
+        ExportKey::Interface(id) => id_meant(alloc, resolved, Side::Exported, id),
+    }
+}
+
+fn is_interface(id: InterfaceId, item: &WorldItem) -> bool
+    ensures { result ≡ is_interface id item.now }
+{
+    match item {
+        WorldItem::Interface(other) => id == *other,
+        WorldItem::Function(_) => false,
+        WorldItem::NamedType(_) => false,
+    }
+}
+
+/// The first key at which an interface stands.
+fn key_among(
+    alloc: Global,
+    items: &Keyed<WorldKey, WorldItem>,
+    id: InterfaceId,
+) -> Result<Option<WorldKey>, AllocError>
+    ensures { IfOk result (λ k. k ≡ key_among id items.now) }
+{
+    for (key, item) in items.entries() {
+        if is_interface(id, item) {
+            return Ok(Some(key.try_clone(alloc)?));
+        }
+    }
+    Ok(None)
+}
+
+/// The name under which a side of the world has an interface.
+fn name_of(
+    alloc: Global,
+    resolved: &Resolved,
+    side: Side,
+    id: InterfaceId,
+) -> Result<Option<WorldKey>, AllocError>
+    ensures { IfOk result (λ k. k ≡ key_among id (items_of side resolved.now)) }
+{
+    match resolved.resolve.worlds.as_slice().get(0) {
+        Some(world) => key_among(alloc, items_in(world, side), id),
+        None => Ok(None),
+    }
+}
+
+/// The key of an interface of a side of the world.
+pub(crate) fn interface_key(
+    alloc: Global,
+    resolved: &Resolved,
+    side: Side,
+    id: InterfaceId,
+) -> Result<Option<WorldKey>, AllocError>
+    ensures { IfOk result (λ k. k ≡ interface_key side resolved.now id) }
+{
+    let own = WorldKey::Interface(id);
+    if item_at(resolved, side, &own).is_some() {
+        return Ok(Some(own));
+    }
+    name_of(alloc, resolved, side, id)
+}

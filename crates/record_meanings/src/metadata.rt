@@ -1,0 +1,77 @@
+//! How functions spell texts, where the interfaces that have them go by number.
+
+ghost use Rattle.std.specs.Prelude.{◌≡◌, [], IfOk, OnOk};
+ghost use Rattle.record_meanings.specs.Keys as meanings;
+ghost use Rattle.record_meanings.specs.Metadata.{with_encoding, encodings_after, metadata_meant};
+
+use crate::keys::key_meant;
+use crate::sides::Side;
+use comp_lists::Keyed;
+use comp_worlds::{FunctionKey, ModuleMetadata, StringEncoding};
+use record_joining::{FunctionOf, Roles};
+use record_resolving::Resolved;
+use std::alloc::{AllocError, Global};
+
+/// Functions beside their encodings.
+type Encodings = Keyed<FunctionKey, StringEncoding>;
+
+/// Adds the encoding of a function, if its key means something and the table lacks it.
+fn add_encoding(
+    alloc: Global,
+    resolved: &Resolved,
+    side: Side,
+    all: &mut Encodings,
+    named: &FunctionOf,
+    encoding: StringEncoding,
+) -> Result<(), AllocError>
+    ensures { OnOk result (all.new ≡ with_encoding all.old (meanings.key_meant side resolved.now named.now.key) named.now.function encoding) }
+{
+    match key_meant(alloc, resolved, side, &named.key)? {
+        Some(key) => {
+            let function = named.function.clone(alloc)?;
+            all.add_first(FunctionKey { key, function }, encoding)
+        }
+        None => Ok(()),
+    }
+}
+
+/// The encodings of the functions of a side.
+fn encodings_meant(
+    alloc: Global,
+    resolved: &Resolved,
+    side: Side,
+    encodings: &Keyed<FunctionOf, StringEncoding>,
+) -> Result<Encodings, AllocError>
+    ensures { IfOk result (λ t. t ≡ encodings_after side resolved.now [] encodings.now) }
+{
+    let mut all = Keyed::new(alloc);
+    for (named, encoding) in encodings.entries() {
+        add_encoding(alloc, resolved, side, &mut all, named, *encoding)?;
+    }
+    Ok(all)
+}
+
+/// The encodings with which a module calls and is called, where interfaces go by number. A function whose key means
+/// nothing is left out. The only refusal is want of memory.
+pub fn metadata_meant(
+    alloc: Global,
+    resolved: &Resolved,
+    roles: &Roles,
+) -> Result<ModuleMetadata, AllocError>
+    ensures { IfOk result (λ m. m ≡ metadata_meant resolved.now roles.now) }
+{
+    Ok(ModuleMetadata {
+        import_encodings: encodings_meant(
+            alloc,
+            resolved,
+            Side::Imported,
+            &roles.import_encodings,
+        )?,
+        export_encodings: encodings_meant(
+            alloc,
+            resolved,
+            Side::Exported,
+            &roles.export_encodings,
+        )?,
+    })
+}
