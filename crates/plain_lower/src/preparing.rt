@@ -164,6 +164,21 @@ fn with_tables(
     }
 }
 
+/// What a module's imports are for, and the encodings of its functions.
+fn import_tables(
+    alloc: Global,
+    own: &RootFunctions,
+    groups: Vec<Group>,
+) -> Result<(ImportMap, ModuleMetadata), AllocError>
+    requires { IsDistinct bytes_eq (keys_of (instances_of groups.items)) }
+    ensures imports { IfOk result (λ t. t.0.modules ≡ instances_of groups.items) }
+    ensures metadata { IfOk result (λ t. t.1 ≡ metadata_of own.now) }
+{
+    let imports = import_map(alloc, groups)?;
+    let metadata = metadata_of(alloc, own)?;
+    Ok((imports, metadata))
+}
+
 /// Main, what its imports and exports are for, and what it offers.
 fn validated(
     alloc: Global,
@@ -175,9 +190,15 @@ fn validated(
     requires { IsDistinct bytes_eq (keys_of (instances_of groups.items)) }
     ensures { IfOk result (λ m. m ≡ main_of main groups.items exports offered) }
 {
-    let imports = import_map(alloc, groups)?;
-    let metadata = metadata_of(alloc, &main.own)?;
-    Ok(with_tables(main, imports, exports, offered, metadata))
+    match import_tables(alloc, &main.own, groups) {
+        Ok((imports, metadata)) => Ok(with_tables(main, imports, exports, offered, metadata)),
+        Err(refused) => {
+            drop(main);
+            drop(exports);
+            drop(offered);
+            Err(refused)
+        }
+    }
 }
 
 /// One world, with no interfaces and no types.
@@ -285,9 +306,19 @@ fn world_behind(
     ensures exports { OnOk result (IsDistinct bytes_eq (keys_of joint.now.exports)) }
     ensures modules { IfOk result (λ w. IsDistinct bytes_eq (keys_of w.main.imports.modules)) }
 {
-    let required = require_all(alloc, &joint.exports, &exports, main.required.as_slice())?;
-    let world = world_of(alloc, joint, main, groups, exports, offered, required)?;
-    Ok(world)
+    match require_all(alloc, &joint.exports, &exports, main.required.as_slice()) {
+        Ok(required) => {
+            let world = world_of(alloc, joint, main, groups, exports, offered, required)?;
+            Ok(world)
+        }
+        Err(failure) => {
+            drop(main);
+            drop(groups);
+            drop(exports);
+            drop(offered);
+            Err(failure)
+        }
+    }
 }
 
 /// What main's core imports and exports are for, and what it offers.

@@ -3,7 +3,7 @@
 use comp_lists::{Keyed, Text};
 use comp_worlds::ExternType;
 use core_bytes::{MemoryType, RefType, ValType};
-use core_sections::{Limits, read_module};
+use core_sections::{CoreModule, Limits, read_module};
 use record_modules::{memory_type, offered};
 use std::alloc::{AllocError, Global};
 use std::test::Fail;
@@ -94,11 +94,21 @@ fn shown(alloc: Global, table: &Keyed<Text, ExternType>) -> Result<String, Alloc
     Ok(out)
 }
 
+/// What a module offers, in letters.
+fn shown_of(alloc: Global, core: &CoreModule) -> Result<String, AllocError> {
+    let table = offered(alloc, core)?;
+    let text = shown(alloc, &table);
+    drop(table);
+    text
+}
+
 #[test]
 fn what_is_offered(rt: HostRuntime) -> Result<(), Fail> {
     let alloc = rt.alloc();
     let core = read_module(alloc, &MODULE).map_err(|_| "the module is not read")?;
-    let text = shown(alloc, &offered(alloc, &core)?)?;
+    let text = shown_of(alloc, &core);
+    drop(core);
+    let text = text?;
     assert_eq!(rt;
         text.as_str(),
         " g3=r! m3=0-65535 f0=ilfd>r t0=2-3 m0=1- g0=i g1=d!"

@@ -44,6 +44,18 @@ fn takes_import(
     )
 }
 
+/// Whether a type fits an import.
+fn takes(
+    alloc: Global,
+    resolve: &Resolve,
+    import: Import,
+    letters: &str,
+) -> Result<bool, AllocError> {
+    let taken = takes_import(alloc, resolve, &import, letters);
+    drop(import);
+    taken
+}
+
 /// Whether the first type fits an import, and the second doesn't.
 fn tells_import(
     alloc: Global,
@@ -321,9 +333,7 @@ fn takes_unknown(
     letters: &str,
 ) -> Result<bool, AllocError> {
     let import = imported(alloc, name, AbiVariant::GuestImport)?;
-    let taken = takes_import(alloc, resolve, &import, letters);
-    drop(import);
-    taken
+    takes(alloc, resolve, import, letters)
 }
 
 /// The first type of a function that fits what isn't imported.
@@ -338,13 +348,16 @@ fn first_taken(alloc: Global, resolve: &Resolve) -> Result<Option<usize>, AllocE
     Ok(None)
 }
 
-/// Whether a slot of a task's context can hold a number of f32.
-fn takes_float(alloc: Global, resolve: &Resolve) -> Result<bool, AllocError> {
-    let slot = Import::ContextGet {
+fn slot_of_float() -> Import {
+    Import::ContextGet {
         ty: ValType::F32,
         slot: 0,
-    };
-    takes_import(alloc, resolve, &slot, ">f")
+    }
+}
+
+/// Whether a slot of a task's context can hold a number of f32.
+fn takes_float(alloc: Global, resolve: &Resolve) -> Result<bool, AllocError> {
+    takes(alloc, resolve, slot_of_float(), ">f")
 }
 
 #[test]
