@@ -3,7 +3,7 @@
 use comp_lists::{Keyed, Text};
 use comp_worlds::ExternType;
 use core_bytes::{MemoryType, RefType, ValType};
-use core_sections::{CoreModule, Limits, read_module};
+use core_sections::{CoreModule, Limits, SectionFault, read_module};
 use record_modules::{memory_type, offered};
 use std::alloc::{AllocError, Global};
 use std::test::Fail;
@@ -94,6 +94,14 @@ fn shown(alloc: Global, table: &Keyed<Text, ExternType>) -> Result<String, Alloc
     Ok(out)
 }
 
+/// Why the module isn't read.
+fn told(fault: SectionFault) -> &'static str {
+    match fault {
+        SectionFault::Memory => "memory",
+        _ => "the module is not read",
+    }
+}
+
 /// What a module offers, in letters.
 fn shown_of(alloc: Global, core: &CoreModule) -> Result<String, AllocError> {
     let table = offered(alloc, core)?;
@@ -105,7 +113,7 @@ fn shown_of(alloc: Global, core: &CoreModule) -> Result<String, AllocError> {
 #[test]
 fn what_is_offered(rt: HostRuntime) -> Result<(), Fail> {
     let alloc = rt.alloc();
-    let core = read_module(alloc, &MODULE).map_err(|_| "the module is not read")?;
+    let core = read_module(alloc, &MODULE).map_err(told)?;
     let text = shown_of(alloc, &core);
     drop(core);
     let text = text?;
