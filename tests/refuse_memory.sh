@@ -5,7 +5,7 @@
 # does its work, where it could do without. Prints how many runs there were of each.
 #
 # refuse_memory.sh: on the built program, whose calls of `malloc` and `realloc` are counted by a library
-# that is loaded before the C library's. It takes seconds. Needs `rt` and `cc` in PATH.
+# that is loaded before the C library's. It takes seconds. Needs `rt`, `cc` and `xxd` in PATH.
 #
 # refuse_memory.sh try [FIRST [STEP]]: by `rt try --fail-alloc`, from the allocation FIRST on by STEP
 # (both 1 if left out, so that several can share the work). A run takes half a minute. Needs `rt`.
@@ -39,8 +39,22 @@ is_right() {
     esac
 }
 
+# what a run of a module that is refused ends with; nothing where it does its work
+ends=
+
+# is_done STATUS WORD..: whether a run did its work, or ended as it does where no allocation is refused
+is_done() {
+    status_of=$1
+    shift
+    if [ -n "$ends" ]; then
+        [ "$status_of" -eq 1 ] && grep -qxF "$ends" "$folder/said" && [ ! -e "$made" ] && [ ! -s "$folder/out" ]
+    else
+        [ "$status_of" -eq 0 ] && is_right "$@"
+    fi
+}
+
 # refuse_each LINE WORD..: runs of these words with one allocation refused, until a run makes fewer. Each
-# has to say this line, print nothing and put nothing; or to do its work, where it could do without.
+# has to say this line, print nothing and put nothing; or to end as it should, where it could do without.
 refuse_each() {
     line=$1
     shift
@@ -50,7 +64,7 @@ refuse_each() {
         rm -f "$made" "$folder/met"
         status=0
         run "$at" "$@" >"$folder/out" 2>"$folder/said" || status=$?
-        if [ "$status" -eq 0 ] && is_right "$@"; then
+        if is_done "$status" "$@"; then
             [ -e "$folder/met" ] || break
             spared=$((spared + 1))
         elif [ "$status" -eq 1 ] && grep -qx "$line" "$folder/said" && [ ! -e "$made" ] && [ ! -s "$folder/out" ]; then
@@ -67,5 +81,10 @@ refuse_each() {
 
 refuse_each 'error: E1 Memory' new "$made" "$main"
 refuse_each 'error: E1 Memory' new "$made" "$main" --validate
+# A module with all roles of core imports and exports, whose world isn't encoded yet.
+sed -n '1s/.* <- //p' "$top/crates/tell_records/data/roles.txt" | xxd -r -p >"$folder/roles.wasm"
+ends='error: E3 Lower: P8 LeftOut what="interface"'
+refuse_each 'error: E1 Memory' new "$made" "$folder/roles.wasm"
+ends=
 # (`E1` where the program's own words could not be read: which were they?)
 refuse_each 'error: [CE]1 Memory' defs "$top/examples/component.wasm"

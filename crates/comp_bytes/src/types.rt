@@ -9,7 +9,7 @@ use crate::space::{ComponentExportKind, ExportKind, Space};
 use comp_lists::{Seq, Text};
 
 /// A value type that needs no definition.
-#[derive(Clone, Copy, Debug, PartialEq, Eq)]
+#[derive(Clone, Copy, Debug, PartialEq, Eq, Hash)]
 pub enum Primitive {
     Bool,
     S8,

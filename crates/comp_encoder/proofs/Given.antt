@@ -22,12 +22,12 @@ use Rattle.comp_bytes.specs.declared.def.Item.TheVariants as items
 use Rattle.comp_bytes.specs.declared.def.Def.{Def}
 use Rattle.comp_bytes.specs.declared.def.Def.TheVariants as defs
 use Rattle.wit_data.specs.declared.worlds.WorldKey.TheVariants as keys
-use Rattle.comp_worlds.specs.CoreImports.{CoreImport, imports_from, fields_of}
+use Rattle.comp_roles.specs.CoreImports.{CoreImport, imports_from, fields_of}
 use Rattle.comp_worlds.specs.Worlds.{imported_name}
 use Rattle.wit_data.specs.declared.worlds.WorldKey.{WorldKey}
-use Rattle.comp_worlds.specs.declared.imports.Import.{Import}
-use Rattle.comp_worlds.specs.declared.imports.Import.TheVariants as imports
-use Rattle.comp_worlds.specs.declared.imports.ImportInstance.{ImportInstance}
+use Rattle.comp_roles.specs.declared.imports.Import.{Import}
+use Rattle.comp_roles.specs.declared.imports.Import.TheVariants as imports
+use Rattle.comp_roles.specs.declared.imports.ImportInstance.{ImportInstance}
 use Rattle.comp_worlds.specs.declared.world.ComponentWorld.{ComponentWorld}
 use Rattle.comp_shims.specs.Store.{Thing, Export, OfUser, Imported, Lifting, Store}
 use Rattle.comp_shims.specs.Targets.{Main}

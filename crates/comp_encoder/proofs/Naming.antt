@@ -13,7 +13,7 @@ use Rattle.comp_bytes.specs.declared.def.Def.{Def}
 use Rattle.comp_bytes.specs.declared.def.Def.TheVariants as defs
 use Rattle.comp_names.specs.Names.{def_extern_names, extern_names}
 use Rattle.comp_worlds.specs.Worlds.{IsWorld}
-use Rattle.comp_worlds.specs.declared.imports.ImportInstance.{ImportInstance}
+use Rattle.comp_roles.specs.declared.imports.ImportInstance.{ImportInstance}
 use Rattle.comp_worlds.specs.declared.world.ComponentWorld.{ComponentWorld}
 use Rattle.comp_state.specs.Facts.{IsArgumentFor}
 use Rattle.comp_state.specs.Rules.{IsItemRight, IsRight, RightAfter, IsBuilt}

@@ -28,12 +28,12 @@ use Rattle.wit_data.specs.Keys.{name_of_key}
 use Rattle.wit_data.specs.declared.functions.AbiVariant.{AbiVariant}
 use Rattle.wit_data.specs.declared.worlds.WorldKey.{WorldKey}
 use Rattle.wit_data.specs.declared.worlds.WorldKey.TheVariants as keys
-use Rattle.comp_worlds.specs.CoreImports.{fields_of}
+use Rattle.comp_roles.specs.CoreImports.{fields_of}
 use Rattle.comp_worlds.specs.Worlds.{IsWorld, IsExportRole, IsImportGroup, core_imports, root_export, core_name_of}
-use Rattle.comp_worlds.specs.declared.exports.Export.{Export as WorldExport}
-use Rattle.comp_worlds.specs.declared.exports.Export.TheVariants as exports
-use Rattle.comp_worlds.specs.declared.imports.ImportInstance.{ImportInstance}
-use Rattle.comp_worlds.specs.declared.imports.ImportInstance.TheVariants as instances
+use Rattle.comp_roles.specs.declared.exports.Export.{Export as WorldExport}
+use Rattle.comp_roles.specs.declared.exports.Export.TheVariants as exports
+use Rattle.comp_roles.specs.declared.imports.ImportInstance.{ImportInstance}
+use Rattle.comp_roles.specs.declared.imports.ImportInstance.TheVariants as instances
 use Rattle.comp_worlds.specs.declared.world.ComponentWorld.{ComponentWorld}
 use Rattle.core_bytes.specs.declared.types.ValType.{ValType}
 use Rattle.core_bytes.specs.declared.types.FuncType.{FuncType}

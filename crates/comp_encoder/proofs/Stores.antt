@@ -18,7 +18,7 @@ use Rattle.comp_bytes.specs.declared.def.Def.{Def}
 use Rattle.comp_bytes.specs.declared.def.Def.TheVariants as defs
 use Rattle.comp_bytes.specs.ScopeNames.{def_export}
 use Rattle.wit_data.specs.declared.worlds.WorldKey.TheVariants as keys
-use Rattle.comp_worlds.specs.CoreImports.{CoreImport}
+use Rattle.comp_roles.specs.CoreImports.{CoreImport}
 use Rattle.comp_worlds.specs.Worlds.{core_imports, core_name_of, imported_name}
 use Rattle.comp_worlds.specs.declared.world.ComponentWorld.{ComponentWorld}
 use Rattle.comp_shims.specs.Targets.{Main, Lifted}

@@ -22,8 +22,8 @@ use Rattle.comp_bytes.specs.declared.types.Member.TheVariants as members
 use Rattle.core_runs.specs.Store.{Foreign, Instantiated}
 use Rattle.core_runs.specs.Execution.{answered, seen}
 use Rattle.core_runs.specs.Instances.{empty_table}
-use Rattle.comp_worlds.specs.declared.offered.ExternType.{ExternType}
-use Rattle.comp_worlds.specs.declared.offered.ExternType.TheVariants as externs
+use Rattle.comp_roles.specs.declared.offered.ExternType.{ExternType}
+use Rattle.comp_roles.specs.declared.offered.ExternType.TheVariants as externs
 use Rattle.comp_shims.specs.Store.{Thing, Export, CoreItem, OfUser, Imported, TypeItem, FunctionType, ValueType, ImportedResource, OwnResource, InstanceTypeOf}
 use Rattle.comp_encoder.specs.Machine.{Machine, Outcome, Stuck, Next, with_some, all_some, address_at, export_named, export_in, export_of, with_item, with_opaque, new_core_instance, new_function, new_type, new_instance, resumed}
 

@@ -9,9 +9,9 @@ use Rattle.comp_bytes.specs.declared.def.Item.TheVariants as items
 use Rattle.comp_bytes.specs.declared.def.Def.{Def}
 use Rattle.comp_bytes.specs.declared.def.Def.TheVariants as defs
 use Rattle.wit_data.specs.Keys.{name_of_key}
-use Rattle.comp_worlds.specs.CoreImports.{CoreImport}
+use Rattle.comp_roles.specs.CoreImports.{CoreImport}
 use Rattle.wit_data.specs.declared.worlds.WorldKey.{WorldKey}
-use Rattle.comp_worlds.specs.declared.exports.Export.{Export}
+use Rattle.comp_roles.specs.declared.exports.Export.{Export}
 use Rattle.comp_worlds.specs.declared.world.ComponentWorld.{ComponentWorld}
 use Rattle.core_bytes.specs.declared.types.ValType.{ValType}
 use Rattle.core_runs.specs.Values.{fit}

@@ -16,7 +16,7 @@ use Rattle.comp_bytes.specs.declared.def.Item.{Item}
 use Rattle.comp_bytes.specs.declared.def.Item.TheVariants as items
 use Rattle.comp_bytes.specs.declared.def.Def.{Def}
 use Rattle.comp_bytes.specs.declared.def.Def.TheVariants as defs
-use Rattle.comp_worlds.specs.declared.encoding.StringEncoding.TheVariants as encodings
+use Rattle.comp_roles.specs.declared.encoding.StringEncoding.TheVariants as encodings
 use Rattle.core_bytes.specs.declared.types.FuncType.{FuncType}
 use Rattle.core_runs.specs.Store.{Answer}
 use Rattle.comp_shims.specs.Store.{Thing, Export, HeldOption, HeldEncoding, HeldMemory, HeldRealloc, HeldPostReturn, HeldAsync, HeldCallback, Lowering, IntrinsicOf, Function, Imported, Lifting, InstanceTypeOf, ComponentItem}

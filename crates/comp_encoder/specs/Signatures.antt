@@ -15,10 +15,10 @@ use Rattle.core_bytes.specs.declared.types.ValType.TheVariants.{I32, I64}
 use Rattle.core_bytes.specs.declared.types.FuncType.{FuncType}
 use Rattle.wit_data.specs.declared.functions.AbiVariant.{AbiVariant}
 use Rattle.wit_data.specs.declared.functions.AbiVariant.TheVariants as abis
-use Rattle.comp_worlds.specs.declared.exports.Export.{Export}
-use Rattle.comp_worlds.specs.declared.exports.Export.TheVariants as exports
-use Rattle.comp_worlds.specs.declared.offered.ExternType.{ExternType}
-use Rattle.comp_worlds.specs.declared.offered.ExternType.TheVariants as externs
+use Rattle.comp_roles.specs.declared.exports.Export.{Export}
+use Rattle.comp_roles.specs.declared.exports.Export.TheVariants as exports
+use Rattle.comp_roles.specs.declared.offered.ExternType.{ExternType}
+use Rattle.comp_roles.specs.declared.offered.ExternType.TheVariants as externs
 use Rattle.comp_shims.specs.Store.{HeldOption, HeldAsync}
 
 abbrev pub function_type : List ValType → List ValType → FuncType

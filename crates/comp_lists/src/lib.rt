@@ -4,17 +4,19 @@
 //! [`Text`] and [`Bytes`] is itself the value that definitions speak of: equality of values is
 //! equality of lists, and no second copy of a type stands in `specs/`.
 //!
-//! In reading order: `try_clone` (copies that may lack memory), `seq` (lists), `text` (texts),
-//! `keyed` (tables by key).
+//! In reading order: `try_clone` (copies that may lack memory), `seq` (lists), `text` (texts), `cuts`
+//! (texts cut at a character), `keyed` (tables by key).
 //! `specs/Found.antt` has look-ups by name in a list of pairs; `proofs/` has the lemmas on lists that
 //! the standard library lacks, for every crate above.
 #![tactic(auto)]
 
+mod cuts;
 mod keyed;
 mod seq;
 mod text;
 mod try_clone;
 
+pub use cuts::cut;
 pub use keyed::Keyed;
 pub use seq::{Bytes, Seq};
 pub use text::Text;

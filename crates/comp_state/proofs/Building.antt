@@ -8,7 +8,7 @@ use Rattle.comp_bytes.specs.declared.def.Def.{Def}
 use Rattle.comp_bytes.specs.declared.def.Def.TheVariants as defs
 use Rattle.comp_bytes.specs.declared.def.Item.TheVariants as items
 use Rattle.std.specs.Prelude.{codes}
-use Rattle.comp_worlds.specs.CoreImports.{CoreImport}
+use Rattle.comp_roles.specs.CoreImports.{CoreImport}
 use Rattle.comp_worlds.specs.Worlds.{core_imports}
 use Rattle.wit_data.specs.declared.worlds.WorldKey.{WorldKey}
 use Rattle.comp_worlds.specs.declared.world.ComponentWorld.{ComponentWorld}

@@ -11,11 +11,11 @@ use Rattle.comp_lists.proofs.Lookups.{IsSome-found-append, found-pushed}
 use Rattle.comp_worlds.specs.Worlds.{items_of, root_function, imported_functions, imported_name, IsImportRole, IsImportGroup, IsWorld}
 use Rattle.wit_data.specs.declared.worlds.WorldKey.{WorldKey}
 use Rattle.wit_data.specs.declared.worlds.WorldItem.{WorldItem}
-use Rattle.comp_worlds.specs.declared.imports.Import.{Import}
-use Rattle.comp_worlds.specs.declared.imports.Import.TheVariants as imports
+use Rattle.comp_roles.specs.declared.imports.Import.{Import}
+use Rattle.comp_roles.specs.declared.imports.Import.TheVariants as imports
 use Rattle.wit_data.specs.declared.worlds.WorldKey.TheVariants as keys
-use Rattle.comp_worlds.specs.declared.imports.ImportInstance.{ImportInstance}
-use Rattle.comp_worlds.specs.declared.imports.ImportInstance.TheVariants as instances
+use Rattle.comp_roles.specs.declared.imports.ImportInstance.{ImportInstance}
+use Rattle.comp_roles.specs.declared.imports.ImportInstance.TheVariants as instances
 use Rattle.comp_worlds.specs.declared.world.ComponentWorld.{ComponentWorld}
 use Rattle.comp_state.specs.Encoding.{Encoding, Extends, FindsMore, FindsUsed}
 use Rattle.comp_state.specs.Roles.{is_named, is_any_import, uses_from, is_used}

@@ -26,13 +26,13 @@ use Rattle.comp_bytes.specs.declared.types.Description.{Description}
 use Rattle.comp_bytes.specs.declared.types.Description.TheVariants as descriptions
 use Rattle.comp_bytes.specs.Places.{IsAt, in_space}
 use Rattle.comp_bytes.specs.Spaces.{items_in, is_space, space_of, sort_space, alias_space, description_space}
-use Rattle.comp_worlds.specs.CoreImports.{CoreImport, imports_from, fields_of}
+use Rattle.comp_roles.specs.CoreImports.{CoreImport, imports_from, fields_of}
 use Rattle.comp_worlds.specs.Worlds.{imported_name, IsImportRole, IsImportGroup, IsWorld}
-use Rattle.comp_worlds.specs.declared.imports.Import.{Import}
-use Rattle.comp_worlds.specs.declared.imports.Import.TheVariants as imports
+use Rattle.comp_roles.specs.declared.imports.Import.{Import}
+use Rattle.comp_roles.specs.declared.imports.Import.TheVariants as imports
 use Rattle.wit_data.specs.declared.worlds.WorldKey.TheVariants as keys
-use Rattle.comp_worlds.specs.declared.imports.ImportInstance.{ImportInstance}
-use Rattle.comp_worlds.specs.declared.imports.ImportInstance.TheVariants as instances
+use Rattle.comp_roles.specs.declared.imports.ImportInstance.{ImportInstance}
+use Rattle.comp_roles.specs.declared.imports.ImportInstance.TheVariants as instances
 use Rattle.comp_worlds.specs.declared.world.ComponentWorld.{ComponentWorld}
 use Rattle.comp_state.specs.Encoding.{Encoding, Extends, FindsRole, FindsFields, FindsGroup, FindsUsed}
 use Rattle.comp_state.specs.Causes.{IsFieldsRefusal, IsCause}

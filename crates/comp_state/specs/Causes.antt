@@ -3,10 +3,10 @@
 use Rattle.std.specs.Prelude.{◌≡◌, ◌≤◌, ◌^◌, ◌⊎◌, ℕ, List, None, Contains, IsSome}
 use Rattle.std.specs.List.{AllByRecursion}
 use Rattle.wit_data.specs.Keys.{name_of_key}
-use Rattle.comp_worlds.specs.CoreImports.{CoreImport}
+use Rattle.comp_roles.specs.CoreImports.{CoreImport}
 use Rattle.comp_worlds.specs.Worlds.{core_imports}
 use Rattle.wit_data.specs.declared.worlds.WorldKey.{WorldKey}
-use Rattle.comp_worlds.specs.declared.imports.Import.{Import}
+use Rattle.comp_roles.specs.declared.imports.Import.{Import}
 use Rattle.comp_worlds.specs.declared.world.ComponentWorld.{ComponentWorld}
 use Rattle.comp_bytes.specs.declared.fault.BuildFault.{BuildFault}
 use Rattle.comp_bytes.specs.declared.fault.BuildFault.TheVariants as build

@@ -9,9 +9,9 @@ use Rattle.comp_bytes.specs.declared.name.Name.{Name}
 use Rattle.comp_worlds.specs.Worlds.{IsWorld, imported_name, core_name_of}
 use Rattle.wit_data.specs.declared.worlds.WorldKey.{WorldKey}
 use Rattle.wit_data.specs.declared.worlds.WorldKey.TheVariants as keys
-use Rattle.comp_worlds.specs.declared.imports.Import.{Import}
-use Rattle.comp_worlds.specs.declared.imports.ImportInstance.{ImportInstance}
-use Rattle.comp_worlds.specs.declared.imports.ImportInstance.TheVariants as instances
+use Rattle.comp_roles.specs.declared.imports.Import.{Import}
+use Rattle.comp_roles.specs.declared.imports.ImportInstance.{ImportInstance}
+use Rattle.comp_roles.specs.declared.imports.ImportInstance.TheVariants as instances
 use Rattle.comp_worlds.specs.declared.world.ComponentWorld.{ComponentWorld}
 use Rattle.comp_state.specs.Facts.{IsFunctionType, IsImported, IsAliased, IsMain}
 use Rattle.comp_state.specs.Roles.{is_used}

@@ -6,8 +6,8 @@ use Rattle.std.specs.Option.{option_map}
 use Rattle.comp_worlds.specs.Worlds.{core_name_of}
 use Rattle.wit_data.specs.declared.worlds.WorldKey.{WorldKey}
 use Rattle.wit_data.specs.declared.worlds.WorldKey.TheVariants as keys
-use Rattle.comp_worlds.specs.declared.imports.Import.{Import}
-use Rattle.comp_worlds.specs.declared.imports.Import.TheVariants as imports
+use Rattle.comp_roles.specs.declared.imports.Import.{Import}
+use Rattle.comp_roles.specs.declared.imports.Import.TheVariants as imports
 use Rattle.comp_worlds.specs.declared.world.ComponentWorld.{ComponentWorld}
 use Rattle.comp_shims.specs.Targets.{UserModule, Main, Adapter, TargetOption, Target, OfRoot, Lowered, Lifted, Unlinked}
 

@@ -3,11 +3,11 @@
 use Rattle.std.specs.Prelude.{ℕ, List, [], ◌∷◌, map}
 use Rattle.comp_bytes.specs.declared.space.ExportKind.{ExportKind}
 use Rattle.comp_bytes.specs.declared.space.ExportKind.TheVariants as kinds
-use Rattle.comp_worlds.specs.CoreImports.{CoreImport}
+use Rattle.comp_roles.specs.CoreImports.{CoreImport}
 use Rattle.comp_worlds.specs.Worlds.{core_imports}
-use Rattle.comp_worlds.specs.declared.imports.Import.{Import}
-use Rattle.comp_worlds.specs.declared.imports.Import.TheVariants as imports
-use Rattle.comp_worlds.specs.declared.exports.Export.{Export}
+use Rattle.comp_roles.specs.declared.imports.Import.{Import}
+use Rattle.comp_roles.specs.declared.imports.Import.TheVariants as imports
+use Rattle.comp_roles.specs.declared.exports.Export.{Export}
 use Rattle.wit_data.specs.declared.worlds.WorldKey.{WorldKey}
 use Rattle.comp_worlds.specs.declared.world.ComponentWorld.{ComponentWorld}
 use Rattle.comp_shims.specs.Targets.{UserModule, Main}

@@ -4,14 +4,14 @@ use Rattle.std.specs.Prelude.{ℕ, Bool, false, List, ◌∷◌, ◌++◌, Optio
 use Rattle.std.specs.List.{list_any}
 use Rattle.std.specs.Str.{bytes_eq}
 use Rattle.wit_data.specs.Keys.{name_of_key}
-use Rattle.comp_worlds.specs.Functions.{of_function}
-use Rattle.comp_worlds.specs.CoreImports.{fields_of}
+use Rattle.comp_roles.specs.Functions.{of_function}
+use Rattle.comp_roles.specs.CoreImports.{fields_of}
 use Rattle.comp_worlds.specs.Worlds.{imported_name, imported_functions}
 use Rattle.wit_data.specs.declared.worlds.WorldKey.{WorldKey}
-use Rattle.comp_worlds.specs.declared.encoding.StringEncoding.{StringEncoding}
-use Rattle.comp_worlds.specs.declared.imports.Import.{Import}
-use Rattle.comp_worlds.specs.declared.imports.Import.TheVariants as imports
-use Rattle.comp_worlds.specs.declared.imports.ImportInstance.{ImportInstance}
+use Rattle.comp_roles.specs.declared.encoding.StringEncoding.{StringEncoding}
+use Rattle.comp_roles.specs.declared.imports.Import.{Import}
+use Rattle.comp_roles.specs.declared.imports.Import.TheVariants as imports
+use Rattle.comp_roles.specs.declared.imports.ImportInstance.{ImportInstance}
 use Rattle.comp_worlds.specs.declared.world.ComponentWorld.{ComponentWorld}
 
 -- whether a role is the root function of this name

@@ -1,5 +1,3 @@
-mod Lowered
-mod Walking
 mod Entering
 mod Standing
 mod Using

@@ -17,7 +17,7 @@ use Rattle.wit_data.specs.declared.types.TypeDef.{TypeDef}
 use Rattle.wit_data.specs.declared.worlds.WorldItem.{WorldItem}
 use Rattle.wit_data.specs.declared.worlds.WorldItem.TheVariants as items
 use Rattle.wit_data.specs.declared.worlds.WorldKey.{WorldKey}
-use Rattle.comp_worlds.specs.CoreImports.{CoreImport}
+use Rattle.comp_roles.specs.CoreImports.{CoreImport}
 use Rattle.comp_worlds.specs.Imported.{Imported, lowering_of, called_as, function_lowerings, drop_lowerings, root_lowerings, functions_of, interface_lowerings, root_entry, interface_entry, imported, is_same_place}
 use Rattle.comp_worlds.specs.Lowerings.{is_same_lowering}
 use Rattle.comp_worlds.specs.Tables.{with_all}

@@ -17,7 +17,7 @@ use Rattle.wit_data.specs.declared.worlds.WorldItem.{WorldItem}
 use Rattle.wit_data.specs.declared.worlds.WorldItem.TheVariants as items
 use Rattle.wit_data.specs.declared.worlds.WorldKey.{WorldKey}
 use Rattle.comp_worlds.specs.Lowerings.{is_same_lowering}
-use Rattle.comp_worlds.specs.Options.{needs, import_set}
+use Rattle.comp_options.specs.Options.{needs, import_set}
 use Rattle.comp_worlds.specs.Uses.{Used, call_at}
 use Rattle.comp_worlds.specs.declared.lowerings.ImportedInterface.{ImportedInterface}
 use Rattle.comp_worlds.specs.declared.lowerings.Lowering.{Lowering}

@@ -1,9 +1,5 @@
-pub mod Functions
-pub mod Options
-pub mod Laws
 pub mod Lookups
 pub mod Lowerings
-pub mod CoreImports
 pub mod Tables
 pub mod Uses
 pub mod Imported

@@ -8,7 +8,7 @@ use Rattle.comp_lists.specs.Found.{found}
 use Rattle.comp_worlds.specs.Tables.{with_all}
 use Rattle.wit_data.specs.Keys.{is_same_key}
 use Rattle.wit_data.specs.Live.{is_live, named_types}
-use Rattle.wit_data.specs.Sound.{HasType, HasTypeId}
+use Rattle.wit_data.specs.Sound.{HasType, HasTypeId, HasFunction}
 use Rattle.wit_data.specs.declared.functions.Function.{Function}
 use Rattle.wit_data.specs.declared.functions.FunctionKind.{FunctionKind}
 use Rattle.wit_data.specs.declared.functions.FunctionKind.TheVariants as kinds
@@ -26,12 +26,12 @@ use Rattle.wit_data.specs.declared.worlds.WorldItem.TheVariants as items
 use Rattle.wit_data.specs.declared.worlds.WorldKey.{WorldKey}
 use Rattle.wit_data.specs.contracts.ids.InterfaceIdPartialEq.TheImpl as same_id
 use Rattle.comp_worlds.specs.Imported.{functions_of}
-use Rattle.comp_worlds.specs.CoreImports.{CoreImport}
-use Rattle.comp_worlds.specs.declared.imports.Import.{Import}
-use Rattle.comp_worlds.specs.declared.imports.Import.TheVariants as imports
-use Rattle.comp_worlds.specs.declared.payloads.PayloadInfo.{PayloadInfo}
-use Rattle.comp_worlds.specs.declared.payloads.PayloadType.{PayloadType}
-use Rattle.comp_worlds.specs.declared.payloads.PayloadType.TheVariants as payloads
+use Rattle.comp_roles.specs.CoreImports.{CoreImport}
+use Rattle.comp_roles.specs.declared.imports.Import.{Import}
+use Rattle.comp_roles.specs.declared.imports.Import.TheVariants as imports
+use Rattle.comp_roles.specs.declared.payloads.PayloadInfo.{PayloadInfo}
+use Rattle.comp_roles.specs.declared.payloads.PayloadType.{PayloadType}
+use Rattle.comp_roles.specs.declared.payloads.PayloadType.TheVariants as payloads
 
 -- ---- what names which types
 
@@ -107,6 +107,11 @@ role_types r entries role = at_most_one (imported_payload (payload_in role))
 abbrev pub HasRole : Resolve → Import → Type 0
 HasRole r (imports.ImportedResourceDrop key interface id) = HasTypeId r id
 HasRole r role = HasType r (imported_payload (payload_in role))
+
+-- the function of a `task.return`, which the role itself has, stands in the resolve
+abbrev pub HasReturned : Resolve → Import → Type 0
+HasReturned r (imports.ExportedTaskReturn key interface f) = HasFunction r f
+HasReturned r role = Unit {0}
 
 -- an import of the world: a type alone is there without being used
 abbrev pub import_types : WorldItem → List Ty

@@ -9,9 +9,9 @@ use Rattle.wit_data.specs.Keys.{is_same_key}
 use Rattle.wit_data.specs.declared.functions.AbiVariant.{AbiVariant}
 use Rattle.wit_data.specs.declared.worlds.WorldKey.{WorldKey}
 use Rattle.comp_worlds.specs.Lowerings.{abi_number}
-use Rattle.comp_worlds.specs.CoreImports.{CoreImport, imports_from}
-use Rattle.comp_worlds.specs.declared.imports.Import.{Import}
-use Rattle.comp_worlds.specs.declared.imports.Import.TheVariants as imports
+use Rattle.comp_roles.specs.CoreImports.{CoreImport, imports_from}
+use Rattle.comp_roles.specs.declared.imports.Import.{Import}
+use Rattle.comp_roles.specs.declared.imports.Import.TheVariants as imports
 use Rattle.comp_worlds.specs.declared.uses.Call.{Call}
 use Rattle.comp_worlds.specs.declared.uses.Uses.{Uses}
 use Rattle.comp_worlds.specs.declared.world.ValidatedModule.{ValidatedModule}

@@ -14,20 +14,20 @@ use Rattle.wit_data.specs.declared.worlds.WorldItem.{WorldItem}
 use Rattle.wit_data.specs.declared.worlds.WorldItem.TheVariants as items
 use Rattle.wit_data.specs.declared.worlds.World.{World}
 use Rattle.wit_data.specs.Sound.{IsSound}
-use Rattle.comp_worlds.specs.declared.imports.Import.{Import}
-use Rattle.comp_worlds.specs.declared.imports.Import.TheVariants as imports
-use Rattle.comp_worlds.specs.declared.imports.ImportInstance.{ImportInstance}
-use Rattle.comp_worlds.specs.declared.imports.ImportInstance.TheVariants as instances
-use Rattle.comp_worlds.specs.declared.exports.Export.{Export}
-use Rattle.comp_worlds.specs.declared.exports.Export.TheVariants as exports
+use Rattle.comp_roles.specs.declared.imports.Import.{Import}
+use Rattle.comp_roles.specs.declared.imports.Import.TheVariants as imports
+use Rattle.comp_roles.specs.declared.imports.ImportInstance.{ImportInstance}
+use Rattle.comp_roles.specs.declared.imports.ImportInstance.TheVariants as instances
+use Rattle.comp_roles.specs.declared.exports.Export.{Export}
+use Rattle.comp_roles.specs.declared.exports.Export.TheVariants as exports
 use Rattle.comp_worlds.specs.declared.world.ComponentWorld.{ComponentWorld}
 use Rattle.comp_worlds.specs.declared.world.ValidatedModule.{ValidatedModule}
 use Rattle.comp_worlds.specs.declared.world.WorldAdapter.{WorldAdapter}
 use Rattle.comp_worlds.specs.declared.world.WorldParts.{WorldParts}
 use Rattle.wit_data.specs.declared.resolve.Resolve.{Resolve}
-use Rattle.comp_worlds.specs.CoreImports.{CoreImport, imports_from}
+use Rattle.comp_roles.specs.CoreImports.{CoreImport, imports_from}
 use Rattle.comp_worlds.specs.Imported.{Imported, imported}
-use Rattle.comp_worlds.specs.Lookups.{imported_memory}
+use Rattle.comp_roles.specs.Lookups.{imported_memory}
 use Rattle.comp_worlds.specs.Mentions.{live_type_imports, exports_used}
 use Rattle.comp_worlds.specs.Uses.{used_by, all_imports}
 

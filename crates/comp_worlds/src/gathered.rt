@@ -1,8 +1,8 @@
 //! What was gathered before the world is prepared.
 
-use crate::libraries::LibraryInfo;
 use crate::options::EncoderOptions;
 use comp_lists::{Bytes, Keyed, Seq, Text};
+use comp_roles::LibraryInfo;
 
 /// A required export: by its name, or an interface by its id, so that no later merge moves it.
 #[derive(Debug, Drop, PartialEq, Eq, Hash)]

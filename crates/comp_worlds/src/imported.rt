@@ -11,10 +11,10 @@ ghost use Rattle.comp_worlds.specs.Imported.{lowering_of, called_as, function_lo
 
 use crate::lowerings::{ImportedInterface, Lowering, LoweringKey};
 use crate::mentions::interface_of;
-use crate::required::RequiredOptions;
 use crate::uses::{Uses, call_at};
 use bitflags::Flags;
 use comp_lists::{Keyed, Text, TryClone};
+use comp_options::RequiredOptions;
 use std::alloc::{AllocError, Global};
 use wit_data::{AbiVariant, Function, InterfaceId, Resolve, TypeId, WorldItem, WorldKey};
 

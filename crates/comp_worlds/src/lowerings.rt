@@ -3,8 +3,8 @@
 ghost use Rattle.std.specs.Prelude.{◌≡◌};
 ghost use Rattle.comp_worlds.specs.Lowerings.{abi_number};
 
-use crate::required::RequiredOptions;
 use comp_lists::{Keyed, Text};
+use comp_options::RequiredOptions;
 use std::hash::{Hash, Hasher};
 use wit_data::{AbiVariant, InterfaceId, TypeId, WasmSignature};
 

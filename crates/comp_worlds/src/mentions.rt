@@ -8,12 +8,11 @@ ghost use Rattle.wit_data.specs.Live.{named_types};
 ghost use Rattle.wit_data.specs.Sound.{IsSound, HasInterface, HasAll, HasItem, HasEntry, HasType, HasWorld};
 ghost use Rattle.wit_data.specs.declared.types.Type.TheVariants.{Id};
 ghost use Rattle.comp_worlds.specs.Imported.{functions_of};
-ghost use Rattle.comp_worlds.specs.Lookups.{core_import};
+ghost use Rattle.comp_roles.specs.Lookups.{core_import};
 ghost use Rattle.comp_worlds.specs.Mentions.{at_most_one, resource_of, function_types, types_of_function, interface_types, payload_in, payload_type, imported_payload, function_in, root_function_at, role_types, import_types, export_types, used_types, HasRole};
 
-use crate::imports::{Import, NamedImport};
-use crate::payloads::{PayloadInfo, PayloadType};
 use comp_lists::{Keyed, Text};
+use comp_roles::{Import, NamedImport, PayloadInfo, PayloadType};
 use std::alloc::{AllocError, Global};
 use wit_data::{
     Function, FunctionKind, Interface, InterfaceId, Param, Resolve, Type, TypeId, World, WorldItem,
@@ -86,7 +85,7 @@ fn add_types(list: &mut Vec<Type>, types: &Keyed<Text, TypeId>) -> Result<(), Al
 }
 
 /// Adds what these functions name.
-#[tactic(auto, using(crate::proofs::Walking::item_step))]
+#[tactic(auto, using(comp_roles::proofs::Walking::item_step))]
 fn add_functions(list: &mut Vec<Type>, functions: &Keyed<Text, Function>) -> Result<(), AllocError>
     ensures { OnOk result (list.new.items ≡ list.old.items ++ flat_map (λ f. function_types f.1) functions.now) }
 {
@@ -210,7 +209,7 @@ fn add_role(
 }
 
 /// Adds what core imports name.
-#[tactic(auto, using(crate::proofs::Walking::item_step))]
+#[tactic(auto, using(comp_roles::proofs::Walking::item_step))]
 fn add_roles(
     list: &mut Vec<Type>,
     resolve: &Resolve,
@@ -226,7 +225,7 @@ fn add_roles(
 }
 
 /// Adds the types that a world imports alone.
-#[tactic(auto, using(crate::proofs::Walking::item_step))]
+#[tactic(auto, using(comp_roles::proofs::Walking::item_step))]
 fn add_imports(list: &mut Vec<Type>, entries: &Keyed<WorldKey, WorldItem>) -> Result<(), AllocError>
     ensures { OnOk result (list.new.items ≡ list.old.items ++ flat_map (λ e. import_types e.1) entries.now) }
 {
@@ -260,7 +259,7 @@ fn add_export(list: &mut Vec<Type>, resolve: &Resolve, item: &WorldItem) -> Resu
 }
 
 /// Adds what the exports of a world name.
-#[tactic(auto, using(crate::proofs::Walking::item_step))]
+#[tactic(auto, using(comp_roles::proofs::Walking::item_step))]
 fn add_exports(
     list: &mut Vec<Type>,
     resolve: &Resolve,

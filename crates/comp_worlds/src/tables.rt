@@ -4,18 +4,18 @@ ghost use Rattle.std.specs.Prelude.{◌≡◌, is_some, map, get_or, false, IfOk
 ghost use Rattle.std.specs.List.{flat_map, AllByRecursion};
 ghost use Rattle.wit_data.specs.Sound.{IsSound, HasWorld};
 ghost use Rattle.comp_worlds.specs.Imported.{imported};
-ghost use Rattle.comp_worlds.specs.Lookups.{core_import, imported_memory};
+ghost use Rattle.comp_roles.specs.Lookups.{core_import, imported_memory};
 ghost use Rattle.comp_worlds.specs.Mentions.{HasRole, live_type_imports, exports_used};
 ghost use Rattle.comp_worlds.specs.Uses.{used_by, all_imports};
 
 use crate::imported::imported;
-use crate::imports::NamedImport;
 use crate::lowerings::ImportedInterface;
 use crate::mentions::used_types;
 use crate::reached::{exports_used, live_imports};
 use crate::uses::{all_imports, uses_of};
 use crate::world::{ValidatedModule, WorldAdapter};
 use comp_lists::{Keyed, Seq, Text};
+use comp_roles::NamedImport;
 use std::alloc::{AllocError, Global};
 use wit_data::{InterfaceId, Resolve, TypeId, World, WorldKey, live_marks};
 

@@ -4,12 +4,12 @@ ghost use Rattle.std.specs.Prelude.{◌≡◌, [], nat_eq, map, IfOk, OnOk};
 ghost use Rattle.std.specs.List.{flat_map};
 ghost use Rattle.comp_worlds.specs.Tables.{with_all};
 ghost use Rattle.comp_worlds.specs.Uses.{all_imports, call_at, calls_in, drops_in, is_same_call, IsUsed, used_in, used_by};
-ghost use Rattle.comp_worlds.specs.Lookups.{core_import};
+ghost use Rattle.comp_roles.specs.Lookups.{core_import};
 
-use crate::imports::{Import, NamedImport};
 use crate::lowerings::LoweringKey;
 use crate::world::{ValidatedModule, WorldAdapter};
 use comp_lists::{Keyed, Text, TryClone};
+use comp_roles::{Import, NamedImport};
 use std::alloc::{AllocError, Global};
 use std::hash::{Hash, Hasher};
 use wit_data::{AbiVariant, WorldKey};
@@ -102,7 +102,7 @@ fn add_drop(drops: &mut Keyed<usize, ()>, role: &Import) -> Result<(), AllocErro
 }
 
 /// The imports of all modules: of main, then of the adapters in order.
-#[tactic(auto, using(crate::proofs::Walking::item_step))]
+#[tactic(auto, using(comp_roles::proofs::Walking::item_step))]
 pub(crate) fn all_imports<'a>(
     alloc: Global,
     main: &'a ValidatedModule,

@@ -7,14 +7,10 @@ ghost use Rattle.comp_worlds.specs.Uses.{all_imports};
 ghost use Rattle.comp_worlds.specs.Mentions.{HasRole};
 ghost use Rattle.comp_worlds.specs.Worlds.{no_items, items_of, whole_of};
 
-use crate::exports::ExportMap;
-use crate::imports::ImportMap;
-use crate::libraries::LibraryInfo;
 use crate::lowerings::ImportedInterface;
-use crate::metadata::ModuleMetadata;
-use crate::offered::ExternType;
 use crate::tables::{Tables, tables_of};
 use comp_lists::{Bytes, Keyed, Seq, Text};
+use comp_roles::{ExportMap, ExternType, ImportMap, LibraryInfo, ModuleMetadata};
 use std::alloc::{AllocError, Global};
 use wit_data::{InterfaceId, Resolve, TypeId, World, WorldId, WorldKey};
 

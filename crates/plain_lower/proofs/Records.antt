@@ -22,15 +22,15 @@ use Rattle.record_joining.specs.declared.bindgen.Bindgen.{Bindgen}
 use Rattle.record_joining.specs.Tables.{conflict as conflict_of}
 use Rattle.record_roles.specs.Records.{record_in}
 use Rattle.record_values.specs.declared.record.Record.{Record}
-use Rattle.plain_lower.specs.declared.fault.Failure.{Failure}
-use Rattle.plain_lower.specs.declared.fault.Failure.TheVariants as failures
-use Rattle.plain_lower.specs.declared.fault.Refusal.{Refusal}
-use Rattle.plain_lower.specs.declared.fault.Refusal.TheVariants as refusals
-use Rattle.plain_lower.specs.declared.fault.PlainFault.{PlainFault}
-use Rattle.plain_lower.specs.Faults.{lifted, of_section, of_record, of_record_refusal, flat, flat_refusal}
+use Rattle.plain_faults.specs.declared.fault.Failure.{Failure}
+use Rattle.plain_faults.specs.declared.fault.Failure.TheVariants as failures
+use Rattle.plain_faults.specs.declared.fault.Refusal.{Refusal}
+use Rattle.plain_faults.specs.declared.fault.Refusal.TheVariants as refusals
+use Rattle.plain_faults.specs.declared.fault.PlainFault.{PlainFault}
+use Rattle.plain_faults.specs.Faults.{lifted, of_section, of_record, of_record_refusal, flat, flat_refusal}
 use Rattle.plain_lower.specs.Joining.{records_in}
 use Rattle.plain_lower.specs.Causes.{SaidCause, misread, conflicting, AreApart, DecodeCause, not_module, cut, binary, misspelt, conflict, MergeCause, conflict_of_worlds}
-use Rattle.plain_lower.proofs.Chains.{refused, same_refusal}
+use Rattle.plain_faults.proofs.Chains.{refused, same_refusal}
 
 abbrev IsRead : List ℕ → Record → Type 0
 IsRead text r = record_in text ≡ Ok r

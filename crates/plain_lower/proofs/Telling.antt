@@ -2,10 +2,10 @@
 use Rattle.std.proofs.Common.{◌≡◌, false, true≢false, Result, Ok, Err, sym, subst}
 use Rattle.std.specs.Prelude.{◌≢◌, IfErr}
 use Rattle.std.specs.Result.{IsErrAnd}
-use Rattle.plain_lower.specs.declared.fault.Failure.{Failure}
-use Rattle.plain_lower.specs.declared.fault.Failure.TheVariants as failures
-use Rattle.plain_lower.specs.declared.fault.PlainFault.{PlainFault}
-use Rattle.plain_lower.specs.Faults.{flat}
+use Rattle.plain_faults.specs.declared.fault.Failure.{Failure}
+use Rattle.plain_faults.specs.declared.fault.Failure.TheVariants as failures
+use Rattle.plain_faults.specs.declared.fault.PlainFault.{PlainFault}
+use Rattle.plain_faults.specs.Faults.{flat}
 use Rattle.plain_lower.specs.Layer.{is_memory}
 
 -- what holds of the failure holds of the fault that is made of it

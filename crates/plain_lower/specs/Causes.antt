@@ -1,12 +1,8 @@
 -- When each fault is right: what of the bytes, of the records or of what was gathered is wrong. (The record
 -- is this project's own; what is asked of the bytes is the core standard's binary format.)
-use Rattle.std.specs.Prelude.{◌≡◌, ◌⊎◌, ℕ, true, false, List, [], ◌∷◌, ◌++◌, Option, Some, None, Ok, Err, Contains, IsTrue, codes, is_some}
+use Rattle.std.specs.Prelude.{◌≡◌, ℕ, Bool, true, List, [], ◌++◌, Some, None, Ok, Err, Contains, IsTrue, codes}
 use Rattle.std.specs.List.{AllZip}
-use Rattle.std.specs.Map.{lookup}
-use Rattle.comp_lists.specs.Found.{found}
-use Rattle.comp_worlds.specs.declared.exports.Export.{Export}
-use Rattle.comp_worlds.specs.declared.gathered.ExportKey.{ExportKey}
-use Rattle.comp_worlds.specs.declared.gathered.ExportKey.TheVariants as export_keys
+use Rattle.comp_roles.specs.declared.exports.Export.{Export}
 use Rattle.comp_worlds.specs.declared.gathered.Gathered.{Gathered}
 use Rattle.comp_worlds.specs.declared.gathered.GatheredAdapter.{GatheredAdapter}
 use Rattle.comp_worlds.specs.declared.gathered.Part.{Part}
@@ -14,35 +10,32 @@ use Rattle.core_sections.specs.Sections.{Piece, preamble}
 use Rattle.core_sections.specs.Stripping.{removed, is_package}
 use Rattle.core_sections.specs.Grammar.{IsModule, IsCutAt}
 use Rattle.core_sections.specs.declared.core_module.CoreModule.{CoreModule}
-use Rattle.core_sections.specs.declared.entries.CoreImport.{CoreImport}
-use Rattle.core_sections.specs.declared.entries.ExportedItem.{ExportedItem}
 use Rattle.core_sections.specs.Entries.{module_of}
-use Rattle.plain_lower.specs.declared.fault.Failure.TheVariants as failures
-use Rattle.plain_lower.specs.declared.fault.Refusal.{Refusal}
-use Rattle.plain_lower.specs.declared.fault.PlainFault.{PlainFault}
-use Rattle.plain_lower.specs.declared.fault.PlainFault.TheVariants as faults
-use Rattle.plain_lower.specs.declared.roles.Role.{Role}
-use Rattle.plain_lower.specs.declared.root.RootFunctions.{RootFunctions}
+use Rattle.plain_faults.specs.declared.fault.Failure.TheVariants as failures
+use Rattle.plain_faults.specs.declared.fault.Refusal.{Refusal}
+use Rattle.plain_faults.specs.declared.fault.PlainFault.{PlainFault}
+use Rattle.plain_faults.specs.declared.fault.PlainFault.TheVariants as faults
+use Rattle.plain_faults.specs.Faults.{flat_refusal, of_record_refusal, lifted}
 use Rattle.record_joining.specs.declared.bindgen.Bindgen.{Bindgen}
 use Rattle.record_joining.specs.Causes.{WorldConflict, RecordsConflict}
 use Rattle.record_joining.specs.Tables.{conflict as conflict_of}
 use Rattle.record_json.specs.declared.fault.Failure.{Failure as RecordFailure}
-use Rattle.plain_lower.specs.Joining.{records_in}
 use Rattle.record_json.specs.declared.fault.Failure.TheVariants as record_failures
 use Rattle.record_json.specs.declared.fault.Refusal.{Refusal as RecordRefusal}
 use Rattle.record_roles.specs.Records.{record_in}
-use Rattle.record_values.specs.declared.record.ImportName.{ImportName}
 use Rattle.record_values.specs.declared.record.Record.{Record}
-use Rattle.record_values.specs.declared.roles.ExportRole.{ExportRole}
-use Rattle.record_values.specs.declared.roles.ImportRole.{ImportRole}
-use Rattle.record_values.specs.declared.world.Item.{Item}
-use Rattle.record_values.specs.declared.world.ItemKey.{ItemKey}
-use Rattle.record_values.specs.Names.{is_same_import}
-use Rattle.plain_lower.specs.Narrowing.{left_out, root_function, root_import, root_export, narrowed}
-use Rattle.plain_lower.specs.Faults.{flat_refusal, of_record_refusal, lifted}
-use Rattle.plain_lower.specs.Roles.{function_of}
+use Rattle.record_values.specs.declared.world.Wit.{Wit}
+use Rattle.record_settling.specs.declared.settling.Settled.{Settled}
 use Rattle.record_settling.specs.Settled.{settled}
-use Rattle.plain_lower.specs.Preparing.{fits_import, fits_export, exports_after, by_function, settling}
+use Rattle.record_resolving.specs.declared.resolving.Resolved.{Resolved}
+use Rattle.record_resolving.specs.Resolved.{resolved, IsWhole}
+use Rattle.record_imports.specs.Causes.{ImportCause}
+use Rattle.record_exports.specs.Exporting.{exports_of}
+use Rattle.record_exports.specs.Causes.{ExportCause, RequiredCause}
+use Rattle.encoded_worlds.specs.Causes.{IsLeftOut}
+use Rattle.plain_lower.specs.Joining.{records_in}
+use Rattle.plain_lower.specs.declared.meeting.Met.{Met}
+use Rattle.plain_lower.specs.Preparing.{joint, met, parts_of}
 
 -- ---- decoding
 
@@ -87,85 +80,53 @@ pub data MergeCause (a b : Bindgen) : PlainFault → Type 0 where
   -- the worlds say different things of this name
   conflict_of_worlds : (name : List ℕ) → WorldConflict a.wit b.wit name → MergeCause a b (faults.MergeConflict name)
 
--- ---- preparing, where all that is said is encoded yet
+-- ---- preparing: what all modules say
 
--- what main's core imports and exports are read as
-pub record IsMain (g : Gathered RootFunctions) (main : Part RootFunctions) (core : CoreModule) : Type 0 where
-  pub is : g.main ≡ Some main
-  pub read : module_of main.bytes ≡ Ok core
+-- what all modules say can't be met
+pub data JointCause (merging : Bool) (w : Wit) : PlainFault → Type 0 where
+  -- compatible versions of imported interfaces can't be one, and this is why
+  unsettled : (r : RecordRefusal) → settled merging w ≡ Err (record_failures.Refused r) → JointCause merging w (flat_refusal (of_record_refusal r))
+  -- a name stands for nothing
+  unresolved : (s : Settled) (r : RecordRefusal) → settled merging w ≡ Ok s → resolved s.wit ≡ Err (record_failures.Refused r) → JointCause merging w (flat_refusal (of_record_refusal r))
+  -- what the names come to doesn't hold together
+  not_whole : (s : Settled) (r : Resolved) → settled merging w ≡ Ok s → resolved s.wit ≡ Ok r → (IsWhole r → ⊥) → JointCause merging w (faults.Record [])
 
-abbrev pub role_of_import : Part RootFunctions → CoreImport → Option Role
-role_of_import main i = lookup (is_same_import (record { «module» = i.«module»; field = i.field })) main.own.import_roles
+-- ---- preparing: main
 
-abbrev pub key_name : ExportKey → List ℕ
-key_name (export_keys.Name name) = name
-key_name (export_keys.Interface id) = id
+-- why a module's core exports can't be met with what the names come to
+pub data ExportsCause (r : Resolved) (main : Part Bindgen) (core : CoreModule) : Refusal → Type 0 where
+  -- they don't fit their roles
+  unfit : (f : Refusal) → ExportCause r main.own.roles.export_roles core f → ExportsCause r main core f
+  -- one that the module has to have isn't there
+  missing : (exported : List (List ℕ × Export)) (f : Refusal) → exports_of r main.own.roles.export_roles core ≡ Ok exported → RequiredCause r exported main.required f → ExportsCause r main core f
 
--- these are the core exports that are for something
-abbrev pub AreExports : Gathered RootFunctions → Part RootFunctions → CoreModule → List (List ℕ × Export) → Type 0
-AreExports g main core exported = exports_after g.joint.exports main.own core [] core.exports ≡ Ok exported
+-- why its roles can't be met
+pub data MetCause (r : Resolved) (main : Part Bindgen) (core : CoreModule) : Refusal → Type 0 where
+  of_imports : (f : Refusal) → ImportCause r main.own.roles.import_roles core f → MetCause r main core f
+  of_exports : (f : Refusal) → ExportsCause r main core f → MetCause r main core f
 
--- a required export is an interface, or none of the world's functions, or no core export is for it
-abbrev pub IsMissing : Gathered RootFunctions → List (List ℕ × Export) → ExportKey → Type 0
-IsMissing g exported (export_keys.Name name) = (is_some (found name g.joint.exports) ≡ false) ⊎ (is_some (found name (by_function exported)) ≡ false)
-IsMissing g exported (export_keys.Interface id) = Unit {0}
+-- why there is no world of main as this core module
+pub data CoreCause (r : Resolved) (main : Part Bindgen) (core : CoreModule) : Refusal → Type 0 where
+  -- its roles can't be met
+  unmet : (f : Refusal) → MetCause r main core f → CoreCause r main core f
+  -- something of its world isn't encoded yet
+  not_yet : (m : Met) (f : Refusal) → met r main core ≡ Ok m → IsLeftOut (parts_of r main core m) f → CoreCause r main core f
 
-pub data RootCause (g : Gathered RootFunctions) : PlainFault → Type 0 where
-  -- main's sections can't be read as those of a core module, and this says where
-  unread : (main : Part RootFunctions) (r : Refusal) → g.main ≡ Some main → lifted (module_of main.bytes) ≡ Err (failures.Refused r) → RootCause g (flat_refusal r)
-  -- a core import has no role
-  no_role : (main : Part RootFunctions) (core : CoreModule) (i : CoreImport) → IsMain g main core → Contains core.imports i
-      → role_of_import main i ≡ None → RootCause g (faults.RoleMissing i.«module» i.field)
-  -- its role is for a function that the world doesn't import
-  not_imported : (main : Part RootFunctions) (core : CoreModule) (i : CoreImport) (role : Role) → IsMain g main core → Contains core.imports i
-      → role_of_import main i ≡ Some role → is_some (found (function_of role) g.joint.imports) ≡ false → RootCause g (faults.RoleMissing i.«module» i.field)
-  -- its type isn't that of its role
-  unfit_import : (main : Part RootFunctions) (core : CoreModule) (i : CoreImport) (role : Role) → IsMain g main core → Contains core.imports i
-      → role_of_import main i ≡ Some role → fits_import core i.entity ≡ false → RootCause g (faults.CoreType i.field)
-  -- two core imports have one module and field
-  twice : (main : Part RootFunctions) (core : CoreModule) (i j : CoreImport) (before between after : List CoreImport) → IsMain g main core
-      → core.imports ≡ before ++ i ∷ between ++ j ∷ after → i.«module» ≡ j.«module» → i.field ≡ j.field → RootCause g (faults.ImportTwice j.«module» j.field)
-  -- the type of a core export isn't that of its role
-  unfit_export : (main : Part RootFunctions) (core : CoreModule) (name : List ℕ) (item : ExportedItem) (role : Role) → IsMain g main core → Contains core.exports (name, item)
-      → found name main.own.export_roles ≡ Some role → is_some (found (function_of role) g.joint.exports) ≡ true → fits_export core item ≡ false → RootCause g (faults.CoreType name)
-  -- a required export isn't there
-  missing : (main : Part RootFunctions) (core : CoreModule) (exported : List (List ℕ × Export)) (key : ExportKey) → IsMain g main core → AreExports g main core exported
-      → Contains main.required key → IsMissing g exported key
-      → RootCause g (faults.ExportMissing (key_name key))
+-- why there is no world of main
+pub data MainCause (r : Resolved) (main : Part Bindgen) : PlainFault → Type 0 where
+  -- its sections can't be read as those of a core module, and this says where
+  unread : (f : Refusal) → lifted (module_of main.bytes) ≡ Err (failures.Refused f) → MainCause r main (flat_refusal f)
+  -- they can
+  as_core : (core : CoreModule) (f : Refusal) → module_of main.bytes ≡ Ok core → CoreCause r main core f → MainCause r main (flat_refusal f)
 
 -- ---- preparing
-
--- an import or an export of the world, or of main's own
-pub data IsItem (g : Gathered Bindgen) (e : ItemKey × Item) : Type 0 where
-  import_of_world : Contains g.joint.wit.imports e → IsItem g e
-  export_of_world : Contains g.joint.wit.exports e → IsItem g e
-  import_of_main : (main : Part Bindgen) → g.main ≡ Some main → Contains main.own.wit.imports e → IsItem g e
-  export_of_main : (main : Part Bindgen) → g.main ≡ Some main → Contains main.own.wit.exports e → IsItem g e
-
--- a role of main, or one that is said of all modules
-pub data IsRoleOfImport (g : Gathered Bindgen) (e : ImportName × ImportRole) : Type 0 where
-  import_role_of_all : Contains g.joint.roles.import_roles e → IsRoleOfImport g e
-  import_role_of_main : (main : Part Bindgen) → g.main ≡ Some main → Contains main.own.roles.import_roles e → IsRoleOfImport g e
-
-pub data IsRoleOfExport (g : Gathered Bindgen) (e : List ℕ × ExportRole) : Type 0 where
-  export_role_of_all : Contains g.joint.roles.export_roles e → IsRoleOfExport g e
-  export_role_of_main : (main : Part Bindgen) → g.main ≡ Some main → Contains main.own.roles.export_roles e → IsRoleOfExport g e
-
--- where the imports are settled
-pub data SettledCause (g : Gathered Bindgen) : PlainFault → Type 0 where
-  -- an import or an export, or what a core import or export is for, isn't encoded yet
-  item_left_out : (e : ItemKey × Item) (what : List ℕ) → IsItem g e → root_function e.0 e.1 ≡ Err (left_out what) → SettledCause g (faults.LeftOut what)
-  import_left_out : (e : ImportName × ImportRole) (what : List ℕ) → IsRoleOfImport g e → root_import e.1 ≡ Err (left_out what) → SettledCause g (faults.LeftOut what)
-  export_left_out : (e : List ℕ × ExportRole) (what : List ℕ) → IsRoleOfExport g e → root_export e.1 ≡ Err (left_out what) → SettledCause g (faults.LeftOut what)
-  -- all of it is, and something else is wrong
-  within : (p : Gathered RootFunctions) (f : PlainFault) → narrowed g ≡ Ok p → RootCause p f → SettledCause g f
 
 pub data PrepareCause (g : Gathered Bindgen) : PlainFault → Type 0 where
   -- reallocs are to grow the memory, and there is an adapter that is no library
   grows : (a : List ℕ × GatheredAdapter Bindgen) → IsTrue g.options.realloc_via_memory_grow → Contains g.adapters a → a.1.library_info ≡ None → PrepareCause g faults.MemoryGrow
   -- no world with an adapter is encoded yet
   adapter_left_out : (a : List ℕ × GatheredAdapter Bindgen) → Contains g.adapters a → PrepareCause g (faults.LeftOut (codes "adapter"))
-  -- compatible versions of imported interfaces can't be one, and this is why
-  unsettled : (r : RecordRefusal) → settled g.options.merge_imports_based_on_semver g.joint.wit ≡ Err (record_failures.Refused r) → PrepareCause g (flat_refusal (of_record_refusal r))
-  -- they are, and something else is wrong
-  behind : (s : Gathered Bindgen) (f : PlainFault) → settling g ≡ Ok s → SettledCause s f → PrepareCause g f
+  -- what all modules say can't be met
+  of_joint : (f : PlainFault) → JointCause g.options.merge_imports_based_on_semver g.joint.wit f → PrepareCause g f
+  -- main can't be met with it
+  of_main : (r : Resolved) (main : Part Bindgen) (f : PlainFault) → joint g.options.merge_imports_based_on_semver g.joint.wit ≡ Ok r → g.main ≡ Some main → MainCause r main f → PrepareCause g f

@@ -9,9 +9,9 @@ use Rattle.record_joining.specs.Joining.{bindgen_of}
 use Rattle.record_joining.specs.Merging.{merged}
 use Rattle.record_roles.specs.Records.{record_in}
 use Rattle.record_values.specs.declared.record.Record.{Record}
-use Rattle.plain_lower.specs.declared.fault.Failure.{Failure}
+use Rattle.plain_faults.specs.declared.fault.Failure.{Failure}
 use Rattle.plain_lower.specs.Equalities.{tests, role_tests}
-use Rattle.plain_lower.specs.Faults.{◌>>=◌, lifted, read}
+use Rattle.plain_faults.specs.Faults.{◌>>=◌, lifted, read}
 
 -- the records that texts spell
 abbrev pub records_in : List (List ℕ) → Result (List Record) RecordFailure

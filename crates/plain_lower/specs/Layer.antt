@@ -6,12 +6,12 @@ use Rattle.comp_worlds.specs.declared.gathered.Gathered.{Gathered}
 use Rattle.comp_worlds.specs.declared.gathered.Merged.{Merged}
 use Rattle.comp_worlds.specs.Worlds.{whole_of}
 use Rattle.comp_worlds.specs.declared.world.ComponentWorld.{ComponentWorld}
-use Rattle.plain_lower.specs.declared.fault.PlainFault.{PlainFault}
-use Rattle.plain_lower.specs.declared.fault.PlainFault.TheVariants as faults
+use Rattle.plain_faults.specs.declared.fault.PlainFault.{PlainFault}
+use Rattle.plain_faults.specs.declared.fault.PlainFault.TheVariants as faults
 use Rattle.record_joining.specs.declared.bindgen.Bindgen.{Bindgen}
 use Rattle.record_joining.specs.Said.{nothing_said}
 use Rattle.plain_lower.specs.Joining.{decoding, merging}
-use Rattle.plain_lower.specs.Preparing.{preparing_all}
+use Rattle.plain_lower.specs.Preparing.{preparing}
 
 abbrev pub is_memory : PlainFault → Bool
 is_memory faults.Memory = true
@@ -40,4 +40,4 @@ no_world = whole_of (record {
 })
 
 abbrev pub prepared : Gathered Bindgen → ComponentWorld
-prepared g = result_unwrap_or (preparing_all g) no_world
+prepared g = result_unwrap_or (preparing g) no_world

@@ -1,10 +1,6 @@
-pub mod Faults
 pub mod Equalities
-pub mod Kinds
-pub mod Roles
-pub mod Narrowing
 pub mod Joining
 pub mod Preparing
-pub mod Grouping
+pub mod Standing
 pub mod Layer
 pub mod Causes

@@ -2,17 +2,17 @@
 
 ghost use Rattle.std.specs.Prelude.{◌≡◌, ◌≢◌, map, IfOk, IfErr, IsOk};
 ghost use Rattle.record_json.specs.declared.fault.Failure.TheVariants as records;
-ghost use Rattle.plain_lower.specs.declared.fault.Failure.TheVariants as failures;
-ghost use Rattle.plain_lower.specs.declared.fault.PlainFault.{PlainFault};
+ghost use Rattle.plain_faults.specs.declared.fault.Failure.TheVariants as failures;
+ghost use Rattle.plain_faults.specs.declared.fault.PlainFault.{PlainFault};
 ghost use Rattle.plain_lower.specs.Causes.{SaidCause, AreApart, DecodeCause, MergeCause};
-ghost use Rattle.plain_lower.specs.Faults.{Gives, flat};
+ghost use Rattle.plain_faults.specs.Faults.{Gives, flat};
 ghost use Rattle.record_json.specs.Faults.{Gives as GivesRecord};
 ghost use Rattle.plain_lower.specs.Joining.{records_in, said_in, decoding, merging};
 
-use crate::fault::Failure;
 use comp_lists::{Bytes, Seq};
 use comp_worlds::Merged;
 use core_sections::strip;
+use plain_faults::Failure;
 use record_joining::{Bindgen, bindgen_of};
 use record_json::Failure as RecordFailure;
 use record_roles::read_record;

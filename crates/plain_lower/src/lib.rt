@@ -3,30 +3,22 @@
 //!
 //! [`PlainLower`] implements [`comp_worlds::Lower`], and what it promises upward are the clauses of
 //! that trait over the definitions of `specs/`. What a record says is read by `record_roles` and the crates
-//! below it, and joined by `record_joining`; `Preparing` says what the core imports and exports of main are for,
-//! and `Causes` when each fault is right, in words that don't follow the code. Nothing here knows of JSON.
+//! below it, and joined by `record_joining`. A world is prepared in steps, each a crate of its own: `record_settling`
+//! makes compatible versions one, `record_resolving` resolves names, `record_imports` and `record_exports` meet the
+//! roles of main with its core types, and `encoded_worlds` refuses what isn't encoded yet. `Preparing` puts them together, and
+//! `Causes` says when each fault is right, in words that don't follow the code. Nothing here knows of JSON.
 //!
-//! Everything that a record can say is read and joined. What isn't encoded yet is refused by its name when the
-//! world is prepared (`LeftOut`, `specs/Narrowing.antt`): so far a world has functions at its root that are
-//! synchronous and have no parameters and no result.
-//!
-//! In reading order: `fault` (faults, and the one place where the public one is made); `decoding` (records of a
-//! module, and what several modules say); `roles`, `root`, `kinds`, `narrowing` (what is encoded yet); `fitting`,
-//! `importing`, `exporting`, `preparing` (the validated world); `lower` (the layer).
+//! In reading order: `decoding` (records of a module, and what several modules say); `adapters`, `joint` (what all
+//! modules say), `meeting` (main's roles), `preparing` (the validated world); `lower` (the layer).
 #![tactic(auto)]
 
+mod adapters;
 mod decoding;
-mod exporting;
-mod fault;
-mod fitting;
-mod importing;
-mod kinds;
+mod joint;
 mod lower;
-mod narrowing;
+mod meeting;
 mod preparing;
-mod roles;
-mod root;
 
-pub use fault::PlainFault;
 pub use lower::PlainLower;
+pub use plain_faults::PlainFault;
 pub use record_joining::Bindgen;

@@ -3,10 +3,10 @@
 ghost use Rattle.std.specs.Prelude.{◌≡◌};
 
 use crate::decoding::{decode, merge};
-use crate::fault::PlainFault;
 use crate::preparing::prepare;
 use comp_lists::Bytes;
 use comp_worlds::{ComponentWorld, Gathered, Lower, Merged};
+use plain_faults::PlainFault;
 use record_joining::{Bindgen, no_bindgen};
 use std::alloc::Global;
 

@@ -4,7 +4,7 @@ ghost use Rattle.std.specs.Prelude.{◌≡◌};
 ghost use Rattle.record_joining.specs.Said.{no_wit, no_roles, nothing_said};
 
 use comp_lists::{Keyed, Text};
-use comp_worlds::StringEncoding;
+use comp_roles::StringEncoding;
 use record_values::{ExportRole, ImportName, ImportRole, ItemKey, Wit};
 use std::alloc::Global;
 use std::hash::{Hash, Hasher};

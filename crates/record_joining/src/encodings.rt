@@ -5,7 +5,7 @@ ghost use Rattle.record_joining.specs.Encodings.{with_functions, with_item, with
 
 use crate::bindgen::FunctionOf;
 use comp_lists::{Keyed, TryClone};
-use comp_worlds::StringEncoding;
+use comp_roles::StringEncoding;
 use record_values::{Func, Interface, InterfaceName, Item, ItemKey, Record};
 use std::alloc::{AllocError, Global};
 

@@ -25,10 +25,10 @@ use Rattle.wit_data.specs.declared.worlds.WorldItem.{WorldItem}
 use Rattle.wit_data.specs.declared.worlds.WorldItem.TheVariants as items
 use Rattle.wit_data.specs.declared.worlds.WorldKey.{WorldKey}
 use Rattle.comp_worlds.specs.Mentions.{payload_type}
-use Rattle.comp_worlds.specs.declared.imports.Import.{Import}
-use Rattle.comp_worlds.specs.declared.offered.ExternType.{ExternType}
-use Rattle.comp_worlds.specs.declared.offered.ExternType.TheVariants as externs
-use Rattle.comp_worlds.specs.declared.payloads.PayloadInfo.{PayloadInfo}
+use Rattle.comp_roles.specs.declared.imports.Import.{Import}
+use Rattle.comp_roles.specs.declared.offered.ExternType.{ExternType}
+use Rattle.comp_roles.specs.declared.offered.ExternType.TheVariants as externs
+use Rattle.comp_roles.specs.declared.payloads.PayloadInfo.{PayloadInfo}
 use Rattle.record_values.specs.declared.roles.ImportRole.{ImportRole}
 use Rattle.record_values.specs.declared.roles.ImportRole.TheVariants as roles
 use Rattle.record_values.specs.declared.roles.Intrinsic.{Intrinsic}

@@ -17,9 +17,9 @@ use Rattle.wit_data.specs.declared.types.TypeDefKind.TheVariants as kinds
 use Rattle.wit_data.specs.declared.types.TypeOwner.TheVariants as places
 use Rattle.wit_data.specs.declared.worlds.WorldItem.TheVariants as items
 use Rattle.wit_data.specs.declared.worlds.WorldKey.TheVariants as keys
-use Rattle.comp_worlds.specs.declared.exports.Export.TheVariants as exports
-use Rattle.comp_worlds.specs.declared.imports.Import.TheVariants as imports
-use Rattle.comp_worlds.specs.declared.payloads.PayloadType.TheVariants as types_of
+use Rattle.comp_roles.specs.declared.exports.Export.TheVariants as exports
+use Rattle.comp_roles.specs.declared.imports.Import.TheVariants as imports
+use Rattle.comp_roles.specs.declared.payloads.PayloadType.TheVariants as types_of
 use Rattle.record_values.specs.declared.names.InterfaceName.{InterfaceName}
 use Rattle.record_values.specs.declared.names.InterfaceName.TheVariants as names
 use Rattle.record_values.specs.declared.names.Owner.{Owner}
@@ -84,6 +84,8 @@ small = record {
   };
   imported = (i, interface_id 0) ∷ [];
   exported = (i, interface_id 1) ∷ [];
+  imported_keys = (interface_id 0, keys.Name (codes "i")) ∷ [];
+  exported_keys = (interface_id 1, keys.Name (codes "j")) ∷ [];
 }
 
 abbrev of_i : Owner

@@ -8,10 +8,10 @@ use Rattle.wit_data.specs.declared.functions.AbiVariant.{AbiVariant}
 use Rattle.wit_data.specs.declared.functions.Function.{Function}
 use Rattle.wit_data.specs.declared.ids.InterfaceId.{InterfaceId}
 use Rattle.wit_data.specs.declared.worlds.WorldKey.{WorldKey}
-use Rattle.comp_worlds.specs.declared.imports.Import.{Import}
-use Rattle.comp_worlds.specs.declared.imports.Import.TheVariants as imports
-use Rattle.comp_worlds.specs.declared.offered.ExternType.{ExternType}
-use Rattle.comp_worlds.specs.declared.offered.ExternType.TheVariants as externs
+use Rattle.comp_roles.specs.declared.imports.Import.{Import}
+use Rattle.comp_roles.specs.declared.imports.Import.TheVariants as imports
+use Rattle.comp_roles.specs.declared.offered.ExternType.{ExternType}
+use Rattle.comp_roles.specs.declared.offered.ExternType.TheVariants as externs
 use Rattle.record_values.specs.declared.names.Owner.{Owner}
 use Rattle.record_values.specs.declared.roles.ImportRole.{ImportRole}
 use Rattle.record_values.specs.declared.roles.ImportRole.TheVariants as roles

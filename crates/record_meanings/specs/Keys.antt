@@ -1,6 +1,7 @@
 -- Keys of a world's imports and exports, where interfaces go by number (component model: names of imports and exports).
-use Rattle.std.specs.Prelude.{Bool, false, List, [], ◌∷◌, Option, Some, None, is_some, if◌then◌else◌}
-use Rattle.std.specs.Option.{option_and_then}
+use Rattle.std.specs.Prelude.{Bool, false, Option, Some, None, is_some, if◌then◌else◌}
+use Rattle.std.specs.Map.{lookup}
+use Rattle.std.specs.Option.{option_and_then, option_map_or}
 use Rattle.wit_data.specs.declared.ids.InterfaceId.{InterfaceId}
 use Rattle.wit_data.specs.contracts.ids.InterfaceIdPartialEq.TheImpl as same_id
 use Rattle.wit_data.specs.declared.worlds.WorldItem.{WorldItem}
@@ -15,7 +16,7 @@ use Rattle.record_values.specs.declared.world.ItemKey.TheVariants as item_keys
 use Rattle.record_resolving.specs.declared.resolving.Resolved.{Resolved}
 use Rattle.record_meanings.specs.declared.sides.Side.{Side}
 use Rattle.record_meanings.specs.declared.sides.Side.TheVariants as sides
-use Rattle.record_meanings.specs.Sides.{interface_of, items_of, item_at}
+use Rattle.record_meanings.specs.Sides.{interface_of, interface_keys, item_at}
 
 -- a key, if something stands there on this side of the world
 abbrev pub standing : Side → Resolved → WorldKey → Option WorldKey
@@ -36,12 +37,15 @@ is_interface id (items.Interface other) = same_id.eq-value.it id other
 is_interface id (items.Function f) = false
 is_interface id (items.NamedType t) = false
 
--- the first key at which this interface stands
-abbrev pub key_among : InterfaceId → List (WorldKey × WorldItem) → Option WorldKey
-key_among id [] = None
-key_among id (e ∷ es) = if is_interface id e.1 then Some e.0 else key_among id es
+-- a key, if this interface stands there on this side of the world
+abbrev pub standing_as : InterfaceId → Side → Resolved → WorldKey → Option WorldKey
+standing_as id side r key = if option_map_or (is_interface id) (item_at side r key) false then Some key else None
+
+-- the first key at which a side has this interface: the one in its table, if the interface stands there
+abbrev pub first_key : Side → Resolved → InterfaceId → Option WorldKey
+first_key side r id = option_and_then (standing_as id side r) (lookup (same_id.eq-value.it id) (interface_keys side r))
 
 -- The key of an interface of a side: the interface itself, or else the name under which the side has it.
 abbrev pub interface_key : Side → Resolved → InterfaceId → Option WorldKey
 interface_key side r id =
-    if is_some (item_at side r (keys.Interface id)) then Some (keys.Interface id) else key_among id (items_of side r)
+    if is_some (item_at side r (keys.Interface id)) then Some (keys.Interface id) else first_key side r id

@@ -2,10 +2,10 @@
 -- names a function that isn't there is left out; where two come to one function, the first stays.
 use Rattle.std.specs.Prelude.{ℕ, List, [], ◌∷◌, Option, Some, None}
 use Rattle.comp_lists.specs.Tables.{with_first}
-use Rattle.comp_worlds.specs.Functions.{is_same_function}
-use Rattle.comp_worlds.specs.declared.encoding.StringEncoding.{StringEncoding}
-use Rattle.comp_worlds.specs.declared.metadata.FunctionKey.{FunctionKey}
-use Rattle.comp_worlds.specs.declared.metadata.ModuleMetadata.{ModuleMetadata}
+use Rattle.comp_roles.specs.Functions.{is_same_function}
+use Rattle.comp_roles.specs.declared.encoding.StringEncoding.{StringEncoding}
+use Rattle.comp_roles.specs.declared.metadata.FunctionKey.{FunctionKey}
+use Rattle.comp_roles.specs.declared.metadata.ModuleMetadata.{ModuleMetadata}
 use Rattle.wit_data.specs.declared.worlds.WorldKey.{WorldKey}
 use Rattle.record_joining.specs.declared.bindgen.FunctionOf.{FunctionOf}
 use Rattle.record_joining.specs.declared.bindgen.Roles.{Roles}

@@ -23,6 +23,11 @@ ids_of sides.Exported r = r.exported
 abbrev pub interface_of : Side → Resolved → InterfaceName → Option InterfaceId
 interface_of side r name = lookup (is_same_interface name) (ids_of side r)
 
+-- the first key at which an interface stands, by the table of a side
+abbrev pub interface_keys : Side → Resolved → List (InterfaceId × WorldKey)
+interface_keys sides.Imported r = r.imported_keys
+interface_keys sides.Exported r = r.exported_keys
+
 abbrev pub items_in : Side → World → List (WorldKey × WorldItem)
 items_in sides.Imported w = w.imports
 items_in sides.Exported w = w.exports

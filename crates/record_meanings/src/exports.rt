@@ -2,7 +2,7 @@
 
 ghost use Rattle.std.specs.Prelude.{◌≡◌, option_map, IfOk};
 ghost use Rattle.std.specs.Option.{option_copied};
-ghost use Rattle.comp_worlds.specs.declared.exports.Export.TheVariants as variants;
+ghost use Rattle.comp_roles.specs.declared.exports.Export.TheVariants as variants;
 ghost use Rattle.record_meanings.specs.declared.sides.Side.TheVariants as sides;
 ghost use Rattle.record_meanings.specs.Places.{function_place, resource_of};
 ghost use Rattle.record_meanings.specs.Imports.{memory_type};
@@ -12,7 +12,7 @@ use crate::imports::memory_type;
 use crate::places::{Place, function_place, resource_of};
 use crate::sides::Side;
 use comp_lists::Text;
-use comp_worlds::{Export, ExternType};
+use comp_roles::{Export, ExternType};
 use record_resolving::Resolved;
 use record_values::{ExportRole, Owner, PlainExport, TypeName};
 use std::alloc::{AllocError, Global};

@@ -3,7 +3,7 @@
 ghost use Rattle.std.specs.Prelude.{◌≡◌, Some, option_map, IfOk};
 ghost use Rattle.std.specs.Option.{option_copied, IfSome};
 ghost use Rattle.record_meanings.specs.Named.{HasNamed};
-ghost use Rattle.comp_worlds.specs.declared.imports.Import.TheVariants as variants;
+ghost use Rattle.comp_roles.specs.declared.imports.Import.TheVariants as variants;
 ghost use Rattle.record_meanings.specs.declared.sides.Side.TheVariants as sides;
 ghost use Rattle.record_meanings.specs.Places.{function_place, resource_of};
 ghost use Rattle.wit_data.specs.Sound.{IsSound};
@@ -17,7 +17,7 @@ use crate::places::{Place, Resource, function_at, function_place, place_of, reso
 use crate::sides::Side;
 use comp_bytes::ExportKind;
 use comp_lists::{Text, TryClone};
-use comp_worlds::{ExternType, Import};
+use comp_roles::{ExternType, Import};
 use core_bytes::{FuncType, MemoryType};
 use record_resolving::Resolved;
 use record_values::{

@@ -1,12 +1,13 @@
 //! Keys of a world's imports and exports.
 
-ghost use Rattle.std.specs.Prelude.{◌≡◌, is_some, IfOk};
-ghost use Rattle.record_meanings.specs.Sides.{items_of, item_at};
-ghost use Rattle.record_meanings.specs.Keys.{standing, key_meant, export_key_meant, is_interface, key_among, interface_key};
+ghost use Rattle.std.specs.Prelude.{◌≡◌, false, is_some, IfOk};
+ghost use Rattle.std.specs.Option.{option_map_or};
+ghost use Rattle.record_meanings.specs.Sides.{item_at};
+ghost use Rattle.record_meanings.specs.Keys.{standing, key_meant, export_key_meant, is_interface, first_key, interface_key};
 ghost use Rattle.record_values.specs.declared.world.ItemKey.TheVariants as item_keys;
 
-use crate::sides::{Side, interface_of, item_at, items_in};
-use comp_lists::{Keyed, Text, TryClone};
+use crate::sides::{Side, interface_keys, interface_of, item_at};
+use comp_lists::{Text, TryClone};
 use comp_worlds::ExportKey;
 use record_resolving::Resolved;
 use record_values::{InterfaceName, ItemKey};
@@ -93,35 +94,32 @@ fn is_interface(id: InterfaceId, item: &WorldItem) -> bool
     }
 }
 
-/// The first key at which an interface stands.
-fn key_among(
-    alloc: Global,
-    items: &Keyed<WorldKey, WorldItem>,
-    id: InterfaceId,
-) -> Result<Option<WorldKey>, AllocError>
-    ensures { IfOk result (λ k. k ≡ key_among id items.now) }
+/// Whether an interface stands at a key of a side.
+fn stands_at(resolved: &Resolved, side: Side, key: &WorldKey, id: InterfaceId) -> bool
+    ensures { result ≡ option_map_or (is_interface id) (item_at side resolved.now key.now) false }
 {
-    for (key, item) in items.entries() {
-        if is_interface(id, item) {
-            return Ok(Some(key.try_clone(alloc)?));
-        }
+    match item_at(resolved, side, key) {
+        Some(item) => is_interface(id, item),
+        None => false,
     }
-    Ok(None)
 }
 
 /// The name under which a side of the world has an interface.
-fn name_of(
+fn first_key(
     alloc: Global,
     resolved: &Resolved,
     side: Side,
     id: InterfaceId,
 ) -> Result<Option<WorldKey>, AllocError>
-    ensures { IfOk result (λ k. k ≡ key_among id (items_of side resolved.now)) }
+    ensures { IfOk result (λ k. k ≡ first_key side resolved.now id) }
 {
-    match resolved.resolve.worlds.as_slice().get(0) {
-        Some(world) => key_among(alloc, items_in(world, side), id),
-        None => Ok(None),
+    let Some(key) = interface_keys(resolved, side).get(&id) else {
+        return Ok(None);
+    };
+    if !stands_at(resolved, side, key, id) {
+        return Ok(None);
     }
+    Ok(Some(key.try_clone(alloc)?))
 }
 
 /// The key of an interface of a side of the world.
@@ -137,5 +135,5 @@ pub(crate) fn interface_key(
     if item_at(resolved, side, &own).is_some() {
         return Ok(Some(own));
     }
-    name_of(alloc, resolved, side, id)
+    first_key(alloc, resolved, side, id)
 }

@@ -10,8 +10,7 @@
 //!
 //! Upward this crate promises exactly what its definitions in `specs/` give, unless memory runs out, and
 //! that what an import names stands in the resolve. Whether a core import has the type that its role
-//! asks for is not decided here. The key of an interface without an id is searched among the items of its
-//! side, one by one.
+//! asks for is not decided here.
 //!
 //! In reading order: `sides` (the two sides of a world), `keys`, `places` (where functions and types
 //! stand), `walks` (the streams and futures that are met in a function), `payloads` (those that roles are

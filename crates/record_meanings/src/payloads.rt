@@ -8,7 +8,7 @@ use crate::places::{Place, function_at, place_of};
 use crate::sides::Side;
 use crate::walks::nth_met;
 use comp_lists::Text;
-use comp_worlds::{Import, PayloadInfo, PayloadType};
+use comp_roles::{Import, PayloadInfo, PayloadType};
 use record_resolving::Resolved;
 use record_values::{Owner, Payload, PayloadKind, PayloadOperation};
 use std::alloc::{AllocError, Global};

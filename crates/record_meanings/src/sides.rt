@@ -2,7 +2,7 @@
 
 ghost use Rattle.std.specs.Prelude.{◌≡◌};
 ghost use Rattle.std.specs.Option.{option_copied};
-ghost use Rattle.record_meanings.specs.Sides.{ids_of, interface_of, items_in, items_of, item_at};
+ghost use Rattle.record_meanings.specs.Sides.{ids_of, interface_of, interface_keys, items_in, items_of, item_at};
 
 use comp_lists::Keyed;
 use record_resolving::Resolved;
@@ -36,7 +36,17 @@ pub(crate) fn interface_of(
     ids_of(resolved, side).get(name).copied()
 }
 
-pub(crate) fn items_in(world: &World, side: Side) -> &Keyed<WorldKey, WorldItem>
+/// The first key of each interface of a side.
+pub(crate) fn interface_keys(resolved: &Resolved, side: Side) -> &Keyed<InterfaceId, WorldKey>
+    ensures { result.now ≡ interface_keys side resolved.now }
+{
+    match side {
+        Side::Imported => &resolved.imported_keys,
+        Side::Exported => &resolved.exported_keys,
+    }
+}
+
+fn items_in(world: &World, side: Side) -> &Keyed<WorldKey, WorldItem>
     ensures { result.now ≡ items_in side world.now }
 {
     match side {

@@ -11,7 +11,7 @@ use Rattle.std.proofs.lemmas.Cmp.{nat_eq_equiv}
 use Rattle.comp_lists.proofs.TableLemmas.{absent}
 use Rattle.core_sections.specs.declared.core_module.CoreModule.{CoreModule}
 use Rattle.core_sections.specs.declared.entries.ExportedItem.{ExportedItem}
-use Rattle.comp_worlds.specs.declared.offered.ExternType.{ExternType}
+use Rattle.comp_roles.specs.declared.offered.ExternType.{ExternType}
 use Rattle.record_modules.specs.Offered.{item_type, offered_export, offered}
 
 abbrev IsApart : List ℕ → List (List ℕ) → Type 0

@@ -24,10 +24,10 @@ use Rattle.wit_data.specs.declared.signatures.WasmType.TheVariants as numbers
 use Rattle.wit_data.specs.declared.worlds.WorldKey.{WorldKey}
 use Rattle.comp_worlds.specs.Imported.{functions_of}
 use Rattle.comp_worlds.specs.Mentions.{root_function_at, interface_in}
-use Rattle.comp_worlds.specs.declared.exports.Export.{Export}
-use Rattle.comp_worlds.specs.declared.exports.Export.TheVariants as exports
-use Rattle.comp_worlds.specs.declared.imports.Import.{Import}
-use Rattle.comp_worlds.specs.declared.imports.Import.TheVariants as imports
+use Rattle.comp_roles.specs.declared.exports.Export.{Export}
+use Rattle.comp_roles.specs.declared.exports.Export.TheVariants as exports
+use Rattle.comp_roles.specs.declared.imports.Import.{Import}
+use Rattle.comp_roles.specs.declared.imports.Import.TheVariants as imports
 
 -- ---- functions that roles name
 

@@ -18,10 +18,10 @@ use Rattle.wit_data.specs.Sound.{HasFunction}
 use Rattle.wit_data.specs.declared.functions.Function.{Function}
 use Rattle.wit_data.specs.declared.ids.WorldId.{WorldId}
 use Rattle.wit_data.specs.declared.resolve.Resolve.{Resolve}
-use Rattle.comp_worlds.specs.declared.exports.Export.{Export}
-use Rattle.comp_worlds.specs.declared.exports.Export.TheVariants as exports
-use Rattle.comp_worlds.specs.declared.imports.Import.{Import}
-use Rattle.comp_worlds.specs.declared.imports.Import.TheVariants as imports
+use Rattle.comp_roles.specs.declared.exports.Export.{Export}
+use Rattle.comp_roles.specs.declared.exports.Export.TheVariants as exports
+use Rattle.comp_roles.specs.declared.imports.Import.{Import}
+use Rattle.comp_roles.specs.declared.imports.Import.TheVariants as imports
 use Rattle.record_modules.specs.Asked.{expected_import, expected_export}
 use Rattle.record_modules.specs.Offered.{memory_type}
 
@@ -64,8 +64,3 @@ fits_export r w m role (exported.Entity e) = is_function m e (expected_export r 
 -- a function stands there, if one was found
 pub record HasFound (r : Resolve) (found : Option Function) : Type 0 where
   pub stands : IfSome found (HasFunction r)
-
--- the function of a `task.return`, which the role itself has, stands in the resolve
-abbrev pub HasReturned : Resolve → Import → Type 0
-HasReturned r (imports.ExportedTaskReturn key interface f) = HasFunction r f
-HasReturned r role = Unit {0}

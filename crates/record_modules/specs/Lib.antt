@@ -2,3 +2,4 @@ pub mod Offered
 pub mod Asked
 pub mod Shapes
 pub mod Fitting
+pub mod Standing

@@ -19,8 +19,8 @@ use Rattle.core_sections.specs.declared.entries.Limits.{Limits}
 use Rattle.core_sections.specs.declared.entries.ValType.{ValType as CoreVal}
 use Rattle.core_sections.specs.declared.entries.ValType.TheVariants as core
 use Rattle.core_sections.specs.Reading.{◌>>=◌}
-use Rattle.comp_worlds.specs.declared.offered.ExternType.{ExternType}
-use Rattle.comp_worlds.specs.declared.offered.ExternType.TheVariants as externs
+use Rattle.comp_roles.specs.declared.offered.ExternType.{ExternType}
+use Rattle.comp_roles.specs.declared.offered.ExternType.TheVariants as externs
 
 -- a number, or a reference to any function
 abbrev pub value_type : CoreVal → Option ValType

@@ -5,15 +5,16 @@ ghost use Rattle.std.specs.Option.{option_copied};
 ghost use Rattle.wit_data.specs.Signatures.{signature};
 ghost use Rattle.wit_data.specs.Sound.{IsSound, HasFunction};
 ghost use Rattle.wit_data.specs.declared.functions.AbiVariant.TheVariants.{GuestImport};
+ghost use Rattle.comp_worlds.specs.Mentions.{HasReturned};
 ghost use Rattle.record_modules.specs.Asked.{number, called, post_return, returning, expected_import, expected_export};
 ghost use Rattle.record_modules.specs.Shapes.{shape_type};
-ghost use Rattle.record_modules.specs.Fitting.{are_same, is_same, is_asked, function_type, is_memory, fits_import, fits_export, HasFound, HasReturned};
+ghost use Rattle.record_modules.specs.Fitting.{are_same, is_same, is_asked, function_type, is_memory, fits_import, fits_export, HasFound};
 
 use crate::finding::{exported_function, exported_interface, function_of, imported_function};
 use crate::intrinsics::{Shape, intrinsic, plain_export};
 use crate::offering::memory_type;
 use comp_lists::{Seq, Text};
-use comp_worlds::{Export, Import};
+use comp_roles::{Export, Import};
 use core_bytes::MemoryType;
 use core_sections::{CoreModule, EntityType, ExportedItem, FuncType, ValType};
 use std::alloc::{AllocError, Global};

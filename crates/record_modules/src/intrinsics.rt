@@ -8,7 +8,7 @@ ghost use Rattle.record_modules.specs.Asked.{function, getter, setter, built_in,
 ghost use Rattle.record_modules.specs.Fitting.{is_same, is_asked};
 ghost use Rattle.record_modules.specs.Shapes.{shape_type};
 
-use comp_worlds::{Export, Import};
+use comp_roles::{Export, Import};
 use core_sections::FuncType;
 use core_sections::ValType::{self, I32, I64};
 

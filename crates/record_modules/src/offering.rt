@@ -2,11 +2,11 @@
 
 ghost use Rattle.std.specs.Prelude.{◌≡◌, option_map, IfOk};
 ghost use Rattle.core_sections.specs.declared.entries.EntityType.TheVariants as entities;
-ghost use Rattle.comp_worlds.specs.declared.offered.ExternType.TheVariants as externs;
+ghost use Rattle.comp_roles.specs.declared.offered.ExternType.TheVariants as externs;
 ghost use Rattle.record_modules.specs.Offered.{value_type, value_types, func_type, size, most, memory_type, table_type, extern_type, item_type, offered};
 
 use comp_lists::{Keyed, Seq, Text};
-use comp_worlds::ExternType;
+use comp_roles::ExternType;
 use core_bytes::{FuncType, GlobalType, MemoryType, RefType, TableType, ValType};
 use core_sections::{CoreModule, EntityType, ExportedItem, Limits};
 use std::alloc::{AllocError, Global};
@@ -154,8 +154,8 @@ pub fn extern_type(
     }
 }
 
-/// The type of an export, where it is offered to others.
-fn item_type(
+/// The type of an export, as [`extern_type`] has it; a tag has none. The only refusal is want of memory.
+pub fn item_type(
     alloc: Global,
     core: &CoreModule,
     item: &ExportedItem,

@@ -6,9 +6,9 @@ use Rattle.record_resolving.specs.declared.making.Making.{Making}
 use Rattle.record_resolving.specs.declared.resolving.Inward.{Inward}
 use Rattle.record_resolving.specs.declared.resolving.Resolved.{Resolved}
 use Rattle.record_resolving.specs.Steps.{MakesBeside}
-use Rattle.record_resolving.specs.Interfaces.{Made, made_of}
+use Rattle.record_resolving.specs.declared.interfaces.Standing.{Standing}
 use Rattle.record_resolving.specs.Worlds.{Items}
-use Rattle.record_resolving.specs.Resolved.{seen_whole, whole_of, beside}
+use Rattle.record_resolving.specs.Resolved.{whole_of, beside}
 
 abbrev first : Inward → Result (Inward × Items) Failure → Inward
 first d (Ok p) = p.0
@@ -18,11 +18,11 @@ abbrev second : Items → Result (Inward × Items) Failure → Items
 second d (Ok p) = p.1
 second d (Err e) = d
 
-pub kept : (v : Inward) (step : Result Items Failure) (outs : Result (Items × Made × Making) Failure) (i : Inward) (items : Items) (r : Result Resolved Failure) →
-    MakesBeside step (made_of v.kept.standing) v.kept.making outs →
+pub kept : (v : Inward) (step : Result Items Failure) (outs : Result (Items × Standing × Making) Failure) (i : Inward) (items : Items) (r : Result Resolved Failure) →
+    MakesBeside step v.kept.standing v.kept.making outs →
     Ok (i, items) ≡ beside v step →
-    Gives seen_whole r (Ok (whole_of i.imports items (made_of i.kept.standing) i.kept.making i.kept.imported)) →
-    Gives seen_whole r (outs >>= λ o. Ok (whole_of v.imports o.0 o.1 o.2 v.kept.imported))
+    Gives (λ r. r) r (Ok (whole_of i.imports items i.kept.standing i.kept.making i.kept.imported)) →
+    Gives (λ r. r) r (outs >>= λ o. Ok (whole_of v.imports o.0 o.1 o.2 v.kept.imported))
 kept v (Ok x) outs i items r h e g =
     let same = sym e in
     rw h (rw (ap (first v) same) (rw (ap (second x) same) g))

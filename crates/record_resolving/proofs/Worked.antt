@@ -26,10 +26,11 @@ use Rattle.record_resolving.specs.Steps.{nowhere}
 use Rattle.record_resolving.specs.Sharing.{shared, type_id}
 use Rattle.record_resolving.specs.Types.{after_compound, step, type_of, kind_before, new_type}
 use Rattle.record_resolving.specs.Functions.{function_kind, with_param, some_result, function_of}
-use Rattle.record_resolving.specs.Ids.{id_parts}
+use Rattle.record_resolving.specs.Ids.{id_name, id_parts}
 use Rattle.record_resolving.specs.Interfaces.{with_type_of, with_function_of, items_of, with_interface, with_named}
 use Rattle.record_resolving.specs.Worlds.{exported_of, interface_item, with_item}
-use Rattle.record_resolving.specs.Resolved.{Whole, imports_of, exports_of, resolved_behind, resolved_among, resolved}
+use Rattle.record_resolving.specs.declared.resolving.Resolved.{Resolved}
+use Rattle.record_resolving.specs.Resolved.{imports_of, exports_of, resolved_behind, resolved_among, resolved}
 
 abbrev i : InterfaceName
 i = names.Imported (codes "i")
@@ -75,13 +76,13 @@ abbrev both : List (ItemKey × Item)
 both = (keys.Name (codes "j"), items.Interface j) ∷ (keys.Name (codes "i"), items.Interface i) ∷ []
 
 -- the names and the kinds of the types
-abbrev named_kinds : Result Whole Failure → Result (List (Option (List ℕ) × TypeDefKind)) Failure
-named_kinds (Ok r) = Ok (map (λ t. (t.name, t.kind)) r.types)
+abbrev named_kinds : Result Resolved Failure → Result (List (Option (List ℕ) × TypeDefKind)) Failure
+named_kinds (Ok r) = Ok (map (λ t. (t.name, t.kind)) r.resolve.types)
 named_kinds (Err e) = Err e
 
 -- the kinds of the functions of the interfaces
-abbrev forms_of : Result Whole Failure → Result (List (List FunctionKind)) Failure
-forms_of (Ok r) = Ok (map (λ s. map (λ f. f.1.kind) s.2) r.interfaces)
+abbrev forms_of : Result Resolved Failure → Result (List (List FunctionKind)) Failure
+forms_of (Ok r) = Ok (map (λ i. map (λ f. f.1.kind) i.functions) r.resolve.interfaces)
 forms_of (Err e) = Err e
 
 abbrev list_of_texts : TypeDefKind
@@ -118,7 +119,7 @@ unfolding resolved resolved_among resolved_behind imports_of exports_of exported
 too_early = refl
 
 -- an id without a version
-an_id : id_parts (codes "a:b/c") ≡ Ok (codes "a", codes "b", codes "c", None)
+an_id : id_parts (codes "a:b/c") ≡ Ok (id_name (codes "a") (codes "b") (codes "c") None)
 unfolding id_parts
 an_id = refl
 

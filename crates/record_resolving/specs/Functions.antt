@@ -17,7 +17,7 @@ use Rattle.record_values.specs.declared.types.Func.{Func}
 use Rattle.record_resolving.specs.declared.making.Making.{Making}
 use Rattle.record_resolving.specs.declared.making.Side.{Side}
 use Rattle.record_resolving.specs.Steps.{nowhere}
-use Rattle.record_resolving.specs.Cuts.{cut_at}
+use Rattle.comp_lists.specs.Cuts.{cut_at}
 use Rattle.record_resolving.specs.Names.{found}
 use Rattle.record_resolving.specs.Types.{type_of, type_name}
 

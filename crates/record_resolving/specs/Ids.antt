@@ -3,16 +3,13 @@
 use Rattle.std.specs.Prelude.{ℕ, List, Option, None, Some, ok_or, Result, Ok, Err}
 use Rattle.semver.specs.Parse.{Parts, version_parts}
 use Rattle.semver.specs.declared.error.Error.{Error}
+use Rattle.wit_data.specs.declared.names.IdName.{IdName}
 use Rattle.record_json.specs.declared.fault.Failure.{Failure}
 use Rattle.record_json.specs.Faults.{◌>>=◌}
 use Rattle.record_values.specs.declared.names.InterfaceName.{InterfaceName}
 use Rattle.record_values.specs.declared.names.InterfaceName.TheVariants as names
 use Rattle.record_resolving.specs.Steps.{nowhere}
-use Rattle.record_resolving.specs.Cuts.{cut_at}
-
--- the parts of an id
-abbrev pub Id : Type 0
-Id = List ℕ × List ℕ × List ℕ × Option Parts
+use Rattle.comp_lists.specs.Cuts.{cut_at}
 
 abbrev pub version_by : Result Parts Error → Result Parts Failure
 version_by (Ok p) = Ok p
@@ -28,20 +25,23 @@ abbrev pub path_of : List ℕ → Option (List ℕ × List ℕ) → Result (List
 path_of text None = Ok (text, None)
 path_of text (Some p) = some_version p.1 >>= λ version. Ok (p.0, version)
 
-unfoldable pub id_parts : List ℕ → Result Id Failure
+abbrev pub id_name : List ℕ → List ℕ → List ℕ → Option Parts → IdName
+id_name space name interface version = record { namespace = space; «package» = name; interface = interface; version = version }
+
+unfoldable pub id_parts : List ℕ → Result IdName Failure
 id_parts text = do
   path ← path_of text (cut_at 64 text)
   colon ← ok_or (cut_at 58 path.0) nowhere
   slash ← ok_or (cut_at 47 colon.1) nowhere
-  Ok (colon.0, slash.0, slash.1, path.1)
+  Ok (id_name colon.0 slash.0 slash.1 path.1)
 
--- the parts of an interface's id, where it has one
-abbrev pub some_id : List ℕ → Result (Option Id) Failure
+-- an interface's id, where it has one
+abbrev pub some_id : List ℕ → Result (Option IdName) Failure
 some_id text = do
   id ← id_parts text
   Ok (Some id)
 
-abbrev pub id_of : InterfaceName → Result (Option Id) Failure
+abbrev pub id_of : InterfaceName → Result (Option IdName) Failure
 id_of (names.Id text) = some_id text
 id_of (names.Imported text) = Ok None
 id_of (names.Exported text) = Ok None

@@ -1,5 +1,5 @@
 -- An interface that is made: its types in order, then its functions in order. It is a scope of its own.
-use Rattle.std.specs.Prelude.{ℕ, length, List, [], ◌∷◌, ◌++◌, Option, ok_or, option_map, map, Result, Ok}
+use Rattle.std.specs.Prelude.{ℕ, length, List, [], ◌∷◌, ◌++◌, Option, ok_or, Result, Ok}
 use Rattle.std.specs.Map.{lookup}
 use Rattle.std.specs.Str.{bytes_eq}
 use Rattle.record_json.specs.declared.fault.Failure.{Failure}
@@ -10,7 +10,7 @@ use Rattle.wit_data.specs.declared.types.TypeOwner.{TypeOwner}
 use Rattle.wit_data.specs.declared.types.TypeOwner.TheVariants as places
 use Rattle.wit_data.specs.declared.functions.Function.{Function}
 use Rattle.wit_data.specs.declared.resolve.Interface.{Interface as MadeInterface}
-use Rattle.wit_data.specs.Names.{name_parts}
+use Rattle.wit_data.specs.declared.names.IdName.{IdName}
 use Rattle.record_values.specs.declared.names.InterfaceName.{InterfaceName}
 use Rattle.record_values.specs.declared.names.Owner.{Owner}
 use Rattle.record_values.specs.declared.names.Owner.TheVariants as owners
@@ -25,7 +25,7 @@ use Rattle.record_resolving.specs.Steps.{nowhere, with_new}
 use Rattle.record_resolving.specs.Sharing.{scoped}
 use Rattle.record_resolving.specs.Types.{new_type}
 use Rattle.record_resolving.specs.Functions.{function_of}
-use Rattle.record_resolving.specs.Ids.{Id, id_of}
+use Rattle.record_resolving.specs.Ids.{id_of}
 
 -- the types of an interface by name
 abbrev pub Types : Type 0
@@ -66,39 +66,27 @@ items_of side owner place i m = do
   functions ← functions_from side owner i.functions ([], types.1)
   Ok ((types.0, functions.0), scoped m.unnamed functions.1)
 
--- what is seen of an interface that is made: the parts of its id, its types and its functions
-abbrev pub Seen : Type 0
-Seen = Option Id × Types × Functions
-
-abbrev pub seen : MadeInterface → Seen
-seen i = (option_map name_parts i.id, i.types, i.functions)
-
--- interfaces that are made, and the numbers of those of one side by name
-pub record Made : Type 0 where
-  pub interfaces : List Seen
-  pub ids : List (InterfaceName × InterfaceId)
-
-abbrev pub made_of : Standing → Made
-made_of s = record { interfaces = map seen s.interfaces; ids = s.ids }
-
 abbrev pub interface_id : ℕ → InterfaceId
 interface_id n = record { index = n }
 
+abbrev pub made : Option IdName → Types × Functions → MadeInterface
+made id items = record { id = id; types = items.0; functions = items.1 }
+
 -- one more interface that is made: its name, its number, its id, and its types and functions
-abbrev pub with_made : InterfaceName → InterfaceId → Option Id → Types × Functions → Made → Result Made Failure
-with_made name number id items made = do
-  ids ← with_new is_same_interface made.ids name number
-  Ok (record { interfaces = made.interfaces ++ (id, items.0, items.1) ∷ []; ids = ids })
+abbrev pub with_made : InterfaceName → InterfaceId → Option IdName → Types × Functions → Standing → Result Standing Failure
+with_made name number id items standing = do
+  ids ← with_new is_same_interface standing.ids name number
+  Ok (record { interfaces = standing.interfaces ++ made id items ∷ []; ids = ids })
 
 -- the interface of this name, made as the next one
-unfoldable pub with_interface : Side → InterfaceName → Interface → Made × Making → Result (Made × Making) Failure
+unfoldable pub with_interface : Side → InterfaceName → Interface → Standing × Making → Result (Standing × Making) Failure
 with_interface side name i so_far = do
   id ← id_of name
   items ← items_of side (owners.Interface name) (places.Interface (interface_id (length so_far.0.interfaces))) i so_far.1
   ids ← with_new is_same_interface so_far.0.ids name (interface_id (length so_far.0.interfaces))
-  Ok (record { interfaces = so_far.0.interfaces ++ (id, items.0.0, items.0.1) ∷ []; ids = ids }, items.1)
+  Ok (record { interfaces = so_far.0.interfaces ++ made id items.0 ∷ []; ids = ids }, items.1)
 
-unfoldable pub with_named : Side → List (InterfaceName × Interface) → InterfaceName → Made × Making → Result (Made × Making) Failure
+unfoldable pub with_named : Side → List (InterfaceName × Interface) → InterfaceName → Standing × Making → Result (Standing × Making) Failure
 with_named side is name so_far = do
   i ← ok_or (lookup (is_same_interface name) is) nowhere
   with_interface side name i so_far

@@ -3,9 +3,10 @@ pub mod Names
 pub mod Kinds
 pub mod Sharing
 pub mod Types
-pub mod Cuts
 pub mod Functions
 pub mod Ids
 pub mod Interfaces
 pub mod Worlds
+pub mod InterfaceKeys
 pub mod Resolved
+pub mod OtherNames

@@ -7,49 +7,48 @@
 -- 4. those of the exported functions, in the order of the exports.
 --
 -- So the names of a sound record stand for types that are made earlier; any other name refers to nothing.
-use Rattle.std.specs.Prelude.{◌≡◌, ◌≢◌, List, [], ◌∷◌, Result, Ok, Err, map}
+use Rattle.std.specs.Prelude.{◌≡◌, ◌≢◌, ◌<◌, length, [], ◌∷◌, Result, Ok, Err}
 use Rattle.std.specs.List.{AllByRecursion}
 use Rattle.record_json.specs.declared.fault.Failure.{Failure}
 use Rattle.record_json.specs.declared.fault.Failure.TheVariants as failures
 use Rattle.record_json.specs.Faults.{◌>>=◌}
-use Rattle.wit_data.specs.declared.types.TypeDef.{TypeDef}
-use Rattle.wit_data.specs.declared.worlds.World.{World}
+use Rattle.wit_data.specs.declared.resolve.Resolve.{Resolve}
 use Rattle.wit_data.specs.Sound.{IsSound, HasInterface}
 use Rattle.record_values.specs.declared.world.Wit.{Wit}
+use Rattle.record_values.specs.Interfaces.{Interfaces, interfaces_after}
 use Rattle.record_resolving.specs.declared.making.Making.{Making}
 use Rattle.record_resolving.specs.declared.making.Side.TheVariants as sides
 use Rattle.record_resolving.specs.declared.resolving.Resolved.{Resolved}
 use Rattle.record_resolving.specs.Steps.{nowhere}
-use Rattle.record_resolving.specs.Interfaces.{Seen, seen, Made}
-use Rattle.record_resolving.specs.Worlds.{Interfaces, Ids, Items, interfaces_after, all_named, exported_of, items_from}
-
--- what is seen of a resolve with one world: its interfaces, its types, its world, and the interfaces by name
-pub record Whole : Type 0 where
-  pub interfaces : List Seen
-  pub types : List TypeDef
-  pub worlds : List World
-  pub imported : Ids
-  pub exported : Ids
-
-abbrev pub seen_whole : Resolved → Whole
-seen_whole r = record { interfaces = map seen r.resolve.interfaces; types = r.resolve.types; worlds = r.resolve.worlds; imported = r.imported; exported = r.exported }
+use Rattle.record_resolving.specs.declared.interfaces.Standing.{Standing}
+use Rattle.wit_data.specs.declared.worlds.World.{World}
+use Rattle.wit_data.specs.declared.worlds.WorldItem.{WorldItem}
+use Rattle.wit_data.specs.declared.worlds.WorldItem.TheVariants as items
+use Rattle.wit_data.specs.declared.worlds.WorldKey.{WorldKey}
+use Rattle.wit_data.specs.declared.worlds.WorldKey.TheVariants as keys
+use Rattle.record_resolving.specs.Worlds.{Ids, Items, all_named, exported_of, items_from}
+use Rattle.record_resolving.specs.InterfaceKeys.{keys_after}
 
 abbrev pub nothing_made : Interfaces → Making
 nothing_made exported = record { exported = exported; imported_types = []; exported_types = []; types = []; unnamed = [] }
 
-abbrev pub whole_of : Items → Items → Made → Making → Ids → Whole
+abbrev pub resolve_of : Items → Items → Standing → Making → Resolve
+resolve_of imports exports made m = record { interfaces = made.interfaces; types = m.types; worlds = record { imports = imports; exports = exports } ∷ [] }
+
+-- a resolve with one world, its interfaces by name, and the first keys at which they stand
+abbrev pub whole_of : Items → Items → Standing → Making → Ids → Resolved
 whole_of imports exports made m imported =
-    record { interfaces = made.interfaces; types = m.types; worlds = record { imports = imports; exports = exports } ∷ []; imported = imported; exported = made.ids }
+    record { resolve = resolve_of imports exports made m; imported = imported; exported = made.ids; imported_keys = keys_after [] imports; exported_keys = keys_after [] exports }
 
 -- what is imported: interfaces, and the items of the world
-unfoldable pub imports_of : Interfaces → Wit → Made × Making → Result (Items × Made × Making) Failure
+unfoldable pub imports_of : Interfaces → Wit → Standing × Making → Result (Items × Standing × Making) Failure
 imports_of imported w so_far = do
   made ← all_named sides.Imported w.interfaces imported so_far
   items ← items_from sides.Imported made.0.ids w.imports ([], made.1)
   Ok (items.0, made.0, items.1)
 
 -- what is exported: the copies of interfaces, and the items of the world
-unfoldable pub exports_of : Interfaces → Wit → Made × Making → Result (Items × Made × Making) Failure
+unfoldable pub exports_of : Interfaces → Wit → Standing × Making → Result (Items × Standing × Making) Failure
 exports_of imported w so_far = do
   made ← exported_of imported w.interfaces so_far
   items ← items_from sides.Exported made.0.ids w.exports ([], made.1)
@@ -60,32 +59,45 @@ abbrev pub beside : {A B : Type 0} → A → Result B Failure → Result (A × B
 beside value step = step >>= λ x. Ok (value, x)
 
 -- what is exported, behind what is imported
-unfoldable pub resolved_behind : Interfaces → Wit → Items → Made → Making → Result Whole Failure
+unfoldable pub resolved_behind : Interfaces → Wit → Items → Standing → Making → Result Resolved Failure
 resolved_behind imported w imports made m = do
   outs ← exports_of imported w (record { interfaces = made.interfaces; ids = [] }, m)
   Ok (whole_of imports outs.0 outs.1 outs.2 made.ids)
 
-unfoldable pub resolved_among : Interfaces → Interfaces → Wit → Result Whole Failure
+unfoldable pub resolved_among : Interfaces → Interfaces → Wit → Result Resolved Failure
 resolved_among imported exported w = do
   ins ← imports_of imported w (record { interfaces = []; ids = [] }, nothing_made exported)
   resolved_behind imported w ins.0 ins.1 ins.2
 
 -- what the names of a record come to
-unfoldable pub resolved : Wit → Result Whole Failure
+unfoldable pub resolved : Wit → Result Resolved Failure
 resolved w = resolved_among (interfaces_after [] w.imports) (interfaces_after [] w.exports) w
 
--- every number in it names something, and so do those of the interfaces by name
+-- a function at the root has the name of its key
+abbrev pub IsNamed : WorldKey × WorldItem → Type 0
+IsNamed (keys.Name text, items.Function f) = f.name ≡ text
+IsNamed entry = Unit {0}
+
+-- the functions at the root of a world have the names of their keys
+pub record AreNamed (w : World) : Type 0 where
+  pub imports : AllByRecursion IsNamed w.imports
+  pub exports : AllByRecursion IsNamed w.exports
+
+-- there is a world; every number names something, and so do those of the interfaces by name; functions have the names of
+-- their keys
 pub record IsWhole (r : Resolved) : Type 0 where
+  pub stands : 0 < length r.resolve.worlds
   pub sound : IsSound r.resolve
   pub imported : AllByRecursion (λ i. HasInterface r.resolve i.1) r.imported
   pub exported : AllByRecursion (λ i. HasInterface r.resolve i.1) r.exported
+  pub named : AllByRecursion AreNamed r.resolve.worlds
 
 -- what was refused, or what came out is not whole
-abbrev pub IsRefused : Result Whole Failure → Failure → Type 0
+abbrev pub IsRefused : Result Resolved Failure → Failure → Type 0
 IsRefused (Err f) e = e ≡ f
-IsRefused (Ok made) e = (e ≡ nowhere) × ((r : Resolved) × (seen_whole r ≡ made) × (IsWhole r → ⊥))
+IsRefused (Ok r) e = (e ≡ nowhere) × (IsWhole r → ⊥)
 
 -- What a call returned: what the names come to, which is whole, or the refusal, unless memory ran out.
-abbrev pub GivesWhole : Result Resolved Failure → Result Whole Failure → Type 0
-GivesWhole (Ok r) made = (made ≡ Ok (seen_whole r)) × IsWhole r
+abbrev pub GivesWhole : Result Resolved Failure → Result Resolved Failure → Type 0
+GivesWhole (Ok r) made = (made ≡ Ok r) × IsWhole r
 GivesWhole (Err e) made = e ≢ failures.Memory → IsRefused made e

@@ -1,5 +1,5 @@
 -- The items of a world, in the order of the record's.
-use Rattle.std.specs.Prelude.{⊤, ℕ, Bool, not, ◌&&◌, List, [], ◌∷◌, is_some, ok_or, Result, Ok, Err, if◌then◌else◌}
+use Rattle.std.specs.Prelude.{ℕ, Bool, not, ◌&&◌, List, [], ◌∷◌, is_some, ok_or, Result, Ok, Err, if◌then◌else◌}
 use Rattle.std.specs.Map.{lookup}
 use Rattle.comp_lists.specs.Tables.{with_first}
 use Rattle.record_json.specs.declared.fault.Failure.{Failure}
@@ -22,62 +22,47 @@ use Rattle.record_values.specs.declared.world.Item.TheVariants as items
 use Rattle.record_values.specs.declared.world.ItemKey.{ItemKey}
 use Rattle.record_values.specs.declared.world.ItemKey.TheVariants as keys
 use Rattle.record_values.specs.Names.{is_same_interface}
+use Rattle.record_values.specs.Interfaces.{Interfaces, stands_among}
 use Rattle.record_resolving.specs.declared.making.Making.{Making}
 use Rattle.record_resolving.specs.declared.making.Side.{Side}
 use Rattle.record_resolving.specs.declared.making.Side.TheVariants as sides
 use Rattle.record_resolving.specs.Steps.{nowhere, with_new}
 use Rattle.record_resolving.specs.Types.{new_type}
 use Rattle.record_resolving.specs.Functions.{function_of}
-use Rattle.record_resolving.specs.Interfaces.{Made, with_named}
-
--- interfaces, each once
-abbrev pub Interfaces : Type 0
-Interfaces = List (InterfaceName × ⊤)
-
-abbrev pub with_item_name : Interfaces → Item → Interfaces
-with_item_name is (items.Interface name) = with_first is_same_interface is name tt
-with_item_name is (items.Function f) = is
-with_item_name is (items.«Type» nodes) = is
-
--- the interfaces among the items of a world's side, in order
-abbrev pub interfaces_after : Interfaces → List (ItemKey × Item) → Interfaces
-interfaces_after is [] = is
-interfaces_after is (e ∷ es) = interfaces_after (with_item_name is e.1) es
-
-abbrev pub stands_among : Interfaces → InterfaceName → Bool
-stands_among is name = is_some (lookup (is_same_interface name) is)
+use Rattle.record_resolving.specs.declared.interfaces.Standing.{Standing}
+use Rattle.record_resolving.specs.Interfaces.{with_named}
 
 -- the interfaces of a list, each made
-abbrev pub all_named : Side → List (InterfaceName × Interface) → Interfaces → Made × Making → Result (Made × Making) Failure
+abbrev pub all_named : Side → List (InterfaceName × Interface) → Interfaces → Standing × Making → Result (Standing × Making) Failure
 all_named side is [] so_far = Ok so_far
 all_named side is (n ∷ ns) so_far = do
   more ← with_named side is n.0 so_far
   all_named side is ns more
 
 -- an imported interface that is exported too has a copy
-abbrev pub with_copy : List (InterfaceName × Interface) → InterfaceName → Made × Making → Result (Made × Making) Failure
+abbrev pub with_copy : List (InterfaceName × Interface) → InterfaceName → Standing × Making → Result (Standing × Making) Failure
 with_copy is name so_far =
     if stands_among so_far.1.exported name then with_named sides.Exported is name so_far else Ok so_far
 
-abbrev pub copies_of : List (InterfaceName × Interface) → Interfaces → Made × Making → Result (Made × Making) Failure
+abbrev pub copies_of : List (InterfaceName × Interface) → Interfaces → Standing × Making → Result (Standing × Making) Failure
 copies_of is [] so_far = Ok so_far
 copies_of is (n ∷ ns) so_far = do
   more ← with_copy is n.0 so_far
   copies_of is ns more
 
 -- an interface that is exported only
-abbrev pub with_other : Interfaces → List (InterfaceName × Interface) → InterfaceName → Made × Making → Result (Made × Making) Failure
+abbrev pub with_other : Interfaces → List (InterfaceName × Interface) → InterfaceName → Standing × Making → Result (Standing × Making) Failure
 with_other imported is name so_far =
     if stands_among so_far.1.exported name && not (stands_among imported name) then with_named sides.Exported is name so_far else Ok so_far
 
-abbrev pub others_of : Interfaces → List (InterfaceName × Interface) → List (InterfaceName × Interface) → Made × Making → Result (Made × Making) Failure
+abbrev pub others_of : Interfaces → List (InterfaceName × Interface) → List (InterfaceName × Interface) → Standing × Making → Result (Standing × Making) Failure
 others_of imported is [] so_far = Ok so_far
 others_of imported is (e ∷ es) so_far = do
   more ← with_other imported is e.0 so_far
   others_of imported is es more
 
 -- the exported interfaces: first those that are imported too, in the order of the imports, then the others
-unfoldable pub exported_of : Interfaces → List (InterfaceName × Interface) → Made × Making → Result (Made × Making) Failure
+unfoldable pub exported_of : Interfaces → List (InterfaceName × Interface) → Standing × Making → Result (Standing × Making) Failure
 exported_of imported is so_far = do
   more ← copies_of is imported so_far
   others_of imported is is more

@@ -4,14 +4,13 @@ ghost use Rattle.std.specs.Prelude.{◌≡◌, [], option_map};
 ghost use Rattle.record_json.specs.Faults.{Gives};
 ghost use Rattle.record_resolving.specs.Steps.{Becomes, Makes};
 ghost use Rattle.record_resolving.specs.Functions.{method, static, plain, of_type, of_member, constructor_of, kind_by_tag, function_kind, with_param, params_from, some_result, result_of, function_of};
-ghost use Rattle.record_resolving.specs.Cuts.{cut_at};
+ghost use Rattle.comp_lists.specs.Cuts.{cut_at};
 ghost use Rattle.record_resolving.specs.Names.{found};
 ghost use Rattle.record_resolving.specs.Types.{type_name};
 
-use crate::cuts::cut;
 use crate::making::{Making, Side};
 use crate::types::{make_type, type_name};
-use comp_lists::Seq;
+use comp_lists::{Seq, cut};
 use record_json::{Failure, fault_here};
 use record_values::{Func, Node, Owner, Typed};
 use std::alloc::Global;

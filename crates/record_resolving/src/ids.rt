@@ -1,20 +1,18 @@
 //! What the ids of interfaces are made of.
 
-ghost use Rattle.std.specs.Prelude.{◌≡◌, true, option_map};
+ghost use Rattle.std.specs.Prelude.{◌≡◌, true};
 ghost use Rattle.record_json.specs.Faults.{Gives};
 ghost use Rattle.semver.specs.Identifiers.{parts_of};
 ghost use Rattle.semver.specs.Parse.{memory_error, version_parts};
-ghost use Rattle.wit_data.specs.Names.{name_parts};
-ghost use Rattle.record_resolving.specs.Cuts.{cut_at};
+ghost use Rattle.comp_lists.specs.Cuts.{cut_at};
 ghost use Rattle.record_resolving.specs.Ids.{version_by, some_version, path_of, id_parts, some_id, id_of};
 
-use crate::cuts::cut;
-use comp_lists::Text;
+use comp_lists::{Text, cut};
 use record_json::{Failure, fault_here};
 use record_values::InterfaceName;
 use semver::{Error, Version};
 use std::alloc::{AllocError, Global};
-use wit_data::IdName;
+use wit_data::{IdName, PackageVersion};
 
 fn is_memory(fault: Error) -> bool
     ensures { fault ≡ memory_error → result ≡ true }
@@ -37,16 +35,16 @@ fn read_version(alloc: Global, text: &str) -> Result<Version, Failure>
     }
 }
 
-fn some_version(alloc: Global, text: &str) -> Result<Option<Version>, Failure>
-    ensures { Gives (option_map parts_of) result (some_version text.now) }
+fn some_version(alloc: Global, text: &str) -> Result<Option<PackageVersion>, Failure>
+    ensures { Gives (λ v. v) result (some_version text.now) }
 {
     let version = read_version(alloc, text)?;
-    Ok(Some(version))
+    Ok(Some(PackageVersion::of(version)))
 }
 
 /// The names before the version, and the version.
-fn read_path(alloc: Global, text: &str) -> Result<(&str, Option<Version>), Failure>
-    ensures { Gives (λ p. (p.0.now, option_map parts_of p.1)) result (path_of text.now (cut_at 64 text.now)) }
+fn read_path(alloc: Global, text: &str) -> Result<(&str, Option<PackageVersion>), Failure>
+    ensures { Gives (λ p. (p.0.now, p.1)) result (path_of text.now (cut_at 64 text.now)) }
 {
     match cut(text, '@') {
         Some((path, version)) => {
@@ -59,7 +57,7 @@ fn read_path(alloc: Global, text: &str) -> Result<(&str, Option<Version>), Failu
 
 #[tactic(auto, unfolding(crate::specs::Ids::id_parts))]
 fn read_id(alloc: Global, text: &str) -> Result<IdName, Failure>
-    ensures { Gives name_parts result (id_parts text.now) }
+    ensures { Gives (λ id. id) result (id_parts text.now) }
 {
     let (path, version) = read_path(alloc, text)?;
     let Some((namespace, rest)) = cut(path, ':') else {
@@ -77,7 +75,7 @@ fn read_id(alloc: Global, text: &str) -> Result<IdName, Failure>
 }
 
 fn some_id(alloc: Global, text: &str) -> Result<Option<IdName>, Failure>
-    ensures { Gives (option_map name_parts) result (some_id text.now) }
+    ensures { Gives (λ id. id) result (some_id text.now) }
 {
     let id = read_id(alloc, text)?;
     Ok(Some(id))
@@ -85,7 +83,7 @@ fn some_id(alloc: Global, text: &str) -> Result<Option<IdName>, Failure>
 
 /// The id of an interface, where it has one.
 pub(crate) fn id_of(alloc: Global, name: &InterfaceName) -> Result<Option<IdName>, Failure>
-    ensures { Gives (option_map name_parts) result (id_of name.now) }
+    ensures { Gives (λ id. id) result (id_of name.now) }
 {
     match name {
         InterfaceName::Id(text) => some_id(alloc, text.as_str()),

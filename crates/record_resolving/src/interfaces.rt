@@ -1,13 +1,12 @@
 //! Interfaces: their types and functions.
 
-ghost use Rattle.std.specs.Prelude.{◌≡◌, [], ◌∷◌, ◌++◌, OnOk, map, option_map};
+ghost use Rattle.std.specs.Prelude.{◌≡◌, [], ◌∷◌, ◌++◌, OnOk};
 ghost use Rattle.std.specs.Str.{bytes_eq};
 ghost use Rattle.record_json.specs.Faults.{Gives};
 ghost use Rattle.record_values.specs.declared.names.Owner.TheVariants as owners;
 ghost use Rattle.wit_data.specs.declared.types.TypeOwner.TheVariants as places;
-ghost use Rattle.wit_data.specs.Names.{name_parts};
 ghost use Rattle.record_resolving.specs.Steps.{Becomes, Makes};
-ghost use Rattle.record_resolving.specs.Interfaces.{with_type_of, types_from, with_function_of, functions_from, items_of, seen, made_of, with_made, with_interface, with_named};
+ghost use Rattle.record_resolving.specs.Interfaces.{with_type_of, types_from, with_function_of, functions_from, items_of, made, with_made, with_interface, with_named};
 
 use crate::functions::make_function;
 use crate::ids::id_of;
@@ -110,7 +109,7 @@ fn make_items(
 ) -> Result<(Types, Functions), Failure>
     ensures { Makes result making.new (items_of side owner.now place interface.now making.old) }
 {
-    let outside = making.change_scope(Seq::new(alloc));
+    let outside = making.change_scope(Keyed::new(alloc));
     let types = make_types(
         alloc,
         making,
@@ -146,7 +145,7 @@ fn push_made(
     id: Option<IdName>,
     items: (Types, Functions),
 ) -> Result<(), AllocError>
-    ensures interfaces { OnOk result (map seen standing.new.interfaces ≡ map seen standing.old.interfaces ++ (option_map name_parts id, items.0, items.1) ∷ []) }
+    ensures interfaces { OnOk result (standing.new.interfaces ≡ standing.old.interfaces ++ made id items ∷ []) }
     ensures ids { standing.new.ids ≡ standing.old.ids }
 {
     let (types, functions) = items;
@@ -168,7 +167,7 @@ fn put_made(
     id: Option<IdName>,
     items: (Types, Functions),
 ) -> Result<(), Failure>
-    ensures { Becomes result (made_of standing.new) (with_made name.now number (option_map name_parts id) items (made_of standing.old)) }
+    ensures { Becomes result standing.new (with_made name.now number id items standing.old) }
 {
     push_made(standing, id, items)?;
     put_new(alloc, &mut standing.ids, name.try_clone(alloc)?, number)
@@ -184,7 +183,7 @@ fn add_interface(
     interface: &Interface,
     standing: &mut Standing,
 ) -> Result<(), Failure>
-    ensures { Becomes result (made_of standing.new, making.new) (with_interface side name.now interface.now (made_of standing.old, making.old)) }
+    ensures { Becomes result (standing.new, making.new) (with_interface side name.now interface.now (standing.old, making.old)) }
 {
     let number = InterfaceId {
         index: standing.interfaces.len(),
@@ -204,7 +203,7 @@ pub(crate) fn add_named(
     name: &InterfaceName,
     standing: &mut Standing,
 ) -> Result<(), Failure>
-    ensures { Becomes result (made_of standing.new, making.new) (with_named side all.now name.now (made_of standing.old, making.old)) }
+    ensures { Becomes result (standing.new, making.new) (with_named side all.now name.now (standing.old, making.old)) }
 {
     match all.get(name) {
         Some(interface) => add_interface(alloc, making, side, name, interface, standing),

@@ -5,6 +5,7 @@ ghost use Rattle.record_json.specs.Faults.{Gives};
 ghost use Rattle.record_resolving.specs.Steps.{Becomes, with_new};
 ghost use Rattle.record_resolving.specs.Names.{has_copy, side_of, table_of, found, with_name};
 
+use crate::sharing::Unnamed;
 use comp_lists::{Keyed, Seq};
 use record_json::{Failure, fault_here};
 use record_values::{InterfaceName, Owner, TypeName};
@@ -29,8 +30,8 @@ pub(crate) struct Making {
     /// The types of the copies of exported interfaces by name.
     pub exported_types: Keyed<TypeName, TypeId>,
     pub types: Seq<TypeDef>,
-    /// The unnamed types of the scope in which types are made.
-    pub unnamed: Seq<TypeId>,
+    /// The unnamed types of the scope in which types are made, by what they are.
+    pub unnamed: Unnamed,
 }
 
 /// Adds an entry whose key the table lacks.

@@ -5,26 +5,29 @@ ghost use Rattle.std.specs.List.{AllByRecursion};
 ghost use Rattle.wit_data.specs.Sound.{IsSound, HasInterface};
 ghost use Rattle.record_json.specs.Faults.{Gives};
 ghost use Rattle.record_resolving.specs.Steps.{MakesBeside};
-ghost use Rattle.record_resolving.specs.Interfaces.{made_of};
-ghost use Rattle.record_resolving.specs.Worlds.{interfaces_after};
-ghost use Rattle.record_resolving.specs.Resolved.{seen_whole, nothing_made, whole_of, beside, imports_of, exports_of, resolved_behind, resolved_among, resolved, IsWhole, GivesWhole};
+ghost use Rattle.record_values.specs.Interfaces.{interfaces_after};
+ghost use Rattle.record_resolving.specs.InterfaceKeys.{keys_after};
+ghost use Rattle.record_resolving.specs.Resolved.{nothing_made, whole_of, beside, imports_of, exports_of, resolved_behind, resolved_among, resolved, IsNamed, AreNamed, IsWhole, GivesWhole};
 
+use crate::interface_keys::{WorldKeys, keys_of_world};
 use crate::interfaces::Standing;
 use crate::making::{Making, Side};
-use crate::worlds::{Interfaces, Items, add_all, add_exported, interfaces_among, make_items};
+use crate::worlds::{Items, add_all, add_exported, make_items};
 use comp_lists::{Keyed, Seq};
 use record_json::{Failure, fault_here};
-use record_values::{InterfaceName, Wit};
+use record_values::{InterfaceName, Interfaces, Wit, interfaces_among};
 use std::alloc::Global;
-use wit_data::{InterfaceId, Resolve, World};
+use wit_data::{InterfaceId, Resolve, World, WorldItem, WorldKey};
 
 /// A resolve with one world, and the numbers of the interfaces that the world imports and of those
-/// that it exports, by name.
+/// that it exports, by name. Of each interface of a side, the first key at which it stands there.
 #[derive(Drop)]
 pub struct Resolved {
     pub resolve: Resolve,
     pub imported: Keyed<InterfaceName, InterfaceId>,
     pub exported: Keyed<InterfaceName, InterfaceId>,
+    pub imported_keys: Keyed<InterfaceId, WorldKey>,
+    pub exported_keys: Keyed<InterfaceId, WorldKey>,
 }
 
 /// What is imported: interfaces, and then the items of the world.
@@ -36,7 +39,7 @@ fn import_all(
     wit: &Wit,
     standing: &mut Standing,
 ) -> Result<Items, Failure>
-    ensures { MakesBeside result (made_of standing.new) making.new (imports_of imported.now wit.now (made_of standing.old, making.old)) }
+    ensures { MakesBeside result standing.new making.new (imports_of imported.now wit.now (standing.old, making.old)) }
 {
     add_all(
         alloc,
@@ -58,7 +61,7 @@ fn export_all(
     wit: &Wit,
     standing: &mut Standing,
 ) -> Result<Items, Failure>
-    ensures { MakesBeside result (made_of standing.new) making.new (exports_of imported.now wit.now (made_of standing.old, making.old)) }
+    ensures { MakesBeside result standing.new making.new (exports_of imported.now wit.now (standing.old, making.old)) }
 {
     add_exported(alloc, making, imported, &wit.interfaces, standing)?;
     make_items(alloc, making, Side::Exported, &standing.ids, &wit.exports)
@@ -72,7 +75,7 @@ fn nothing_made(alloc: Global, exported: Interfaces) -> Making
         imported_types: Keyed::new(alloc),
         exported_types: Keyed::new(alloc),
         types: Seq::new(alloc),
-        unnamed: Seq::new(alloc),
+        unnamed: Keyed::new(alloc),
     }
 }
 
@@ -102,12 +105,52 @@ pub(crate) struct Inward {
 }
 
 /// One world.
-fn worlds_of(alloc: Global, imports: Items, exports: Items) -> Result<Seq<World>, Failure>
-    ensures { Gives (λ ws. ws) result (Ok (record { imports = imports; exports = exports } ∷ [])) }
+fn worlds_of(alloc: Global, world: World) -> Result<Seq<World>, Failure>
+    ensures { Gives (λ ws. ws) result (Ok (world ∷ [])) }
 {
     let mut worlds = Seq::new(alloc);
-    worlds.push(World { imports, exports })?;
+    worlds.push(world)?;
     Ok(worlds)
+}
+
+/// The keys of the interfaces of both sides.
+fn keys_of(alloc: Global, world: &World) -> Result<WorldKeys, Failure>
+    ensures { Gives (λ ks. ks) result (Ok (record { imported = keys_after [] world.now.imports; exported = keys_after [] world.now.exports })) }
+{
+    let keys = keys_of_world(alloc, world)?;
+    Ok(keys)
+}
+
+/// The keys of the interfaces of both sides, and one world.
+fn keys_and_worlds(alloc: Global, world: World) -> Result<(WorldKeys, Seq<World>), Failure>
+    ensures { Gives (λ p. p) result (Ok (record { imported = keys_after [] world.imports; exported = keys_after [] world.exports }, world ∷ [])) }
+{
+    let keys = keys_of(alloc, &world);
+    let (world, keys) = beside(world, keys)?;
+    let worlds = worlds_of(alloc, world);
+    beside(keys, worlds)
+}
+
+/// What was made, as one.
+fn whole(kept: Kept, keys: WorldKeys, worlds: Seq<World>) -> Resolved
+    ensures { result ≡ record { resolve = record { interfaces = kept.standing.interfaces; types = kept.making.types; worlds = worlds }; imported = kept.imported; exported = kept.standing.ids; imported_keys = keys.imported; exported_keys = keys.exported } }
+{
+    let Kept {
+        making,
+        standing,
+        imported,
+    } = kept;
+    Resolved {
+        resolve: Resolve {
+            interfaces: standing.interfaces,
+            types: making.types,
+            worlds,
+        },
+        imported,
+        exported: standing.ids,
+        imported_keys: keys.imported,
+        exported_keys: keys.exported,
+    }
 }
 
 /// A resolve with one world.
@@ -117,24 +160,11 @@ fn put_together(
     imports: Items,
     exports: Items,
 ) -> Result<Resolved, Failure>
-    ensures { Gives seen_whole result (Ok (whole_of imports exports (made_of kept.standing) kept.making kept.imported)) }
+    ensures { Gives (λ r. r) result (Ok (whole_of imports exports kept.standing kept.making kept.imported)) }
 {
-    let worlds = worlds_of(alloc, imports, exports);
-    let (kept, worlds) = beside(kept, worlds)?;
-    let Kept {
-        making,
-        standing,
-        imported,
-    } = kept;
-    Ok(Resolved {
-        resolve: Resolve {
-            interfaces: standing.interfaces,
-            types: making.types,
-            worlds,
-        },
-        imported,
-        exported: standing.ids,
-    })
+    let made = keys_and_worlds(alloc, World { imports, exports });
+    let (kept, (keys, worlds)) = beside(kept, made)?;
+    Ok(whole(kept, keys, worlds))
 }
 
 /// What is exported, behind what is imported.
@@ -147,7 +177,7 @@ fn resolve_behind(
     standing: Standing,
     making: Making,
 ) -> Result<Resolved, Failure>
-    ensures { Gives seen_whole result (resolved_behind imported.now wit.now imports (made_of standing) making) }
+    ensures { Gives (λ r. r) result (resolved_behind imported.now wit.now imports standing making) }
 {
     let mut making = making;
     let mut outward = Standing {
@@ -182,7 +212,7 @@ fn resolve_among(
     exported: Interfaces,
     wit: &Wit,
 ) -> Result<Resolved, Failure>
-    ensures { Gives seen_whole result (resolved_among imported.now exported wit.now) }
+    ensures { Gives (λ r. r) result (resolved_among imported.now exported wit.now) }
 {
     let mut making = nothing_made(alloc, exported);
     let mut standing = nothing_standing(alloc);
@@ -193,7 +223,7 @@ fn resolve_among(
 /// What the names come to.
 #[tactic(auto, unfolding(crate::specs::Resolved::resolved))]
 fn resolve_names(alloc: Global, wit: &Wit) -> Result<Resolved, Failure>
-    ensures { Gives seen_whole result (resolved wit.now) }
+    ensures { Gives (λ r. r) result (resolved wit.now) }
 {
     let imported = interfaces_among(alloc, &wit.imports)?;
     let exported = interfaces_among(alloc, &wit.exports)?;
@@ -211,13 +241,53 @@ fn are_there(resolve: &Resolve, ids: &Keyed<InterfaceName, InterfaceId>) -> bool
     true
 }
 
+fn is_named(key: &WorldKey, item: &WorldItem) -> bool
+    ensures { IsTrue result ↔ IsNamed (key.now, item.now) }
+{
+    match (key, item) {
+        (WorldKey::Name(text), WorldItem::Function(function)) => function.name == *text,
+        _ => true,
+    }
+}
+
+fn all_named(items: &Items) -> bool
+    ensures { IsTrue result ↔ AllByRecursion IsNamed items.now }
+{
+    for (key, item) in items.entries() {
+        if !is_named(key, item) {
+            return false;
+        }
+    }
+    true
+}
+
+fn has_named(world: &World) -> bool
+    ensures { IsTrue result ↔ AreNamed world.now }
+{
+    all_named(&world.imports) && all_named(&world.exports)
+}
+
+/// Whether the functions at the root of each world have the names of their keys.
+fn are_named(worlds: &[World]) -> bool
+    ensures { IsTrue result ↔ AllByRecursion AreNamed worlds.now }
+{
+    for world in worlds {
+        if !has_named(world) {
+            return false;
+        }
+    }
+    true
+}
+
 impl Resolved {
     fn is_whole(&self) -> bool
         ensures { IsTrue result ↔ IsWhole self.now }
     {
-        self.resolve.is_sound()
+        !self.resolve.worlds.is_empty()
+            && self.resolve.is_sound()
             && are_there(&self.resolve, &self.imported)
             && are_there(&self.resolve, &self.exported)
+            && are_named(self.resolve.worlds.as_slice())
     }
 }
 
@@ -225,7 +295,7 @@ impl Resolved {
 ///
 /// Exported interfaces are copies of their own. Refused, as a value of the record without a place, is a
 /// name that stands for nothing made earlier, a type that is malformed, an id that is none, a name that
-/// stands twice in an interface, and what isn't sound.
+/// stands twice in an interface, what isn't sound, and a function at the root whose name isn't its key's.
 pub fn resolve(alloc: Global, wit: &Wit) -> Result<Resolved, Failure>
     ensures { GivesWhole result (resolved wit.now) }
 {
@@ -233,6 +303,7 @@ pub fn resolve(alloc: Global, wit: &Wit) -> Result<Resolved, Failure>
     if resolved.is_whole() {
         Ok(resolved)
     } else {
+        drop(resolved);
         Err(fault_here(alloc))
     }
 }

@@ -1,35 +1,18 @@
 //! Unnamed types: equal ones of one scope are one type.
-//!
-//! The unnamed types of a scope are searched one by one.
 
-ghost use Rattle.std.specs.Prelude.{◌≡◌, None, length, IfOk, OnOk, option_map, slice_get};
-ghost use Rattle.record_resolving.specs.Sharing.{has_kind, first_equal, with_type, shared, scoped};
+ghost use Rattle.std.specs.Prelude.{◌≡◌, None, length, IfOk, OnOk};
+ghost use Rattle.std.specs.Map.{lookup};
+ghost use Rattle.wit_data.specs.contracts.types.TypeDefKindPartialEq.TheImpl as kinds_eq;
+ghost use Rattle.record_resolving.specs.Sharing.{with_type, shared_by, shared, scoped};
 
 use crate::making::Making;
-use comp_lists::{Seq, Text};
+use comp_lists::{Keyed, Text, TryClone};
 use std::alloc::{AllocError, Global};
 use std::mem;
 use wit_data::{TypeDef, TypeDefKind, TypeId, TypeOwner};
 
-fn has_kind(kind: &TypeDefKind, types: &[TypeDef], id: TypeId) -> bool
-    ensures { result ≡ has_kind kind.now (slice_get types.now id.index) }
-{
-    match types.get(id.index) {
-        Some(found) => *kind == found.kind,
-        None => false,
-    }
-}
-
-fn first_equal(kind: &TypeDefKind, types: &[TypeDef], ids: &[TypeId]) -> Option<TypeId>
-    ensures { result ≡ first_equal kind.now types.now ids.now }
-{
-    for id in ids {
-        if has_kind(kind, types, *id) {
-            return Some(*id);
-        }
-    }
-    None
-}
+/// The unnamed types of a scope by what they are.
+pub(crate) type Unnamed = Keyed<TypeDefKind, TypeId>;
 
 impl Making {
     /// One type more.
@@ -51,21 +34,28 @@ impl Making {
 
     /// The unnamed type of this kind, which is made where the scope lacks it.
     #[tactic(auto, unfolding(crate::specs::Sharing::shared))]
-    pub(crate) fn share(&mut self, kind: TypeDefKind) -> Result<TypeId, AllocError>
+    pub(crate) fn share(&mut self, alloc: Global, kind: TypeDefKind) -> Result<TypeId, AllocError>
         ensures { IfOk result (λ id. (id, self.new) ≡ shared kind self.old) }
     {
-        match first_equal(&kind, self.types.as_slice(), self.unnamed.as_slice()) {
+        match self.unnamed.get(&kind).copied() {
             Some(id) => Ok(id),
-            None => {
-                let id = self.push_type(None, kind, TypeOwner::None)?;
-                self.unnamed.push(id)?;
-                Ok(id)
-            }
+            None => self.add_unnamed(alloc, kind),
         }
     }
 
+    /// A new unnamed type, of a kind that the scope lacks.
+    fn add_unnamed(&mut self, alloc: Global, kind: TypeDefKind) -> Result<TypeId, AllocError>
+        requires { lookup (kinds_eq.eq-value.it kind) self.old.unnamed ≡ None }
+        ensures { IfOk result (λ id. (id, self.new) ≡ shared_by kind self.old None) }
+    {
+        let key = kind.try_clone(alloc)?;
+        let id = self.push_type(None, kind, TypeOwner::None)?;
+        self.unnamed.add(key, id)?;
+        Ok(id)
+    }
+
     /// Goes on in a scope with these unnamed types, and answers those of the scope before.
-    pub(crate) fn change_scope(&mut self, unnamed: Seq<TypeId>) -> Seq<TypeId>
+    pub(crate) fn change_scope(&mut self, unnamed: Unnamed) -> Unnamed
         ensures before { result ≡ self.old.unnamed }
         ensures scope { self.new ≡ scoped unnamed self.old }
     {

@@ -54,7 +54,7 @@ fn push_compound(
 {
     let place = top_of(alloc, arity(node), stack.as_slice())?;
     let kind = kind_at(alloc, making, side, node, stack.as_slice(), place)?;
-    let id = making.share(kind)?;
+    let id = making.share(alloc, kind)?;
     stack.truncate(place);
     stack.push(Type::Id(id))?;
     Ok(())

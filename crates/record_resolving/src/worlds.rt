@@ -4,8 +4,7 @@ ghost use Rattle.std.specs.Prelude.{◌≡◌, [], IfOk, OnOk};
 ghost use Rattle.record_json.specs.Faults.{Gives};
 ghost use Rattle.record_resolving.specs.declared.making.Side.TheVariants as sides;
 ghost use Rattle.record_resolving.specs.Steps.{Becomes, Makes};
-ghost use Rattle.record_resolving.specs.Interfaces.{made_of};
-ghost use Rattle.record_resolving.specs.Worlds.{with_item_name, interfaces_after, all_named, with_copy, copies_of, with_other, others_of, exported_of, key_of, plain_name, interface_item, function_item, imported_type, type_item, item_of, with_item, items_from};
+ghost use Rattle.record_resolving.specs.Worlds.{all_named, with_copy, copies_of, with_other, others_of, exported_of, key_of, plain_name, interface_item, function_item, imported_type, type_item, item_of, with_item, items_from};
 
 use crate::functions::make_function;
 use crate::interfaces::{Standing, add_named};
@@ -13,12 +12,9 @@ use crate::making::{Making, Side, put_new};
 use crate::types::make_named;
 use comp_lists::{Keyed, Seq, Text, TryClone};
 use record_json::{Failure, fault_here};
-use record_values::{Func, Interface, InterfaceName, Item, ItemKey, Node, Owner};
+use record_values::{Func, Interface, InterfaceName, Interfaces, Item, ItemKey, Node, Owner};
 use std::alloc::{AllocError, Global};
 use wit_data::{InterfaceId, TypeOwner, WorldId, WorldItem, WorldKey};
-
-/// Interfaces, each once.
-pub(crate) type Interfaces = Keyed<InterfaceName, ()>;
 
 /// The interfaces of the record by name.
 type All = Keyed<InterfaceName, Interface>;
@@ -29,30 +25,6 @@ type Ids = Keyed<InterfaceName, InterfaceId>;
 /// The items of a side of the world.
 pub(crate) type Items = Keyed<WorldKey, WorldItem>;
 
-fn add_item_name(alloc: Global, interfaces: &mut Interfaces, item: &Item) -> Result<(), AllocError>
-    ensures { OnOk result (interfaces.new ≡ with_item_name interfaces.old item.now) }
-{
-    match item {
-        Item::Interface(name) => interfaces.add_first(name.try_clone(alloc)?, ()),
-        Item::Function(_) => Ok(()),
-        Item::Type(_) => Ok(()),
-    }
-}
-
-/// The interfaces among the items of a world's side. The only refusal is want of memory.
-pub(crate) fn interfaces_among(
-    alloc: Global,
-    items: &Keyed<ItemKey, Item>,
-) -> Result<Interfaces, AllocError>
-    ensures { IfOk result (λ is. is ≡ interfaces_after [] items.now) }
-{
-    let mut interfaces = Keyed::new(alloc);
-    for (_key, item) in items.entries() {
-        add_item_name(alloc, &mut interfaces, item)?;
-    }
-    Ok(interfaces)
-}
-
 /// Makes the interfaces of a list.
 pub(crate) fn add_all(
     alloc: Global,
@@ -62,7 +34,7 @@ pub(crate) fn add_all(
     names: &Interfaces,
     standing: &mut Standing,
 ) -> Result<(), Failure>
-    ensures { Becomes result (made_of standing.new, making.new) (all_named side all.now names.now (made_of standing.old, making.old)) }
+    ensures { Becomes result (standing.new, making.new) (all_named side all.now names.now (standing.old, making.old)) }
 {
     for (name, _) in names.entries() {
         add_named(alloc, making, side, all, name, standing)?;
@@ -78,7 +50,7 @@ fn add_copy(
     name: &InterfaceName,
     standing: &mut Standing,
 ) -> Result<(), Failure>
-    ensures { Becomes result (made_of standing.new, making.new) (with_copy all.now name.now (made_of standing.old, making.old)) }
+    ensures { Becomes result (standing.new, making.new) (with_copy all.now name.now (standing.old, making.old)) }
 {
     if making.exported.contains(name) {
         add_named(alloc, making, Side::Exported, all, name, standing)
@@ -94,7 +66,7 @@ fn add_copies(
     imported: &Interfaces,
     standing: &mut Standing,
 ) -> Result<(), Failure>
-    ensures { Becomes result (made_of standing.new, making.new) (copies_of all.now imported.now (made_of standing.old, making.old)) }
+    ensures { Becomes result (standing.new, making.new) (copies_of all.now imported.now (standing.old, making.old)) }
 {
     for (name, _) in imported.entries() {
         add_copy(alloc, making, all, name, standing)?;
@@ -111,7 +83,7 @@ fn add_other(
     name: &InterfaceName,
     standing: &mut Standing,
 ) -> Result<(), Failure>
-    ensures { Becomes result (made_of standing.new, making.new) (with_other imported.now all.now name.now (made_of standing.old, making.old)) }
+    ensures { Becomes result (standing.new, making.new) (with_other imported.now all.now name.now (standing.old, making.old)) }
 {
     if making.exported.contains(name) && !imported.contains(name) {
         add_named(alloc, making, Side::Exported, all, name, standing)
@@ -127,7 +99,7 @@ fn add_others(
     all: &All,
     standing: &mut Standing,
 ) -> Result<(), Failure>
-    ensures { Becomes result (made_of standing.new, making.new) (others_of imported.now all.now all.now (made_of standing.old, making.old)) }
+    ensures { Becomes result (standing.new, making.new) (others_of imported.now all.now all.now (standing.old, making.old)) }
 {
     for (name, _interface) in all.entries() {
         add_other(alloc, making, imported, all, name, standing)?;
@@ -144,7 +116,7 @@ pub(crate) fn add_exported(
     all: &All,
     standing: &mut Standing,
 ) -> Result<(), Failure>
-    ensures { Becomes result (made_of standing.new, making.new) (exported_of imported.now all.now (made_of standing.old, making.old)) }
+    ensures { Becomes result (standing.new, making.new) (exported_of imported.now all.now (standing.old, making.old)) }
 {
     add_copies(alloc, making, all, imported, standing)?;
     add_others(alloc, making, imported, all, standing)

@@ -5,8 +5,8 @@ use Rattle.serde_json.specs.Data.{Data, Items, no_items, item}
 use Rattle.serde_json.specs.Find.{as_array}
 use Rattle.comp_bytes.specs.declared.space.ExportKind.{ExportKind}
 use Rattle.comp_bytes.specs.declared.space.ExportKind.TheVariants as export_kinds
-use Rattle.comp_worlds.specs.declared.encoding.StringEncoding.{StringEncoding}
-use Rattle.comp_worlds.specs.declared.encoding.StringEncoding.TheVariants as encodings
+use Rattle.comp_roles.specs.declared.encoding.StringEncoding.{StringEncoding}
+use Rattle.comp_roles.specs.declared.encoding.StringEncoding.TheVariants as encodings
 use Rattle.core_bytes.specs.declared.types.ValType.{ValType}
 use Rattle.core_bytes.specs.declared.types.ValType.TheVariants as vals
 use Rattle.wit_data.specs.declared.functions.AbiVariant.{AbiVariant}

@@ -14,7 +14,7 @@ use crate::export_roles::read_export_role;
 use crate::import_roles::read_import_role;
 use crate::payloads::{Met, all_met};
 use comp_lists::{Seq, Text};
-use comp_worlds::StringEncoding;
+use comp_roles::StringEncoding;
 use record_json::{
     Failure, bool_member, check_members, fault_at, fault_here, read_value, required, text_member,
     under, under_index,

@@ -1,19 +1,12 @@
 -- The ids of interfaces that compatible versions share (component model, explainer: `canonversion`).
-use Rattle.std.specs.Prelude.{ℕ, ◌==◌, ◌&&◌, ◌||◌, nat_lt, length, List, ◌∷◌, ◌++◌, Bool, Option, Some, None, option_map, Result, Ok, Err, if◌then◌else◌}
-use Rattle.std.specs.List.{before_first, after_first, position_or_len}
+use Rattle.std.specs.Prelude.{ℕ, ◌==◌, ◌&&◌, ◌||◌, nat_lt, List, ◌∷◌, ◌++◌, Bool, Option, Some, None, option_map, Result, Ok, Err}
+use Rattle.comp_lists.specs.Cuts.{cut_at}
 use Rattle.semver.specs.Parse.{Parts, version_parts}
 use Rattle.semver.specs.declared.error.Error.{Error}
 use Rattle.wit_data.specs.Versions.{canonical_version}
 use Rattle.record_values.specs.declared.names.InterfaceName.{InterfaceName}
 use Rattle.record_values.specs.declared.names.InterfaceName.TheVariants as names
 use Rattle.record_settling.specs.declared.compatible.Compatible.{Compatible}
-
--- what stands before and after the first such character
-abbrev pub cut_at : ℕ → List ℕ → Option (List ℕ × List ℕ)
-cut_at mark text =
-    if nat_lt (position_or_len (λ b. b == mark) text) (length text)
-    then Some (before_first (λ b. b == mark) text, after_first (λ b. b == mark) text)
-    else None
 
 -- an id with the part of the version that compatible versions share, where that isn't the whole
 abbrev pub by_parts : List ℕ → Parts → Option Compatible

@@ -1,6 +1,6 @@
 -- Which imported interface becomes which: of those of one canonical id each becomes the one of greatest version. One
 -- that is also exported stays.
-use Rattle.std.specs.Prelude.{⊤, ℕ, Bool, true, ◌||◌, List, [], ◌∷◌, ◌++◌, Option, Some, None, is_some, if◌then◌else◌}
+use Rattle.std.specs.Prelude.{ℕ, Bool, true, ◌||◌, List, [], ◌∷◌, ◌++◌, Option, Some, None, if◌then◌else◌}
 use Rattle.std.specs.Map.{lookup}
 use Rattle.std.specs.Str.{bytes_eq}
 use Rattle.indexmap.specs.IndexMap.{insert_entry}
@@ -11,27 +11,11 @@ use Rattle.record_values.specs.declared.world.Item.TheVariants as items
 use Rattle.record_values.specs.declared.world.ItemKey.{ItemKey}
 use Rattle.record_values.specs.declared.world.Wit.{Wit}
 use Rattle.record_values.specs.Names.{is_same_interface}
+use Rattle.record_values.specs.Interfaces.{Interfaces, stands_among, interfaces_after}
 use Rattle.record_values.specs.Renaming.{Renames}
 use Rattle.record_settling.specs.declared.compatible.Compatible.{Compatible}
 use Rattle.record_settling.specs.declared.groups.Candidate.{Candidate}
 use Rattle.record_settling.specs.Compatible.{compatible, is_newer}
-
--- interfaces, each once
-abbrev pub Interfaces : Type 0
-Interfaces = List (InterfaceName × ⊤)
-
-abbrev pub stands_among : Interfaces → InterfaceName → Bool
-stands_among is name = is_some (lookup (is_same_interface name) is)
-
-abbrev pub with_item : Interfaces → Item → Interfaces
-with_item is (items.Interface name) = with_first is_same_interface is name tt
-with_item is (items.Function f) = is
-with_item is (items.Type nodes) = is
-
--- the interfaces among the items of a world's side
-abbrev pub interfaces_after : Interfaces → List (ItemKey × Item) → Interfaces
-interfaces_after is [] = is
-interfaces_after is (e ∷ es) = interfaces_after (with_item is e.1) es
 
 abbrev pub candidate_by : InterfaceName → Option Compatible → List Candidate
 candidate_by name None = []

@@ -5,4 +5,5 @@ pub mod Standing
 pub mod Renamed
 pub mod Reach
 pub mod Order
+pub mod Taking
 pub mod Settled

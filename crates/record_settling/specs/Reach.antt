@@ -10,7 +10,7 @@ use Rattle.record_values.specs.declared.world.Item.TheVariants as items
 use Rattle.record_values.specs.declared.world.ItemKey.{ItemKey}
 use Rattle.record_values.specs.declared.world.Wit.{Wit}
 use Rattle.record_values.specs.Names.{is_same_interface, name_text}
-use Rattle.record_settling.specs.Groups.{Interfaces, stands_among, interfaces_after}
+use Rattle.record_values.specs.Interfaces.{Interfaces, stands_among, interfaces_after}
 use Rattle.record_settling.specs.Standing.{conflict}
 use Rattle.record_settling.specs.Uses.{uses}
 

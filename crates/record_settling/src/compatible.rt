@@ -1,12 +1,13 @@
 //! The ids of interfaces that compatible versions share.
 
-ghost use Rattle.std.specs.Prelude.{◌≡◌, ◌<◌, ◌∷◌, ◌++◌, Ok, true, IfOk, option_map};
+ghost use Rattle.std.specs.Prelude.{◌≡◌, ◌∷◌, ◌++◌, Ok, true, IfOk};
 ghost use Rattle.semver.specs.Identifiers.{parts_of};
 ghost use Rattle.semver.specs.Parse.{memory_error, version_parts};
 ghost use Rattle.record_json.specs.Faults.{Gives};
-ghost use Rattle.record_settling.specs.Compatible.{cut_at, by_parts, by_version, of_id, compatible, is_newer};
+ghost use Rattle.comp_lists.specs.Cuts.{cut_at};
+ghost use Rattle.record_settling.specs.Compatible.{by_parts, by_version, of_id, compatible, is_newer};
 
-use comp_lists::Text;
+use comp_lists::{Text, cut};
 use record_json::Failure;
 use record_values::InterfaceName;
 use semver::{Error, Version};
@@ -21,15 +22,6 @@ pub struct Compatible {
     pub major: u64,
     pub minor: u64,
     pub patch: u64,
-}
-
-/// What stands before and after the first such character.
-#[tactic(auto, using(crate::proofs::Cuts::cut_is))]
-fn cut(text: &str, mark: char) -> Option<(&str, &str)>
-    requires { mark < 128 }
-    ensures { option_map (λ p. (p.0.now, p.1.now)) result ≡ cut_at mark text.now }
-{
-    text.split_once(mark)
 }
 
 fn is_memory(fault: Error) -> bool

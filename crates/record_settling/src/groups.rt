@@ -7,18 +7,16 @@ ghost use Rattle.std.specs.Option.{option_copied};
 ghost use Rattle.record_json.specs.Faults.{Gives};
 ghost use Rattle.indexmap.specs.IndexMap.{insert_entry};
 ghost use Rattle.record_settling.specs.Compatible.{compatible};
-ghost use Rattle.record_settling.specs.Groups.{with_item, interfaces_after, candidate_by, candidate, candidates, is_newest, with_candidate, greatest_after, with_rename, renames_after, renames_of, renames};
+ghost use Rattle.record_values.specs.Interfaces.{interfaces_after};
+ghost use Rattle.record_settling.specs.Groups.{candidate_by, candidate, candidates, is_newest, with_candidate, greatest_after, with_rename, renames_after, renames_of, renames};
 
 use crate::compatible::{Compatible, compatible_of};
 use comp_lists::{Keyed, Seq, Text, TryClone};
 use indexmap::IndexMap;
 use record_json::Failure;
-use record_values::{InterfaceName, Item, ItemKey, Wit};
+use record_values::{InterfaceName, Interfaces, Item, ItemKey, Wit, interfaces_among};
 use std::alloc::{AllocError, Global};
 use std::marker::Model;
-
-/// Interfaces, each once.
-pub(crate) type Interfaces = Keyed<InterfaceName, ()>;
 
 /// Interfaces beside those that they become.
 pub(crate) type Renames = Keyed<InterfaceName, InterfaceName>;
@@ -48,30 +46,6 @@ fn copy_candidate(alloc: Global, candidate: &Candidate) -> Result<Candidate, All
         name: candidate.name.try_clone(alloc)?,
         compatible: copy_compatible(alloc, &candidate.compatible)?,
     })
-}
-
-fn add_item(alloc: Global, interfaces: &mut Interfaces, item: &Item) -> Result<(), AllocError>
-    ensures { OnOk result (interfaces.new ≡ with_item interfaces.old item.now) }
-{
-    match item {
-        Item::Interface(name) => interfaces.add_first(name.try_clone(alloc)?, ()),
-        Item::Function(_) => Ok(()),
-        Item::Type(_) => Ok(()),
-    }
-}
-
-/// The interfaces among the items of a world's side. The only refusal is want of memory.
-pub(crate) fn interfaces_among(
-    alloc: Global,
-    items: &Keyed<ItemKey, Item>,
-) -> Result<Interfaces, AllocError>
-    ensures { IfOk result (λ is. is ≡ interfaces_after [] items.now) }
-{
-    let mut interfaces = Keyed::new(alloc);
-    for (_key, item) in items.entries() {
-        add_item(alloc, &mut interfaces, item)?;
-    }
-    Ok(interfaces)
 }
 
 fn named_candidate(alloc: Global, name: &InterfaceName) -> Result<Seq<Candidate>, Failure>

@@ -5,8 +5,9 @@
 //!
 //! In reading order: `compatible` (canonical ids), `groups` (which interface becomes which), `uses`
 //! (which interfaces one names), `standing` (what goes stands in what it becomes), `renamed` (the world
-//! without what goes), `order` (imports taken anew), `reach` (exported interfaces that reach exported
-//! ones), `settling` (the whole).
+//! without what goes), `taking` (interfaces taken anew, each time the first whose uses are taken),
+//! `order` (imports in that order), `reach` (exported interfaces that reach exported ones), `settling`
+//! (the whole).
 #![tactic(auto)]
 
 mod compatible;
@@ -16,6 +17,7 @@ mod reach;
 mod renamed;
 mod settling;
 mod standing;
+mod taking;
 mod uses;
 
 pub use compatible::Compatible;

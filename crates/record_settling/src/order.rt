@@ -1,15 +1,15 @@
-//! Imported interfaces taken anew.
+//! Imports in the order in which their interfaces are taken anew.
 
 ghost use Rattle.std.specs.Prelude.{◌≡◌, [], IfOk, OnOk};
-ghost use Rattle.std.specs.Option.{option_copied};
 ghost use Rattle.comp_lists.specs.Tables.{with_first};
 ghost use Rattle.record_json.specs.Faults.{Gives};
 ghost use Rattle.record_values.specs.Names.{is_same_item};
-ghost use Rattle.record_settling.specs.Order.{waiting_item, waiting, is_taken, all_taken, is_ready, first_ready, with_taken, taken_anew, interfaces_taken, with_other, others_after, ordered_by, ordered, in_order_by, in_order, first_lesser};
+ghost use Rattle.record_settling.specs.Order.{waiting_item, waiting, interfaces_taken, with_other, others_after, ordered_by, ordered, in_order_by, in_order, first_lesser};
 ghost use Rattle.record_values.specs.declared.world.Item.TheVariants as items;
 
 use crate::groups::Renames;
 use crate::standing::conflict_of;
+use crate::taking::take_anew;
 use crate::uses::uses;
 use comp_lists::{Keyed, Seq, TryClone};
 use record_json::Failure;
@@ -25,7 +25,7 @@ pub(crate) struct Waiting {
 }
 
 /// Interfaces that are taken, beside their keys.
-type Taken = Keyed<InterfaceName, ItemKey>;
+pub(crate) type Taken = Keyed<InterfaceName, ItemKey>;
 
 fn waiting_item(
     alloc: Global,
@@ -70,54 +70,6 @@ fn all_waiting(
         list.append(waiting_item(alloc, interfaces, key, item)?)?;
     }
     Ok(list)
-}
-
-fn all_taken(taken: &Taken, own: &InterfaceName, names: &[InterfaceName]) -> bool
-    ensures { result ≡ all_taken taken.now own.now names.now }
-{
-    for name in names {
-        if !(*name == *own || taken.contains(name)) {
-            return false;
-        }
-    }
-    true
-}
-
-fn is_ready(taken: &Taken, waiting: &Waiting) -> bool
-    ensures { result ≡ is_ready taken.now waiting.now }
-{
-    !taken.contains(&waiting.name) && all_taken(taken, &waiting.name, waiting.uses.as_slice())
-}
-
-fn first_ready<'w>(taken: &Taken, all: &'w [Waiting]) -> Option<&'w Waiting>
-    ensures { option_copied result ≡ first_ready taken.now all.now }
-{
-    for waiting in all {
-        if is_ready(taken, waiting) {
-            return Some(waiting);
-        }
-    }
-    None
-}
-
-fn take(alloc: Global, taken: &mut Taken, waiting: &Waiting) -> Result<(), AllocError>
-    ensures { OnOk result (taken.new ≡ with_taken taken.old waiting.now) }
-{
-    let name = waiting.name.try_clone(alloc)?;
-    taken.add_first(name, waiting.key.try_clone(alloc)?)
-}
-
-fn take_anew(alloc: Global, all: &[Waiting]) -> Result<Option<Taken>, AllocError>
-    ensures { IfOk result (λ t. t ≡ taken_anew all.now [] all.now) }
-{
-    let mut taken = Keyed::new(alloc);
-    for _waiting in all {
-        match first_ready(&taken, all) {
-            Some(waiting) => take(alloc, &mut taken, waiting)?,
-            None => return Ok(None),
-        }
-    }
-    Ok(Some(taken))
 }
 
 /// Adds an interface that is taken.

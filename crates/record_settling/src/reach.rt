@@ -4,12 +4,11 @@ ghost use Rattle.std.specs.Prelude.{◌≡◌, [], IfOk, OnOk};
 ghost use Rattle.record_json.specs.Faults.{Gives};
 ghost use Rattle.record_settling.specs.Reach.{leads_any, with_named, with_leading, leading_after, none_leads, item_leads_not, items_lead_not, no_reach};
 
-use crate::groups::{Interfaces, interfaces_among};
 use crate::standing::conflict_of;
 use crate::uses::uses;
 use comp_lists::{Keyed, TryClone};
 use record_json::Failure;
-use record_values::{Interface, InterfaceName, Item, ItemKey, Wit};
+use record_values::{Interface, InterfaceName, Interfaces, Item, ItemKey, Wit, interfaces_among};
 use std::alloc::{AllocError, Global};
 
 fn leads_any(exported: &Interfaces, leading: &Interfaces, names: &[InterfaceName]) -> bool

@@ -12,10 +12,11 @@
 //!
 //! In reading order: `names` (interfaces, owners, named types), `types` (nodes, functions, interfaces),
 //! `world` (the items of a world), `roles` (what core imports and exports are for), `record` (what one
-//! record says), `copies`, `renaming`.
+//! record says), `copies`, `interfaces` (those among the items of a world), `renaming`.
 #![tactic(auto)]
 
 mod copies;
+mod interfaces;
 mod names;
 mod record;
 mod renaming;
@@ -23,6 +24,7 @@ mod roles;
 mod types;
 mod world;
 
+pub use interfaces::{Interfaces, interfaces_among};
 pub use names::{InterfaceName, Owner, TypeName};
 pub use record::{Assigned, ImportName, Record};
 pub use renaming::{rename_interface, rename_item, rename_name};

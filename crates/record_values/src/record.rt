@@ -3,7 +3,7 @@
 use crate::roles::{ExportRole, ImportRole};
 use crate::world::Wit;
 use comp_lists::{Seq, Text};
-use comp_worlds::StringEncoding;
+use comp_roles::StringEncoding;
 use std::hash::{Hash, Hasher};
 
 /// A core import: its module and its field.

@@ -3,7 +3,7 @@
 use crate::names::{Owner, TypeName};
 use comp_bytes::ExportKind;
 use comp_lists::Text;
-use comp_worlds::StringEncoding;
+use comp_roles::StringEncoding;
 use core_bytes::ValType;
 use wit_data::AbiVariant;
 

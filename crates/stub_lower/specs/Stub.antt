@@ -2,10 +2,10 @@
 use Rattle.std.specs.Prelude.{◌≡◌, ◌≢◌, ℕ, List, [], ◌∷◌, ⊤, Bool, true, false, None, ◌⊎◌, codes, take}
 use Rattle.comp_worlds.specs.declared.gathered.Gathered.{Gathered}
 use Rattle.comp_worlds.specs.declared.gathered.Merged.{Merged}
-use Rattle.comp_worlds.specs.declared.imports.ImportMap.{ImportMap}
-use Rattle.comp_worlds.specs.declared.imports.ImportInstance.TheVariants.{Names}
-use Rattle.comp_worlds.specs.declared.imports.Import.{Import}
-use Rattle.comp_worlds.specs.declared.imports.Import.TheVariants as roles
+use Rattle.comp_roles.specs.declared.imports.ImportMap.{ImportMap}
+use Rattle.comp_roles.specs.declared.imports.ImportInstance.TheVariants.{Names}
+use Rattle.comp_roles.specs.declared.imports.Import.{Import}
+use Rattle.comp_roles.specs.declared.imports.Import.TheVariants as roles
 use Rattle.wit_data.specs.declared.worlds.World.{World}
 use Rattle.wit_data.specs.declared.worlds.WorldKey.TheVariants.{Name}
 use Rattle.wit_data.specs.declared.worlds.WorldItem.TheVariants as items

@@ -84,7 +84,7 @@ impl Count {
             self.as_told = self.as_told.saturating_add(1);
             return Ok(None);
         }
-        if said.as_str().starts_with("prepare: P8 LeftOut") {
+        if expected == "prepared" && said.as_str().starts_with("prepare: P8 LeftOut") {
             self.left_out = self.left_out.saturating_add(1);
             return Ok(None);
         }

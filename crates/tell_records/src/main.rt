@@ -3,12 +3,13 @@
 //! Its words go by twos: `records`, `modules` or `pairs`, and a FILE of such cases. Each line of the file has what is to
 //! be said, an arrow, and the records of a module, with ` & ` between two of them, or a whole module in hexadecimal
 //! digits, or two modules that are given as main one after the other. Printed is each line of which something else is said, with that, and then how many were told as they
-//! are to be. A world that needs what isn't encoded yet counts as left out.
+//! are to be. A world that is to be prepared but needs what isn't encoded yet counts as left out.
 //!
 //! What is to be said was worked out by an independent implementation of the same formats, written in Python. The
 //! records have one fault each, or none. The modules are main modules of random worlds (the first 200 of at most
 //! 1,500 bytes by the generator's seeds), and 200 in which one place of the bytes, or of the record, was changed; those of
-//! `versions.txt` import several versions of an interface, and those of `hostile.txt` are one module cut short at every place, with and without its
+//! `roles.txt` have each role of core imports and exports with the type that it asks for and with others, all of them at once,
+//! each rule on them broken, and roles of lesser versions; those of `versions.txt` import several versions of an interface, and those of `hostile.txt` are one module cut short at every place, with and without its
 //! record, counts that nothing holds, a pair of names that stands twice, records that are nested deep, are no JSON or a binary package; the
 //! pairs are small worlds of the same kind, two different ones, or one and what a change in its record made of it.
 //!

@@ -131,3 +131,24 @@ fn other_sections_stay(rt: HostRuntime) -> Result<(), Fail> {
     );
     Ok(())
 }
+
+/// Custom sections whose names begin `component-type`, and two whose names don't.
+const WITH_RECORDS: &[u8] = b"\0asm\x01\0\0\0\0\x10\x0ecomponent-typea\0\x13\x10component-type:xbc\
+    \0\x0f\x0dcomponent-typd\0\x06\x04namee";
+
+/// The same without the first two.
+const WITHOUT_RECORDS: &[u8] = b"\0asm\x01\0\0\0\0\x0f\x0dcomponent-typd\0\x06\x04namee";
+
+#[test]
+fn records_are_taken_out(rt: HostRuntime) -> Result<(), Fail> {
+    match strip(rt.alloc(), WITH_RECORDS) {
+        Ok(stripped) => {
+            assert_eq!(rt; stripped.bytes.as_slice(), WITHOUT_RECORDS);
+            assert_eq!(rt; stripped.records.len(), 2usize);
+            assert!(rt; stripped.records[0] == b"a".as_slice());
+            assert!(rt; stripped.records[1] == b"bc".as_slice());
+        }
+        Err(_) => return Err(Fail::from("refused")),
+    }
+    Ok(())
+}

@@ -8,11 +8,12 @@ use std::alloc::{AllocError, Global};
 use std::test::*;
 use wit_data::Primitive;
 
-/// An interface of one type `t`, which is that of another interface, or a number where none is named.
+/// An interface of two types `t` and `u`, each of which is the `t` of another interface, or a number where none is named.
 #[derive(Clone, Copy)]
 struct Row<'a> {
     id: &'a str,
     uses: &'a str,
+    also_uses: &'a str,
     is_imported: bool,
     is_exported: bool,
 }
@@ -21,6 +22,17 @@ fn imported<'a>(id: &'a str, uses: &'a str) -> Row<'a> {
     Row {
         id,
         uses,
+        also_uses: "",
+        is_imported: true,
+        is_exported: false,
+    }
+}
+
+fn imported_of_two<'a>(id: &'a str, uses: &'a str, also_uses: &'a str) -> Row<'a> {
+    Row {
+        id,
+        uses,
+        also_uses,
         is_imported: true,
         is_exported: false,
     }
@@ -30,6 +42,7 @@ fn exported<'a>(id: &'a str, uses: &'a str) -> Row<'a> {
     Row {
         id,
         uses,
+        also_uses: "",
         is_imported: false,
         is_exported: true,
     }
@@ -39,6 +52,7 @@ fn on_both_sides<'a>(id: &'a str, uses: &'a str) -> Row<'a> {
     Row {
         id,
         uses,
+        also_uses: "",
         is_imported: true,
         is_exported: true,
     }
@@ -59,18 +73,29 @@ fn node(alloc: Global, uses: &str) -> Result<Node, AllocError> {
     }))
 }
 
-fn typed(alloc: Global, uses: &str) -> Result<Typed, AllocError> {
+fn typed(alloc: Global, type_name: &str, uses: &str) -> Result<Typed, AllocError> {
     let mut nodes = Seq::new(alloc);
     nodes.push(node(alloc, uses)?)?;
     Ok(Typed {
-        name: Text::from_str(alloc, "t")?,
+        name: Text::from_str(alloc, type_name)?,
         nodes,
     })
 }
 
-fn interface(alloc: Global, uses: &str) -> Result<Interface, AllocError> {
+fn add_type(
+    alloc: Global,
+    types: &mut Seq<Typed>,
+    type_name: &str,
+    uses: &str,
+) -> Result<(), AllocError> {
+    types.push(typed(alloc, type_name, uses)?)?;
+    Ok(())
+}
+
+fn interface(alloc: Global, row: &Row<'_>) -> Result<Interface, AllocError> {
     let mut types = Seq::new(alloc);
-    types.push(typed(alloc, uses)?)?;
+    add_type(alloc, &mut types, "t", row.uses)?;
+    add_type(alloc, &mut types, "u", row.also_uses)?;
     Ok(Interface {
         types,
         functions: Seq::new(alloc),
@@ -91,7 +116,7 @@ fn add_side(
 }
 
 fn add_row(alloc: Global, wit: &mut Wit, row: &Row<'_>) -> Result<(), AllocError> {
-    let interface = interface(alloc, row.uses)?;
+    let interface = interface(alloc, row)?;
     wit.interfaces.add_first(name(alloc, row.id)?, interface)?;
     add_side(alloc, &mut wit.imports, row.id, row.is_imported)?;
     add_side(alloc, &mut wit.exports, row.id, row.is_exported)
@@ -186,6 +211,33 @@ fn references_follow_and_imports_are_taken_anew(rt: HostRuntime) -> Result<(), F
     ];
     let left = settled(rt.alloc(), true, &rows).map_err(|_| "memory")?;
     assert!(rt; left.as_str() == "a:b/x@1.1.0 a:b/c ", "{left}");
+    Ok(())
+}
+
+#[test]
+fn one_before_those_that_it_uses_is_taken_behind_them(rt: HostRuntime) -> Result<(), Fail> {
+    let rows = [
+        imported_of_two("a:b/c", "a:b/x@1.0.0", "a:b/y"),
+        imported("a:b/x@1.0.0", ""),
+        imported("a:b/x@1.1.0", ""),
+        imported("a:b/y", ""),
+        imported("a:b/z", ""),
+    ];
+    let left = settled(rt.alloc(), true, &rows).map_err(|_| "memory")?;
+    assert!(rt; left.as_str() == "a:b/x@1.1.0 a:b/y a:b/c a:b/z ", "{left}");
+    Ok(())
+}
+
+#[test]
+fn a_circle_cannot_be_taken(rt: HostRuntime) -> Result<(), Fail> {
+    let rows = [
+        imported("a:b/x@1.0.0", ""),
+        imported("a:b/x@1.1.0", ""),
+        imported("a:b/c", "a:b/d"),
+        imported("a:b/d", "a:b/c"),
+    ];
+    let told = settled(rt.alloc(), true, &rows).map_err(|_| "memory")?;
+    assert!(rt; told.as_str() == "a:b/x@1.0.0", "{told}");
     Ok(())
 }
 

@@ -2,10 +2,10 @@
 use Rattle.std.proofs.Common.{◌≡◌, List, [], ◌++◌, ℕ, sym, subst}
 use Rattle.std.specs.List.{AllByRecursion, flat_map}
 use Rattle.wit_data.specs.declared.resolve.Resolve.{Resolve}
-use Rattle.comp_worlds.specs.declared.imports.ImportMap.{ImportMap}
+use Rattle.comp_roles.specs.declared.imports.ImportMap.{ImportMap}
 use Rattle.comp_worlds.specs.declared.world.WorldAdapter.{WorldAdapter}
 use Rattle.comp_worlds.specs.declared.world.WorldParts.{WorldParts}
-use Rattle.comp_worlds.specs.CoreImports.{imports_from}
+use Rattle.comp_roles.specs.CoreImports.{imports_from}
 use Rattle.comp_worlds.specs.Mentions.{HasRole}
 use Rattle.comp_worlds.specs.Uses.{imports_of, all_imports}
 use Rattle.tests_of_worlds.specs.CoreImports.{core_imports}

@@ -2,11 +2,11 @@
 use Rattle.std.specs.Prelude.{ℕ, List, [], ◌∷◌, codes}
 use Rattle.wit_data.specs.declared.worlds.WorldKey.TheVariants as keys
 use Rattle.wit_data.specs.declared.functions.AbiVariant.TheVariants as abis
-use Rattle.comp_worlds.specs.declared.imports.Import.{Import}
-use Rattle.comp_worlds.specs.declared.imports.Import.TheVariants as roles
-use Rattle.comp_worlds.specs.declared.imports.ImportInstance.{ImportInstance}
-use Rattle.comp_worlds.specs.declared.imports.ImportInstance.TheVariants as instances
-use Rattle.comp_worlds.specs.declared.imports.ImportMap.{ImportMap}
+use Rattle.comp_roles.specs.declared.imports.Import.{Import}
+use Rattle.comp_roles.specs.declared.imports.Import.TheVariants as roles
+use Rattle.comp_roles.specs.declared.imports.ImportInstance.{ImportInstance}
+use Rattle.comp_roles.specs.declared.imports.ImportInstance.TheVariants as instances
+use Rattle.comp_roles.specs.declared.imports.ImportMap.{ImportMap}
 
 -- a function of the first interface, by its name
 abbrev pub role_of : List ℕ → Import

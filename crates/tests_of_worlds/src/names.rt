@@ -53,7 +53,7 @@ fn versions_are_cut_where_compatible_ones_part(rt: HostRuntime) -> Result<(), Fa
 /// The interface `types` of the package `wasi:http`, of a version or of none.
 fn types_of_http(alloc: Global, version: Option<&str>) -> Option<IdName> {
     let version = match version {
-        Some(text) => Some(Version::parse(alloc, text).ok()?),
+        Some(text) => Some(PackageVersion::of(Version::parse(alloc, text).ok()?)),
         None => None,
     };
     Some(IdName {

@@ -1,17 +1,12 @@
 -- The names of interfaces (component model, explainer: `interfacename`).
 use Rattle.std.specs.Prelude.{ℕ, List, [], ◌∷◌, ◌++◌, Option, Some, None, option_map, option_and_then, slice_get}
-use Rattle.semver.specs.Identifiers.{parts_of, parts_text}
-use Rattle.semver.specs.Parse.{Parts}
+use Rattle.semver.specs.Identifiers.{parts_text}
 use Rattle.wit_data.specs.declared.names.IdName.{IdName}
 use Rattle.wit_data.specs.declared.ids.InterfaceId.{InterfaceId}
 use Rattle.wit_data.specs.declared.worlds.WorldKey.{WorldKey}
 use Rattle.wit_data.specs.declared.worlds.WorldKey.TheVariants as keys
 use Rattle.wit_data.specs.declared.resolve.Resolve.{Resolve}
 use Rattle.wit_data.specs.Versions.{canonical_version}
-
--- what a name is made of
-abbrev pub name_parts : IdName → List ℕ × List ℕ × List ℕ × Option Parts
-name_parts id = (id.namespace, id.package, id.interface, option_map parts_of id.version)
 
 -- namespace:package/interface
 abbrev pub path_text : IdName → List ℕ
@@ -23,15 +18,15 @@ version_part (Some version) = 64 ∷ version
 
 -- with the whole version
 abbrev pub id_text : IdName → List ℕ
-id_text id = path_text id ++ version_part (option_map (λ v. parts_text (parts_of v)) id.version)
+id_text id = path_text id ++ version_part (option_map parts_text id.version)
 
 -- with the part of the version that compatible versions share
 abbrev pub canonical_id_text : IdName → List ℕ
-canonical_id_text id = path_text id ++ version_part (option_map (λ v. (canonical_version (parts_of v)).version) id.version)
+canonical_id_text id = path_text id ++ version_part (option_map (λ v. (canonical_version v).version) id.version)
 
 -- the rest of the version
 abbrev pub version_suffix : IdName → Option (List ℕ)
-version_suffix id = option_and_then (λ v. (canonical_version (parts_of v)).suffix) id.version
+version_suffix id = option_and_then (λ v. (canonical_version v).suffix) id.version
 
 abbrev pub id_name_of : Resolve → InterfaceId → Option IdName
 id_name_of r id = option_and_then (λ i. i.id) (slice_get r.interfaces id.index)

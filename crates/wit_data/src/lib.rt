@@ -15,7 +15,7 @@
 //! (functions and the forms in which they are called), `names` (names of interfaces), `worlds` (worlds
 //! and their keys), `resolve` (all of it together); `parts` (what a type names), `sizes` and `soundness`
 //! (whether all of it holds together), `flattening` and `signatures` (core values and core signatures),
-//! `versions` (what compatible versions share), `contents` (what types contain), `liveness` (the types
+//! `versions` (versions of packages, and what compatible ones share), `contents` (what types contain), `liveness` (the types
 //! that others reach).
 #![tactic(auto)]
 
@@ -44,5 +44,5 @@ pub use parts::{kind_of, part_count_of, part_of};
 pub use resolve::{Interface, Resolve};
 pub use signatures::{WasmSignature, WasmType};
 pub use types::{Case, Field, ResultType, Type, TypeDef, TypeDefKind, TypeOwner};
-pub use versions::{CanonicalVersion, canonical_version};
+pub use versions::{CanonicalVersion, PackageVersion, canonical_version};
 pub use worlds::{World, WorldItem, WorldKey};

@@ -1,27 +1,25 @@
 //! Names of interfaces.
 
 ghost use Rattle.std.specs.Prelude.{◌≡◌, ◌++◌, ◌∷◌, [], IfOk, OnOk, string_bytes, option_map, codes};
-ghost use Rattle.semver.specs.Identifiers.{parts_of, parts_text};
 ghost use Rattle.wit_data.specs.Versions.{canonical_version};
 ghost use Rattle.wit_data.specs.Sound.{IsSound, HasKey, HasInterface};
-ghost use Rattle.wit_data.specs.Names.{name_parts, path_text, version_part, id_text, canonical_id_text, version_suffix, id_name_of, key_text, canonical_key_text, text_of};
+ghost use Rattle.wit_data.specs.Names.{path_text, version_part, id_text, canonical_id_text, version_suffix, id_name_of, key_text, canonical_key_text, text_of};
 
 use crate::ids::InterfaceId;
 use crate::resolve::Resolve;
-use crate::versions::canonical_version;
+use crate::versions::{PackageVersion, canonical_version};
 use crate::worlds::WorldKey;
 use comp_lists::Text;
-use semver::Version;
 use std::alloc::{AllocError, Global};
 
 /// The name of an interface (component model, explainer: `interfacename`): a namespace, a package, the
 /// interface's own name, and perhaps a version.
-#[derive(Debug, Drop, PartialEq, Eq)]
+#[derive(Debug, Drop)]
 pub struct IdName {
     pub namespace: Text,
     pub package: Text,
     pub interface: Text,
-    pub version: Option<Version>,
+    pub version: Option<PackageVersion>,
 }
 
 /// Writes a sign and a text behind it.
@@ -33,16 +31,26 @@ fn put_part(out: &mut String, sign: &str, text: &str) -> Result<(), AllocError>
     Ok(())
 }
 
+/// An equal version, where there is one.
+fn clone_version(version: &Option<PackageVersion>) -> Result<Option<PackageVersion>, AllocError>
+    ensures { IfOk result (λ v. v ≡ version.now) }
+{
+    match version {
+        Some(version) => Ok(Some(version.clone()?)),
+        None => Ok(None),
+    }
+}
+
 impl IdName {
     /// An equal name. The only refusal is want of memory.
     pub fn clone(&self, alloc: Global) -> Result<IdName, AllocError>
-        ensures { IfOk result (λ name. name_parts name ≡ name_parts self.now) }
+        ensures { IfOk result (λ name. name ≡ self.now) }
     {
         Ok(IdName {
             namespace: self.namespace.clone(alloc)?,
             package: self.package.clone(alloc)?,
             interface: self.interface.clone(alloc)?,
-            version: self.version.clone()?,
+            version: clone_version(&self.version)?,
         })
     }
 
@@ -52,7 +60,7 @@ impl IdName {
     {
         let mut out = self.path(alloc)?;
         if let Some(version) = &self.version {
-            let version = version.to_string(alloc)?;
+            let version = version.text(alloc)?;
             put_part(&mut out, "@", version.as_str())?;
         }
         Ok(Text::from_string(out))
@@ -65,7 +73,7 @@ impl IdName {
     {
         let mut out = self.path(alloc)?;
         if let Some(version) = &self.version {
-            let canonical = canonical_version(alloc, version)?;
+            let canonical = canonical_version(alloc, version.as_version())?;
             put_part(&mut out, "@", canonical.version.as_str())?;
         }
         Ok(Text::from_string(out))
@@ -78,7 +86,7 @@ impl IdName {
     {
         match &self.version {
             None => Ok(None),
-            Some(version) => Ok(canonical_version(alloc, version)?.suffix),
+            Some(version) => Ok(canonical_version(alloc, version.as_version())?.suffix),
         }
     }
 

@@ -2,38 +2,39 @@
 
 use crate::ids::{InterfaceId, TypeId, WorldId};
 use comp_bytes::Primitive;
-use comp_lists::{Seq, Text};
+use comp_lists::{Seq, Text, TryClone};
+use std::alloc::{AllocError, Global};
 
 /// A type as others name it: a primitive one, or one of the resolve's (component model, WIT: `ty`).
-#[derive(Clone, Copy, Debug, PartialEq, Eq)]
+#[derive(Clone, Copy, Debug, PartialEq, Eq, Hash)]
 pub enum Type {
     Primitive(Primitive),
     Id(TypeId),
 }
 
 /// A field of a record.
-#[derive(Debug, Drop, PartialEq, Eq)]
+#[derive(Debug, Drop, PartialEq, Eq, Hash)]
 pub struct Field {
     pub name: Text,
     pub ty: Type,
 }
 
 /// A case of a variant.
-#[derive(Debug, Drop, PartialEq, Eq)]
+#[derive(Debug, Drop, PartialEq, Eq, Hash)]
 pub struct Case {
     pub name: Text,
     pub ty: Option<Type>,
 }
 
 /// What a result has where it is right, and where it is wrong.
-#[derive(Clone, Copy, Debug, PartialEq, Eq)]
+#[derive(Clone, Copy, Debug, PartialEq, Eq, Hash)]
 pub struct ResultType {
     pub ok: Option<Type>,
     pub err: Option<Type>,
 }
 
 /// What a type is (component model, WIT: `typedef-item`, `ty`).
-#[derive(Debug, Drop, PartialEq, Eq)]
+#[derive(Debug, Drop, PartialEq, Eq, Hash)]
 pub enum TypeDefKind {
     Record(Seq<Field>),
     Variant(Seq<Case>),
@@ -66,4 +67,49 @@ pub struct TypeDef {
     pub name: Option<Text>,
     pub kind: TypeDefKind,
     pub owner: TypeOwner,
+}
+
+impl TryClone for Type {
+    fn try_clone(&self, _alloc: Global) -> Result<Type, AllocError> {
+        Ok(*self)
+    }
+}
+
+impl TryClone for Field {
+    fn try_clone(&self, alloc: Global) -> Result<Field, AllocError> {
+        Ok(Field {
+            name: self.name.clone(alloc)?,
+            ty: self.ty,
+        })
+    }
+}
+
+impl TryClone for Case {
+    fn try_clone(&self, alloc: Global) -> Result<Case, AllocError> {
+        Ok(Case {
+            name: self.name.clone(alloc)?,
+            ty: self.ty,
+        })
+    }
+}
+
+impl TryClone for TypeDefKind {
+    fn try_clone(&self, alloc: Global) -> Result<TypeDefKind, AllocError> {
+        match self {
+            TypeDefKind::Record(fields) => Ok(TypeDefKind::Record(fields.clone(alloc)?)),
+            TypeDefKind::Variant(cases) => Ok(TypeDefKind::Variant(cases.clone(alloc)?)),
+            TypeDefKind::Enum(labels) => Ok(TypeDefKind::Enum(labels.clone(alloc)?)),
+            TypeDefKind::Flags(labels) => Ok(TypeDefKind::Flags(labels.clone(alloc)?)),
+            TypeDefKind::Tuple(types) => Ok(TypeDefKind::Tuple(types.clone(alloc)?)),
+            TypeDefKind::Option(ty) => Ok(TypeDefKind::Option(*ty)),
+            TypeDefKind::Result(parts) => Ok(TypeDefKind::Result(*parts)),
+            TypeDefKind::List(ty) => Ok(TypeDefKind::List(*ty)),
+            TypeDefKind::Own(id) => Ok(TypeDefKind::Own(*id)),
+            TypeDefKind::Borrow(id) => Ok(TypeDefKind::Borrow(*id)),
+            TypeDefKind::Resource => Ok(TypeDefKind::Resource),
+            TypeDefKind::Stream(item) => Ok(TypeDefKind::Stream(*item)),
+            TypeDefKind::Future(item) => Ok(TypeDefKind::Future(*item)),
+            TypeDefKind::Alias(ty) => Ok(TypeDefKind::Alias(*ty)),
+        }
+    }
 }

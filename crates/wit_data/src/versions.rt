@@ -1,12 +1,60 @@
 //! Versions of interfaces, up to what compatible versions share.
 
 ghost use Rattle.std.specs.Prelude.{◌≡◌, IfOk};
-ghost use Rattle.semver.specs.Identifiers.{parts_of};
+ghost use Rattle.semver.specs.Identifiers.{parts_of, parts_text};
 ghost use Rattle.wit_data.specs.Versions.{canonical_version, whole_version};
 
 use comp_lists::Text;
 use semver::Version;
 use std::alloc::{AllocError, Global};
+use std::marker::Model;
+
+/// The version of a package, which contracts see as its numbers and texts: major, minor, patch, what is
+/// behind a `-` and what is behind a `+`.
+#[derive(Debug, Drop)]
+pub struct PackageVersion {
+    version: Version,
+}
+
+impl Model for PackageVersion {
+    ghost use Rattle.semver.specs.Identifiers.{parts_of};
+    ghost use Rattle.semver.specs.Parse.{Parts};
+
+    ghost Value = { Parts };
+
+    ghost view = { λ v. parts_of v.version };
+}
+
+impl PackageVersion {
+    /// It takes no memory.
+    pub fn of(version: Version) -> PackageVersion
+        ensures { result ≡ parts_of version }
+    {
+        PackageVersion { version }
+    }
+
+    pub fn as_version(&self) -> &Version
+        ensures { parts_of result.now ≡ self.now }
+    {
+        &self.version
+    }
+
+    /// An equal version. The only refusal is want of memory.
+    pub(crate) fn clone(&self) -> Result<PackageVersion, AllocError>
+        ensures { IfOk result (λ v. v ≡ self.now) }
+    {
+        Ok(PackageVersion {
+            version: self.version.clone()?,
+        })
+    }
+
+    /// The whole version, as `1.2.3-rc.1+5`. The only refusal is want of memory.
+    pub(crate) fn text(&self, alloc: Global) -> Result<Text, AllocError>
+        ensures { IfOk result (λ t. t ≡ parts_text self.now) }
+    {
+        Ok(Text::from_string(self.version.to_string(alloc)?))
+    }
+}
 
 /// A version in two parts (component model, explainer: `canonversion`, `versionsuffix`).
 #[derive(Debug, Drop, PartialEq, Eq)]

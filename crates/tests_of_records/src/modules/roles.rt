@@ -2,7 +2,7 @@
 //! `made`.
 
 ghost use Rattle.std.specs.Prelude.{IsTrue};
-ghost use Rattle.record_modules.specs.Fitting.{HasReturned};
+ghost use Rattle.comp_worlds.specs.Mentions.{HasReturned};
 
 use crate::modules::made::{EXPORTED, IMPORTED, WORLD, h, k, module, resolve};
 use comp_lists::Text;

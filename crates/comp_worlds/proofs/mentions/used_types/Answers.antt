@@ -1,5 +1,5 @@
 use Rattle.std.proofs.Common.{map}
-use Rattle.comp_worlds.specs.Lookups.{core_import}
+use Rattle.comp_roles.specs.Lookups.{core_import}
 use Rattle.comp_worlds.proofs.Standing.{used_listed_stand}
 use Rattle.comp_worlds.proofs.mentions.used_types.Goals as goal
 

@@ -1,5 +1,5 @@
 use Rattle.std.proofs.Common.{rules, map, refl}
-use Rattle.comp_worlds.specs.Lookups.{core_import}
+use Rattle.comp_roles.specs.Lookups.{core_import}
 use Rattle.comp_worlds.proofs.Using.{uses_are}
 use Rattle.comp_worlds.proofs.uses.uses_of.Goals as goal
 

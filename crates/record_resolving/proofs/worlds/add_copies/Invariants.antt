@@ -1,5 +1,4 @@
 use Rattle.std.proofs.Common.{◌≡◌}
-use Rattle.record_resolving.specs.Interfaces.{made_of}
 use Rattle.record_resolving.specs.Worlds.{copies_of}
 use Rattle.record_resolving.proofs.worlds.add_copies.Given as goal
 
@@ -7,4 +6,4 @@ abbrev pub invariant-loop-name : goal.invariant-loop-name
 invariant-loop-name l =
     (goal.iterator-loop-name).can_next l.name-iterator ×
     (goal.iterator-loop-name).is_finite l.name-iterator ×
-    (copies_of l.all l.name-iterator (made_of l.standing, l.making) ≡ copies_of l.all l.imported (made_of l.fn.standing, l.fn.making))
+    (copies_of l.all l.name-iterator (l.standing, l.making) ≡ copies_of l.all l.imported (l.fn.standing, l.fn.making))

@@ -1,6 +1,6 @@
 use Rattle.std.proofs.Common.{◌≡◌, ◌∙◌, ℕ, List, [], ◌∷◌, ap, subst, sym}
 use Rattle.comp_bytes.specs.declared.def.CoreArgument.{CoreArgument}
-use Rattle.comp_worlds.specs.declared.imports.ImportInstance.{ImportInstance}
+use Rattle.comp_roles.specs.declared.imports.ImportInstance.{ImportInstance}
 use Rattle.comp_worlds.specs.declared.world.ComponentWorld.{ComponentWorld}
 use Rattle.comp_state.specs.Causes.{IsCause}
 use Rattle.comp_state.specs.Encoding.{Encoding}

@@ -1,7 +1,7 @@
 use Rattle.std.proofs.Common.{◌≡◌, ◌∙◌, ap}
 use Rattle.std.specs.List.{AllZip}
 use Rattle.comp_builder.specs.Built.{Built}
-use Rattle.comp_worlds.specs.declared.imports.ImportInstance.TheVariants as instances
+use Rattle.comp_roles.specs.declared.imports.ImportInstance.TheVariants as instances
 use Rattle.comp_state.specs.Encoding.{Encoding}
 use Rattle.comp_state.specs.Facts.{IsEntryFor}
 use Rattle.comp_state.proofs.Growth.{Grows-then, IsEncoding-kept}

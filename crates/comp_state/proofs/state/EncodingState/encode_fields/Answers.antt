@@ -1,6 +1,6 @@
 use Rattle.std.proofs.Common.{◌≡◌, ◌∙◌, List, [], ◌∷◌, subst, sym, rules}
 use Rattle.comp_bytes.specs.declared.def.CoreInlineExport.{CoreInlineExport}
-use Rattle.comp_worlds.specs.declared.imports.Import.{Import}
+use Rattle.comp_roles.specs.declared.imports.Import.{Import}
 use Rattle.comp_state.proofs.Serving.{FieldsSoFar, fields_start, fields_step, entries_apart}
 use Rattle.comp_state.proofs.state.EncodingState.encode_fields.Goals as goal
 use Rattle.std.proofs.Common.{ℕ}

@@ -1,0 +1,6 @@
+use Rattle.std.proofs.Common.{◌≡◌, drop}
+use Rattle.comp_options.specs.Options.{pass_all, param_contents}
+use Rattle.comp_options.proofs.required.pass_params.Given as goal
+
+abbrev pub invariant-loop-place : goal.invariant-loop-place
+invariant-loop-place l = pass_all l.way (param_contents l.resolve.types (drop l.place l.params)) l.set.0 ≡ pass_all l.way (param_contents l.resolve.types l.params) 0

@@ -1,0 +1,21 @@
+//! Laws of the option sets.
+
+ghost use Rattle.std.specs.Prelude.{IsTrue};
+ghost use Rattle.comp_options.specs.Laws.{LoweringAddsRealloc};
+
+use crate::required::Options;
+use std::iter::ExactSizeIterator;
+
+/// From no options, lowering values needs what lifting them needs, and a realloc exactly where that
+/// needs a memory. It does nothing.
+pub fn lowering_adds_realloc()
+    ensures { LoweringAddsRealloc }
+{}
+
+/// Whether as many options come as were told. They do.
+pub fn ends_as_told(options: Options) -> bool
+    ensures { IsTrue result }
+{
+    let told = options.len();
+    options.count() == told
+}

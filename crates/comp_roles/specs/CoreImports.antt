@@ -1,0 +1,19 @@
+-- The imports of core modules (WebAssembly core: an import has a module and a field).
+use Rattle.std.specs.Prelude.{ℕ, List, [], map}
+use Rattle.comp_roles.specs.declared.imports.Import.{Import}
+use Rattle.comp_roles.specs.declared.imports.ImportInstance.{ImportInstance}
+use Rattle.comp_roles.specs.declared.imports.ImportInstance.TheVariants as instances
+
+-- an import of a core module: its module, its field, and what it is for
+pub record CoreImport : Type 0 where
+  pub module_name : List ℕ
+  pub field : List ℕ
+  pub role : Import
+
+-- the fields that a module imports from one other, each with what it is for
+abbrev pub fields_of : ImportInstance → List (List ℕ × Import)
+fields_of (instances.Names fields) = fields
+fields_of (instances.Whole which) = []
+
+abbrev pub imports_from : List ℕ × ImportInstance → List CoreImport
+imports_from group = map (λ f. record { module_name = group.0; field = f.0; role = f.1 }) (fields_of group.1)

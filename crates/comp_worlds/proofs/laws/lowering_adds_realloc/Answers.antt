@@ -1,5 +1,0 @@
-use Rattle.comp_worlds.proofs.Lowered.{lowering_adds_realloc_lem}
-use Rattle.comp_worlds.proofs.laws.lowering_adds_realloc.Goals as goal
-
-pub returns : goal.returns
-returns c = lowering_adds_realloc_lem

@@ -1,0 +1,5 @@
+mod Lists
+mod Telling
+mod Valid
+mod Walking
+mod Worked

@@ -1,0 +1,183 @@
+-- A required export stands in the world; where it is a root function, some core export is for it.
+use Rattle.std.proofs.Common.{◌≡◌, ◌∙◌, ap, sym, subst, refl, ℕ, suc, nat_eq, Bool, true, false, cond, ◌&&◌, List, [], ◌∷◌, ◌++◌, map, get_or, Option, Some, None, Ok, is_some, IsSome, Contains, true≢false, if◌then◌else◌, arith}
+use Rattle.std.proofs.Math.Dec.{eqb-zero-suc, eqb-suc-zero}
+use Rattle.std.specs.Prelude.{slice_get, ok_or, ⊤}
+use Rattle.std.specs.List.{AllByRecursion, flat_map}
+use Rattle.std.specs.Map.{lookup}
+use Rattle.std.specs.Option.{option_and_then, option_map_or}
+use Rattle.std.specs.Str.{bytes_eq}
+use Rattle.std.proofs.lemmas.Map.Views.{Contains-keys_from_lookup}
+use Rattle.std.proofs.lemmas.Slice.Eq.{bytes_eq-Decides}
+use Rattle.comp_lists.specs.Found.{found}
+use Rattle.comp_lists.proofs.Lists.{AllByRecursion-push}
+use Rattle.wit_data.specs.Keys.{is_same_key}
+use Rattle.wit_data.specs.declared.functions.AbiVariant.{AbiVariant}
+use Rattle.wit_data.specs.declared.functions.Function.{Function}
+use Rattle.wit_data.specs.declared.ids.InterfaceId.{InterfaceId}
+use Rattle.wit_data.specs.declared.resolve.Resolve.{Resolve}
+use Rattle.wit_data.specs.declared.worlds.World.{World}
+use Rattle.wit_data.specs.declared.worlds.WorldItem.{WorldItem}
+use Rattle.wit_data.specs.declared.worlds.WorldItem.TheVariants as items
+use Rattle.wit_data.specs.declared.worlds.WorldKey.{WorldKey}
+use Rattle.wit_data.specs.declared.worlds.WorldKey.TheVariants as keys
+use Rattle.comp_roles.specs.Functions.{is_same_function}
+use Rattle.comp_roles.specs.declared.exports.Export.TheVariants as exports
+use Rattle.comp_roles.specs.declared.metadata.FunctionKey.{FunctionKey}
+use Rattle.comp_worlds.specs.Mentions.{function_in}
+use Rattle.comp_worlds.specs.Worlds.{no_items, root_export}
+use Rattle.comp_worlds.specs.declared.gathered.ExportKey.{ExportKey}
+use Rattle.comp_worlds.specs.declared.gathered.ExportKey.TheVariants as export_keys
+use Rattle.record_values.specs.declared.names.InterfaceName.TheVariants as names
+use Rattle.record_resolving.specs.declared.resolving.Resolved.{Resolved}
+use Rattle.record_meanings.specs.declared.sides.Side.TheVariants as sides
+use Rattle.record_meanings.specs.Sides.{items_of, item_at, interface_of}
+use Rattle.record_meanings.specs.Keys.{standing, export_key_meant}
+use Rattle.record_modules.specs.Asked.{exported_function}
+use Rattle.record_modules.specs.Standing.{IsKept}
+use Rattle.plain_faults.specs.Faults.{◌>>=◌}
+use Rattle.plain_faults.proofs.Chains.{bind_ok, got, passed}
+use Rattle.record_exports.specs.Functions.{Exports, Known, known, function_key, lifted_functions, abi_at}
+use Rattle.record_exports.specs.Meaning.{world_id}
+use Rattle.record_exports.specs.Requiring.{missing, key_text, names_in, functions_at, suffices, is_there, function_there, all_there, required_key, required_after, required_of}
+use Rattle.record_exports.specs.Standing.{IsWithin}
+use Rattle.record_exports.proofs.Lifting.{root_item}
+
+-- ---- the world has the key
+
+none_both : (b c : Bool) → c ≡ false → (b && c) ≡ false
+none_both true c e = e
+none_both false c e = refl
+
+key_same : (a b : WorldKey) → is_same_key a b ≡ true → a ≡ b
+key_same (keys.Name x) (keys.Name y) e = by (bytes_eq x y) refl e
+  where
+    by : (b : Bool) → bytes_eq x y ≡ b → (b && true) ≡ true → keys.Name x ≡ keys.Name y
+    by true is e = ap keys.Name ((bytes_eq-Decides x y).0 is)
+    by false is e = absurd (true≢false (sym e))
+key_same (keys.Interface i) (keys.Interface j) e = by (nat_eq (suc i.index) (suc j.index)) refl e
+  where
+    by : (b : Bool) → nat_eq (suc i.index) (suc j.index) ≡ b → b ≡ true → keys.Interface i ≡ keys.Interface j
+    by true is e = let same : i.index ≡ j.index = grind (arith, is) in ap (λ (n : ℕ). keys.Interface (record { index = n })) same
+    by false is e = absurd (true≢false (sym e))
+key_same (keys.Name x) (keys.Interface j) e = absurd (true≢false (sym e ∙ none_both (bytes_eq x []) (nat_eq 0 (suc j.index)) (eqb-zero-suc j.index)))
+key_same (keys.Interface i) (keys.Name y) e = absurd (true≢false (sym e ∙ none_both (bytes_eq [] y) (nat_eq (suc i.index) 0) (eqb-suc-zero i.index)))
+
+stands_there : (r : Resolved) (key answer : WorldKey) → standing sides.Exported r key ≡ Some answer → is_some (item_at sides.Exported r answer) ≡ true
+stands_there r key answer e = by (is_some (item_at sides.Exported r key)) refl e
+  where
+    by : (b : Bool) → is_some (item_at sides.Exported r key) ≡ b → (if b then Some key else None) ≡ Some answer → is_some (item_at sides.Exported r answer) ≡ true
+    by true is e = let same : key ≡ answer = cc (e) in subst (λ (k : WorldKey). is_some (item_at sides.Exported r k) ≡ true) same is
+    by false is e = absurd cc
+
+interface_there : (r : Resolved) (o : Option InterfaceId) (answer : WorldKey) → option_and_then (λ i. standing sides.Exported r (keys.Interface i)) o ≡ Some answer → is_some (item_at sides.Exported r answer) ≡ true
+interface_there r None answer e = absurd cc
+interface_there r (Some id) answer e = stands_there r (keys.Interface id) answer e
+
+meant_there : (r : Resolved) (wanted : ExportKey) (key : WorldKey) → export_key_meant r wanted ≡ Some key → is_some (item_at sides.Exported r key) ≡ true
+meant_there r (export_keys.Name text) key e = stands_there r (keys.Name text) key e
+meant_there r (export_keys.Interface id) key e = interface_there r (interface_of sides.Exported r (names.Id id)) key e
+
+world_items : (ws : List World) → option_map_or (λ w. w.exports) (slice_get ws 0) [] ≡ (get_or ws 0 no_items).exports
+world_items [] = refl
+world_items (w ∷ ws) = refl
+
+key_there : (r : Resolved) (key : WorldKey) → is_some (item_at sides.Exported r key) ≡ true → Contains (map (λ e. e.0) (get_or r.resolve.worlds 0 no_items).exports) key
+key_there r key h =
+    subst (λ (es : List (WorldKey × WorldItem)). Contains (map (λ e. e.0) es) key) (world_items r.resolve.worlds)
+    (Contains-keys_from_lookup key_same key (items_of sides.Exported r) h)
+
+-- ---- some export is the root function
+
+sufficient : (abi : Option AbiVariant) (called_back : Bool) → suffices abi called_back ≡ true → is_some abi ≡ true
+sufficient None called_back e = absurd (true≢false (sym e))
+sufficient (Some abi) called_back e = refl
+
+-- the first of several functions that are there is an export
+first_there : (k : Known) (key : WorldKey) (name : List ℕ) → all_there k key (name ∷ []) ≡ Ok tt → is_some (k.abi (function_key key name)) ≡ true
+first_there k key name e =
+    let a = bind_ok (function_there k key name) (λ (_ : ⊤). all_there k key []) tt e in
+    let p = passed (is_there k (function_key key name)) tt a.0 (missing name) a.1 in
+    sufficient (k.abi (function_key key name)) (k.called_back (function_key key name)) p.0
+
+module _ (r : Resolve) (text name : List ℕ) (f : Function) (is : exported_function r world_id (keys.Name text) ≡ Some f) where
+  skipped : (key : WorldKey) (other : List ℕ) (abi : AbiVariant) (rest : List (FunctionKey × AbiVariant)) → is_same_key (keys.Name text) key ≡ false
+      → IsSome (lookup (is_same_function (function_key (keys.Name text) name)) ((function_key key other, abi) ∷ rest)) → IsSome (lookup (is_same_function (function_key (keys.Name text) name)) rest)
+  skipped key other abi rest apart h = by (is_same_key (keys.Name text) key) apart h
+    where
+      by : (b : Bool) → b ≡ false → IsSome (cond (b && bytes_eq name other) (Some abi) (lookup (is_same_function (function_key (keys.Name text) name)) rest))
+          → IsSome (lookup (is_same_function (function_key (keys.Name text) name)) rest)
+      by true apart h = absurd (true≢false apart)
+      by false apart h = h
+
+  name_apart : (id : InterfaceId) → is_same_key (keys.Name text) (keys.Interface id) ≡ false
+  name_apart id = none_both (bytes_eq text []) (nat_eq 0 (suc id.index)) (eqb-zero-suc id.index)
+
+  key_apart : (other : List ℕ) → bytes_eq text other ≡ false → is_same_key (keys.Name text) (keys.Name other) ≡ false
+  key_apart other e = ap (λ (b : Bool). b && true) e
+
+  root_there : (all : Exports) → AllByRecursion (λ e. IsWithin r world_id e.1) all → IsSome (abi_at all (function_key (keys.Name text) name)) → IsSome (found text (flat_map root_export all))
+  root_there [] h there = there
+  root_there ((field, exports.WorldFunc (keys.Name other) function abi) ∷ es) h there = by (bytes_eq text other) refl (λ later. root_there es h.1 later)
+    where
+      by : (b : Bool) → bytes_eq text other ≡ b → (IsSome (abi_at es (function_key (keys.Name text) name)) → IsSome (found text (flat_map root_export es)))
+          → IsSome (cond b (Some field) (found text (flat_map root_export es)))
+      by true e more = refl
+      by false e more = more (skipped (keys.Name other) function abi (lifted_functions es) (key_apart other e) there)
+  root_there ((field, exports.WorldFunc (keys.Interface id) function abi) ∷ es) h there = root_there es h.1 (skipped (keys.Interface id) function abi (lifted_functions es) (name_apart id) there)
+  root_there ((field, exports.InterfaceFunc (keys.Name other) id function abi) ∷ es) h there = by (bytes_eq text other) refl (λ later. root_there es h.1 later)
+    where
+      by : (b : Bool) → bytes_eq text other ≡ b → (IsSome (abi_at es (function_key (keys.Name text) name)) → IsSome (found text (flat_map root_export es))) → IsSome (found text (flat_map root_export es))
+      by true e more =
+          let same : text ≡ other = (bytes_eq-Decides text other).0 e in
+          let clash : Some f ≡ None = sym is ∙ (ap (λ (t : List ℕ). exported_function r world_id (keys.Name t)) same ∙ h.0) in absurd cc
+      by false e more = more (skipped (keys.Name other) function abi (lifted_functions es) (key_apart other e) there)
+  root_there ((field, exports.InterfaceFunc (keys.Interface i) id function abi) ∷ es) h there = root_there es h.1 (skipped (keys.Interface i) function abi (lifted_functions es) (name_apart i) there)
+  root_there ((field, role) ∷ es) h there = root_there es h.1 there
+
+names_of_function : (r : Resolved) (o : Option WorldItem) (f : Function) → option_and_then function_in o ≡ Some f → names_in r o ≡ f.name ∷ []
+names_of_function r None f e = absurd cc
+names_of_function r (Some (items.Function g)) f e = let same : g ≡ f = cc (e) in ap (λ (x : Function). x.name ∷ []) same
+names_of_function r (Some (items.Interface id)) f e = absurd cc
+names_of_function r (Some (items.NamedType t)) f e = absurd cc
+
+-- ---- keys that were answered
+
+-- what a key that was answered has, by the steps to it
+pub record Required (r : Resolved) (k : Known) (wanted : ExportKey) (key : WorldKey) : Type 0 where
+  pub meant : export_key_meant r wanted ≡ Some key
+  pub there : all_there k key (functions_at r key) ≡ Ok tt
+
+pub key_required : (r : Resolved) (k : Known) (wanted : ExportKey) (key : WorldKey) → required_key r k wanted ≡ Ok key → Required r k wanted key
+unfolding required_key
+key_required r k wanted key e =
+    let a = bind_ok (ok_or (export_key_meant r wanted) (missing (key_text wanted))) (λ (x : WorldKey). all_there k x (functions_at r x) >>= λ _. Ok x) key e in
+    let b = bind_ok (all_there k a.0 (functions_at r a.0)) (λ (_ : ⊤). Ok a.0) key a.2 in
+    let same : a.0 ≡ key = cc (b.2) in
+    let there : all_there k a.0 (functions_at r a.0) ≡ Ok tt = b.1 in
+    record { meant = got (export_key_meant r wanted) (missing (key_text wanted)) a.0 a.1 ∙ ap Some same; there = subst (λ (x : WorldKey). all_there k x (functions_at r x) ≡ Ok tt) same there }
+
+key_kept : (r : Resolved) (all : Exports) (wanted : ExportKey) (key : WorldKey) → AllByRecursion (λ e. IsWithin r.resolve world_id e.1) all → required_key r (known all) wanted ≡ Ok key → IsKept r.resolve world_id all key
+key_kept r all wanted key within e =
+    let q = key_required r (known all) wanted key e in
+    record {
+      exported = key_there r key (meant_there r wanted key q.meant);
+      stands = λ text f named is.
+          let here : exported_function r.resolve world_id (keys.Name text) ≡ Some f = ap (exported_function r.resolve world_id) (sym named) ∙ is in
+          let one : functions_at r key ≡ f.name ∷ [] = names_of_function r (item_at sides.Exported r key) f (sym (root_item r key) ∙ is) in
+          let there : all_there (known all) key (f.name ∷ []) ≡ Ok tt = ap (all_there (known all) key) (sym one) ∙ q.there in
+          let first : IsSome (abi_at all (function_key key f.name)) = first_there (known all) key f.name there in
+          root_there r.resolve text f.name f here all within (subst (λ (x : WorldKey). IsSome (abi_at all (function_key x f.name))) named first);
+    }
+
+keys_kept : (r : Resolved) (all : Exports) (done ks : List WorldKey) (ws : List ExportKey) → AllByRecursion (λ e. IsWithin r.resolve world_id e.1) all → AllByRecursion (IsKept r.resolve world_id all) done
+    → required_after r (known all) done ws ≡ Ok ks → AllByRecursion (IsKept r.resolve world_id all) ks
+keys_kept r all done ks [] within h e = let same : done ≡ ks = cc (e) in subst (λ (x : List WorldKey). AllByRecursion (IsKept r.resolve world_id all) x) same h
+keys_kept r all done ks (w ∷ ws) within h e =
+    let a = bind_ok (required_key r (known all) w) (λ key. required_after r (known all) (done ++ key ∷ []) ws) ks e in
+    keys_kept r all (done ++ a.0 ∷ []) ks ws within (AllByRecursion-push (IsKept r.resolve world_id all) done a.0 h (key_kept r all w a.0 within a.1)) a.2
+
+pub all_kept : (resolve : Resolve) (r : Resolved) (all : Exports) (ws : List ExportKey) (ks : List WorldKey) → required_of r all ws ≡ Ok ks → resolve ≡ r.resolve
+    → AllByRecursion (λ e. IsWithin resolve world_id e.1) all → AllByRecursion (IsKept resolve world_id all) ks
+all_kept resolve r all ws ks e same within =
+    subst (λ (x : Resolve). AllByRecursion (IsKept x world_id all) ks) (sym same)
+    (keys_kept r all [] ks ws (subst (λ (x : Resolve). AllByRecursion (λ e. IsWithin x world_id e.1) all) same within) tt e)

@@ -1,0 +1,7 @@
+mod Entering
+mod Knowing
+mod Lifting
+mod Refusing
+mod Keeping
+mod Missing
+mod Worked

@@ -1,0 +1,33 @@
+-- What one core export is for, and that it has the type for which its role asks (Canonical ABI: `canon lift` and its options).
+use Rattle.std.specs.Prelude.{ℕ, List, Result, Ok, Err, ok_or, if◌then◌else◌}
+use Rattle.core_sections.specs.declared.core_module.CoreModule.{CoreModule}
+use Rattle.core_sections.specs.declared.entries.ExportedItem.{ExportedItem}
+use Rattle.wit_data.specs.declared.ids.WorldId.{WorldId}
+use Rattle.comp_roles.specs.declared.exports.Export.{Export}
+use Rattle.record_values.specs.declared.roles.ExportRole.{ExportRole}
+use Rattle.record_resolving.specs.declared.resolving.Resolved.{Resolved}
+use Rattle.record_meanings.specs.Exports.{export_meant}
+use Rattle.record_modules.specs.Fitting.{fits_export}
+use Rattle.record_modules.specs.Offered.{item_type}
+use Rattle.plain_faults.specs.declared.fault.Failure.{Failure}
+use Rattle.plain_faults.specs.declared.fault.Failure.TheVariants as failures
+use Rattle.plain_faults.specs.declared.fault.Refusal.TheVariants as refusals
+use Rattle.plain_faults.specs.Faults.{◌>>=◌}
+
+-- the one world of a resolve
+abbrev pub world_id : WorldId
+world_id = record { index = 0 }
+
+-- the export of this name isn't of the type for which its role asks
+abbrev pub unfit : List ℕ → Failure
+unfit name = failures.Refused (refusals.CoreType name)
+
+-- what an export is for, if it has the type for that
+abbrev pub fitting : Resolved → CoreModule → List ℕ → ExportedItem → Export → Result Export Failure
+fitting r core name item export = if fits_export r.resolve world_id core export item then Ok export else Err (unfit name)
+
+-- what an export with this role is for; a role that means nothing there asks for nothing that a type could be
+unfoldable pub export_of : Resolved → CoreModule → List ℕ → ExportedItem → ExportRole → Result Export Failure
+export_of r core name item role = do
+  export ← ok_or (export_meant r role (item_type core item)) (unfit name)
+  fitting r core name item export

@@ -1,0 +1,80 @@
+-- Whether the exports that a module has to have are there: each function of a required key is a core export, and one that is
+-- asynchronous with a callback has its callback (Canonical ABI: `canon lift`).
+use Rattle.std.specs.Prelude.{ℕ, Bool, true, false, if◌then◌else◌, List, [], ◌∷◌, ◌++◌, map, Option, Some, None, Result, Ok, Err, ok_or, ⊤}
+use Rattle.wit_data.specs.declared.functions.AbiVariant.{AbiVariant}
+use Rattle.wit_data.specs.declared.functions.AbiVariant.TheVariants as abis
+use Rattle.wit_data.specs.declared.functions.Function.{Function}
+use Rattle.wit_data.specs.declared.worlds.WorldItem.{WorldItem}
+use Rattle.wit_data.specs.declared.worlds.WorldItem.TheVariants as items
+use Rattle.wit_data.specs.declared.worlds.WorldKey.{WorldKey}
+use Rattle.comp_roles.specs.declared.metadata.FunctionKey.{FunctionKey}
+use Rattle.comp_worlds.specs.Imported.{functions_of}
+use Rattle.comp_worlds.specs.declared.gathered.ExportKey.{ExportKey}
+use Rattle.comp_worlds.specs.declared.gathered.ExportKey.TheVariants as export_keys
+use Rattle.record_resolving.specs.declared.resolving.Resolved.{Resolved}
+use Rattle.record_meanings.specs.declared.sides.Side.TheVariants as sides
+use Rattle.record_meanings.specs.Keys.{export_key_meant}
+use Rattle.record_meanings.specs.Sides.{item_at}
+use Rattle.plain_faults.specs.declared.fault.Failure.{Failure}
+use Rattle.plain_faults.specs.declared.fault.Failure.TheVariants as failures
+use Rattle.plain_faults.specs.declared.fault.Refusal.TheVariants as refusals
+use Rattle.plain_faults.specs.Faults.{◌>>=◌}
+use Rattle.record_exports.specs.Functions.{Exports, Known, known, function_key}
+
+abbrev pub missing : List ℕ → Failure
+missing function = failures.Refused (refusals.ExportMissing function)
+
+-- the name, or the interface's id
+abbrev pub key_text : ExportKey → List ℕ
+key_text (export_keys.Name text) = text
+key_text (export_keys.Interface id) = id
+
+-- ---- the functions of a key
+
+abbrev pub function_names : List (List ℕ × Function) → List (List ℕ)
+function_names fs = map (λ f. f.1.name) fs
+
+abbrev pub names_in : Resolved → Option WorldItem → List (List ℕ)
+names_in r None = []
+names_in r (Some (items.Function f)) = f.name ∷ []
+names_in r (Some (items.Interface id)) = function_names (functions_of r.resolve id)
+names_in r (Some (items.NamedType t)) = []
+
+-- the names of the functions that the world exports at a key: of the one that stands there, or of an interface's, in order
+abbrev pub functions_at : Resolved → WorldKey → List (List ℕ)
+functions_at r key = names_in r (item_at sides.Exported r key)
+
+-- ---- what has to be there
+
+-- some export is the function, and one with a callback has it
+abbrev pub suffices : Option AbiVariant → Bool → Bool
+suffices None called_back = false
+suffices (Some abis.GuestExportAsync) called_back = called_back
+suffices (Some abi) called_back = true
+
+abbrev pub is_there : Known → FunctionKey → Bool
+is_there k f = suffices (k.abi f) (k.called_back f)
+
+abbrev pub function_there : Known → WorldKey → List ℕ → Result ⊤ Failure
+function_there k key name = if is_there k (function_key key name) then Ok tt else Err (missing name)
+
+-- all of them are; else the first that is not is told
+abbrev pub all_there : Known → WorldKey → List (List ℕ) → Result ⊤ Failure
+all_there k key [] = Ok tt
+all_there k key (f ∷ fs) = function_there k key f >>= λ _. all_there k key fs
+
+-- the key of a required export, where all of its functions are there
+unfoldable pub required_key : Resolved → Known → ExportKey → Result WorldKey Failure
+required_key r k wanted = do
+  key ← ok_or (export_key_meant r wanted) (missing (key_text wanted))
+  _ ← all_there k key (functions_at r key)
+  Ok key
+
+-- those of several, behind others
+abbrev pub required_after : Resolved → Known → List WorldKey → List ExportKey → Result (List WorldKey) Failure
+required_after r k done [] = Ok done
+required_after r k done (wanted ∷ more) = required_key r k wanted >>= λ key. required_after r k (done ++ key ∷ []) more
+
+-- the keys of the exports that a module has to have, where its exports are these
+abbrev pub required_of : Resolved → Exports → List ExportKey → Result (List WorldKey) Failure
+required_of r all wanted = required_after r (known all) [] wanted

@@ -1,0 +1,109 @@
+//! What the core exports of a module are for.
+
+ghost use Rattle.std.specs.Prelude.{◌≡◌, [], IfOk, IfErr, IsOk};
+ghost use Rattle.std.specs.List.{AllByRecursion};
+ghost use Rattle.std.specs.Option.{option_copied};
+ghost use Rattle.wit_data.specs.Sound.{IsSound};
+ghost use Rattle.plain_faults.specs.Faults.{Gives};
+ghost use Rattle.plain_faults.specs.declared.fault.Failure.TheVariants as failures;
+ghost use Rattle.plain_faults.specs.declared.fault.Refusal.{Refusal};
+ghost use Rattle.record_modules.specs.Standing.{IsLifted};
+ghost use Rattle.record_exports.specs.Causes.{ExportCause};
+ghost use Rattle.record_exports.specs.Exporting.{with_role, exports_after, exports_of};
+ghost use Rattle.record_exports.specs.Meaning.{world_id};
+ghost use Rattle.record_exports.specs.Standing.{IsWithin, Stand};
+
+use crate::meaning::export_of;
+use crate::taking::check_taken;
+use comp_lists::{Keyed, Text};
+use comp_roles::Export;
+use core_sections::{CoreModule, ExportedItem};
+use plain_faults::Failure;
+use record_resolving::Resolved;
+use record_values::ExportRole;
+use std::alloc::Global;
+
+/// Adds what an export is for, if it has a role.
+fn add_export(
+    alloc: Global,
+    resolved: &Resolved,
+    core: &CoreModule,
+    all: &mut Keyed<Text, Export>,
+    name: &Text,
+    item: &ExportedItem,
+    role: Option<&ExportRole>,
+) -> Result<(), Failure>
+    requires { IsSound resolved.now.resolve }
+    ensures { Gives (λ _. all.new) result (with_role resolved.now core.now all.old name.now item.now (option_copied role.entry)) }
+{
+    match role {
+        None => Ok(()),
+        Some(role) => {
+            let export = export_of(alloc, resolved, core, name, item, role)?;
+            let name = name.clone(alloc)?;
+            all.add_first(name, export)?;
+            Ok(())
+        }
+    }
+}
+
+/// What the exports that have roles are for, each of the type for which its role asks.
+fn exports_with_roles(
+    alloc: Global,
+    resolved: &Resolved,
+    roles: &Keyed<Text, ExportRole>,
+    core: &CoreModule,
+) -> Result<Keyed<Text, Export>, Failure>
+    requires { IsSound resolved.now.resolve }
+    ensures { Gives (λ t. t) result (exports_after resolved.now roles.now core.now [] core.now.exports) }
+{
+    let mut all = Keyed::new(alloc);
+    for (name, item) in core.exports.entries() {
+        let role = roles.get(name);
+        add_export(alloc, resolved, core, &mut all, name, item, role)?;
+    }
+    Ok(all)
+}
+
+/// What all exports are for, none of which is a post-return or a callback of a function that takes none.
+#[tactic(auto, using(crate::proofs::Lifting::all_stand), unfolding(crate::specs::Exporting::exports_of))]
+fn exports_of(
+    alloc: Global,
+    resolved: &Resolved,
+    roles: &Keyed<Text, ExportRole>,
+    core: &CoreModule,
+) -> Result<Keyed<Text, Export>, Failure>
+    requires { IsSound resolved.now.resolve }
+    ensures exact { Gives (λ t. t) result (exports_of resolved.now roles.now core.now) }
+    ensures stand { IfOk result (λ t. Stand resolved.now t) }
+{
+    let all = exports_with_roles(alloc, resolved, roles, core)?;
+    check_taken(alloc, &all)?;
+    Ok(all)
+}
+
+/// What the core exports of a module are for, by name, in their order: those that have a role, each of the type for which
+/// its role asks. No export of a synchronous function has a callback, and none of another has a post-return.
+///
+/// # Errors
+///
+/// `CoreType` with the name of an export whose role names nothing that the world exports, or asks for another type
+/// (Canonical ABI: `flatten_functype`); or of a post-return of a function that isn't synchronous, or a callback of one that
+/// isn't asynchronous with a callback (Canonical ABI: `canon lift`). `Memory` where memory was refused.
+#[tactic(auto, using(crate::proofs::Refusing::no_cause, crate::proofs::Refusing::has_cause))]
+pub fn read_exports(
+    alloc: Global,
+    resolved: &Resolved,
+    roles: &Keyed<Text, ExportRole>,
+    core: &CoreModule,
+) -> Result<Keyed<Text, Export>, Failure>
+    requires { IsSound resolved.now.resolve }
+    ensures exact { Gives (λ t. t) result (exports_of resolved.now roles.now core.now) }
+    ensures lifted { IfOk result (λ t. AllByRecursion (λ e. IsLifted resolved.now.resolve world_id e.1) t) }
+    ensures within { IfOk result (λ t. AllByRecursion (λ e. IsWithin resolved.now.resolve world_id e.1) t) }
+    ensures refused { IsOk result → (f : Refusal) → ExportCause resolved.now roles.now core.now f → ⊥ }
+    ensures cause { IfErr result (λ e. (f : Refusal) → e ≡ failures.Refused f → ExportCause resolved.now roles.now core.now f) }
+{
+    let all = exports_of(alloc, resolved, roles, core)?;
+    Ok(all)
+}

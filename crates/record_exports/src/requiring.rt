@@ -1,0 +1,213 @@
+//! The exports that a module has to have.
+
+ghost use Rattle.std.specs.Prelude.{◌≡◌, ◌≢◌, [], IfOk, IfErr, IsOk};
+ghost use Rattle.std.specs.List.{AllByRecursion};
+ghost use Rattle.std.specs.Option.{option_copied};
+ghost use Rattle.wit_data.specs.Sound.{IsSound};
+ghost use Rattle.comp_worlds.specs.Imported.{functions_of};
+ghost use Rattle.record_meanings.specs.Sides.{item_at};
+ghost use Rattle.record_meanings.specs.declared.sides.Side.TheVariants as sides;
+ghost use Rattle.plain_faults.specs.Faults.{Gives};
+ghost use Rattle.plain_faults.specs.declared.fault.Failure.TheVariants as failures;
+ghost use Rattle.plain_faults.specs.declared.fault.Refusal.{Refusal};
+ghost use Rattle.record_modules.specs.Standing.{IsKept};
+ghost use Rattle.record_exports.specs.Causes.{RequiredCause};
+ghost use Rattle.record_exports.specs.Functions.{known_by};
+ghost use Rattle.record_exports.specs.Meaning.{world_id};
+ghost use Rattle.record_exports.specs.Standing.{IsWithin};
+ghost use Rattle.record_exports.specs.Requiring.{missing, key_text, function_names, names_in, functions_at, suffices, is_there, function_there, all_there, required_key, required_after, required_of};
+
+use crate::functions::{Functions, function_key};
+use comp_lists::{Keyed, Seq, Text};
+use comp_roles::{Export, FunctionKey};
+use comp_worlds::ExportKey;
+use plain_faults::{Failure, Refusal};
+use record_meanings::export_key_meant;
+use record_resolving::Resolved;
+use std::alloc::Global;
+use wit_data::{AbiVariant, Function, InterfaceId, WorldItem, WorldKey};
+
+/// The refusal that what has this name is missing, or want of memory.
+fn missing(alloc: Global, name: &Text) -> Failure
+    ensures { result ≢ failures.Memory → result ≡ missing name.now }
+{
+    match name.clone(alloc) {
+        Ok(function) => Failure::Refused(Refusal::ExportMissing { function }),
+        Err(_) => Failure::Memory,
+    }
+}
+
+/// The name of a key, or its interface's id.
+fn key_text(key: &ExportKey) -> &Text
+    ensures { result.now ≡ key_text key.now }
+{
+    match key {
+        ExportKey::Name(text) => text,
+        ExportKey::Interface(id) => id,
+    }
+}
+
+/// Whether a function that is called like this, if it is, has what it has to have.
+fn suffices(abi: Option<AbiVariant>, called_back: bool) -> bool
+    ensures { result ≡ suffices abi called_back }
+{
+    match abi {
+        None => false,
+        Some(AbiVariant::GuestExportAsync) => called_back,
+        Some(_) => true,
+    }
+}
+
+/// Whether some export is a function, and its callback is there where it goes on by one.
+fn is_there(functions: &Functions, function: &FunctionKey) -> bool
+    ensures { result ≡ is_there (known_by functions.now) function.now }
+{
+    suffices(functions.abi(function), functions.has_callback(function))
+}
+
+/// Refuses a function of a key that isn't there.
+fn check_function(
+    alloc: Global,
+    functions: &Functions,
+    key: &WorldKey,
+    name: &Text,
+) -> Result<(), Failure>
+    ensures { Gives (λ _. tt) result (function_there (known_by functions.now) key.now name.now) }
+{
+    let function = function_key(alloc, key, name)?;
+    if is_there(functions, &function) {
+        Ok(())
+    } else {
+        Err(missing(alloc, name))
+    }
+}
+
+/// Refuses the first function of an interface that isn't there.
+fn check_functions(
+    alloc: Global,
+    functions: &Functions,
+    key: &WorldKey,
+    all: &Keyed<Text, Function>,
+) -> Result<(), Failure>
+    ensures { Gives (λ _. tt) result (all_there (known_by functions.now) key.now (function_names all.now)) }
+{
+    for (_, function) in all.entries() {
+        check_function(alloc, functions, key, &function.name)?;
+    }
+    Ok(())
+}
+
+fn check_interface(
+    alloc: Global,
+    resolved: &Resolved,
+    functions: &Functions,
+    key: &WorldKey,
+    id: InterfaceId,
+) -> Result<(), Failure>
+    ensures { Gives (λ _. tt) result (all_there (known_by functions.now) key.now (function_names (functions_of resolved.now.resolve id))) }
+{
+    match resolved.resolve.interfaces.as_slice().get(id.index) {
+        Some(interface) => check_functions(alloc, functions, key, &interface.functions),
+        None => Ok(()),
+    }
+}
+
+/// What the world exports at a key.
+fn exported_item<'a>(resolved: &'a Resolved, key: &WorldKey) -> Option<&'a WorldItem>
+    ensures { option_copied result ≡ item_at sides.Exported resolved.now key.now }
+{
+    let world = resolved.resolve.worlds.as_slice().get(0)?;
+    world.exports.get(key)
+}
+
+/// Refuses the first function at a key that isn't there.
+fn check_key(
+    alloc: Global,
+    resolved: &Resolved,
+    functions: &Functions,
+    key: &WorldKey,
+) -> Result<(), Failure>
+    ensures { Gives (λ _. tt) result (all_there (known_by functions.now) key.now (functions_at resolved.now key.now)) }
+{
+    match exported_item(resolved, key) {
+        Some(WorldItem::Function(function)) => {
+            check_function(alloc, functions, key, &function.name)
+        }
+        Some(WorldItem::Interface(id)) => check_interface(alloc, resolved, functions, key, *id),
+        Some(WorldItem::NamedType(_)) => Ok(()),
+        None => Ok(()),
+    }
+}
+
+/// The key of a required export, where all of its functions are there.
+#[tactic(auto, unfolding(crate::specs::Requiring::required_key))]
+fn required_key(
+    alloc: Global,
+    resolved: &Resolved,
+    functions: &Functions,
+    required: &ExportKey,
+) -> Result<WorldKey, Failure>
+    ensures { Gives (λ k. k) result (required_key resolved.now (known_by functions.now) required.now) }
+{
+    match export_key_meant(alloc, resolved, required)? {
+        Some(key) => {
+            check_key(alloc, resolved, functions, &key)?;
+            Ok(key)
+        }
+        None => Err(missing(alloc, key_text(required))),
+    }
+}
+
+fn required_by(
+    alloc: Global,
+    resolved: &Resolved,
+    functions: &Functions,
+    required: &[ExportKey],
+) -> Result<Seq<WorldKey>, Failure>
+    ensures { Gives (λ ks. ks) result (required_after resolved.now (known_by functions.now) [] required.now) }
+{
+    let mut keys = Seq::new(alloc);
+    for key in required {
+        keys.push(required_key(alloc, resolved, functions, key)?)?;
+    }
+    Ok(keys)
+}
+
+#[tactic(auto, using(crate::proofs::Knowing::gives_required))]
+fn required_of(
+    alloc: Global,
+    resolved: &Resolved,
+    exports: &Keyed<Text, Export>,
+    required: &[ExportKey],
+) -> Result<Seq<WorldKey>, Failure>
+    ensures { Gives (λ ks. ks) result (required_of resolved.now exports.now required.now) }
+{
+    let functions = Functions::of(alloc, exports)?;
+    required_by(alloc, resolved, &functions, required)
+}
+
+/// The keys of the world at which the required exports stand, in their order. Each function there is a core export, and one
+/// that goes on by a callback has it. The exports are those that [`read_exports`](crate::read_exports) answered, or others
+/// of which none is a function of an interface at the key of a root function.
+///
+/// # Errors
+///
+/// `ExportMissing` with the name or the id of a required export that the world doesn't export, or with the name of a
+/// function there that is no core export, or that is called as an asynchronous one with a callback and has none (Canonical
+/// ABI: `canon lift`). `Memory` where memory was refused.
+#[tactic(auto, using(crate::proofs::Keeping::all_kept, crate::proofs::Missing::no_cause, crate::proofs::Missing::has_cause))]
+pub fn require_all(
+    alloc: Global,
+    resolved: &Resolved,
+    exports: &Keyed<Text, Export>,
+    required: &[ExportKey],
+) -> Result<Seq<WorldKey>, Failure>
+    requires within { AllByRecursion (λ e. IsWithin resolved.now.resolve world_id e.1) exports.now }
+    ensures exact { Gives (λ ks. ks) result (required_of resolved.now exports.now required.now) }
+    ensures kept { IfOk result (λ ks. AllByRecursion (IsKept resolved.now.resolve world_id exports.now) ks) }
+    ensures refused { IsOk result → (f : Refusal) → RequiredCause resolved.now exports.now required.now f → ⊥ }
+    ensures cause { IfErr result (λ e. (f : Refusal) → e ≡ failures.Refused f → RequiredCause resolved.now exports.now required.now f) }
+{
+    let keys = required_of(alloc, resolved, exports, required)?;
+    Ok(keys)
+}

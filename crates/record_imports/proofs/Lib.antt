@@ -1,0 +1,5 @@
+mod Groups
+mod Meeting
+mod Fields
+mod Refusing
+mod Worked

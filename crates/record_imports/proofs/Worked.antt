@@ -1,0 +1,116 @@
+-- What the imports of small modules are for, worked: a world that imports one function "f", with no parameter and no result.
+use Rattle.std.proofs.Common.{◌≡◌, ℕ, List, [], ◌∷◌, Option, Some, None, Result, Ok, refl, false}
+use Rattle.std.specs.Prelude.{codes}
+use Rattle.core_sections.specs.Entries.{no_entries}
+use Rattle.core_sections.specs.declared.core_module.CoreModule.{CoreModule}
+use Rattle.core_sections.specs.declared.entries.CoreImport.{CoreImport}
+use Rattle.core_sections.specs.declared.entries.EntityType.{EntityType}
+use Rattle.core_sections.specs.declared.entries.EntityType.TheVariants as entities
+use Rattle.core_sections.specs.declared.entries.ValType.TheVariants as values
+use Rattle.wit_data.specs.Values.{values_from}
+use Rattle.wit_data.specs.declared.functions.AbiVariant.TheVariants.{GuestImport}
+use Rattle.wit_data.specs.declared.functions.FunctionKind.TheVariants as forms
+use Rattle.wit_data.specs.declared.worlds.WorldItem.TheVariants as items
+use Rattle.wit_data.specs.declared.worlds.WorldKey.TheVariants as keys
+use Rattle.comp_roles.specs.declared.imports.Import.TheVariants as imports
+use Rattle.comp_roles.specs.declared.imports.ImportInstance.{ImportInstance}
+use Rattle.comp_roles.specs.declared.imports.ImportInstance.TheVariants as instances
+use Rattle.record_values.specs.declared.names.Owner.TheVariants as owners
+use Rattle.record_values.specs.declared.record.ImportName.{ImportName}
+use Rattle.record_values.specs.declared.roles.ImportRole.{ImportRole}
+use Rattle.record_values.specs.declared.roles.ImportRole.TheVariants as roles
+use Rattle.record_resolving.specs.declared.resolving.Resolved.{Resolved}
+use Rattle.plain_faults.specs.declared.fault.Failure.{Failure}
+use Rattle.plain_faults.specs.declared.fault.Refusal.TheVariants as refusals
+use Rattle.plain_faults.proofs.Chains.{refused}
+use Rattle.record_imports.specs.Meaning.{Roles, import_of}
+use Rattle.record_imports.specs.Grouping.{group_after}
+use Rattle.record_imports.specs.Memories.{memories_fit}
+use Rattle.record_imports.specs.Importing.{imports_of}
+
+abbrev small : Resolved
+small = record {
+  resolve = record {
+    interfaces = [];
+    types = [];
+    worlds = record {
+      imports = (keys.Name (codes "f"), items.Function (record { name = codes "f"; kind = forms.Freestanding; params = []; result = None })) ∷ [];
+      exports = [];
+    } ∷ [];
+  };
+  imported = [];
+  exported = [];
+  imported_keys = [];
+  exported_keys = [];
+}
+
+-- what the imports of fields of one module are for
+abbrev of : List ℕ → ImportRole → ImportName × ImportRole
+of field role = (record { «module» = codes "m"; field = field }, role)
+
+abbrev calls : List ℕ → ImportRole
+calls name = roles.Function owners.World name GuestImport
+
+-- type 0 has nothing, type 1 has one parameter
+abbrev importing : List CoreImport → CoreModule
+importing is = record no_entries { types = record { params = []; results = [] } ∷ record { params = values.I32 ∷ []; results = [] } ∷ []; imports = is }
+
+abbrev import : List ℕ → EntityType → CoreImport
+import field entity = record { «module» = codes "m"; field = field; entity = entity }
+
+abbrev memory : ℕ → Option ℕ → EntityType
+memory least most = entities.Memory (record { minimum = least; maximum = most; is_wide = false })
+
+abbrev Answer : Type 0
+Answer = Result (List (List ℕ × ImportInstance)) Failure
+
+abbrev answered : Roles → List CoreImport → Answer
+answered table is = imports_of small table (importing is)
+
+calls_f : answered (of (codes "a") (calls (codes "f")) ∷ []) (import (codes "a") (entities.Function 0) ∷ [])
+    ≡ Ok ((codes "m", instances.Names ((codes "a", imports.WorldFunc (keys.Name (codes "f")) (codes "f") GuestImport) ∷ [])) ∷ [])
+unfolding imports_of group_after import_of memories_fit values_from
+calls_f = refl
+
+has_no_role : answered (of (codes "a") (calls (codes "f")) ∷ []) (import (codes "b") (entities.Function 0) ∷ []) ≡ refused (refusals.RoleMissing (codes "m") (codes "b"))
+unfolding imports_of group_after import_of
+has_no_role = refl
+
+calls_nothing : answered (of (codes "a") (calls (codes "g")) ∷ []) (import (codes "a") (entities.Function 0) ∷ []) ≡ refused (refusals.RoleMissing (codes "m") (codes "a"))
+unfolding imports_of group_after import_of
+calls_nothing = refl
+
+of_an_adapter : answered (of (codes "a") (roles.AdapterExport (codes "x") (codes "f")) ∷ []) (import (codes "a") (entities.Function 0) ∷ []) ≡ refused (refusals.RoleMissing (codes "m") (codes "a"))
+unfolding imports_of group_after import_of
+of_an_adapter = refl
+
+twice_there : answered (of (codes "a") (calls (codes "f")) ∷ []) (import (codes "a") (entities.Function 0) ∷ import (codes "a") (entities.Function 0) ∷ [])
+    ≡ refused (refusals.ImportTwice (codes "m") (codes "a"))
+unfolding imports_of group_after import_of values_from
+twice_there = refl
+
+of_another_type : answered (of (codes "a") (calls (codes "f")) ∷ []) (import (codes "a") (entities.Function 1) ∷ []) ≡ refused (refusals.CoreType (codes "a"))
+unfolding imports_of group_after import_of values_from
+of_another_type = refl
+
+is_no_memory : answered (of (codes "a") roles.Memory ∷ []) (import (codes "a") (entities.Function 0) ∷ []) ≡ refused (refusals.CoreType (codes "a"))
+unfolding imports_of group_after import_of
+is_no_memory = refl
+
+-- the first memory has one page at least and two at most
+takes_more : answered (of (codes "a") roles.Memory ∷ of (codes "b") roles.Memory ∷ []) (import (codes "a") (memory 1 (Some 2)) ∷ import (codes "b") (memory 1 (Some 3)) ∷ [])
+    ≡ Ok ((codes "m", instances.Names ((codes "a", imports.MainModuleMemory (record { minimum = 1; maximum = Some 2 })) ∷ (codes "b", imports.MainModuleMemory (record { minimum = 1; maximum = Some 3 })) ∷ [])) ∷ [])
+unfolding imports_of group_after import_of memories_fit
+takes_more = refl
+
+wants_more : answered (of (codes "a") roles.Memory ∷ of (codes "b") roles.Memory ∷ []) (import (codes "a") (memory 1 (Some 2)) ∷ import (codes "b") (memory 2 None) ∷ []) ≡ refused (refusals.CoreType (codes "b"))
+unfolding imports_of group_after import_of memories_fit
+wants_more = refl
+
+takes_less : answered (of (codes "a") roles.Memory ∷ of (codes "b") roles.Memory ∷ []) (import (codes "a") (memory 1 (Some 2)) ∷ import (codes "b") (memory 0 (Some 1)) ∷ []) ≡ refused (refusals.CoreType (codes "b"))
+unfolding imports_of group_after import_of memories_fit
+takes_less = refl
+
+has_no_greatest : answered (of (codes "a") roles.Memory ∷ of (codes "b") roles.Memory ∷ []) (import (codes "a") (memory 1 None) ∷ import (codes "b") (memory 0 (Some 9)) ∷ []) ≡ refused (refusals.CoreType (codes "b"))
+unfolding imports_of group_after import_of memories_fit
+has_no_greatest = refl

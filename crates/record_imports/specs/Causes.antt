@@ -1,0 +1,56 @@
+-- When each refusal of core imports is right: what is wrong with the imports of the module, or with their roles. (The roles
+-- are this project's own; what is asked of types is the core standard's and the Canonical ABI's.)
+use Rattle.std.specs.Prelude.{◌≡◌, ℕ, true, false, List, [], ◌∷◌, ◌++◌, Some, None, Ok, Contains}
+use Rattle.std.specs.List.{flat_map}
+use Rattle.core_bytes.specs.declared.types.MemoryType.{MemoryType}
+use Rattle.core_sections.specs.declared.core_module.CoreModule.{CoreModule}
+use Rattle.core_sections.specs.declared.entries.CoreImport.{CoreImport}
+use Rattle.comp_roles.specs.CoreImports.{CoreImport as CoreUse, imports_from}
+use Rattle.comp_roles.specs.Lookups.{imported_memory}
+use Rattle.comp_roles.specs.declared.imports.Import.{Import}
+use Rattle.comp_roles.specs.declared.imports.Import.TheVariants as imports
+use Rattle.comp_roles.specs.declared.imports.ImportInstance.{ImportInstance}
+use Rattle.record_values.specs.declared.roles.ImportRole.{ImportRole}
+use Rattle.record_values.specs.declared.roles.ImportRole.TheVariants as roles
+use Rattle.record_resolving.specs.declared.resolving.Resolved.{Resolved}
+use Rattle.record_meanings.specs.Imports.{import_meant}
+use Rattle.record_modules.specs.Fitting.{fits_import}
+use Rattle.record_modules.specs.Offered.{extern_type}
+use Rattle.plain_faults.specs.declared.fault.Refusal.{Refusal}
+use Rattle.plain_faults.specs.declared.fault.Refusal.TheVariants as refusals
+use Rattle.record_imports.specs.declared.grouping.Group.{Group}
+use Rattle.record_imports.specs.Meaning.{Roles, world_id, role_of, is_of_other, is_memory}
+use Rattle.record_imports.specs.Grouping.{groups_after, instances_of}
+use Rattle.record_imports.specs.Memories.{fits_memory}
+
+-- these are the imports of the module, group by group, with what each is for
+pub record AreImports (r : Resolved) (table : Roles) (core : CoreModule) (modules : List (List ℕ × ImportInstance)) : Type 0 where
+  pub groups : List Group
+  pub grouped : groups_after r table core [] core.imports ≡ Ok groups
+  pub are : modules ≡ instances_of groups
+
+pub data ImportCause (r : Resolved) (table : Roles) (core : CoreModule) : Refusal → Type 0 where
+  -- two core imports have one module and field
+  twice : (i j : CoreImport) (before between after : List CoreImport) → core.imports ≡ before ++ i ∷ between ++ j ∷ after
+      → i.«module» ≡ j.«module» → i.field ≡ j.field → ImportCause r table core (refusals.ImportTwice j.«module» j.field)
+  -- the type of a core import isn't made of numbers and references to any function, or its limits are past 32 bits
+  untyped : (i : CoreImport) → Contains core.imports i → extern_type core i.entity ≡ None → ImportCause r table core (refusals.CoreType i.field)
+  -- a core import has no role
+  no_role : (i : CoreImport) → Contains core.imports i → role_of table i ≡ None → ImportCause r table core (refusals.RoleMissing i.«module» i.field)
+  -- its role is an export of another module
+  of_other : (i : CoreImport) (role : ImportRole) → Contains core.imports i → role_of table i ≡ Some role → is_of_other role ≡ true
+      → ImportCause r table core (refusals.RoleMissing i.«module» i.field)
+  -- what its role names isn't in the world
+  nothing_there : (i : CoreImport) (role : ImportRole) → Contains core.imports i → role_of table i ≡ Some role → is_memory role ≡ false
+      → import_meant r i.field role (extern_type core i.entity) ≡ None → ImportCause r table core (refusals.RoleMissing i.«module» i.field)
+  -- its role is a memory, and it is none
+  no_memory : (i : CoreImport) → Contains core.imports i → role_of table i ≡ Some roles.Memory
+      → import_meant r i.field roles.Memory (extern_type core i.entity) ≡ None → ImportCause r table core (refusals.CoreType i.field)
+  -- its type isn't that of its role
+  unfit : (i : CoreImport) (role : ImportRole) (import : Import) → Contains core.imports i → role_of table i ≡ Some role → is_of_other role ≡ false
+      → import_meant r i.field role (extern_type core i.entity) ≡ Some import → fits_import r.resolve world_id core import i.entity ≡ false
+      → ImportCause r table core (refusals.CoreType i.field)
+  -- a memory is imported, and the first that is doesn't fit it
+  unfit_memory : (modules : List (List ℕ × ImportInstance)) (first ty : MemoryType) (i : CoreUse) → AreImports r table core modules
+      → imported_memory modules ≡ Some first → Contains (flat_map imports_from modules) i → i.role ≡ imports.MainModuleMemory ty
+      → fits_memory first ty ≡ false → ImportCause r table core (refusals.CoreType i.field)

@@ -1,0 +1,50 @@
+-- Groups of core imports by module, and where the group of each module stands (core standard: imports go by a module's
+-- name and a field's).
+use Rattle.std.specs.Prelude.{ℕ, ◌+◌, List, [], ◌∷◌, ◌++◌, map, is_some, Result, Ok, Err, if◌then◌else◌}
+use Rattle.std.specs.Str.{bytes_eq}
+use Rattle.comp_lists.specs.Found.{found}
+use Rattle.core_sections.specs.declared.core_module.CoreModule.{CoreModule}
+use Rattle.core_sections.specs.declared.entries.CoreImport.{CoreImport}
+use Rattle.comp_roles.specs.declared.imports.Import.{Import}
+use Rattle.comp_roles.specs.declared.imports.ImportInstance.{ImportInstance}
+use Rattle.comp_roles.specs.declared.imports.ImportInstance.TheVariants as instances
+use Rattle.record_resolving.specs.declared.resolving.Resolved.{Resolved}
+use Rattle.plain_faults.specs.declared.fault.Failure.{Failure}
+use Rattle.plain_faults.specs.declared.fault.Failure.TheVariants as failures
+use Rattle.plain_faults.specs.declared.fault.Refusal.TheVariants as refusals
+use Rattle.plain_faults.specs.Faults.{◌>>=◌}
+use Rattle.record_imports.specs.declared.grouping.Group.{Group}
+use Rattle.record_imports.specs.Meaning.{Roles, import_of}
+
+-- each module's name with the number of its group, the first of which is i
+abbrev pub places_of : ℕ → List Group → List (List ℕ × ℕ)
+places_of i [] = []
+places_of i (g ∷ gs) = (g.name, i) ∷ places_of (i + 1) gs
+
+-- the fields of a module so far
+abbrev pub fields_in : List Group → List ℕ → List (List ℕ × Import)
+fields_in [] m = []
+fields_in (g ∷ gs) m = if bytes_eq m g.name then g.fields else fields_in gs m
+
+-- one field more: its module's group has it last, and a new module's group comes last
+abbrev pub with_field : List Group → List ℕ → List ℕ → Import → List Group
+with_field [] m f import = record { name = m; fields = (f, import) ∷ [] } ∷ []
+with_field (g ∷ gs) m f import =
+    if bytes_eq m g.name then record { name = g.name; fields = g.fields ++ (f, import) ∷ [] } ∷ gs else g ∷ with_field gs m f import
+
+abbrev pub imported_twice : CoreImport → Failure
+imported_twice i = failures.Refused (refusals.ImportTwice i.«module» i.field)
+
+-- the groups with one core import more, which isn't there yet
+unfoldable pub group_after : Resolved → Roles → CoreModule → List Group → CoreImport → Result (List Group) Failure
+group_after r table core groups i =
+    if is_some (found i.field (fields_in groups i.«module»)) then Err (imported_twice i)
+    else (import_of r table core i >>= λ import. Ok (with_field groups i.«module» i.field import))
+
+-- the groups with all of these more
+abbrev pub groups_after : Resolved → Roles → CoreModule → List Group → List CoreImport → Result (List Group) Failure
+groups_after r table core groups [] = Ok groups
+groups_after r table core groups (i ∷ is) = group_after r table core groups i >>= λ gs. groups_after r table core gs is
+
+abbrev pub instances_of : List Group → List (List ℕ × ImportInstance)
+instances_of gs = map (λ g. (g.name, instances.Names g.fields)) gs

@@ -1,0 +1,82 @@
+-- What one core import of a main module is for (the roles are this project's own; what they ask for is the Canonical ABI's:
+-- `canon lower` and the built-in functions).
+--
+-- An import has to have a role, the role has to mean something in the world, and the import has to have the type that this
+-- asks for.
+use Rattle.std.specs.Prelude.{Bool, true, false, List, Option, Some, None, ok_or, Result, Ok, Err, ⊤, if◌then◌else◌}
+use Rattle.std.specs.Map.{lookup}
+use Rattle.core_sections.specs.declared.core_module.CoreModule.{CoreModule}
+use Rattle.core_sections.specs.declared.entries.CoreImport.{CoreImport}
+use Rattle.wit_data.specs.declared.ids.WorldId.{WorldId}
+use Rattle.comp_roles.specs.declared.imports.Import.{Import}
+use Rattle.comp_roles.specs.declared.offered.ExternType.{ExternType}
+use Rattle.record_values.specs.Names.{is_same_import}
+use Rattle.record_values.specs.declared.record.ImportName.{ImportName}
+use Rattle.record_values.specs.declared.roles.ImportRole.{ImportRole}
+use Rattle.record_values.specs.declared.roles.ImportRole.TheVariants as roles
+use Rattle.record_resolving.specs.declared.resolving.Resolved.{Resolved}
+use Rattle.record_meanings.specs.Imports.{import_meant}
+use Rattle.record_modules.specs.Fitting.{fits_import}
+use Rattle.record_modules.specs.Offered.{extern_type}
+use Rattle.plain_faults.specs.declared.fault.Failure.{Failure}
+use Rattle.plain_faults.specs.declared.fault.Failure.TheVariants as failures
+use Rattle.plain_faults.specs.declared.fault.Refusal.TheVariants as refusals
+use Rattle.plain_faults.specs.Faults.{◌>>=◌}
+
+-- the roles of core imports, by module and field
+abbrev pub Roles : Type 0
+Roles = List (ImportName × ImportRole)
+
+-- the one world of a resolve that was made of a record
+abbrev pub world_id : WorldId
+world_id = record { index = 0 }
+
+-- ---- roles
+
+abbrev pub role_of : Roles → CoreImport → Option ImportRole
+role_of table i = lookup (is_same_import (record { «module» = i.«module»; field = i.field })) table
+
+-- an export of another module, which a main module alone has none of
+abbrev pub is_of_other : ImportRole → Bool
+is_of_other (roles.MainExport name kind) = true
+is_of_other (roles.AdapterExport adapter name) = true
+is_of_other role = false
+
+abbrev pub is_memory : ImportRole → Bool
+is_memory roles.Memory = true
+is_memory role = false
+
+-- what a role means for an import of this type
+abbrev pub meant : Resolved → CoreImport → ImportRole → ExternType → Option Import
+meant r i role ty = if is_of_other role then None else import_meant r i.field role (Some ty)
+
+-- ---- refusals
+
+abbrev pub no_role : CoreImport → Failure
+no_role i = failures.Refused (refusals.RoleMissing i.«module» i.field)
+
+abbrev pub unfit : CoreImport → Failure
+unfit i = failures.Refused (refusals.CoreType i.field)
+
+-- The role of a memory means nothing where the import is no memory, any other where what it names isn't there.
+abbrev pub meaningless : CoreImport → ImportRole → Failure
+meaningless i role = if is_memory role then unfit i else no_role i
+
+-- ---- the import
+
+-- what an import is for, where it has the type that this asks for
+abbrev pub fitting : Resolved → CoreModule → CoreImport → Import → Result Import Failure
+fitting r core i import = if fits_import r.resolve world_id core import i.entity then Ok import else Err (unfit i)
+
+-- a value, unless the step beside it was refused
+abbrev pub kept : {A : Type 0} → A → Result ⊤ Failure → Result A Failure
+kept value (Ok u) = Ok value
+kept value (Err e) = Err e
+
+-- What a core import is for. Its type is made of numbers and references to any function alone, with limits of 32 bits.
+unfoldable pub import_of : Resolved → Roles → CoreModule → CoreImport → Result Import Failure
+import_of r table core i = do
+  ty ← ok_or (extern_type core i.entity) (unfit i)
+  role ← ok_or (role_of table i) (no_role i)
+  import ← ok_or (meant r i role ty) (meaningless i role)
+  fitting r core i import

@@ -1,0 +1,43 @@
+-- A main module that imports its memory several times: the first import gives the memory, and the others have to take it
+-- (core standard, validation: matching of limits).
+use Rattle.std.specs.Prelude.{ℕ, nat_le, Bool, true, false, ◌&&◌, List, [], ◌∷◌, Option, Some, None, Result, Ok, Err, ⊤, if◌then◌else◌}
+use Rattle.std.specs.List.{flat_map}
+use Rattle.core_bytes.specs.declared.types.MemoryType.{MemoryType}
+use Rattle.comp_roles.specs.CoreImports.{CoreImport, imports_from}
+use Rattle.comp_roles.specs.Lookups.{imported_memory, memory_of_import}
+use Rattle.comp_roles.specs.declared.imports.ImportInstance.{ImportInstance}
+use Rattle.plain_faults.specs.declared.fault.Failure.{Failure}
+use Rattle.plain_faults.specs.declared.fault.Failure.TheVariants as failures
+use Rattle.plain_faults.specs.declared.fault.Refusal.TheVariants as refusals
+
+-- where a greatest size is asked for, one that isn't greater is offered
+abbrev pub fits_maximum : Option ℕ → Option ℕ → Bool
+fits_maximum offered None = true
+fits_maximum None (Some most) = false
+fits_maximum (Some greatest) (Some most) = nat_le greatest most
+
+-- a memory of the first type can be given where the second is asked for
+abbrev pub fits_memory : MemoryType → MemoryType → Bool
+fits_memory offered asked = nat_le asked.minimum offered.minimum && fits_maximum offered.maximum asked.maximum
+
+-- a memory of this type can be given where one is asked for
+abbrev pub takes : MemoryType → Option MemoryType → Bool
+takes first None = true
+takes first (Some asked) = fits_memory first asked
+
+abbrev pub unfit_memory : List ℕ → Failure
+unfit_memory field = failures.Refused (refusals.CoreType field)
+
+-- each of these imports takes the first memory, if it is a memory
+abbrev pub all_take : MemoryType → List CoreImport → Result ⊤ Failure
+all_take first [] = Ok tt
+all_take first (i ∷ is) = if takes first (memory_of_import i.role) then all_take first is else Err (unfit_memory i.field)
+
+-- where there is a first memory
+abbrev pub all_take_first : Option MemoryType → List CoreImport → Result ⊤ Failure
+all_take_first None is = Ok tt
+all_take_first (Some first) is = all_take first is
+
+-- all memories that are imported fit the first
+unfoldable pub memories_fit : List (List ℕ × ImportInstance) → Result ⊤ Failure
+memories_fit modules = all_take_first (imported_memory modules) (flat_map imports_from modules)

@@ -1,0 +1,225 @@
+//! The core imports in groups, by module.
+
+ghost use Rattle.std.specs.Prelude.{◌≡◌, ◌<◌, [], ◌∷◌, ◌++◌, IfOk, Err, None, Some, is_some, slice_get, slice_set, length};
+ghost use Rattle.std.specs.Map.{keys_of};
+ghost use Rattle.std.specs.List.{IsDistinct};
+ghost use Rattle.std.specs.Str.{bytes_eq};
+ghost use Rattle.comp_lists.specs.Found.{found};
+ghost use Rattle.wit_data.specs.Sound.{IsSound};
+ghost use Rattle.plain_faults.specs.Faults.{Gives};
+ghost use Rattle.record_imports.specs.declared.grouping.Group.{Group as GroupRecord};
+ghost use Rattle.record_imports.specs.Grouping.{places_of, fields_in, with_field, imported_twice, group_after, groups_after, instances_of};
+ghost use Rattle.record_imports.specs.Standing.{IsMet, AreGood};
+
+use crate::meaning::import_of;
+use comp_lists::{Keyed, Text};
+use comp_roles::Import;
+use core_sections::{CoreImport, CoreModule};
+use plain_faults::{Failure, Refusal};
+use record_resolving::Resolved;
+use record_values::{ImportName, ImportRole};
+use std::alloc::{AllocError, Global};
+
+/// The fields that a module imports from one other.
+#[derive(Drop)]
+pub(crate) struct Group {
+    pub name: Text,
+    pub fields: Keyed<Text, Import>,
+}
+
+/// Groups of imports, in the order in which their modules were first mentioned, and where the group
+/// of each module stands.
+#[derive(Drop)]
+struct Grouping {
+    places: Keyed<Text, usize>,
+    groups: Vec<Group>,
+}
+
+/// Where a module's group stands, if there is one.
+fn place_of(grouping: &Grouping, name: &Text) -> Option<usize>
+    ensures { result ≡ found name.now grouping.now.places }
+{
+    grouping.places.get(name).copied()
+}
+
+/// Whether a module's group, if there is one, has a field.
+#[tactic(auto, using(crate::proofs::Groups::has_none))]
+fn has_field(grouping: &Grouping, name: &Text, field: &Text) -> bool
+    requires { grouping.now.places ≡ places_of 0 grouping.now.groups.items }
+    ensures { result ≡ is_some (found field.now (fields_in grouping.now.groups.items name.now)) }
+{
+    match place_of(grouping, name) {
+        Some(place) => grouping.groups[place].fields.contains(field),
+        None => false,
+    }
+}
+
+/// Adds a field to the group at a place, which lacks it.
+fn add_field(
+    grouping: Grouping,
+    place: usize,
+    field: Text,
+    role: Import,
+) -> Result<Grouping, AllocError>
+    requires below { place < length grouping.groups.items }
+    requires absent { (g : GroupRecord) → slice_get grouping.groups.items place ≡ Some g → found field g.fields ≡ None }
+    ensures places { IfOk result (λ x. x.places ≡ grouping.places) }
+    ensures groups { IfOk result (λ x. (g : GroupRecord) → slice_get grouping.groups.items place ≡ Some g
+        → x.groups.items ≡ slice_set grouping.groups.items place (record { name = g.name; fields = g.fields ++ (field, role) ∷ [] })) }
+{
+    let Grouping { places, mut groups } = grouping;
+    groups[place].fields.add(field, role)?;
+    Ok(Grouping { places, groups })
+}
+
+/// A group of one field.
+fn group_of(alloc: Global, name: Text, field: Text, role: Import) -> Result<Group, AllocError>
+    ensures { IfOk result (λ g. g ≡ record { name = name; fields = (field, role) ∷ [] }) }
+{
+    let mut fields = Keyed::new(alloc);
+    fields.add(field, role)?;
+    Ok(Group { name, fields })
+}
+
+/// Adds a group, whose module is named apart from it and has none.
+fn push_group(grouping: Grouping, name: Text, group: Group) -> Result<Grouping, AllocError>
+    requires { found name grouping.places ≡ None }
+    ensures places { IfOk result (λ g. g.places ≡ grouping.places ++ (name, length grouping.groups.items) ∷ []) }
+    ensures groups { IfOk result (λ g. g.groups.items ≡ grouping.groups.items ++ group ∷ []) }
+{
+    let Grouping {
+        mut places,
+        mut groups,
+    } = grouping;
+    places.add(name, groups.len())?;
+    groups.push(group)?;
+    Ok(Grouping { places, groups })
+}
+
+/// Adds a group of one field, of a module that has none.
+fn add_group(
+    alloc: Global,
+    grouping: Grouping,
+    name: Text,
+    field: Text,
+    role: Import,
+) -> Result<Grouping, AllocError>
+    requires { found name grouping.places ≡ None }
+    ensures places { IfOk result (λ g. g.places ≡ grouping.places ++ (name, length grouping.groups.items) ∷ []) }
+    ensures groups { IfOk result (λ g. g.groups.items ≡ grouping.groups.items ++ record { name = name; fields = (field, role) ∷ [] } ∷ []) }
+{
+    let group = group_of(alloc, name, field, role)?;
+    let name = group.name.clone(alloc)?;
+    push_group(grouping, name, group)
+}
+
+/// Adds a field to its module's group, which lacks it.
+fn put_field(
+    alloc: Global,
+    grouping: Grouping,
+    module: Text,
+    field: Text,
+    role: Import,
+) -> Result<Grouping, AllocError>
+    requires placed { grouping.places ≡ places_of 0 grouping.groups.items }
+    requires absent { found field (fields_in grouping.groups.items «module») ≡ None }
+    ensures put { IfOk result (λ g. g.groups.items ≡ with_field grouping.groups.items «module» field role) }
+    ensures placed { IfOk result (λ g. g.places ≡ places_of 0 g.groups.items) }
+{
+    match place_of(&grouping, &module) {
+        Some(place) => add_field(grouping, place, field, role),
+        None => add_group(alloc, grouping, module, field, role),
+    }
+}
+
+/// The refusal of an import whose module and field were imported before.
+fn imported_twice<T>(alloc: Global, import: &CoreImport) -> Result<T, Failure>
+    ensures { Gives (λ x. x) result (Err (imported_twice import.now)) }
+{
+    Err(Failure::Refused(Refusal::ImportTwice {
+        module: import.module.clone(alloc)?,
+        field: import.field.clone(alloc)?,
+    }))
+}
+
+/// The groups with one core import more.
+#[tactic(auto, unfolding(crate::specs::Grouping::group_after), using(crate::proofs::Fields::stays_good))]
+fn add_import(
+    alloc: Global,
+    resolved: &Resolved,
+    roles: &Keyed<ImportName, ImportRole>,
+    core: &CoreModule,
+    grouping: Grouping,
+    import: &CoreImport,
+) -> Result<Grouping, Failure>
+    requires sound { IsSound resolved.now.resolve }
+    requires placed { grouping.places ≡ places_of 0 grouping.groups.items }
+    requires good { AreGood resolved.now.resolve grouping.groups.items }
+    ensures exact { Gives (λ g. g.groups.items) result (group_after resolved.now roles.now core.now grouping.groups.items import.now) }
+    ensures placed { IfOk result (λ g. g.places ≡ places_of 0 g.groups.items) }
+    ensures good { IfOk result (λ g. AreGood resolved.now.resolve g.groups.items) }
+{
+    if has_field(&grouping, &import.module, &import.field) {
+        return imported_twice(alloc, import);
+    }
+    let module = import.module.clone(alloc)?;
+    let field = import.field.clone(alloc)?;
+    let role = import_of(alloc, resolved, roles, core, import)?;
+    Ok(put_field(alloc, grouping, module, field, role)?)
+}
+
+/// The core imports in groups, by module.
+fn group_imports(
+    alloc: Global,
+    resolved: &Resolved,
+    roles: &Keyed<ImportName, ImportRole>,
+    core: &CoreModule,
+) -> Result<Grouping, Failure>
+    requires { IsSound resolved.now.resolve }
+    ensures exact { Gives (λ g. g.groups.items) result (groups_after resolved.now roles.now core.now [] core.now.imports) }
+    ensures placed { IfOk result (λ g. g.places ≡ places_of 0 g.groups.items) }
+    ensures good { IfOk result (λ g. AreGood resolved.now.resolve g.groups.items) }
+{
+    let mut grouping = Grouping {
+        places: Keyed::new(alloc),
+        groups: Vec::new(alloc),
+    };
+    for import in core.imports.as_slice() {
+        grouping = add_import(alloc, resolved, roles, core, grouping, import)?;
+    }
+    Ok(grouping)
+}
+
+/// No two places are of one module.
+fn places_are_apart(places: &Keyed<Text, usize>)
+    ensures { IsDistinct bytes_eq (keys_of places.now) }
+{
+    let _entries = places.entries();
+}
+
+/// The groups alone.
+#[tactic(auto, using(crate::proofs::Groups::groups_apart))]
+fn into_groups(grouping: Grouping) -> Vec<Group>
+    requires { grouping.places ≡ places_of 0 grouping.groups.items }
+    ensures same { result ≡ grouping.groups }
+    ensures apart { IsDistinct bytes_eq (keys_of (instances_of result.items)) }
+{
+    places_are_apart(&grouping.places);
+    grouping.groups
+}
+
+/// What the core imports are for, in groups of one module each.
+pub(crate) fn read_groups(
+    alloc: Global,
+    resolved: &Resolved,
+    roles: &Keyed<ImportName, ImportRole>,
+    core: &CoreModule,
+) -> Result<Vec<Group>, Failure>
+    requires { IsSound resolved.now.resolve }
+    ensures exact { Gives (λ g. g.items) result (groups_after resolved.now roles.now core.now [] core.now.imports) }
+    ensures apart { IfOk result (λ g. IsDistinct bytes_eq (keys_of (instances_of g.items))) }
+    ensures good { IfOk result (λ g. AreGood resolved.now.resolve g.items) }
+{
+    let grouping = group_imports(alloc, resolved, roles, core)?;
+    Ok(into_groups(grouping))
+}

@@ -1,0 +1,101 @@
+//! What the core imports of a module are for.
+
+ghost use Rattle.std.specs.Prelude.{◌≡◌, IfOk, IfErr, IsOk};
+ghost use Rattle.std.specs.List.{IsDistinct, AllByRecursion, flat_map};
+ghost use Rattle.std.specs.Map.{keys_of};
+ghost use Rattle.std.specs.Str.{bytes_eq};
+ghost use Rattle.wit_data.specs.Sound.{IsSound};
+ghost use Rattle.comp_roles.specs.CoreImports.{imports_from};
+ghost use Rattle.comp_worlds.specs.Mentions.{HasRole};
+ghost use Rattle.record_modules.specs.Standing.{IsCalled};
+ghost use Rattle.plain_faults.specs.Faults.{Gives};
+ghost use Rattle.plain_faults.specs.declared.fault.Refusal.{Refusal as RefusalRecord};
+ghost use Rattle.plain_faults.specs.declared.fault.Failure.TheVariants.{Refused};
+ghost use Rattle.record_imports.specs.Meaning.{world_id};
+ghost use Rattle.record_imports.specs.Grouping.{instances_of};
+ghost use Rattle.record_imports.specs.Importing.{imports_of};
+ghost use Rattle.record_imports.specs.Standing.{AreGood, AreMet, HasDistinctFields};
+ghost use Rattle.record_imports.specs.Causes.{ImportCause};
+
+use crate::grouping::{Group, read_groups};
+use crate::memories::check_memories;
+use comp_lists::{Keyed, Text};
+use comp_roles::{ImportInstance, ImportMap};
+use core_sections::CoreModule;
+use plain_faults::Failure;
+use record_resolving::Resolved;
+use record_values::{ImportName, ImportRole};
+use std::alloc::{AllocError, Global};
+
+/// The groups, of which no two are of one module, as a table.
+fn table_of(alloc: Global, groups: Vec<Group>) -> Result<Keyed<Text, ImportInstance>, AllocError>
+    requires { IsDistinct bytes_eq (keys_of (instances_of groups.items)) }
+    ensures { IfOk result (λ t. t ≡ instances_of groups.items) }
+{
+    let mut modules = Keyed::new(alloc);
+    for group in groups {
+        modules.add(group.name, ImportInstance::Names(group.fields))?;
+    }
+    Ok(modules)
+}
+
+/// The groups as a table, with what holds of all imports.
+fn map_of(alloc: Global, resolved: &Resolved, groups: Vec<Group>) -> Result<ImportMap, AllocError>
+    requires apart { IsDistinct bytes_eq (keys_of (instances_of groups.items)) }
+    requires good { AreGood resolved.now.resolve groups.items }
+    ensures modules { IfOk result (λ m. m.modules ≡ instances_of groups.items) }
+    ensures met { IfOk result (λ m. AreMet resolved.now.resolve m.modules) }
+{
+    let modules = table_of(alloc, groups)?;
+    Ok(ImportMap { modules })
+}
+
+/// What the core imports are for, where all of them take the memory of the first.
+#[tactic(auto, unfolding(crate::specs::Importing::imports_of))]
+fn read_all(
+    alloc: Global,
+    resolved: &Resolved,
+    roles: &Keyed<ImportName, ImportRole>,
+    core: &CoreModule,
+) -> Result<ImportMap, Failure>
+    requires { IsSound resolved.now.resolve }
+    ensures exact { Gives (λ m. m.modules) result (imports_of resolved.now roles.now core.now) }
+    ensures met { IfOk result (λ m. AreMet resolved.now.resolve m.modules) }
+{
+    let groups = read_groups(alloc, resolved, roles, core)?;
+    let map = map_of(alloc, resolved, groups)?;
+    check_memories(alloc, &map)?;
+    Ok(map)
+}
+
+/// What the core imports of a main module are for, by module and field, in the order in which the modules
+/// and their fields are first mentioned.
+///
+/// An import that has no role, whose role names what the world lacks, or whose role is an export of
+/// another module is refused as one without a role (`RoleMissing`); one whose type isn't that of its role,
+/// or has anything but numbers, references to any function and limits of 32 bits, by its field
+/// (`CoreType`), and so is the import of a memory that the memory of the first such import doesn't fit
+/// (core standard, validation: matching of limits); a module and field that are imported twice by both
+/// names (`ImportTwice`). The only other refusal is want of memory.
+///
+/// What the imports name stands in the resolve, and of each root function the world imports one of this
+/// name.
+#[tactic(auto, using(crate::proofs::Refusing::no_cause, crate::proofs::Refusing::has_cause))]
+pub fn read_imports(
+    alloc: Global,
+    resolved: &Resolved,
+    roles: &Keyed<ImportName, ImportRole>,
+    core: &CoreModule,
+) -> Result<ImportMap, Failure>
+    requires { IsSound resolved.now.resolve }
+    ensures exact { Gives (λ m. m.modules) result (imports_of resolved.now roles.now core.now) }
+    ensures stands { IfOk result (λ m. AllByRecursion (λ i. HasRole resolved.now.resolve i.role) (flat_map imports_from m.modules)) }
+    ensures called { IfOk result (λ m. AllByRecursion (λ i. IsCalled resolved.now.resolve world_id i.role) (flat_map imports_from m.modules)) }
+    ensures apart { IfOk result (λ m. IsDistinct bytes_eq (keys_of m.modules)) }
+    ensures fields { IfOk result (λ m. AllByRecursion HasDistinctFields m.modules) }
+    ensures refused { IsOk result → (f : RefusalRecord) → ImportCause resolved.now roles.now core.now f → ⊥ }
+    ensures cause { IfErr result (λ e. (f : RefusalRecord) → e ≡ Refused f → ImportCause resolved.now roles.now core.now f) }
+{
+    let map = read_all(alloc, resolved, roles, core)?;
+    Ok(map)
+}

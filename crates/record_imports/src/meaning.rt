@@ -1,0 +1,189 @@
+//! What one core import is for.
+
+ghost use Rattle.std.specs.Prelude.{◌≡◌, Err, ok_or, IfOk};
+ghost use Rattle.std.specs.Option.{IfSome};
+ghost use Rattle.wit_data.specs.Sound.{IsSound};
+ghost use Rattle.record_meanings.specs.Named.{HasNamed};
+ghost use Rattle.record_modules.specs.Offered.{extern_type};
+ghost use Rattle.plain_faults.specs.Faults.{Gives};
+ghost use Rattle.record_imports.specs.Meaning.{is_of_other, meant, no_role, unfit, meaningless, fitting, kept, import_of};
+ghost use Rattle.record_imports.specs.Standing.{IsMet};
+
+use comp_lists::Keyed;
+use comp_roles::{ExternType, Import};
+use core_sections::{CoreImport, CoreModule};
+use plain_faults::{Failure, Refusal};
+use record_meanings::import_meant;
+use record_modules::{extern_type, fits_import};
+use record_resolving::Resolved;
+use record_values::{ImportName, ImportRole};
+use std::alloc::{AllocError, Global};
+use wit_data::WorldId;
+
+/// The refusal of an import that has no role, or whose role names what isn't there.
+fn no_role<T>(alloc: Global, import: &CoreImport) -> Result<T, Failure>
+    ensures { Gives (λ x. x) result (Err (no_role import.now)) }
+{
+    Err(Failure::Refused(Refusal::RoleMissing {
+        module: import.module.clone(alloc)?,
+        field: import.field.clone(alloc)?,
+    }))
+}
+
+/// The refusal of an import whose type isn't that of its role.
+fn unfit<T>(alloc: Global, import: &CoreImport) -> Result<T, Failure>
+    ensures { Gives (λ x. x) result (Err (unfit import.now)) }
+{
+    Err(Failure::Refused(Refusal::CoreType {
+        name: import.field.clone(alloc)?,
+    }))
+}
+
+/// The refusal of an import whose role means nothing.
+fn meaningless<T>(alloc: Global, import: &CoreImport, role: &ImportRole) -> Result<T, Failure>
+    ensures { Gives (λ x. x) result (Err (meaningless import.now role.now)) }
+{
+    match role {
+        ImportRole::Memory => unfit(alloc, import),
+        _ => no_role(alloc, import),
+    }
+}
+
+/// The type of an import, where it is made of numbers and references to any function.
+fn typed(alloc: Global, core: &CoreModule, import: &CoreImport) -> Result<ExternType, Failure>
+    ensures { Gives (λ t. t) result (ok_or (extern_type core.now import.now.entity) (unfit import.now)) }
+{
+    match extern_type(alloc, core, &import.entity)? {
+        Some(ty) => Ok(ty),
+        None => unfit(alloc, import),
+    }
+}
+
+/// The name by which an import has its role.
+fn name_of(alloc: Global, import: &CoreImport) -> Result<ImportName, AllocError>
+    ensures { IfOk result (λ n. n ≡ record { «module» = import.now.«module»; field = import.now.field }) }
+{
+    Ok(ImportName {
+        module: import.module.clone(alloc)?,
+        field: import.field.clone(alloc)?,
+    })
+}
+
+/// Whether a role is an export of another module.
+fn is_of_other(role: &ImportRole) -> bool
+    ensures { result ≡ is_of_other role.now }
+{
+    match role {
+        ImportRole::MainExport { .. } => true,
+        ImportRole::AdapterExport { .. } => true,
+        _ => false,
+    }
+}
+
+/// What a role means for an import of a type, if it means anything.
+fn meant(
+    alloc: Global,
+    resolved: &Resolved,
+    import: &CoreImport,
+    role: &ImportRole,
+    ty: &ExternType,
+) -> Result<Option<Import>, AllocError>
+    requires { IsSound resolved.now.resolve }
+    ensures exact { IfOk result (λ m. m ≡ meant resolved.now import.now role.now ty.now) }
+    ensures stands { IfOk result (λ m. IfSome m (HasNamed resolved.now.resolve)) }
+{
+    if is_of_other(role) {
+        return Ok(None);
+    }
+    import_meant(alloc, resolved, &import.field, role, Some(ty))
+}
+
+/// What the role of an import means for it.
+fn meaning_of(
+    alloc: Global,
+    resolved: &Resolved,
+    import: &CoreImport,
+    role: &ImportRole,
+    ty: &ExternType,
+) -> Result<Import, Failure>
+    requires { IsSound resolved.now.resolve }
+    ensures exact { Gives (λ i. i) result (ok_or (meant resolved.now import.now role.now ty.now) (meaningless import.now role.now)) }
+    ensures stands { IfOk result (HasNamed resolved.now.resolve) }
+{
+    match meant(alloc, resolved, import, role, ty)? {
+        Some(meaning) => Ok(meaning),
+        None => meaningless(alloc, import, role),
+    }
+}
+
+/// Refuses an import whose type isn't that for which its meaning asks.
+#[tactic(auto, using(crate::proofs::Meeting::returned))]
+fn check_type(
+    alloc: Global,
+    resolved: &Resolved,
+    core: &CoreModule,
+    import: &CoreImport,
+    meaning: &Import,
+) -> Result<(), Failure>
+    requires sound { IsSound resolved.now.resolve }
+    requires stands { HasNamed resolved.now.resolve meaning.now }
+    ensures { Gives (λ x. meaning.now) result (fitting resolved.now core.now import.now meaning.now) }
+{
+    let world = WorldId { index: 0 };
+    let resolve = &resolved.resolve;
+    let fits = fits_import(alloc, resolve, world, core, meaning, &import.entity)?;
+    if fits { Ok(()) } else { unfit(alloc, import) }
+}
+
+/// A value, unless the step beside it was refused.
+fn unless_refused<T: Drop>(value: T, step: Result<(), Failure>) -> Result<T, Failure>
+    ensures { result ≡ kept value step }
+{
+    match step {
+        Ok(()) => Ok(value),
+        Err(failure) => Err(failure),
+    }
+}
+
+/// What a core import is for; what it names stands in the resolve.
+#[tactic(auto, unfolding(crate::specs::Meaning::import_of), using(crate::proofs::Meeting::settled))]
+fn read_import(
+    alloc: Global,
+    resolved: &Resolved,
+    roles: &Keyed<ImportName, ImportRole>,
+    core: &CoreModule,
+    import: &CoreImport,
+) -> Result<Import, Failure>
+    requires { IsSound resolved.now.resolve }
+    ensures exact { Gives (λ i. i) result (import_of resolved.now roles.now core.now import.now) }
+    ensures stands { IfOk result (HasNamed resolved.now.resolve) }
+{
+    let ty = typed(alloc, core, import)?;
+    let name = name_of(alloc, import)?;
+    let Some(role) = roles.get(&name) else {
+        return no_role(alloc, import);
+    };
+    let meaning = meaning_of(alloc, resolved, import, role, &ty)?;
+    let checked = check_type(alloc, resolved, core, import, &meaning);
+    unless_refused(meaning, checked)
+}
+
+/// What a core import is for.
+///
+/// What it names stands in the resolve, and where it is a root function, the world imports it under its
+/// own name.
+#[tactic(auto, using(crate::proofs::Meeting::meets))]
+pub(crate) fn import_of(
+    alloc: Global,
+    resolved: &Resolved,
+    roles: &Keyed<ImportName, ImportRole>,
+    core: &CoreModule,
+    import: &CoreImport,
+) -> Result<Import, Failure>
+    requires { IsSound resolved.now.resolve }
+    ensures exact { Gives (λ i. i) result (import_of resolved.now roles.now core.now import.now) }
+    ensures met { IfOk result (IsMet resolved.now.resolve) }
+{
+    let meaning = read_import(alloc, resolved, roles, core, import)?;
+    Ok(meaning)
+}

@@ -1,0 +1,74 @@
+//! Whether all imports of the memory take the one that is given to the first.
+
+ghost use Rattle.std.specs.Prelude.{◌≡◌, map, Err};
+ghost use Rattle.comp_roles.specs.Lookups.{core_import, memory_of_import};
+ghost use Rattle.plain_faults.specs.Faults.{Gives};
+ghost use Rattle.record_imports.specs.Memories.{fits_maximum, fits_memory, takes, unfit_memory, all_take, memories_fit};
+
+use comp_lists::Text;
+use comp_roles::{Import, ImportMap, NamedImport};
+use core_bytes::MemoryType;
+use plain_faults::{Failure, Refusal};
+use std::alloc::Global;
+
+/// Whether a greatest size can be given where this one is asked for.
+fn fits_maximum(offered: Option<u32>, asked: Option<u32>) -> bool
+    ensures { result ≡ fits_maximum offered asked }
+{
+    match (offered, asked) {
+        (_, None) => true,
+        (None, Some(_)) => false,
+        (Some(greatest), Some(most)) => greatest <= most,
+    }
+}
+
+/// Whether a memory of the first type can be given where the second is asked for.
+fn fits_memory(offered: MemoryType, asked: MemoryType) -> bool
+    ensures { result ≡ fits_memory offered asked }
+{
+    asked.minimum <= offered.minimum && fits_maximum(offered.maximum, asked.maximum)
+}
+
+/// Whether the first memory can be given to an import; what is no memory doesn't ask for it.
+fn takes(first: MemoryType, role: &Import) -> bool
+    ensures { result ≡ takes first (memory_of_import role.now) }
+{
+    match role {
+        Import::MainModuleMemory(asked) => fits_memory(first, *asked),
+        _ => true,
+    }
+}
+
+/// The refusal of a memory of this field.
+fn unfit_memory<T>(alloc: Global, field: &str) -> Result<T, Failure>
+    ensures { Gives (λ x. x) result (Err (unfit_memory field.now)) }
+{
+    Err(Failure::Refused(Refusal::CoreType {
+        name: Text::from_str(alloc, field)?,
+    }))
+}
+
+/// Whether the first memory can be given to each of these imports.
+fn all_take(alloc: Global, first: MemoryType, imports: &[NamedImport<'_>]) -> Result<(), Failure>
+    ensures { Gives (λ x. x) result (all_take first (map core_import imports.now)) }
+{
+    for import in imports {
+        if !takes(first, import.role) {
+            return unfit_memory(alloc, import.field);
+        }
+    }
+    Ok(())
+}
+
+/// Whether all imports of the memory take that of the first. The refusal tells the field of an import
+/// that doesn't.
+#[tactic(auto, unfolding(crate::specs::Memories::memories_fit))]
+pub(crate) fn check_memories(alloc: Global, map: &ImportMap) -> Result<(), Failure>
+    ensures { Gives (λ x. x) result (memories_fit map.now.modules) }
+{
+    let Some(first) = map.imported_memory() else {
+        return Ok(());
+    };
+    let imports = map.imports(alloc)?;
+    all_take(alloc, first, imports.as_slice())
+}

@@ -1,9 +1,0 @@
-use Rattle.std.proofs.Common.{◌≡◌, []}
-use Rattle.record_settling.specs.Groups.{interfaces_after}
-use Rattle.record_settling.proofs.groups.interfaces_among.Given as goal
-
-abbrev pub invariant-loop-key : goal.invariant-loop-key
-invariant-loop-key l =
-    (goal.iterator-loop-key).can_next l._key-iterator ×
-    (goal.iterator-loop-key).is_finite l._key-iterator ×
-    (interfaces_after l.interfaces l._key-iterator ≡ interfaces_after [] l.items)
