@@ -28,7 +28,7 @@ pub enum ContextType {
 
 /// A core function that the runtime has. `ty` and numbers without a name are type indices, but those
 /// of the two waits are memory indices.
-#[derive(Debug, Drop, PartialEq, Eq)]
+#[derive(Debug, PartialEq, Eq)]
 pub enum Intrinsic {
     ResourceNew(u32),
     ResourceDrop(u32),
@@ -106,4 +106,47 @@ pub enum Intrinsic {
     WaitableJoin,
     BackpressureInc,
     BackpressureDec,
+}
+
+impl Drop for Intrinsic {
+    fn drop(self) {
+        match self {
+            Intrinsic::ResourceNew(_) => {}
+            Intrinsic::ResourceDrop(_) => {}
+            Intrinsic::ResourceRep(_) => {}
+            Intrinsic::TaskCancel => {}
+            Intrinsic::SubtaskCancel { async_: _ } => {}
+            Intrinsic::TaskReturn {
+                result: _,
+                options: _,
+            } => {}
+            Intrinsic::ContextGet { ty: _, slot: _ } => {}
+            Intrinsic::ContextSet { ty: _, slot: _ } => {}
+            Intrinsic::SubtaskDrop => {}
+            Intrinsic::StreamNew(_) => {}
+            Intrinsic::StreamRead { ty: _, options: _ } => {}
+            Intrinsic::StreamWrite { ty: _, options: _ } => {}
+            Intrinsic::StreamCancelRead { ty: _, async_: _ } => {}
+            Intrinsic::StreamCancelWrite { ty: _, async_: _ } => {}
+            Intrinsic::StreamDropReadable(_) => {}
+            Intrinsic::StreamDropWritable(_) => {}
+            Intrinsic::FutureNew(_) => {}
+            Intrinsic::FutureRead { ty: _, options: _ } => {}
+            Intrinsic::FutureWrite { ty: _, options: _ } => {}
+            Intrinsic::FutureCancelRead { ty: _, async_: _ } => {}
+            Intrinsic::FutureCancelWrite { ty: _, async_: _ } => {}
+            Intrinsic::FutureDropReadable(_) => {}
+            Intrinsic::FutureDropWritable(_) => {}
+            Intrinsic::ErrorContextNew { options: _ } => {}
+            Intrinsic::ErrorContextDebugMessage { options: _ } => {}
+            Intrinsic::ErrorContextDrop => {}
+            Intrinsic::WaitableSetNew => {}
+            Intrinsic::WaitableSetWait { memory: _ } => {}
+            Intrinsic::WaitableSetPoll { memory: _ } => {}
+            Intrinsic::WaitableSetDrop => {}
+            Intrinsic::WaitableJoin => {}
+            Intrinsic::BackpressureInc => {}
+            Intrinsic::BackpressureDec => {}
+        }
+    }
 }

@@ -111,7 +111,7 @@ pub struct Argument {
 }
 
 /// A definition that is no component.
-#[derive(Debug, Drop, PartialEq, Eq)]
+#[derive(Debug, PartialEq, Eq)]
 pub enum Item {
     CoreModule(CoreModule),
     CoreInstantiate {
@@ -153,6 +153,47 @@ pub enum Item {
         name: Text,
         contents: Bytes,
     },
+}
+
+impl Drop for Item {
+    fn drop(self) {
+        match self {
+            Item::CoreModule(_) => {}
+            Item::CoreInstantiate { module: _, args: _ } => {}
+            Item::CoreExports(_) => {}
+            Item::Instantiate {
+                component: _,
+                args: _,
+            } => {}
+            Item::Alias(_) => {}
+            Item::Type(_) => {}
+            Item::InstanceType(_) => {}
+            Item::Lift {
+                func: _,
+                options: _,
+                ty: _,
+            } => {}
+            Item::Lower {
+                func: _,
+                options: _,
+            } => {}
+            Item::Intrinsic(_) => {}
+            Item::Import {
+                name: _,
+                description: _,
+            } => {}
+            Item::Export {
+                name: _,
+                sort: _,
+                index: _,
+                description: _,
+            } => {}
+            Item::Custom {
+                name: _,
+                contents: _,
+            } => {}
+        }
+    }
 }
 
 /// A definition of a component.

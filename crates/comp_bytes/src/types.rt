@@ -49,7 +49,7 @@ pub struct Case {
 }
 
 /// A type of values. Numbers are type indices.
-#[derive(Debug, Drop, PartialEq, Eq)]
+#[derive(Debug, PartialEq, Eq)]
 pub enum DefinedType {
     Primitive(Primitive),
     Record(Seq<Field>),
@@ -67,6 +67,26 @@ pub enum DefinedType {
     Borrow(u32),
     Stream(Option<ComponentValType>),
     Future(Option<ComponentValType>),
+}
+
+impl Drop for DefinedType {
+    fn drop(self) {
+        match self {
+            DefinedType::Primitive(_) => {}
+            DefinedType::Record(_) => {}
+            DefinedType::Variant(_) => {}
+            DefinedType::List(_) => {}
+            DefinedType::Tuple(_) => {}
+            DefinedType::Flags(_) => {}
+            DefinedType::Enum(_) => {}
+            DefinedType::Option(_) => {}
+            DefinedType::Result { ok: _, err: _ } => {}
+            DefinedType::Own(_) => {}
+            DefinedType::Borrow(_) => {}
+            DefinedType::Stream(_) => {}
+            DefinedType::Future(_) => {}
+        }
+    }
 }
 
 /// A type of component functions.

@@ -18,11 +18,20 @@ use std::marker::Model;
 ///
 /// An encoder makes a component of a main module. `module` gives it the module, `encode` answers the
 /// component's bytes, and no call changes an encoder when it refuses.
-#[derive(Drop)]
 pub struct ComponentEncoder<L: Lower> {
     alloc: Global,
     lower: L,
     gathered: Gathered<L::Bindgen>,
+}
+
+impl<L: Lower + Drop> Drop for ComponentEncoder<L> {
+    fn drop(self) {
+        let ComponentEncoder {
+            alloc: _,
+            lower: _,
+            gathered: _,
+        } = self;
+    }
 }
 
 impl<L: Lower> Model for ComponentEncoder<L> {

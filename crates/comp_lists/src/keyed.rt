@@ -16,9 +16,14 @@ use std::marker::Model;
 /// A table in the order in which its keys came, which contracts see as the list of its entries.
 ///
 /// No key stands twice in it. A look-up takes the time of a hash, whatever the size.
-#[derive(Drop)]
 pub struct Keyed<K: Eq + Hash, V> {
     map: IndexMap<K, V>,
+}
+
+impl<K: Eq + Hash + Drop, V: Drop> Drop for Keyed<K, V> {
+    fn drop(self) {
+        let Keyed { map: _ } = self;
+    }
 }
 
 impl<K: Eq + Hash, V> Model for Keyed<K, V> {

@@ -11,9 +11,15 @@ use std::hash::{Hash, Hasher};
 use std::marker::Model;
 
 /// A list of values, which contracts see as the list alone.
-#[derive(Debug, Drop)]
+#[derive(Debug)]
 pub struct Seq<T> {
     items: Vec<T>,
+}
+
+impl<T: Drop> Drop for Seq<T> {
+    fn drop(self) {
+        let Seq { items: _ } = self;
+    }
 }
 
 /// A list of bytes.

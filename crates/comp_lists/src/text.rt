@@ -17,9 +17,15 @@ use std::marker::Model;
 ///
 /// It is displayed in quotes: a quote or a backslash gets a backslash before it, and a byte below
 /// `20` or `7f` is a backslash with two hexadecimal digits.
-#[derive(Debug, Drop)]
+#[derive(Debug)]
 pub struct Text {
     text: String,
+}
+
+impl Drop for Text {
+    fn drop(self) {
+        let Text { text: _ } = self;
+    }
 }
 
 impl Model for Text {

@@ -17,7 +17,7 @@ use std::alloc::{AllocError, Global};
 use wit_data::{AbiVariant, Function, InterfaceId, TypeId, WorldKey};
 
 /// What an export of a core module is for.
-#[derive(Debug, Drop, PartialEq, Eq)]
+#[derive(Debug, PartialEq, Eq)]
 pub enum Export {
     /// A function that the world exports at its root: its key, its name, and how it is called.
     WorldFunc(WorldKey, Text, AbiVariant),
@@ -42,6 +42,27 @@ pub enum Export {
     Initialize,
     /// What is told of the beginning and the end of each task.
     WasmTaskHook,
+}
+
+impl Drop for Export {
+    fn drop(self) {
+        match self {
+            Export::WorldFunc(_, _, _) => {}
+            Export::InterfaceFunc(_, _, _, _) => {}
+            Export::WorldFuncPostReturn(_) => {}
+            Export::WorldFuncCallback(_) => {}
+            Export::InterfaceFuncPostReturn(_, _) => {}
+            Export::InterfaceFuncCallback(_, _) => {}
+            Export::ResourceDtor(_) => {}
+            Export::Memory(_) => {}
+            Export::GeneralPurposeRealloc => {}
+            Export::GeneralPurposeImportRealloc => {}
+            Export::GeneralPurposeExportRealloc => {}
+            Export::ReallocForAdapter => {}
+            Export::Initialize => {}
+            Export::WasmTaskHook => {}
+        }
+    }
 }
 
 /// What the exports of a core module are for, by name, in order. Exports for nothing are not here.

@@ -16,7 +16,6 @@ use wit_data::{AbiVariant, Function, InterfaceId, TypeId, WorldKey};
 
 /// What an import of a core module is for. Where a role stands in an interface, its key and its
 /// interface tell which; at the root of the world there is no interface.
-#[derive(Drop)]
 pub enum Import {
     /// A function that the world imports at its root: its key, its name, and how it is called.
     WorldFunc(WorldKey, Text, AbiVariant),
@@ -118,6 +117,59 @@ pub enum Import {
     },
     /// An export of another module, by the arguments of a library.
     Item(Item),
+}
+
+impl Drop for Import {
+    fn drop(self) {
+        match self {
+            Import::WorldFunc(_, _, _) => {}
+            Import::InterfaceFunc(_, _, _, _) => {}
+            Import::ImportedResourceDrop(_, _, _) => {}
+            Import::ExportedResourceDrop(_, _) => {}
+            Import::ExportedResourceRep(_, _) => {}
+            Import::ExportedResourceNew(_, _) => {}
+            Import::ExportedTaskReturn(_, _, _) => {}
+            Import::ExportedTaskCancel => {}
+            Import::BackpressureInc => {}
+            Import::BackpressureDec => {}
+            Import::WaitableSetNew => {}
+            Import::WaitableSetWait => {}
+            Import::WaitableSetPoll => {}
+            Import::WaitableSetDrop => {}
+            Import::WaitableJoin => {}
+            Import::SubtaskDrop => {}
+            Import::SubtaskCancel { async_: _ } => {}
+            Import::StreamNew(_) => {}
+            Import::StreamRead { info: _, async_: _ } => {}
+            Import::StreamWrite { info: _, async_: _ } => {}
+            Import::StreamCancelRead { info: _, async_: _ } => {}
+            Import::StreamCancelWrite { info: _, async_: _ } => {}
+            Import::StreamDropReadable(_) => {}
+            Import::StreamDropWritable(_) => {}
+            Import::FutureNew(_) => {}
+            Import::FutureRead { info: _, async_: _ } => {}
+            Import::FutureWrite { info: _, async_: _ } => {}
+            Import::FutureCancelRead { info: _, async_: _ } => {}
+            Import::FutureCancelWrite { info: _, async_: _ } => {}
+            Import::FutureDropReadable(_) => {}
+            Import::FutureDropWritable(_) => {}
+            Import::ErrorContextNew { encoding: _ } => {}
+            Import::ErrorContextDebugMessage { encoding: _ } => {}
+            Import::ErrorContextDrop => {}
+            Import::ContextGet { ty: _, slot: _ } => {}
+            Import::ContextSet { ty: _, slot: _ } => {}
+            Import::TlsBaseGet { ty: _ } => {}
+            Import::TlsBaseSet { ty: _ } => {}
+            Import::MainModuleMemory(_) => {}
+            Import::MainModuleExport { name: _, kind: _ } => {}
+            Import::AdapterExport {
+                adapter: _,
+                func: _,
+                ty: _,
+            } => {}
+            Import::Item(_) => {}
+        }
+    }
 }
 
 /// What the imports from one module are for.

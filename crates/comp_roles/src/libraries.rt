@@ -14,7 +14,7 @@ pub enum MainOrAdapter {
 }
 
 /// An export of a user module under a name of its own.
-#[derive(Debug, Drop, PartialEq, Eq)]
+#[derive(Debug, PartialEq, Eq)]
 pub struct Item {
     /// The name under which it is imported.
     pub alias: Text,
@@ -23,6 +23,17 @@ pub struct Item {
     pub which: MainOrAdapter,
     /// The name under which that exports it.
     pub name: Text,
+}
+
+impl Drop for Item {
+    fn drop(self) {
+        let Item {
+            alias: _,
+            kind: _,
+            which: _,
+            name: _,
+        } = self;
+    }
 }
 
 /// What meets the imports from one module.

@@ -15,7 +15,7 @@ pub enum PayloadType {
 }
 
 /// The stream or the future that a core import is for.
-#[derive(Debug, Drop, PartialEq, Eq)]
+#[derive(Debug, PartialEq, Eq)]
 pub struct PayloadInfo {
     /// The field of the core import.
     pub name: Text,
@@ -26,6 +26,18 @@ pub struct PayloadInfo {
     pub interface: Option<InterfaceId>,
     /// Whether it is met in an import.
     pub imported: bool,
+}
+
+impl Drop for PayloadInfo {
+    fn drop(self) {
+        let PayloadInfo {
+            name: _,
+            ty: _,
+            key: _,
+            interface: _,
+            imported: _,
+        } = self;
+    }
 }
 
 /// Which end of a stream or a future is used, and for what.

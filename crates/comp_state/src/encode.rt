@@ -31,7 +31,7 @@ impl EncodingState<'_> {
         ensures ok { IfOk result (λ component. component ≡ with_names self.entry.built) }
         ensures cause { IfErr result (IsCause self.entry.world) }
     {
-        let component = name_items(self.component)?;
+        let component = name_items(self.into_component())?;
         Ok(component)
     }
 

@@ -14,7 +14,6 @@ use std::marker::Model;
 /// A world that is being encoded: the component under construction, and what was made so far.
 ///
 /// After a refused step the component has only grown at its end, and is to be dropped.
-#[derive(Drop)]
 pub struct EncodingState<'a> {
     pub(crate) alloc: Global,
     pub(crate) world: &'a ComponentWorld,
@@ -29,6 +28,40 @@ pub struct EncodingState<'a> {
     pub(crate) core_names: Keyed<Text, Text>,
     /// Main's instance.
     pub(crate) main: Option<u32>,
+}
+
+impl Drop for EncodingState<'_> {
+    fn drop(self) {
+        let EncodingState {
+            alloc: _,
+            world: _,
+            component: _,
+            function_type: _,
+            functions: _,
+            aliases: _,
+            core_names: _,
+            main: _,
+        } = self;
+    }
+}
+
+impl EncodingState<'_> {
+    /// The component as far as it was built.
+    pub(crate) fn into_component(self) -> ComponentBuilder
+        ensures { result ≡ self.entry.built }
+    {
+        let EncodingState {
+            alloc: _,
+            world: _,
+            component,
+            function_type: _,
+            functions: _,
+            aliases: _,
+            core_names: _,
+            main: _,
+        } = self;
+        component
+    }
 }
 
 impl<'a> Model for EncodingState<'a> {

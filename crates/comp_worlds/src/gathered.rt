@@ -36,10 +36,20 @@ pub struct GatheredAdapter<B> {
 
 /// All that an encoder was given: main, its adapters by their names, in order, what all modules say together, and
 /// the options.
-#[derive(Drop)]
 pub struct Gathered<B> {
     pub main: Option<Part<B>>,
     pub adapters: Keyed<Text, GatheredAdapter<B>>,
     pub joint: B,
     pub options: EncoderOptions,
+}
+
+impl<B: Drop> Drop for Gathered<B> {
+    fn drop(self) {
+        let Gathered {
+            main: _,
+            adapters: _,
+            joint: _,
+            options: _,
+        } = self;
+    }
 }

@@ -15,7 +15,6 @@ use std::alloc::{AllocError, Global};
 use wit_data::{InterfaceId, Resolve, TypeId, World, WorldId, WorldKey};
 
 /// A core module, and what its imports and exports are for.
-#[derive(Drop)]
 pub struct ValidatedModule {
     pub bytes: Bytes,
     pub imports: ImportMap,
@@ -26,19 +25,39 @@ pub struct ValidatedModule {
     pub metadata: ModuleMetadata,
 }
 
+impl Drop for ValidatedModule {
+    fn drop(self) {
+        let ValidatedModule {
+            bytes: _,
+            imports: _,
+            exports: _,
+            offered: _,
+            metadata: _,
+        } = self;
+    }
+}
+
 /// A module beside main: the keys of the exports that it has to have, in order, and what makes it a
 /// library, where it is one.
-#[derive(Drop)]
 pub struct WorldAdapter {
     pub info: ValidatedModule,
     pub required_exports: Seq<WorldKey>,
     pub library_info: Option<LibraryInfo>,
 }
 
+impl Drop for WorldAdapter {
+    fn drop(self) {
+        let WorldAdapter {
+            info: _,
+            required_exports: _,
+            library_info: _,
+        } = self;
+    }
+}
+
 /// The validated world: the items that the component imports and exports, its main module with the
 /// keys of the exports that it has to have, its adapters, in order, and what follows from these.
 /// `IsWorld` says what holds of it.
-#[derive(Drop)]
 pub struct ComponentWorld {
     pub resolve: Resolve,
     /// The world of the resolve whose items these are.
@@ -57,8 +76,23 @@ pub struct ComponentWorld {
     pub can_use_context_slot_1: bool,
 }
 
+impl Drop for ComponentWorld {
+    fn drop(self) {
+        let ComponentWorld {
+            resolve: _,
+            world: _,
+            main: _,
+            main_exports: _,
+            adapters: _,
+            import_map: _,
+            live_type_imports: _,
+            exports_used: _,
+            can_use_context_slot_1: _,
+        } = self;
+    }
+}
+
 /// A world without what follows from it.
-#[derive(Drop)]
 pub struct WorldParts {
     pub resolve: Resolve,
     pub world: WorldId,
@@ -66,6 +100,19 @@ pub struct WorldParts {
     pub main_exports: Seq<WorldKey>,
     pub adapters: Keyed<Text, WorldAdapter>,
     pub can_use_context_slot_1: bool,
+}
+
+impl Drop for WorldParts {
+    fn drop(self) {
+        let WorldParts {
+            resolve: _,
+            world: _,
+            main: _,
+            main_exports: _,
+            adapters: _,
+            can_use_context_slot_1: _,
+        } = self;
+    }
 }
 
 impl ComponentWorld {
@@ -79,13 +126,8 @@ impl ComponentWorld {
         ensures { IfOk result (λ w. w ≡ whole_of parts) }
     {
         let items = items_in(&parts.resolve, parts.world);
-        match tables_of(alloc, &parts.resolve, items, &parts.main, &parts.adapters) {
-            Ok(tables) => Ok(with_tables(parts, tables)),
-            Err(refused) => {
-                drop(parts);
-                Err(refused)
-            }
-        }
+        let tables = tables_of(alloc, &parts.resolve, items, &parts.main, &parts.adapters)?;
+        Ok(parts.with_tables(tables))
     }
 
     /// The imports and exports of the world.
@@ -97,20 +139,30 @@ impl ComponentWorld {
     }
 }
 
-/// The world of these parts, from which these tables follow.
-fn with_tables(parts: WorldParts, tables: Tables) -> ComponentWorld
-    ensures { result ≡ record { resolve = parts.resolve; world = parts.world; main = parts.main; main_exports = parts.main_exports; adapters = parts.adapters; import_map = tables.import_map; live_type_imports = tables.live_type_imports; exports_used = tables.exports_used; can_use_context_slot_1 = parts.can_use_context_slot_1 } }
-{
-    ComponentWorld {
-        resolve: parts.resolve,
-        world: parts.world,
-        main: parts.main,
-        main_exports: parts.main_exports,
-        adapters: parts.adapters,
-        import_map: tables.import_map,
-        live_type_imports: tables.live_type_imports,
-        exports_used: tables.exports_used,
-        can_use_context_slot_1: parts.can_use_context_slot_1,
+impl WorldParts {
+    /// The world of these parts, from which these tables follow.
+    fn with_tables(self, tables: Tables) -> ComponentWorld
+        ensures { result ≡ record { resolve = self.resolve; world = self.world; main = self.main; main_exports = self.main_exports; adapters = self.adapters; import_map = tables.import_map; live_type_imports = tables.live_type_imports; exports_used = tables.exports_used; can_use_context_slot_1 = self.can_use_context_slot_1 } }
+    {
+        let WorldParts {
+            resolve,
+            world,
+            main,
+            main_exports,
+            adapters,
+            can_use_context_slot_1,
+        } = self;
+        ComponentWorld {
+            resolve,
+            world,
+            main,
+            main_exports,
+            adapters,
+            import_map: tables.import_map,
+            live_type_imports: tables.live_type_imports,
+            exports_used: tables.exports_used,
+            can_use_context_slot_1,
+        }
     }
 }
 

@@ -56,7 +56,7 @@ pub struct ModuleNames {
 }
 
 /// A section. `Start` holds the index of the start function.
-#[derive(Debug, Drop, PartialEq, Eq)]
+#[derive(Debug, PartialEq, Eq)]
 pub enum Section {
     Types(TypeSection),
     Imports(ImportSection),
@@ -70,6 +70,25 @@ pub enum Section {
     Code(Code),
     Data(DataSection),
     Names(ModuleNames),
+}
+
+impl Drop for Section {
+    fn drop(self) {
+        match self {
+            Section::Types(_) => {}
+            Section::Imports(_) => {}
+            Section::Functions(_) => {}
+            Section::Tables(_) => {}
+            Section::Memories(_) => {}
+            Section::Globals(_) => {}
+            Section::Exports(_) => {}
+            Section::Start(_) => {}
+            Section::Elements(_) => {}
+            Section::Code(_) => {}
+            Section::Data(_) => {}
+            Section::Names(_) => {}
+        }
+    }
 }
 
 impl Entries<FuncType> {

@@ -93,14 +93,8 @@ fn parts_of(
     ensures { IfOk result (λ p. p ≡ parts_of resolved main.now core.now met) }
 {
     let slot_1 = main.own.roles.context_slot_1;
-    match own_of(alloc, &resolved, main, core) {
-        Ok(own) => Ok(put_together(alloc, resolved.resolve, own, met, slot_1)),
-        Err(refused) => {
-            drop(resolved);
-            drop(met);
-            Err(refused)
-        }
-    }
+    let own = own_of(alloc, &resolved, main, core)?;
+    Ok(put_together(alloc, resolved.into_resolve(), own, met, slot_1))
 }
 
 /// The world of main, whose roles are met, where all of it is encoded yet.

@@ -31,10 +31,8 @@ pub(crate) struct RoleTables {
 fn roles_in(one: Record) -> AssignedRoles
     ensures { result ≡ record { imports = one.import_roles; exports = one.export_roles } }
 {
-    AssignedRoles {
-        imports: one.import_roles,
-        exports: one.export_roles,
-    }
+    let (imports, exports) = one.into_roles();
+    AssignedRoles { imports, exports }
 }
 
 /// Adds more roles.

@@ -18,7 +18,6 @@ pub struct FunctionOf {
 
 /// What a module's core imports and exports are for, how its functions spell texts, and whether the
 /// task's second slot of storage is free. Several modules together have none of it.
-#[derive(Drop)]
 pub struct Roles {
     pub import_roles: Keyed<ImportName, ImportRole>,
     /// By field.
@@ -28,11 +27,28 @@ pub struct Roles {
     pub context_slot_1: bool,
 }
 
+impl Drop for Roles {
+    fn drop(self) {
+        let Roles {
+            import_roles: _,
+            export_roles: _,
+            import_encodings: _,
+            export_encodings: _,
+            context_slot_1: _,
+        } = self;
+    }
+}
+
 /// What the records of one module say, or what several modules say of their world together.
-#[derive(Drop)]
 pub struct Bindgen {
     pub wit: Wit,
     pub roles: Roles,
+}
+
+impl Drop for Bindgen {
+    fn drop(self) {
+        let Bindgen { wit: _, roles: _ } = self;
+    }
 }
 
 impl PartialEq for FunctionOf {

@@ -21,13 +21,40 @@ use wit_data::{InterfaceId, Resolve, World, WorldItem, WorldKey};
 
 /// A resolve with one world, and the numbers of the interfaces that the world imports and of those
 /// that it exports, by name. Of each interface of a side, the first key at which it stands there.
-#[derive(Drop)]
 pub struct Resolved {
     pub resolve: Resolve,
     pub imported: Keyed<InterfaceName, InterfaceId>,
     pub exported: Keyed<InterfaceName, InterfaceId>,
     pub imported_keys: Keyed<InterfaceId, WorldKey>,
     pub exported_keys: Keyed<InterfaceId, WorldKey>,
+}
+
+impl Drop for Resolved {
+    fn drop(self) {
+        let Resolved {
+            resolve: _,
+            imported: _,
+            exported: _,
+            imported_keys: _,
+            exported_keys: _,
+        } = self;
+    }
+}
+
+impl Resolved {
+    /// The resolve alone.
+    pub fn into_resolve(self) -> Resolve
+        ensures { result ≡ self.resolve }
+    {
+        let Resolved {
+            resolve,
+            imported: _,
+            exported: _,
+            imported_keys: _,
+            exported_keys: _,
+        } = self;
+        resolve
+    }
 }
 
 /// What is imported: interfaces, and then the items of the world.

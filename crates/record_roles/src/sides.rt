@@ -162,7 +162,7 @@ fn is_resource(item: &Item) -> bool
 {
     match item {
         Item::Type(nodes) => match nodes.as_slice() {
-            [Node::Resource] => true,
+            [node] => matches!(node, Node::Resource),
             _ => false,
         },
         _ => false,

@@ -15,13 +15,24 @@ use std::alloc::{AllocError, Global};
 use wit_data::canonical_version;
 
 /// What compatible versions of an interface share, and the numbers of one.
-#[derive(Debug, Drop)]
+#[derive(Debug)]
 pub struct Compatible {
     /// The id with the part of its version that compatible versions share, as `a:b/c@1`.
     pub canonical: Text,
     pub major: u64,
     pub minor: u64,
     pub patch: u64,
+}
+
+impl Drop for Compatible {
+    fn drop(self) {
+        let Compatible {
+            canonical: _,
+            major: _,
+            minor: _,
+            patch: _,
+        } = self;
+    }
 }
 
 fn is_memory(fault: Error) -> bool

@@ -23,12 +23,22 @@ pub struct TypeFacts {
 
 /// An interface as it was read: its id, its types and functions in order, and what is known of its
 /// types. Its types and those of others are named by the places of interfaces in the record.
-#[derive(Drop)]
 pub struct ReadInterface {
     pub id: Option<Text>,
     pub types: Seq<Typed>,
     pub functions: Seq<Func>,
     pub known: Keyed<Text, TypeFacts>,
+}
+
+impl Drop for ReadInterface {
+    fn drop(self) {
+        let ReadInterface {
+            id: _,
+            types: _,
+            functions: _,
+            known: _,
+        } = self;
+    }
 }
 
 /// The types that may be named at a place: those of the interfaces before, and those of the interface

@@ -9,12 +9,23 @@ use std::hash::{Hash, Hasher};
 /// An interface: by its id, or by the name under which the world imports or exports it where it has
 /// none. One without an id that the world has not at all goes by its place in its record, and nothing
 /// that the world has can name it.
-#[derive(Debug, Drop)]
+#[derive(Debug)]
 pub enum InterfaceName {
     Id(Text),
     Imported(Text),
     Exported(Text),
     Unused(u32),
+}
+
+impl Drop for InterfaceName {
+    fn drop(self) {
+        match self {
+            InterfaceName::Id(_) => {}
+            InterfaceName::Imported(_) => {}
+            InterfaceName::Exported(_) => {}
+            InterfaceName::Unused(_) => {}
+        }
+    }
 }
 
 /// Whose a type or a function is.

@@ -1,5 +1,7 @@
 //! What one record says of its module.
 
+ghost use Rattle.std.specs.Prelude.{◌≡◌};
+
 use crate::roles::{ExportRole, ImportRole};
 use crate::world::Wit;
 use comp_lists::{Seq, Text};
@@ -22,13 +24,45 @@ pub struct Assigned<K, R> {
 
 /// What one record says: the world, the roles of core imports and exports in their order, how all
 /// functions of the world spell texts, and whether the task's second slot of storage is free.
-#[derive(Drop)]
 pub struct Record {
     pub wit: Wit,
     pub encoding: StringEncoding,
     pub context_slot_1: bool,
     pub import_roles: Seq<Assigned<ImportName, ImportRole>>,
     pub export_roles: Seq<Assigned<Text, ExportRole>>,
+}
+
+impl Drop for Record {
+    fn drop(self) {
+        let Record {
+            wit: _,
+            encoding: _,
+            context_slot_1: _,
+            import_roles: _,
+            export_roles: _,
+        } = self;
+    }
+}
+
+impl Record {
+    /// The roles of core imports and of core exports.
+    pub fn into_roles(
+        self,
+    ) -> (
+        Seq<Assigned<ImportName, ImportRole>>,
+        Seq<Assigned<Text, ExportRole>>,
+    )
+        ensures { result ≡ (self.import_roles, self.export_roles) }
+    {
+        let Record {
+            wit: _,
+            encoding: _,
+            context_slot_1: _,
+            import_roles,
+            export_roles,
+        } = self;
+        (import_roles, export_roles)
+    }
 }
 
 impl PartialEq for ImportName {

@@ -55,7 +55,7 @@ pub enum Payload {
 }
 
 /// What a core import is for.
-#[derive(Debug, Drop, PartialEq, Eq)]
+#[derive(Debug, PartialEq, Eq)]
 pub enum ImportRole {
     /// A function that the world or an imported interface has, and how it is called.
     Function {
@@ -114,6 +114,46 @@ pub enum ImportRole {
     },
 }
 
+impl Drop for ImportRole {
+    fn drop(self) {
+        match self {
+            ImportRole::Function {
+                owner: _,
+                name: _,
+                abi: _,
+            } => {}
+            ImportRole::ImportedDrop(_) => {}
+            ImportRole::ExportedDrop(_) => {}
+            ImportRole::ExportedRep(_) => {}
+            ImportRole::ExportedNew(_) => {}
+            ImportRole::TaskReturn {
+                owner: _,
+                function: _,
+            } => {}
+            ImportRole::Intrinsic(_) => {}
+            ImportRole::SubtaskCancel { is_async: _ } => {}
+            ImportRole::Payload {
+                kind: _,
+                operation: _,
+                payload: _,
+                is_async: _,
+            } => {}
+            ImportRole::ErrorContextNew(_) => {}
+            ImportRole::ErrorContextDebugMessage(_) => {}
+            ImportRole::ContextGet { ty: _, slot: _ } => {}
+            ImportRole::ContextSet { ty: _, slot: _ } => {}
+            ImportRole::TlsGet(_) => {}
+            ImportRole::TlsSet(_) => {}
+            ImportRole::Memory => {}
+            ImportRole::MainExport { name: _, kind: _ } => {}
+            ImportRole::AdapterExport {
+                adapter: _,
+                function: _,
+            } => {}
+        }
+    }
+}
+
 /// An export with a meaning of its own, whatever the world.
 #[derive(Clone, Copy, Debug, PartialEq, Eq, Hash)]
 pub enum PlainExport {
@@ -129,7 +169,7 @@ pub enum PlainExport {
 }
 
 /// What a core export is for.
-#[derive(Debug, Drop, PartialEq, Eq, Hash)]
+#[derive(Debug, PartialEq, Eq, Hash)]
 pub enum ExportRole {
     /// A function that the world or an exported interface has, and how it is called.
     Function {
@@ -150,4 +190,26 @@ pub enum ExportRole {
     /// The destructor of an exported resource.
     Destructor(TypeName),
     Plain(PlainExport),
+}
+
+impl Drop for ExportRole {
+    fn drop(self) {
+        match self {
+            ExportRole::Function {
+                owner: _,
+                name: _,
+                abi: _,
+            } => {}
+            ExportRole::PostReturn {
+                owner: _,
+                function: _,
+            } => {}
+            ExportRole::Callback {
+                owner: _,
+                function: _,
+            } => {}
+            ExportRole::Destructor(_) => {}
+            ExportRole::Plain(_) => {}
+        }
+    }
 }

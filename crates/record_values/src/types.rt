@@ -13,7 +13,7 @@ pub struct Case {
 
 /// A node of a type (component model, WIT: `ty`). A type is the list of its nodes, each behind its
 /// parts: a list of a tuple of two texts is `String`, `String`, `Tuple { arity: 2 }`, `List`.
-#[derive(Debug, Drop, PartialEq, Eq)]
+#[derive(Debug, PartialEq, Eq)]
 pub enum Node {
     Primitive(Primitive),
     List,
@@ -37,6 +37,31 @@ pub enum Node {
     Resource,
 }
 
+impl Drop for Node {
+    fn drop(self) {
+        match self {
+            Node::Primitive(_) => {}
+            Node::List => {}
+            Node::Option => {}
+            Node::Result {
+                has_ok: _,
+                has_err: _,
+            } => {}
+            Node::Tuple { arity: _ } => {}
+            Node::Record(_) => {}
+            Node::Variant(_) => {}
+            Node::Enum(_) => {}
+            Node::Flags(_) => {}
+            Node::Own(_) => {}
+            Node::Borrow(_) => {}
+            Node::Stream { has_item: _ } => {}
+            Node::Future { has_item: _ } => {}
+            Node::Named(_) => {}
+            Node::Resource => {}
+        }
+    }
+}
+
 /// A name and a type: a parameter.
 #[derive(Debug, Drop, PartialEq, Eq)]
 pub struct Typed {
@@ -45,12 +70,23 @@ pub struct Typed {
 }
 
 /// A function.
-#[derive(Debug, Drop, PartialEq, Eq)]
+#[derive(Debug, PartialEq, Eq)]
 pub struct Func {
     pub name: Text,
     pub is_async: bool,
     pub params: Seq<Typed>,
     pub result: Option<Seq<Node>>,
+}
+
+impl Drop for Func {
+    fn drop(self) {
+        let Func {
+            name: _,
+            is_async: _,
+            params: _,
+            result: _,
+        } = self;
+    }
 }
 
 /// An interface: its types and its functions by name, in order. No name stands twice among the types,

@@ -16,11 +16,21 @@ pub enum ItemKey {
 }
 
 /// What a world imports or exports. A type has its name in its key.
-#[derive(Debug, Drop, PartialEq, Eq)]
+#[derive(Debug, PartialEq, Eq)]
 pub enum Item {
     Interface(InterfaceName),
     Function(Func),
     Type(Seq<Node>),
+}
+
+impl Drop for Item {
+    fn drop(self) {
+        match self {
+            Item::Interface(_) => {}
+            Item::Function(_) => {}
+            Item::Type(_) => {}
+        }
+    }
 }
 
 /// What records say of a world: its interfaces by name, and its imports and exports by key, in order.

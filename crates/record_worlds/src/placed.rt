@@ -5,7 +5,6 @@ use record_values::{InterfaceName, Wit};
 
 /// An interface of a record, by its place there: its name, on which sides of the world it stands, and
 /// what it has by name.
-#[derive(Drop)]
 pub struct PlacedInterface {
     pub name: InterfaceName,
     pub is_imported: bool,
@@ -14,6 +13,18 @@ pub struct PlacedInterface {
     pub types: Keyed<Text, bool>,
     /// Its functions, and of each its place among them.
     pub functions: Keyed<Text, usize>,
+}
+
+impl Drop for PlacedInterface {
+    fn drop(self) {
+        let PlacedInterface {
+            name: _,
+            is_imported: _,
+            is_exported: _,
+            types: _,
+            functions: _,
+        } = self;
+    }
 }
 
 /// What a record says of the world, and its interfaces by their places in the record.

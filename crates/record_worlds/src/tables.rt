@@ -80,10 +80,10 @@ fn add_interface(
 ) -> Result<(), Failure>
     ensures { Gives (λ _. table.new) result (with_interface ⟦<Interface as PartialEq>⟧.eq table.old name interface) }
 {
-    match name {
-        InterfaceName::Id(id) => add_same(alloc, table, &id, interface),
+    match &name {
+        InterfaceName::Id(id) => add_same(alloc, table, id, interface),
         InterfaceName::Unused(_) => Ok(()),
-        other => Ok(table.add_first(other, interface)?),
+        _ => Ok(table.add_first(name, interface)?),
     }
 }
 

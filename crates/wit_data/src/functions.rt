@@ -27,12 +27,23 @@ pub struct Param {
 }
 
 /// A function.
-#[derive(Debug, Drop, PartialEq, Eq)]
+#[derive(Debug, PartialEq, Eq)]
 pub struct Function {
     pub name: Text,
     pub kind: FunctionKind,
     pub params: Seq<Param>,
     pub result: Option<Type>,
+}
+
+impl Drop for Function {
+    fn drop(self) {
+        let Function {
+            name: _,
+            kind: _,
+            params: _,
+            result: _,
+        } = self;
+    }
 }
 
 /// The forms in which the Canonical ABI calls a function: who calls whom, and whether the caller waits.

@@ -14,12 +14,23 @@ use std::alloc::{AllocError, Global};
 
 /// The name of an interface (component model, explainer: `interfacename`): a namespace, a package, the
 /// interface's own name, and perhaps a version.
-#[derive(Debug, Drop)]
+#[derive(Debug)]
 pub struct IdName {
     pub namespace: Text,
     pub package: Text,
     pub interface: Text,
     pub version: Option<PackageVersion>,
+}
+
+impl Drop for IdName {
+    fn drop(self) {
+        let IdName {
+            namespace: _,
+            package: _,
+            interface: _,
+            version: _,
+        } = self;
+    }
 }
 
 /// Writes a sign and a text behind it.

@@ -34,7 +34,7 @@ pub struct ResultType {
 }
 
 /// What a type is (component model, WIT: `typedef-item`, `ty`).
-#[derive(Debug, Drop, PartialEq, Eq, Hash)]
+#[derive(Debug, PartialEq, Eq, Hash)]
 pub enum TypeDefKind {
     Record(Seq<Field>),
     Variant(Seq<Case>),
@@ -53,6 +53,27 @@ pub enum TypeDefKind {
     Alias(Type),
 }
 
+impl Drop for TypeDefKind {
+    fn drop(self) {
+        match self {
+            TypeDefKind::Record(_) => {}
+            TypeDefKind::Variant(_) => {}
+            TypeDefKind::Enum(_) => {}
+            TypeDefKind::Flags(_) => {}
+            TypeDefKind::Tuple(_) => {}
+            TypeDefKind::Option(_) => {}
+            TypeDefKind::Result(_) => {}
+            TypeDefKind::List(_) => {}
+            TypeDefKind::Own(_) => {}
+            TypeDefKind::Borrow(_) => {}
+            TypeDefKind::Resource => {}
+            TypeDefKind::Stream(_) => {}
+            TypeDefKind::Future(_) => {}
+            TypeDefKind::Alias(_) => {}
+        }
+    }
+}
+
 /// Where a named type stands. Types without a name have no owner.
 #[derive(Clone, Copy, Debug, PartialEq, Eq)]
 pub enum TypeOwner {
@@ -62,11 +83,21 @@ pub enum TypeOwner {
 }
 
 /// A type of a resolve.
-#[derive(Debug, Drop, PartialEq, Eq)]
+#[derive(Debug, PartialEq, Eq)]
 pub struct TypeDef {
     pub name: Option<Text>,
     pub kind: TypeDefKind,
     pub owner: TypeOwner,
+}
+
+impl Drop for TypeDef {
+    fn drop(self) {
+        let TypeDef {
+            name: _,
+            kind: _,
+            owner: _,
+        } = self;
+    }
 }
 
 impl TryClone for Type {
