@@ -1,0 +1,350 @@
+#!/usr/bin/env python3
+"""Tries wrong bodies, many in one check, and reports which of them the prover refuses.
+
+    wrong_bodies.py [--jobs N] [--after-ci] [NAME..]     at the top of the repository; with no NAME, every crate
+
+A wrong body is a file crates/NAME/wrong/*.edit or crates/NAME/must-fail/*.edit, in the form that `rt must-fail` reads.
+It has to change the bodies of functions, and nothing else. Each function is proved from its own body and the contracts
+of what it calls, so wrong bodies of different functions go into one copy of the crate, a batch, and one check of these
+functions decides each of them. A wrong body is refused where a goal of a function that it changes stays open, and never
+because another function is not proved. A wrong body that the front end refuses is a bad edit: it is taken out, and the
+rest of its batch is checked again.
+
+Without --after-ci each crate is checked first over the work that earlier checks kept, and each batch over a copy of it.
+With --after-ci, which the test command gives, the libraries that `rt ci` left are used as they are, and the functions of
+a batch are proved from nothing.
+The last line is 'N passed, M failed', and the exit status is 1 where M is not 0.
+
+Written for the kit rattle-kit-13b: how a crate is checked is taken from its rtlib.py, and the form of the lines that a
+check prints from its rattle.
+"""
+import argparse
+import dataclasses
+import difflib
+import glob
+import importlib.machinery
+import importlib.util
+import os
+import re
+import shutil
+import subprocess
+import sys
+import tempfile
+import time
+from concurrent.futures import ThreadPoolExecutor
+
+sys.dont_write_bytecode = True
+sys.path.insert(0, os.path.dirname(os.path.realpath(__file__)))
+from rattle_text import functions_of, is_proof_of, module_of, names_of  # noqa: E402
+
+ONE_JOB = ["--jobs", "1"]
+AT = re.compile(r"(?:note: )?(?:\./)?((?:src|specs|proofs)/\S+?):(\d+):\d+: (.*)")
+# An answer that names what the edit took away says little of the contract.
+SHAPE = re.compile(r"has no field|is not in scope|has no `|was not admitted")
+
+
+def kit():
+    """The toolchain's rtlib, which knows the crates of a repository and the words of a check."""
+    rt = shutil.which("rt") or sys.exit("wrong_bodies: there is no rt on the PATH")
+    loader = importlib.machinery.SourceFileLoader("rtlib", f"{os.path.dirname(os.path.realpath(rt))}/rtlib.py")
+    module = importlib.util.module_from_spec(importlib.util.spec_from_loader("rtlib", loader))
+    sys.modules["rtlib"] = module
+    loader.exec_module(module)
+    return module
+
+
+rtlib = kit()
+
+
+class BadEdit(Exception):
+    """Why an edit can't be tried."""
+
+
+def edited(path, folder):
+    """The texts of the files that an edit changes, by their paths in the crate."""
+    file, old, texts = "", None, {}
+    with open(path, encoding="utf-8") as lines:
+        for line in lines.read().split("\n"):
+            word, _, text = line.partition(" ")
+            if word == "file:":
+                file = text.strip()
+            elif word == "old:":
+                old = text
+            elif word == "new:" and file and old:
+                if file not in texts:
+                    with open(f"{folder}/{file}", encoding="utf-8") as it:
+                        texts[file] = it.read()
+                if texts[file].count(old) != 1:
+                    raise BadEdit(f"an 'old:' text is in {file} {texts[file].count(old)} times, and not once")
+                texts[file], old = texts[file].replace(old, text), None
+    if not texts:
+        raise BadEdit("it has no 'file:', 'old:' and 'new:' lines")
+    return texts
+
+
+@dataclasses.dataclass(eq=False)
+class WrongBody:
+    """An edit: the lines that it replaces, and the functions whose bodies these are."""
+
+    name: str
+    replaced: dict  # by file: the lines behind `start`, up to `end`, and what is written there
+    functions: set  # of (file, function)
+
+    def keys(self):
+        """What no two wrong bodies of a batch may share."""
+        return {f"+{it.cycle}" if it.cycle else (it.block or file, it.name) for file, it in self.functions}
+
+    def has_place(self, path, line):
+        """Whether a place, by the lines of the unedited crate, is in a function that the edit changes, or in its proof."""
+        return any(path == file and it.has_line(line) or is_proof_of(path, file, it) for file, it in self.functions)
+
+
+class Sources:
+    """The files of a crate, read once."""
+
+    def __init__(self, folder):
+        self.folder, self.known = folder, {}
+
+    def lines(self, file):
+        return self.read(file)[0]
+
+    def functions(self, file):
+        return self.read(file)[1]
+
+    def read(self, file):
+        if file not in self.known:
+            with open(f"{self.folder}/{file}", encoding="utf-8") as it:
+                text = it.read()
+            self.known[file] = text.split("\n"), functions_of(rtlib.RATTLE, text)
+        return self.known[file]
+
+    def wrong_body(self, name, path):
+        """The wrong body of an edit's file."""
+        try:
+            texts = edited(path, self.folder)
+        except (OSError, UnicodeDecodeError) as error:
+            raise BadEdit(f"it can't be read ({error})") from None
+        made = WrongBody(name, {}, set())
+        for file, text in texts.items():
+            if not file.startswith("src/"):
+                raise BadEdit(f"{file} is not of the code")
+            before, after = self.lines(file), text.split("\n")
+            changes = difflib.SequenceMatcher(None, before, after, autojunk=False).get_opcodes()
+            made.replaced[file] = [(a, b, after[c:d]) for what, a, b, c, d in changes if what != "equal"]
+            for start, end, _ in made.replaced[file]:
+                around = [it for it in self.functions(file) or [] if it.has_in_body(start, end)]
+                if not around:
+                    raise BadEdit("it changes more than the bodies of functions")
+                made.functions.add((file, max(around, key=lambda it: it.first)))
+            names = [it.name for it in functions_of(rtlib.RATTLE, text) or []]
+            if names != [it.name for it in self.functions(file)]:
+                raise BadEdit("it adds or hides a function")
+        if not made.functions:
+            raise BadEdit("it changes nothing")
+        return made
+
+
+class Merged:
+    """The texts of a batch, and where its lines come from."""
+
+    def __init__(self, batch, sources):
+        self.replaced = {}
+        for it in batch:
+            for file, changes in it.replaced.items():
+                self.replaced.setdefault(file, []).extend(changes)
+        self.texts = {}
+        for file, changes in self.replaced.items():
+            lines = list(sources.lines(file))
+            for start, end, new in sorted(changes, reverse=True):
+                lines[start:end] = new
+            self.texts[file] = "\n".join(lines)
+
+    def original(self, file, line):
+        """The line of the unedited file that a line of the batch's stands for."""
+        shift = 0
+        for start, end, new in sorted(self.replaced.get(file, [])):
+            if line > start + shift + len(new):
+                shift += len(new) - (end - start)
+            elif line > start + shift:
+                return start + 1
+        return line - shift
+
+
+def batches_of(bodies):
+    """As few batches as first fit finds, in each of which no two wrong bodies change one function."""
+    batches = []
+    for body in sorted(bodies, key=lambda it: -len(it.functions)):
+        room = next((it for it in batches if not any(body.keys() & other.keys() for other in it)), None)
+        if room is None:
+            batches.append(room := [])
+        room.append(body)
+    return batches
+
+
+@dataclasses.dataclass
+class Ran:
+    """What a check printed, and the processor seconds that it took."""
+
+    lines: list
+    seconds: float
+
+    def ended(self):
+        """Whether the check went through all of its functions."""
+        return bool(self.lines) and bool(re.match(r"only=\d+ proved=\d+", self.lines[-1]))
+
+
+class Trial:
+    """The wrong bodies of one crate, tried."""
+
+    def __init__(self, crate, kept):
+        self.crate, self.kept, self.sources = crate, kept, Sources(crate.folder)
+        self.said, self.checks, self.seconds = {}, 0, 0.0
+
+    def run(self, paths):
+        """The name of each wrong body, whether it is refused, and what is to be printed of it."""
+        bodies = []
+        for path in paths:
+            name = f"{self.crate.name}/{os.path.basename(path)}"
+            self.said[name] = False, "NOT TRIED"
+            try:
+                bodies.append(self.sources.wrong_body(name, path))
+            except BadEdit as why:
+                self.said[name] = False, f"BAD EDIT: {why}"
+        for batch in batches_of(bodies):
+            self.try_batch(batch)
+        return [(name, *said) for name, said in self.said.items()]
+
+    def try_batch(self, batch):
+        merged = Merged(batch, self.sources)
+        ran = self.checked(merged.texts, [names_of(file, it) for body in batch for file, it in sorted(body.functions, key=str)])
+        found = {body: [] for body in batch}
+        for line in ran.lines:
+            if at := AT.match(line):
+                place = at[1], merged.original(at[1], int(at[2]))
+                for body in batch:
+                    if body.has_place(*place):
+                        found[body].append(at[3])
+        if not ran.ended():
+            self.without_bad_edits(batch, found, ran)
+            return
+        for body in batch:
+            self.said[body.name] = self.judged(body, found[body], ran)
+
+    def without_bad_edits(self, batch, found, ran):
+        """The check ended before the prover began: what the errors name is a bad edit, and the rest is tried again."""
+        bad = [it for it in batch if any(re.match(r"error\b", line) for line in found[it])]
+        if not bad and len(batch) == 1:
+            bad = batch
+        for it in bad:
+            self.said[it.name] = False, f"BAD EDIT: it did not reach the prover: {(found[it] or ran.lines or [''])[0][:200]}"
+        rest = [it for it in batch if it not in bad]
+        # (where the errors name none of them, each is tried alone)
+        for again in [rest] if bad and rest else [[it] for it in rest]:
+            self.try_batch(again)
+
+    def judged(self, body, found, ran):
+        """Whether a wrong body of a check that ended is refused, and what is to be printed of it."""
+        open_goals = [it for it in found if it.startswith("it is not proved") or re.match(r"error\b", it)]
+        of_meaning = [it for it in open_goals if not SHAPE.search(it)]
+        if of_meaning:
+            return True, f"refused: {of_meaning[0][:160]}"
+        if open_goals:
+            return False, f"NOT TRIED: a proof file names what the edit took away: change a value, and keep the names: {open_goals[0][:160]}"
+        names = "|".join(re.escape(it.name) for _, it in body.functions)
+        if any(re.match(rf"fn \S*\b({names}): (?!proved)", it) for it in ran.lines):
+            return False, "NOT TRIED: its function is not proved, but no goal of it is open"
+        return False, "NOT REFUSED: its function is still proved"
+
+    def checked(self, texts, names):
+        """Checks functions of a copy of the crate with these texts in place of its own. Each function comes with what --only may take for it."""
+        self.checks += 1
+        with tempfile.TemporaryDirectory(prefix="wrong-bodies-") as room:
+            for part in rtlib.PARTS:
+                if os.path.isdir(f"{self.crate.folder}/{part}"):
+                    shutil.copytree(f"{self.crate.folder}/{part}", f"{room}/{part}")
+            for path, text in texts.items():
+                with open(f"{room}/{path}", "w", encoding="utf-8") as it:
+                    it.write(text)
+            kept = f"{room}/kept"
+            if os.path.isdir(self.kept):
+                shutil.copytree(self.kept, kept)
+            ran = None
+            while ran is None or self.is_unnamed(ran, names):
+                only = [word for it in dict.fromkeys(it[0] for it in names) for word in ("--only", it)]
+                words = self.crate.words([*ONE_JOB, *only], keeps=False)
+                ran = self.call([rtlib.RATTLE, "check", *words, "--incremental", kept], room)
+        return ran
+
+    def is_unnamed(self, ran, names):
+        """Whether the check found no function of a name. It then goes by the next name that --only may take for it."""
+        refused = re.search(r"error: `\w+` has (?:no function|several functions[^`]*) `([^`]*)`", "\n".join(ran.lines[-3:]))
+        for it in names if refused else []:
+            if it[0] == refused[1] and len(it) > 1:
+                del it[0]
+                return True
+        return False
+
+    def call(self, words, folder):
+        how = {"cwd": folder, "stdin": subprocess.DEVNULL, "stdout": subprocess.PIPE, "stderr": subprocess.STDOUT, "errors": "replace"}
+        with subprocess.Popen([*rtlib.guarded(), *words], **how) as process:
+            lines = process.stdout.read().rstrip("\n").split("\n")
+            _, _, used = os.wait4(process.pid, 0)
+        self.seconds += used.ru_utime + used.ru_stime
+        return Ran(lines, used.ru_utime + used.ru_stime)
+
+    def is_proved(self):
+        """Whether the crate is proved as it is, over the work that earlier checks kept."""
+        with tempfile.TemporaryFile("w+", errors="replace") as self.crate.out:
+            return not self.crate.check(ONE_JOB)
+
+
+def edits_of(crate):
+    folder = glob.escape(crate.folder)
+    return [it for part in ("wrong", "must-fail") for it in sorted(glob.glob(f"{folder}/{part}/*.edit"))]
+
+
+def tried(crate, after_ci):
+    """What is to be printed of a crate's wrong bodies, how many were refused, and how many were not."""
+    start, paths = time.time(), edits_of(crate)
+    with tempfile.TemporaryDirectory(prefix="wrong-bodies-") as room:
+        trial = Trial(crate, f"{room}/kept" if after_ci else f"{crate.folder}/out/incremental")
+        if after_ci or trial.is_proved():
+            verdicts = trial.run(paths)
+        else:
+            verdicts = [(f"{crate.name}/{os.path.basename(it)}", False, "NOT TRIED: the crate is not proved as it is") for it in paths]
+    refused = sum(it for _, it, _ in verdicts)
+    lines = [f"{name}: {text}" for name, _, text in verdicts]
+    lines.append(
+        f"cost of wrong bodies: {crate.name} {trial.seconds:.0f} processor seconds, {len(paths)} wrong bodies, "
+        f"{trial.checks} checks, {time.time() - start:.0f} seconds"
+    )
+    return lines, refused, len(verdicts) - refused
+
+
+def main():
+    parser = argparse.ArgumentParser(description=__doc__, formatter_class=argparse.RawDescriptionHelpFormatter)
+    parser.add_argument("names", nargs="*", metavar="NAME")
+    parser.add_argument("--jobs", type=int, default=len(os.sched_getaffinity(0)), help="how many crates are tried side by side")
+    parser.add_argument("--after-ci", action="store_true", help="rt ci has just proved the crates, and left its libraries")
+    given = parser.parse_args()
+    rtlib.guarded()  # (its first call sets a signal's handler, which only the main thread may)
+    crates = rtlib.crates_below(os.getcwd())
+    if unknown := {*given.names} - {it.name for it in crates}:
+        sys.exit(f"wrong_bodies: no crate is named {' '.join(sorted(unknown))}")
+    chosen = [it for it in crates if edits_of(it) and (not given.names or it.name in given.names)]
+    for library in dict.fromkeys(below for it in chosen for below in it.below()):
+        is_left_by_ci = os.path.isdir(library.rlib) and not os.path.isfile(f"{library.folder}/out/rlib/stamp")
+        if not (given.after_ci and is_left_by_ci) and library.build_rlib(ONE_JOB, anew=False):
+            sys.exit(f"wrong_bodies: the library {library.name} is not proved")
+    passed = failed = 0
+    chosen.sort(key=lambda it: -it.count(rb"\n"))
+    with ThreadPoolExecutor(given.jobs) as pool:
+        for lines, refused, others in pool.map(lambda it: tried(it, given.after_ci), chosen):
+            passed, failed = passed + refused, failed + others
+            print("\n".join(lines), flush=True)
+    print(f"{passed} passed, {failed} failed")
+    return 1 if failed else 0
+
+
+if __name__ == "__main__":
+    sys.exit(main())
