@@ -13,13 +13,11 @@
 //! record, counts that nothing holds, a pair of names that stands twice, records that are nested deep, are no JSON or a binary package; the
 //! pairs are small worlds of the same kind, two different ones, or one and what a change in its record made of it.
 //!
-//! In reading order: `told` (what is said of a module), `cases` (lines, and how many are told how).
+//! What a line means, and how it is counted, is in `lower_answers`.
 #![tactic(auto)]
 
-mod cases;
-mod told;
-
-use cases::{Count, Kind};
+use lower_answers::{Count, Kind};
+use plain_lower::PlainLower;
 use std::process::ExitCode;
 use std::{env, fs, io};
 
@@ -28,7 +26,7 @@ fn tell_file(rt: &HostRuntime, kind: Kind, name: &str) -> io::Result<()> {
     let mut count = Count::new();
     let cases = fs::read_to_string(rt, name)?;
     for line in cases.lines() {
-        if let Some(other) = count.add(rt.alloc(), kind, line)? {
+        if let Some(other) = count.add(&PlainLower::new(), rt.alloc(), kind, line)? {
             println!(rt; "{name}: {other} <> {line}")?;
         }
     }

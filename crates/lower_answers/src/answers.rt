@@ -1,29 +1,28 @@
-//! What the lower layer says of records, and of a module.
+//! What a lower layer answers for records, for a module, and for two modules, as text.
 
 ghost use Rattle.std.specs.Prelude.{IsSome};
 
 use comp_lists::{Bytes, Keyed, Seq};
 use comp_worlds::{EncoderOptions, ExportKey, Gathered, Lower, Merged, Part};
-use plain_lower::PlainLower;
 use std::alloc::{AllocError, Global};
 use std::fmt;
 
 /// The call that refuses a module, with its fault, or that none does.
 #[derive(Drop)]
-enum Told<F> {
+enum Answer<F> {
     Prepared,
     Decode(F),
     Merge(F),
     Prepare(F),
 }
 
-impl<F: fmt::Display> fmt::Display for Told<F> {
+impl<F: fmt::Display> fmt::Display for Answer<F> {
     fn fmt<W: fmt::Write>(&self, f: &mut fmt::Formatter<W>) -> fmt::Result {
         match self {
-            Told::Prepared => write!(f, "prepared"),
-            Told::Decode(fault) => write!(f, "decode: {fault}"),
-            Told::Merge(fault) => write!(f, "merge: {fault}"),
-            Told::Prepare(fault) => write!(f, "prepare: {fault}"),
+            Answer::Prepared => write!(f, "prepared"),
+            Answer::Decode(fault) => write!(f, "decode: {fault}"),
+            Answer::Merge(fault) => write!(f, "merge: {fault}"),
+            Answer::Prepare(fault) => write!(f, "prepare: {fault}"),
         }
     }
 }
@@ -41,20 +40,20 @@ const OPTIONS: EncoderOptions = EncoderOptions {
     realloc_via_memory_grow: false,
 };
 
-/// What a layer says of the world of what was gathered.
-fn prepare_told<L: Lower>(
+/// What a layer answers for the world of what was gathered.
+fn prepare_answer<L: Lower>(
     lower: &L,
     alloc: Global,
     gathered: &Gathered<L::Bindgen>,
-) -> Told<L::Fault>
+) -> Answer<L::Fault>
     requires { IsSome gathered.now.main }
 {
     match lower.prepare(alloc, gathered) {
         Ok(world) => {
             drop(world);
-            Told::Prepared
+            Answer::Prepared
         }
-        Err(fault) => Told::Prepare(fault),
+        Err(fault) => Answer::Prepare(fault),
     }
 }
 
@@ -67,13 +66,13 @@ fn given_behind<L: Lower>(
     alloc: Global,
     joint: &L::Bindgen,
     bytes: &[u8],
-) -> Result<Given<L::Bindgen>, Told<L::Fault>> {
+) -> Result<Given<L::Bindgen>, Answer<L::Fault>> {
     match lower.decode(alloc, bytes) {
         Ok((bytes, own)) => match lower.merge(alloc, joint, &own) {
             Ok(merged) => Ok((bytes, own, merged)),
-            Err(fault) => Err(Told::Merge(fault)),
+            Err(fault) => Err(Answer::Merge(fault)),
         },
-        Err(fault) => Err(Told::Decode(fault)),
+        Err(fault) => Err(Answer::Decode(fault)),
     }
 }
 
@@ -82,7 +81,7 @@ fn given_first<L: Lower>(
     lower: &L,
     alloc: Global,
     bytes: &[u8],
-) -> Result<Given<L::Bindgen>, Told<L::Fault>> {
+) -> Result<Given<L::Bindgen>, Answer<L::Fault>> {
     let empty = lower.empty(alloc);
     let given = given_behind(lower, alloc, &empty, bytes);
     drop(empty);
@@ -112,19 +111,19 @@ fn gathered_with<B>(
 }
 
 /// The world of what was given.
-fn prepare_given<L: Lower>(lower: &L, alloc: Global, given: Given<L::Bindgen>) -> Told<L::Fault> {
+fn prepare_given<L: Lower>(lower: &L, alloc: Global, given: Given<L::Bindgen>) -> Answer<L::Fault> {
     let (bytes, own, merged) = given;
     let gathered = gathered_with(alloc, bytes, own, merged.joint, merged.exports);
-    let told = prepare_told(lower, alloc, &gathered);
+    let answer = prepare_answer(lower, alloc, &gathered);
     drop(gathered);
-    told
+    answer
 }
 
-/// What a layer says of a module as main.
-fn told_by<L: Lower>(lower: &L, alloc: Global, bytes: &[u8]) -> Told<L::Fault> {
+/// What a layer answers for a module as main.
+fn answer_for<L: Lower>(lower: &L, alloc: Global, bytes: &[u8]) -> Answer<L::Fault> {
     match given_first(lower, alloc, bytes) {
         Ok(given) => prepare_given(lower, alloc, given),
-        Err(told) => told,
+        Err(answer) => answer,
     }
 }
 
@@ -146,41 +145,41 @@ fn with_keys<B: Drop>(keys: Seq<ExportKey>, given: Given<B>) -> Result<Given<B>,
     }
 }
 
-/// What a layer says of two modules that are given as main, one after the other.
-fn told_by_both<L: Lower>(
+/// What a layer answers for two modules that are given as main, one after the other.
+fn answer_for_both<L: Lower>(
     lower: &L,
     alloc: Global,
     first: &[u8],
     second: &[u8],
-) -> Result<Told<L::Fault>, AllocError> {
+) -> Result<Answer<L::Fault>, AllocError> {
     match given_first(lower, alloc, first) {
         Ok((_, _, merged)) => {
             let Merged { joint, exports } = merged;
             let given = given_behind(lower, alloc, &joint, second);
             drop(joint);
-            told_behind(lower, alloc, exports, given)
+            answer_behind(lower, alloc, exports, given)
         }
-        Err(told) => Ok(told),
+        Err(answer) => Ok(answer),
     }
 }
 
-/// What a layer says of the second, where the first has to export these keys.
-fn told_behind<L: Lower>(
+/// What a layer answers for the second, where the first has to export these keys.
+fn answer_behind<L: Lower>(
     lower: &L,
     alloc: Global,
     keys: Seq<ExportKey>,
-    given: Result<Given<L::Bindgen>, Told<L::Fault>>,
-) -> Result<Told<L::Fault>, AllocError> {
+    given: Result<Given<L::Bindgen>, Answer<L::Fault>>,
+) -> Result<Answer<L::Fault>, AllocError> {
     match given {
         Ok(given) => match with_keys(keys, given) {
             Ok(given) => Ok(prepare_given(lower, alloc, given)),
             Err(refused) => Err(refused),
         },
-        Err(told) => Ok(told),
+        Err(answer) => Ok(answer),
     }
 }
 
-/// What is said of the records of a module: that they are read, or the fault.
+/// The answer for the records of a module: that they are read, or the fault.
 fn read_by<L: Lower>(lower: &L, alloc: Global, bytes: &[u8]) -> Result<String, AllocError> {
     match lower.decode(alloc, bytes) {
         Ok(_) => String::from_str(alloc, "read"),
@@ -211,25 +210,34 @@ fn with_records(alloc: Global, records: &str) -> Result<Vec<u8>, AllocError> {
     Ok(bytes)
 }
 
-/// What is said of these records, which stand in the sections of one module: that they are read, or the
+/// What a layer answers for these records, which are in the sections of one module: that they are read, or the
 /// fault.
-pub(crate) fn records_told(alloc: Global, records: &str) -> Result<String, AllocError> {
+pub fn records_answer<L: Lower>(
+    lower: &L,
+    alloc: Global,
+    records: &str,
+) -> Result<String, AllocError> {
     let bytes = with_records(alloc, records)?;
-    read_by(&PlainLower::new(), alloc, &bytes)
+    read_by(lower, alloc, &bytes)
 }
 
-/// What is said of a module as main: that its world is prepared, or the call that refuses it, with the fault.
-pub(crate) fn module_told(alloc: Global, bytes: &[u8]) -> Result<String, AllocError> {
-    let told = told_by(&PlainLower::new(), alloc, bytes);
-    format!(in alloc; "{told}")
+/// What a layer answers for a module as main: that its world is prepared, or the call that refuses it, with the fault.
+pub fn module_answer<L: Lower>(
+    lower: &L,
+    alloc: Global,
+    bytes: &[u8],
+) -> Result<String, AllocError> {
+    let answer = answer_for(lower, alloc, bytes);
+    format!(in alloc; "{answer}")
 }
 
-/// What is said of two modules as main, one after the other.
-pub(crate) fn modules_told(
+/// What a layer answers for two modules as main, one after the other.
+pub fn modules_answer<L: Lower>(
+    lower: &L,
     alloc: Global,
     first: &[u8],
     second: &[u8],
 ) -> Result<String, AllocError> {
-    let told = told_by_both(&PlainLower::new(), alloc, first, second)?;
-    format!(in alloc; "{told}")
+    let answer = answer_for_both(lower, alloc, first, second)?;
+    format!(in alloc; "{answer}")
 }

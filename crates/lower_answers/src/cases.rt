@@ -1,12 +1,13 @@
-//! Cases, a line each, and how many are told how.
+//! Cases, a line each, and how many have the answer that they are to have.
 
-use crate::told::{module_told, modules_told, records_told};
+use crate::answers::{module_answer, modules_answer, records_answer};
+use comp_worlds::Lower;
 use std::alloc::{AllocError, Global};
 use std::fmt;
 
 /// What the lines of a file speak of.
 #[derive(Clone, Copy, Debug, PartialEq, Eq)]
-pub(crate) enum Kind {
+pub enum Kind {
     /// The records of a module, with ` & ` between two of them.
     Records,
     /// Modules, in hexadecimal digits.
@@ -16,7 +17,7 @@ pub(crate) enum Kind {
 }
 
 impl Kind {
-    pub(crate) fn of(word: &str) -> Kind {
+    pub fn of(word: &str) -> Kind {
         match word {
             "records" => Kind::Records,
             "pairs" => Kind::Pairs,
@@ -25,71 +26,77 @@ impl Kind {
     }
 }
 
-/// How many cases are told how.
+/// How many cases have the answer that they are to have.
 #[derive(Clone, Copy, Debug, PartialEq, Eq)]
-pub(crate) struct Count {
-    as_told: u32,
+pub struct Count {
+    as_expected: u32,
     left_out: u32,
     otherwise: u32,
 }
 
-/// What is said of a module in hexadecimal digits.
-fn said_of_module(alloc: Global, text: &str) -> Result<String, AllocError> {
+/// The answer for a module in hexadecimal digits.
+fn module_answer_of<L: Lower>(lower: &L, alloc: Global, text: &str) -> Result<String, AllocError> {
     match hex::decode(alloc, text.as_bytes()) {
-        Ok(bytes) => module_told(alloc, &bytes),
+        Ok(bytes) => module_answer(lower, alloc, &bytes),
         Err(_) => String::from_str(alloc, "no digits"),
     }
 }
 
-/// What is said of two modules in hexadecimal digits.
-fn said_of_pair(alloc: Global, text: &str) -> Result<String, AllocError> {
+/// The answer for two modules in hexadecimal digits.
+fn pair_answer_of<L: Lower>(lower: &L, alloc: Global, text: &str) -> Result<String, AllocError> {
     let (first, second) = text.split_once(" & ").unwrap_or((text, ""));
     match hex::decode(alloc, first.as_bytes()) {
         Ok(first) => match hex::decode(alloc, second.as_bytes()) {
-            Ok(second) => modules_told(alloc, &first, &second),
+            Ok(second) => modules_answer(lower, alloc, &first, &second),
             Err(_) => String::from_str(alloc, "no digits"),
         },
         Err(_) => String::from_str(alloc, "no digits"),
     }
 }
 
-/// What is said of a case.
-fn said_of(alloc: Global, kind: Kind, text: &str) -> Result<String, AllocError> {
+/// The answer for a case.
+fn answer_of<L: Lower>(
+    lower: &L,
+    alloc: Global,
+    kind: Kind,
+    text: &str,
+) -> Result<String, AllocError> {
     match kind {
-        Kind::Records => records_told(alloc, text),
-        Kind::Modules => said_of_module(alloc, text),
-        Kind::Pairs => said_of_pair(alloc, text),
+        Kind::Records => records_answer(lower, alloc, text),
+        Kind::Modules => module_answer_of(lower, alloc, text),
+        Kind::Pairs => pair_answer_of(lower, alloc, text),
     }
 }
 
 impl Count {
-    pub(crate) fn new() -> Count {
+    pub fn new() -> Count {
         Count {
-            as_told: 0,
+            as_expected: 0,
             left_out: 0,
             otherwise: 0,
         }
     }
 
-    /// Counts a case; what is said of it, where that is something else than is to be said.
-    pub(crate) fn add(
+    /// Counts a case. The answer, where it is not the expected one.
+    pub fn add<L: Lower>(
         &mut self,
+        lower: &L,
         alloc: Global,
         kind: Kind,
         line: &str,
     ) -> Result<Option<String>, AllocError> {
         let (expected, text) = line.split_once(" <- ").unwrap_or(("", line));
-        let said = said_of(alloc, kind, text)?;
-        if said.as_str() == expected {
-            self.as_told = self.as_told.saturating_add(1);
+        let answer = answer_of(lower, alloc, kind, text)?;
+        if answer.as_str() == expected {
+            self.as_expected = self.as_expected.saturating_add(1);
             return Ok(None);
         }
-        if expected == "prepared" && said.as_str().starts_with("prepare: P8 LeftOut") {
+        if expected == "prepared" && answer.as_str().starts_with("prepare: P8 LeftOut") {
             self.left_out = self.left_out.saturating_add(1);
             return Ok(None);
         }
         self.otherwise = self.otherwise.saturating_add(1);
-        Ok(Some(said))
+        Ok(Some(answer))
     }
 }
 
@@ -98,7 +105,7 @@ impl fmt::Display for Count {
         write!(
             f,
             "{} as told, {} left out, {} otherwise",
-            self.as_told, self.left_out, self.otherwise
+            self.as_expected, self.left_out, self.otherwise
         )
     }
 }
