@@ -35,7 +35,7 @@ from concurrent.futures import ThreadPoolExecutor
 
 sys.dont_write_bytecode = True
 sys.path.insert(0, os.path.dirname(os.path.realpath(__file__)))
-from rattle_text import functions_of, is_proof_of, module_of, names_of  # noqa: E402
+from rattle_text import functions_of, is_proof_of, names_of  # noqa: E402
 
 ONE_JOB = ["--jobs", "1"]
 AT = re.compile(r"(?:note: )?(?:\./)?((?:src|specs|proofs)/\S+?):(\d+):\d+: (.*)")
