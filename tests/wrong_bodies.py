@@ -11,8 +11,8 @@ because another function is not proved. A wrong body that the front end refuses 
 rest of its batch is checked again.
 
 Without --after-ci each crate is checked first over the work that earlier checks kept, and each batch over a copy of it.
-With --after-ci, which the test command gives, the libraries that `rt ci` left are used as they are, and the functions of
-a batch are proved from nothing.
+With --after-ci, which the test command gives, the libraries that `rt ci` left are used as they are, the functions of a
+batch are proved from nothing, and only those of wrong/ are tried: `rt ci` has tried the others.
 The last line is 'N passed, M failed', and the exit status is 1 where M is not 0.
 
 Written for the kit rattle-kit-13b: how a crate is checked is taken from its rtlib.py, and the form of the lines that a
@@ -298,14 +298,15 @@ class Trial:
             return not self.crate.check(ONE_JOB)
 
 
-def edits_of(crate):
-    folder = glob.escape(crate.folder)
-    return [it for part in ("wrong", "must-fail") for it in sorted(glob.glob(f"{folder}/{part}/*.edit"))]
+def edits_of(crate, after_ci=False):
+    """The files of a crate's wrong bodies; behind rt ci, which has tried those of must-fail/, the others."""
+    folders = ("wrong",) if after_ci else ("wrong", "must-fail")
+    return [it for part in folders for it in sorted(glob.glob(f"{glob.escape(crate.folder)}/{part}/*.edit"))]
 
 
 def tried(crate, after_ci):
     """What is to be printed of a crate's wrong bodies, how many were refused, and how many were not."""
-    start, paths = time.time(), edits_of(crate)
+    start, paths = time.time(), edits_of(crate, after_ci)
     with tempfile.TemporaryDirectory(prefix="wrong-bodies-") as room:
         trial = Trial(crate, f"{room}/kept" if after_ci else f"{crate.folder}/out/incremental")
         if after_ci or trial.is_proved():
@@ -331,7 +332,7 @@ def main():
     crates = rtlib.crates_below(os.getcwd())
     if unknown := {*given.names} - {it.name for it in crates}:
         sys.exit(f"wrong_bodies: no crate is named {' '.join(sorted(unknown))}")
-    chosen = [it for it in crates if edits_of(it) and (not given.names or it.name in given.names)]
+    chosen = [it for it in crates if edits_of(it, given.after_ci) and (not given.names or it.name in given.names)]
     for library in dict.fromkeys(below for it in chosen for below in it.below()):
         is_left_by_ci = os.path.isdir(library.rlib) and not os.path.isfile(f"{library.folder}/out/rlib/stamp")
         if not (given.after_ci and is_left_by_ci) and library.build_rlib(ONE_JOB, anew=False):
