@@ -15,32 +15,35 @@ fn debug_name(word: Option<&str>) -> Option<&str> {
     }
 }
 
-/// Whether this is the custom section of debug names, which the builder writes itself.
-fn is_custom(definition: &Def) -> bool {
-    match definition {
-        Def::Item(Item::Custom { .. }) => true,
-        _ => false,
-    }
+/// An index that was answered.
+fn indexed(index: Result<u32, BuildFault>) -> Result<Option<u32>, BuildFault> {
+    Ok(Some(index?))
 }
 
-/// Adds an alias; `None` where no call adds one like it.
+/// Adds the custom section of debug names, which has no index.
+fn add_names(builder: &mut ComponentBuilder) -> Result<Option<u32>, BuildFault> {
+    builder.append_names()?;
+    Ok(None)
+}
+
+/// Adds an alias. No call adds one that goes outward.
 fn add_alias(
     builder: &mut ComponentBuilder,
     debug: Option<&str>,
     alias: &Alias,
-) -> Option<Result<u32, BuildFault>> {
+) -> Result<Option<u32>, BuildFault> {
     match alias {
         Alias::Export {
             kind,
             instance,
             name,
-        } => Some(builder.alias_export(*instance, name.as_str(), *kind)),
+        } => indexed(builder.alias_export(*instance, name.as_str(), *kind)),
         Alias::CoreExport {
             kind,
             instance,
             name,
-        } => Some(builder.core_alias_export(debug, *instance, name.as_str(), *kind)),
-        Alias::Outer { .. } => None,
+        } => indexed(builder.core_alias_export(debug, *instance, name.as_str(), *kind)),
+        Alias::Outer { .. } => Ok(None),
     }
 }
 
@@ -56,75 +59,49 @@ fn add_type(
     }
 }
 
-/// Adds a definition that is no component; `None` where no call adds one like it.
+/// Adds a definition that is no component. Of a custom section only that it stands there is kept: it is
+/// that of the debug names, which the builder writes itself.
 fn add_item(
     builder: &mut ComponentBuilder,
     debug: Option<&str>,
     item: Item,
-) -> Option<Result<u32, BuildFault>> {
+) -> Result<Option<u32>, BuildFault> {
     match item {
-        Item::CoreModule(module) => Some(builder.core_module_raw(debug, module.as_slice())),
+        Item::CoreModule(module) => indexed(builder.core_module_raw(debug, module.as_slice())),
         Item::CoreInstantiate { module, args } => {
-            Some(builder.core_instantiate(debug, module, args))
+            indexed(builder.core_instantiate(debug, module, args))
         }
-        Item::CoreExports(exports) => Some(builder.core_instantiate_exports(debug, exports)),
-        Item::Instantiate { component, args } => Some(builder.instantiate(debug, component, args)),
+        Item::CoreExports(exports) => indexed(builder.core_instantiate_exports(debug, exports)),
+        Item::Instantiate { component, args } => {
+            indexed(builder.instantiate(debug, component, args))
+        }
         Item::Alias(alias) => add_alias(builder, debug, &alias),
-        Item::Type(ty) => Some(add_type(builder, debug, ty)),
-        Item::InstanceType(ty) => Some(builder.type_instance(debug, ty)),
-        Item::Lift { func, options, ty } => Some(builder.lift_func(debug, func, ty, options)),
-        Item::Lower { func, options } => Some(builder.lower_func(debug, func, options)),
-        Item::Intrinsic(intrinsic) => Some(builder.intrinsic(intrinsic)),
-        Item::Import { name, description } => Some(builder.import(name, description)),
+        Item::Type(ty) => indexed(add_type(builder, debug, ty)),
+        Item::InstanceType(ty) => indexed(builder.type_instance(debug, ty)),
+        Item::Lift { func, options, ty } => indexed(builder.lift_func(debug, func, ty, options)),
+        Item::Lower { func, options } => indexed(builder.lower_func(debug, func, options)),
+        Item::Intrinsic(intrinsic) => indexed(builder.intrinsic(intrinsic)),
+        Item::Import { name, description } => indexed(builder.import(name, description)),
         Item::Export {
             name,
             sort,
             index,
             description,
-        } => Some(builder.export(name, sort, index, description)),
-        Item::Custom { .. } => None,
+        } => indexed(builder.export(name, sort, index, description)),
+        Item::Custom { .. } => add_names(builder),
     }
 }
 
-/// Adds a definition; `None` where no call adds one like it.
-fn add_definition(
-    builder: &mut ComponentBuilder,
-    debug: Option<&str>,
-    definition: Def,
-) -> Option<Result<u32, BuildFault>> {
-    match definition {
-        Def::Item(item) => add_item(builder, debug, item),
-        Def::Component(items) => Some(builder.component(debug, items)),
-    }
-}
-
-/// Writes the index of what was added.
-fn put_index(
-    indices: &mut String,
-    index: Option<Result<u32, BuildFault>>,
-) -> Result<(), BuildFault> {
-    match index {
-        Some(index) => {
-            let index = index?;
-            write!(indices, "{index} ")?;
-            Ok(())
-        }
-        None => Ok(indices.push_str("none ")?),
-    }
-}
-
-/// Adds a definition with its debug name, and writes its index.
+/// Adds a definition with its debug name, and answers its index.
 fn add(
     builder: &mut ComponentBuilder,
-    indices: &mut String,
     debug: Option<&str>,
     definition: Def,
-) -> Result<(), BuildFault> {
-    if is_custom(&definition) {
-        return builder.append_names();
+) -> Result<Option<u32>, BuildFault> {
+    match definition {
+        Def::Item(item) => add_item(builder, debug, item),
+        Def::Component(items) => indexed(builder.component(debug, items)),
     }
-    let index = add_definition(builder, debug, definition);
-    put_index(indices, index)
 }
 
 /// Adds definitions with their debug names, and writes the index of each.
@@ -136,7 +113,9 @@ fn add_all(
 ) -> Result<(), BuildFault> {
     let mut words = names.split(' ');
     for definition in definitions.into_vec() {
-        add(builder, indices, debug_name(words.next()), definition)?;
+        if let Some(index) = add(builder, debug_name(words.next()), definition)? {
+            write!(indices, "{index} ")?;
+        }
     }
     Ok(())
 }

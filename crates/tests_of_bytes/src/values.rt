@@ -20,17 +20,16 @@ fn next(alloc: Global, count: u32) -> Result<String, AllocError> {
     }
 }
 
-/// How many there are of the bytes of a text and of some numbers together.
+/// How many there are of the bytes of a text and of one word together.
 fn together(alloc: Global, given: &str) -> Result<String, AllocError> {
-    let (text, numbers) = given.split_once(' ').unwrap_or((given, ""));
-    let words: Vec<&str> = numbers.split(' ').collect(alloc)?;
-    match count_of(text.as_bytes(), &words) {
+    let (text, word) = given.split_once(' ').unwrap_or((given, ""));
+    match count_of(text.as_bytes(), &[word]) {
         Ok(count) => format!(in alloc; "{count}"),
         Err(excess) => format!(in alloc; "{excess}"),
     }
 }
 
-/// The space of a word.
+/// The space of a word, or that in which an item of what the word says is counted.
 fn space_of(word: &str) -> Option<Space> {
     match word {
         "CoreFunc" => Some(Space::CoreFunc),
@@ -43,13 +42,6 @@ fn space_of(word: &str) -> Option<Space> {
         "Type" => Some(Space::Type),
         "Component" => Some(Space::Component),
         "Instance" => Some(Space::Instance),
-        _ => None,
-    }
-}
-
-/// The space in which an item of what a word says is counted.
-fn space_with(word: &str) -> Option<Space> {
-    match word {
         "ExportKind::Memory" => Some(ExportKind::Memory.space()),
         "ComponentExportKind::Component" => Some(ComponentExportKind::Component.space()),
         "Sort::Core(Table)" => Some(Sort::Core(ExportKind::Table).space()),
@@ -65,14 +57,15 @@ fn space_text(alloc: Global, space: Option<Space>) -> Result<String, AllocError>
     }
 }
 
-fn twice(alloc: Global, name: &str) -> Result<String, AllocError> {
+/// The text of a fault in a name: that it stands twice, or has no form.
+fn name_fault(alloc: Global, is_twice: bool, name: &str) -> Result<String, AllocError> {
     let name = Text::from_str(alloc, name)?;
-    format!(in alloc; "{}", NameFault::Twice { name })
-}
-
-fn without_form(alloc: Global, name: &str) -> Result<String, AllocError> {
-    let name = Text::from_str(alloc, name)?;
-    format!(in alloc; "{}", NameFault::Form { name })
+    let fault = if is_twice {
+        NameFault::Twice { name }
+    } else {
+        NameFault::Form { name }
+    };
+    format!(in alloc; "{fault}")
 }
 
 /// Nothing is done when a law is called: what it says is its contract.
@@ -95,8 +88,7 @@ pub(crate) fn called(alloc: Global, input: &str) -> Result<String, AllocError> {
     match call {
         "next_count" => next(alloc, number(given)),
         "count_of" => together(alloc, given),
-        "Space" => space_text(alloc, space_of(given)),
-        "space" => space_text(alloc, space_with(given)),
+        "space" => space_text(alloc, space_of(given)),
         "BuildFault::Memory" => format!(in alloc; "{}", BuildFault::Memory),
         "ReadFault::Memory" => format!(in alloc; "{}", ReadFault::Memory),
         "ReadFault::Grammar" => {
@@ -104,8 +96,8 @@ pub(crate) fn called(alloc: Global, input: &str) -> Result<String, AllocError> {
             format!(in alloc; "{}", ReadFault::Grammar { place })
         }
         "NameFault::Memory" => format!(in alloc; "{}", NameFault::Memory),
-        "NameFault::Twice" => twice(alloc, given),
-        "NameFault::Form" => without_form(alloc, given),
+        "NameFault::Twice" => name_fault(alloc, true, given),
+        "NameFault::Form" => name_fault(alloc, false, given),
         "laws" => laws(alloc),
         _ => String::from_str(alloc, "no call"),
     }
