@@ -1,6 +1,7 @@
 //! The bodies of generated functions, as they stand in a code section, behind their size.
 
 use crate::answers::{number, spelling};
+use crate::words::{Words, list};
 use core_bytes::Body;
 use core_runs::{
     AfterHook, Bracket, GlobalFill, StartStep, TaskHook, ref_shim_body, start_body, stub_body,
@@ -57,62 +58,54 @@ fn wrapper(alloc: Global, given: &str) -> Result<Body, AllocError> {
     wrapper_body(alloc, params, bracket, hook, target)
 }
 
-/// The fills of a text, with `, ` between two of them: a global and a function each; none for `-`.
-fn fills(alloc: Global, text: &str) -> Result<Vec<GlobalFill>, AllocError> {
-    let mut all = Vec::new(alloc);
-    if text == "-" {
-        return Ok(all);
+/// A global and the function that fills it.
+impl Words for GlobalFill {
+    fn of(text: &str) -> Option<GlobalFill> {
+        let (global, function) = text.split_once(' ')?;
+        Some(GlobalFill {
+            global: number(Some(global)),
+            function: number(Some(function)),
+        })
     }
-    for part in text.split(", ") {
-        let (global, function, _) = three(part);
-        all.push(GlobalFill { global, function })?;
-    }
-    Ok(all)
+}
+
+/// The step that calls a hook.
+fn hook_step(text: &str) -> Option<StartStep> {
+    let (hook, word) = text.split_once(' ')?;
+    Some(StartStep::Hook {
+        hook: number(Some(hook)),
+        moment: moment(word)?,
+    })
 }
 
 /// A step of a start function.
-fn step(text: &str) -> Option<StartStep> {
-    let (kind, given) = text.split_once(' ').unwrap_or((text, ""));
-    let (first, second, third) = three(given);
-    match kind {
-        "thunk" => Some(StartStep::Thunk(first)),
-        "hook" => {
-            let (_, word) = given.split_once(' ')?;
-            Some(StartStep::Hook {
-                hook: first,
-                moment: moment(word)?,
-            })
-        }
-        "to-memory" => Some(StartStep::AddressToMemory {
-            base: first,
-            offset: second,
-            address: third,
-        }),
-        "to-global" => Some(StartStep::AddressToGlobal {
-            base: first,
-            offset: second,
-            global: third,
-        }),
-        _ => None,
-    }
-}
-
-/// The steps of a text, with `, ` between two of them.
-fn steps(alloc: Global, text: &str) -> Result<Vec<StartStep>, AllocError> {
-    let mut all = Vec::new(alloc);
-    for part in text.split(", ") {
-        if let Some(step) = step(part) {
-            all.push(step)?;
+impl Words for StartStep {
+    fn of(text: &str) -> Option<StartStep> {
+        let (kind, given) = text.split_once(' ')?;
+        let (base, offset, place) = three(given);
+        match kind {
+            "thunk" => Some(StartStep::Thunk(base)),
+            "hook" => hook_step(given),
+            "to-memory" => Some(StartStep::AddressToMemory {
+                base,
+                offset,
+                address: place,
+            }),
+            "to-global" => Some(StartStep::AddressToGlobal {
+                base,
+                offset,
+                global: place,
+            }),
+            _ => None,
         }
     }
-    Ok(all)
 }
 
 /// A start function: what is filled, and behind that the steps.
 fn start(alloc: Global, given: &str) -> Result<Body, AllocError> {
     let (filled, rest) = given.split_once(" & ").unwrap_or((given, ""));
-    let fills = fills(alloc, filled)?;
-    let steps = steps(alloc, rest)?;
+    let fills = list::<GlobalFill>(alloc, filled)?;
+    let steps = list::<StartStep>(alloc, rest)?;
     start_body(alloc, &fills, &steps)
 }
 

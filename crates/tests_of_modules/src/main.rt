@@ -1,22 +1,22 @@
 //! The program `tests_of_modules`: core modules, how they are read, written and generated, by cases.
 //!
 //! Its words go by twos: a topic, and a FILE of cases of that topic. A line of the file is a case:
-//! `NAME: EXPECTED <- INPUT`; a line that begins with `#` is a remark. Printed is `NAME: ANSWER` for each
-//! case, with what was expected where that is something else, and then how many cases there were and how
-//! many were answered as expected. What is expected was worked out by hand from the binary format of core
-//! modules. Where memory is refused, the program says so on standard error and ends with 1, whatever the
-//! case.
+//! `NAME: EXPECTED <- INPUT`; a line that begins with `#` is a remark. Printed are the remarks and, for each
+//! case, `NAME: ANSWER`, with what was expected where that is something else. So the file `stdout`, which the
+//! output is compared with, is the data without the inputs. What is expected was worked out by hand from
+//! the binary format of core modules. Where memory is refused, the program says so on standard error and ends
+//! with 1, whatever the case.
 //!
 //! In reading order: `cases` (lines, and the topics), `answers` (bytes and faults as texts), `reading`
-//! (modules that are read and stripped), `writing` (sections and names that are written), `instructions`
-//! (instructions of words), `bodies` (bodies that are generated).
+//! (modules that are read and stripped), `writing` (sections and names that are written), `words`
+//! (values of words), `bodies` (bodies that are generated).
 #![tactic(auto)]
 
 mod answers;
 mod bodies;
 mod cases;
-mod instructions;
 mod reading;
+mod words;
 mod writing;
 
 use cases::{Case, Topic, answer};
@@ -35,27 +35,23 @@ fn print_answer(rt: &HostRuntime, case: Case<'_>, answer: &str) -> io::Result<()
     }
 }
 
-/// Answers a case; whether that is as expected.
-fn run_case(rt: &HostRuntime, topic: Topic, case: Case<'_>) -> io::Result<bool> {
+/// Prints the answer to the case of a line, or the line where it is a remark.
+fn run_line(rt: &HostRuntime, topic: Topic, line: &str) -> io::Result<()> {
+    if line.starts_with('#') {
+        return println!(rt; "{line}");
+    }
+    let case = Case::of(line);
     let answer = answer(rt.alloc(), topic, case.input)?;
-    print_answer(rt, case, answer.as_str())?;
-    Ok(answer.as_str() == case.expected)
+    print_answer(rt, case, answer.as_str())
 }
 
-/// Answers the cases of a file.
+/// Prints the answers to the cases of a file.
 fn run_file(rt: &HostRuntime, topic: Topic, file: &str) -> io::Result<()> {
     let text = fs::read_to_string(rt, file)?;
-    let mut cases = 0u32;
-    let mut as_expected = 0u32;
     for line in text.lines() {
-        if !line.starts_with('#') {
-            cases = cases.saturating_add(1);
-            if run_case(rt, topic, Case::of(line))? {
-                as_expected = as_expected.saturating_add(1);
-            }
-        }
+        run_line(rt, topic, line)?;
     }
-    println!(rt; "{file}: {cases} cases, {as_expected} as expected")
+    Ok(())
 }
 
 fn run(rt: &HostRuntime) -> io::Result<()> {

@@ -1,22 +1,29 @@
 //! Sections and modules that are written, and the names of modules.
 
 use crate::answers::{number, spelling, written};
-use crate::instructions::{instructions, locals, numbers};
+use crate::words::list;
 use comp_bytes::BuildFault;
 use comp_lists::Text;
 use core_bytes::{
-    Code, ElementSection, Module, ModuleNames, NameMap, Section, TypeSection, one_module,
-    other_sections_stay, set_module_name,
+    Code, ElementSection, Instruction, LocalRun, Module, ModuleNames, NameMap, Section,
+    TypeSection, one_module, other_sections_stay, set_module_name,
 };
 use std::alloc::{AllocError, Global};
 
-/// A section of one body, of so many local variables.
-pub(crate) fn code(alloc: Global, count: &str, text: &str) -> Result<String, AllocError> {
-    let instructions = instructions(alloc, text)?;
-    let locals = locals(alloc, number(Some(count)))?;
+/// The bytes of a section.
+fn section_bytes(alloc: Global, section: Section) -> Result<String, AllocError> {
+    let bytes = spelling(alloc, &section);
+    drop(section);
+    bytes
+}
+
+/// A section of one body, of these local variables.
+pub(crate) fn code(alloc: Global, locals: &str, text: &str) -> Result<String, AllocError> {
+    let instructions = list::<Instruction>(alloc, text)?;
+    let locals = list::<LocalRun>(alloc, locals)?;
     let mut section = Code::new(alloc);
     section.body(&locals, &instructions)?;
-    spelling(alloc, &Section::Code(section))
+    section_bytes(alloc, Section::Code(section))
 }
 
 /// Functions for the places of a table, or functions that are declared.
@@ -38,10 +45,10 @@ fn segment(section: &mut ElementSection, words: &str, functions: &[u32]) -> Resu
 
 /// A section of one element segment.
 pub(crate) fn elements(alloc: Global, words: &str, text: &str) -> Result<String, AllocError> {
-    let functions = numbers(alloc, text)?;
+    let functions = list::<u32>(alloc, text)?;
     let mut section = ElementSection::new(alloc);
     segment(&mut section, words, &functions)?;
-    spelling(alloc, &Section::Elements(section))
+    section_bytes(alloc, Section::Elements(section))
 }
 
 /// One name, behind its index.
@@ -55,15 +62,15 @@ fn name_map(alloc: Global, text: &str) -> Result<NameMap, AllocError> {
 /// A section of names: of the module, of a function and of a global.
 pub(crate) fn names(alloc: Global, name: &str, text: &str) -> Result<String, AllocError> {
     let (functions, globals) = text.split_once(" & ").unwrap_or((text, ""));
+    let module_name = Text::from_str(alloc, name)?;
     let functions = name_map(alloc, functions)?;
     let globals = name_map(alloc, globals)?;
-    let module_name = Text::from_str(alloc, name)?;
     let names = ModuleNames {
         module_name,
         functions: Some(functions),
         globals: Some(globals),
     };
-    spelling(alloc, &Section::Names(names))
+    section_bytes(alloc, Section::Names(names))
 }
 
 /// A module with this name.
