@@ -26,7 +26,10 @@ fn print_answer(rt: &HostRuntime, case: Case<'_>, answer: &str) -> io::Result<()
     if answer == case.expected {
         println!(rt; "{}: {answer}", case.name)
     } else {
-        println!(rt; "{}: {answer}, where {} was expected", case.name, case.expected)
+        println!(rt;
+            "{}: {answer}, where {} was expected",
+            case.name, case.expected
+        )
     }
 }
 

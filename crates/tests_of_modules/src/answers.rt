@@ -14,6 +14,14 @@ pub(crate) fn bytes_of(alloc: Global, digits: &str) -> Result<Vec<u8>, AllocErro
     }
 }
 
+/// The text of a fault, where it isn't that memory was refused.
+pub(crate) fn not_written(alloc: Global, fault: BuildFault) -> Result<String, AllocError> {
+    match fault {
+        BuildFault::Memory => Err(AllocError),
+        _ => format!(in alloc; "{fault}"),
+    }
+}
+
 /// The hexadecimal digits of bytes that were written, or the fault.
 pub(crate) fn written(
     alloc: Global,
@@ -21,14 +29,19 @@ pub(crate) fn written(
 ) -> Result<String, AllocError> {
     match bytes {
         Ok(bytes) => hex::encode(alloc, &bytes),
-        Err(BuildFault::Memory) => Err(AllocError),
-        Err(fault) => format!(in alloc; "{fault}"),
+        Err(fault) => not_written(alloc, fault),
     }
 }
 
-/// The hexadecimal digits of the bytes of a value.
-pub(crate) fn spelling<T: Spell>(alloc: Global, value: &T) -> Result<String, AllocError> {
-    written(alloc, spelled(alloc, value))
+/// The hexadecimal digits of the bytes of a value that was made.
+pub(crate) fn spelling<T: Spell + Drop>(
+    alloc: Global,
+    made: Result<T, AllocError>,
+) -> Result<String, AllocError> {
+    let value = made?;
+    let bytes = spelled(alloc, &value);
+    drop(value);
+    written(alloc, bytes)
 }
 
 /// The text of a fault, where it isn't that memory was refused.
@@ -36,13 +49,5 @@ pub(crate) fn section_fault(alloc: Global, fault: SectionFault) -> Result<String
     match fault {
         SectionFault::Memory => Err(AllocError),
         _ => format!(in alloc; "{fault:?}"),
-    }
-}
-
-/// A number; 0 for anything else.
-pub(crate) fn number(word: Option<&str>) -> u32 {
-    match word {
-        Some(word) => word.parse::<u32>().unwrap_or(0),
-        None => 0,
     }
 }

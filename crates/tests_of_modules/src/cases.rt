@@ -1,9 +1,11 @@
-//! Cases, a line each, and what answers those of each topic.
+//! Cases, a line each, and what their inputs call.
 
-use crate::answers::bytes_of;
-use crate::bodies::generated;
-use crate::reading::{exported, read, stripped};
-use crate::writing::{called, code, elements, names, renamed};
+use crate::answers::{bytes_of, spelling, written};
+use crate::bodies::body;
+use crate::modules::called;
+use crate::reading::{read, stripped};
+use crate::sections::section;
+use core_bytes::set_module_name;
 use std::alloc::{AllocError, Global};
 
 /// A case.
@@ -27,70 +29,24 @@ impl<'a> Case<'a> {
     }
 }
 
-/// What is done with the inputs of a file.
-#[derive(Clone, Copy)]
-pub(crate) enum Topic {
-    /// A list of what a module has.
-    Read,
-    /// What an export of a module names.
-    Exported,
-    /// A module without its records.
-    Stripped,
-    /// A module with another name.
-    Renamed,
-    /// A section of one body.
-    Code,
-    /// A section of one element segment.
-    Elements,
-    /// A section of names.
-    Names,
-    /// The body of a generated function.
-    Generated,
-    /// Any other call.
-    Called,
-}
-
-impl Topic {
-    pub(crate) fn of(word: &str) -> Topic {
-        match word {
-            "read" => Topic::Read,
-            "exported" => Topic::Exported,
-            "stripped" => Topic::Stripped,
-            "renamed" => Topic::Renamed,
-            "code" => Topic::Code,
-            "elements" => Topic::Elements,
-            "names" => Topic::Names,
-            "generated" => Topic::Generated,
-            _ => Topic::Called,
-        }
-    }
-}
-
-/// What is answered of a module, and of what is asked of it.
-fn answer_of_module(
-    alloc: Global,
-    topic: Topic,
-    asked: &str,
-    digits: &str,
-) -> Result<String, AllocError> {
+/// What a call answers of a module, and of what stands in front of the module.
+fn answer_of_module(alloc: Global, call: &str, given: &str) -> Result<String, AllocError> {
+    let (asked, digits) = given.split_once(" & ").unwrap_or(("", given));
     let bytes = bytes_of(alloc, digits)?;
-    match topic {
-        Topic::Read => read(alloc, asked, &bytes),
-        Topic::Exported => exported(alloc, asked, &bytes),
-        Topic::Stripped => stripped(alloc, &bytes),
-        _ => renamed(alloc, asked, &bytes),
+    match call {
+        "read" => read(alloc, asked, &bytes),
+        "rename" => written(alloc, set_module_name(alloc, &bytes, asked)),
+        _ => stripped(alloc, &bytes),
     }
 }
 
 /// The answer to an input.
-pub(crate) fn answer(alloc: Global, topic: Topic, input: &str) -> Result<String, AllocError> {
-    let (first, second) = input.split_once(" & ").unwrap_or(("", input));
-    match topic {
-        Topic::Code => code(alloc, first, second),
-        Topic::Elements => elements(alloc, first, second),
-        Topic::Names => names(alloc, first, second),
-        Topic::Generated => generated(alloc, input),
-        Topic::Called => called(alloc, input),
-        _ => answer_of_module(alloc, topic, first, second),
+pub(crate) fn answer(alloc: Global, input: &str) -> Result<String, AllocError> {
+    let (call, given) = input.split_once(' ').unwrap_or((input, ""));
+    match call {
+        "read" | "rename" | "strip" => answer_of_module(alloc, call, given),
+        "body" => spelling(alloc, body(alloc, given)),
+        "section" => spelling(alloc, section(alloc, given)),
+        _ => called(alloc, input),
     }
 }

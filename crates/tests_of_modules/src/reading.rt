@@ -5,33 +5,26 @@ use comp_lists::Text;
 use core_sections::{CoreModule, Stripped, read_module, strip};
 use std::alloc::{AllocError, Global};
 
-/// A list of what a module has.
-fn part(alloc: Global, asked: &str, module: &CoreModule) -> Result<String, AllocError> {
-    match asked {
-        "types" => format!(in alloc; "{:?}", module.types.as_slice()),
-        "imports" => format!(in alloc; "{:?}", module.imports.as_slice()),
-        "functions" => format!(in alloc; "{:?}", module.items.functions.as_slice()),
-        _ => String::from_str(alloc, "no such list"),
-    }
-}
-
-/// A list of what a module has that is read, or the fault.
-pub(crate) fn read(alloc: Global, asked: &str, bytes: &[u8]) -> Result<String, AllocError> {
-    match read_module(alloc, bytes) {
-        Ok(module) => part(alloc, asked, &module),
-        Err(fault) => section_fault(alloc, fault),
-    }
-}
-
+/// What the export of this name names.
 fn export(alloc: Global, name: &str, module: &CoreModule) -> Result<String, AllocError> {
     let name = Text::from_str(alloc, name)?;
     format!(in alloc; "{:?}", module.exports.get(&name))
 }
 
-/// What the export of this name names, or the fault.
-pub(crate) fn exported(alloc: Global, name: &str, bytes: &[u8]) -> Result<String, AllocError> {
+/// A list of what a module has, or else what the export of this name names.
+fn part(alloc: Global, asked: &str, module: &CoreModule) -> Result<String, AllocError> {
+    match asked {
+        "types" => format!(in alloc; "{:?}", module.types.as_slice()),
+        "imports" => format!(in alloc; "{:?}", module.imports.as_slice()),
+        "functions" => format!(in alloc; "{:?}", module.items.functions.as_slice()),
+        name => export(alloc, name, module),
+    }
+}
+
+/// What is asked of a module that is read, or the fault.
+pub(crate) fn read(alloc: Global, asked: &str, bytes: &[u8]) -> Result<String, AllocError> {
     match read_module(alloc, bytes) {
-        Ok(module) => export(alloc, name, &module),
+        Ok(module) => part(alloc, asked, &module),
         Err(fault) => section_fault(alloc, fault),
     }
 }
