@@ -1,4 +1,4 @@
-//! Cases, a line each, and what answers those of each topic.
+//! Cases, a line each, and what their inputs call.
 
 use crate::building::built;
 use crate::components::{checked, equal, read};
@@ -28,42 +28,6 @@ impl<'a> Case<'a> {
     }
 }
 
-/// What is done with the inputs of a file.
-#[derive(Clone, Copy)]
-pub(crate) enum Topic {
-    /// Whether a name has a form of those of imports and exports.
-    Formed,
-    /// The definitions that bytes spell.
-    Read,
-    /// Whether the component is right.
-    Checked,
-    /// Whether its names are right.
-    NamesChecked,
-    /// Its lines.
-    Described,
-    /// Whether two components are the same definitions.
-    Equal,
-    /// The component that is built of its definitions again.
-    Built,
-    /// Any other call.
-    Called,
-}
-
-impl Topic {
-    pub(crate) fn of(word: &str) -> Topic {
-        match word {
-            "formed" => Topic::Formed,
-            "read" => Topic::Read,
-            "checked" => Topic::Checked,
-            "names-checked" => Topic::NamesChecked,
-            "described" => Topic::Described,
-            "equal" => Topic::Equal,
-            "built" => Topic::Built,
-            _ => Topic::Called,
-        }
-    }
-}
-
 /// Whether a name has its form.
 fn formed(alloc: Global, name: &str) -> Result<String, AllocError> {
     if is_formed(alloc, name)? {
@@ -82,33 +46,26 @@ fn bytes_of(alloc: Global, digits: &str) -> Result<Vec<u8>, AllocError> {
     }
 }
 
-/// What is answered of two parts of an input.
-fn answer_of_parts(
-    alloc: Global,
-    topic: Topic,
-    first: &str,
-    second: &str,
-) -> Result<String, AllocError> {
-    let bytes = bytes_of(alloc, second)?;
-    match topic {
-        Topic::Equal => {
-            let others = bytes_of(alloc, first)?;
-            equal(alloc, &others, &bytes)
-        }
-        _ => built(alloc, first, &bytes),
+/// What is answered of the last component of an input, and of what stands in front of it.
+fn answer_of_bytes(alloc: Global, call: &str, given: &str) -> Result<String, AllocError> {
+    let (first, digits) = given.split_once(" & ").unwrap_or(("", given));
+    let bytes = bytes_of(alloc, digits)?;
+    match call {
+        "check" => checked(alloc, &bytes),
+        "build" => built(alloc, first, &bytes),
+        "equal" => equal(alloc, &bytes_of(alloc, first)?, &bytes),
+        _ => read(alloc, call, &bytes),
     }
 }
 
 /// The answer to an input.
-pub(crate) fn answer(alloc: Global, topic: Topic, input: &str) -> Result<String, AllocError> {
-    match topic {
-        Topic::Formed => formed(alloc, input),
-        Topic::Called => called(alloc, input),
-        Topic::Equal | Topic::Built => {
-            let (first, second) = input.split_once(" & ").unwrap_or(("", input));
-            answer_of_parts(alloc, topic, first, second)
+pub(crate) fn answer(alloc: Global, input: &str) -> Result<String, AllocError> {
+    let (call, given) = input.split_once(' ').unwrap_or((input, ""));
+    match call {
+        "check" | "build" | "equal" | "read" | "check_names" | "describe" => {
+            answer_of_bytes(alloc, call, given)
         }
-        Topic::Checked => checked(alloc, &bytes_of(alloc, input)?),
-        _ => read(alloc, topic, &bytes_of(alloc, input)?),
+        "is_formed" => formed(alloc, given),
+        _ => called(alloc, call, given),
     }
 }

@@ -1,6 +1,5 @@
 //! Components by their bytes: how they are read, checked and shown.
 
-use crate::cases::Topic;
 use comp_bytes::{BuildFault, Defs};
 use comp_check::{CheckFault, check};
 use comp_lines::describe;
@@ -64,19 +63,19 @@ fn described(alloc: Global, definitions: &Defs) -> Result<String, AllocError> {
     }
 }
 
-/// What is answered of definitions.
-fn answer_of(alloc: Global, topic: Topic, definitions: &Defs) -> Result<String, AllocError> {
-    match topic {
-        Topic::NamesChecked => names_checked(alloc, definitions),
-        Topic::Described => described(alloc, definitions),
+/// What a call answers of definitions: whether their names are right, their lines, or the definitions.
+fn answer_of(alloc: Global, call: &str, definitions: &Defs) -> Result<String, AllocError> {
+    match call {
+        "check_names" => names_checked(alloc, definitions),
+        "describe" => described(alloc, definitions),
         _ => format!(in alloc; "{:?}", definitions.as_slice()),
     }
 }
 
-/// What is answered of the definitions that bytes spell, or the fault.
-pub(crate) fn read(alloc: Global, topic: Topic, bytes: &[u8]) -> Result<String, AllocError> {
+/// What a call answers of the definitions that bytes spell, or the fault.
+pub(crate) fn read(alloc: Global, call: &str, bytes: &[u8]) -> Result<String, AllocError> {
     match read_component(alloc, bytes) {
-        Ok(definitions) => answer_of(alloc, topic, &definitions),
+        Ok(definitions) => answer_of(alloc, call, &definitions),
         Err(fault) => refused(alloc, CheckFault::from(fault)),
     }
 }

@@ -1,15 +1,15 @@
 //! The program `tests_of_bytes`: components as bytes, how they are built, read, checked and shown, by cases.
 //!
-//! Its words go by twos: a topic, and a FILE of cases of that topic. A line of the file is a case:
-//! `NAME: EXPECTED <- INPUT`; a line that begins with `#` is a remark. Printed are the remarks and, for each
+//! Its words are FILES of cases. A line of a file is a case: `NAME: EXPECTED <- INPUT`, where the input is a
+//! call with what it is given; a line that begins with `#` is a remark. Printed are the remarks and, for each
 //! case, `NAME: ANSWER`, with what was expected where that is something else. So the file `stdout`, which the
 //! output is compared with, is the data without the inputs. What is expected was worked out by hand from
 //! the binary format of components. Where memory is refused, the program says so on standard error and ends
 //! with 1, whatever the case.
 //!
-//! In reading order: `cases` (lines, and the topics), `components` (components by their bytes: how they are
-//! read, checked and shown), `building` (components that are built again), `values` (counts, spaces and
-//! the texts of faults).
+//! In reading order: `cases` (lines, and what their inputs call), `components` (components by their bytes: how
+//! they are read, checked and shown), `building` (components that are built again), `values` (counts, spaces
+//! and the texts of faults).
 #![tactic(auto)]
 
 mod building;
@@ -17,7 +17,7 @@ mod cases;
 mod components;
 mod values;
 
-use cases::{Case, Topic, answer};
+use cases::{Case, answer};
 use std::process::ExitCode;
 use std::{env, fs, io};
 
@@ -34,30 +34,27 @@ fn print_answer(rt: &HostRuntime, case: Case<'_>, answer: &str) -> io::Result<()
 }
 
 /// Prints the answer to the case of a line, or the line where it is a remark.
-fn run_line(rt: &HostRuntime, topic: Topic, line: &str) -> io::Result<()> {
+fn run_line(rt: &HostRuntime, line: &str) -> io::Result<()> {
     if line.starts_with('#') {
         return println!(rt; "{line}");
     }
     let case = Case::of(line);
-    let answer = answer(rt.alloc(), topic, case.input)?;
+    let answer = answer(rt.alloc(), case.input)?;
     print_answer(rt, case, answer.as_str())
 }
 
 /// Prints the answers to the cases of a file.
-fn run_file(rt: &HostRuntime, topic: Topic, file: &str) -> io::Result<()> {
+fn run_file(rt: &HostRuntime, file: &str) -> io::Result<()> {
     let text = fs::read_to_string(rt, file)?;
     for line in text.lines() {
-        run_line(rt, topic, line)?;
+        run_line(rt, line)?;
     }
     Ok(())
 }
 
 fn run(rt: &HostRuntime) -> io::Result<()> {
-    let mut words = env::args(rt)?.skip(1);
-    while let Some(topic) = words.next() {
-        if let Some(file) = words.next() {
-            run_file(rt, Topic::of(topic.as_str()), file.as_str())?;
-        }
+    for file in env::args(rt)?.skip(1) {
+        run_file(rt, file.as_str())?;
     }
     Ok(())
 }

@@ -82,9 +82,8 @@ fn number(text: &str) -> u32 {
     text.parse::<u32>().unwrap_or(0)
 }
 
-/// What a call answers, the word of which stands in front of what it is given.
-pub(crate) fn called(alloc: Global, input: &str) -> Result<String, AllocError> {
-    let (call, given) = input.split_once(' ').unwrap_or((input, ""));
+/// What any other call answers.
+pub(crate) fn called(alloc: Global, call: &str, given: &str) -> Result<String, AllocError> {
     match call {
         "next_count" => next(alloc, number(given)),
         "count_of" => together(alloc, given),
