@@ -48,5 +48,5 @@ for program in "$@"; do
     cp stdout "$folder/stdout"
     cd data
     refuse_each "$program"
-    echo "$program: of the allocations, refused one at a time, $refused were told as want of memory, and $spared could be spared"
+    echo "$program: of the allocations, refused one at a time, $refused were answered as out of memory, and $spared could be spared"
 done
