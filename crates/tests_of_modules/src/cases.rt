@@ -1,0 +1,52 @@
+//! Cases, a line each, and what their inputs call.
+
+use crate::answers::{bytes_of, spelling, written};
+use crate::bodies::body;
+use crate::modules::called;
+use crate::reading::{read, stripped};
+use crate::sections::section;
+use core_bytes::set_module_name;
+use std::alloc::{AllocError, Global};
+
+/// A case.
+#[derive(Clone, Copy)]
+pub(crate) struct Case<'a> {
+    pub name: &'a str,
+    pub expected: &'a str,
+    pub input: &'a str,
+}
+
+impl<'a> Case<'a> {
+    /// The case of a line.
+    pub(crate) fn of(line: &'a str) -> Case<'a> {
+        let (name, rest) = line.split_once(": ").unwrap_or((line, ""));
+        let (expected, input) = rest.split_once(" <- ").unwrap_or((rest, ""));
+        Case {
+            name,
+            expected,
+            input,
+        }
+    }
+}
+
+/// What a call answers of a module, and of what stands in front of the module.
+fn answer_of_module(alloc: Global, call: &str, given: &str) -> Result<String, AllocError> {
+    let (asked, digits) = given.split_once(" & ").unwrap_or(("", given));
+    let bytes = bytes_of(alloc, digits)?;
+    match call {
+        "read" => read(alloc, asked, &bytes),
+        "rename" => written(alloc, set_module_name(alloc, &bytes, asked)),
+        _ => stripped(alloc, &bytes),
+    }
+}
+
+/// The answer to an input.
+pub(crate) fn answer(alloc: Global, input: &str) -> Result<String, AllocError> {
+    let (call, given) = input.split_once(' ').unwrap_or((input, ""));
+    match call {
+        "read" | "rename" | "strip" => answer_of_module(alloc, call, given),
+        "body" => spelling(alloc, body(alloc, given)),
+        "section" => spelling(alloc, section(alloc, given)),
+        _ => called(alloc, input),
+    }
+}
