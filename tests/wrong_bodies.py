@@ -196,8 +196,9 @@ class Ran:
 class Trial:
     """The wrong bodies of one crate, tried."""
 
-    def __init__(self, crate, kept):
-        self.crate, self.kept, self.sources = crate, kept, Sources(crate.folder)
+    def __init__(self, crate, kept, is_own):
+        # (a check writes what it proved of the edited text into the kept work: others see that only where it is the trial's own)
+        self.crate, self.kept, self.is_own, self.sources = crate, kept, is_own, Sources(crate.folder)
         self.said, self.checks, self.seconds = {}, 0, 0.0
 
     def run(self, paths):
@@ -265,9 +266,9 @@ class Trial:
             for path, text in texts.items():
                 with open(f"{room}/{path}", "w", encoding="utf-8") as it:
                     it.write(text)
-            kept = f"{room}/kept"
-            if os.path.isdir(self.kept):
-                shutil.copytree(self.kept, kept)
+            kept = self.kept
+            if not self.is_own:
+                kept = shutil.copytree(self.kept, f"{room}/kept")
             ran = None
             while ran is None or self.is_unnamed(ran, names):
                 only = [word for it in dict.fromkeys(it[0] for it in names) for word in ("--only", it)]
@@ -308,7 +309,7 @@ def tried(crate, after_ci):
     """What is to be printed of a crate's wrong bodies, how many were refused, and how many were not."""
     start, paths = time.time(), edits_of(crate, after_ci)
     with tempfile.TemporaryDirectory(prefix="wrong-bodies-") as room:
-        trial = Trial(crate, f"{room}/kept" if after_ci else f"{crate.folder}/out/incremental")
+        trial = Trial(crate, room if after_ci else f"{crate.folder}/out/incremental", after_ci)
         if after_ci or trial.is_proved():
             verdicts = trial.run(paths)
         else:
