@@ -14,10 +14,22 @@ def read(path):
         return b""
 
 
+def fields_of(pid):
+    """The fields of /proc/PID/stat behind the process's name, or none where it has ended."""
+    return read(f"/proc/{pid}/stat").rpartition(b")")[2].split()
+
+
 def seconds_of(pid):
     """The processor seconds of a process itself, without its children's."""
-    fields = read(f"/proc/{pid}/stat").rpartition(b")")[2].split()
-    return (int(fields[11]) + int(fields[12])) / TICKS if len(fields) > 12 else 0.0
+    fields = fields_of(pid)
+    return (int(fields[11]) + int(fields[12])) / TICKS if fields else 0.0
+
+
+def is_below(pid, above):
+    """Whether a process was started by another, or by one that was."""
+    while (fields := fields_of(pid)) and pid != str(above):
+        pid = fields[1].decode()
+    return pid == str(above)
 
 
 class Sampler:
@@ -56,9 +68,9 @@ class Sampler:
             folder = os.readlink(f"/proc/{pid}/cwd")
         except OSError:
             return None
-        is_inside = folder.startswith(f"{self.root}/")
-        if not is_inside and not any(f"={self.root}/" in it for it in words):
+        if not is_below(pid, os.getpid()):
             return None
+        is_inside = folder.startswith(f"{self.root}/")
         task = "must-fail" if not is_inside else "tests" if "--test" in words else "proof"
         return words[words.index("--crate-name") + 1], task
 

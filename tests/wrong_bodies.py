@@ -193,6 +193,14 @@ class Ran:
         return bool(self.lines) and bool(re.match(r"only=\d+ proved=\d+", self.lines[-1]))
 
 
+def link_or_copy(file, to):
+    """Gives a kept file a second name: a check writes new files, and changes none in place."""
+    try:
+        os.link(file, to)
+    except OSError:
+        shutil.copy2(file, to)
+
+
 class Trial:
     """The wrong bodies of one crate, tried."""
 
@@ -268,7 +276,7 @@ class Trial:
                     it.write(text)
             kept = self.kept
             if not self.is_own:
-                kept = shutil.copytree(self.kept, f"{room}/kept")
+                kept = shutil.copytree(self.kept, f"{room}/kept", copy_function=link_or_copy)
             ran = None
             while ran is None or self.is_unnamed(ran, names):
                 only = [word for it in dict.fromkeys(it[0] for it in names) for word in ("--only", it)]

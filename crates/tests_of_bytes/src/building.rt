@@ -2,10 +2,14 @@
 
 use crate::components::{not_built, refused};
 use comp_builder::ComponentBuilder;
-use comp_bytes::{Alias, BuildFault, Def, Defs, Item, TypeDef};
+use comp_bytes::{
+    Alias, BuildFault, Def, Defs, ExternName, InstanceType, Intrinsic, Item, TypeDef,
+};
 use comp_check::CheckFault;
+use comp_lists::{Seq, Text};
 use comp_read::read_component;
 use std::alloc::{AllocError, Global};
+use std::mem;
 
 /// The debug name that a word gives: `-` gives none.
 fn debug_name(word: Option<&str>) -> Option<&str> {
@@ -59,53 +63,98 @@ fn add_type(
     }
 }
 
-/// Adds a definition that is no component. Of a custom section only that it stands there is kept: it is
-/// that of the debug names, which the builder writes itself.
-fn add_item(
+/// What a list holds, which is empty then.
+fn taken<T>(alloc: Global, list: &mut Seq<T>) -> Seq<T> {
+    mem::replace(list, Seq::new(alloc))
+}
+
+/// A name, which is empty then.
+fn taken_name(alloc: Global, name: &mut ExternName) -> ExternName {
+    let empty = ExternName {
+        name: Text::new(alloc),
+        version_suffix: None,
+    };
+    mem::replace(name, empty)
+}
+
+/// Adds an import or an export.
+fn add_named(
+    alloc: Global,
     builder: &mut ComponentBuilder,
-    debug: Option<&str>,
-    item: Item,
+    item: &mut Item,
 ) -> Result<Option<u32>, BuildFault> {
     match item {
-        Item::CoreModule(module) => indexed(builder.core_module_raw(debug, module.as_slice())),
-        Item::CoreInstantiate { module, args } => {
-            indexed(builder.core_instantiate(debug, module, args))
+        Item::Import { name, description } => {
+            indexed(builder.import(taken_name(alloc, name), *description))
         }
-        Item::CoreExports(exports) => indexed(builder.core_instantiate_exports(debug, exports)),
-        Item::Instantiate { component, args } => {
-            indexed(builder.instantiate(debug, component, args))
-        }
-        Item::Alias(alias) => add_alias(builder, debug, &alias),
-        Item::Type(ty) => indexed(add_type(builder, debug, ty)),
-        Item::InstanceType(ty) => indexed(builder.type_instance(debug, ty)),
-        Item::Lift { func, options, ty } => indexed(builder.lift_func(debug, func, ty, options)),
-        Item::Lower { func, options } => indexed(builder.lower_func(debug, func, options)),
-        Item::Intrinsic(intrinsic) => indexed(builder.intrinsic(intrinsic)),
-        Item::Import { name, description } => indexed(builder.import(name, description)),
         Item::Export {
             name,
             sort,
             index,
             description,
-        } => indexed(builder.export(name, sort, index, description)),
+        } => { indexed(builder.export(taken_name(alloc, name), *sort, *index, *description)) }
+        _ => Ok(None),
+    }
+}
+
+/// Adds a definition that is no component. What it owns goes into the call that adds one like it. Of a custom
+/// section only that it stands there is kept: it is that of the debug names, which the builder writes itself.
+fn add_item(
+    alloc: Global,
+    builder: &mut ComponentBuilder,
+    debug: Option<&str>,
+    item: &mut Item,
+) -> Result<Option<u32>, BuildFault> {
+    match item {
+        Item::CoreModule(module) => indexed(builder.core_module_raw(debug, module.as_slice())),
+        Item::CoreInstantiate { module, args } => {
+            indexed(builder.core_instantiate(debug, *module, taken(alloc, args)))
+        }
+        Item::CoreExports(exports) => {
+            indexed(builder.core_instantiate_exports(debug, taken(alloc, exports)))
+        }
+        Item::Instantiate { component, args } => {
+            indexed(builder.instantiate(debug, *component, taken(alloc, args)))
+        }
+        Item::Alias(alias) => add_alias(builder, debug, alias),
+        Item::Type(ty) => {
+            let ty = mem::replace(ty, TypeDef::Resource(None));
+            indexed(add_type(builder, debug, ty))
+        }
+        Item::InstanceType(ty) => {
+            let members = taken(alloc, &mut ty.members);
+            indexed(builder.type_instance(debug, InstanceType { members }))
+        }
+        Item::Lift { func, options, ty } => {
+            indexed(builder.lift_func(debug, *func, *ty, taken(alloc, options)))
+        }
+        Item::Lower { func, options } => {
+            indexed(builder.lower_func(debug, *func, taken(alloc, options)))
+        }
+        Item::Intrinsic(intrinsic) => {
+            indexed(builder.intrinsic(mem::replace(intrinsic, Intrinsic::TaskCancel)))
+        }
         Item::Custom { .. } => add_names(builder),
+        Item::Import { .. } | Item::Export { .. } => add_named(alloc, builder, item),
     }
 }
 
 /// Adds a definition with its debug name, and answers its index.
 fn add(
+    alloc: Global,
     builder: &mut ComponentBuilder,
     debug: Option<&str>,
     definition: Def,
 ) -> Result<Option<u32>, BuildFault> {
     match definition {
-        Def::Item(item) => add_item(builder, debug, item),
+        Def::Item(mut item) => add_item(alloc, builder, debug, &mut item),
         Def::Component(items) => indexed(builder.component(debug, items)),
     }
 }
 
 /// Adds definitions with their debug names, and writes the index of each.
 fn add_all(
+    alloc: Global,
     builder: &mut ComponentBuilder,
     indices: &mut String,
     names: &str,
@@ -113,7 +162,7 @@ fn add_all(
 ) -> Result<(), BuildFault> {
     let mut words = names.split(' ');
     for definition in definitions.into_vec() {
-        if let Some(index) = add(builder, debug_name(words.next()), definition)? {
+        if let Some(index) = add(alloc, builder, debug_name(words.next()), definition)? {
             write!(indices, "{index} ")?;
         }
     }
@@ -128,7 +177,7 @@ fn build(
     definitions: Defs,
 ) -> Result<Vec<u8>, BuildFault> {
     let mut builder = ComponentBuilder::new(alloc);
-    match add_all(&mut builder, indices, names, definitions) {
+    match add_all(alloc, &mut builder, indices, names, definitions) {
         Ok(()) => builder.finish(),
         Err(fault) => Err(fault),
     }
