@@ -97,8 +97,29 @@ fn add_named(
     }
 }
 
-/// Adds a definition that is no component. What it owns goes into the call that adds one like it. Of a custom
-/// section only that it stands there is kept: it is that of the debug names, which the builder writes itself.
+/// Adds a definition by what it holds: a core module, an alias, or a custom section. Of the last only that it is
+/// there is kept: it is that of the debug names, which the builder writes itself.
+fn add_borrowed(
+    builder: &mut ComponentBuilder,
+    debug: Option<&str>,
+    item: &Item,
+) -> Result<Option<u32>, BuildFault> {
+    match item {
+        Item::CoreModule(module) => indexed(builder.core_module_raw(debug, module.as_slice())),
+        Item::Alias(alias) => add_alias(builder, debug, alias),
+        Item::Custom { .. } => add_names(builder),
+        _ => Ok(None),
+    }
+}
+
+fn is_borrowed(item: &Item) -> bool {
+    matches!(
+        item,
+        Item::CoreModule(_) | Item::Alias(_) | Item::Custom { .. }
+    )
+}
+
+/// Adds a definition that is no component. What it owns goes into the call that adds one like it.
 fn add_item(
     alloc: Global,
     builder: &mut ComponentBuilder,
@@ -106,7 +127,6 @@ fn add_item(
     item: &mut Item,
 ) -> Result<Option<u32>, BuildFault> {
     match item {
-        Item::CoreModule(module) => indexed(builder.core_module_raw(debug, module.as_slice())),
         Item::CoreInstantiate { module, args } => {
             indexed(builder.core_instantiate(debug, *module, taken(alloc, args)))
         }
@@ -116,7 +136,6 @@ fn add_item(
         Item::Instantiate { component, args } => {
             indexed(builder.instantiate(debug, *component, taken(alloc, args)))
         }
-        Item::Alias(alias) => add_alias(builder, debug, alias),
         Item::Type(ty) => {
             let ty = mem::replace(ty, TypeDef::Resource(None));
             indexed(add_type(builder, debug, ty))
@@ -134,8 +153,7 @@ fn add_item(
         Item::Intrinsic(intrinsic) => {
             indexed(builder.intrinsic(mem::replace(intrinsic, Intrinsic::TaskCancel)))
         }
-        Item::Custom { .. } => add_names(builder),
-        Item::Import { .. } | Item::Export { .. } => add_named(alloc, builder, item),
+        _ => add_named(alloc, builder, item),
     }
 }
 
@@ -147,6 +165,7 @@ fn add(
     definition: Def,
 ) -> Result<Option<u32>, BuildFault> {
     match definition {
+        Def::Item(item) if is_borrowed(&item) => add_borrowed(builder, debug, &item),
         Def::Item(mut item) => add_item(alloc, builder, debug, &mut item),
         Def::Component(items) => indexed(builder.component(debug, items)),
     }
