@@ -5,10 +5,11 @@
 
 use crate::cases::word_and_rest;
 use crate::faults::print_fault;
+use crate::wits::{add_item, empty, name};
 use comp_lists::{Keyed, Seq, Text};
 use record_json::{Failure, Refusal};
 use record_resolving::{Resolved, resolve};
-use record_values::{Func, Interface, InterfaceName, Item, ItemKey, Node, Wit};
+use record_values::{Func, Interface, InterfaceName, Node, Wit};
 use std::alloc::{AllocError, Global};
 use wit_data::Primitive;
 
@@ -42,38 +43,21 @@ fn interface(alloc: Global) -> Result<Interface, AllocError> {
     })
 }
 
-fn name(alloc: Global, id: &str) -> Result<InterfaceName, AllocError> {
-    match Text::from_str(alloc, id) {
-        Ok(id) => Ok(InterfaceName::Id(id)),
-        Err(refused) => Err(refused),
-    }
-}
-
-fn interfaces(alloc: Global, id: &str) -> Result<Keyed<InterfaceName, Interface>, AllocError> {
-    let mut interfaces = Keyed::new(alloc);
+fn add_interface(
+    alloc: Global,
+    interfaces: &mut Keyed<InterfaceName, Interface>,
+    id: &str,
+) -> Result<(), AllocError> {
     let interface = interface(alloc)?;
-    interfaces.add_first(name(alloc, id)?, interface)?;
-    Ok(interfaces)
-}
-
-fn side(alloc: Global, id: &str, is_there: bool) -> Result<Keyed<ItemKey, Item>, AllocError> {
-    let mut items = Keyed::new(alloc);
-    if is_there {
-        let key = ItemKey::Interface(Text::from_str(alloc, id)?);
-        items.add_first(key, Item::Interface(name(alloc, id)?))?;
-    }
-    Ok(items)
+    interfaces.add_first(name(alloc, id)?, interface)
 }
 
 fn world(alloc: Global, id: &str, imported: bool, exported: bool) -> Result<Wit, AllocError> {
-    let imports = side(alloc, id, imported)?;
-    let exports = side(alloc, id, exported)?;
-    let interfaces = interfaces(alloc, id)?;
-    Ok(Wit {
-        interfaces,
-        imports,
-        exports,
-    })
+    let mut wit = empty(alloc);
+    add_interface(alloc, &mut wit.interfaces, id)?;
+    add_item(alloc, &mut wit.imports, id, imported)?;
+    add_item(alloc, &mut wit.exports, id, exported)?;
+    Ok(wit)
 }
 
 fn print_count(alloc: Global, resolved: &Resolved) -> Result<String, AllocError> {

@@ -6,18 +6,12 @@
 
 use crate::cases::word_and_rest;
 use crate::faults::print_fault;
+use crate::wits::{add_item, empty, name};
 use comp_lists::{Keyed, Seq, Text};
 use record_settling::settle;
-use record_values::{Interface, InterfaceName, Item, ItemKey, Node, Owner, TypeName, Typed, Wit};
+use record_values::{Interface, InterfaceName, Node, Owner, TypeName, Typed, Wit};
 use std::alloc::{AllocError, Global};
 use wit_data::Primitive;
-
-fn name(alloc: Global, id: &str) -> Result<InterfaceName, AllocError> {
-    match Text::from_str(alloc, id) {
-        Ok(id) => Ok(InterfaceName::Id(id)),
-        Err(refused) => Err(refused),
-    }
-}
 
 /// The type `t` of an interface.
 fn type_of(alloc: Global, id: &str) -> Result<TypeName, AllocError> {
@@ -79,27 +73,6 @@ fn add_interface(
     interfaces.add_first(name(alloc, id)?, interface)
 }
 
-fn key(alloc: Global, id: &str) -> Result<ItemKey, AllocError> {
-    match Text::from_str(alloc, id) {
-        Ok(id) => Ok(ItemKey::Interface(id)),
-        Err(refused) => Err(refused),
-    }
-}
-
-/// Adds an interface to the imports or the exports, where it is there.
-fn add_item(
-    alloc: Global,
-    items: &mut Keyed<ItemKey, Item>,
-    id: &str,
-    is_there: bool,
-) -> Result<(), AllocError> {
-    if !is_there {
-        return Ok(());
-    }
-    let key = key(alloc, id)?;
-    items.add_first(key, Item::Interface(name(alloc, id)?))
-}
-
 fn add_row(alloc: Global, wit: &mut Wit, text: &str) -> Result<(), AllocError> {
     let (side, rest) = word_and_rest(text);
     let (id, uses) = word_and_rest(rest);
@@ -109,11 +82,7 @@ fn add_row(alloc: Global, wit: &mut Wit, text: &str) -> Result<(), AllocError> {
 }
 
 fn world(alloc: Global, text: &str) -> Result<Wit, AllocError> {
-    let mut wit = Wit {
-        interfaces: Keyed::new(alloc),
-        imports: Keyed::new(alloc),
-        exports: Keyed::new(alloc),
-    };
+    let mut wit = empty(alloc);
     for row in text.split("; ") {
         add_row(alloc, &mut wit, row)?;
     }

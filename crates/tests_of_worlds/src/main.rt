@@ -2,15 +2,15 @@
 //!
 //! Its words are the names of files, each on one topic. A line of a file is a case: its name, a colon, the expected
 //! answer, an arrow, and what is asked. A line `given:` has what the cases behind it are asked of, and a line
-//! that begins with `#` is a comment, as is the first of a file. Each answer is printed behind the name of its case, with the expected one where
-//! that differs, and at the end of a file how many were as expected. Where memory is refused it says so, and ends with
-//! status 1.
+//! that begins with `#` is a comment, as is the first of a file. Each answer is printed behind the name of its
+//! case, with the expected one where that differs, and at the end of a file how many were as expected. Where memory
+//! is refused it says so, and ends with status 1.
 //!
 //! The expected answers aren't this program's: each file says where they are from.
 //!
-//! In reading order: `cases` (files and lines), `types` (types and functions as text), then the topics: `signatures` (core
-//! signatures), `soundness` and `places` (what is sound), `names`, `contents`, `reached`, `options`, `exports`, `imports`,
-//! `worlds` (other modules of a world), `tables` (what follows from a world's parts).
+//! In reading order: `cases` (files and lines), `types` (types and functions as text), then the topics: `signatures`
+//! (core signatures), `soundness` and `places` (what is sound), `names`, `contents`, `reached`, `options`, `exports`,
+//! `imports`, `worlds` (other modules of a world), `tables` (what follows from a world's parts).
 #![tactic(auto)]
 
 mod cases;
