@@ -1,385 +1,252 @@
-//! Versions, names, contents and reached types by tables. What is expected was worked out from the
-//! component model's explainer (`canonversion`, `versionsuffix`, `interfacename`) and from the Canonical
-//! ABI (`store`, `load`), by hand.
+//! Versions, and names of interfaces and of what stands in a world.
+//!
+//! Asked is one of these:
+//!
+//! - `version` and a version: its canonical form and what that lacks;
+//! - `whole`, `canonical` or `suffix`, and a namespace, a package, an interface, and perhaps a version: the whole name, the canonical
+//!   one, or what that lacks, each of a copy;
+//! - `key` or `canonical-key`, and the number of an interface of those that are given: the name of its key, whole or canonical;
+//! - `id` or `canonical-id`, and such a number: the name of the interface;
+//! - `plain-key` or `canonical-plain-key`, and a text: the name of that key.
+//!
+//! Given are the names of interfaces, with `; ` between them, or `_` where one has none. What is absent is printed as `none`, and
+//! an empty text as `empty`.
 
-use bitflags::Flags;
-use comp_lists::{Keyed, Seq, Text};
+use crate::types::{empty_interface, number, resolve_with, word_and_rest};
+use comp_lists::{Seq, Text};
 use semver::Version;
-use std::alloc::Global;
-use std::test::*;
-use wit_data::*;
+use std::alloc::{AllocError, Global};
+use wit_data::{
+    CanonicalVersion, IdName, Interface, InterfaceId, PackageVersion, Resolve, WorldKey,
+    canonical_version,
+};
 
-/// The canonical version of a text, where memory allows.
-fn canonical(alloc: Global, text: &str) -> Option<CanonicalVersion> {
-    let version = Version::parse(alloc, text).ok()?;
-    canonical_version(alloc, &version).ok()
-}
-
-/// Whether the text is this one, or there is none where none is expected.
-fn is_expected(text: &Option<Text>, expected: Option<&str>) -> bool {
-    match (text, expected) {
-        (Some(text), Some(expected)) => text.is(expected),
-        (None, None) => true,
-        _ => false,
+/// The version of a text. All versions in the files are well formed, so it fails only for want of memory.
+fn version_of(alloc: Global, text: &str) -> Result<Version, AllocError> {
+    match Version::parse(alloc, text) {
+        Ok(version) => Ok(version),
+        Err(_) => Err(AllocError),
     }
 }
 
-#[test]
-fn versions_are_cut_where_compatible_ones_part(rt: HostRuntime) -> Result<(), Fail> {
-    let rows = [
-        ("0.2.1", "0.2", Some(".1")),
-        ("1.2.3", "1", Some(".2.3")),
-        ("0.0.3", "0.0.3", None),
-        ("0.0.0", "0.0.0", None),
-        ("0.10.0", "0.10", Some(".0")),
-        ("10.20.30", "10", Some(".20.30")),
-        ("1.0.0-rc.1", "1.0.0-rc.1", None),
-        ("0.2.0-rc-2023-11-05", "0.2.0-rc-2023-11-05", None),
-        ("1.0.0+build.5", "1.0.0+build.5", None),
-        (
-            "18446744073709551615.0.7",
-            "18446744073709551615",
-            Some(".0.7"),
-        ),
-    ];
-    for (text, version, suffix) in rows {
-        let cut = canonical(rt.alloc(), text).ok_or("memory")?;
-        assert!(rt; cut.version.is(version), "{text}");
-        assert!(rt; is_expected(&cut.suffix, suffix), "{text}");
+/// A text that may be absent.
+fn text_or_none(text: &Option<Text>) -> &str {
+    match text {
+        Some(text) => text.as_str(),
+        None => "none",
     }
-    Ok(())
 }
 
-/// The interface `types` of the package `wasi:http`, of a version or of none.
-fn types_of_http(alloc: Global, version: Option<&str>) -> Option<IdName> {
-    let version = match version {
-        Some(text) => Some(PackageVersion::of(Version::parse(alloc, text).ok()?)),
-        None => None,
-    };
-    Some(IdName {
-        namespace: Text::from_str(alloc, "wasi").ok()?,
-        package: Text::from_str(alloc, "http").ok()?,
-        interface: Text::from_str(alloc, "types").ok()?,
+fn print_version(alloc: Global, cut: &CanonicalVersion) -> Result<String, AllocError> {
+    format!(in alloc; "{} | {}", cut.version.as_str(), text_or_none(&cut.suffix))
+}
+
+fn version_answer(alloc: Global, text: &str) -> Result<String, AllocError> {
+    let version = version_of(alloc, text)?;
+    let cut = canonical_version(alloc, &version)?;
+    print_version(alloc, &cut)
+}
+
+/// A version, where there is a text.
+fn package_version(alloc: Global, text: &str) -> Result<Option<PackageVersion>, AllocError> {
+    if text.is_empty() {
+        return Ok(None);
+    }
+    let version = version_of(alloc, text)?;
+    Ok(Some(PackageVersion::of(version)))
+}
+
+/// A namespace, a package and an interface.
+fn path(alloc: Global, text: &str) -> Result<(Text, Text, Text), AllocError> {
+    let (namespace, rest) = word_and_rest(text);
+    let (package, interface) = word_and_rest(rest);
+    let namespace = Text::from_str(alloc, namespace)?;
+    let package = Text::from_str(alloc, package)?;
+    let interface = Text::from_str(alloc, interface)?;
+    Ok((namespace, package, interface))
+}
+
+fn id_name_of(path: (Text, Text, Text), version: Option<PackageVersion>) -> IdName {
+    let (namespace, package, interface) = path;
+    IdName {
+        namespace,
+        package,
+        interface,
         version,
-    })
-}
-
-/// The whole name, the canonical one and the suffix, each of a copy.
-fn told(alloc: Global, version: Option<&str>) -> Option<(Text, Text, Option<Text>)> {
-    let name = types_of_http(alloc, version)?;
-    let copy = name.clone(alloc).ok()?;
-    let whole = copy.text(alloc).ok()?;
-    let canonical = copy.canonical_text(alloc).ok()?;
-    Some((whole, canonical, name.version_suffix(alloc).ok()?))
-}
-
-#[test]
-fn names_have_a_whole_and_a_canonical_text(rt: HostRuntime) -> Result<(), Fail> {
-    let rows = [
-        (None, "wasi:http/types", "wasi:http/types", None),
-        (
-            Some("0.2.1"),
-            "wasi:http/types@0.2.1",
-            "wasi:http/types@0.2",
-            Some(".1"),
-        ),
-        (
-            Some("2.3.4"),
-            "wasi:http/types@2.3.4",
-            "wasi:http/types@2",
-            Some(".3.4"),
-        ),
-        (
-            Some("0.3.0-rc.1"),
-            "wasi:http/types@0.3.0-rc.1",
-            "wasi:http/types@0.3.0-rc.1",
-            None,
-        ),
-    ];
-    for (version, whole, canonical, suffix) in rows {
-        let (text, short, rest) = told(rt.alloc(), version).ok_or("memory")?;
-        assert!(rt; text.is(whole), "{whole}");
-        assert!(rt; short.is(canonical), "{whole}");
-        assert!(rt; is_expected(&rest, suffix), "{whole}");
     }
+}
+
+/// A namespace, a package, an interface, and perhaps a version, as one name.
+fn id_name(alloc: Global, text: &str) -> Result<IdName, AllocError> {
+    let (names, version) = text.split_once("@").unwrap_or((text, ""));
+    let path = path(alloc, names)?;
+    let version = package_version(alloc, version)?;
+    Ok(id_name_of(path, version))
+}
+
+fn print_suffix(alloc: Global, name: &IdName) -> Result<String, AllocError> {
+    let suffix = name.version_suffix(alloc)?;
+    String::from_str(alloc, text_or_none(&suffix))
+}
+
+fn print_text(text: Result<Text, AllocError>) -> Result<String, AllocError> {
+    match text {
+        Ok(text) => Ok(text.into_string()),
+        Err(refused) => Err(refused),
+    }
+}
+
+fn print_name(alloc: Global, question: &str, name: &IdName) -> Result<String, AllocError> {
+    match question {
+        "whole" => print_text(name.text(alloc)),
+        "canonical" => print_text(name.canonical_text(alloc)),
+        _ => print_suffix(alloc, name),
+    }
+}
+
+/// What is printed of a copy of a name.
+fn print_copy(alloc: Global, question: &str, name: &IdName) -> Result<String, AllocError> {
+    let copy = name.clone(alloc)?;
+    let printed = print_name(alloc, question, &copy);
+    drop(copy);
+    printed
+}
+
+fn name_answer(alloc: Global, question: &str, text: &str) -> Result<String, AllocError> {
+    let name = id_name(alloc, text)?;
+    let printed = print_copy(alloc, question, &name);
+    drop(name);
+    printed
+}
+
+/// An interface of this name, or of none.
+fn interface(alloc: Global, text: &str) -> Result<Interface, AllocError> {
+    if text == "_" {
+        return Ok(empty_interface(alloc, None));
+    }
+    match id_name(alloc, text) {
+        Ok(name) => Ok(empty_interface(alloc, Some(name))),
+        Err(refused) => Err(refused),
+    }
+}
+
+fn push_interface(
+    alloc: Global,
+    interfaces: &mut Seq<Interface>,
+    text: &str,
+) -> Result<(), AllocError> {
+    let interface = interface(alloc, text)?;
+    interfaces.push(interface)?;
     Ok(())
 }
 
-/// An interface of this name without types and functions.
-fn empty_interface(alloc: Global, id: Option<IdName>) -> Interface {
-    Interface {
-        id,
-        types: Keyed::new(alloc),
-        functions: Keyed::new(alloc),
+fn interfaces(alloc: Global, given: &str) -> Result<Seq<Interface>, AllocError> {
+    let mut interfaces = Seq::new(alloc);
+    for text in given.split("; ") {
+        push_interface(alloc, &mut interfaces, text)?;
+    }
+    Ok(interfaces)
+}
+
+fn resolve(alloc: Global, given: &str) -> Result<Resolve, AllocError> {
+    let interfaces = interfaces(alloc, given)?;
+    resolve_with(alloc, interfaces, "")
+}
+
+/// The text of a name, which may be empty.
+fn print_or_empty(alloc: Global, text: Result<Text, AllocError>) -> Result<String, AllocError> {
+    match text {
+        Ok(text) => {
+            if text.is_empty() {
+                return String::from_str(alloc, "empty");
+            }
+            Ok(text.into_string())
+        }
+        Err(refused) => Err(refused),
     }
 }
 
-/// Three interfaces: with a version, without a version, without a name.
-fn three_interfaces(alloc: Global) -> Option<Resolve> {
-    let mut interfaces = Seq::new(alloc);
-    let name = types_of_http(alloc, Some("0.2.1"))?;
-    interfaces.push(empty_interface(alloc, Some(name))).ok()?;
-    let name = types_of_http(alloc, None)?;
-    interfaces.push(empty_interface(alloc, Some(name))).ok()?;
-    interfaces.push(empty_interface(alloc, None)).ok()?;
-    Some(Resolve {
-        interfaces,
-        types: Seq::new(alloc),
-        worlds: Seq::new(alloc),
-    })
+/// The text of a name, which may be absent.
+fn print_or_none(
+    alloc: Global,
+    text: Result<Option<Text>, AllocError>,
+) -> Result<String, AllocError> {
+    match text {
+        Ok(Some(text)) => Ok(text.into_string()),
+        Ok(None) => String::from_str(alloc, "none"),
+        Err(refused) => Err(refused),
+    }
 }
 
-/// What an interface and its key are called, whole and canonical.
-fn called(
-    resolve: &Resolve,
+/// A name of an interface or of its key.
+fn print_key(
     alloc: Global,
+    resolve: &Resolve,
+    question: &str,
     index: usize,
-) -> Option<(Text, Text, Option<Text>, Option<Text>)> {
+) -> Result<String, AllocError> {
     if !resolve.is_sound() || index >= resolve.interfaces.len() {
-        return None;
+        return String::from_str(alloc, "unsound");
     }
     let id = InterfaceId { index };
     let key = WorldKey::Interface(id);
-    let text = resolve.name_world_key(alloc, &key).ok()?;
-    let canonical = resolve.name_canonicalized_world_key(alloc, &key).ok()?;
-    let whole = resolve.id_of(alloc, id).ok()?;
-    Some((
-        text,
-        canonical,
-        whole,
-        resolve.canonicalized_id_of(alloc, id).ok()?,
-    ))
-}
-
-#[test]
-fn keys_are_called_as_their_interfaces(rt: HostRuntime) -> Result<(), Fail> {
-    let resolve = three_interfaces(rt.alloc()).ok_or("memory")?;
-    let rows = [
-        (
-            0,
-            Some("wasi:http/types@0.2.1"),
-            Some("wasi:http/types@0.2"),
-        ),
-        (1, Some("wasi:http/types"), Some("wasi:http/types")),
-        (2, None, None),
-    ];
-    for (index, whole, canonical) in rows {
-        let (text, short, id, short_id) = called(&resolve, rt.alloc(), index).ok_or("memory")?;
-        assert!(rt; text.is(whole.unwrap_or("")), "{index}");
-        assert!(rt; short.is(canonical.unwrap_or("")), "{index}");
-        assert!(rt; is_expected(&id, whole), "{index}");
-        assert!(rt; is_expected(&short_id, canonical), "{index}");
+    match question {
+        "key" => print_or_empty(alloc, resolve.name_world_key(alloc, &key)),
+        "canonical-key" => print_or_empty(alloc, resolve.name_canonicalized_world_key(alloc, &key)),
+        "id" => print_or_none(alloc, resolve.id_of(alloc, id)),
+        _ => print_or_none(alloc, resolve.canonicalized_id_of(alloc, id)),
     }
-    Ok(())
 }
 
-/// A plain key's name, whole and canonical.
-fn plainly_called(alloc: Global, name: &str) -> Option<(Text, Text)> {
-    let resolve = three_interfaces(alloc)?;
-    let key = WorldKey::Name(Text::from_str(alloc, name).ok()?);
+fn key_answer(
+    alloc: Global,
+    question: &str,
+    given: &str,
+    text: &str,
+) -> Result<String, AllocError> {
+    let resolve = resolve(alloc, given)?;
+    let printed = print_key(alloc, &resolve, question, number(text));
+    drop(resolve);
+    printed
+}
+
+/// The name of a key that is a text.
+fn print_plain_key(
+    alloc: Global,
+    resolve: &Resolve,
+    question: &str,
+    text: Text,
+) -> Result<String, AllocError> {
+    let key = WorldKey::Name(text);
     if !resolve.is_sound() {
-        return None;
+        return String::from_str(alloc, "unsound");
     }
-    let text = resolve.name_world_key(alloc, &key).ok()?;
-    Some((
-        text,
-        resolve.name_canonicalized_world_key(alloc, &key).ok()?,
-    ))
-}
-
-#[test]
-fn plain_keys_are_called_by_their_names(rt: HostRuntime) -> Result<(), Fail> {
-    let (text, canonical) = plainly_called(rt.alloc(), "f@1.2.3").ok_or("memory")?;
-    assert!(rt; text.is("f@1.2.3") && canonical.is("f@1.2.3"));
-    Ok(())
-}
-
-const STRING: Type = Type::Primitive(Primitive::String);
-
-const BYTE: Type = Type::Primitive(Primitive::U8);
-
-fn by_number(index: usize) -> Type {
-    Type::Id(TypeId { index })
-}
-
-fn labels(alloc: Global) -> Option<Seq<Text>> {
-    let mut labels = Seq::new(alloc);
-    labels.push(Text::from_str(alloc, "a").ok()?).ok()?;
-    Some(labels)
-}
-
-fn record_of(alloc: Global, types: &[Type]) -> Option<TypeDefKind> {
-    let mut fields = Seq::new(alloc);
-    for ty in types {
-        let name = Text::from_str(alloc, "a").ok()?;
-        fields.push(Field { name, ty: *ty }).ok()?;
-    }
-    Some(TypeDefKind::Record(fields))
-}
-
-fn variant_of(alloc: Global, types: &[Option<Type>]) -> Option<TypeDefKind> {
-    let mut cases = Seq::new(alloc);
-    for ty in types {
-        let name = Text::from_str(alloc, "a").ok()?;
-        cases.push(Case { name, ty: *ty }).ok()?;
-    }
-    Some(TypeDefKind::Variant(cases))
-}
-
-fn tuple_of(alloc: Global, types: &[Type]) -> Option<TypeDefKind> {
-    let mut list = Seq::new(alloc);
-    for ty in types {
-        list.push(*ty).ok()?;
-    }
-    Some(TypeDefKind::Tuple(list))
-}
-
-/// A type of each kind, by number.
-fn kind_of_row(alloc: Global, row: usize) -> Option<TypeDefKind> {
-    match row {
-        0 => Some(TypeDefKind::Resource),
-        1 => Some(TypeDefKind::Own(TypeId { index: 0 })),
-        2 => Some(TypeDefKind::Borrow(TypeId { index: 0 })),
-        3 => record_of(alloc, &[BYTE, STRING]),
-        4 => variant_of(alloc, &[None, Some(STRING)]),
-        5 => Some(TypeDefKind::Enum(labels(alloc)?)),
-        6 => Some(TypeDefKind::Flags(labels(alloc)?)),
-        7 => tuple_of(alloc, &[STRING, BYTE]),
-        8 => Some(TypeDefKind::Option(STRING)),
-        9 => Some(TypeDefKind::Result(ResultType {
-            ok: None,
-            err: Some(STRING),
-        })),
-        10 => Some(TypeDefKind::List(BYTE)),
-        11 => Some(TypeDefKind::List(STRING)),
-        12 => Some(TypeDefKind::Stream(Some(STRING))),
-        13 => Some(TypeDefKind::Future(Some(by_number(11)))),
-        14 => Some(TypeDefKind::Alias(by_number(11))),
-        15 => record_of(alloc, &[by_number(1), by_number(12), by_number(5)]),
-        16 => tuple_of(alloc, &[by_number(10), by_number(3), by_number(15)]),
-        _ => None,
+    match question {
+        "plain-key" => print_or_empty(alloc, resolve.name_world_key(alloc, &key)),
+        _ => print_or_empty(alloc, resolve.name_canonicalized_world_key(alloc, &key)),
     }
 }
 
-/// A resolve of the first so many rows, without an interface.
-fn rows_of(alloc: Global, count: usize) -> Option<Resolve> {
-    let mut types = Seq::new(alloc);
-    for row in 0..count {
-        let kind = kind_of_row(alloc, row)?;
-        types
-            .push(TypeDef {
-                name: None,
-                kind,
-                owner: TypeOwner::None,
-            })
-            .ok()?;
-    }
-    Some(Resolve {
-        interfaces: Seq::new(alloc),
-        types,
-        worlds: Seq::new(alloc),
-    })
+fn plain_key_answer(
+    alloc: Global,
+    question: &str,
+    given: &str,
+    text: &str,
+) -> Result<String, AllocError> {
+    let text = Text::from_str(alloc, text)?;
+    let resolve = resolve(alloc, given)?;
+    let printed = print_plain_key(alloc, &resolve, question, text);
+    drop(resolve);
+    printed
 }
 
-/// What the type of a number contains.
-fn contents(resolve: &Resolve, index: usize) -> Option<u8> {
-    if !resolve.is_sound() || index >= resolve.types.len() {
-        return None;
+pub(crate) fn answer(alloc: Global, given: &str, asked: &str) -> Result<String, AllocError> {
+    let (question, rest) = word_and_rest(asked);
+    match question {
+        "version" => version_answer(alloc, rest),
+        "whole" | "canonical" | "suffix" => name_answer(alloc, question, rest),
+        "key" | "canonical-key" | "id" | "canonical-id" => key_answer(alloc, question, given, rest),
+        "plain-key" | "canonical-plain-key" => plain_key_answer(alloc, question, given, rest),
+        _ => String::from_str(alloc, "no question"),
     }
-    let ty = Type::Id(TypeId { index });
-    Some(resolve.type_contents(&ty).bits())
-}
-
-#[test]
-fn contents_of_each_kind(rt: HostRuntime) -> Result<(), Fail> {
-    let resolve = rows_of(rt.alloc(), 17).ok_or("memory")?;
-    let expected = [0, 0, 0, 1, 1, 0, 0, 1, 1, 1, 2, 3, 0, 0, 3, 0, 3];
-    for index in 0..17 {
-        let bits = contents(&resolve, index).ok_or("the rows are sound")?;
-        assert_eq!(rt; bits, expected[index], "{index}");
-    }
-    Ok(())
-}
-
-/// All rows, and an interface that names types by these numbers, in this order.
-fn named_rows(alloc: Global, order: &[usize]) -> Option<Resolve> {
-    let mut resolve = rows_of(alloc, 17)?;
-    let mut interface = empty_interface(alloc, None);
-    for index in order {
-        let name = Text::from_string(format!(in alloc; "t{index}").ok()?);
-        interface
-            .types
-            .add_first(name, TypeId { index: *index })
-            .ok()?;
-    }
-    resolve.interfaces.push(interface).ok()?;
-    Some(resolve)
-}
-
-/// The numbers of the interface's types that two types reach, with a space before each.
-fn reached_by(resolve: &Resolve, alloc: Global, first: usize, second: usize) -> Option<String> {
-    let count = resolve.types.len();
-    if !resolve.is_sound() || resolve.interfaces.is_empty() || first >= count || second >= count {
-        return None;
-    }
-    let given = [
-        Type::Id(TypeId { index: first }),
-        Type::Id(TypeId { index: second }),
-    ];
-    let live = resolve
-        .live_types(alloc, InterfaceId { index: 0 }, &given)
-        .ok()?;
-    let mut out = String::new(alloc);
-    for id in &live {
-        let index = id.index;
-        out.push_str(format!(in alloc; " {index}").ok()?.as_str())
-            .ok()?;
-    }
-    Some(out)
-}
-
-#[test]
-fn reached_types_stand_in_the_order_of_the_interface(rt: HostRuntime) -> Result<(), Fail> {
-    let downwards = [16, 15, 14, 13, 12, 11, 10, 5, 3, 2, 1, 0];
-    let resolve = named_rows(rt.alloc(), &downwards).ok_or("memory")?;
-    let rows = [
-        (16, 16, " 16 15 12 10 5 3 1 0"),
-        (14, 14, " 14 11"),
-        (13, 13, " 13 11"),
-        (2, 2, " 2 0"),
-        (1, 2, " 2 1 0"),
-        (13, 14, " 14 13 11"),
-        (9, 8, ""),
-    ];
-    for (first, second, expected) in rows {
-        let live = reached_by(&resolve, rt.alloc(), first, second).ok_or("memory")?;
-        assert_eq!(rt; live.as_str(), expected);
-    }
-    Ok(())
-}
-
-#[test]
-fn another_order_is_kept(rt: HostRuntime) -> Result<(), Fail> {
-    let resolve = named_rows(rt.alloc(), &[0, 2, 1, 3]).ok_or("memory")?;
-    let live = reached_by(&resolve, rt.alloc(), 1, 2).ok_or("memory")?;
-    assert_eq!(rt; live.as_str(), " 0 2 1");
-    Ok(())
-}
-
-/// How many types of an interface no type reaches.
-fn reached_by_none(resolve: &Resolve, alloc: Global) -> Option<usize> {
-    if !resolve.is_sound() || resolve.interfaces.is_empty() {
-        return None;
-    }
-    let live = resolve
-        .live_types(alloc, InterfaceId { index: 0 }, &[])
-        .ok()?;
-    Some(live.len())
-}
-
-#[test]
-fn no_types_reach_nothing(rt: HostRuntime) -> Result<(), Fail> {
-    let resolve = named_rows(rt.alloc(), &[0, 1, 2]).ok_or("memory")?;
-    assert_eq!(rt; reached_by_none(&resolve, rt.alloc()).ok_or("memory")?, 0);
-    Ok(())
 }

@@ -1,117 +1,124 @@
-//! Sets of options and the options of a set. The expected sets were worked out from the Canonical ABI.
+//! Sets of options, and the options of a set.
+//!
+//! Asked is one of these:
+//!
+//! - `lift` or `lower`, and what values contain (`string`, `memory` or `nothing`): the bits of the set;
+//! - `list`, a set, an encoding, and the numbers of a memory and a realloc (`_` where there is none): how many options there
+//!   are, each option and how many are left behind it, or the fault;
+//! - `calls` and a function of the types that are given: the bits of what it needs in each form of call.
+//!
+//! A set is `+` alone, or has the names of its options with `+` between them.
 
+use crate::signatures::FORMS;
+use crate::types::{function_of, resolve_of, word_and_rest};
 use bitflags::Flags;
-use comp_bytes::{CanonicalOption, Primitive};
-use comp_lists::{Seq, Text};
-use comp_worlds::{
-    OptionFault, PayloadFuncKind, PayloadInfo, PayloadType, RequiredOptions, StringEncoding,
-};
+use comp_worlds::{OptionFault, RequiredOptions, StringEncoding};
 use std::alloc::{AllocError, Global};
-use wit_data::{
-    AbiVariant, Function, FunctionKind, Param, Resolve, Type, TypeContents, TypeDef, TypeDefKind,
-    TypeId, TypeOwner,
-};
+use std::iter::ExactSizeIterator;
+use wit_data::{AbiVariant, Function, Resolve, TypeContents};
 
-#[test]
-fn a_text_wants_its_encoding(rt: HostRuntime) {
-    let mut set = RequiredOptions::empty();
-    set.add_lift(TypeContents::STRING);
-    assert_eq!(rt; set.bits(), 5);
-    let mut set = RequiredOptions::empty();
-    set.add_lower(TypeContents::STRING);
-    assert_eq!(rt; set.bits(), 7);
-    let mut set = RequiredOptions::empty();
-    set.add_lift(TypeContents::NEEDS_MEMORY);
-    assert_eq!(rt; set.bits(), 1);
-    let mut set = RequiredOptions::empty();
-    set.add_lower(TypeContents::NEEDS_MEMORY);
-    assert_eq!(rt; set.bits(), 3);
-    let mut set = RequiredOptions::empty();
-    set.add_lower(TypeContents::empty());
-    assert_eq!(rt; set.bits(), 0);
-}
-
-#[test]
-fn options_come_in_order(rt: HostRuntime) {
-    let nine = RequiredOptions::MEMORY | RequiredOptions::ASYNC;
-    let mut options = nine
-        .into_iter(StringEncoding::UTF8, Some(0), None)
-        .expect(&rt, "options");
-    assert_eq!(rt; options.len(), 2);
-    assert_eq!(rt; options.next(), Some(CanonicalOption::Memory(0)));
-    assert_eq!(rt; options.len(), 1);
-    assert_eq!(rt; options.next(), Some(CanonicalOption::Async));
-    assert_eq!(rt; options.len(), 0);
-    assert_eq!(rt; options.next(), None);
-    let mut all = RequiredOptions::all()
-        .into_iter(StringEncoding::CompactUTF16, Some(1), Some(2))
-        .expect(&rt, "options");
-    assert_eq!(rt; all.next(), Some(CanonicalOption::Memory(1)));
-    assert_eq!(rt; all.next(), Some(CanonicalOption::Realloc(2)));
-    assert_eq!(rt; all.next(), Some(CanonicalOption::CompactUtf16));
-    assert_eq!(rt; all.next(), Some(CanonicalOption::Async));
-}
-
-/// The fault of options of a set.
-fn fault(set: RequiredOptions, memory: Option<u32>, realloc: Option<u32>) -> Option<OptionFault> {
-    match set.into_iter(StringEncoding::UTF16, memory, realloc) {
-        Ok(_options) => None,
-        Err(fault) => Some(fault),
+fn contents_of(word: &str) -> TypeContents {
+    match word {
+        "string" => TypeContents::STRING,
+        "memory" => TypeContents::NEEDS_MEMORY,
+        _ => TypeContents::empty(),
     }
 }
 
-#[test]
-fn what_is_missing_is_told_in_order(rt: HostRuntime) {
-    let three = RequiredOptions::MEMORY | RequiredOptions::REALLOC;
-    assert_eq!(rt; fault(three, None, None), Some(OptionFault::NoMemory));
-    assert_eq!(rt; fault(three, None, Some(0)), Some(OptionFault::NoMemory));
-    assert_eq!(rt; fault(three, Some(0), None), Some(OptionFault::NoRealloc));
-    assert_eq!(rt; fault(three, Some(0), Some(0)), None);
-    assert_eq!(rt; fault(RequiredOptions::empty(), None, None), None);
+fn print_bits(alloc: Global, set: RequiredOptions) -> Result<String, AllocError> {
+    let bits = set.bits();
+    format!(in alloc; "{bits}")
 }
 
-/// A function with one parameter of a type, and a result.
-fn function(
+fn lift_answer(alloc: Global, word: &str) -> Result<String, AllocError> {
+    let mut set = RequiredOptions::empty();
+    set.add_lift(contents_of(word));
+    print_bits(alloc, set)
+}
+
+fn lower_answer(alloc: Global, word: &str) -> Result<String, AllocError> {
+    let mut set = RequiredOptions::empty();
+    set.add_lower(contents_of(word));
+    print_bits(alloc, set)
+}
+
+fn option_of(word: &str) -> RequiredOptions {
+    match word {
+        "memory" => RequiredOptions::MEMORY,
+        "realloc" => RequiredOptions::REALLOC,
+        "encoding" => RequiredOptions::STRING_ENCODING,
+        "async" => RequiredOptions::ASYNC,
+        _ => RequiredOptions::empty(),
+    }
+}
+
+fn set_of(text: &str) -> RequiredOptions {
+    let mut set = RequiredOptions::empty();
+    for word in text.split("+") {
+        set = set | option_of(word);
+    }
+    set
+}
+
+fn encoding_of(word: &str) -> StringEncoding {
+    match word {
+        "utf8" => StringEncoding::UTF8,
+        "utf16" => StringEncoding::UTF16,
+        _ => StringEncoding::CompactUTF16,
+    }
+}
+
+/// The number of a memory or a realloc, where there is one.
+fn index_of(word: &str) -> Option<u32> {
+    match word.parse::<u32>() {
+        Ok(index) => Some(index),
+        Err(_) => None,
+    }
+}
+
+fn print_fault(alloc: Global, fault: OptionFault) -> Result<String, AllocError> {
+    match fault {
+        OptionFault::NoMemory => String::from_str(alloc, "NoMemory"),
+        OptionFault::NoRealloc => String::from_str(alloc, "NoRealloc"),
+    }
+}
+
+/// Each option of a set, and how many there are before it and at the end.
+fn print_options(
     alloc: Global,
-    param: Option<Type>,
-    returned: Option<Type>,
-) -> Result<Function, AllocError> {
-    let mut params = Seq::new(alloc);
-    if let Some(ty) = param {
-        let name = Text::from_str(alloc, "x")?;
-        params.push(Param { name, ty })?;
+    set: RequiredOptions,
+    encoding: StringEncoding,
+    memory: Option<u32>,
+    realloc: Option<u32>,
+) -> Result<String, AllocError> {
+    let mut options = match set.into_iter(encoding, memory, realloc) {
+        Ok(options) => options,
+        Err(fault) => return print_fault(alloc, fault),
+    };
+    let mut out = String::new(alloc);
+    write!(out, "{}", options.len())?;
+    for _ in 0..5 {
+        if let Some(option) = options.next() {
+            write!(out, " {option:?} {}", options.len())?;
+        }
     }
-    Ok(Function {
-        name: Text::from_str(alloc, "f")?,
-        kind: FunctionKind::Freestanding,
-        params,
-        result: returned,
-    })
+    Ok(out)
 }
 
-/// A resolve with these types, none of which has a name.
-fn resolve(alloc: Global, kinds: Vec<TypeDefKind>) -> Result<Resolve, AllocError> {
-    let mut types = Seq::new(alloc);
-    for kind in kinds {
-        let owner = TypeOwner::None;
-        types.push(TypeDef {
-            name: None,
-            kind,
-            owner,
-        })?;
-    }
-    Ok(Resolve {
-        interfaces: Seq::new(alloc),
-        types,
-        worlds: Seq::new(alloc),
-    })
+fn list_answer(alloc: Global, text: &str) -> Result<String, AllocError> {
+    let (set, rest) = word_and_rest(text);
+    let (encoding, rest) = word_and_rest(rest);
+    let (memory, realloc) = word_and_rest(rest);
+    print_options(
+        alloc,
+        set_of(set),
+        encoding_of(encoding),
+        index_of(memory),
+        index_of(realloc),
+    )
 }
 
-const STRING: Type = Type::Primitive(Primitive::String);
-
-const BYTE: Type = Type::Primitive(Primitive::U8);
-
-/// The bits of what a call needs, if the resolve holds the function.
+/// What a call needs of a function that stands in the resolve.
 fn needed(resolve: &Resolve, function: &Function, abi: AbiVariant) -> Option<u8> {
     if !resolve.is_sound() || !resolve.has_function(function) {
         return None;
@@ -125,51 +132,50 @@ fn needed(resolve: &Resolve, function: &Function, abi: AbiVariant) -> Option<u8>
     Some(set.bits())
 }
 
-/// A list of bytes, and a tuple of seventeen of them.
-fn kinds(alloc: Global) -> Result<Vec<TypeDefKind>, AllocError> {
-    let mut many = Seq::new(alloc);
-    for _ in 0..17 {
-        many.push(BYTE)?;
+fn push_needed(out: &mut String, needed: Option<u8>) -> Result<(), AllocError> {
+    if !out.is_empty() {
+        out.push(' ')?;
     }
-    let mut kinds = Vec::new(alloc);
-    kinds.push(TypeDefKind::List(BYTE))?;
-    kinds.push(TypeDefKind::Tuple(many))?;
-    kinds.push(TypeDefKind::Stream(Some(STRING)))?;
-    Ok(kinds)
+    match needed {
+        Some(bits) => write!(out, "{bits}"),
+        None => out.push_str("unsound"),
+    }
 }
 
-const LIST: Type = Type::Id(TypeId { index: 0 });
+/// What a function needs in each form of call.
+fn print_calls(
+    alloc: Global,
+    resolve: &Resolve,
+    function: &Function,
+) -> Result<String, AllocError> {
+    let mut out = String::new(alloc);
+    for abi in FORMS {
+        push_needed(&mut out, needed(resolve, function, abi))?;
+    }
+    Ok(out)
+}
 
-const MANY: Type = Type::Id(TypeId { index: 1 });
+fn calls_in(alloc: Global, resolve: &Resolve, text: &str) -> Result<String, AllocError> {
+    let function = function_of(alloc, text)?;
+    let printed = print_calls(alloc, resolve, &function);
+    drop(function);
+    printed
+}
 
-/// A parameter, a result, and the bits in the five forms in which a function is called.
-const NEEDED: [(Option<Type>, Option<Type>, [u8; 5]); 8] = [
-    (None, None, [0, 0, 8, 8, 8]),
-    (Some(STRING), None, [5, 7, 13, 15, 15]),
-    (None, Some(STRING), [7, 5, 15, 13, 13]),
-    (Some(LIST), None, [1, 3, 9, 11, 11]),
-    (None, Some(LIST), [3, 1, 11, 9, 9]),
-    (Some(MANY), None, [1, 3, 9, 11, 11]),
-    (None, Some(MANY), [1, 1, 9, 9, 9]),
-    (Some(BYTE), Some(BYTE), [0, 0, 9, 8, 8]),
-];
+fn calls_answer(alloc: Global, given: &str, text: &str) -> Result<String, AllocError> {
+    let resolve = resolve_of(alloc, given)?;
+    let printed = calls_in(alloc, &resolve, text);
+    drop(resolve);
+    printed
+}
 
-const FORMS: [AbiVariant; 5] = [
-    AbiVariant::GuestImport,
-    AbiVariant::GuestExport,
-    AbiVariant::GuestImportAsync,
-    AbiVariant::GuestExportAsync,
-    AbiVariant::GuestExportAsyncStackful,
-];
-
-#[test]
-fn calls_need_what_their_types_ask_for(rt: HostRuntime) {
-    let alloc = rt.alloc();
-    let resolve = resolve(alloc, kinds(alloc).expect(&rt, "memory")).expect(&rt, "memory");
-    for (param, returned, bits) in NEEDED {
-        let function = function(alloc, param, returned).expect(&rt, "memory");
-        for form in 0..5 {
-            assert_eq!(rt; needed(&resolve, &function, FORMS[form]), Some(bits[form]));
-        }
+pub(crate) fn answer(alloc: Global, given: &str, asked: &str) -> Result<String, AllocError> {
+    let (question, rest) = word_and_rest(asked);
+    match question {
+        "lift" => lift_answer(alloc, rest),
+        "lower" => lower_answer(alloc, rest),
+        "list" => list_answer(alloc, rest),
+        "calls" => calls_answer(alloc, given, rest),
+        _ => String::from_str(alloc, "no question"),
     }
 }

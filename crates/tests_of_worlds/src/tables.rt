@@ -1,10 +1,18 @@
-//! The tables that follow from a world. The expected ones were worked out by hand, with the Canonical ABI's flattening.
+//! The tables that follow from a world's parts: an interface `i` is imported, with types `r` and `s` and functions `f` and `g`,
+//! which main imports; `k` and `j` are exported, and `j` has a function that takes a type of `k`.
+//!
+//! Asked is one of these:
+//!
+//! - `met` and the name of a function of `i`: how its import is met (`Direct`, or `Indirect` through a table), the bits of its
+//!   options, and behind `Indirect` how many core parameters and results it has;
+//! - `live`: how many types of `i` are live, and the first;
+//! - `needed` and `k` or `j`: how many other exported interfaces it needs, and the first.
 
-ghost use Rattle.std.specs.Prelude.{◌≡◌, [], IfOk};
-ghost use Rattle.tests_of_worlds.specs.CoreImports.{role_of, fields_of, core_imports};
+ghost use Rattle.std.specs.Prelude.{◌≡◌, [], IfOk, OnOk};
+ghost use Rattle.tests_of_worlds.specs.CoreImports.{role_of, fields_of, with_module, core_imports};
 
+use crate::types::{kind, named_function_of, push_type, word_and_rest};
 use bitflags::Flags;
-use comp_bytes::Primitive;
 use comp_lists::{Keyed, Seq, Text};
 use comp_worlds::{
     ComponentWorld, ExportMap, Import, ImportInstance, ImportMap, Lowering, LoweringKey,
@@ -12,8 +20,8 @@ use comp_worlds::{
 };
 use std::alloc::{AllocError, Global};
 use wit_data::{
-    AbiVariant, Field, Function, FunctionKind, Interface, InterfaceId, Param, Resolve, Type,
-    TypeDef, TypeDefKind, TypeId, TypeOwner, World, WorldId, WorldItem, WorldKey,
+    AbiVariant, Function, Interface, InterfaceId, Resolve, TypeDef, TypeId, TypeOwner, World,
+    WorldId, WorldItem, WorldKey,
 };
 
 const fn interface(index: usize) -> InterfaceId
@@ -22,115 +30,126 @@ const fn interface(index: usize) -> InterfaceId
     InterfaceId { index }
 }
 
-const fn at(index: usize) -> Type {
-    Type::Id(TypeId { index })
-}
-
-/// A type of an interface, by its name.
-fn of_interface(
+/// Adds a type of an interface, by its name.
+fn push_named(
     alloc: Global,
+    types: &mut Seq<TypeDef>,
     name: &str,
     index: usize,
-    kind: TypeDefKind,
-) -> Result<TypeDef, AllocError> {
-    Ok(TypeDef {
-        name: Some(Text::from_str(alloc, name)?),
+    text: &str,
+) -> Result<(), AllocError> {
+    let name = Text::from_str(alloc, name)?;
+    let kind = kind(alloc, text)?;
+    types.push(TypeDef {
+        name: Some(name),
         kind,
         owner: TypeOwner::Interface(interface(index)),
-    })
-}
-
-/// A record with one field.
-fn record(alloc: Global, ty: Type) -> Result<TypeDefKind, AllocError> {
-    let mut fields = Seq::new(alloc);
-    let name = Text::from_str(alloc, "x")?;
-    fields.push(Field { name, ty })?;
-    Ok(TypeDefKind::Record(fields))
-}
-
-fn enumeration(alloc: Global) -> Result<TypeDefKind, AllocError> {
-    let mut labels = Seq::new(alloc);
-    labels.push(Text::from_str(alloc, "a")?)?;
-    Ok(TypeDefKind::Enum(labels))
+    })?;
+    Ok(())
 }
 
 /// A list of bytes; a record of it and an enumeration of the first interface; a record of the second.
 fn types(alloc: Global) -> Result<Seq<TypeDef>, AllocError> {
     let mut types = Seq::new(alloc);
-    types.push(TypeDef {
-        name: None,
-        kind: TypeDefKind::List(Type::Primitive(Primitive::U8)),
-        owner: TypeOwner::None,
-    })?;
-    types.push(of_interface(alloc, "r", 0, record(alloc, at(0))?)?)?;
-    types.push(of_interface(alloc, "s", 0, enumeration(alloc)?)?)?;
-    let number = Type::Primitive(Primitive::U32);
-    types.push(of_interface(alloc, "t", 1, record(alloc, number)?)?)?;
+    push_type(alloc, &mut types, "list u8")?;
+    push_named(alloc, &mut types, "r", 0, "record 0")?;
+    push_named(alloc, &mut types, "s", 0, "enum 1")?;
+    push_named(alloc, &mut types, "t", 1, "record u32")?;
     Ok(types)
 }
 
-fn function(alloc: Global, name: &str, given: Option<Type>) -> Result<Function, AllocError> {
-    let mut params = Seq::new(alloc);
-    if let Some(ty) = given {
-        let name = Text::from_str(alloc, "p")?;
-        params.push(Param { name, ty })?;
-    }
-    Ok(Function {
-        name: Text::from_str(alloc, name)?,
-        kind: FunctionKind::Freestanding,
-        params,
-        result: None,
-    })
+/// Adds a function by its name.
+fn add_function(
+    alloc: Global,
+    functions: &mut Keyed<Text, Function>,
+    name: &str,
+    text: &str,
+) -> Result<(), AllocError> {
+    let key = Text::from_str(alloc, name)?;
+    let function = named_function_of(alloc, name, text)?;
+    functions.add_first(key, function)
 }
 
-/// An interface with these types and functions.
-fn interface_of(
+fn functions_of(
     alloc: Global,
-    named: &[(&str, usize)],
-    functions: &[(&str, Option<Type>)],
-) -> Result<Interface, AllocError> {
+    functions: &[(&str, &str)],
+) -> Result<Keyed<Text, Function>, AllocError> {
+    let mut all = Keyed::new(alloc);
+    for (name, text) in functions {
+        add_function(alloc, &mut all, name, text)?;
+    }
+    Ok(all)
+}
+
+fn named_types(alloc: Global, named: &[(&str, usize)]) -> Result<Keyed<Text, TypeId>, AllocError> {
     let mut types = Keyed::new(alloc);
     for (name, index) in named {
-        types.add_first(Text::from_str(alloc, name)?, TypeId { index: *index })?;
+        let name = Text::from_str(alloc, name)?;
+        types.add_first(name, TypeId { index: *index })?;
     }
-    let mut all = Keyed::new(alloc);
-    for (name, given) in functions {
-        all.add_first(Text::from_str(alloc, name)?, function(alloc, name, *given)?)?;
-    }
-    Ok(Interface {
+    Ok(types)
+}
+
+fn interface_of(types: Keyed<Text, TypeId>, functions: Keyed<Text, Function>) -> Interface {
+    Interface {
         id: None,
         types,
-        functions: all,
-    })
+        functions,
+    }
+}
+
+/// Adds an interface with these types and functions.
+fn push_interface(
+    alloc: Global,
+    interfaces: &mut Seq<Interface>,
+    named: &[(&str, usize)],
+    functions: &[(&str, &str)],
+) -> Result<(), AllocError> {
+    let types = named_types(alloc, named)?;
+    let functions = functions_of(alloc, functions)?;
+    interfaces.push(interface_of(types, functions))?;
+    Ok(())
 }
 
 /// `i` with `r`, `s`, `f: func(p: r)` and `g: func()`; `k` with `t`; `j` with `h: func(p: t)`.
 fn interfaces(alloc: Global) -> Result<Seq<Interface>, AllocError> {
     let mut all = Seq::new(alloc);
-    let functions = [("f", Some(at(1))), ("g", None)];
-    all.push(interface_of(alloc, &[("r", 1), ("s", 2)], &functions)?)?;
-    all.push(interface_of(alloc, &[("t", 3)], &[])?)?;
-    all.push(interface_of(alloc, &[], &[("h", Some(at(3)))])?)?;
+    let (f, g) = (("f", "1 ->"), ("g", "->"));
+    push_interface(alloc, &mut all, &[("r", 1), ("s", 2)], &[f, g])?;
+    push_interface(alloc, &mut all, &[("t", 3)], &[])?;
+    push_interface(alloc, &mut all, &[], &[("h", "3 ->")])?;
     Ok(all)
+}
+
+/// Adds an interface to the imports or the exports of a world.
+fn add_item(items: &mut Keyed<WorldKey, WorldItem>, id: InterfaceId) -> Result<(), AllocError> {
+    items.add_first(WorldKey::Interface(id), WorldItem::Interface(id))
 }
 
 /// The world imports `i`, and exports `k` and `j`.
 fn world(alloc: Global) -> Result<World, AllocError> {
     let mut imports = Keyed::new(alloc);
-    let item = |index| WorldItem::Interface(interface(index));
-    imports.add_first(WorldKey::Interface(interface(0)), item(0))?;
+    add_item(&mut imports, interface(0))?;
     let mut exports = Keyed::new(alloc);
-    exports.add_first(WorldKey::Interface(interface(1)), item(1))?;
-    exports.add_first(WorldKey::Interface(interface(2)), item(2))?;
+    add_item(&mut exports, interface(1))?;
+    add_item(&mut exports, interface(2))?;
     Ok(World { imports, exports })
 }
 
-fn resolve(alloc: Global) -> Result<Resolve, AllocError> {
+fn worlds(alloc: Global) -> Result<Seq<World>, AllocError> {
+    let world = world(alloc)?;
     let mut worlds = Seq::new(alloc);
-    worlds.push(world(alloc)?)?;
+    worlds.push(world)?;
+    Ok(worlds)
+}
+
+fn resolve(alloc: Global) -> Result<Resolve, AllocError> {
+    let interfaces = interfaces(alloc)?;
+    let types = types(alloc)?;
+    let worlds = worlds(alloc)?;
     Ok(Resolve {
-        interfaces: interfaces(alloc)?,
-        types: types(alloc)?,
+        interfaces,
+        types,
         worlds,
     })
 }
@@ -154,15 +173,27 @@ fn fields(alloc: Global, name: &str) -> Result<Keyed<Text, Import>, AllocError>
     Ok(fields)
 }
 
+/// Adds a module of which this field is imported.
+fn add_module(
+    alloc: Global,
+    modules: &mut Keyed<Text, ImportInstance>,
+    name: &str,
+    field: &str,
+) -> Result<(), AllocError>
+    ensures { OnOk result (modules.new ≡ with_module modules.old name.now field.now) }
+{
+    let name = Text::from_str(alloc, name)?;
+    let fields = fields(alloc, field)?;
+    modules.add_first(name, ImportInstance::Names(fields))
+}
+
 /// The core imports of main: `f` of `a`, and `g` of `b`.
 fn imports(alloc: Global) -> Result<ImportMap, AllocError>
     ensures { IfOk result (λ m. m ≡ core_imports) }
 {
     let mut modules = Keyed::new(alloc);
-    let first = Text::from_str(alloc, "a")?;
-    modules.add_first(first, ImportInstance::Names(fields(alloc, "f")?))?;
-    let second = Text::from_str(alloc, "b")?;
-    modules.add_first(second, ImportInstance::Names(fields(alloc, "g")?))?;
+    add_module(alloc, &mut modules, "a", "f")?;
+    add_module(alloc, &mut modules, "b", "g")?;
     Ok(ImportMap { modules })
 }
 
@@ -228,72 +259,77 @@ fn called(alloc: Global, name: &str) -> Result<LoweringKey, AllocError> {
     })
 }
 
-/// How a function is met: its options, and the numbers of core parameters and results, if they are told.
-type Met = Option<(u8, Option<(usize, usize)>)>;
-
-fn met(world: &ComponentWorld, called: &LoweringKey) -> Met {
-    let key = Some(WorldKey::Interface(interface(0)));
-    match world.import_map.get(&key)?.lowerings.get(called)? {
-        Lowering::Direct { options } => Some((options.bits(), None)),
+fn print_lowering(alloc: Global, lowering: &Lowering) -> Result<String, AllocError> {
+    match lowering {
+        Lowering::Direct { options } => format!(in alloc; "Direct {}", options.bits()),
         Lowering::Indirect { sig, options } => {
-            Some((options.bits(), Some((sig.params.len(), sig.results.len()))))
+            let (params, results) = (sig.params.len(), sig.results.len());
+            format!(in alloc; "Indirect {} {params} {results}", options.bits())
         }
-        Lowering::ResourceDrop(_) => None,
+        Lowering::ResourceDrop(_) => String::from_str(alloc, "ResourceDrop"),
     }
 }
 
-/// What the tables say: how `f`, `g` and a function `h` of `i` are met, how many types of `i` are live and which is
-/// the first, and the same of the interfaces that `k` and `j` need.
-#[derive(Clone, Copy, Debug, PartialEq, Eq)]
-struct Told {
-    met: [Met; 3],
-    live: Option<(usize, Option<TypeId>)>,
-    needed: [Option<(usize, Option<InterfaceId>)>; 2],
+/// How the import of a function of `i` is met, where it is.
+fn met<'a>(world: &'a ComponentWorld, called: &LoweringKey) -> Option<&'a Lowering> {
+    let key = Some(WorldKey::Interface(interface(0)));
+    world.import_map.get(&key)?.lowerings.get(called)
 }
 
-fn live(world: &ComponentWorld) -> Option<(usize, Option<TypeId>)> {
-    let live = world.live_type_imports.get(&interface(0))?.as_slice();
-    Some((live.len(), live.first().copied()))
+fn print_met(alloc: Global, world: &ComponentWorld, name: &str) -> Result<String, AllocError> {
+    let called = called(alloc, name)?;
+    match met(world, &called) {
+        Some(lowering) => print_lowering(alloc, lowering),
+        None => String::from_str(alloc, "none"),
+    }
 }
 
-fn needed(world: &ComponentWorld, index: usize) -> Option<(usize, Option<InterfaceId>)> {
-    let needed = world.exports_used.get(&interface(index))?.as_slice();
-    Some((needed.len(), needed.first().copied()))
+/// How many there are, and the first.
+fn print_list(alloc: Global, count: usize, first: Option<usize>) -> Result<String, AllocError> {
+    match first {
+        Some(first) => format!(in alloc; "{count} {first}"),
+        None => format!(in alloc; "{count}"),
+    }
 }
 
-fn tell(alloc: Global, world: &ComponentWorld) -> Result<Told, AllocError> {
-    let f = called(alloc, "f")?;
-    let g = called(alloc, "g")?;
-    let h = called(alloc, "h")?;
-    Ok(Told {
-        met: [met(world, &f), met(world, &g), met(world, &h)],
-        live: live(world),
-        needed: [needed(world, 1), needed(world, 2)],
-    })
+fn print_live(alloc: Global, world: &ComponentWorld) -> Result<String, AllocError> {
+    match world.live_type_imports.get(&interface(0)) {
+        Some(live) => {
+            let first = live.as_slice().first().map(|id| id.index);
+            print_list(alloc, live.len(), first)
+        }
+        None => String::from_str(alloc, "none"),
+    }
 }
 
-/// The same of the world of these parts, where they are sound.
-fn made(alloc: Global) -> Result<Option<Told>, AllocError> {
+fn print_needed(alloc: Global, world: &ComponentWorld, index: usize) -> Result<String, AllocError> {
+    match world.exports_used.get(&interface(index)) {
+        Some(needed) => {
+            let first = needed.as_slice().first().map(|id| id.index);
+            print_list(alloc, needed.len(), first)
+        }
+        None => String::from_str(alloc, "none"),
+    }
+}
+
+fn print_asked(alloc: Global, world: &ComponentWorld, asked: &str) -> Result<String, AllocError> {
+    let (question, rest) = word_and_rest(asked);
+    match question {
+        "met" => print_met(alloc, world, rest),
+        "live" => print_live(alloc, world),
+        "needed" => print_needed(alloc, world, if rest == "k" { 1 } else { 2 }),
+        _ => String::from_str(alloc, "no question"),
+    }
+}
+
+pub(crate) fn answer(alloc: Global, asked: &str) -> Result<String, AllocError> {
     let parts = parts(alloc)?;
     match whole(alloc, parts)? {
         Some(world) => {
-            let told = tell(alloc, &world);
+            let printed = print_asked(alloc, &world, asked);
             drop(world);
-            Ok(Some(told?))
+            printed
         }
-        None => Ok(None),
+        None => String::from_str(alloc, "unsound"),
     }
-}
-
-/// A function with a list is met through a table, since main has the memory; one without is lowered directly. Of `i` the
-/// record is live, which a core import needs, and of `k` and `j` only `j` needs another.
-#[test]
-fn tables_follow_from_the_parts(rt: HostRuntime) {
-    let told = made(rt.alloc()).expect(&rt, "memory").expect(&rt, "sound");
-    let expected = Told {
-        met: [Some((1, Some((2, 0)))), Some((0, None)), None],
-        live: Some((1, Some(TypeId { index: 1 }))),
-        needed: [Some((0, None)), Some((1, Some(interface(1))))],
-    };
-    assert_eq!(rt; told, expected);
 }

@@ -52,42 +52,52 @@ pub(crate) fn k(alloc: Global) -> Result<Function, AllocError> {
     function(alloc, "k", Some(Primitive::F32), Some(Primitive::F64))
 }
 
-/// An interface without a name, of one function.
-fn interface(alloc: Global, function: Function) -> Result<Interface, AllocError> {
-    let name = function.name.clone(alloc)?;
+/// A function by its name.
+fn functions(
+    alloc: Global,
+    name: &str,
+    param: Option<Primitive>,
+    returned: Option<Primitive>,
+) -> Result<Keyed<Text, Function>, AllocError> {
+    let key = Text::from_str(alloc, name)?;
+    let function = function(alloc, name, param, returned)?;
     let mut functions = Keyed::new(alloc);
-    functions.add_first(name, function)?;
-    Ok(Interface {
+    functions.add_first(key, function)?;
+    Ok(functions)
+}
+
+/// An interface without a name, of these functions.
+fn interface(alloc: Global, functions: Keyed<Text, Function>) -> Interface {
+    Interface {
         id: None,
         types: Keyed::new(alloc),
         functions,
-    })
-}
-
-fn imported_interface(alloc: Global) -> Result<Interface, AllocError> {
-    let g = function(alloc, "g", None, Some(Primitive::U64))?;
-    interface(alloc, g)
-}
-
-fn exported_interface(alloc: Global) -> Result<Interface, AllocError> {
-    let k = k(alloc)?;
-    interface(alloc, k)
+    }
 }
 
 fn interfaces(alloc: Global) -> Result<Seq<Interface>, AllocError> {
+    let imported = functions(alloc, "g", None, Some(Primitive::U64))?;
+    let exported = functions(alloc, "k", Some(Primitive::F32), Some(Primitive::F64))?;
     let mut interfaces = Seq::new(alloc);
-    interfaces.push(imported_interface(alloc)?)?;
-    interfaces.push(exported_interface(alloc)?)?;
+    interfaces.push(interface(alloc, imported))?;
+    interfaces.push(interface(alloc, exported))?;
     Ok(interfaces)
+}
+
+fn root_key(alloc: Global, name: &str) -> Result<WorldKey, AllocError> {
+    match Text::from_str(alloc, name) {
+        Ok(name) => Ok(WorldKey::Name(name)),
+        Err(refused) => Err(refused),
+    }
 }
 
 /// A function at the root, and an interface.
 fn side(
     alloc: Global,
+    key: WorldKey,
     function: Function,
     interface: InterfaceId,
 ) -> Result<Keyed<WorldKey, WorldItem>, AllocError> {
-    let key = WorldKey::Name(function.name.clone(alloc)?);
     let mut entries = Keyed::new(alloc);
     entries.add_first(key, WorldItem::Function(function))?;
     let key = WorldKey::Interface(interface);
@@ -96,13 +106,15 @@ fn side(
 }
 
 fn imports(alloc: Global) -> Result<Keyed<WorldKey, WorldItem>, AllocError> {
+    let key = root_key(alloc, "f")?;
     let f = function(alloc, "f", Some(Primitive::String), None)?;
-    side(alloc, f, IMPORTED)
+    side(alloc, key, f, IMPORTED)
 }
 
 fn exports(alloc: Global) -> Result<Keyed<WorldKey, WorldItem>, AllocError> {
+    let key = root_key(alloc, "h")?;
     let h = h(alloc)?;
-    side(alloc, h, EXPORTED)
+    side(alloc, key, h, EXPORTED)
 }
 
 fn worlds(alloc: Global) -> Result<Seq<World>, AllocError> {
