@@ -286,7 +286,7 @@ class Trial:
 
     def is_unnamed(self, ran, names):
         """Whether the check found no function of a name. It then goes by the next name that --only may take for it."""
-        refused = re.search(r"error: `\w+` has (?:no function|several functions[^`]*) `([^`]*)`", "\n".join(ran.lines[-3:]))
+        refused = re.search(r"error: (?:`\w+` has no function|several functions are named) `([^`]*)`", "\n".join(ran.lines[-3:]))
         for it in names if refused else []:
             if it[0] == refused[1] and len(it) > 1:
                 del it[0]

@@ -3,7 +3,7 @@
 use crate::components::{not_built, refused};
 use comp_builder::ComponentBuilder;
 use comp_bytes::{
-    Alias, BuildFault, Def, Defs, ExternName, InstanceType, Intrinsic, Item, TypeDef,
+    Alias, BuildFault, CoreModule, Def, Defs, ExternName, InstanceType, Intrinsic, Item, TypeDef,
 };
 use comp_check::CheckFault;
 use comp_lists::{Seq, Text};
@@ -97,15 +97,30 @@ fn add_named(
     }
 }
 
+/// Adds a core module by a copy of its bytes.
+fn add_module(
+    alloc: Global,
+    builder: &mut ComponentBuilder,
+    debug: Option<&str>,
+    bytes: &[u8],
+) -> Result<Option<u32>, BuildFault> {
+    let bytes = Seq::from_vec(Vec::from_slice(alloc, bytes)?);
+    match CoreModule::from_bytes(bytes) {
+        Some(module) => indexed(builder.core_module_raw(debug, module.as_slice())),
+        None => Ok(None),
+    }
+}
+
 /// Adds a definition by what it holds: a core module, an alias, or a custom section. Of the last only that it is
 /// there is kept: it is that of the debug names, which the builder writes itself.
 fn add_borrowed(
+    alloc: Global,
     builder: &mut ComponentBuilder,
     debug: Option<&str>,
     item: &Item,
 ) -> Result<Option<u32>, BuildFault> {
     match item {
-        Item::CoreModule(module) => indexed(builder.core_module_raw(debug, module.as_slice())),
+        Item::CoreModule(module) => add_module(alloc, builder, debug, module.as_slice()),
         Item::Alias(alias) => add_alias(builder, debug, alias),
         Item::Custom { .. } => add_names(builder),
         _ => Ok(None),
@@ -165,7 +180,7 @@ fn add(
     definition: Def,
 ) -> Result<Option<u32>, BuildFault> {
     match definition {
-        Def::Item(item) if is_borrowed(&item) => add_borrowed(builder, debug, &item),
+        Def::Item(item) if is_borrowed(&item) => add_borrowed(alloc, builder, debug, &item),
         Def::Item(mut item) => add_item(alloc, builder, debug, &mut item),
         Def::Component(items) => indexed(builder.component(debug, items)),
     }
