@@ -32,11 +32,11 @@ def module_of(file):
 
 
 def names_of(file, function):
-    """What --only takes for the function, the closest first: a method stands in the module of its type, which can be another."""
+    """What --only takes for the function: a method by its type, which can be of another module; else all of the module."""
     module = module_of(file).replace("/", "::")
     if not function.block:
         return [f"{module}::{function.name}" if module else function.name]
-    return [f"{function.block}::{function.name}", function.name, module]
+    return [f"{function.block}::{function.name}", module]
 
 
 def is_proof_of(path, file, function):

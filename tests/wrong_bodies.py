@@ -262,6 +262,8 @@ class Trial:
         names = "|".join(re.escape(it.name) for _, it in body.functions)
         if any(re.match(rf"fn \S*\b({names}): (?!proved)", it) for it in ran.lines):
             return False, "NOT TRIED: its function is not proved, but no goal of it is open"
+        if not any(re.match(rf"fn \S*\b({names}): proved", it) for it in ran.lines):
+            return False, "NOT TRIED: the check did not come to its function"
         return False, "NOT REFUSED: its function is still proved"
 
     def checked(self, texts, names):
