@@ -1,4 +1,4 @@
--- How much there is in all parts of a type, or in the largest, where nothing is told apart past a cap.
+-- How much there is in all parts of a type, or in the largest part, where all counts from a cap on are one.
 use Rattle.std.proofs.Common.{◌≡◌, ℕ, zero, suc, ◌+◌, ◌<◌, ◌≤◌, List, [], ◌∷◌, length, get_or, drop, refl, ap, ◌∙◌, arith, min, max}
 use Rattle.wit_data.specs.Sizes.{sum, greatest}
 
@@ -31,7 +31,7 @@ total_next cap total n count counts l e t =
 pub total_step : (cap total n count : ℕ) (counts : List ℕ) → n < length counts → count ≡ min (get_or counts n 0) cap → total + count < cap → TotalSoFar cap total n counts → TotalSoFar cap (total + count) (n + 1) counts
 total_step cap total n count counts l e s t = record { small = s; same = total_next cap total n count counts l e t }
 
--- past the cap the rest is not looked at
+-- past the cap the rest is not read
 pub total_stop : (cap total n count : ℕ) (counts : List ℕ) → n < length counts → count ≡ min (get_or counts n 0) cap → cap ≤ total + count → TotalSoFar cap total n counts → cap ≡ min (sum counts) cap
 total_stop cap total n count counts l e s t = omega (arith, s, total_next cap total n count counts l e t)
 
@@ -40,7 +40,7 @@ total_end cap total n counts e t =
     let none : sum (drop n counts) ≡ 0 = ap sum (drop_all counts n e) in
     omega (arith, none, t.small, t.same)
 
--- the greatest that was met so far
+-- the greatest count so far
 pub record GreatestSoFar (cap most n : ℕ) (counts : List ℕ) : Type 0 where
   pub small : most < cap
   pub same : min (max most (greatest (drop n counts))) cap ≡ min (greatest counts) cap

@@ -53,7 +53,7 @@ flat_at types id d s b l e = made_whole flattening types id b l ∙ ap (λ g. fl
 pub flat_part_at : (types : List TypeDef) (id n : ℕ) (p : Option Ty) → n < length (parts (kind_at types id)) → p ≡ get_or (parts (kind_at types id)) n None → flat types p ≡ get_or (part_values flattening types id) n []
 flat_part_at types id n p l e = ap (λ q. flat types q) e ∙ sym (part_value_at flattening types id n l)
 
--- one part's core values more
+-- one more part's core values
 pub together_step : (old now new : List WasmType) (fs : List (List WasmType)) (n : ℕ) (f : List WasmType) → n < length fs → f ≡ get_or fs n [] → new ≡ now ++ f → now ++ flat_map (λ (f : List WasmType). f) (drop n fs) ≡ old ++ flat_map (λ (f : List WasmType). f) fs → new ++ flat_map (λ (f : List WasmType). f) (drop (n + 1) fs) ≡ old ++ flat_map (λ (f : List WasmType). f) fs
 together_step old now new fs n f l e g h =
     ap (λ xs. xs ++ flat_map (λ (f : List WasmType). f) (drop (n + 1) fs)) g

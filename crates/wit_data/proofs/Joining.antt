@@ -1,11 +1,11 @@
--- Joining core values place by place.
+-- Joining core values index by index (Canonical ABI: `join`).
 use Rattle.std.proofs.Common.{◌≡◌, ℕ, ◌≤◌, List, [], ◌∷◌, ◌++◌, length, take, drop, refl, ap, ◌∙◌}
 use Rattle.std.proofs.lemmas.List.{take-append-drop}
 use Rattle.wit_data.specs.declared.signatures.WasmType.{WasmType}
 use Rattle.wit_data.specs.Flat.{join_lists}
 use Rattle.wit_data.proofs.Counts.{drop_all}
 
--- the places before the n-th are joined, and the others are to be
+-- the values before index n are joined, and the others are not yet
 abbrev pub joined_from : ℕ → List WasmType → List WasmType → List WasmType
 joined_from n now others = take n now ++ join_lists (drop n now) (drop n others)
 

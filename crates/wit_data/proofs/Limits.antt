@@ -16,7 +16,7 @@ pub record WithinSoFar (types : List TypeDef) (n : ℕ) : Type 0 where
   pub nodes : AllByRecursion (λ n. n ≤ 10000) (values counting_nodes types) ↔ AllByRecursion (λ n. n ≤ 10000) (drop n (values counting_nodes types))
   pub levels : AllByRecursion (λ n. n ≤ 100) (values counting_levels types) ↔ AllByRecursion (λ n. n ≤ 100) (drop n (values counting_levels types))
 
--- the last type was met
+-- the last type was tested
 pub within_all : (types : List TypeDef) (n : ℕ) → length types ≤ n → WithinSoFar types n → AllByRecursion (λ n. n ≤ 10000) (values counting_nodes types) × AllByRecursion (λ n. n ≤ 100) (values counting_levels types)
 within_all types n l w =
     let node_end : length (values counting_nodes types) ≤ n = omega (arith, l, length_values counting_nodes [] types) in
@@ -29,7 +29,7 @@ within_all types n l w =
 pub length_counts : (m : Making ℕ) (types : List TypeDef) (id : ℕ) → length (part_values m types id) ≡ length (parts (kind_at types id))
 length_counts m types id = length-map (parts (kind_at types id)) (part_value m (values m types))
 
--- at a place that there is, it doesn't matter what stands for a place that isn't there
+-- at an index in range the default value doesn't matter
 get_or-any : {X : Type 0} (xs : List X) (n : ℕ) (d e : X) → n < length xs → get_or xs n d ≡ get_or xs n e
 get_or-any [] n d e l = absurd (omega (arith, l))
 get_or-any (x ∷ xs) zero d e l = refl

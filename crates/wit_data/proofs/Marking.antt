@@ -1,4 +1,4 @@
--- What marked types reach, as marks are added and types are gone through.
+-- What marked types reach, as marks are added and types are visited.
 use Rattle.std.proofs.Common.{◌≡◌, ◌≢◌, ℕ, zero, suc, ◌+◌, ◌<◌, ◌≤◌, ◌==◌, Bool, true, false, true≢false, ◌||◌, ◌&&◌, List, [], ◌∷◌, length, get_or, set, replicate, map, filter, refl, ap, subst, ◌∙◌, sym, arith, Option, Some, None, if◌then◌else◌, inl, inr, option_map, unwrap_or, slice_get, Result, Ok, Err, IfOk}
 use Rattle.std.specs.List.{list_any}
 use Rattle.std.proofs.lemmas.List.{get_or-set_same, get_or-set_other, length-set, length-map, length-replicate}
@@ -29,7 +29,7 @@ reaches_by types n target s l = made_whole (reaching target) types n s l
 pub reaches_itself : (types : List TypeDef) (n target : ℕ) → RefersBack types → n < length types → (n == target) ≡ true → reaches types n target ≡ true
 reaches_itself types n target s l e = reaches_by types n target s l ∙ ap (λ b. b || list_any (λ b. b) (part_values (reaching target) types n)) e
 
--- A mark that stands behind the first so many is not looked at.
+-- A mark on a type after the first so many is not read.
 pub below_unmarked : (types : List TypeDef) (marks : List Bool) (i n target : ℕ) → n ≤ i → reached_below types (set marks i true) n target ≡ reached_below types marks n target
 below_unmarked types marks i zero target l = refl
 below_unmarked types marks i (suc n) target l =
@@ -116,7 +116,7 @@ passed true false own below found r imply e o = absurd (true≢false (sym (imply
 passed false true own below found r imply e o = refl
 passed false false own below found r imply e o = or_swap below found ∙ (ap (λ x. x || below) (sym e) ∙ ap (λ x. (x && r) || below) (sym o))
 
--- A type that was gone through, where it is marked.
+-- A type that was visited, where it is marked.
 pub pass_marked : (types : List TypeDef) (old new : List Bool) (n : ℕ) → RefersBack types → n < length types → get_or old n false ≡ true → Spreads types old new n (λ target. part_values (reaching target) types n) → PassesOn types old (n + 1) new n
 pass_marked types old new n s l marked spreads =
     subst (λ m. PassesOn types old m new n) {x = suc n} {y = n + 1} (omega arith) (record {
@@ -144,7 +144,7 @@ pub any_mapped : {X : Type 0} (f : X → Bool) (xs : List X) → list_any (λ b.
 any_mapped f [] = refl
 any_mapped f (x ∷ xs) = ap (λ b. f x || b) (any_mapped f xs)
 
--- Where the given types are marked, and all types are gone through, those that they reach are marked.
+-- Where the given types are marked, and all types were visited, those that they reach are marked.
 pub live_end : (types : List TypeDef) (given : List Ty) (old first last : List Bool) → old ≡ replicate (length types) false → Spreads types old first (length types) (λ target. map (λ t. value (reaching target) types (Some t)) given) → PassesOn types first (length types) last 0 → AreLive types given last
 live_end types given old first last none spreads passes =
     record {
@@ -171,7 +171,7 @@ live_named r id types interfaces given marks seen d found same_types same_interf
     let named : (get_or interfaces id.index d).types ≡ named_types r id = ap (λ is. (get_or is id.index d).types) same_interfaces ∙ sym (named_there r.interfaces id.index d l) in
     e ∙ (filter_same (λ i. get_or seen i.index false) (λ i. is_live r.types given i.index) (map (λ e. e.1) (get_or interfaces id.index d).types) each ∙ ap (λ ns. live_types r.types given ns) named)
 
--- What follows from a fact of a result's value is a fact of it.
+-- What follows from a fact of a result's value is a fact of the result.
 pub if_ok : {T E : Type 0} (P Q : T → Type 0) (result : Result T E) → ((x : T) → P x → Q x) → IfOk result P → IfOk result Q
 if_ok P Q (Ok x) follow fact = follow x fact
 if_ok P Q (Err e) follow fact = tt

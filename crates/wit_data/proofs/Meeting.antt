@@ -1,4 +1,4 @@
--- What is met in the parts of a type, one after the other.
+-- What is found in the parts of a type, one after the other.
 use Rattle.std.proofs.Common.{◌≡◌, ℕ, zero, suc, ◌+◌, ◌<◌, Bool, true, false, ◌||◌, List, [], ◌∷◌, length, get_or, drop, refl, ap, ◌∙◌, sym, arith, Option, None, if◌then◌else◌}
 use Rattle.std.specs.List.{list_any}
 use Rattle.std.proofs.lemmas.List.{length-map}
@@ -31,7 +31,7 @@ pub or_false : (a : Bool) → (a || false) ≡ a
 or_false true = refl
 or_false false = refl
 
--- What was met before, and in the first so many parts, is met.
+-- What was found before, and in the first so many parts, is found.
 pub record MetSoFar (before met : Bool) (n : ℕ) (found : List Bool) : Type 0 where
   pub so_far : (met || list_any (λ b. b) (drop n found)) ≡ (before || list_any (λ b. b) found)
 
@@ -46,7 +46,7 @@ met_step before met next n found l e s =
 pub met_end : (before met : Bool) (n : ℕ) (found : List Bool) → n ≡ length found → MetSoFar before met n found → met ≡ (before || list_any (λ b. b) found)
 met_end before met n found e s = sym (or_false met) ∙ (ap (λ bs. met || list_any (λ b. b) bs) (sym (drop_all found n e)) ∙ s.so_far)
 
--- Where it is met already, nothing more can be met.
+-- Where it is found already, the rest changes nothing.
 pub met_early : (before met : Bool) (n : ℕ) (found : List Bool) → met ≡ true → MetSoFar before met n found → met ≡ (before || list_any (λ b. b) found)
 met_early before met n found e s = e ∙ (ap (λ b. b || list_any (λ b. b) (drop n found)) (sym e) ∙ s.so_far)
 

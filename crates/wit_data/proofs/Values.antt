@@ -1,4 +1,4 @@
--- A value of a type, in the table of all, is made of the values of its parts in the same table.
+-- A value of a type, in the list of all values, is made of the values of its parts in the same list.
 use Rattle.std.proofs.Common.{◌≡◌, ℕ, zero, suc, ◌+◌, ◌<◌, ◌≤◌, List, [], ◌∷◌, ◌++◌, length, get_or, map, refl, ap, subst, ◌∙◌, sym, arith, Option, Some, None}
 use Rattle.std.specs.List.{AllByRecursion}
 use Rattle.std.proofs.lemmas.List.{length-append, get_or_append_left, get_or-map}
@@ -12,7 +12,7 @@ use Rattle.wit_data.specs.Values.{Making, part_value, next_value, values_from, v
 nothing_more : (n : ℕ) → 0 + n ≡ n
 nothing_more n = omega arith
 
--- Values once made stay.
+-- Values once made are unchanged.
 pub kept : {A : Type 0} (m : Making A) (done : List A) (ts : List TypeDef) (k : ℕ) (d : A) → k < length done → get_or (values_from m done ts) k d ≡ get_or done k d
 unfolding values_from
 kept m done [] k d l = refl
@@ -30,7 +30,7 @@ pub same_parts : {A : Type 0} (m : Making A) (done : List A) (ts : List TypeDef)
 same_parts m done ts [] b = refl
 same_parts m done ts (p ∷ ps) b = ap (λ x. x ∷ map (part_value m done) ps) (same_part m done ts p b.0) ∙ ap (λ xs. part_value m (values_from m done ts) p ∷ xs) (same_parts m done ts ps b.1)
 
--- The value at a place.
+-- The value at an index.
 pub made_at : {A : Type 0} (m : Making A) (done : List A) (ts : List TypeDef) (n : ℕ) → RefersBackFrom (length done) ts → n < length ts → get_or (values_from m done ts) (length done + n) m.absent ≡ m.made (length done + n) (kind_at ts n) (map (part_value m (values_from m done ts)) (parts (kind_at ts n)))
 unfolding values_from
 made_at m done [] n s l = absurd (omega (arith, l))
@@ -55,7 +55,7 @@ unfolding values_from
 length_values m done [] = omega arith
 length_values m done (t ∷ ts) = let v = next_value m done t.kind in omega (arith, length_values m (done ++ v ∷ []) ts, length-append done (v ∷ []))
 
--- What a type refers to stands before it.
+-- A type refers to earlier types.
 pub parts_below_from : (b : ℕ) (ts : List TypeDef) (n : ℕ) → RefersBackFrom b ts → n < length ts → AllByRecursion (IsBelow (b + n)) (parts (kind_at ts n))
 parts_below_from b [] n s l = absurd (omega (arith, l))
 parts_below_from b (t ∷ ts) zero s l = subst (λ k. AllByRecursion (IsBelow k) (parts t.kind)) (omega arith) s.0
@@ -79,7 +79,7 @@ kind_there [] n d l = absurd (omega (arith, l))
 kind_there (t ∷ ts) zero d l = refl
 kind_there (t ∷ ts) (suc n) d l = kind_there ts n d (omega (arith, l))
 
--- The place of a part among the values.
+-- The index of a part among the values.
 pub part_value_at : {A : Type 0} (m : Making A) (types : List TypeDef) (id n : ℕ) → n < length (parts (kind_at types id)) → get_or (part_values m types id) n m.absent ≡ part_value m (values m types) (get_or (parts (kind_at types id)) n None)
 part_value_at m types id n l = get_or-map (part_value m (values m types)) (parts (kind_at types id)) n None m.absent l
 
@@ -88,6 +88,6 @@ height_below b None h = omega arith
 height_below b (Some (Primitive q)) h = omega arith
 height_below b (Some (Id id)) h = omega (arith, h)
 
--- What a type names at a place stands before it.
+-- What a type names at an index is an earlier type.
 pub part_below : (types : List TypeDef) (id n : ℕ) → RefersBack types → id < length types → n < length (parts (kind_at types id)) → IsBelow id (get_or (parts (kind_at types id)) n None)
 part_below types id n b l h = all_at (IsBelow id) (parts (kind_at types id)) n None (parts_below types id b l) h

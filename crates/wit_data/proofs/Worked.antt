@@ -1,4 +1,4 @@
--- Core values and core signatures, worked.
+-- Worked examples of core values and core signatures.
 use Rattle.std.proofs.Common.{◌≡◌, true, false, List, [], ◌∷◌, refl, Some, None}
 use Rattle.std.specs.Prelude.{codes, replicate}
 use Rattle.comp_bytes.specs.declared.types.Primitive.{Primitive as Prim}
@@ -38,7 +38,7 @@ f32_or_u32 : flat (three_cases prims.F32 prims.U32) (Some first) ≡ I32 ∷ I32
 unfolding values_from
 f32_or_u32 = refl
 
--- a list in an option, and a handle in a record behind another name
+-- a list in an option, and that option by another name
 nested : flat (unnamed (kinds.«List» (Primitive prims.U8)) ∷ unnamed (kinds.«Option» first) ∷ unnamed (kinds.Alias (Id (record { index = 1 }))) ∷ []) (Some (Id (record { index = 2 }))) ≡ I32 ∷ I32 ∷ I32 ∷ []
 unfolding values_from
 nested = refl
@@ -47,7 +47,7 @@ nested = refl
 abbrev pair : List TypeDef
 pair = unnamed (kinds.Tuple (Primitive prims.U32 ∷ Primitive prims.U32 ∷ [])) ∷ []
 
--- 17 parameters, more than lie in core parameters, and that tuple as the result
+-- 17 parameters, more than are passed as core parameters, and that tuple as the result
 abbrev taking_17 : Function
 taking_17 = record {
   name = codes "f";

@@ -1,4 +1,4 @@
--- Versions, contents and reached types, worked.
+-- Worked examples of versions, contents and reached types.
 use Rattle.std.proofs.Common.{◌≡◌, ℕ, List, [], ◌∷◌, refl, Some, None}
 use Rattle.std.specs.Prelude.{codes}
 use Rattle.std.specs.Fmt.{digits}

@@ -1,5 +1,5 @@
--- What a type contains that lies in memory (Canonical ABI: `store`, `load`; texts are read and written
--- with an encoding). Handles, streams and futures are numbers: what they lead to is not in the value.
+-- What a type contains that is in memory (Canonical ABI: `store`, `load`; texts are read and written
+-- with an encoding). Handles, streams and futures are numbers: what they refer to is not in the value.
 use Rattle.std.specs.Prelude.{ℕ, ◌+◌, Bool, true, false, ◌||◌, List, Option, None, if◌then◌else◌}
 use Rattle.std.specs.List.{list_any}
 use Rattle.wit_data.specs.declared.types.Type.{«Type» as Ty}
@@ -10,7 +10,7 @@ use Rattle.wit_data.specs.declared.types.TypeDefKind.TheVariants as kinds
 use Rattle.wit_data.specs.declared.types.TypeDef.{TypeDef}
 use Rattle.wit_data.specs.Values.{Making, value}
 
--- whether what a kind names is in its values
+-- whether the types that a kind names are in its values
 abbrev pub is_entered : TypeDefKind → Bool
 is_entered (kinds.Own id) = false
 is_entered (kinds.Borrow id) = false

@@ -30,7 +30,7 @@ join F32 F32 = F32
 join F64 F64 = F64
 join _ _ = I64
 
--- place by place, the longest deciding the length
+-- index by index; the longest has the length of the result
 abbrev pub join_lists : List WasmType → List WasmType → List WasmType
 join_lists [] bs = bs
 join_lists (a ∷ more) [] = a ∷ more

@@ -9,7 +9,7 @@ use Rattle.wit_data.specs.declared.ids.InterfaceId.{InterfaceId}
 use Rattle.wit_data.specs.declared.resolve.Resolve.{Resolve}
 use Rattle.wit_data.specs.Values.{Making, value}
 
--- whether a type is the one of this number, or reaches it
+-- whether a type is the one of this index, or reaches it
 abbrev pub reaching : ℕ → Making Bool
 reaching target = record { absent = false; simple = λ p. false; made = λ n kind found. (n == target) || list_any (λ b. b) found }
 

@@ -1,5 +1,5 @@
--- Marks on types, by number: what is reached of those that are marked, where the types from a given one on
--- have been gone through. (No standard speaks of them.)
+-- Marks on types, by index: what the marked types reach, where the types from a given one on
+-- have been visited. (No standard speaks of them.)
 use Rattle.std.specs.Prelude.{◌≡◌, ℕ, zero, suc, Bool, true, false, ◌||◌, ◌&&◌, List, length, get_or, slice_set, Option, Some, None}
 use Rattle.std.specs.List.{list_any}
 use Rattle.wit_data.specs.declared.types.Type.{«Type» as Ty}
@@ -8,13 +8,13 @@ use Rattle.wit_data.specs.declared.types.TypeDef.{TypeDef}
 use Rattle.wit_data.specs.Values.{values}
 use Rattle.wit_data.specs.Live.{reaching, is_live}
 
--- with a mark more, where the type has a number
+-- with one more mark, where the type has an index
 abbrev pub with_mark : List Bool → Option Ty → List Bool
 with_mark marks None = marks
 with_mark marks (Some (Primitive p)) = marks
 with_mark marks (Some (Id id)) = slice_set marks id.index true
 
--- whether the type with a number is the target, or reaches it
+-- whether the type with an index is the target, or reaches it
 abbrev pub reaches : List TypeDef → ℕ → ℕ → Bool
 reaches types n target = get_or (values (reaching target) types) n false
 
@@ -23,7 +23,7 @@ abbrev pub reached_below : List TypeDef → List Bool → ℕ → ℕ → Bool
 reached_below types marks zero target = false
 reached_below types marks (suc n) target = (get_or marks n false && reaches types n target) || reached_below types marks n target
 
--- whether it is marked, or will be where the first so many types are gone through
+-- whether it is marked, or will be once the first so many types are visited
 abbrev pub reached : List TypeDef → List Bool → ℕ → ℕ → Bool
 reached types marks n target = get_or marks target false || reached_below types marks n target
 
@@ -32,7 +32,7 @@ pub record Spreads (types : List TypeDef) (old new : List Bool) (n : ℕ) (found
   pub long : length new ≡ length old
   pub each : (target : ℕ) → reached types new n target ≡ (reached types old n target || list_any (λ b. b) (found target))
 
--- what the old marks reach with so many types to go through, the new ones reach with fewer
+-- what the old marks reach with so many types to visit, the new ones reach with fewer
 pub record PassesOn (types : List TypeDef) (old : List Bool) (more : ℕ) (new : List Bool) (fewer : ℕ) : Type 0 where
   pub long : length new ≡ length old
   pub each : (target : ℕ) → reached types new fewer target ≡ reached types old more target

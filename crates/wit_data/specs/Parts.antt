@@ -30,7 +30,7 @@ IsBelow bound None = Unit {0}
 IsBelow bound (Some (Primitive p)) = Unit {0}
 IsBelow bound (Some (Id id)) = id.index < bound
 
--- each type names earlier types alone, where so many stand before the first
+-- each type names earlier types alone, where so many come before the first
 abbrev pub RefersBackFrom : ℕ → List TypeDef → Type 0
 RefersBackFrom bound [] = Unit {0}
 RefersBackFrom bound (t ∷ ts) = AllByRecursion (IsBelow bound) (parts t.kind) × RefersBackFrom (suc bound) ts
@@ -39,7 +39,7 @@ RefersBackFrom bound (t ∷ ts) = AllByRecursion (IsBelow bound) (parts t.kind) 
 abbrev pub RefersBack : List TypeDef → Type 0
 RefersBack types = RefersBackFrom 0 types
 
--- one above the number of the type
+-- the index of the type plus one
 abbrev pub height : Option Ty → ℕ
 height None = 0
 height (Some (Primitive p)) = 0

@@ -17,7 +17,7 @@ flat_params types f = flat_map (λ p. flat types (Some p.ty)) f.params
 abbrev pub flat_result : List TypeDef → Function → List WasmType
 flat_result types f = flat types f.result
 
--- how many core parameters there may be; more lie in memory
+-- how many core parameters there may be; more are passed in memory
 abbrev pub most_params : AbiVariant → ℕ
 most_params abis.GuestImportAsync = 4
 most_params _ = 16
@@ -25,21 +25,21 @@ most_params _ = 16
 abbrev pub is_indirect : AbiVariant → List TypeDef → Function → Bool
 is_indirect abi types f = nat_lt (most_params abi) (length (flat_params types f))
 
--- whether the result lies in memory: of a call that waits for it, more than one core value; of an
--- asynchronous import, any result; an asynchronous export hands it to `task.return`
+-- whether the result is in memory: of a synchronous call, more than one core value; of an
+-- asynchronous import, any result; an asynchronous export passes it to `task.return`
 abbrev pub is_returned_in_memory : AbiVariant → List TypeDef → Function → Bool
 is_returned_in_memory abis.GuestImport types f = nat_lt 1 (length (flat_result types f))
 is_returned_in_memory abis.GuestExport types f = nat_lt 1 (length (flat_result types f))
 is_returned_in_memory abis.GuestImportAsync types f = is_some f.result
 is_returned_in_memory _ types f = false
 
--- the pointer at which an import leaves its result
+-- the pointer to which an import writes its result
 abbrev pub result_pointer : AbiVariant → Bool → List WasmType
 result_pointer abis.GuestImport in_memory = if in_memory then I32 ∷ [] else []
 result_pointer abis.GuestImportAsync in_memory = if in_memory then I32 ∷ [] else []
 result_pointer _ in_memory = []
 
--- the core results: the result's own values, or where it lies; of an asynchronous call, its status
+-- the core results: the result's own values, or a pointer to them; of an asynchronous call, its status
 abbrev pub core_results : AbiVariant → Bool → List WasmType → List WasmType
 core_results abis.GuestImport in_memory values = if in_memory then [] else values
 core_results abis.GuestExport in_memory values = if in_memory then I32 ∷ [] else values

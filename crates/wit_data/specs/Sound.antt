@@ -1,4 +1,4 @@
--- Whether all numbers in a resolve name something there (component model, WIT: names are resolved).
+-- Whether all indices in a resolve are in range (component model, WIT: names are resolved).
 use Rattle.std.specs.Prelude.{◌<◌, length, Option, Some}
 use Rattle.std.specs.List.{AllByRecursion}
 use Rattle.wit_data.specs.declared.types.Type.{«Type» as Ty}
@@ -19,7 +19,7 @@ use Rattle.wit_data.specs.declared.resolve.Resolve.{Resolve}
 use Rattle.wit_data.specs.Parts.{IsBelow, RefersBack}
 use Rattle.wit_data.specs.Sizes.{AreSmall}
 
--- the type stands in it
+-- the type is in the resolve
 abbrev pub HasType : Resolve → Option Ty → Type 0
 HasType r part = IsBelow (length r.types) part
 
@@ -69,7 +69,7 @@ pub record HasWorld (r : Resolve) (w : World) : Type 0 where
   pub imports : AllByRecursion (HasEntry r) w.imports
   pub exports : AllByRecursion (HasEntry r) w.exports
 
--- every number names something, types name earlier types alone, and they are small
+-- every index is in range, types name earlier types alone, and they are small
 pub record IsSound (r : Resolve) : Type 0 where
   pub back : RefersBack r.types
   pub small : AreSmall r.types

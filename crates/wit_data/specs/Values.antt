@@ -9,7 +9,7 @@ use Rattle.wit_data.specs.declared.types.TypeDefKind.TheVariants as kinds
 use Rattle.wit_data.specs.declared.types.TypeDef.{TypeDef}
 use Rattle.wit_data.specs.Parts.{parts}
 
--- How a value is made: of nothing, of a primitive, of the kind of the type with a given number and the values of its parts.
+-- How a value is made: of nothing, of a primitive, of the kind of the type with a given index and the values of its parts.
 pub record Making (A : Type 0) : Type 0 where
   pub absent : A
   pub simple : Prim → A
@@ -34,12 +34,12 @@ values m types = values_from m [] types
 abbrev pub value : {A : Type 0} → Making A → List TypeDef → Option Ty → A
 value m types part = part_value m (values m types) part
 
--- The kind of the type with a given number; of none, an arbitrary one.
+-- The kind of the type with a given index; out of range, an arbitrary one.
 abbrev pub kind_at : List TypeDef → ℕ → TypeDefKind
 kind_at [] n = kinds.Resource
 kind_at (t ∷ ts) zero = t.kind
 kind_at (t ∷ ts) (suc n) = kind_at ts n
 
--- The values of the parts of the type with a given number.
+-- The values of the parts of the type with a given index.
 abbrev pub part_values : {A : Type 0} → Making A → List TypeDef → ℕ → List A
 part_values m types id = map (part_value m (values m types)) (parts (kind_at types id))

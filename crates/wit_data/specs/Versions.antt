@@ -13,7 +13,7 @@ pub record Canonical : Type 0 where
 abbrev pub whole_version : Parts → Canonical
 whole_version p = record { version = parts_text p; suffix = None }
 
--- of numbers alone, up to the first that is not 0, of the first two; of others, the whole
+-- of numbers alone, up to the first of the major and minor numbers that is not 0; of others, the whole
 abbrev pub canonical_version : Parts → Canonical
 canonical_version p =
     if (length p.3 == 0) && (length p.4 == 0) then

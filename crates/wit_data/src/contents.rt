@@ -14,7 +14,7 @@ use crate::types::{Type, TypeDef, TypeDefKind};
 use bitflags::{Flag, Flags, bitflag_items};
 use comp_bytes::Primitive;
 
-/// What a type contains that lies in memory (Canonical ABI: `store`, `load`).
+/// What a type contains that is in memory (Canonical ABI: `store`, `load`).
 #[derive(Clone, Copy, Debug, PartialEq, Eq)]
 pub struct TypeContents(u8);
 
@@ -47,7 +47,7 @@ impl Flags for TypeContents {
     }
 }
 
-/// What was met in a type.
+/// What was found in a type.
 #[derive(Clone, Copy, Debug, PartialEq, Eq)]
 struct Met {
     text: bool,
@@ -55,7 +55,7 @@ struct Met {
 }
 
 impl Met {
-    /// What was met in either.
+    /// What was found in either.
     fn or(self, other: Met) -> Met
         ensures text { result.text ≡ (self.text || other.text) }
         ensures list { result.list ≡ (self.list || other.list) }
@@ -66,7 +66,7 @@ impl Met {
         }
     }
 
-    /// Whether there is nothing more to meet.
+    /// Whether all of it was found.
     fn is_all(self) -> bool
         ensures { result ≡ (self.text && self.list) }
     {
@@ -75,7 +75,7 @@ impl Met {
 }
 
 impl TypeDefKind {
-    /// Whether what it names is in its values.
+    /// Whether the types that it names are in its values.
     fn is_entered(&self) -> bool
         ensures { result ≡ is_entered self.now }
     {
@@ -110,7 +110,7 @@ fn is_text(primitive: Primitive) -> bool
     matches!(primitive, Primitive::String)
 }
 
-/// What is met in a type, if there is one.
+/// What is found in a type, if there is one.
 #[cycle(meeting)]
 fn met_in(types: &[TypeDef], part: Option<Type>) -> Met
     requires sound { RefersBack types.now }
@@ -131,7 +131,7 @@ fn met_in(types: &[TypeDef], part: Option<Type>) -> Met
     }
 }
 
-/// What is met in the type with this number.
+/// What is found in the type with this index.
 #[cycle(meeting)]
 fn met_in_kind(types: &[TypeDef], id: usize) -> Met
     requires sound { RefersBack types.now }
@@ -151,8 +151,8 @@ fn met_in_kind(types: &[TypeDef], id: usize) -> Met
     }
 }
 
-/// What is met in the parts of the type with this number, beside what was met. It stops where there is
-/// nothing more to meet.
+/// What is found in the parts of the type with this index, together with what was found before. It stops
+/// once everything was found.
 #[cycle(meeting)]
 fn met_in_parts(types: &[TypeDef], id: usize, before: Met) -> Met
     requires sound { RefersBack types.now }
@@ -171,7 +171,7 @@ fn met_in_parts(types: &[TypeDef], id: usize, before: Met) -> Met
 }
 
 impl Resolve {
-    /// What a type contains: a text, or what lies in memory.
+    /// What a type contains: a string, or anything in memory.
     pub fn type_contents(&self, ty: &Type) -> TypeContents
         requires sound { IsSound self.now }
         requires stands { HasType self.now (Some ty.now) }
@@ -180,7 +180,7 @@ impl Resolve {
         self.contents_of(Some(*ty))
     }
 
-    /// What a type contains, if there is one: a text, or what lies in memory. Without a type it is
+    /// What a type contains, if there is one: a string, or anything in memory. Without a type it is
     /// nothing.
     pub fn contents_of(&self, part: Option<Type>) -> TypeContents
         requires sound { IsSound self.now }

@@ -22,7 +22,7 @@ pub(crate) enum Shape {
     Pair,
     /// Those of all parts, one after the other.
     Product,
-    /// A number that tells the case, and those of the cases, place by place.
+    /// A number for the case, and the core values of the cases, joined index by index.
     Sum,
 }
 
@@ -48,7 +48,7 @@ fn shape_of(kind: &TypeDefKind) -> Shape
     }
 }
 
-/// The least count of core values that no function has room for.
+/// The least count of core values that no function has parameters for.
 pub(crate) const MANY: usize = 17;
 
 /// How many core values a type has, or 17 if there are more.
@@ -89,7 +89,7 @@ fn shape_count(types: &[TypeDef], id: usize) -> usize
     }
 }
 
-/// The count with one more core value, which tells the case.
+/// The count with one more core value, the number of the case.
 fn tagged_count(count: usize) -> usize
     requires { count ≤ 17 }
     ensures { result ≡ min (1 + count) 17 }
@@ -114,7 +114,7 @@ fn count_together(types: &[TypeDef], id: usize) -> usize
     total
 }
 
-/// The core values of the part that has most.
+/// The count of core values of the part that has most.
 #[cycle(counting)]
 fn count_of_longest(types: &[TypeDef], id: usize) -> usize
     requires back { RefersBack types.now }
@@ -217,7 +217,7 @@ fn flatten_together(
     Ok(())
 }
 
-/// Appends a number that tells the case, and the core values that hold those of each case.
+/// Appends the number of the case, and the core values that hold those of each case.
 #[cycle(listing)]
 fn flatten_cases(
     types: &[TypeDef],
@@ -250,7 +250,7 @@ fn joined_cases(types: &[TypeDef], id: usize, alloc: Global) -> Result<Vec<WasmT
     Ok(values)
 }
 
-/// Makes each value one that also holds the other list's value at its place, and appends what that has more.
+/// Makes each value one that also holds the other list's value at its index, and appends the other list's rest.
 fn join_into(values: &mut Vec<WasmType>, others: &[WasmType]) -> Result<(), AllocError>
     ensures { OnOk result (values.new.items ≡ join_lists values.old.items others.now) }
 {

@@ -46,7 +46,7 @@ impl Drop for Function {
     }
 }
 
-/// The forms in which the Canonical ABI calls a function: who calls whom, and whether the caller waits.
+/// The forms in which the Canonical ABI calls a function: who is the caller, and whether the caller waits.
 #[derive(Clone, Copy, Debug, PartialEq, Eq, Hash)]
 pub enum AbiVariant {
     GuestImport,

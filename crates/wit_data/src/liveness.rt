@@ -18,8 +18,8 @@ use std::alloc::{AllocError, Global};
 impl Resolve {
     /// Those of an interface's types that the given types reach, in the interface's order: a type
     /// reaches itself, what it names, and what that reaches (component model, binary format: an instance
-    /// type declares each type that its functions name). It takes time by the number of the resolve's
-    /// types and of their parts. The only refusal is want of memory.
+    /// type declares each type that its functions name). The time is linear in the number of the resolve's
+    /// types and of their parts. The only error is out of memory.
     pub fn live_types(
         &self,
         alloc: Global,
@@ -40,8 +40,8 @@ impl Resolve {
     }
 }
 
-/// For each type, whether the given types reach it. It takes time by the number of the types and of their parts,
-/// however many are given. The only refusal is want of memory.
+/// For each type, whether the given types reach it. The time is linear in the number of the types and of their parts,
+/// however many are given. The only error is out of memory.
 pub fn live_marks(alloc: Global, types: &[TypeDef], given: &[Type]) -> Result<Vec<bool>, AllocError>
     requires sound { RefersBack types.now }
     requires given { AllByRecursion (λ t. IsBelow (length types.now) (Some t)) given.now }
@@ -75,7 +75,7 @@ fn mark_given(types: &[TypeDef], marks: &mut [bool], given: &[Type])
     }
 }
 
-/// Goes through the types from the last to the first, and marks what each marked one names. Types name
+/// Visits the types from the last to the first, and marks what each marked one names. Types name
 /// earlier types alone, so this marks all that they reach.
 fn pass_all_on(types: &[TypeDef], marks: &mut [bool])
     requires sound { RefersBack types.now }
@@ -89,7 +89,7 @@ fn pass_all_on(types: &[TypeDef], marks: &mut [bool])
     }
 }
 
-/// Marks what the type with this number names, if it is marked.
+/// Marks what the type with this index names, if it is marked.
 fn pass_on(types: &[TypeDef], marks: &mut [bool], n: usize)
     requires sound { RefersBack types.now }
     requires long { length marks.old ≡ length types.now }
@@ -101,7 +101,7 @@ fn pass_on(types: &[TypeDef], marks: &mut [bool], n: usize)
     }
 }
 
-/// Marks what the type with this number names.
+/// Marks what the type with this index names.
 fn mark_parts(types: &[TypeDef], marks: &mut [bool], id: usize)
     requires sound { RefersBack types.now }
     requires long { length marks.old ≡ length types.now }
@@ -113,7 +113,7 @@ fn mark_parts(types: &[TypeDef], marks: &mut [bool], id: usize)
     }
 }
 
-/// Marks a type, if there is one that has a number.
+/// Marks a type, if it has an index.
 fn mark(marks: &mut [bool], part: Option<Type>)
     requires { IsBelow (length marks.old) part }
     ensures { marks.new ≡ with_mark marks.old part }
@@ -123,7 +123,7 @@ fn mark(marks: &mut [bool], part: Option<Type>)
     }
 }
 
-/// Those of the types by name that are marked, in their order. The only refusal is want of memory.
+/// The marked ones of the types by name, in their order. The only error is out of memory.
 pub fn marked_of(
     alloc: Global,
     marks: &[bool],

@@ -13,7 +13,7 @@ use comp_lists::Text;
 use std::alloc::{AllocError, Global};
 
 /// The name of an interface (component model, explainer: `interfacename`): a namespace, a package, the
-/// interface's own name, and perhaps a version.
+/// interface's own name, and an optional version.
 #[derive(Debug)]
 pub struct IdName {
     pub namespace: Text,
@@ -33,7 +33,7 @@ impl Drop for IdName {
     }
 }
 
-/// Writes a sign and a text behind it.
+/// Writes a sign and a text after it.
 fn put_part(out: &mut String, sign: &str, text: &str) -> Result<(), AllocError>
     ensures { OnOk result (string_bytes out.new ≡ string_bytes out.old ++ (sign.now ++ text.now)) }
 {
@@ -53,7 +53,7 @@ fn clone_version(version: &Option<PackageVersion>) -> Result<Option<PackageVersi
 }
 
 impl IdName {
-    /// An equal name. The only refusal is want of memory.
+    /// An equal name. The only error is out of memory.
     pub fn clone(&self, alloc: Global) -> Result<IdName, AllocError>
         ensures { IfOk result (λ name. name ≡ self.now) }
     {
@@ -65,7 +65,7 @@ impl IdName {
         })
     }
 
-    /// The name with its whole version, as `a:b/c@1.2.3`. The only refusal is want of memory.
+    /// The name with its whole version, as `a:b/c@1.2.3`. The only error is out of memory.
     pub fn text(&self, alloc: Global) -> Result<Text, AllocError>
         ensures { IfOk result (λ t. t ≡ id_text self.now) }
     {
@@ -78,7 +78,7 @@ impl IdName {
     }
 
     /// The name with the part of its version that compatible versions share, as `a:b/c@1`. The only
-    /// refusal is want of memory.
+    /// error is out of memory.
     pub fn canonical_text(&self, alloc: Global) -> Result<Text, AllocError>
         ensures { IfOk result (λ t. t ≡ canonical_id_text self.now) }
     {
@@ -90,8 +90,8 @@ impl IdName {
         Ok(Text::from_string(out))
     }
 
-    /// What the canonical name lacks of the version, as `.2.3`, where it lacks anything (component
-    /// model, explainer: `versionsuffix`). The only refusal is want of memory.
+    /// The rest of the version, which the canonical name lacks, as `.2.3`, where there is any (component
+    /// model, explainer: `versionsuffix`). The only error is out of memory.
     pub fn version_suffix(&self, alloc: Global) -> Result<Option<Text>, AllocError>
         ensures { IfOk result (λ suffix. suffix ≡ version_suffix self.now) }
     {
@@ -115,7 +115,7 @@ impl IdName {
 
 impl Resolve {
     /// The name of a world's import or export, an interface's with its whole version. An interface
-    /// without a name has the empty text. The only refusal is want of memory.
+    /// without a name has the empty text. The only error is out of memory.
     pub fn name_world_key(&self, alloc: Global, key: &WorldKey) -> Result<Text, AllocError>
         requires sound { IsSound self.now }
         requires stands { HasKey self.now key.now }
@@ -129,7 +129,7 @@ impl Resolve {
 
     /// The name of a world's import or export, an interface's with the part of its version that
     /// compatible versions share. An interface without a name has the empty text. The only refusal is
-    /// want of memory.
+    /// out of memory.
     pub fn name_canonicalized_world_key(
         &self,
         alloc: Global,
@@ -148,7 +148,7 @@ impl Resolve {
         }
     }
 
-    /// The name of an interface with its whole version, where it has a name. The only refusal is want
+    /// The name of an interface with its whole version, where it has a name. The only error is out
     /// of memory.
     pub fn id_of(&self, alloc: Global, id: InterfaceId) -> Result<Option<Text>, AllocError>
         requires sound { IsSound self.now }
@@ -162,7 +162,7 @@ impl Resolve {
     }
 
     /// The name of an interface with the part of its version that compatible versions share, where it
-    /// has a name. The only refusal is want of memory.
+    /// has a name. The only error is out of memory.
     pub fn canonicalized_id_of(
         &self,
         alloc: Global,

@@ -7,7 +7,7 @@ ghost use Rattle.wit_data.specs.Values.{kind_at};
 use crate::types::{Type, TypeDef, TypeDefKind};
 
 impl TypeDefKind {
-    /// How many places for types the kind has. A case without a type has one too.
+    /// How many parts the kind has: the types that it names. A case without a type counts as one.
     pub fn part_count(&self) -> usize
         ensures { result ≡ length (parts self.now) }
     {
@@ -29,7 +29,7 @@ impl TypeDefKind {
         }
     }
 
-    /// The type that the kind names at a place, counted from 0.
+    /// The part of the kind at an index, from 0.
     pub fn part(&self, place: usize) -> Option<Type>
         requires { place < length (parts self.now) }
         ensures { result ≡ get_or (parts self.now) place None }
@@ -53,7 +53,7 @@ impl TypeDefKind {
     }
 }
 
-/// How many places for types the type of a number has.
+/// How many parts the type with an index has.
 #[tactic(auto, using(crate::proofs::Values::kind_there))]
 pub fn part_count_of(types: &[TypeDef], id: usize) -> usize
     requires { id < length types.now }
@@ -62,7 +62,7 @@ pub fn part_count_of(types: &[TypeDef], id: usize) -> usize
     types[id].kind.part_count()
 }
 
-/// The type that the type of a number names at a place. It stands earlier.
+/// The part at an index of the type with an index. It is an earlier type.
 #[tactic(auto, using(crate::proofs::Values::kind_there, crate::proofs::Values::part_below, crate::proofs::Values::height_below, crate::proofs::Values::below_later))]
 pub fn part_of(types: &[TypeDef], id: usize, place: usize) -> Option<Type>
     requires back { RefersBack types.now }
@@ -76,7 +76,7 @@ pub fn part_of(types: &[TypeDef], id: usize, place: usize) -> Option<Type>
     types[id].kind.part(place)
 }
 
-/// The kind of the type of a number.
+/// The kind of the type with an index.
 #[tactic(auto, using(crate::proofs::Values::kind_there))]
 pub fn kind_of(types: &[TypeDef], id: usize) -> &TypeDefKind
     requires { id < length types.now }

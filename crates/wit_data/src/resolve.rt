@@ -24,7 +24,7 @@ impl Drop for Interface {
     }
 }
 
-/// All interfaces, types and worlds that name one another, by number.
+/// All interfaces, types and worlds, which refer to one another by index.
 pub struct Resolve {
     pub interfaces: Seq<Interface>,
     pub types: Seq<TypeDef>,

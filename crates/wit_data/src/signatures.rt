@@ -29,13 +29,13 @@ pub enum WasmType {
 pub struct WasmSignature {
     pub params: Seq<WasmType>,
     pub results: Seq<WasmType>,
-    /// Whether the parameters lie in memory, and one pointer to them is passed.
+    /// Whether the parameters are in memory, and one pointer to them is passed.
     pub indirect_params: bool,
-    /// Whether the result lies in memory.
+    /// Whether the result is in memory.
     pub retptr: bool,
 }
 
-/// How many core parameters there may be; more lie in memory.
+/// How many core parameters there may be; more are passed in memory.
 fn most_params(abi: AbiVariant) -> usize
     ensures most { result ≡ signatures.most_params abi }
     ensures few { result < 17 }
@@ -89,7 +89,7 @@ fn one_pointer(alloc: Global) -> Result<Vec<WasmType>, AllocError>
 }
 
 impl Resolve {
-    /// Whether the parameters of a function lie in memory, and one pointer to them is passed. It takes no memory.
+    /// Whether the parameters of a function are in memory, and one pointer to them is passed. It takes no memory.
     pub fn is_indirect(&self, abi: AbiVariant, function: &Function) -> bool
         requires sound { IsSound self.now }
         requires stands { HasFunction self.now function.now }
@@ -98,7 +98,7 @@ impl Resolve {
         param_count(self.types.as_slice(), function.params.as_slice()) > most_params(abi)
     }
 
-    /// Whether the result of a function lies in memory. It takes no memory.
+    /// Whether the result of a function is in memory. It takes no memory.
     pub fn is_returned_in_memory(&self, abi: AbiVariant, function: &Function) -> bool
         requires sound { IsSound self.now }
         requires stands { HasFunction self.now function.now }
@@ -155,7 +155,7 @@ impl Resolve {
         }
     }
 
-    /// The core results of a call whose result lies in memory or not.
+    /// The core results of a call whose result is in memory or not.
     fn core_results(
         &self,
         alloc: Global,
@@ -222,7 +222,7 @@ impl Resolve {
     }
 }
 
-/// Appends the pointer at which an import leaves its result.
+/// Appends the pointer to which an import writes its result.
 fn push_result_pointer(
     params: &mut Vec<WasmType>,
     abi: AbiVariant,

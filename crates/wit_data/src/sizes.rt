@@ -9,14 +9,14 @@ ghost use Rattle.wit_data.specs.Sizes as sizes;
 use crate::parts::{part_count_of, part_of};
 use crate::types::{Type, TypeDef, TypeDefKind};
 
-/// The least count of nodes that no type may have.
+/// The least count of nodes that is over the limit.
 const MANY_NODES: usize = 10_001;
 
-/// The least count of levels that no type may have.
+/// The least count of levels that is over the limit.
 const MANY_LEVELS: usize = 101;
 
 /// Whether no flags have more than 32 labels, no type has more than 10,000 nodes, and none more than
-/// 100 below one another.
+/// 100 levels.
 pub(crate) fn are_small(types: &[TypeDef]) -> bool
     requires { RefersBack types.now }
     ensures { IsTrue result ↔ sizes.AreSmall types.now }
@@ -103,7 +103,7 @@ fn nodes_together(types: &[TypeDef], id: usize) -> usize
     total
 }
 
-/// How many types stand below one another, or 101 if there are more.
+/// How many levels a type has, or 101 if there are more.
 #[cycle(level_counting)]
 fn level_count(types: &[TypeDef], part: Option<Type>) -> usize
     requires back { RefersBack types.now }

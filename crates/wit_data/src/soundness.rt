@@ -1,4 +1,4 @@
-//! Whether all numbers in a resolve name something there.
+//! Whether all indices in a resolve are in range.
 
 ghost use Rattle.std.specs.Prelude.{◌≡◌, ◌<◌, ◌↔◌, IsTrue, length};
 ghost use Rattle.std.specs.List.{AllByRecursion};
@@ -14,7 +14,7 @@ use crate::worlds::{World, WorldItem, WorldKey};
 use comp_lists::{Keyed, Text};
 
 impl Resolve {
-    /// Whether every number names something here, types name earlier types alone, and they are small. It takes no memory.
+    /// Whether every index is in range here, types name earlier types alone, and they are small. It takes no memory.
     pub fn is_sound(&self) -> bool
         ensures { IsTrue result ↔ sound.IsSound self.now }
     {
@@ -25,7 +25,7 @@ impl Resolve {
             && self.has_worlds(self.worlds.as_slice())
     }
 
-    /// Whether the types of a function stand here. It takes no memory.
+    /// Whether the types of a function are here. It takes no memory.
     pub fn has_function(&self, function: &Function) -> bool
         ensures { IsTrue result ↔ sound.HasFunction self.now function.now }
     {

@@ -26,7 +26,7 @@ pub struct Case {
     pub ty: Option<Type>,
 }
 
-/// What a result has where it is right, and where it is wrong.
+/// The types of a result's success and failure values.
 #[derive(Clone, Copy, Debug, PartialEq, Eq, Hash)]
 pub struct ResultType {
     pub ok: Option<Type>,
@@ -74,7 +74,7 @@ impl Drop for TypeDefKind {
     }
 }
 
-/// Where a named type stands. Types without a name have no owner.
+/// The owner of a named type. Types without a name have none.
 #[derive(Clone, Copy, Debug, PartialEq, Eq)]
 pub enum TypeOwner {
     World(WorldId),

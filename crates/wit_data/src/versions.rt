@@ -9,8 +9,8 @@ use semver::Version;
 use std::alloc::{AllocError, Global};
 use std::marker::Model;
 
-/// The version of a package, which contracts see as its numbers and texts: major, minor, patch, what is
-/// behind a `-` and what is behind a `+`.
+/// The version of a package, which contracts see as its numbers and texts: major, minor, patch, the
+/// pre-release after a `-` and the build after a `+`.
 #[derive(Debug, Drop)]
 pub struct PackageVersion {
     version: Version,
@@ -39,7 +39,7 @@ impl PackageVersion {
         &self.version
     }
 
-    /// An equal version. The only refusal is want of memory.
+    /// An equal version. The only error is out of memory.
     pub(crate) fn clone(&self) -> Result<PackageVersion, AllocError>
         ensures { IfOk result (λ v. v ≡ self.now) }
     {
@@ -48,7 +48,7 @@ impl PackageVersion {
         })
     }
 
-    /// The whole version, as `1.2.3-rc.1+5`. The only refusal is want of memory.
+    /// The whole version, as `1.2.3-rc.1+5`. The only error is out of memory.
     pub(crate) fn text(&self, alloc: Global) -> Result<Text, AllocError>
         ensures { IfOk result (λ t. t ≡ parts_text self.now) }
     {
@@ -67,7 +67,7 @@ pub struct CanonicalVersion {
 
 /// The part of a version that compatible versions share, and the rest (component model, explainer:
 /// `canonversion`). Where the version has more than numbers, or begins with two zeros, it is the whole.
-/// The only refusal is want of memory.
+/// The only error is out of memory.
 pub fn canonical_version(alloc: Global, version: &Version) -> Result<CanonicalVersion, AllocError>
     ensures version { IfOk result (λ c. c.version ≡ (canonical_version (parts_of version.now)).version) }
     ensures suffix { IfOk result (λ c. c.suffix ≡ (canonical_version (parts_of version.now)).suffix) }
@@ -93,7 +93,7 @@ pub fn canonical_version(alloc: Global, version: &Version) -> Result<CanonicalVe
     whole_version(alloc, version)
 }
 
-/// A version of which nothing is cut.
+/// A version that is kept whole.
 fn whole_version(alloc: Global, version: &Version) -> Result<CanonicalVersion, AllocError>
     ensures version { IfOk result (λ c. c.version ≡ (whole_version (parts_of version.now)).version) }
     ensures suffix { IfOk result (λ c. c.suffix ≡ (whole_version (parts_of version.now)).suffix) }

@@ -74,7 +74,7 @@ impl Hash for WorldKey {
     }
 }
 
-/// What stands at a key of a world.
+/// The item at a key of a world.
 #[derive(Debug, Drop, PartialEq, Eq)]
 pub enum WorldItem {
     Interface(InterfaceId),
