@@ -103,7 +103,7 @@ body_again id contents b (holds_custom name text bytes counted text8) = rw (name
 body_again (suc id) contents b (holds_coded id' bytes pos) = refl
 body_again zero contents b (holds_coded id' bytes pos) = absurd (omega arith)
 
--- the front of what has this rest
+-- the bytes before this rest
 front_is : (bytes x y : List ℕ) → bytes ≡ x ++ y → take (length bytes - length y) bytes ≡ x
 front_is bytes x y e =
     let len : length x ≡ length bytes - length y = omega (arith, ap length e, length-append x y) in

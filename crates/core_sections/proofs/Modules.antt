@@ -97,7 +97,7 @@ pub stripped_again : (bytes : List ℕ) (ps : List Piece) → IsModule bytes ps 
 unfolding stripped
 stripped_again bytes ps h none = rw (module_again bytes ps h, none) refl
 
--- what a function gave that gives what `stripped` gives
+-- the returned value of a function that returns what `stripped` gives
 pub is_found : {X : Type 0} (v : X → List ℕ × List (List ℕ)) (bytes : List ℕ) (r : Result X SectionFault) → Gives v r (stripped bytes)
     → IfOk r (λ s. (ps : List Piece) × IsModule bytes ps × ((v s).0 ≡ preamble ++ kept ps) × ((v s).1 ≡ removed ps))
 is_found v bytes (Ok s) h = stripped_takes bytes (v s) h

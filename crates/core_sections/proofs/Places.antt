@@ -1,4 +1,4 @@
--- Where a section stands: behind the bytes of those before it.
+-- The offset of a section: the size of the preamble and of the sections before it.
 use Rattle.std.proofs.Common.{◌≡◌, ℕ, ◌+◌, List, [], ◌∷◌, ◌++◌, length, Ok, refl, ap, arith}
 use Rattle.std.specs.List.{flat_map}
 use Rattle.std.proofs.lemmas.List.{length-append}

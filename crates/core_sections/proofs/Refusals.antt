@@ -1,4 +1,4 @@
--- What is wrong with bytes that can't be taken apart as a module, or that hold a package.
+-- What is wrong with bytes that can't be split into the sections of a module, or that hold a package.
 use Rattle.std.proofs.Common.{◌≡◌, ◌⊎◌, inl, inr, ℕ, zero, suc, ◌+◌, ◌-◌, ◌<◌, Bool, true, false, cond, List, [], ◌∷◌, ◌++◌, length, drop, Option, Some, None, Result, Ok, Err, refl, sym, ap, ◌∙◌, append_assoc, arith, nat_eq, true≢false}
 use Rattle.std.specs.Prelude.{◌≢◌, ok_or, IfErr}
 use Rattle.std.specs.List.{flat_map, AllByRecursion, starts_with, list_any}
@@ -23,7 +23,7 @@ missed : {A : Type 0} (o : Option A) (d e : SectionFault) → ok_or o d ≡ Err 
 missed None d e h = cc
 missed (Some x) d e h = absurd cc
 
--- where no section is read, that is the fault
+-- reading sections never fails with `NotModule`
 tells_place : (n place : ℕ) (bytes : List ℕ) → pieces_from n place bytes ≡ Err faults.NotModule → ⊥
 unfolding pieces_from
 tells_place n place [] e = cc
@@ -95,7 +95,7 @@ stripped_package bytes e =
     by true s h = refl
     by false s h = absurd cc
 
--- what a function that gives what `stripped` gives tells
+-- the fault of a function that returns what `stripped` gives
 pub is_no_module : {X : Type 0} (v : X → List ℕ × List (List ℕ)) (bytes : List ℕ) (r : Result X SectionFault) → Gives v r (stripped bytes)
     → IfErr r (λ e. e ≡ faults.NotModule → (rest : List ℕ) → bytes ≡ preamble ++ rest → ⊥)
 is_no_module v bytes (Ok s) h = tt

@@ -1,4 +1,4 @@
--- Constant expressions that are worked out, each from the binary format.
+-- Worked examples of constant expressions, each from the binary format.
 use Rattle.std.proofs.Common.{◌≡◌, ℕ, List, [], ◌∷◌, Some, None, refl}
 use Rattle.core_sections.specs.Numbers.{leb_at}
 use Rattle.core_sections.specs.Constants.{behind_constant}
@@ -58,7 +58,7 @@ no_end : behind_constant (0x41 ∷ 0x00 ∷ []) ≡ None
 unfolding leb_at
 no_end = refl
 
--- another instruction of vectors
+-- another vector instruction
 no_vector : behind_constant (0xfd ∷ 0x0d ∷ 0x00 ∷ 0x00 ∷ 0x00 ∷ 0x00 ∷ 0x00 ∷ 0x00 ∷ 0x00 ∷ 0x00 ∷ 0x00 ∷ 0x00 ∷ 0x00 ∷ 0x00 ∷ 0x00 ∷ 0x00 ∷ 0x00 ∷ 0x00 ∷ 0x0b ∷ []) ≡ None
 unfolding leb_at
 no_vector = refl

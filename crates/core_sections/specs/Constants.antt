@@ -1,4 +1,4 @@
--- Constant expressions, by which globals and the elements of tables begin (WebAssembly core specification, binary
+-- Constant expressions, which initialise globals and the elements of tables (WebAssembly core specification, binary
 -- format, "Expressions" and "Instructions"; validation, "Constant Expressions", with the arithmetic of its later
 -- versions). Only their form is read: where each ends.
 use Rattle.std.specs.Prelude.{ℕ, zero, suc, ◌-◌, ◌/◌, ◌^◌, ◌==◌, ◌||◌, ◌&&◌, nat_lt, nat_le, List, length, drop, Bool, Option, Some, None, if◌then◌else◌}
@@ -6,16 +6,16 @@ use Rattle.core_sections.specs.Numbers.{leb_at}
 use Rattle.core_sections.specs.Reading.{◌>>=◌}
 use Rattle.core_sections.specs.Contents.{byte_at, span_of, heap_at}
 
--- what stands behind so many bytes
+-- the bytes after so many bytes
 abbrev pub behind : ℕ → List ℕ → Option (List ℕ)
 behind count bytes = if nat_lt (length bytes) count then None else Some (drop count bytes)
 
--- A signed number, by its bits and their span: from half the span on it stands for itself less the span. It has to
+-- A signed number, by its bits and their span: from half the span on it is itself less the span. It has to
 -- be less than this half, and no less than its negative.
 abbrev pub is_signed : ℕ → ℕ → ℕ → Bool
 is_signed half bits span = if nat_lt bits (span / 2) then nat_lt bits half else nat_le (span - bits) half
 
--- behind a signed number, whose limit says how many bytes it may have
+-- after a signed number; the limit says how many bytes it may have
 abbrev pub behind_signed : ℕ → ℕ → List ℕ → Option (List ℕ)
 behind_signed half limit bytes = do
   n ← leb_at limit bytes
@@ -31,7 +31,7 @@ behind_heap bytes = do
   h ← heap_at bytes
   Some h.1
 
--- behind a constant of 128 bits, whose instruction has the number 12
+-- after a constant of 128 bits, whose instruction has the number 12
 abbrev pub behind_vector : List ℕ → Option (List ℕ)
 behind_vector bytes = do
   n ← leb_at (2 ^ 32) bytes
@@ -41,7 +41,7 @@ behind_vector bytes = do
 abbrev pub is_arithmetic : ℕ → Bool
 is_arithmetic b = nat_le 0x6a b && nat_le b 0x6c || (nat_le 0x7c b && nat_le b 0x7e)
 
--- behind an instruction, whose first byte was read: a constant, a null reference, a reference to a function, a
+-- after an instruction, whose first byte was read: a constant, a null reference, a reference to a function, a
 -- global, or arithmetic
 abbrev pub behind_instruction : ℕ → List ℕ → Option (List ℕ)
 behind_instruction b bytes =
@@ -55,13 +55,13 @@ behind_instruction b bytes =
     else if is_arithmetic b then Some bytes
     else None
 
--- behind an expression of fewer instructions than this, which ends with 0x0b
+-- after an expression of fewer instructions than this, which ends with 0x0b
 abbrev pub behind_fewer : ℕ → List ℕ → Option (List ℕ)
 behind_fewer zero bytes = None
 behind_fewer (suc n) bytes = do
   b ← byte_at bytes
   if b.0 == 0x0b then Some b.1 else (behind_instruction b.0 b.1 >>= behind_fewer n)
 
--- behind an expression: it has no more instructions than bytes
+-- after an expression: it has no more instructions than bytes
 abbrev pub behind_constant : List ℕ → Option (List ℕ)
 behind_constant bytes = behind_fewer (length bytes) bytes

@@ -1,4 +1,4 @@
--- How the types, imports and exports of a core module are spelled (WebAssembly core specification, binary
+-- The encoding of types, imports and exports of a core module (WebAssembly core specification, binary
 -- format, "Types", "Import section", "Export section"). Limits of 64-bit and shared memories and tables, and
 -- tags, are those of the standard's later versions.
 use Rattle.std.specs.Prelude.{ℕ, ◌^◌, ◌-◌, ◌/◌, nat_lt, nat_le, List, [], ◌∷◌, length, ◌==◌, ◌&&◌, ◌||◌, Bool, true, false, Option, Some, None, if◌then◌else◌}
@@ -36,7 +36,7 @@ span_of n =
     else 2 ^ 70
 
 -- A heap type is a signed number of 33 bits. Below half the span it is the index of a type. From there on it
--- stands for itself less the span: -12 to -23 are the abstract heap types, and -16 is that of all functions.
+-- is itself less the span: -12 to -23 are the abstract heap types, and -16 is that of all functions.
 abbrev pub heap_of : ℕ → ℕ → Option Bool
 heap_of bits span =
     if nat_lt bits (span / 2) then (if nat_lt bits (2 ^ 32) then Some false else None)
@@ -113,14 +113,14 @@ some_number_at is_long bytes = do
 abbrev pub maximum_at : Bool → Bool → List ℕ → Option (Option ℕ × List ℕ)
 maximum_at is_there is_long bytes = if is_there then some_number_at is_long bytes else Some (None, bytes)
 
--- what stands after the byte of flags
+-- what follows the byte of flags
 abbrev pub limits_of : Bool → Bool → Bool → List ℕ → Option (Limits × List ℕ)
 limits_of is_long has_maximum is_wide bytes = do
   n ← number_at is_long bytes
   m ← maximum_at has_maximum is_long n.1
   Some (record { minimum = n.0; maximum = m.0; is_wide = is_wide }, m.1)
 
--- the flags: 1 says that there is a maximum, 2 that it is shared, 4 that its addresses have 64 bits
+-- the flags: 1 for a maximum, 2 for shared, 4 for addresses of 64 bits
 abbrev pub limits_from : ℕ → List ℕ → Option (Limits × List ℕ)
 limits_from flags bytes =
     if flags == 0 then limits_of false false false bytes
@@ -175,7 +175,7 @@ tag_at bytes = do
   b ← byte_at bytes
   if b.0 == 0 then tag_type_at b.1 else None
 
--- what stands after the byte of the kind
+-- what follows the byte of the kind
 abbrev pub entity_of_kind : ℕ → List ℕ → Option (EntityType × List ℕ)
 entity_of_kind b bytes =
     if b == 0 then function_at bytes

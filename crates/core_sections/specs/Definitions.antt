@@ -1,4 +1,4 @@
--- How the functions, tables, memories and globals that a core module defines are spelled (WebAssembly core
+-- The encoding of the functions, tables, memories and globals that a core module defines (WebAssembly core
 -- specification, binary format, "Function section" to "Global section").
 use Rattle.std.specs.Prelude.{ℕ, ◌==◌, List, Option, Some, None, if◌then◌else◌}
 use Rattle.core_sections.specs.Reading.{◌>>=◌}
@@ -13,7 +13,7 @@ initialised read = do
   rest ← behind_constant e.1
   Some (e.0, rest)
 
--- a table whose elements begin by an expression, behind the first of its two bytes
+-- a table with an initial value for its elements, after the first of its two bytes
 abbrev pub filled_table_at : List ℕ → Option (EntityType × List ℕ)
 filled_table_at bytes = do
   b ← byte_at bytes

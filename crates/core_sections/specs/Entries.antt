@@ -37,7 +37,7 @@ has_type_below count (entities.Memory l) = true
 has_type_below count (entities.Global t m) = true
 has_type_below count (entities.Tag n) = nat_lt n count
 
--- one item more, behind those of its kind
+-- one more item, after those of its kind
 abbrev pub with_item : Items → EntityType → Items
 with_item s (entities.Function n) = record s { functions = s.functions ++ entities.Function n ∷ [] }
 with_item s (entities.Table t l) = record s { tables = s.tables ++ entities.Table t l ∷ [] }
@@ -61,11 +61,11 @@ exported_item s e = of_kind e.kind
     of_kind kinds.Global = option_map exported.Entity (slice_get s.globals e.index)
     of_kind kinds.Tag = Some exported.Tag
 
--- one export more, whose name isn't there yet
+-- one more export, whose name is new
 abbrev pub with_export : List (List ℕ × ExportedItem) → List ℕ → ExportedItem → Option (List (List ℕ × ExportedItem))
 with_export table name item = if is_none (found name table) then Some (table ++ (name, item) ∷ []) else None
 
--- further exports: each names an item, and no name stands twice
+-- further exports: each names an item, and no name occurs twice
 abbrev pub with_exports : Items → List (List ℕ × ExportedItem) → List CoreExport → Option (List (List ℕ × ExportedItem))
 with_exports s table [] = Some table
 with_exports s table (e ∷ es) = do
@@ -114,7 +114,7 @@ abbrev pub after_body : CoreModule → Body → Option CoreModule
 after_body m (custom name bytes) = Some m
 after_body m (coded id bytes) = after_section m id bytes
 
--- the sections from this place on, one after the other
+-- the sections from this offset on, one after the other
 abbrev pub entries_from : ℕ → CoreModule → List Piece → Result CoreModule SectionFault
 entries_from place m [] = Ok m
 entries_from place m (p ∷ ps) = ok_or (after_body m p.body) (faults.Section place) >>>= λ n. entries_from (place + length p.whole) n ps

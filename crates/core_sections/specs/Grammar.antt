@@ -1,11 +1,11 @@
--- The sections of a core module apart from any way of reading them (WebAssembly core specification, binary
+-- The sections of a core module, independent of any way of reading them (WebAssembly core specification, binary
 -- format, "Modules" and "Sections"): which bytes are which sections, and where they are cut short.
 use Rattle.std.specs.Prelude.{◌≡◌, ◌⊎◌, ℕ, ◌+◌, ◌-◌, ◌*◌, ◌/◌, ◌<◌, ◌≤◌, ◌^◌, List, [], ◌∷◌, ◌++◌, length}
 use Rattle.std.specs.List.{flat_map, AllByRecursion}
 use Rattle.std.specs.Str.{IsUtf8}
 use Rattle.core_sections.specs.Sections.{Body, custom, coded, Piece, preamble}
 
--- A number below the limit. A byte below 128 is the last, and stands for itself; one from 128 on has the low
+-- A number below the limit. A byte below 128 is the last, and is its own value; one from 128 on has the low
 -- seven bits, and the bytes after it are a number below limit / 128.
 abbrev pub IsNumber : ℕ → List ℕ → ℕ → Type 0
 IsNumber limit [] n = ⊥
@@ -38,7 +38,7 @@ pub record IsModule (bytes : List ℕ) (ps : List Piece) : Type 0 where
   pub spelled : bytes ≡ preamble ++ flat_map (λ p. p.whole) ps
   pub each : AllByRecursion IsSection ps
 
--- At this place of the module, behind whole sections, bytes stand that no section is a front of.
+-- At this offset of the module, after whole sections, there are bytes that don't begin with a section.
 pub record IsCutAt (bytes : List ℕ) (place : ℕ) : Type 0 where
   pub before : List Piece
   pub rest : List ℕ

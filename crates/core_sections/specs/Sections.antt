@@ -1,5 +1,5 @@
--- The sections of a core module, as they stand in its bytes (WebAssembly core specification, binary format,
--- "Modules" and "Sections"). Each function reads what stands at the front of a list of bytes.
+-- The sections of a core module, as they are in its bytes (WebAssembly core specification, binary format,
+-- "Modules" and "Sections"). Each function reads from the front of a list of bytes.
 use Rattle.std.specs.Prelude.{◌≡◌, ◌≢◌, ok_or, ℕ, zero, suc, ◌+◌, ◌-◌, nat_eq, List, [], ◌∷◌, length, take, drop, Option, Some, None, option_map, option_and_then, Result, Ok, Err, if◌then◌else◌}
 use Rattle.std.specs.List.{starts_with}
 use Rattle.core_sections.specs.Numbers.{bytes_at, name_at}
@@ -14,7 +14,7 @@ pub data Body : Type 0 where
   custom : List ℕ → List ℕ → Body
   coded : ℕ → List ℕ → Body
 
--- all bytes of a section, its header as it stands among them, and what it holds
+-- all bytes of a section, with its header as it is encoded there, and what it holds
 pub record Piece : Type 0 where
   pub whole : List ℕ
   pub body : Body
@@ -50,7 +50,7 @@ Gives view (Err e) read = e ≢ faults.Memory → read ≡ Err e
 abbrev pub preamble : List ℕ
 preamble = 0 ∷ 97 ∷ 115 ∷ 109 ∷ 1 ∷ 0 ∷ 0 ∷ 0 ∷ []
 
--- the sections from a place of the module on, of which there are at most n
+-- the sections from an offset of the module on, of which there are at most n
 unfoldable pub pieces_from : ℕ → ℕ → List ℕ → Result (List Piece) SectionFault
 pieces_from n place [] = Ok []
 pieces_from zero place (b ∷ rest) = Err (faults.Section place)

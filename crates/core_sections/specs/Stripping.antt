@@ -15,7 +15,7 @@ record_of_body (coded id bytes) = None
 abbrev pub record_of : Piece → Option (List ℕ)
 record_of p = record_of_body p.body
 
--- what the sections that are kept spell
+-- the bytes of the sections that are kept
 abbrev pub kept : List Piece → List ℕ
 kept ps = flat_map (λ p. p.whole) (filter (λ p. is_none (record_of p)) ps)
 

@@ -8,7 +8,7 @@ use crate::contents::{read_byte, read_heap, read_index, span_of};
 use crate::numbers::read_below;
 use crate::reading::ReadFault;
 
-/// What stands behind so many bytes.
+/// The bytes after so many bytes.
 fn skip(count: usize, bytes: &[u8]) -> Result<&[u8], ReadFault>
     ensures { Gives (λ x. x.now) result (behind count bytes.now) }
 {
@@ -42,7 +42,7 @@ fn skip_signed(half: u128, limit: u128, bytes: &[u8]) -> Result<&[u8], ReadFault
     Ok(rest)
 }
 
-/// What stands behind a constant of 128 bits.
+/// The bytes after a constant of 128 bits.
 fn skip_vector(bytes: &[u8]) -> Result<&[u8], ReadFault>
     ensures { Gives (λ x. x.now) result (behind_vector bytes.now) }
 {
@@ -53,7 +53,7 @@ fn skip_vector(bytes: &[u8]) -> Result<&[u8], ReadFault>
     skip(16, rest)
 }
 
-/// What stands behind an instruction, whose first byte was read.
+/// The bytes after an instruction, whose first byte was read.
 fn skip_instruction(byte: u8, bytes: &[u8]) -> Result<&[u8], ReadFault>
     ensures { Gives (λ x. x.now) result (behind_instruction byte bytes.now) }
 {
@@ -70,7 +70,7 @@ fn skip_instruction(byte: u8, bytes: &[u8]) -> Result<&[u8], ReadFault>
     }
 }
 
-/// What stands behind a constant expression.
+/// The bytes after a constant expression.
 pub(crate) fn skip_constant(bytes: &[u8]) -> Result<&[u8], ReadFault>
     ensures { Gives (λ x. x.now) result (behind_constant bytes.now) }
 {

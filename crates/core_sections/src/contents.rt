@@ -1,4 +1,4 @@
-//! How types, imports and exports are spelled.
+//! The encoding of types, imports and exports.
 
 ghost use Rattle.std.specs.Prelude.{◌≡◌, ◌^◌};
 ghost use Rattle.core_sections.specs.Numbers.{leb_at, name_at};
@@ -175,7 +175,7 @@ fn read_maximum(
     Ok((Some(number), rest))
 }
 
-/// What stands after the byte of flags.
+/// What follows the byte of flags.
 fn read_limits_of(
     is_long: bool,
     has_maximum: bool,

@@ -88,7 +88,7 @@ fn add_imports(alloc: Global, so_far: CoreModule, contents: &[u8]) -> Result<Cor
     })
 }
 
-/// A module with further items of its own.
+/// A module with further items that it defines.
 #[tactic(auto, unfolding(crate::specs::Entries::after_definitions))]
 fn add_definitions<T: Read<Value = EntityType>>(
     alloc: Global,
@@ -113,7 +113,7 @@ fn add_definitions<T: Read<Value = EntityType>>(
     })
 }
 
-/// A table with an export more, whose name isn't there yet.
+/// A table with one more export, whose name is new.
 fn add_export(
     table: Keyed<Text, ExportedItem>,
     name: Text,
@@ -204,8 +204,8 @@ fn add_content(
 
 /// The entries of a core module.
 ///
-/// Indices of types, of exported items but tags, and names of exports are checked. The fault is `NotModule`, or `Section` at the first section that is cut short or
-/// whose contents are malformed, or want of memory.
+/// Indices of types, of exported items except tags, and names of exports are checked. The fault is `NotModule`, or `Section` at the first section that is cut short or
+/// whose contents are malformed, or out of memory.
 #[tactic(auto, unfolding(crate::specs::Entries::module_of), using(crate::proofs::Places::all_before))]
 pub fn read_module(alloc: Global, bytes: &[u8]) -> Result<CoreModule, SectionFault>
     ensures { GivesSections (λ m. m) result (module_of bytes.now) }

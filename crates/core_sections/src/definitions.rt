@@ -1,4 +1,4 @@
-//! How the functions, tables, memories and globals that a core module defines are spelled.
+//! The encoding of the functions, tables, memories and globals that a core module defines.
 
 ghost use Rattle.std.specs.Prelude.{◌≡◌};
 ghost use Rattle.core_sections.specs.Definitions.{initialised, filled_table_at, global_definition_at};
@@ -22,7 +22,7 @@ pub(crate) struct Memories {}
 /// Globals that a module defines.
 pub(crate) struct Globals {}
 
-/// A table whose elements begin by an expression, behind the first of its two bytes.
+/// A table with an initial value for its elements, after the first of its two bytes.
 fn read_filled_table(alloc: Global, bytes: &[u8]) -> Result<(EntityType, &[u8]), ReadFault>
     ensures { Gives (λ x. (x.0, x.1.now)) result (filled_table_at bytes.now) }
 {

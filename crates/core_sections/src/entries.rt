@@ -70,7 +70,7 @@ pub(crate) struct ExportIndex {
     pub index: u32,
 }
 
-/// An export, as it is spelled.
+/// An export, as it is encoded.
 #[derive(Debug, Drop)]
 pub(crate) struct CoreExport {
     pub name: Text,
@@ -81,6 +81,6 @@ pub(crate) struct CoreExport {
 #[derive(Clone, Copy, Debug, PartialEq, Eq)]
 pub enum ExportedItem {
     Entity(EntityType),
-    /// A tag. Its type isn't known, since the section of tags is passed over.
+    /// A tag. Its type is unknown, since the section of tags is skipped.
     Tag,
 }

@@ -1,4 +1,4 @@
-//! Why the sections of a module can't be told.
+//! Why the sections of a module can't be read.
 
 ghost use Rattle.std.specs.Prelude.{◌≡◌};
 ghost use Rattle.core_sections.specs.declared.fault.SectionFault.TheVariants.{Memory};
@@ -11,7 +11,7 @@ pub enum SectionFault {
     Memory,
     /// The bytes don't begin with the preamble of a core module.
     NotModule,
-    /// The section whose id stands at this place is cut short or malformed.
+    /// The section whose id is at this offset, in bytes of the module, is cut short or malformed.
     Section { place: usize },
     /// A section of component types holds a binary package.
     PackageBinary,

@@ -42,7 +42,7 @@ fn has_type_below(count: usize, entity: &EntityType) -> bool
     }
 }
 
-/// Adds an item behind those of its kind.
+/// Adds an item after those of its kind.
 fn add_item(items: Items, entity: EntityType) -> Result<Items, AllocError>
     ensures { IfOk result (λ s. s ≡ with_item items entity) }
 {

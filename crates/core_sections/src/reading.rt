@@ -36,7 +36,7 @@ impl<T: Drop> From<AllocFailed<T>> for ReadFault {
     }
 }
 
-/// A kind of values that stand at the front of bytes.
+/// A kind of values that are read from the front of bytes.
 pub(crate) trait Read {
     ghost use Rattle.std.specs.Prelude.{ℕ, List, Option};
 
@@ -48,7 +48,7 @@ pub(crate) trait Read {
         ensures { Gives (λ x. (x.0, x.1.now)) result (at bytes.now) };
 }
 
-/// So many values. No place is kept for them before they are read.
+/// So many values. No memory is reserved for them before they are read.
 fn read_items<T: Read>(
     alloc: Global,
     count: u32,

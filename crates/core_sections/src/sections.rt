@@ -16,7 +16,7 @@ pub enum Content<'a> {
     Coded { id: u8, bytes: &'a [u8] },
 }
 
-/// A section as it stands in a module.
+/// A section as it is encoded in a module.
 #[derive(Clone, Copy)]
 pub struct Section<'a> {
     /// All its bytes.

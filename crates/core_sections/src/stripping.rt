@@ -94,20 +94,20 @@ fn strip_sections(alloc: Global, bytes: &[u8]) -> Result<Stripped<'_>, SectionFa
     })
 }
 
-/// A module without its sections of component types, which are read apart.
+/// A module without its sections of component types, which are returned apart.
 pub fn strip(alloc: Global, bytes: &[u8]) -> Result<Stripped<'_>, SectionFault>
-    // What is kept are the sections of the module but those of component types, and what is read apart are those.
+    // What is kept are the sections of the module except those of component types, and what is returned apart are those.
     ensures found { IfOk result (λ s. (ps : List Piece) × IsModule bytes.now ps
         × (s.bytes.items ≡ preamble ++ kept ps) × (map (λ x. x.now) s.records.items ≡ removed ps)) }
-    // A module with no package among its component types is taken, unless memory runs out.
+    // A module with no package among its component types is accepted, unless memory runs out.
     ensures only { (ps : List Piece) → IsModule bytes.now ps → list_any is_package (removed ps) ≡ false
         → Gives {Y = List ℕ × List (List ℕ)} (λ s. (s.bytes.items, map (λ x. x.now) s.records.items)) result
         (Ok (preamble ++ kept ps, removed ps)) }
-    // A place that is told is the first that no section begins at.
+    // A reported offset is the first at which no section begins.
     ensures cut { IfErr result (λ e. (place : ℕ) → e ≡ SectionFault.Section place → IsCutAt bytes.now place) }
     // Without the preamble of a core module it is no module.
     ensures no_module { IfErr result (λ e. e ≡ SectionFault.NotModule → (rest : List ℕ) → bytes.now ≡ preamble ++ rest → ⊥) }
-    // A package that is told stands in a section of component types.
+    // A reported package is in a section of component types.
     ensures package { IfErr result (λ e. e ≡ SectionFault.PackageBinary → (ps : List Piece) × IsModule bytes.now ps × (list_any is_package (removed ps) ≡ true)) }
     // Which fault it is.
     ensures exact { Gives (λ s. (s.bytes.items, map (λ x. x.now) s.records.items)) result (stripped bytes.now) }
