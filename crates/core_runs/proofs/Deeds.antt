@@ -25,7 +25,7 @@ use Rattle.core_runs.proofs.NotStuck.{hook_fits}
 use Rattle.core_runs.proofs.Shims.{call_top_run}
 use Rattle.core_runs.proofs.Wrappers.{and_then_cong, and_then_assoc, and_then_fitting, no_results, opaque_run}
 
--- a read goes on alike where what follows is alike
+-- two continuations of a read that are equal for each result are equal
 if_alike : (b : Bool) (x y z : Outcome) → x ≡ y → (if b then x else z) ≡ (if b then y else z)
 if_alike true x y z h = h
 if_alike false x y z h = refl
@@ -84,7 +84,7 @@ where_then : (b : Bool) (o : Outcome) (k : List Value → Now → Outcome) → a
 where_then true o k = refl
 where_then false o k = refl
 
--- the written global, and what follows
+-- the written global, and the continuation
 write_then : (g : ℕ) (cell : Option Cell) (v : Value) (now : Now) (k : List Value → Now → Outcome) → and_then (with_item cell (λ c. write_cell g c v now (λ after. Returned [] after))) k ≡ with_item cell (λ c. write_cell g c v now (λ after. k [] after))
 write_then g None v now k = refl
 write_then g (Some (Kept t old)) v now k = where_then (fits t v) _ k
@@ -103,7 +103,7 @@ cell_set n store f g v now sets fine =
     ∙ write_then g (slice_get now.globals g) v now (checked [])
 
 module _ (store : Store) (n : ℕ) (frame : Frame) where
-  -- what code does behind a step
+  -- what code does after a step
   abbrev pub behind : List Instruction → List Value → Now → Outcome
   behind rest results after = body store (exec (suc n) store) frame rest [] [] after
 
@@ -200,7 +200,7 @@ starts_act steps deeds n store frame f now there means =
     ∙ ap (λ o. and_then o (checked [])) (steps_run store n frame steps deeds now means)
     ∙ done_checked deeds now
 
--- One fill puts its function in place of what stood there.
+-- One fill replaces what the global held with its function.
 one_fill : (fill : Filling) (pre post : List Cell) (now : Now) → now.globals ≡ pre ++ (unfilled fill ∷ post) → write_at (length pre) (Function fill.function) now ≡ Returned [] (with_globals now (pre ++ (filled fill ∷ post)))
 one_fill fill pre post now he =
     let there : slice_get now.globals (length pre) ≡ Some (unfilled fill) = ap (λ l. slice_get l (length pre)) he ∙ (has_all (unfilled fill ∷ post) pre).0 in

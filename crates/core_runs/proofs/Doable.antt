@@ -13,7 +13,7 @@ use Rattle.core_runs.specs.Expected.{NotStuck}
 use Rattle.core_runs.specs.LawsOfStarts.{IsNumber, CanBeDone, CanEachBeDone, DeedsAreNotStuck}
 use Rattle.core_runs.proofs.Throughout.{below}
 
--- The run is not stuck, and each number that stood in a global stands there where it goes on.
+-- The run is not stuck, and each number that was in a global is there where it continues.
 abbrev Keeps : List Cell → Outcome → Type 0
 Keeps old (Returned rs now) = (g : ℕ) → IsNumber (slice_get old g) → IsNumber (slice_get now.globals g)
 Keeps old (Trapped cause now) = Unit {0}
@@ -43,7 +43,7 @@ sum_keeps b o now go nb no' h =
     read_keeps now.globals (slice_get now.globals b) now (λ v first. read_at o first (λ w second. added v w (λ s. go s second))) nb (λ x left.
     read_keeps now.globals (slice_get now.globals o) (record now { answers = left }) (λ w second. added (I32Value x) w (λ s. go s second)) no' (λ y rest. h _ rest (below (x + y))))
 
--- a number stays a number where another is set
+-- a number is unchanged where another is set
 stays_number : (cells : List Cell) (g i s : ℕ) → IsNumber (slice_get cells i) → IsNumber (slice_get (slice_set cells g (Kept I32 (I32Value s))) i)
 stays_number [] g i s h = h
 stays_number (c ∷ cells) zero zero s h = tt
@@ -58,7 +58,7 @@ write_keeps old g s (Some (Foreign what I32)) now e is fine =
     subst (λ b. Keeps old (where_true b (Returned [] (seen now (SetForeign what (I32Value s)))))) (sym fine) (λ i h. subst (λ (l : List Cell). IsNumber (slice_get l i)) (sym e) h)
 write_keeps old g s cell now e is fine = absurd is
 
--- numbers stay numbers over a call from outside
+-- numbers are unchanged over a call from outside
 renewed_number : (number : ℕ) (cell : Option Cell) → IsNumber cell → IsNumber (option_map (renewed number) cell)
 renewed_number number (Some (Kept I32 (I32Value x))) h = tt
 renewed_number number (Some (Foreign what I32)) h = tt

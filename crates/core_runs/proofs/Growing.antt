@@ -1,4 +1,4 @@
--- Bodies grow by one piece a turn of a loop.
+-- Each iteration of a loop appends one piece to a body.
 use Rattle.std.proofs.Common.{◌≡◌, ℕ, zero, suc, ◌+◌, ◌<◌, List, [], ◌∷◌, ◌++◌, length, take, get_or, sym, ap, ◌∙◌, arith, append_assoc}
 use Rattle.std.proofs.lemmas.List.FromFn.{map-range_with_len_more}
 use Rattle.core_bytes.specs.declared.code.Instruction.{Instruction}

@@ -45,7 +45,7 @@ table_instance types shims store now h =
     let frame = new_frame m [] store now in
     ap (λ o. made_of m frame store now o (Some [])) (own_table frame 0 shims h)
 
--- an item behind a front
+-- an item of the second of two appended lists
 pub slice_get-behind : {X : Type 0} (xs ys : List X) (i : ℕ) → slice_get (xs ++ ys) (length xs + i) ≡ slice_get ys i
 slice_get-behind [] ys i = let e : 0 + i ≡ i = omega arith in ap (λ n. slice_get ys n) e
 slice_get-behind (x ∷ xs) ys i =
@@ -88,7 +88,7 @@ empty_slot zero i h = absurd (omega arith)
 empty_slot (suc n) zero h = refl
 empty_slot (suc n) (suc i) h = empty_slot n i (omega arith)
 
--- the fixup's element segment fills the shim module's table, whatever was made in between
+-- the fixup's element segment fills the shim module's table, whatever was instantiated in between
 pub fill_done : (types : List FuncType) (shims : List Slot) (store : Store) (now : Now) (later : Store) (frame : Frame) (fs addresses : List ℕ) → (e : Extends (table_made types shims store now).store later) → slice_get frame.tables 0 ≡ Some (length store.tables) → all_at frame.functions fs ≡ Some addresses → length addresses ≡ length shims → element_done frame (segments.Active None (pos 0) fs) later.tables ≡ Some (store.tables ++ map (λ a. Some a) addresses ∷ e.more_tables)
 fill_done types shims store now later frame fs addresses e named given len =
     let slots = empty_table (length shims) in

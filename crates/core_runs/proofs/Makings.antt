@@ -56,7 +56,7 @@ pub making : (m : Parts) (given : List Given) (store : Store) (now : Now) (made 
 making m given store now made e =
     made_parts m given store now made _ _ refl refl (if_some (matches_each m.types store now m.imports given) _ made e)
 
--- a list that is there has its first item and the rest
+-- a list with at least one item is its first item and the rest
 pub cons_split : {X : Type 0} (o : Option X) (r : Option (List X)) (l : List X) → cons_if o r ≡ Some l → (x : X) × (xs : List X) × (o ≡ Some x) × (r ≡ Some xs) × (l ≡ x ∷ xs)
 cons_split None r l e = cc
 cons_split (Some x) None l e = cc

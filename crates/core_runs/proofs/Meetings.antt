@@ -1,4 +1,4 @@
--- Targets met directly, through a wrapper, and through a shim.
+-- Targets that are called directly, through a wrapper, and through a shim.
 use Rattle.std.proofs.Common.{◌≡◌, ℕ, zero, suc, ◌≤◌, List, [], ◌∷◌, true, None, refl, sym, ap, ◌∙◌, arith}
 use Rattle.std.specs.Prelude.{length}
 use Rattle.core_runs.specs.declared.bracket.AfterHook.TheVariants.{Nothing, ByStatus}
@@ -21,7 +21,7 @@ wrappers_act bracket hook_index target_index n store frame f hook target argumen
 pub expected_shapes : ExpectedShapes
 expected_shapes hook target arguments now first last = (refl, refl, refl, refl)
 
--- what follows an answered code
+-- what follows a returned code
 coded : (hook code : ℕ) (called : Now) → hooked_if hook (hook_after ByStatus (I32Value code ∷ [])) called (λ ended. Returned (I32Value code ∷ []) ended) ≡ by_code hook code called
 coded hook zero called = refl
 coded hook (suc code) called = refl
@@ -35,7 +35,7 @@ callbacks_act hook_index target_index n store frame f hook target arguments now 
 abbrev pub no_bracket : Bracket
 no_bracket = record { before = None; after = Nothing }
 
--- a target is met by itself
+-- a target meets itself
 pub itself : (store : Store) (hook what : ℕ) (target : Known) → Is store target what → MeetsWithin 0 store target.address no_bracket hook target
 itself store hook what target is = record {
   same = λ n arguments now le fine.

@@ -18,13 +18,13 @@ use Rattle.core_runs.proofs.Instances.{slice_get-behind, slice_get-front}
 use Rattle.core_runs.proofs.Makings.{making, cons_split, instances_define}
 use Rattle.core_runs.proofs.Refs.{ref_shims_hand_on, empty_ref_shims_trap}
 
--- the number at a place of a range
+-- the number at an index of a range
 range_at : (a n i : ℕ) → i < n → slice_get (range_with_len a n) i ≡ Some (a + i)
 range_at a n i h =
     let within : i < length (range_with_len a n) = omega (arith, length-range_with_len a n) in
     slice_get-get_or (range_with_len a n) i 0 within ∙ ap Some (get_or-range_with_len a n i 0 h)
 
--- shim i of those from `place` on
+-- shim i of those from global `place` on
 shim_at : (m : Parts) (shims : List RefShim) (place i : ℕ) (s : RefShim) → HasRefShims m place shims → slice_get shims i ≡ Some s → Defines m s.function s.index s.type (ref_shim (length s.type.params) (place + i) s.index) × Defines m s.stub s.index s.type stub
 shim_at m [] place i s h e = cc
 shim_at m (x ∷ shims) place zero s h e =

@@ -1,4 +1,4 @@
--- A shim in the reference form does what the function does that its global holds.
+-- A shim in the reference form does what the function in its global does.
 use Rattle.std.proofs.Common.{◌≡◌, ℕ, suc, List, [], ◌∷◌, ◌++◌, length, reverse, true, Some, refl, sym, ap, ◌∙◌, subst}
 use Rattle.std.specs.Prelude.{slice_get, map, option_map}
 use Rattle.std.proofs.lemmas.List.{reverse-reverse, append-nil}
@@ -16,7 +16,7 @@ use Rattle.core_runs.specs.LawsOfShims.{RefShimsHandOn, StubsTrap, EmptyRefShims
 use Rattle.core_runs.proofs.Runs.{has_locals, gets_run, and_then_same, checked, exec_generated, exec_fits}
 use Rattle.core_runs.proofs.Shims.{fit-length, call_top_run, of_type_run}
 
--- a function in a global stays there over opaque calls
+-- a function in a global is unchanged over opaque calls
 pub function_stays : (globals : List Cell) (g : ℕ) (t : ValType) (f number : ℕ) → slice_get globals g ≡ Some (Kept t (Function f)) → slice_get (map (renewed number) globals) g ≡ Some (Kept t (Function f))
 function_stays globals g t f number h = slice_get-map (renewed number) globals g ∙ ap (option_map (renewed number)) h
 
@@ -31,7 +31,7 @@ module _ (store : Store) (call : Calling) (frame : Frame) where
       ∙ call_top_run store call frame f g vs [] (λ results l n. Returned (reverse results) n) locals now hf len
       ∙ and_then_same (call f vs now) _ (λ rs after. ap (λ l. Returned l after) (ap reverse (append-nil (reverse rs)) ∙ reverse-reverse rs))
 
--- A filled shim does what the function does, whatever the function, the arguments and the answers.
+-- A filled shim does what the function does, whatever the function, the arguments and the results.
 ref_filled : (n : ℕ) (store : Store) (frame : Frame) (shim f : ℕ) (g : Func) (s : FuncType) (global type : ℕ) (arguments : List Value) (now : Now) → HasBody store shim frame s (ref_shim (length s.params) global type) → slice_get frame.types type ≡ Some s → HoldsGlobal frame global now.globals f → slice_get store.functions f ≡ Some g → signature_of g ≡ s → fit s.params arguments ≡ true → exec (suc n) store shim arguments now ≡ exec n store f arguments now
 ref_filled n store frame shim f g s global type arguments now code typed is there same fine =
     let call = exec n store in

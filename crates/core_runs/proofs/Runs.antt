@@ -28,12 +28,12 @@ has_all (v ∷ vs) pre =
     let rest' = subst (λ l. HasAt l (length (pre ++ v ∷ [])) vs) (append_assoc pre (v ∷ []) vs) rest in
     (here, subst (λ m. HasAt (pre ++ v ∷ vs) m vs) n rest')
 
--- a list's own front stands in it from 0 on
+-- a list's own front is in it from index 0 on
 pub has_locals : (arguments more : List Value) → HasAt (arguments ++ more) 0 arguments
 has_locals arguments more = has_front (arguments ++ more) 0 arguments more (has_all (arguments ++ more) [])
 
 module _ (store : Store) (call : Calling) (frame : Frame) where
-  -- the parameters are put on the stack in order
+  -- the parameters are pushed in order
   pub gets_run : (vs : List Value) (i : ℕ) (rest : List Instruction) (stack locals : List Value) (now : Now) → HasAt locals i vs → body store call frame (map LocalGet (range_with_len i (length vs)) ++ rest) stack locals now ≡ body store call frame rest (reverse vs ++ stack) locals now
   gets_run [] i rest stack locals now h = refl
   gets_run (v ∷ vs) i rest stack locals now h =
@@ -41,7 +41,7 @@ module _ (store : Store) (call : Calling) (frame : Frame) where
       ∙ gets_run vs (i + 1) rest (v ∷ stack) locals now h.1
       ∙ ap (λ s. body store call frame rest s locals now) (sym (append_assoc (reverse vs) (v ∷ []) stack) ∙ ap (λ s. s ++ stack) (sym (reverse_onto vs v [])))
 
--- the same outcome, where results are handed on as they are
+-- the same outcome, where results are passed on unchanged
 pub and_then_same : (o : Outcome) (k : List Value → Now → Outcome) → ((rs : List Value) (now : Now) → k rs now ≡ Returned rs now) → and_then o k ≡ o
 and_then_same (Returned rs now) k h = h rs now
 and_then_same (Trapped cause now) k h = refl
@@ -84,7 +84,7 @@ performed_fits store None f (Generated frame s locals code) arguments now = refl
 performed_fits store (Some call) f (Generated frame s locals code) arguments now =
     where_and_then (fit s.params arguments) _ _ (checked_again s.results (body store call frame code [] (arguments ++ zeros locals) now))
 
--- a call of a function that is there
+-- a call of a function that exists
 pub exec_is : (n : ℕ) (store : Store) (f : ℕ) (g : Func) (arguments : List Value) (now : Now) → slice_get store.functions f ≡ Some g → (inner : Option Calling) × (exec n store f arguments now ≡ performed store inner f g arguments now)
 unfolding exec
 exec_is zero store f g arguments now h = (None, ap (λ o. with_item o (λ x. performed store None f x arguments now)) h)
@@ -97,7 +97,7 @@ exec_generated n store f g arguments now h = ap (λ o. with_item o (λ x. perfor
 pub exec_opaque : (n : ℕ) (store : Store) (f what : ℕ) (s : FuncType) (arguments : List Value) (now : Now) → slice_get store.functions f ≡ Some (Opaque what s) → exec n store f arguments now ≡ asked f s arguments now
 exec_opaque n store f what s arguments now h = (exec_is n store f (Opaque what s) arguments now h).1
 
--- what a call gives has the types of the function's results
+-- the results of a call have the types of the function's results
 pub exec_fits : (n : ℕ) (store : Store) (f : ℕ) (g : Func) (arguments : List Value) (now : Now) → slice_get store.functions f ≡ Some g → and_then (exec n store f arguments now) (checked (signature_of g).results) ≡ exec n store f arguments now
 exec_fits n store f g arguments now h =
     let e = exec_is n store f g arguments now h in

@@ -1,4 +1,4 @@
--- A shim does what the function does that it holds.
+-- A shim does what the function that it holds does.
 use Rattle.std.proofs.Common.{◌≡◌, ℕ, suc, ◌<◌, List, [], ◌∷◌, ◌++◌, length, reverse, take, drop, Bool, true, false, ◌&&◌, Option, Some, None, refl, sym, ap, ◌∙◌, subst}
 use Rattle.std.specs.Prelude.{ℤ, slice_get, ◌^◌, if◌then◌else◌}
 use Rattle.std.proofs.Math.Seq.{take-append_seam, drop-append_seam}
@@ -102,12 +102,12 @@ table_shim_up_to store call frame place type ts vs now len =
     ap (λ n. body store call frame (table_shim_code n place type) [] (vs ++ []) now) len
     ∙ gets_run store call frame vs 0 (I32Const place ∷ CallIndirect type 0 ∷ []) [] (vs ++ []) now (has_locals vs [])
 
--- results that are handed on
+-- results that are passed on
 handed_on : (o : Outcome) (locals : List Value) (store : Store) (call : Calling) (frame : Frame) → and_then o (λ results after. body store call frame [] (reverse results ++ []) locals after) ≡ o
 handed_on o locals store call frame =
     and_then_same o _ (λ rs now. ap (λ l. Returned l now) (ap reverse (append-nil (reverse rs)) ∙ reverse-reverse rs))
 
--- A filled shim does what the function does, whatever the function, the arguments and the answers.
+-- A filled shim does what the function does, whatever the function, the arguments and the results.
 shim_filled : (n : ℕ) (store : Store) (frame : Frame) (shim f : ℕ) (g : Func) (s : FuncType) (place : ℤ) (type : ℕ) (arguments : List Value) (now : Now) → HasBody store shim frame s (plain (table_shim_code (length s.params) place type)) → slice_get frame.types type ≡ Some s → HoldsSlot store frame (cast_unsigned w32 place) (Some f) → slice_get store.functions f ≡ Some g → signature_of g ≡ s → fit s.params arguments ≡ true → exec (suc n) store shim arguments now ≡ exec n store f arguments now
 shim_filled n store frame shim f g s place type arguments now code typed is there same fine =
     let call = exec n store in
@@ -141,7 +141,7 @@ table_shim_hands_on s place type = record {
   empty = λ n store frame shim arguments now. shim_empty n store frame shim s place type arguments now;
 }
 
--- for a place by its number
+-- for a slot by its index
 pub table_shim_at : (s : FuncType) (place type : ℕ) → place < 2 ^ 32 → HandsOnBySlot s (table_shim (length s.params) place type) type place
 table_shim_at s place type h =
     subst (λ (p : ℕ). HandsOnBySlot s (table_shim (length s.params) place type) type p) (of_z-to_z w32 place h) (table_shim_hands_on s (cast_signed w32 place) type)

@@ -1,4 +1,4 @@
--- What holds all through a run of deeds, and the events that they make.
+-- What holds throughout a run of deeds, and the events that they make.
 use Rattle.std.proofs.Common.{◌≡◌, ℕ, zero, suc, ◌+◌, ◌%◌, ◌^◌, List, [], ◌∷◌, ◌++◌, length, map, Bool, true, false, Option, Some, None, refl, sym, ap, ◌∙◌, subst, arith}
 use Rattle.std.proofs.lemmas.Bool.{lt-ltb}
 use Rattle.std.proofs.lemmas.Nat.{mod_below}
@@ -16,7 +16,7 @@ use Rattle.core_runs.specs.LawsOfStarts.{CellsAreSet, FilledThroughout, NumbersA
 use Rattle.core_runs.proofs.Runs.{has_front, has_all}
 use Rattle.core_runs.proofs.Refs.{function_stays}
 
--- a fact of outcomes that holds of stuck and waits runs, and where what follows a read has it
+-- a fact of outcomes that holds of stuck and waiting runs, and where what follows a read has it
 module _ (Q : Outcome → Type 0) (stuck : Q Stuck) where
   pub if_meets : (b : Bool) (x z : Outcome) → Q x → Q z → Q (if b then x else z)
   if_meets true x z h g = h
@@ -100,7 +100,7 @@ deeds_throughout P stable stays (Sums b o g ∷ ds) now no_fills h =
 deeds_throughout P stable stays (Stores b o m a ∷ ds) now no_fills h =
     then_throughout P (deed_done (Stores b o m a) now) _ (sum_meets (Throughout P) tt b o now (λ s after. Returned [] (seen after (Stored m a s))) (λ left. h) (λ s left. seen_held P (record now { answers = left }) (Stored m a s) h)) (λ rs after g. deeds_throughout P stable stays ds after no_fills g)
 
--- filled globals stay filled
+-- filled globals are kept filled
 filled_stable : (fills : List Filling) (base : ℕ) → Stable (Filled base fills)
 filled_stable [] base number globals h = tt
 filled_stable (fill ∷ fills) base number globals h =

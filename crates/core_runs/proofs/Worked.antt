@@ -24,7 +24,7 @@ use Rattle.core_runs.specs.Execution.{exec, acts}
 use Rattle.core_runs.specs.Expected.{hook_signature}
 use Rattle.core_runs.specs.Bodies.{table_shim, ref_shim, stub, wrapper, start, tls_get, tls_set}
 
--- shims of two parameters: by place 0 and type 0, by global 0 and type 0
+-- shims of two parameters: by slot 0 and type 0, by global 0 and type 0
 table_shim_bytes : (body (table_shim 2 0 0)).bytes ≡ 0x00 ∷ 0x20 ∷ 0x00 ∷ 0x20 ∷ 0x01 ∷ 0x41 ∷ 0x00 ∷ 0x11 ∷ 0x00 ∷ 0x00 ∷ 0x0b ∷ []
 unfolding leb128 signed_within
 table_shim_bytes = refl
@@ -62,19 +62,19 @@ store = record {
 abbrev arguments : List Value
 arguments = I32Value 7 ∷ I32Value 8 ∷ I32Value 9 ∷ []
 
--- the hooks take an answer each, and between them the callback gives a code
+-- the hooks take one answer each, and between them the callback returns a code
 abbrev at_first : ℕ → Now
 at_first code = record { globals = []; answers = Gives [] 0 ∷ Gives (I32Value code ∷ []) 0 ∷ Gives [] 0 ∷ []; events = []; moments = [] }
 
 abbrev at_last : ℕ → Now
 at_last hook = record { globals = []; answers = []; events = Called 0 (I32Value 3 ∷ []) ∷ Called 2 arguments ∷ Called 0 (I32Value hook ∷ []) ∷ []; moments = [] ∷ [] ∷ [] ∷ [] }
 
--- code 0: hooks 3 and 5, and 0 is given
+-- code 0: hooks 3 and 5, and 0 is returned
 callback_finishes : acts store 3 arguments (at_first 0) ≡ Returned (I32Value 0 ∷ []) (at_last 5)
 unfolding acts exec
 callback_finishes = refl
 
--- code 1: hooks 3 and 4, and 1 is given
+-- code 1: hooks 3 and 4, and 1 is returned
 callback_blocks : acts store 3 arguments (at_first 1) ≡ Returned (I32Value 1 ∷ []) (at_last 4)
 unfolding acts exec
 callback_blocks = refl
@@ -121,7 +121,7 @@ tls_set_bytes : (body (tls_set 0)).bytes ≡ 0x00 ∷ 0x20 ∷ 0x00 ∷ 0x24 ∷
 unfolding leb128 signed_within
 tls_set_bytes = refl
 
--- A module of one shim and the module that fills its place, as sections: a call of the shim is a call of the function
+-- A module of one shim and the module that fills its slot, as sections: a call of the shim is a call of the function
 -- that was given; before the fill it traps, with no event.
 abbrev two : FuncType
 two = record { params = I32 ∷ I32 ∷ []; results = [] }
@@ -149,11 +149,11 @@ after_the_fill : option_map (λ (m : Made). acts m.store 1 pair m.now) fixup_mad
 unfolding acts exec
 after_the_fill = refl
 
--- what is given has to be of the type: a function of other parameters is none
+-- what is given has to be of the type: a function of other parameters is rejected
 of_another_type : instance_of (parts_of given.table_fixup) (FunctionAt 0 ∷ TableAt 0 ∷ []) (record { functions = Opaque 77 hook_signature ∷ []; tables = (None ∷ []) ∷ []; memories = [] }) quiet ≡ None
 of_another_type = refl
 
--- A start function of the reference form: it fills global 0 in place of a stub, tells the hook, calls a thunk, and tells
+-- A start function of the reference form: it replaces the stub in global 0, calls the hook, calls a thunk, and calls
 -- the hook again. The global is filled at each event.
 abbrev start_steps : List StartStep
 start_steps = Fill 0 0 ∷ Hook 1 InitializeStart ∷ Thunk 2 ∷ Hook 1 InitializeFinish ∷ []
@@ -192,7 +192,7 @@ endless_is_stuck : acts endless 0 [] quiet ≡ Stuck
 unfolding acts exec
 endless_is_stuck = refl
 
--- A module with a data segment and a start function: its bytes are placed first, and then the start function is called.
+-- A module with a data segment and a start function: its bytes are written first, and then the start function is called.
 abbrev started_sections : List Section
 started_sections =
     sections.Types (nothing ∷ [])
@@ -213,7 +213,7 @@ data_comes_first : option_map (λ (m : Made). started (parts_of started_sections
 unfolding acts exec
 data_comes_first = refl
 
--- a memory that is too small is none, and neither is a global of another kind
+-- a memory that is too small is rejected, and so is a global of another kind
 too_small : instance_of (parts_of started_sections) (MemoryAt 0 ∷ GlobalAt 0 ∷ GlobalAt 1 ∷ []) (record with_memory { memories = record { minimum = 0; maximum = None } ∷ [] }) first_now ≡ None
 too_small = refl
 

@@ -1,4 +1,4 @@
--- Worked examples: whole modules, by their bytes, made and run.
+-- Worked examples: whole modules, by their bytes, instantiated and run.
 use Rattle.std.proofs.Common.{◌≡◌, ℕ, ◌+◌, List, [], ◌∷◌, ◌++◌, map, refl, Some, None, Option, true, false}
 use Rattle.std.specs.Prelude.{option_map, replicate}
 use Rattle.std.specs.List.{range_with_len}
@@ -63,7 +63,7 @@ done = Gives [] 0
 abbrev numbers : List (List ℕ)
 numbers = (0x30 ∷ []) ∷ (0x31 ∷ []) ∷ (0x32 ∷ []) ∷ (0x33 ∷ []) ∷ (0x34 ∷ []) ∷ (0x35 ∷ []) ∷ (0x36 ∷ []) ∷ (0x37 ∷ []) ∷ (0x38 ∷ []) ∷ (0x39 ∷ []) ∷ (0x31 ∷ 0x30 ∷ []) ∷ (0x31 ∷ 0x31 ∷ []) ∷ []
 
--- Twelve shims in the table form: shim i has place i, and is exported by its number
+-- Twelve shims in the table form: shim i has slot i, and is exported by its number
 
 abbrev twelve : List Shim
 twelve = replicate 12 (record { params = 2; type_index = 0 })
@@ -100,7 +100,7 @@ twelve_fills_bytes : (spelling_of twelve_fills).bytes ≡ 0x00 ∷ 0x61 ∷ 0x73
 unfolding leb128 signed_within
 twelve_fills_bytes = refl
 
--- twelve functions from outside, at 0 to 11; the shims stand at 12 to 23
+-- twelve functions from outside, at 0 to 11; the shims are at 12 to 23
 abbrev outside : Store
 outside = record { functions = map (λ i. Opaque i two) (range_with_len 0 12); tables = []; memories = [] }
 
@@ -175,7 +175,7 @@ twelve_ref_fills_bytes : (spelling_of twelve_ref_fills).bytes ≡ 0x00 ∷ 0x61 
 unfolding leb128 signed_within
 twelve_ref_fills_bytes = refl
 
--- the stub stands at 12, and shim i at 13 + i
+-- the stub is at 12, and shim i at 13 + i
 abbrev ref_shims_made : Option Made
 ref_shims_made = made_of_sections twelve_ref_shims [] outside quiet
 
@@ -234,7 +234,7 @@ one_hands_on : called one_ref_fill_made 13 pair (holds 5) ≡ Returned [] (recor
 unfolding acts exec
 one_hands_on = refl
 
--- Wrappers of an entry that gives a code, and of its callback
+-- Wrappers of an entry that returns a code, and of its callback
 
 abbrev hook_0 : List ℕ
 hook_0 = 0x68 ∷ 0x6f ∷ 0x6f ∷ 0x6b ∷ 0x30 ∷ []
@@ -261,7 +261,7 @@ code_wrappers_bytes : (spelling_of code_wrappers).bytes ≡ 0x00 ∷ 0x61 ∷ 0x
 unfolding leb128 signed_within
 code_wrappers_bytes = refl
 
--- the hook, the entry and the callback are main's, at 0, 1 and 2; their wrappers stand at 3 and 4
+-- the hook, the entry and the callback are main's, at 0, 1 and 2; their wrappers are at 3 and 4
 abbrev mains : Store
 mains = record { functions = Opaque 40 hook_signature ∷ Opaque 41 gives_code ∷ Opaque 42 callback ∷ []; tables = []; memories = [] }
 

@@ -60,7 +60,7 @@ hooked_if_then hook None now k l = refl
 hooked_if_then hook (Some m) now k l =
     and_then_assoc (asked hook hook_signature (I32Value (hook_number m) ∷ []) now) (λ rs after. k after) l
 
--- what is expected of a target gives results of its types
+-- the expected call of a target returns results of its types
 expected_fits : (bracket : Bracket) (hook : ℕ) (target : Known) (arguments : List Value) (now : Now) → and_then (expected bracket hook target arguments now) (checked target.signature.results) ≡ expected bracket hook target arguments now
 expected_fits bracket hook target arguments now =
     let ts = target.signature.results in
@@ -81,7 +81,7 @@ module _ (store : Store) (n : ℕ) (frame : Frame) where
       ∙ call_top_run store (exec n store) frame f (Opaque what s) vs below next locals now hf len
       ∙ ap (λ o. and_then o (λ results after. next (reverse results ++ below) locals after)) (exec_opaque n store f what s vs now hf)
 
-  -- one call of the hook leaves the stack as it was
+  -- one call of the hook leaves the stack unchanged
   pub hook_run : (index hook what : ℕ) (m : TaskHook) (next : Next) (stack locals : List Value) (now : Now) → slice_get frame.functions index ≡ Some hook → slice_get store.functions hook ≡ Some (Opaque what hook_signature) → act store (exec n store) frame (Call index) next (I32Value (hook_number m) ∷ stack) locals now ≡ hooked hook m now (λ after. next stack locals after)
   hook_run index hook what m next stack locals now hi hf =
       let number = I32Value (hook_number m) ∷ [] in

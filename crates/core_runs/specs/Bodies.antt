@@ -31,23 +31,23 @@ plain instructions = record { locals = []; instructions = instructions }
 abbrev pub gets : ℕ → List Instruction
 gets n = map LocalGet (range_with_len 0 n)
 
--- A shim in the table form: of n parameters, at a place of table 0.
+-- A shim in the table form: of n parameters, through a slot of table 0.
 abbrev pub table_shim_code : ℕ → ℤ → ℕ → List Instruction
 table_shim_code n place type = gets n ++ (I32Const place ∷ CallIndirect type 0 ∷ [])
 
 abbrev pub table_shim : ℕ → ℕ → ℕ → Body
 table_shim n place type = plain (table_shim_code n (cast_signed w32 place) type)
 
--- The bodies of shims from a place on: each goes through the place of its own.
+-- The bodies of shims from a slot on: each goes through its own slot.
 abbrev pub table_shims : ℕ → List Shim → List Body
 table_shims place [] = []
 table_shims place (s ∷ ss) = table_shim s.params place s.type_index ∷ table_shims (place + 1) ss
 
--- A table of n places for functions, no more and no less.
+-- A table of n slots for functions, no more and no less.
 abbrev pub table_of_shims : ℕ → TableType
 table_of_shims n = record { element_type = FuncRef; minimum = n; maximum = Some n }
 
--- What fills table 0 with functions, from its first place on.
+-- The element segment that fills table 0 with functions, from slot 0 on.
 abbrev pub table_fill : List ℕ → ElementSegment
 table_fill functions = segments.Active None (pos 0) functions
 

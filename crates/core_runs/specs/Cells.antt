@@ -8,12 +8,12 @@ use Rattle.core_runs.specs.Execution.{exec, and_then}
 use Rattle.core_runs.specs.Bodies.{tls_get, tls_set}
 use Rattle.core_runs.specs.Shims.{HasBody}
 
--- A call of one of the two functions, from whatever module.
+-- A call of one of the two functions, from any module.
 pub data TlsCall : Type 0 where
   Get : TlsCall
   Set : Value → TlsCall
 
--- the two functions stand at these addresses, over the global at this one
+-- the two functions are at these addresses, over the global at this one
 pub record HasTls (store : Store) (type : ValType) (getter setter global : ℕ) : Type 0 where
   pub frame : Frame
   pub local : ℕ
@@ -26,7 +26,7 @@ abbrev pub tls_call : ℕ → Store → ℕ → ℕ → TlsCall → Now → Outc
 tls_call n store getter setter Get now = exec n store getter [] now
 tls_call n store getter setter (Set v) now = exec n store setter (v ∷ []) now
 
--- all the calls, with what each gave
+-- all the calls, with their results
 abbrev pub tls_calls : ℕ → Store → ℕ → ℕ → List TlsCall → Now → (List (List Value) → Now → Outcome) → Outcome
 tls_calls n store getter setter [] now go = go [] now
 tls_calls n store getter setter (c ∷ calls) now go =

@@ -1,6 +1,6 @@
 -- What generated code does: one instruction, a body, a call.
 -- Core standard, execution: instructions, function calls, with typed function references and tail calls. Calls of
--- functions that are known by what they are alone are events, and take an answer (this project's own).
+-- functions that are known only by their names are events, and take an answer (this project's own).
 use Rattle.std.specs.Prelude.{ℕ, zero, suc, ◌+◌, ◌%◌, ◌^◌, Bool, true, false, if◌then◌else◌, List, [], ◌∷◌, ◌++◌, length, map, take, drop, reverse, Option, Some, None, slice_get, slice_set}
 use Rattle.core_bytes.specs.declared.types.ValType.{ValType}
 use Rattle.core_bytes.specs.declared.code.Instruction.{Instruction}
@@ -10,17 +10,17 @@ use Rattle.std.specs.Int.{cast_unsigned, w32, w64}
 use Rattle.core_runs.specs.Values.{Value, I32Value, I64Value, Function, fits, fit, zeros, same_signature}
 use Rattle.core_runs.specs.Store.{Frame, Func, Generated, Opaque, signature_of, Store, Cell, Kept, Foreign, Answer, Gives, Traps, Event, Called, SetForeign, Stored, Now, ByAnswer, ByCode, Outcome, Returned, Trapped, Open, Stuck}
 
--- goes on with the item, which has to be there
+-- continues with the item, which has to exist
 abbrev pub with_item : {X : Type 0} → Option X → (X → Outcome) → Outcome
 with_item None go = Stuck
 with_item (Some x) go = go x
 
--- goes on where the test holds, as it has to
+-- continues where the test holds, as it has to
 abbrev pub where_true : Bool → Outcome → Outcome
 where_true true go = go
 where_true false go = Stuck
 
--- goes on with the results
+-- continues with the results
 abbrev pub and_then : Outcome → (List Value → Now → Outcome) → Outcome
 and_then (Returned results now) go = go results now
 and_then (Trapped cause now) go = Trapped cause now
@@ -38,7 +38,7 @@ renewed number (Kept t (I64Value n)) = Kept t (I64Value (number % 2 ^ 64))
 renewed number (Kept t v) = Kept t v
 renewed number (Foreign what t) = Foreign what t
 
--- One answer: results that are of other types are none.
+-- One answer to a call: results of other types are none.
 abbrev pub answered : List ValType → List Answer → Now → Outcome
 answered types [] now = Open now
 answered types (Traps ∷ answers) now = Trapped ByAnswer (record now { answers = answers })
@@ -47,7 +47,7 @@ answered types (Gives results number ∷ answers) now =
     then Returned results (record now { globals = map (renewed number) now.globals; answers = answers })
     else Open now
 
--- An opaque call: it is seen, and the next answer is taken.
+-- An opaque call: it is an event, and takes the next answer.
 abbrev pub asked : ℕ → FuncType → List Value → Now → Outcome
 asked function signature arguments now =
     where_true (fit signature.params arguments) (answered signature.results now.answers (seen now (Called function arguments)))
@@ -83,7 +83,7 @@ abbrev pub chosen : ℕ → Value → Value → Value
 chosen zero a b = b
 chosen (suc n) a b = a
 
--- a read of a user's global takes an answer, which is no event and leaves all else
+-- a read of a user's global takes an answer, which is no event and changes nothing else
 abbrev pub read_given : ValType → List Answer → Now → (Value → Now → Outcome) → Outcome
 read_given t (Gives (v ∷ []) number ∷ answers) now go = if fits t v then go v (record now { answers = answers }) else Open now
 read_given t answers now go = Open now

@@ -1,5 +1,5 @@
 -- What a function that is bracketed by task hooks is to do.
--- This project's own: the core standard knows calls; which calls are events is said in `Store`.
+-- This project's own: the core standard has calls; which calls are events is defined in `Store`.
 use Rattle.std.specs.Prelude.{◌≡◌, ◌≤◌, ℕ, zero, suc, true, List, [], ◌∷◌, Option, Some, None, slice_get}
 use Rattle.core_bytes.specs.declared.types.ValType.TheVariants.{I32}
 use Rattle.core_bytes.specs.declared.types.FuncType.{FuncType}
@@ -13,7 +13,7 @@ use Rattle.core_runs.specs.Values.{Value, I32Value, fit}
 use Rattle.core_runs.specs.Store.{Opaque, Store, Now, Outcome, Returned, Trapped, Open, Stuck}
 use Rattle.core_runs.specs.Execution.{and_then, asked, exec}
 
--- A task hook takes one number and gives nothing.
+-- A task hook takes one number and returns nothing.
 abbrev pub hook_signature : FuncType
 hook_signature = record { params = I32 ∷ []; results = [] }
 
@@ -32,7 +32,7 @@ abbrev pub hooked_if : ℕ → Option TaskHook → Now → (Now → Outcome) →
 hooked_if hook None now go = go now
 hooked_if hook (Some moment) now go = hooked hook moment now go
 
--- the task is finished where the code is 0, and else it blocks
+-- the task is finished where the code is 0, and otherwise it blocks
 abbrev pub by_status : List Value → Option TaskHook
 by_status (I32Value zero ∷ []) = Some AsyncFinish
 by_status (I32Value (suc n) ∷ []) = Some AsyncBlock
@@ -51,7 +51,7 @@ expected bracket hook target arguments now =
     and_then (asked target.address target.signature arguments started) (λ results done.
     hooked_if hook (hook_after bracket.after results) done (λ ended. Returned results ended)))
 
--- At this address stands the opaque function that is known by `what`.
+-- At this address is the opaque function that is known by `what`.
 abbrev pub Is : Store → Known → ℕ → Type 0
 Is store target what = slice_get store.functions target.address ≡ Some (Opaque what target.signature)
 

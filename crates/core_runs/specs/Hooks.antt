@@ -1,4 +1,4 @@
--- The numbers of the task hooks, as they are handed to the hook function, and the hooks round each function that is
+-- The numbers of the task hooks, as they are passed to the hook function, and the hooks round each function that is
 -- wrapped (this project's own).
 use Rattle.std.specs.Prelude.{ℕ, Option, Some, None}
 use Rattle.core_runs.specs.declared.bracket.TaskHook.{TaskHook}

@@ -1,8 +1,8 @@
--- Making an instance of a generated module: its imports are matched, it is allocated, its segments are placed, and its
+-- Making an instance of a generated module: its imports are matched, it is allocated, its segments are written, and its
 -- start function is called.
--- Core standard, execution: modules, instantiation. This project's own: the names of imports are met before; a table has
--- as many slots as it ever will, and is imported by its size alone; whether a global is mutable, and whether bytes lie
--- within their memory, is not asked; bytes that are placed are an event.
+-- Core standard, execution: modules, instantiation. This project's own: the names of imports are resolved before; a table has
+-- a fixed number of slots, and is imported by its size alone; whether a global is mutable, and whether bytes are
+-- within their memory, is not checked; bytes that a segment writes are an event.
 use Rattle.std.specs.Prelude.{ℕ, ◌+◌, Bool, true, false, ◌&&◌, if◌then◌else◌, nat_le, List, [], ◌∷◌, ◌++◌, length, map, take, drop, replicate, Option, Some, None, slice_get, slice_set, option_map}
 use Rattle.std.specs.List.{range_with_len}
 use Rattle.std.specs.Int.{cast_unsigned, w32, w64}
@@ -43,7 +43,7 @@ pub data Given : Type 0 where
   MemoryAt : ℕ → Given
   GlobalAt : ℕ → Given
 
--- goes on with the item, if there is one
+-- continues with the item, if there is one
 abbrev pub bind : {X Y : Type 0} → Option X → (X → Option Y) → Option Y
 bind None go = None
 bind (Some x) go = go x
@@ -53,17 +53,17 @@ cons_if None xs = None
 cons_if (Some x) None = None
 cons_if (Some x) (Some xs) = Some (x ∷ xs)
 
--- the items at these places, if all are there
+-- the items at these indices, if all exist
 abbrev pub all_at : {X : Type 0} → List X → List ℕ → Option (List X)
 all_at xs [] = Some []
 all_at xs (i ∷ is) = cons_if (slice_get xs i) (all_at xs is)
 
--- a test of what is there
+-- a test of an item that exists
 abbrev pub there_is : {X : Type 0} → Option X → (X → Bool) → Bool
 there_is None test = false
 there_is (Some x) test = test x
 
--- matching of limits: at least so many, and no more than the greatest size where there is one
+-- matching of limits: at least the minimum, and no more than the maximum where there is one
 abbrev pub at_most : Option ℕ → ℕ → Bool
 at_most None n = true
 at_most (Some m) n = nat_le n m
@@ -149,7 +149,7 @@ empty_table n = replicate n None
 abbrev pub own_tables : List TableType → List (List (Option ℕ))
 own_tables tables = map (λ t. empty_table t.minimum) tables
 
--- a table's slots after some were filled from a place on; none where they don't fit
+-- a table's slots after some were filled from a slot on; none where they don't fit
 abbrev pub slots_after : ℕ → List ℕ → List (Option ℕ) → Option (List (Option ℕ))
 slots_after offset addresses slots =
     if nat_le (offset + length addresses) (length slots)
@@ -176,7 +176,7 @@ abbrev pub elements_done : Frame → List ElementSegment → List (List (Option 
 elements_done frame [] tables = Some tables
 elements_done frame (e ∷ es) tables = bind (element_done frame e tables) (λ after. elements_done frame es after)
 
--- what data segments do: their bytes are placed in memory 0, in order
+-- what data segments do: their bytes are written to memory 0, in order
 abbrev pub data_done : Frame → List DataSegment → Now → Option Now
 data_done frame [] now = Some now
 data_done frame (d ∷ ds) now =

@@ -18,11 +18,11 @@ pub record Slot : Type 0 where
   pub index : ℕ
   pub type : FuncType
 
--- what the shim's code is made of
+-- the parameter count and the type index of the shim's code
 abbrev pub shim_of : Slot → Shim
 shim_of s = record { params = length s.type.params; type_index = s.index }
 
--- A module of shims in the table form: a table with a slot a shim, and nothing else but types and shims.
+-- A module of shims in the table form: a table with one slot for each shim, and nothing else but types and shims.
 abbrev pub shim_parts : List FuncType → List Slot → Parts
 shim_parts types shims = record {
   types = types;
@@ -53,8 +53,8 @@ pub record Extends (old new : Store) : Type 0 where
 abbrev pub Defines : Parts → ℕ → ℕ → FuncType → Body → Type 0
 Defines m f index type code = (slice_get m.functions f ≡ Some index) × (slice_get m.types index ≡ Some type) × (slice_get m.bodies f ≡ Some code)
 
--- An instance has the functions of its module, behind all that the store had, in a frame by which the module's indices
--- name what was given and what is its own; and they stay, whatever is made after it.
+-- An instance has the functions of its module, after all that the store had, in a frame by which the module's indices
+-- name what was given and what is its own; and they are kept, whatever is instantiated after it.
 abbrev pub InstancesDefine : Type 0
 InstancesDefine =
     (m : Parts) (given : List Given) (store : Store) (now : Now) (made : Made) → instance_of m given store now ≡ Some made →
@@ -69,7 +69,7 @@ pub record ShimsMade (types : List FuncType) (shims : List Slot) (store : Store)
   pub room : length shims ≤ 2 ^ 32
   pub is_made : instance_of (parts_of sections) [] store now ≡ Some made
 
--- Where the instance is made, and whatever is made after it, each shim traps with no event.
+-- Where the instance is made, and whatever is instantiated after it, each shim traps with no event.
 abbrev pub ShimsTrapAtFirst : Type 0
 ShimsTrapAtFirst =
     (types : List FuncType) (shims : List Slot) (store : Store) (now : Now) (made : Made) (later : Store) → ShimsMade types shims store now made → Extends made.store later → (i : ℕ) (s : Slot) → slice_get shims i ≡ Some s → (n : ℕ) (arguments : List Value) (moment : Now) → fit s.type.params arguments ≡ true → exec (suc n) later (length store.functions + i) arguments moment ≡ Trapped ByCode moment

@@ -14,7 +14,7 @@ use Rattle.core_runs.specs.Instances.{Parts, Made, instance_of}
 use Rattle.core_runs.specs.Starts.{Filling, unfilled}
 use Rattle.core_runs.specs.LawsOfInstances.{Extends, Defines}
 
--- A shim of a module in the reference form: its type, that type's index, and the places of the shim and of its stub
+-- A shim of a module in the reference form: its type, that type's index, and the indices of the shim and of its stub
 -- among the module's functions.
 pub record RefShim : Type 0 where
   pub type : FuncType
@@ -26,7 +26,7 @@ pub record RefShim : Type 0 where
 abbrev pub ref_global : RefShim → DefinedGlobal
 ref_global s = record { global_type = record { val_type = Ref (Concrete s.index); mutable = true }; init = constants.RefFunc s.stub }
 
--- The module has these shims, each of which goes through the global of its own number, and their stubs.
+-- The module has these shims, each of which calls through the global of its own number, and their stubs.
 abbrev pub HasRefShims : Parts → ℕ → List RefShim → Type 0
 HasRefShims m place [] = Unit {0}
 HasRefShims m place (s ∷ ss) =
@@ -46,12 +46,12 @@ fillings base [] fs = []
 fillings base (s ∷ ss) [] = []
 fillings base (s ∷ ss) (f ∷ fs) = record { held = Concrete s.index; stub = base + s.stub; function = f } ∷ fillings base ss fs
 
--- Where the instance is made, its globals are behind all that there were, and none is filled, whatever is to fill it.
+-- Where the instance is made, its globals are after all that existed, and none is filled, whatever is to fill it.
 abbrev pub RefShimsAreUnfilled : Type 0
 RefShimsAreUnfilled =
     (m : Parts) (shims : List RefShim) (store : Store) (now : Now) (made : Made) (functions : List ℕ) → RefShimsMade m shims store now made → length functions ≡ length shims → (post : List Cell) × (made.now.globals ≡ now.globals ++ (map unfilled (fillings (length store.functions) shims functions) ++ post))
 
--- Whatever is made after it, each shim traps with no event as long as its global holds what it held.
+-- Whatever is instantiated after it, each shim traps with no event as long as its global holds what it held.
 abbrev pub RefShimsTrapAtFirst : Type 0
 RefShimsTrapAtFirst =
     (m : Parts) (shims : List RefShim) (store : Store) (now : Now) (made : Made) (later : Store) → RefShimsMade m shims store now made → Extends made.store later → (i : ℕ) (s : RefShim) → slice_get shims i ≡ Some s → (n : ℕ) (arguments : List Value) (moment : Now) → slice_get moment.globals (length now.globals + i) ≡ slice_get made.now.globals (length now.globals + i) → fit s.type.params arguments ≡ true → exec (suc (suc n)) later (length store.functions + s.function) arguments moment ≡ Trapped ByCode moment

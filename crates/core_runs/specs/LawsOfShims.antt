@@ -9,7 +9,7 @@ use Rattle.core_runs.specs.Bodies.{table_shim, ref_shim, stub}
 use Rattle.core_runs.specs.Shims.{HasBody, HoldsSlot, HoldsGlobal}
 
 -- A shim of the table form whose slot holds a function acts as that function, with one function less in progress:
--- whatever the function, the arguments and the answers, all parameters go on and all results come back.
+-- whatever the function, the arguments and the results, all parameters are passed on and all results come back.
 abbrev pub TableShimsHandOn : Type 0
 TableShimsHandOn =
     (type : FuncType) (place type_index n : ℕ) (store : Store) (frame : Frame) (shim f : ℕ) (g : Func) (arguments : List Value) (now : Now) → place < 2 ^ 32 → HasBody store shim frame type (table_shim (length type.params) place type_index) → slice_get frame.types type_index ≡ Some type → HoldsSlot store frame place (Some f) → slice_get store.functions f ≡ Some g → signature_of g ≡ type → fit type.params arguments ≡ true → exec (suc n) store shim arguments now ≡ exec n store f arguments now

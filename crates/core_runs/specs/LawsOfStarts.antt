@@ -16,16 +16,16 @@ abbrev pub StartsAct : Type 0
 StartsAct =
     (steps : List StartStep) (deeds : List Deed) (n : ℕ) (store : Store) (frame : Frame) (f : ℕ) (now : Now) → HasBody store f frame start_signature (start steps) → MeansEach store frame steps deeds → exec (suc (suc n)) store f [] now ≡ deeds_done deeds now
 
--- One that begins with fills goes on where all is filled and nothing else has changed: fills make no event.
+-- One that begins with fills continues where all is filled and nothing else has changed: fills make no event.
 abbrev pub StartsFillFirst : Type 0
 StartsFillFirst =
     (steps : List StartStep) (fills : List Filling) (deeds : List Deed) (pre post : List Cell) (n : ℕ) (store : Store) (frame : Frame) (f : ℕ) (now : Now) → HasBody store f frame start_signature (start steps) → MeansEach store frame steps (fill_deeds (length pre) fills ++ deeds) → now.globals ≡ pre ++ (map unfilled fills ++ post) → exec (suc (suc n)) store f [] now ≡ deeds_done deeds (with_globals now (pre ++ (map filled fills ++ post)))
 
--- Deeds make exactly their events, in order; also in a run that ends early, as far as it came.
+-- Deeds make exactly their events, in order; also in a run that ends early, up to where it ended.
 abbrev pub DeedsAreTraced : Type 0
 DeedsAreTraced = (deeds : List Deed) (now : Now) → Traced deeds now.events (deeds_done deeds now)
 
--- Behind the fills everything is filled from the first event on, also in a run that ends early.
+-- After the fills everything is filled from the first event on, also in a run that ends early.
 abbrev pub FilledThroughout : Type 0
 FilledThroughout =
     (fills : List Filling) (deeds : List Deed) (pre post : List Cell) (now : Now) → NoFills deeds → now.moments ≡ [] → Throughout (Filled (length pre) fills) (deeds_done deeds (with_globals now (pre ++ (map filled fills ++ post))))
@@ -53,7 +53,7 @@ abbrev pub CellsAreSet : Type 0
 CellsAreSet =
     (now : Now) (g old number : ℕ) → slice_get now.globals g ≡ Some (Kept I32 (I32Value old)) → number < 2 ^ 32 → deed_done (Sets g number) now ≡ Returned [] (with_globals now (slice_set now.globals g (Kept I32 (I32Value number))))
 
--- an `i32` stands here, kept or a user's
+-- an `i32` is here, kept or a user's
 abbrev pub IsNumber : Option Cell → Type 0
 IsNumber (Some (Kept I32 (I32Value x))) = Unit {0}
 IsNumber (Some (Foreign what I32)) = Unit {0}

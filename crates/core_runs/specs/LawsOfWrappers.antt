@@ -1,4 +1,4 @@
--- Laws of wrappers: what the values of `Bodies` do, shape by shape, and of meeting what is expected.
+-- Laws of wrappers: what the values of `Bodies` do, shape by shape, and that this meets what is expected.
 -- This project's own, over the core standard's execution of instructions.
 use Rattle.std.specs.Prelude.{◌≡◌, ℕ, zero, suc, ◌≤◌, true, List, [], ◌∷◌, Some, None, length}
 use Rattle.core_bytes.specs.declared.types.ValType.TheVariants.{I32}
@@ -23,7 +23,7 @@ WrappersAct =
 abbrev pub target_call : Known → List Value → Now → Outcome
 target_call target arguments now = asked target.address target.signature arguments now
 
--- What is expected, shape by shape: no hook; one before; one after; both; and one by the code, which is given back.
+-- What is expected, shape by shape: no hook; one before; one after; both; and one by the code, which is returned.
 abbrev pub ExpectedShapes : Type 0
 ExpectedShapes =
     (hook : ℕ) (target : Known) (arguments : List Value) (now : Now) (first last : TaskHook) →
@@ -32,8 +32,8 @@ ExpectedShapes =
     × (expected (record { before = None; after = Always last }) hook target arguments now ≡ and_then (target_call target arguments now) (λ results after. hooked hook last after (λ ended. Returned results ended)))
     × (expected (record { before = Some first; after = Always last }) hook target arguments now ≡ hooked hook first now (λ started. and_then (target_call target arguments started) (λ results after. hooked hook last after (λ ended. Returned results ended))))
 
--- A wrapper that reads the code: where the target gives 0, hook `AsyncFinish` follows, else `AsyncBlock`, and the code
--- is given back.
+-- A wrapper that reads the code: where the target returns 0, hook `AsyncFinish` follows, else `AsyncBlock`, and the code
+-- is returned.
 abbrev pub by_code : ℕ → ℕ → Now → Outcome
 by_code hook zero after = hooked hook AsyncFinish after (λ ended. Returned (I32Value zero ∷ []) ended)
 by_code hook (suc code) after = hooked hook AsyncBlock after (λ ended. Returned (I32Value (suc code) ∷ []) ended)
@@ -42,7 +42,7 @@ abbrev pub CallbacksAct : Type 0
 CallbacksAct =
     (hook_index target_index n : ℕ) (store : Store) (frame : Frame) (f hook : ℕ) (target : Known) (arguments : List Value) (now called : Now) (code : ℕ) → target.signature.results ≡ I32 ∷ [] → HasBody store f frame target.signature (wrapper (length target.signature.params) (record { before = None; after = ByStatus }) hook_index target_index) → NamesBoth store frame hook_index target_index hook target → fit target.signature.params arguments ≡ true → target_call target arguments now ≡ Returned (I32Value code ∷ []) called → exec (suc n) store f arguments now ≡ by_code hook code called
 
--- What is expected of a target is met by itself where nothing is round it, by its wrapper, and by whatever acts as
+-- What is expected of a target is met by itself where no hook is round it, by its wrapper, and by whatever acts as
 -- something that meets it with one function less in progress. Four functions are enough for `acts`.
 abbrev pub TargetsAreMet : Type 0
 TargetsAreMet =

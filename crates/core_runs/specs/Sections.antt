@@ -9,7 +9,7 @@ use Rattle.core_runs.specs.Instances.{Parts}
 abbrev pub no_parts : Parts
 no_parts = record { types = []; imports = []; functions = []; tables = []; memories = []; globals = []; start = None; elements = []; bodies = []; segments = [] }
 
--- one section more in front
+-- one more section in front
 abbrev pub with_section : Section → Parts → Parts
 with_section (sections.Types entries) m = record m { types = entries ++ m.types }
 with_section (sections.Imports entries) m = record m { imports = map (λ (i : Import). i.entity) entries ++ m.imports }

@@ -27,13 +27,13 @@ pub record HoldsGlobal (frame : Frame) (global : ℕ) (globals : List Cell) (f :
   pub names_global : slice_get frame.globals global ≡ Some address
   pub holds : slice_get globals address ≡ Some (Kept held (Function f))
 
--- A function of this type and body hands its call on to what slot `place` holds, whatever the function, the
--- arguments and the answers: all parameters go there, and all results come back. An empty slot traps with no event.
+-- A function of this type and body forwards its call to the function in slot `place`, whatever the function, the
+-- arguments and the results: it gets all parameters, and all its results come back. An empty slot traps with no event.
 pub record HandsOnBySlot (type : FuncType) (code : Body) (type_index place : ℕ) : Type 0 where
   pub filled : (n : ℕ) (store : Store) (frame : Frame) (shim f : ℕ) (g : Func) (arguments : List Value) (now : Now) → HasBody store shim frame type code → slice_get frame.types type_index ≡ Some type → HoldsSlot store frame place (Some f) → slice_get store.functions f ≡ Some g → signature_of g ≡ type → fit type.params arguments ≡ true → exec (suc n) store shim arguments now ≡ exec n store f arguments now
   pub empty : (n : ℕ) (store : Store) (frame : Frame) (shim : ℕ) (arguments : List Value) (now : Now) → HasBody store shim frame type code → HoldsSlot store frame place None → fit type.params arguments ≡ true → exec (suc n) store shim arguments now ≡ Trapped ByCode now
 
--- The same for what a global holds.
+-- The same for the function in a global.
 pub record HandsOnByGlobal (type : FuncType) (code : Body) (type_index global : ℕ) : Type 0 where
   pub filled : (n : ℕ) (store : Store) (frame : Frame) (shim f : ℕ) (g : Func) (arguments : List Value) (now : Now) → HasBody store shim frame type code → slice_get frame.types type_index ≡ Some type → HoldsGlobal frame global now.globals f → slice_get store.functions f ≡ Some g → signature_of g ≡ type → fit type.params arguments ≡ true → exec (suc n) store shim arguments now ≡ exec n store f arguments now
 

@@ -1,4 +1,4 @@
--- Start functions: what their steps do, deed by deed, and what holds all through.
+-- Start functions: what their steps do, deed by deed, and what holds throughout.
 -- This project's own, over the core standard's execution of instructions and its start function.
 use Rattle.std.specs.Prelude.{◌≡◌, ℕ, ◌+◌, ◌%◌, ◌<◌, ◌^◌, List, [], ◌∷◌, ◌++◌, Some, slice_get, map, take}
 use Rattle.std.specs.List.{AllByRecursion}
@@ -15,7 +15,7 @@ use Rattle.core_runs.specs.Expected.{Known, Is, hook_signature}
 use Rattle.core_runs.specs.Bodies.{tls_set}
 use Rattle.core_runs.specs.Shims.{HasBody}
 
--- the values stand in the list from this place on
+-- the values are in the list from this index on
 abbrev pub HasAt : {X : Type 0} → List X → ℕ → List X → Type 0
 HasAt xs i [] = Unit {0}
 HasAt xs i (v ∷ vs) = (slice_get xs i ≡ Some v) × HasAt xs (i + 1) vs
@@ -113,7 +113,7 @@ fill_deeds g (f ∷ fs) = Fills g f.function ∷ fill_deeds (g + 1) fs
 abbrev pub with_globals : Now → List Cell → Now
 with_globals now globals = record now { globals = globals }
 
--- the globals from a place on hold these functions
+-- the globals from an address on hold these functions
 abbrev pub Filled : ℕ → List Filling → List Cell → Type 0
 Filled base fills globals = HasAt globals base (map filled fills)
 
@@ -153,7 +153,7 @@ abbrev pub MakesEach : List Deed → List Event → Type 0
 MakesEach [] events = events ≡ []
 MakesEach (d ∷ ds) events = (first : List Event) × (rest : List Event) × (events ≡ first ++ rest) × Makes d first × MakesEach ds rest
 
--- A run has made exactly the events of the deeds, behind those that there were; one that ends early has made those
+-- A run has made exactly the events of the deeds, after those before it; one that ends early has made those
 -- of the first few.
 abbrev pub Traced : List Deed → List Event → Outcome → Type 0
 Traced deeds old (Returned results now) = (new : List Event) × (now.events ≡ old ++ new) × MakesEach deeds new

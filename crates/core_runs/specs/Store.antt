@@ -1,7 +1,7 @@
 -- What a run of generated code works on.
 -- Core standard, execution: store, addresses, module instances, function instances, table instances, global instances.
--- The store's lists only grow at their ends, so an address stays what it is. This project's own are: functions that are
--- known by what they are alone, what the outside answers to their calls, and the events that are seen from outside.
+-- The store's lists only grow at their ends, so an address never changes its meaning. This project's own are: functions that are
+-- known only by their names, the outside's answers to their calls, and the events that are seen from outside.
 use Rattle.std.specs.Prelude.{ℕ, List, Option}
 use Rattle.core_bytes.specs.declared.types.ValType.{ValType}
 use Rattle.core_bytes.specs.declared.types.FuncType.{FuncType}
@@ -10,7 +10,7 @@ use Rattle.core_bytes.specs.declared.code.Instruction.{Instruction}
 use Rattle.core_bytes.specs.declared.code.LocalRun.{LocalRun}
 use Rattle.core_runs.specs.Values.{Value}
 
--- moduleinst: what the indices of a generated module's code stand for, its types, and addresses in the store
+-- moduleinst: what the indices of a generated module's code refer to, its types, and addresses in the store
 pub record Frame : Type 0 where
   pub types : List FuncType
   pub functions : List ℕ
@@ -18,7 +18,7 @@ pub record Frame : Type 0 where
   pub globals : List ℕ
   pub memories : List ℕ
 
--- funcinst: a function of a generated module, or one that is known by what it is alone
+-- funcinst: a function of a generated module, or one that is known only by its name
 pub data Func : Type 0 where
   Generated : Frame → FuncType → List LocalRun → List Instruction → Func
   Opaque : ℕ → FuncType → Func
@@ -39,7 +39,7 @@ pub data Cell : Type 0 where
   Kept : ValType → Value → Cell
   Foreign : ℕ → ValType → Cell
 
--- What an opaque call gives, with what it leaves in the kept numbers (the thread-local base); or a trap.
+-- The results of an opaque call, with the values that it leaves in the kept numbers (the thread-local base); or a trap.
 pub data Answer : Type 0 where
   Gives : List Value → ℕ → Answer
   Traps : Answer
@@ -60,7 +60,7 @@ pub record Now : Type 0 where
   pub events : List Event
   pub moments : List (List Cell)
 
--- what a trap comes from: an answer, or code (an `unreachable`, an empty slot, or a wrong type at a call)
+-- the origin of a trap: an answer, or code (an `unreachable`, an empty slot, or a wrong type at a call)
 pub data Cause : Type 0 where
   ByAnswer : Cause
   ByCode : Cause

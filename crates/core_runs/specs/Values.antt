@@ -1,6 +1,6 @@
 -- Values of core functions, and whether they are of types.
 -- Core standard, execution: values, results; validation: matching of types. Types are compared as they are written:
--- where two modules number their types otherwise, a concrete reference is told apart by its number (this project's own).
+-- where two modules number their types differently, a concrete reference is distinguished by its number (this project's own).
 use Rattle.std.specs.Prelude.{ℕ, ◌^◌, Bool, true, false, ◌&&◌, nat_lt, eqb, List, [], ◌∷◌, ◌++◌, replicate}
 use Rattle.core_bytes.specs.declared.types.ValType.{ValType}
 use Rattle.core_bytes.specs.declared.types.ValType.TheVariants.{I32, I64, F32, F64, Ref}
@@ -34,7 +34,7 @@ fit (t ∷ ts) (v ∷ vs) = fits t v && fit ts vs
 fit [] (v ∷ vs) = false
 fit (t ∷ ts) [] = false
 
--- what a local variable holds at first; no generated body has one of a reference type, which would be null
+-- the initial value of a local variable; no generated body has one of a reference type, which would be null
 abbrev pub zero_of : ValType → Value
 zero_of I32 = I32Value 0
 zero_of I64 = I64Value 0
@@ -42,7 +42,7 @@ zero_of F32 = F32Value 0
 zero_of F64 = F64Value 0
 zero_of (Ref r) = Function 0
 
--- what all local variables hold at first
+-- the initial values of all local variables
 abbrev pub zeros : List LocalRun → List Value
 zeros [] = []
 zeros (r ∷ rs) = replicate r.count (zero_of r.val_type) ++ zeros rs

@@ -20,7 +20,7 @@ Reads Nothing results = Unit {0}
 Reads (Always moment) results = Unit {0}
 Reads ByStatus results = results ≡ I32 ∷ []
 
--- The frame's indices name a hook and a target, both known by what they are alone.
+-- The frame's indices name a hook and a target, both known only by their names.
 pub record NamesBoth (store : Store) (frame : Frame) (hook_index target_index hook : ℕ) (target : Known) : Type 0 where
   pub hook_what : ℕ
   pub target_what : ℕ
@@ -29,7 +29,7 @@ pub record NamesBoth (store : Store) (frame : Frame) (hook_index target_index ho
   pub hook_is : slice_get store.functions hook ≡ Some (Opaque hook_what hook_signature)
   pub target_is : slice_get store.functions target.address ≡ Some (Opaque target_what target.signature)
 
--- A function of this type and body does what the bracket asks for round the target, for all arguments and answers.
+-- A function of this type and body does what the bracket requires round the target, for all arguments and answers.
 pub record Wraps (type : FuncType) (code : Body) (bracket : Bracket) (hook_index target_index : ℕ) : Type 0 where
   pub acts : (n : ℕ) (store : Store) (frame : Frame) (f hook : ℕ) (target : Known) (arguments : List Value) (now : Now) → HasBody store f frame type code → NamesBoth store frame hook_index target_index hook target → target.signature ≡ type → fit type.params arguments ≡ true → exec (suc n) store f arguments now ≡ expected bracket hook target arguments now
 

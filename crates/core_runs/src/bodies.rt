@@ -1,7 +1,7 @@
 //! The bodies of shims, stubs, wrappers, start functions and thread-local cells.
 //!
-//! Core standard, structure: functions, instructions. Each call answers the value of
-//! `specs/Bodies.antt`, and refuses only for want of memory.
+//! Core standard, structure: functions, instructions. Each call returns the value of
+//! `specs/Bodies.antt`, and fails only with out of memory.
 
 ghost use Rattle.std.specs.Prelude.{◌≡◌, ◌∷◌, ◌++◌, [], map, flat_map, IfOk, OnOk};
 ghost use Rattle.core_runs.specs.Bodies as bodies;
@@ -14,8 +14,8 @@ use comp_lists::Seq;
 use core_bytes::{Body, Instruction, LocalRun, ValType};
 use std::alloc::{AllocError, Global};
 
-/// A shim in the table form, of so many parameters: it calls, by a type index, what a place of table 0
-/// holds. Where the place holds a function of that type, it acts as that function.
+/// A shim in the table form, of so many parameters: it calls, by a type index, the function in a slot of table 0.
+/// Where the slot holds a function of that type, it acts as that function.
 pub fn table_shim_body(
     alloc: Global,
     params: u32,
@@ -38,8 +38,8 @@ pub fn table_shim_body(
     Ok(plain(alloc, code))
 }
 
-/// A shim in the reference form, of so many parameters: it calls, by a type index, what a global
-/// holds. Where the global holds a function of that type, it acts as that function.
+/// A shim in the reference form, of so many parameters: it calls, by a type index, the function in a
+/// global. Where the global holds a function of that type, it acts as that function.
 pub fn ref_shim_body(
     alloc: Global,
     params: u32,
@@ -56,7 +56,7 @@ pub fn ref_shim_body(
     Ok(plain(alloc, code))
 }
 
-/// What stands in a global of the reference form before it is filled: it traps.
+/// The stub that a global of the reference form holds before it is filled: it traps.
 pub fn stub_body(alloc: Global) -> Result<Body, AllocError>
     ensures { IfOk result (λ made. made ≡ bodies.stub) }
 {
@@ -66,7 +66,7 @@ pub fn stub_body(alloc: Global) -> Result<Body, AllocError>
 }
 
 /// A wrapper of a function of so many parameters: it calls the hook, the function with all of its
-/// arguments, and the hook again, as its bracket says, and gives what the function gives. A bracket
+/// arguments, and the hook again, as its bracket says, and returns the function's results. A bracket
 /// that reads a code is for a function whose one result is an `i32`.
 pub fn wrapper_body(
     alloc: Global,

@@ -1,6 +1,6 @@
-//! Task hooks: the moments at which one is called, and which stand round a function.
+//! Task hooks: the moments at which one is called, and which ones are called round a function.
 //!
-//! A task hook is a function of one `i32` that tells a host at which point of a task the guest is.
+//! A task hook is a function of one `i32` that reports to a host at which point of a task the guest is.
 
 ghost use Rattle.std.specs.Prelude.{◌≡◌, pos, Some};
 ghost use Rattle.core_runs.specs.Hooks.{hook_number, around, bracket_of};
@@ -32,8 +32,8 @@ impl TaskHook {
     }
 }
 
-/// Which hook comes after a call: none, one, or one by the code that the call gives: `AsyncFinish`
-/// where it is 0, and else `AsyncBlock`.
+/// Which hook comes after a call: none, one, or one by the code that the call returns: `AsyncFinish`
+/// where it is 0, and otherwise `AsyncBlock`.
 #[derive(Clone, Copy, PartialEq, Eq, Debug)]
 pub enum AfterHook {
     Nothing,
@@ -98,7 +98,7 @@ fn between(first: TaskHook, last: TaskHook) -> Bracket
     }
 }
 
-/// A hook before the call, and one after it by the code that it gives.
+/// A hook before the call, and one after it by the code that it returns.
 fn by_status(first: TaskHook) -> Bracket
     ensures { result ≡ around (Some first) ByStatus }
 {

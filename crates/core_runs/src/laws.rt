@@ -7,8 +7,8 @@ ghost use Rattle.core_runs.specs.Cells.{TlsIsOneCell};
 ghost use Rattle.core_runs.specs.LawsOfShims.{TableShimsHandOn, EmptyTableShimsTrap, RefShimsHandOn, StubsTrap, EmptyRefShimsTrap};
 ghost use Rattle.core_runs.specs.LawsOfWrappers.{WrappersAct, ExpectedShapes, CallbacksAct, TargetsAreMet, ExpectedIsNotStuck};
 
-/// A filled shim of the table form acts as the function in its slot: it hands on all parameters and
-/// gives back all results.
+/// A filled shim of the table form acts as the function in its slot: it passes on all parameters and
+/// returns all results.
 pub fn table_shims_hand_on()
     ensures { TableShimsHandOn }
 {}
@@ -43,7 +43,7 @@ pub fn expected_shapes()
     ensures { ExpectedShapes }
 {}
 
-/// A wrapper that reads a code calls hook 5 where it is 0, and else hook 4, and gives the code back.
+/// A wrapper that reads a code calls hook 5 where it is 0, and otherwise hook 4, and returns the code.
 pub fn callbacks_act()
     ensures { CallbacksAct }
 {}
@@ -58,7 +58,7 @@ pub fn starts_act()
     ensures { StartsAct }
 {}
 
-/// A start function that begins with fills goes on where all is filled and nothing else has changed:
+/// A start function that begins with fills continues where all is filled and nothing else has changed:
 /// fills make no event.
 pub fn starts_fill_first()
     ensures { StartsFillFirst }
@@ -69,7 +69,7 @@ pub fn deeds_are_traced()
     ensures { DeedsAreTraced }
 {}
 
-/// Behind the fills everything is filled from the first event on, also in a run that ends early.
+/// After the fills everything is filled from the first event on, also in a run that ends early.
 pub fn filled_throughout()
     ensures { FilledThroughout }
 {}
@@ -99,7 +99,7 @@ pub fn expected_is_not_stuck()
     ensures { ExpectedIsNotStuck }
 {}
 
-/// Before their table is filled the shims of an instance trap, with no event, whatever else is made.
+/// Before their table is filled the shims of an instance trap, with no event, whatever else is instantiated.
 pub fn shims_trap_at_first()
     ensures { ShimsTrapAtFirst }
 {}
@@ -119,7 +119,7 @@ pub fn deeds_are_not_stuck()
     ensures { DeedsAreNotStuck }
 {}
 
-/// An instance has the functions of its module, and they stay, whatever is made after it.
+/// An instance has the functions of its module, and they are kept, whatever is instantiated after it.
 pub fn instances_define()
     ensures { InstancesDefine }
 {}
@@ -130,7 +130,7 @@ pub fn ref_shims_are_unfilled()
     ensures { RefShimsAreUnfilled }
 {}
 
-/// Before its global is filled each shim of that instance traps, with no event, whatever else is made.
+/// Before its global is filled each shim of that instance traps, with no event, whatever else is instantiated.
 pub fn ref_shims_trap_at_first()
     ensures { RefShimsTrapAtFirst }
 {}

@@ -1,20 +1,20 @@
 //! What the code of generated core modules does, and the small bodies that such modules are made of.
 //!
 //! The code of a module is [`core_bytes`]' values: lists of instructions. `specs/Execution.antt` says
-//! what they do, to be read beside the execution part of the core standard. A run works on a store of
+//! what they do, to be read next to the execution part of the core standard. A run works on a store of
 //! functions and tables that only grows; a function in it is one of a generated module, or one that is
-//! known by what it is alone, whose calls are events that the outside answers (`specs/Store.antt`).
+//! known only by its name, whose calls are events that the outside answers (`specs/Store.antt`).
 //!
-//! The bodies are those of shims, which hand a call on to what a slot of a table or a global holds; of
+//! The bodies are those of shims, which forward a call to the function in a slot of a table or in a global; of
 //! stubs; of wrappers, which call task hooks round a function ([`Bracket`]); of start functions
-//! ([`StartStep`]); and of the two functions of a thread-local cell. Beside them stand the table of
-//! shims and what fills it ([`table_of_shims`], [`table_fill`]). Upward this crate promises: a body
+//! ([`StartStep`]); and of the two functions of a thread-local cell. There are also the table of
+//! shims and its element segment ([`table_of_shims`], [`table_fill`]). Upward this crate promises: a body
 //! is the value of `specs/Bodies.antt`, and does what the contract says for all arguments, answers and
-//! types, and whatever else stands in the store.
+//! types, and whatever else is in the store.
 //!
 //! In reading order: `bracket` (task hooks), `start` (steps of start functions), `bodies` (what is
 //! built), `tables` (shims of a module in the table form), `laws` (what the bodies do). `specs/Instances.antt` says what making an instance of a module
-//! does. Worked examples stand in `proofs/Worked.antt` (bodies) and `proofs/WorkedModules.antt` (whole
+//! does. Worked examples are in `proofs/Worked.antt` (bodies) and `proofs/WorkedModules.antt` (whole
 //! modules, made and run).
 #![tactic(auto)]
 

@@ -24,8 +24,8 @@ pub enum StartStep {
         hook: u32,
         moment: TaskHook,
     },
-    /// A global gets the sum of two others, all `i32`: where a library stands in memory, and how far
-    /// behind that an item of it stands.
+    /// A global gets the sum of two others, all `i32`: the base of a library in memory, and the offset
+    /// of an item from it.
     AddressToGlobal {
         base: u32,
         offset: u32,

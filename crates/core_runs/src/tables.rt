@@ -1,4 +1,4 @@
-//! What a module of shims in the table form is made of, and what fills its table.
+//! The parts of a module of shims in the table form, and the segment that fills its table.
 //!
 //! Core standard, structure: tables, element segments.
 
@@ -17,7 +17,7 @@ pub struct Shim {
     pub type_index: u32,
 }
 
-/// The bodies of shims, in order: each goes through the place of its own number, from 0 on.
+/// The bodies of shims, in order: each calls through the slot of its own number, from 0 on.
 pub fn table_shim_bodies(alloc: Global, shims: &[Shim]) -> Result<Code, AllocError>
     requires count { length shims.now ≤ 2 ^ 32 }
     ensures { IfOk result (λ made. made ≡ bodies.table_shims 0 shims.now) }
@@ -37,7 +37,7 @@ fn put_shim(code: &mut Code, alloc: Global, place: u32, shim: Shim) -> Result<()
     code.body(body.locals.as_slice(), body.instructions.as_slice())
 }
 
-/// The table of so many shims: a place for each, and no more.
+/// The table of so many shims: a slot for each, and no more.
 pub fn table_of_shims(count: u32) -> TableType
     ensures { result ≡ bodies.table_of_shims count }
 {
@@ -48,7 +48,7 @@ pub fn table_of_shims(count: u32) -> TableType
     }
 }
 
-/// What fills table 0 from its first place on, by the indices of functions: those of places in order.
+/// The segment that fills table 0 from slot 0 on, by the indices of functions, in the order of slots.
 pub fn table_fill(alloc: Global, functions: &[u32]) -> Result<ElementSegment, AllocError>
     ensures { IfOk result (λ made. made ≡ bodies.table_fill functions.now) }
 {
