@@ -13,7 +13,7 @@ ghost use Rattle.command_line.specs.Telling.{Puts};
 use crate::fault::{RunFault, read_fault};
 use crate::store::Store;
 use crate::telling::put;
-use comp_bytes::BuildFault;
+use byte_encoding::BuildFault;
 use comp_check::{CheckFault, read_component};
 use comp_lines::describe;
 use comp_lists::Text;

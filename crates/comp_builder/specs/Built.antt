@@ -5,8 +5,8 @@ use Rattle.comp_bytes.specs.Spaces.{place, items_in}
 use Rattle.comp_bytes.specs.declared.def.Def.{Def}
 use Rattle.comp_bytes.specs.declared.name.Name.{Name}
 use Rattle.comp_bytes.specs.declared.space.Space.{Space}
-use Rattle.comp_bytes.specs.declared.fault.BuildFault.{BuildFault}
-use Rattle.comp_bytes.specs.declared.fault.BuildFault.TheVariants.{Memory, TooMany}
+use Rattle.byte_encoding.specs.declared.fault.BuildFault.{BuildFault}
+use Rattle.byte_encoding.specs.declared.fault.BuildFault.TheVariants.{Memory, TooMany}
 
 -- the definitions, and the debug names of their items
 pub record Built : Type 0 where

@@ -1,13 +1,13 @@
 -- The custom section with the debug names, behind the definitions of a component that is being built.
 -- Component model, binary format: name section.
 use Rattle.std.specs.Prelude.{◌≡◌, ◌==◌, [], ◌∷◌, ◌++◌, Result, Ok, Err, codes, length, if◌then◌else◌}
-use Rattle.comp_bytes.specs.Spelling.{Fits}
+use Rattle.byte_encoding.specs.Spelling.{Fits}
 use Rattle.comp_bytes.specs.DebugNames.{names_text}
-use Rattle.comp_bytes.specs.Written.{Refused}
+use Rattle.byte_encoding.specs.Written.{Refused}
 use Rattle.comp_bytes.specs.declared.def.Item.TheVariants as items
 use Rattle.comp_bytes.specs.declared.def.Def.{Def}
 use Rattle.comp_bytes.specs.declared.def.Def.TheVariants as defs
-use Rattle.comp_bytes.specs.declared.fault.BuildFault.{BuildFault}
+use Rattle.byte_encoding.specs.declared.fault.BuildFault.{BuildFault}
 use Rattle.comp_builder.specs.Built.{Built}
 
 abbrev pub names_section : Built → Def

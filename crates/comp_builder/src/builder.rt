@@ -6,13 +6,12 @@ ghost use Rattle.comp_bytes.specs.Spaces.{place, items_in, space_of};
 ghost use Rattle.comp_builder.specs.Built.{Built, nothing_built, and_then, name_of, Passes, IsNext, Pushes, Counts, Full, Adds};
 ghost use Rattle.comp_bytes.specs.Places.{IsAt};
 ghost use Rattle.comp_bytes.specs.Grammar.{Spells, spelling_of};
-ghost use Rattle.comp_bytes.specs.Written.{Refused};
+ghost use Rattle.byte_encoding.specs.Written.{Refused};
 ghost use Rattle.comp_builder.specs.Naming.{AddsNames};
 ghost use Rattle.comp_builder.specs.Optional.{option_now};
 
-use comp_bytes::{
-    BuildFault, Def, Defs, Item, Name, Space, component_bytes, names_bytes, next_count,
-};
+use byte_encoding::{BuildFault, next_count};
+use comp_bytes::{Def, Defs, Item, Name, Space, component_bytes, names_bytes};
 use comp_lists::{Seq, Text};
 use std::alloc::{AllocError, Global};
 use std::marker::Model;

@@ -9,16 +9,18 @@ ghost use Rattle.std.specs.Prelude.{◌≡◌, IfOk, None};
 ghost use Rattle.comp_bytes.specs.Spaces.{kind_space, export_space, sort_space, description_space};
 ghost use Rattle.comp_builder.specs.Built.{Adds};
 ghost use Rattle.comp_bytes.specs.Places.{IsAt};
-ghost use Rattle.comp_bytes.specs.Core.{IsCoreModule};
+ghost use Rattle.core_types.specs.Core.{IsCoreModule};
 ghost use Rattle.comp_builder.specs.Optional.{option_now};
 
 use crate::builder::ComponentBuilder;
+use byte_encoding::BuildFault;
 use comp_bytes::{
-    Alias, Argument, BuildFault, CanonicalOption, ComponentExportKind, CoreArgument,
-    CoreInlineExport, CoreModule, Def, DefinedType, Description, ExportKind, ExternName,
-    FuncTypeDef, InstanceType, Intrinsic, Item, Sort, Space, TypeDef,
+    Alias, Argument, CanonicalOption, ComponentExportKind, CoreArgument, CoreInlineExport,
+    CoreModule, Def, DefinedType, Description, ExternName, FuncTypeDef, InstanceType, Intrinsic,
+    Item, Sort, Space, TypeDef, space_of_kind,
 };
 use comp_lists::{Seq, Text};
+use standard_kinds::ExportKind;
 
 impl ComponentBuilder {
     /// A core module, by its bytes, which begin with the core preamble and are copied (`core:module`).
@@ -89,7 +91,7 @@ impl ComponentBuilder {
             instance,
             name,
         };
-        self.define(debug, kind.space(), Def::Item(Item::Alias(alias)))
+        self.define(debug, space_of_kind(kind), Def::Item(Item::Alias(alias)))
     }
 
     /// The item of this kind that an instance exports under this name (`alias`, target `00`).

@@ -1,8 +1,9 @@
 -- Readers of the options of canonical functions, and of intrinsics.
 use Rattle.std.proofs.Common.{◌≡◌, ℕ, List, ◌∷◌, ◌++◌, Bool, true, false, Option, Some, None, refl}
 use Rattle.std.specs.Prelude.{nat_eq, if◌then◌else◌}
-use Rattle.comp_bytes.specs.Spelling.{◌⊕◌, octet, number, listed}
-use Rattle.comp_bytes.specs.Grammar.{function_result, option_bytes, flag, context_byte, intrinsic_bytes}
+use Rattle.byte_encoding.specs.Spelling.{◌⊕◌, octet, number, listed}
+use Rattle.comp_bytes.specs.Grammar.{function_result, option_bytes, context_byte, intrinsic_bytes}
+use Rattle.byte_encoding.specs.Spelling.{flag}
 use Rattle.comp_bytes.specs.declared.types.ComponentValType.{ComponentValType}
 use Rattle.comp_bytes.specs.declared.canon.CanonicalOption.{CanonicalOption}
 use Rattle.comp_bytes.specs.declared.canon.CanonicalOption.TheVariants as canonical
@@ -10,7 +11,7 @@ use Rattle.comp_bytes.specs.declared.canon.ContextType.{ContextType}
 use Rattle.comp_bytes.specs.declared.canon.ContextType.TheVariants as contexts
 use Rattle.comp_bytes.specs.declared.canon.Intrinsic.{Intrinsic}
 use Rattle.comp_bytes.specs.declared.canon.Intrinsic.TheVariants as intrinsics
-use Rattle.comp_bytes.proofs.Readers.{Reader, Reads, made_from, made, pair_from, pair_reads, tagged, skipped, number_from, number_reads, list_from, list_reads}
+use Rattle.byte_encoding.proofs.Readers.{Reader, Reads, made_from, made, pair_from, pair_reads, tagged, skipped, number_from, number_reads, list_from, list_reads}
 use Rattle.comp_bytes.proofs.ValueReaders.{result_from, result_reads}
 
 -- ---- options

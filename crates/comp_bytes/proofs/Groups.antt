@@ -4,9 +4,9 @@ use Rattle.std.specs.Prelude.{◌==◌, ◌&&◌, if◌then◌else◌}
 use Rattle.std.specs.List.{flat_map, AllByRecursion}
 use Rattle.std.proofs.lemmas.List.{append-nil}
 use Rattle.std.proofs.lemmas.Bool.{eqb-true}
-use Rattle.comp_bytes.specs.Spelling.{Spelling}
+use Rattle.byte_encoding.specs.Spelling.{Spelling}
 use Rattle.comp_bytes.specs.Sections.{Entry, Section, shares, before, sections, section, contents, section_of, component}
-use Rattle.comp_bytes.proofs.Unique.{one_number, one_name}
+use Rattle.byte_encoding.proofs.Unique.{one_number, one_name}
 
 -- The bytes of two definitions of one section say which they are: where a section is shared, whatever follows.
 pub record OneEntry {A : Type 0} (f : A → Entry) : Type 0 where

@@ -12,7 +12,7 @@ use Rattle.comp_bytes.specs.declared.def.CoreInlineExport.{CoreInlineExport}
 use Rattle.comp_bytes.specs.declared.def.Argument.{Argument}
 use Rattle.comp_bytes.specs.declared.def.Item.{Item}
 use Rattle.comp_bytes.specs.declared.def.Item.TheVariants as items
-use Rattle.comp_bytes.proofs.Readers.{Read, Reader, or_else, Reads, made_from, made, pair_from, pair_reads, as_reads, followed_from, followed_reads, tagged, skipped, number_from, number_reads, list_from, list_reads, name_from, name_reads, option_from, option_reads}
+use Rattle.byte_encoding.proofs.Readers.{Read, Reader, or_else, Reads, made_from, made, pair_from, pair_reads, as_reads, followed_from, followed_reads, tagged, skipped, number_from, number_reads, list_from, list_reads, name_from, name_reads, option_from, option_reads}
 use Rattle.comp_bytes.proofs.ValueReaders.{kind_from, kind_reads, sort_from, sort_reads, primitive_from, extern_from, extern_reads, description_from, description_reads}
 use Rattle.comp_bytes.proofs.TypeReaders.{defined_from, type_from, type_reads, alias_from, alias_reads, instance_type_from, instance_type_reads}
 use Rattle.comp_bytes.proofs.CanonReaders.{options_from, options_reads, intrinsic_from, intrinsic_reads}

@@ -1,11 +1,7 @@
-pub mod Pieces
-pub mod Numbers
 pub mod Runs
 pub mod Labels
-pub mod Unique
 pub mod Places
 pub mod Worked
-pub mod Readers
 pub mod Groups
 pub mod ValueReaders
 pub mod TypeReaders

@@ -7,7 +7,7 @@ use Rattle.comp_bytes.specs.declared.def.Item.{Item}
 use Rattle.comp_bytes.specs.declared.def.Item.TheVariants as items
 use Rattle.comp_bytes.specs.declared.def.Def.{Def}
 use Rattle.comp_bytes.specs.declared.def.Def.TheVariants as defs
-use Rattle.comp_bytes.proofs.Readers.{Read}
+use Rattle.byte_encoding.proofs.Readers.{Read}
 use Rattle.comp_bytes.proofs.ItemReaders.{item_from, item_again, whole_from, whole_again}
 use Rattle.comp_bytes.proofs.Groups.{OneEntry, component_one}
 

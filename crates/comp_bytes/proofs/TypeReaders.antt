@@ -1,9 +1,10 @@
 -- Readers of type definitions, of aliases and of instance types.
 use Rattle.std.proofs.Common.{◌≡◌, ℕ, List, [], ◌∷◌, ◌++◌, Bool, true, false, Option, Some, None, refl, ap, ◌∙◌}
 use Rattle.std.specs.Prelude.{nat_eq, if◌then◌else◌}
-use Rattle.comp_bytes.specs.Spelling.{◌⊕◌, octet, number, listed, named}
-use Rattle.comp_bytes.specs.Grammar.{kind_byte, export_byte, primitive_byte, defined_type, type_def, alias_bytes, member}
-use Rattle.comp_bytes.specs.declared.space.ExportKind.{ExportKind}
+use Rattle.byte_encoding.specs.Spelling.{◌⊕◌, octet, number, listed, named}
+use Rattle.standard_kinds.specs.Bytes.{kind_byte}
+use Rattle.comp_bytes.specs.Grammar.{export_byte, primitive_byte, defined_type, type_def, alias_bytes, member}
+use Rattle.standard_kinds.specs.declared.kinds.ExportKind.{ExportKind}
 use Rattle.comp_bytes.specs.declared.space.ComponentExportKind.{ComponentExportKind}
 use Rattle.comp_bytes.specs.declared.space.ComponentExportKind.TheVariants as exports
 use Rattle.comp_bytes.specs.declared.types.ComponentValType.{ComponentValType}
@@ -17,7 +18,7 @@ use Rattle.comp_bytes.specs.declared.types.Alias.TheVariants as aliases
 use Rattle.comp_bytes.specs.declared.types.Member.{Member}
 use Rattle.comp_bytes.specs.declared.types.Member.TheVariants as members
 use Rattle.comp_bytes.specs.declared.types.InstanceType.{InstanceType}
-use Rattle.comp_bytes.proofs.Readers.{Reader, read_then, or_else, Reads, made_from, made, pair_from, pair_reads, as_reads, tagged, skipped, number_from, number_reads, list_from, list_reads, name_from, name_reads, option_from, option_reads}
+use Rattle.byte_encoding.proofs.Readers.{Reader, read_then, or_else, Reads, made_from, made, pair_from, pair_reads, as_reads, tagged, skipped, number_from, number_reads, list_from, list_reads, name_from, name_reads, option_from, option_reads}
 use Rattle.comp_bytes.proofs.ValueReaders.{kind_from, kind_reads, export_from, export_reads, primitive_from, primitive_reads, value_from, value_reads, field_from, field_reads, case_from, case_reads, result_from, result_reads, extern_from, extern_reads, description_from, description_reads}
 
 -- ---- types of values

@@ -2,16 +2,17 @@
 use Rattle.std.proofs.Common.{◌≡◌, ℕ, ◌+◌, ◌/◌, ◌%◌, List, [], ◌∷◌, ◌++◌, Bool, true, false, Option, Some, None, refl, ap, ◌∙◌, arith}
 use Rattle.std.specs.Prelude.{nat_lt, nat_eq, if◌then◌else◌}
 use Rattle.std.proofs.lemmas.Bool.Decides.{nat_tests}
-use Rattle.comp_bytes.specs.Spelling.{octet, groups_of_seven, leb128, signed_leb}
-use Rattle.comp_bytes.specs.Grammar.{kind_byte, export_byte, sort_bytes, primitive_byte, value_type, field, case_of, function_result, extern_name, description_bytes}
-use Rattle.comp_bytes.specs.declared.space.ExportKind.{ExportKind}
-use Rattle.comp_bytes.specs.declared.space.ExportKind.TheVariants as kinds
+use Rattle.byte_encoding.specs.Spelling.{octet, groups_of_seven, leb128, signed_leb}
+use Rattle.standard_kinds.specs.Bytes.{kind_byte}
+use Rattle.comp_bytes.specs.Grammar.{export_byte, sort_bytes, primitive_byte, value_type, field, case_of, function_result, extern_name, description_bytes}
+use Rattle.standard_kinds.specs.declared.kinds.ExportKind.{ExportKind}
+use Rattle.standard_kinds.specs.declared.kinds.ExportKind.TheVariants as kinds
 use Rattle.comp_bytes.specs.declared.space.ComponentExportKind.{ComponentExportKind}
 use Rattle.comp_bytes.specs.declared.space.ComponentExportKind.TheVariants as exports
 use Rattle.comp_bytes.specs.declared.space.Sort.{Sort}
 use Rattle.comp_bytes.specs.declared.space.Sort.TheVariants as sorts
-use Rattle.comp_bytes.specs.declared.types.Primitive.{Primitive}
-use Rattle.comp_bytes.specs.declared.types.Primitive.TheVariants as primitives
+use Rattle.standard_kinds.specs.declared.kinds.Primitive.{Primitive}
+use Rattle.standard_kinds.specs.declared.kinds.Primitive.TheVariants as primitives
 use Rattle.comp_bytes.specs.declared.types.ComponentValType.{ComponentValType}
 use Rattle.comp_bytes.specs.declared.types.ComponentValType.TheVariants as values
 use Rattle.comp_bytes.specs.declared.types.Field.{Field}
@@ -19,7 +20,7 @@ use Rattle.comp_bytes.specs.declared.types.Case.{Case}
 use Rattle.comp_bytes.specs.declared.types.ExternName.{ExternName}
 use Rattle.comp_bytes.specs.declared.types.Description.{Description}
 use Rattle.comp_bytes.specs.declared.types.Description.TheVariants as descriptions
-use Rattle.comp_bytes.proofs.Readers.{Reader, Reads, made_from, made, pair_from, pair_reads, as_reads, followed_from, followed_reads, tagged, passed, number_from, number_reads, index_from, index_reads, name_from, name_reads, option_from, option_reads}
+use Rattle.byte_encoding.proofs.Readers.{Reader, Reads, made_from, made, pair_from, pair_reads, as_reads, followed_from, followed_reads, tagged, passed, number_from, number_reads, index_from, index_reads, name_from, name_reads, option_from, option_reads}
 
 -- ---- sorts
 

@@ -1,11 +1,11 @@
 -- Worked examples: a component that imports a function and exports another, through a core module.
 use Rattle.std.proofs.Common.{◌≡◌, ℕ, List, [], ◌∷◌, refl, None, false, map, arith}
-use Rattle.comp_bytes.specs.Spelling.{leb128}
+use Rattle.byte_encoding.specs.Spelling.{leb128}
 use Rattle.comp_bytes.specs.Grammar.{spelling_of}
 use Rattle.comp_bytes.specs.References.{own, references}
 use Rattle.comp_bytes.specs.Scopes.{Scoped}
 use Rattle.comp_bytes.specs.ScopeNames.{names}
-use Rattle.comp_bytes.specs.declared.space.ExportKind.TheVariants as kinds
+use Rattle.standard_kinds.specs.declared.kinds.ExportKind.TheVariants as kinds
 use Rattle.comp_bytes.specs.declared.space.Sort.TheVariants as sorts
 use Rattle.comp_bytes.specs.declared.space.Space.TheVariants as spaces
 use Rattle.comp_bytes.specs.declared.types.TypeDef.TheVariants as types

@@ -3,16 +3,16 @@
 -- these are this project's own: the version suffix of a name, `43` for an async function, the type of a context
 -- slot, and the `00` of the two waits.
 use Rattle.std.specs.Prelude.{ℕ, ◌≡◌, List, map, Bool, Option, Some, None, if◌then◌else◌}
-use Rattle.comp_bytes.specs.Spelling.{Spelling, Fits, ◌⊕◌, raw, octet, number, signed_leb, listed, named, optional}
+use Rattle.byte_encoding.specs.Spelling.{Spelling, Fits, ◌⊕◌, raw, octet, number, signed_leb, listed, named, optional}
 use Rattle.comp_bytes.specs.Sections.{Entry, component}
-use Rattle.comp_bytes.specs.declared.space.ExportKind.{ExportKind}
-use Rattle.comp_bytes.specs.declared.space.ExportKind.TheVariants as kinds
+use Rattle.standard_kinds.specs.declared.kinds.ExportKind.{ExportKind}
+use Rattle.standard_kinds.specs.declared.kinds.ExportKind.TheVariants as kinds
 use Rattle.comp_bytes.specs.declared.space.ComponentExportKind.{ComponentExportKind}
 use Rattle.comp_bytes.specs.declared.space.ComponentExportKind.TheVariants as exports
 use Rattle.comp_bytes.specs.declared.space.Sort.{Sort}
 use Rattle.comp_bytes.specs.declared.space.Sort.TheVariants as sorts
-use Rattle.comp_bytes.specs.declared.types.Primitive.{Primitive}
-use Rattle.comp_bytes.specs.declared.types.Primitive.TheVariants as primitives
+use Rattle.standard_kinds.specs.declared.kinds.Primitive.{Primitive}
+use Rattle.standard_kinds.specs.declared.kinds.Primitive.TheVariants as primitives
 use Rattle.comp_bytes.specs.declared.types.ComponentValType.{ComponentValType}
 use Rattle.comp_bytes.specs.declared.types.ComponentValType.TheVariants as values
 use Rattle.comp_bytes.specs.declared.types.Field.{Field}
@@ -43,13 +43,6 @@ use Rattle.comp_bytes.specs.declared.def.Item.{Item}
 use Rattle.comp_bytes.specs.declared.def.Item.TheVariants as items
 use Rattle.comp_bytes.specs.declared.def.Def.{Def}
 use Rattle.comp_bytes.specs.declared.def.Def.TheVariants as defs
-
--- core:sort, of the kinds that a core instance exports
-abbrev pub kind_byte : ExportKind → ℕ
-kind_byte kinds.Func = 0x00
-kind_byte kinds.Table = 0x01
-kind_byte kinds.Memory = 0x02
-kind_byte kinds.Global = 0x03
 
 -- sort, of the kinds that an instance exports
 abbrev pub export_byte : ComponentExportKind → ℕ
@@ -168,10 +161,6 @@ option_bytes (canonical.Realloc index) = octet 0x04 ⊕ number index
 option_bytes (canonical.PostReturn index) = octet 0x05 ⊕ number index
 option_bytes canonical.Async = octet 0x06
 option_bytes (canonical.Callback index) = octet 0x07 ⊕ number index
-
--- async?
-abbrev pub flag : Bool → Spelling
-flag b = octet (if b then 0x01 else 0x00)
 
 -- the core type of a context slot
 abbrev pub context_byte : ContextType → ℕ

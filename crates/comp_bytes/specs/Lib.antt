@@ -1,8 +1,5 @@
-pub mod Core
-pub mod Spelling
 pub mod Sections
 pub mod Grammar
-pub mod Written
 pub mod Spaces
 pub mod Places
 pub mod References

@@ -1,7 +1,7 @@
 -- Definitions in sections, and a component as its sections.
 -- Core standard, binary format: sections. Component model, binary format: `component`, `section`.
 use Rattle.std.specs.Prelude.{ℕ, Bool, ◌&&◌, ◌||◌, not, ◌==◌, List, [], ◌∷◌, map, if◌then◌else◌}
-use Rattle.comp_bytes.specs.Spelling.{Spelling, ◌⊕◌, raw, octet, each, listed, sized}
+use Rattle.byte_encoding.specs.Spelling.{Spelling, ◌⊕◌, raw, octet, each, listed, sized}
 
 -- A definition: the id of its section, and what is written of it there.
 pub record Entry : Type 0 where

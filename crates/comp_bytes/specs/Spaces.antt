@@ -1,8 +1,8 @@
 -- Index spaces, and which definition makes an item of which.
 -- Component model, binary format: index spaces.
 use Rattle.std.specs.Prelude.{ℕ, ◌==◌, Bool, false, List, Option, Some, None, count_by}
-use Rattle.comp_bytes.specs.declared.space.ExportKind.{ExportKind}
-use Rattle.comp_bytes.specs.declared.space.ExportKind.TheVariants as kinds
+use Rattle.standard_kinds.specs.declared.kinds.ExportKind.{ExportKind}
+use Rattle.standard_kinds.specs.declared.kinds.ExportKind.TheVariants as kinds
 use Rattle.comp_bytes.specs.declared.space.ComponentExportKind.{ComponentExportKind}
 use Rattle.comp_bytes.specs.declared.space.ComponentExportKind.TheVariants as exports
 use Rattle.comp_bytes.specs.declared.space.Sort.{Sort}

@@ -7,12 +7,13 @@ ghost use Rattle.std.specs.Prelude.{◌≡◌, nat_eq, if◌then◌else◌, leng
 ghost use Rattle.std.specs.Cmp.Lexicographic.{pointwise};
 ghost use Rattle.std.specs.Cmp.Rules.{comparing};
 ghost use Rattle.std.proofs.Common.{rules};
-ghost use Rattle.comp_bytes.specs.Core.{is_core_module, core_preamble};
+ghost use Rattle.core_types.specs.Core.{is_core_module, core_preamble};
 
 use crate::canon::{CanonicalOption, Intrinsic};
-use crate::space::{ExportKind, Sort};
+use crate::space::Sort;
 use crate::types::{Alias, Description, ExternName, InstanceType, TypeDef};
 use comp_lists::{Bytes, Seq, Text};
+use standard_kinds::ExportKind;
 use std::marker::Model;
 
 /// What a core module begins with: its magic number, and its version.
@@ -37,7 +38,7 @@ pub struct CoreModule {
 
 impl Model for CoreModule {
     ghost use Rattle.std.specs.Prelude.{List, ℕ};
-    ghost use Rattle.comp_bytes.specs.Core.{IsCoreModule};
+    ghost use Rattle.core_types.specs.Core.{IsCoreModule};
 
     ghost Value = { List ℕ };
 

@@ -8,9 +8,8 @@
 //!
 //! Upward this crate promises: what [`component_bytes`] answers spells the definitions that were given
 //! (`Spells`), a refusal other than want of memory names a count or a size that passes 2^32 - 1
-//! (`Refused`), and bytes spell at most one list of definitions ([`one_list`]). Other values of the
-//! binary format are spelled by the same means: [`Spell`], and the calls that write numbers, lists and
-//! bytes.
+//! (`Refused`), and bytes spell at most one list of definitions ([`one_list`]). How numbers, names, lists
+//! and bytes are written is in `byte_encoding`.
 //!
 //! For those above that speak of indices and names: `specs/References.antt` (what a definition names by
 //! index), `specs/Scopes.antt` (that all of it stands before it), `specs/ScopeNames.antt` (the lists of
@@ -18,19 +17,16 @@
 //! its laws in `proofs/Places.antt`), and worked examples in `proofs/Worked.antt`.
 //!
 //! In reading order: `space` (sorts of items and their index spaces), `types` (types and names),
-//! `canon` (canonical functions), `def` (definitions), `name` (debug names), `fault` (counts and
-//! refusals), `number` (numbers, names, lists, options), `writing` (each value), `sections`
-//! (definitions in sections), `naming` (the custom section of debug names), `laws` (what holds of all
-//! spellings).
+//! `canon` (canonical functions), `def` (definitions), `name` (debug names), `writing` (each value),
+//! `sections` (definitions in sections), `naming` (the custom section of debug names), `laws` (what holds
+//! of all spellings).
 #![tactic(auto)]
 
 mod canon;
 mod def;
-mod fault;
 mod laws;
 mod name;
 mod naming;
-mod number;
 mod sections;
 mod space;
 mod types;
@@ -38,17 +34,12 @@ mod writing;
 
 pub use canon::{CanonicalOption, ContextType, Intrinsic};
 pub use def::{Argument, CoreArgument, CoreInlineExport, CoreModule, Def, Defs, Item};
-pub use fault::{BuildFault, Excess, count_of, next_count};
-pub use laws::{one_list, one_name, one_number, one_type_index};
+pub use laws::one_list;
 pub use name::Name;
 pub use naming::names_bytes;
-pub use number::{
-    Spell, put_bytes, put_count, put_each, put_index, put_tagged, put_type_index, spelled,
-};
 pub use sections::component_bytes;
-pub use space::{ComponentExportKind, ExportKind, Sort, Space};
+pub use space::{ComponentExportKind, Sort, Space, space_of_kind};
 pub use types::{
     Alias, Case, ComponentValType, DefinedType, Description, ExternName, Field, FuncTypeDef,
-    InstanceType, Member, Primitive, TypeDef,
+    InstanceType, Member, TypeDef,
 };
-pub use writing::{byte_of_flag, byte_of_kind};

@@ -1,19 +1,18 @@
 //! Definitions in sections.
-#![tactic(auto, using(crate::proofs::Pieces::writing))]
+#![tactic(auto, using(byte_encoding::proofs::Pieces::writing))]
 
 ghost use Rattle.std.specs.Prelude.{◌≡◌, ◌++◌, ◌<◌, ◌≤◌, ◌∷◌, List, ℕ, Bool, OnOk, IfOk, IfErr, length, take, drop, map, if◌then◌else◌};
-ghost use Rattle.comp_bytes.specs.Spelling.{leb, raw, octet, number, quantity, each, listed, named, optional, sized, Spelling, Fits, ◌⊕◌};
+ghost use Rattle.byte_encoding.specs.Spelling.{leb, raw, octet, number, quantity, each, listed, named, optional, sized, Spelling, Fits, ◌⊕◌};
 ghost use Rattle.comp_bytes.specs.Sections.{Entry, shares, contents, section, sections, component, section_of};
-ghost use Rattle.comp_bytes.specs.Written.{Writes, Refused};
+ghost use Rattle.byte_encoding.specs.Written.{Writes, Refused};
 ghost use Rattle.comp_bytes.specs.Grammar.{Spells, spelling_of, item, definition, core_argument, core_inline_export, argument, alias_bytes, option_bytes, extern_name, sort_bytes, description_bytes};
 
 use crate::canon::CanonicalOption;
 use crate::def::{Argument, CoreArgument, Def, Item};
-use crate::fault::BuildFault;
-use crate::number::{Spell, put_bytes, put_count, put_index, put_tagged};
 use crate::space::Sort;
 use crate::types::{Description, ExternName};
 use crate::writing::put_extern;
+use byte_encoding::{BuildFault, Spell, put_bytes, put_count, put_index, put_tagged};
 use comp_lists::{Seq, Text};
 use std::alloc::Global;
 

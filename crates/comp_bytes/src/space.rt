@@ -5,16 +5,8 @@
 ghost use Rattle.std.specs.Prelude.{◌≡◌};
 ghost use Rattle.comp_bytes.specs.Spaces.{place, kind_space, export_space, sort_space};
 
+use standard_kinds::ExportKind;
 use std::fmt;
-
-/// A kind of core item that a core instance exports.
-#[derive(Clone, Copy, Debug, PartialEq, Eq)]
-pub enum ExportKind {
-    Func,
-    Table,
-    Memory,
-    Global,
-}
 
 /// A kind of item that an instance exports.
 #[derive(Clone, Copy, Debug, PartialEq, Eq)]
@@ -77,17 +69,15 @@ impl fmt::Display for Space {
     }
 }
 
-impl ExportKind {
-    /// The space in which an item of this kind is counted.
-    pub fn space(self) -> Space
-        ensures { result ≡ kind_space self }
-    {
-        match self {
-            ExportKind::Func => Space::CoreFunc,
-            ExportKind::Table => Space::CoreTable,
-            ExportKind::Memory => Space::CoreMemory,
-            ExportKind::Global => Space::CoreGlobal,
-        }
+/// The space in which a core item of a kind is counted.
+pub fn space_of_kind(kind: ExportKind) -> Space
+    ensures { result ≡ kind_space kind }
+{
+    match kind {
+        ExportKind::Func => Space::CoreFunc,
+        ExportKind::Table => Space::CoreTable,
+        ExportKind::Memory => Space::CoreMemory,
+        ExportKind::Global => Space::CoreGlobal,
     }
 }
 
@@ -111,7 +101,7 @@ impl Sort {
         ensures { result ≡ sort_space self }
     {
         match self {
-            Sort::Core(kind) => kind.space(),
+            Sort::Core(kind) => space_of_kind(kind),
             Sort::Func => Space::Func,
             Sort::Type => Space::Type,
             Sort::Component => Space::Component,

@@ -5,27 +5,9 @@
 ghost use Rattle.std.specs.Prelude.{◌≡◌};
 ghost use Rattle.comp_bytes.specs.Spaces.{description_space};
 
-use crate::space::{ComponentExportKind, ExportKind, Space};
+use crate::space::{ComponentExportKind, Space};
 use comp_lists::{Seq, Text};
-
-/// A value type that needs no definition.
-#[derive(Clone, Copy, Debug, PartialEq, Eq, Hash)]
-pub enum Primitive {
-    Bool,
-    S8,
-    U8,
-    S16,
-    U16,
-    S32,
-    U32,
-    S64,
-    U64,
-    F32,
-    F64,
-    Char,
-    String,
-    ErrorContext,
-}
+use standard_kinds::ExportKind;
 
 /// A value type: a primitive one, or one that was defined, by its type index.
 #[derive(Clone, Copy, Debug, PartialEq, Eq)]

@@ -1,33 +1,25 @@
 //! Each definition at the end of a buffer.
-#![tactic(auto, using(crate::proofs::Pieces::writing))]
+#![tactic(auto, using(byte_encoding::proofs::Pieces::writing))]
 
 ghost use Rattle.std.specs.Prelude.{◌≡◌, ◌++◌, List, ℕ, OnOk, if◌then◌else◌};
-ghost use Rattle.comp_bytes.specs.Spelling.{signed_leb, raw, octet, number, quantity, each, listed, named, optional, Spelling, Fits, ◌⊕◌};
-ghost use Rattle.comp_bytes.specs.Written.{Writes};
-ghost use Rattle.comp_bytes.specs.Grammar.{kind_byte, export_byte, sort_bytes, primitive_byte, value_type, field, case_of, defined_type, function_result, function_type, resource_type, type_def, extern_name, description_bytes, alias_bytes, member, instance_type, option_bytes, intrinsic_bytes, flag, context_byte, core_argument, core_inline_export, argument};
+ghost use Rattle.byte_encoding.specs.Spelling.{signed_leb, raw, octet, number, quantity, each, listed, named, optional, Spelling, Fits, ◌⊕◌};
+ghost use Rattle.byte_encoding.specs.Written.{Writes};
+ghost use Rattle.standard_kinds.specs.Bytes.{kind_byte};
+ghost use Rattle.comp_bytes.specs.Grammar.{export_byte, sort_bytes, primitive_byte, value_type, field, case_of, defined_type, function_result, function_type, resource_type, type_def, extern_name, description_bytes, alias_bytes, member, instance_type, option_bytes, intrinsic_bytes, context_byte, core_argument, core_inline_export, argument};
+ghost use Rattle.byte_encoding.specs.Spelling.{flag};
 
 use crate::canon::{CanonicalOption, ContextType, Intrinsic};
 use crate::def::{Argument, CoreArgument, CoreInlineExport};
-use crate::fault::BuildFault;
-use crate::number::{Spell, put_bytes, put_index, put_name, put_tagged, put_type_index};
-use crate::space::{ComponentExportKind, ExportKind, Sort};
+use crate::space::{ComponentExportKind, Sort};
 use crate::types::{
     Alias, Case, ComponentValType, DefinedType, Description, ExternName, Field, FuncTypeDef,
-    InstanceType, Member, Primitive, TypeDef,
+    InstanceType, Member, TypeDef,
+};
+use byte_encoding::{
+    BuildFault, Spell, byte_of_flag, put_bytes, put_index, put_tagged, put_type_index,
 };
 use comp_lists::{Seq, Text};
-
-/// The byte of a kind of core item.
-pub fn byte_of_kind(kind: ExportKind) -> u8
-    ensures { result ≡ kind_byte kind }
-{
-    match kind {
-        ExportKind::Func => 0x00,
-        ExportKind::Table => 0x01,
-        ExportKind::Memory => 0x02,
-        ExportKind::Global => 0x03,
-    }
-}
+use standard_kinds::{Primitive, byte_of_kind};
 
 fn byte_of_export(kind: ComponentExportKind) -> u8
     ensures { result ≡ export_byte kind }
@@ -58,14 +50,6 @@ fn byte_of_primitive(primitive: Primitive) -> u8
         Primitive::Char => 0x74,
         Primitive::String => 0x73,
         Primitive::ErrorContext => 0x64,
-    }
-}
-
-impl Spell for Text {
-    ghost spelling = { named };
-
-    fn put(&self, out: &mut Vec<u8>) -> Result<(), BuildFault> {
-        put_name(out, self.as_str())
     }
 }
 
@@ -347,13 +331,6 @@ fn put_with_options(
     put_tagged(out, tag, &index)?;
     options.put(out)?;
     Ok(())
-}
-
-/// The byte of a flag.
-pub fn byte_of_flag(set: bool) -> u8
-    ensures { result ≡ (if set then 0x01 else 0x00) }
-{
-    if set { 0x01 } else { 0x00 }
 }
 
 fn byte_of_context(ty: ContextType) -> u8

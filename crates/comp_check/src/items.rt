@@ -13,6 +13,7 @@ use crate::scope::{Lack, Scopes};
 use crate::types::{check_alias, check_type};
 use comp_bytes::{
     Alias, Argument, CanonicalOption, CoreArgument, Def, Description, Item, Member, Sort, Space,
+    space_of_kind,
 };
 
 fn alias_space(alias: &Alias) -> Space
@@ -20,7 +21,7 @@ fn alias_space(alias: &Alias) -> Space
 {
     match alias {
         Alias::Export { kind, .. } => kind.space(),
-        Alias::CoreExport { kind, .. } => kind.space(),
+        Alias::CoreExport { kind, .. } => space_of_kind(*kind),
         Alias::Outer { .. } => Space::Type,
     }
 }

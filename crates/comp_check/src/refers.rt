@@ -10,7 +10,7 @@ ghost use Rattle.comp_check.specs.Lacking.{lacking, Finds};
 use crate::scope::{Lack, Scopes};
 use comp_bytes::{
     Argument, CanonicalOption, Case, ComponentValType, CoreArgument, CoreInlineExport, Description,
-    Field, Space,
+    Field, Space, space_of_kind,
 };
 
 /// What names items by index.
@@ -114,7 +114,7 @@ impl Refers for CoreInlineExport {
     ghost references = { λ e. own (kind_space e.kind) e.index ∷ [] };
 
     fn check(&self, scopes: &Scopes) -> Result<(), Lack> {
-        scopes.check(self.kind.space(), self.index)
+        scopes.check(space_of_kind(self.kind), self.index)
     }
 }
 

@@ -9,7 +9,7 @@ use Rattle.comp_lists.proofs.Lists.{AllZip-weaker, AllByRecursion-weaker}
 use Rattle.comp_bytes.specs.ScopeNames.{def_import, def_export}
 use Rattle.comp_bytes.specs.declared.space.Space.{Space}
 use Rattle.comp_bytes.specs.declared.space.Space.TheVariants as spaces
-use Rattle.comp_bytes.specs.declared.space.ExportKind.TheVariants as kinds
+use Rattle.standard_kinds.specs.declared.kinds.ExportKind.TheVariants as kinds
 use Rattle.comp_bytes.specs.declared.space.Sort.TheVariants as sorts
 use Rattle.comp_bytes.specs.declared.types.Alias.TheVariants as aliases
 use Rattle.comp_bytes.specs.declared.types.TypeDef.{TypeDef}
@@ -27,7 +27,7 @@ use Rattle.comp_roles.specs.declared.imports.Import.{Import}
 use Rattle.comp_roles.specs.declared.imports.Import.TheVariants as imports
 use Rattle.comp_worlds.specs.declared.world.ComponentWorld.{ComponentWorld}
 use Rattle.comp_shims.specs.Targets.{Main, OfRoot, Lowered, Lifted}
-use Rattle.core_bytes.specs.declared.types.ValType.{ValType}
+use Rattle.core_types.specs.declared.types.ValType.{ValType}
 use Rattle.core_runs.specs.Store.{Answer, Now}
 use Rattle.comp_shims.specs.Store.{Thing, Export, Lowering, Lifting, UserInstance, Store}
 use Rattle.comp_state.specs.Roles.{used_functions}

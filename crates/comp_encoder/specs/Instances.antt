@@ -6,7 +6,7 @@ use Rattle.comp_lists.specs.Found.{found}
 use Rattle.comp_bytes.specs.Spaces.{kind_space, export_space, description_space}
 use Rattle.comp_bytes.specs.declared.space.Space.{Space}
 use Rattle.comp_bytes.specs.declared.space.Space.TheVariants as spaces
-use Rattle.comp_bytes.specs.declared.space.ExportKind.{ExportKind}
+use Rattle.standard_kinds.specs.declared.kinds.ExportKind.{ExportKind}
 use Rattle.comp_bytes.specs.declared.types.ComponentValType.{ComponentValType}
 use Rattle.comp_bytes.specs.declared.types.ComponentValType.TheVariants as values
 use Rattle.comp_bytes.specs.declared.types.Field.{Field}

@@ -13,7 +13,7 @@ use Rattle.comp_roles.specs.CoreImports.{CoreImport}
 use Rattle.wit_data.specs.declared.worlds.WorldKey.{WorldKey}
 use Rattle.comp_roles.specs.declared.exports.Export.{Export}
 use Rattle.comp_worlds.specs.declared.world.ComponentWorld.{ComponentWorld}
-use Rattle.core_bytes.specs.declared.types.ValType.{ValType}
+use Rattle.core_types.specs.declared.types.ValType.{ValType}
 use Rattle.core_runs.specs.Values.{fit}
 use Rattle.core_runs.specs.Store.{Answer, Gives, Traps}
 use Rattle.comp_shims.specs.Targets.{UserModule, Target}

@@ -5,7 +5,7 @@ use Rattle.std.specs.List.{AllZip}
 use Rattle.comp_bytes.specs.declared.space.Space.{Space}
 use Rattle.comp_bytes.specs.declared.space.Space.TheVariants as spaces
 use Rattle.comp_bytes.specs.declared.types.FuncTypeDef.{FuncTypeDef}
-use Rattle.core_bytes.specs.declared.types.FuncType.{FuncType}
+use Rattle.core_types.specs.declared.types.FuncType.{FuncType}
 use Rattle.core_runs.specs.Store.{Opaque}
 use Rattle.comp_worlds.specs.declared.world.ComponentWorld.{ComponentWorld}
 use Rattle.comp_shims.specs.Targets.{WorldFunction, OfRoot, OfInterface, ExportPlace, TargetOption, Realloc, Encoding, Async, PostReturn, Callback, Target, Lowered, ExportOf, Lifted}

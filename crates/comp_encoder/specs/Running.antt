@@ -16,8 +16,8 @@ use Rattle.comp_bytes.specs.declared.def.Item.{Item}
 use Rattle.comp_bytes.specs.declared.def.Item.TheVariants as items
 use Rattle.comp_bytes.specs.declared.def.Def.{Def}
 use Rattle.comp_bytes.specs.declared.def.Def.TheVariants as defs
-use Rattle.comp_roles.specs.declared.encoding.StringEncoding.TheVariants as encodings
-use Rattle.core_bytes.specs.declared.types.FuncType.{FuncType}
+use Rattle.standard_kinds.specs.declared.kinds.StringEncoding.TheVariants as encodings
+use Rattle.core_types.specs.declared.types.FuncType.{FuncType}
 use Rattle.core_runs.specs.Store.{Answer}
 use Rattle.comp_shims.specs.Store.{Thing, Export, HeldOption, HeldEncoding, HeldMemory, HeldRealloc, HeldPostReturn, HeldAsync, HeldCallback, Lowering, IntrinsicOf, Function, Imported, Lifting, InstanceTypeOf, ComponentItem}
 use Rattle.comp_encoder.specs.Machine.{Machine, Outcome, Done, Stuck, Next, with_some, all_some, address_at, export_of, with_item, new_core_module, new_core_instance, new_core_function, new_function, new_type, new_component, new_instance}

@@ -10,9 +10,9 @@ use Rattle.comp_bytes.specs.declared.canon.ContextType.{ContextType}
 use Rattle.comp_bytes.specs.declared.canon.ContextType.TheVariants as contexts
 use Rattle.comp_bytes.specs.declared.canon.Intrinsic.{Intrinsic}
 use Rattle.comp_bytes.specs.declared.canon.Intrinsic.TheVariants as intrinsics
-use Rattle.core_bytes.specs.declared.types.ValType.{ValType}
-use Rattle.core_bytes.specs.declared.types.ValType.TheVariants.{I32, I64}
-use Rattle.core_bytes.specs.declared.types.FuncType.{FuncType}
+use Rattle.core_types.specs.declared.types.ValType.{ValType}
+use Rattle.core_types.specs.declared.types.ValType.TheVariants.{I32, I64}
+use Rattle.core_types.specs.declared.types.FuncType.{FuncType}
 use Rattle.wit_data.specs.declared.functions.AbiVariant.{AbiVariant}
 use Rattle.wit_data.specs.declared.functions.AbiVariant.TheVariants as abis
 use Rattle.comp_roles.specs.declared.exports.Export.{Export}

@@ -4,7 +4,7 @@ ghost use Rattle.std.specs.Prelude.{◌≡◌};
 ghost use Rattle.comp_encoder.specs.declared.fault.EncodeFault.TheVariants.{Memory};
 
 use crate::output::OutputFault;
-use comp_bytes::Excess;
+use byte_encoding::Excess;
 use comp_check::CheckFault;
 use comp_lists::Text;
 use comp_state::StateFault;

@@ -9,8 +9,8 @@ ghost use Rattle.comp_encoder.specs.Component.{IsComponentOf};
 ghost use Rattle.comp_state.specs.Causes.{of_build};
 ghost use Rattle.comp_encoder.specs.Outputs.{IsOutputRefusal, NoOutputCause};
 
+use byte_encoding::BuildFault;
 use comp_builder::ComponentBuilder;
-use comp_bytes::BuildFault;
 use comp_check::{CheckFault, check};
 use comp_state::{StateFault, encode_world};
 use comp_worlds::ComponentWorld;

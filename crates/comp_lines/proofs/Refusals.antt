@@ -1,8 +1,8 @@
 -- A call that gives a refusal on.
 use Rattle.std.proofs.Common.{◌≡◌, ℕ, List, subst, sym, Result, Ok, Err}
 use Rattle.std.specs.Result.{IsErrAnd, IfErr}
-use Rattle.comp_bytes.specs.Written.{Refused}
-use Rattle.comp_bytes.specs.declared.fault.BuildFault.{BuildFault}
+use Rattle.byte_encoding.specs.Written.{Refused}
+use Rattle.byte_encoding.specs.declared.fault.BuildFault.{BuildFault}
 
 pub exits : {X : Type 0} (r : Result X BuildFault) (e : BuildFault) (counts : List ℕ) → IsErrAnd r (λ y. y ≡ e) → Refused counts e → IfErr r (Refused counts)
 exits (Ok x) e counts h f = absurd h

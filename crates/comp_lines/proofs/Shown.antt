@@ -4,16 +4,16 @@ use Rattle.std.specs.Prelude.{IfErr, ◌<◌, ◌^◌}
 use Rattle.std.specs.List.{flat_map}
 use Rattle.std.proofs.lemmas.Grind.{flat_map-append}
 use Rattle.comp_lists.proofs.Lists.{AllByRecursion-front, AllByRecursion-back, AllByRecursion-contains}
-use Rattle.comp_bytes.specs.Spelling.{Spelling, Fits, each}
+use Rattle.byte_encoding.specs.Spelling.{Spelling, Fits, each}
 use Rattle.comp_bytes.specs.Sections.{Entry, Section, shares, first_id, section, contents, component}
 use Rattle.comp_bytes.specs.Grammar.{item, definition, extern_name, description_bytes, Spells}
-use Rattle.comp_bytes.specs.Written.{Refused}
+use Rattle.byte_encoding.specs.Written.{Refused}
 use Rattle.comp_bytes.specs.declared.def.Item.{Item}
 use Rattle.comp_bytes.specs.declared.def.Item.TheVariants as items
 use Rattle.comp_bytes.specs.declared.def.Def.{Def}
 use Rattle.comp_bytes.specs.declared.def.Def.TheVariants as defs
-use Rattle.comp_bytes.specs.declared.fault.BuildFault.{BuildFault}
-use Rattle.comp_bytes.specs.declared.fault.BuildFault.TheVariants.{Memory, TooMany}
+use Rattle.byte_encoding.specs.declared.fault.BuildFault.{BuildFault}
+use Rattle.byte_encoding.specs.declared.fault.BuildFault.TheVariants.{Memory, TooMany}
 use Rattle.comp_bytes.proofs.Groups.{group_section, grouped}
 use Rattle.comp_lines.specs.Lines.{shown, shown_counts}
 

@@ -1,8 +1,8 @@
 -- What a call that writes at the end of a text answers, and what it may refuse.
 use Rattle.std.specs.Prelude.{ℕ, ◌≡◌, List, ◌++◌, Result, Ok, Err}
-use Rattle.comp_bytes.specs.Spelling.{Fits}
-use Rattle.comp_bytes.specs.Written.{Refused}
-use Rattle.comp_bytes.specs.declared.fault.BuildFault.{BuildFault}
+use Rattle.byte_encoding.specs.Spelling.{Fits}
+use Rattle.byte_encoding.specs.Written.{Refused}
+use Rattle.byte_encoding.specs.declared.fault.BuildFault.{BuildFault}
 
 -- The text stands behind what was there, where none of the counts passes 32 bits; only such a count is refused. After a
 -- refusal the text is of no use.

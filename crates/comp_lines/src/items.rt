@@ -12,9 +12,10 @@ ghost use Rattle.comp_bytes.specs.declared.space.Space.TheVariants.{Component};
 
 use crate::parts::{Told, put_each, put_extern, put_item, put_numbered};
 use crate::texts::{put_hex, put_number, put_quoted};
+use byte_encoding::{BuildFault, Spell, spelled};
 use comp_bytes::{
-    Alias, BuildFault, CanonicalOption, CoreInlineExport, Description, ExternName, Intrinsic, Item,
-    Sort, Space, Spell, spelled,
+    Alias, CanonicalOption, CoreInlineExport, Description, ExternName, Intrinsic, Item, Sort, Space,
+    space_of_kind,
 };
 use comp_lists::{Seq, Text};
 use std::alloc::Global;
@@ -182,7 +183,7 @@ fn space_of_alias(aliased: &Alias) -> Space
 {
     match aliased {
         Alias::Export { kind, .. } => kind.space(),
-        Alias::CoreExport { kind, .. } => kind.space(),
+        Alias::CoreExport { kind, .. } => space_of_kind(*kind),
         Alias::Outer { .. } => Space::Type,
     }
 }

@@ -3,15 +3,16 @@
 ghost use Rattle.std.specs.Prelude.{◌≡◌, ◌+◌, ◌-◌, ◌^◌, ◌<◌, [], ◌∷◌, ◌++◌, IfErr, IfOk, OnOk, string_bytes, map, length, get_or, List, ℕ, Option, Some, None, if◌then◌else◌};
 ghost use Rattle.std.specs.List.{flat_map};
 ghost use Rattle.comp_bytes.specs.Spaces.{place, is_space, item_space, space_of};
-ghost use Rattle.comp_bytes.specs.Spelling.{Fits};
+ghost use Rattle.byte_encoding.specs.Spelling.{Fits};
 ghost use Rattle.comp_bytes.specs.Grammar.{Spells};
-ghost use Rattle.comp_bytes.specs.Written.{Refused};
+ghost use Rattle.byte_encoding.specs.Written.{Refused};
 ghost use Rattle.comp_bytes.specs.declared.space.Space.{Space};
 ghost use Rattle.comp_bytes.specs.declared.def.Def.TheVariants as defs;
 ghost use Rattle.comp_lines.specs.Lines.{item_line, shown, scope_lines, nested_lines, definition_lines, lines, shown_counts};
 
 use crate::items::{put_component_line, put_item_line, space_of_item};
-use comp_bytes::{BuildFault, Def, Defs, Item, Space};
+use byte_encoding::BuildFault;
+use comp_bytes::{Def, Defs, Item, Space};
 use std::alloc::Global;
 
 /// How many items each space has, in the order of [`Space`].

@@ -7,10 +7,9 @@ ghost use Rattle.comp_lines.specs.Texts.{quoted};
 ghost use Rattle.comp_lines.specs.Lines.{space_word, kind_word, core_argument, core_export, argument, option, extern};
 
 use crate::texts::{put_number, put_quoted};
-use comp_bytes::{
-    Argument, CanonicalOption, CoreArgument, CoreInlineExport, ExportKind, ExternName, Space,
-};
+use comp_bytes::{Argument, CanonicalOption, CoreArgument, CoreInlineExport, ExternName, Space};
 use comp_lists::Text;
+use standard_kinds::ExportKind;
 use std::alloc::AllocError;
 
 /// The word of a space.

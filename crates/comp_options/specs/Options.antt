@@ -20,8 +20,8 @@ use Rattle.wit_data.specs.Signatures.{is_indirect, is_returned_in_memory}
 use Rattle.wit_data.specs.Sound.{HasTypeId}
 use Rattle.comp_options.specs.declared.required.Direction.{Direction}
 use Rattle.comp_options.specs.declared.required.Direction.TheVariants as ways
-use Rattle.comp_roles.specs.declared.encoding.StringEncoding.{StringEncoding}
-use Rattle.comp_roles.specs.declared.encoding.StringEncoding.TheVariants as encodings
+use Rattle.standard_kinds.specs.declared.kinds.StringEncoding.{StringEncoding}
+use Rattle.standard_kinds.specs.declared.kinds.StringEncoding.TheVariants as encodings
 use Rattle.comp_roles.specs.declared.payloads.PayloadType.{PayloadType}
 use Rattle.comp_roles.specs.declared.payloads.PayloadType.TheVariants as payloads
 use Rattle.comp_roles.specs.declared.payloads.PayloadFuncKind.{PayloadFuncKind}

@@ -13,7 +13,8 @@ ghost use Rattle.comp_options.specs.declared.required.OptionFault.TheVariants.{N
 
 use bitflags::{Flag, Flags, bitflag_items};
 use comp_bytes::CanonicalOption;
-use comp_roles::{PayloadFuncKind, PayloadInfo, PayloadType, StringEncoding};
+use comp_roles::{PayloadFuncKind, PayloadInfo, PayloadType};
+use standard_kinds::StringEncoding;
 use std::iter::ExactSizeIterator;
 use std::marker::Model;
 use thiserror::Error;

@@ -5,8 +5,8 @@ use Rattle.std.specs.List.{flat_map, AllByRecursion}
 use Rattle.std.proofs.lemmas.Bool.{eq-eqb, eqb-true, ne_eqb}
 use Rattle.std.proofs.lemmas.List.{append-nil, length-append}
 use Rattle.std.proofs.lemmas.Slice.Eq.{bytes_eq-Decides}
-use Rattle.comp_bytes.specs.Core.{core_preamble}
-use Rattle.comp_bytes.specs.Spelling.{Spelling, Fits, ◌⊕◌, octet, leb, each, listed, sized}
+use Rattle.core_types.specs.Core.{core_preamble}
+use Rattle.byte_encoding.specs.Spelling.{Spelling, Fits, ◌⊕◌, octet, leb, each, listed, sized}
 use Rattle.comp_bytes.specs.Sections.{Entry, Section, shares, before, sections, contents, section, component}
 use Rattle.comp_bytes.specs.Grammar.{item, definition, Spells}
 use Rattle.comp_bytes.specs.declared.def.Item.{Item}

@@ -1,7 +1,8 @@
 -- Options of canonical functions and intrinsics are read exactly.
 use Rattle.std.proofs.Common.{◌≡◌, ℕ, Bool, true, false, List, [], ◌∷◌, ◌++◌, Option, Some, refl}
-use Rattle.comp_bytes.specs.Spelling.{Spelling, Fits, ◌⊕◌, octet, number, listed}
-use Rattle.comp_bytes.specs.Grammar.{function_result, option_bytes, flag, context_byte, intrinsic_bytes}
+use Rattle.byte_encoding.specs.Spelling.{Spelling, Fits, ◌⊕◌, octet, number, listed}
+use Rattle.comp_bytes.specs.Grammar.{function_result, option_bytes, context_byte, intrinsic_bytes}
+use Rattle.byte_encoding.specs.Spelling.{flag}
 use Rattle.comp_bytes.specs.declared.types.ComponentValType.{ComponentValType}
 use Rattle.comp_bytes.specs.declared.canon.CanonicalOption.{CanonicalOption}
 use Rattle.comp_bytes.specs.declared.canon.CanonicalOption.TheVariants as canonical

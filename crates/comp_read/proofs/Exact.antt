@@ -6,8 +6,8 @@ use Rattle.std.specs.Str.{IsUtf8, is_utf8}
 use Rattle.std.proofs.lemmas.Bool.{eq-eqb, cases_lt, ltb-true, lt-ltb, ltb-false, le-ltb, eqb-true}
 use Rattle.std.proofs.lemmas.List.{take_at, drop_at, take-append-drop, length-append, length-take}
 use Rattle.std.proofs.lemmas.Str.{IsUtf8-from_is_utf8, is_utf8-from_IsUtf8}
-use Rattle.comp_bytes.specs.Spelling.{Spelling, Fits, ◌⊕◌, raw, octet, groups_of_seven, leb128, leb, signed_leb, number, quantity, each, listed, named, optional}
-use Rattle.comp_bytes.proofs.Pieces.{fits_append}
+use Rattle.byte_encoding.specs.Spelling.{Spelling, Fits, ◌⊕◌, raw, octet, groups_of_seven, leb128, leb, signed_leb, number, quantity, each, listed, named, optional}
+use Rattle.byte_encoding.proofs.Pieces.{fits_append}
 use Rattle.comp_read.specs.Reading.{◌>>=◌, Read, Reader, made_at, then_at, expect, behind, before_byte, tagged, digits_at, number_at, type_index_at, sized_at, name_at, items_at, list_at, option_at}
 use Rattle.comp_read.specs.Writable.{IsIndex, Optionally}
 

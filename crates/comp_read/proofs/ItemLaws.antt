@@ -4,11 +4,11 @@ use Rattle.std.specs.List.{AllByRecursion}
 use Rattle.std.proofs.lemmas.Bool.{eqb-true, eqb-false}
 use Rattle.std.proofs.lemmas.List.{append-nil, nil_from_length}
 use Rattle.std.proofs.lemmas.Slice.Eq.{bytes_eq-Decides}
-use Rattle.comp_bytes.specs.Core.{is_core_module, core_preamble}
-use Rattle.comp_bytes.specs.Spelling.{Spelling, Fits, ◌⊕◌, raw, octet, number, quantity, each, listed, optional}
+use Rattle.core_types.specs.Core.{is_core_module, core_preamble}
+use Rattle.byte_encoding.specs.Spelling.{Spelling, Fits, ◌⊕◌, raw, octet, number, quantity, each, listed, optional}
 use Rattle.comp_bytes.specs.Sections.{Entry, shares, contents}
 use Rattle.comp_bytes.specs.Grammar.{sort_bytes, extern_name, description_bytes, option_bytes, core_argument, core_inline_export, argument, item}
-use Rattle.comp_bytes.specs.declared.space.ExportKind.{ExportKind}
+use Rattle.standard_kinds.specs.declared.kinds.ExportKind.{ExportKind}
 use Rattle.comp_bytes.specs.declared.space.Sort.{Sort}
 use Rattle.comp_bytes.specs.declared.types.ExternName.{ExternName}
 use Rattle.comp_bytes.specs.declared.types.Description.{Description}

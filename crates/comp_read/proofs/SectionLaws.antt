@@ -6,7 +6,7 @@ use Rattle.std.proofs.lemmas.Bool.{eq-eqb, eqb-true}
 use Rattle.std.proofs.lemmas.Bool.Decides.{Decides-eqb}
 use Rattle.std.proofs.lemmas.Slice.Eq.{starts_is}
 use Rattle.std.proofs.lemmas.List.{append-nil, nil_from_length}
-use Rattle.comp_bytes.specs.Spelling.{Spelling, Fits, ◌⊕◌, raw, octet, quantity, each, named, sized}
+use Rattle.byte_encoding.specs.Spelling.{Spelling, Fits, ◌⊕◌, raw, octet, quantity, each, named, sized}
 use Rattle.comp_bytes.specs.Sections.{Entry, Section, shares, before, sections, first_id, section_of, contents, section, preamble, component}
 use Rattle.comp_bytes.specs.Grammar.{item, definition, Spells}
 use Rattle.comp_bytes.specs.declared.def.Item.{Item}

@@ -5,7 +5,7 @@ use Rattle.std.proofs.lemmas.Bool.{eq-eqb, ne_eqb}
 use Rattle.std.proofs.lemmas.List.{append-nil, length-append}
 use Rattle.comp_read.specs.declared.fault.ReadFault.{ReadFault}
 use Rattle.comp_read.specs.declared.fault.ReadFault.TheVariants as reads
-use Rattle.comp_bytes.specs.Spelling.{◌⊕◌, octet, named, leb}
+use Rattle.byte_encoding.specs.Spelling.{◌⊕◌, octet, named, leb}
 use Rattle.comp_read.specs.SectionReaders.{Placed, ◌>>>◌, told_at, FailsAt, Contents, repeats, header_at, section_at, sections_at}
 use Rattle.comp_read.proofs.Exact.{Took, step, some_is, guarded_not, sized_exact}
 

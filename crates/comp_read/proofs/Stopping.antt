@@ -4,7 +4,7 @@ use Rattle.std.specs.Prelude.{Ok, Err}
 use Rattle.std.specs.List.{starts_with, AllByRecursion}
 use Rattle.std.proofs.lemmas.Bool.{eqb-true, eqb-false, eq-eqb}
 use Rattle.std.proofs.lemmas.List.{length-append}
-use Rattle.comp_bytes.specs.Spelling.{Spelling, Fits, leb, each, named}
+use Rattle.byte_encoding.specs.Spelling.{Spelling, Fits, leb, each, named}
 use Rattle.comp_bytes.specs.Sections.{Entry, Section, sections, section, preamble, component}
 use Rattle.comp_bytes.specs.Grammar.{item, definition}
 use Rattle.comp_bytes.specs.declared.def.Item.{Item}

@@ -2,10 +2,10 @@
 use Rattle.std.proofs.Common.{◌≡◌, ℕ, Bool, true, false, eqb, List, [], ◌∷◌, ◌++◌, Option, Some, None, refl, ap, subst, ◌∙◌}
 use Rattle.std.specs.Prelude.{if◌then◌else◌}
 use Rattle.std.specs.List.{AllByRecursion}
-use Rattle.comp_bytes.specs.Spelling.{Spelling, Fits, ◌⊕◌, octet, listed, optional}
+use Rattle.byte_encoding.specs.Spelling.{Spelling, Fits, ◌⊕◌, octet, listed, optional}
 use Rattle.comp_bytes.specs.Grammar.{primitive_byte, value_type, field, defined_type, function_result, function_type, type_def, member}
-use Rattle.comp_bytes.specs.declared.types.Primitive.{Primitive}
-use Rattle.comp_bytes.specs.declared.types.Primitive.TheVariants as primitives
+use Rattle.standard_kinds.specs.declared.kinds.Primitive.{Primitive}
+use Rattle.standard_kinds.specs.declared.kinds.Primitive.TheVariants as primitives
 use Rattle.comp_bytes.specs.declared.types.ComponentValType.{ComponentValType}
 use Rattle.comp_bytes.specs.declared.types.Field.{Field}
 use Rattle.comp_bytes.specs.declared.types.DefinedType.{DefinedType}

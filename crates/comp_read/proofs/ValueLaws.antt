@@ -2,16 +2,17 @@
 use Rattle.std.proofs.Common.{◌≡◌, ℕ, ◌+◌, ◌/◌, ◌%◌, ◌<◌, ◌≤◌, true, false, cond, ltb, eqb, List, [], ◌∷◌, ◌++◌, Option, Some, None, refl, sym, ap, subst, ◌∙◌, arith, inl, inr, ◌⊎◌}
 use Rattle.std.specs.Str.{IsUtf8}
 use Rattle.std.proofs.lemmas.Bool.{cases_lt, lt-ltb, le-ltb, eqb-true}
-use Rattle.comp_bytes.specs.Spelling.{Spelling, Fits, ◌⊕◌, octet, groups_of_seven, leb128, signed_leb, number, named}
-use Rattle.comp_bytes.specs.Grammar.{kind_byte, export_byte, sort_bytes, primitive_byte, value_type, field, case_of, function_result, extern_name, description_bytes, alias_bytes}
-use Rattle.comp_bytes.specs.declared.space.ExportKind.{ExportKind}
-use Rattle.comp_bytes.specs.declared.space.ExportKind.TheVariants as kinds
+use Rattle.byte_encoding.specs.Spelling.{Spelling, Fits, ◌⊕◌, octet, groups_of_seven, leb128, signed_leb, number, named}
+use Rattle.standard_kinds.specs.Bytes.{kind_byte}
+use Rattle.comp_bytes.specs.Grammar.{export_byte, sort_bytes, primitive_byte, value_type, field, case_of, function_result, extern_name, description_bytes, alias_bytes}
+use Rattle.standard_kinds.specs.declared.kinds.ExportKind.{ExportKind}
+use Rattle.standard_kinds.specs.declared.kinds.ExportKind.TheVariants as kinds
 use Rattle.comp_bytes.specs.declared.space.ComponentExportKind.{ComponentExportKind}
 use Rattle.comp_bytes.specs.declared.space.ComponentExportKind.TheVariants as exports
 use Rattle.comp_bytes.specs.declared.space.Sort.{Sort}
 use Rattle.comp_bytes.specs.declared.space.Sort.TheVariants as sorts
-use Rattle.comp_bytes.specs.declared.types.Primitive.{Primitive}
-use Rattle.comp_bytes.specs.declared.types.Primitive.TheVariants as primitives
+use Rattle.standard_kinds.specs.declared.kinds.Primitive.{Primitive}
+use Rattle.standard_kinds.specs.declared.kinds.Primitive.TheVariants as primitives
 use Rattle.comp_bytes.specs.declared.types.ComponentValType.{ComponentValType}
 use Rattle.comp_bytes.specs.declared.types.ComponentValType.TheVariants as values
 use Rattle.comp_bytes.specs.declared.types.Field.{Field}

@@ -1,7 +1,7 @@
 -- Reading the definitions of one section. Component model, binary format: `section`, `core:instance`, `instance`,
 -- `import`, `export`.
 use Rattle.std.specs.Prelude.{ℕ, ◌==◌, if◌then◌else◌, List, [], ◌∷◌, length, Option, Some, None}
-use Rattle.comp_bytes.specs.Core.{is_core_module}
+use Rattle.core_types.specs.Core.{is_core_module}
 use Rattle.comp_bytes.specs.declared.def.CoreArgument.{CoreArgument}
 use Rattle.comp_bytes.specs.declared.def.CoreInlineExport.{CoreInlineExport}
 use Rattle.comp_bytes.specs.declared.def.Argument.{Argument}

@@ -2,7 +2,7 @@
 -- no longer beginning of them is one. Component model, binary format: `component`, `section`.
 use Rattle.std.specs.Prelude.{ℕ, ◌≡◌, ◌+◌, ◌<◌, ◌≤◌, ◌^◌, nat_eq, false, true, List, ◌∷◌, ◌++◌, length, map, ◌⊎◌}
 use Rattle.std.specs.List.{AllByRecursion, starts_with}
-use Rattle.comp_bytes.specs.Spelling.{Fits, leb, named}
+use Rattle.byte_encoding.specs.Spelling.{Fits, leb, named}
 use Rattle.comp_bytes.specs.Sections.{Entry, preamble, component}
 use Rattle.comp_bytes.specs.Grammar.{item, definition}
 use Rattle.comp_read.specs.Writable.{IsItem, IsDefinition}

@@ -9,9 +9,9 @@ ghost use Rattle.comp_read.specs.PartReaders.{kind_at, sort_at, primitive_of, va
 use crate::fault::PartFault;
 use crate::number::{Decode, byte, expect_byte, name, number, option, type_index};
 use comp_bytes::{
-    Alias, Case, ComponentExportKind, ComponentValType, Description, ExportKind, ExternName, Field,
-    Primitive, Sort,
+    Alias, Case, ComponentExportKind, ComponentValType, Description, ExternName, Field, Sort,
 };
+use standard_kinds::{ExportKind, Primitive};
 use std::alloc::Global;
 
 #[tactic(auto, unfolding(crate::specs::PartReaders::kind_at))]

@@ -11,7 +11,7 @@ use crate::roles::{
     TaskHook, first,
 };
 use comp_lists::{Keyed, Text};
-use core_bytes::MemoryType;
+use core_types::MemoryType;
 use indexmap::map::Iter;
 use std::alloc::{AllocError, Global};
 use wit_data::{AbiVariant, Function, InterfaceId, TypeId, WorldKey};

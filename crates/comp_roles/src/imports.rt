@@ -5,12 +5,11 @@ ghost use Rattle.std.specs.List.{flat_map};
 ghost use Rattle.comp_roles.specs.CoreImports.{imports_from};
 ghost use Rattle.comp_roles.specs.Lookups.{memory_of_fields, imported_memory, core_import, field_imports};
 
-use crate::encoding::StringEncoding;
 use crate::libraries::{Item, MainOrAdapter};
 use crate::payloads::PayloadInfo;
-use comp_bytes::ExportKind;
 use comp_lists::{Keyed, Text};
-use core_bytes::{FuncType, MemoryType, ValType};
+use core_types::{FuncType, MemoryType, ValType};
+use standard_kinds::{ExportKind, StringEncoding};
 use std::alloc::{AllocError, Global};
 use wit_data::{AbiVariant, Function, InterfaceId, TypeId, WorldKey};
 

@@ -5,7 +5,7 @@
 //! crate above. Upward this crate promises that its look-ups answer what `specs/Lookups.antt` says: the first
 //! entry that is what is looked for, in the order of the module.
 //!
-//! In reading order: `encoding` (string encodings), `libraries` (what the imports of a library are met
+//! In reading order: `libraries` (what the imports of a library are met
 //! with), `payloads` (streams and futures), `imports` and `exports` (what the imports and exports of a
 //! core module are for, and what is looked up in them), `roles` (what exports are looked for),
 //! `metadata` (the encodings of functions), `offered` (the types of core exports).
@@ -14,7 +14,6 @@
 //! a module names.
 #![tactic(auto)]
 
-mod encoding;
 mod exports;
 mod imports;
 mod libraries;
@@ -23,7 +22,6 @@ mod offered;
 mod payloads;
 mod roles;
 
-pub use encoding::StringEncoding;
 pub use exports::{Export, ExportMap};
 pub use imports::{Import, ImportInstance, ImportMap, NamedImport};
 pub use libraries::{Instance, Item, LibraryArgument, LibraryInfo, MainOrAdapter};

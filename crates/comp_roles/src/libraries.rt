@@ -2,8 +2,8 @@
 
 ghost use Rattle.std.specs.Prelude.{◌≡◌, IfOk};
 
-use comp_bytes::ExportKind;
 use comp_lists::{Seq, Text, TryClone};
+use standard_kinds::ExportKind;
 use std::alloc::{AllocError, Global};
 
 /// A user module that others name: main, or an adapter by its name.

@@ -1,7 +1,7 @@
 //! What is known of a core module beside its bytes.
 
-use crate::encoding::StringEncoding;
 use comp_lists::{Keyed, Text};
+use standard_kinds::StringEncoding;
 use std::hash::{Hash, Hasher};
 use wit_data::WorldKey;
 

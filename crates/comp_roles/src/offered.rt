@@ -1,6 +1,6 @@
 //! What a core module offers to others.
 
-use core_bytes::{FuncType, GlobalType, MemoryType, TableType};
+use core_types::{FuncType, GlobalType, MemoryType, TableType};
 
 /// The type of what a core module exports.
 ///

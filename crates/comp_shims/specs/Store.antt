@@ -7,7 +7,7 @@ use Rattle.comp_bytes.specs.declared.types.FuncTypeDef.{FuncTypeDef}
 use Rattle.comp_bytes.specs.declared.types.Member.{Member}
 use Rattle.comp_bytes.specs.declared.canon.Intrinsic.{Intrinsic}
 use Rattle.comp_bytes.specs.declared.def.Item.{Item}
-use Rattle.comp_roles.specs.declared.encoding.StringEncoding.{StringEncoding}
+use Rattle.standard_kinds.specs.declared.kinds.StringEncoding.{StringEncoding}
 use Rattle.core_runs.specs.Store.{Store as CodeStore}
 
 -- an item of an index space, by the address of what it is

@@ -2,7 +2,7 @@
 -- (Canonical ABI: `canon lower`, `canon lift` and their options). A target names modules, functions and
 -- exports, and never an index.
 use Rattle.std.specs.Prelude.{ℕ, List}
-use Rattle.comp_roles.specs.declared.encoding.StringEncoding.{StringEncoding}
+use Rattle.standard_kinds.specs.declared.kinds.StringEncoding.{StringEncoding}
 
 -- a user module: main, or an adapter by its name
 pub data UserModule : Type 0 where

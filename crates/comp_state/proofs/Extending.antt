@@ -4,7 +4,7 @@ use Rattle.comp_builder.specs.Built.{Built, Adds, name_of}
 use Rattle.comp_bytes.specs.Spaces.{items_in}
 use Rattle.comp_bytes.specs.declared.def.Def.{Def}
 use Rattle.comp_bytes.specs.declared.space.Space.{Space}
-use Rattle.comp_bytes.specs.declared.fault.BuildFault.{BuildFault}
+use Rattle.byte_encoding.specs.declared.fault.BuildFault.{BuildFault}
 use Rattle.comp_state.specs.Encoding.{Extends}
 
 pub extends_none : (b : Built) → Extends b b

@@ -19,7 +19,7 @@ use Rattle.comp_builder.specs.Built.{Built}
 use Rattle.comp_bytes.specs.declared.space.Sort.{Sort}
 use Rattle.comp_bytes.specs.declared.space.Sort.TheVariants as sorts
 use Rattle.comp_bytes.specs.declared.space.ComponentExportKind.TheVariants as exports
-use Rattle.comp_bytes.specs.declared.space.ExportKind.TheVariants as kinds
+use Rattle.standard_kinds.specs.declared.kinds.ExportKind.TheVariants as kinds
 use Rattle.comp_bytes.specs.declared.types.Alias.{Alias}
 use Rattle.comp_bytes.specs.declared.types.Alias.TheVariants as aliases
 use Rattle.comp_bytes.specs.declared.types.Description.{Description}

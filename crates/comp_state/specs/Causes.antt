@@ -8,8 +8,8 @@ use Rattle.comp_worlds.specs.Worlds.{core_imports}
 use Rattle.wit_data.specs.declared.worlds.WorldKey.{WorldKey}
 use Rattle.comp_roles.specs.declared.imports.Import.{Import}
 use Rattle.comp_worlds.specs.declared.world.ComponentWorld.{ComponentWorld}
-use Rattle.comp_bytes.specs.declared.fault.BuildFault.{BuildFault}
-use Rattle.comp_bytes.specs.declared.fault.BuildFault.TheVariants as build
+use Rattle.byte_encoding.specs.declared.fault.BuildFault.{BuildFault}
+use Rattle.byte_encoding.specs.declared.fault.BuildFault.TheVariants as build
 use Rattle.comp_state.specs.declared.fault.StateFault.{StateFault}
 use Rattle.comp_state.specs.declared.fault.StateFault.TheVariants as faults
 use Rattle.comp_state.specs.Roles.{import_encoding, export_encoding, place_of}

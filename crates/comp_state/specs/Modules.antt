@@ -1,8 +1,8 @@
 -- The user modules of a world (core standard: modules, their imports and exports): main, then its
 -- adapters, each with its bytes, its imports and what it exports, as validation found them.
 use Rattle.std.specs.Prelude.{ℕ, List, [], ◌∷◌, map}
-use Rattle.comp_bytes.specs.declared.space.ExportKind.{ExportKind}
-use Rattle.comp_bytes.specs.declared.space.ExportKind.TheVariants as kinds
+use Rattle.standard_kinds.specs.declared.kinds.ExportKind.{ExportKind}
+use Rattle.standard_kinds.specs.declared.kinds.ExportKind.TheVariants as kinds
 use Rattle.comp_roles.specs.CoreImports.{CoreImport}
 use Rattle.comp_worlds.specs.Worlds.{core_imports}
 use Rattle.comp_roles.specs.declared.imports.Import.{Import}

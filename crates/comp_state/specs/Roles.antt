@@ -8,7 +8,7 @@ use Rattle.comp_roles.specs.Functions.{of_function}
 use Rattle.comp_roles.specs.CoreImports.{fields_of}
 use Rattle.comp_worlds.specs.Worlds.{imported_name, imported_functions}
 use Rattle.wit_data.specs.declared.worlds.WorldKey.{WorldKey}
-use Rattle.comp_roles.specs.declared.encoding.StringEncoding.{StringEncoding}
+use Rattle.standard_kinds.specs.declared.kinds.StringEncoding.{StringEncoding}
 use Rattle.comp_roles.specs.declared.imports.Import.{Import}
 use Rattle.comp_roles.specs.declared.imports.Import.TheVariants as imports
 use Rattle.comp_roles.specs.declared.imports.ImportInstance.{ImportInstance}

@@ -11,8 +11,8 @@ ghost use Rattle.comp_state.specs.Rules.{Grows, IsBuilt, expected};
 
 use crate::fault::StateFault;
 use crate::state::EncodingState;
+use byte_encoding::BuildFault;
 use comp_builder::ComponentBuilder;
-use comp_bytes::BuildFault;
 use comp_worlds::ComponentWorld;
 use std::alloc::Global;
 

@@ -14,8 +14,10 @@ ghost use Rattle.comp_state.specs.Rules.{Grows, ExportNamed, exports_marked};
 use crate::fault::StateFault;
 use crate::instances::is_encoded;
 use crate::state::EncodingState;
-use comp_bytes::{BuildFault, ExportKind, ExternName, Sort};
+use byte_encoding::BuildFault;
+use comp_bytes::{ExternName, Sort};
 use comp_lists::{Seq, Text};
+use standard_kinds::ExportKind;
 use std::alloc::AllocError;
 use wit_data::WorldKey;
 

@@ -4,7 +4,7 @@ ghost use Rattle.std.specs.Prelude.{◌≡◌};
 ghost use Rattle.comp_state.specs.Causes.{of_build};
 ghost use Rattle.comp_state.specs.declared.fault.StateFault.TheVariants.{Memory};
 
-use comp_bytes::{BuildFault, Excess};
+use byte_encoding::{BuildFault, Excess};
 use comp_lists::Text;
 use std::alloc::{AllocError, AllocFailed};
 use thiserror::Error;

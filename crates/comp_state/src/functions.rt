@@ -15,7 +15,8 @@ ghost use Rattle.comp_state.specs.Rules.{Grows, ImportNamed, names_marked, impor
 use crate::fault::StateFault;
 use crate::indexes::used_functions;
 use crate::state::EncodingState;
-use comp_bytes::{BuildFault, Description, ExternName, FuncTypeDef};
+use byte_encoding::BuildFault;
+use comp_bytes::{Description, ExternName, FuncTypeDef};
 use comp_lists::{Keyed, Seq, Text};
 use wit_data::{WorldItem, WorldKey};
 

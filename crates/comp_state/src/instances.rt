@@ -20,9 +20,11 @@ ghost use Rattle.comp_state.specs.Rules.{Grows, ModuleIs, InstanceOf, imports_ma
 
 use crate::fault::StateFault;
 use crate::state::EncodingState;
-use comp_bytes::{BuildFault, CoreArgument, CoreInlineExport, ExportKind};
+use byte_encoding::BuildFault;
+use comp_bytes::{CoreArgument, CoreInlineExport};
 use comp_lists::{Keyed, Seq, Text};
-use comp_worlds::{FunctionKey, Import, ImportInstance, StringEncoding};
+use comp_worlds::{FunctionKey, Import, ImportInstance};
+use standard_kinds::{ExportKind, StringEncoding};
 use std::alloc::{AllocError, Global};
 use wit_data::WorldKey;
 

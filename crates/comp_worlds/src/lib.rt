@@ -35,7 +35,7 @@ pub use comp_options::{
 pub use comp_roles::{
     Export, ExportMap, ExternType, FunctionKey, Import, ImportInstance, ImportMap, Instance, Item,
     LibraryArgument, LibraryInfo, MainOrAdapter, ModuleMetadata, NamedImport, PayloadFuncKind,
-    PayloadInfo, PayloadType, StringEncoding,
+    PayloadInfo, PayloadType,
 };
 pub use gathered::{ExportKey, Gathered, GatheredAdapter, Merged, Part};
 pub use lower::Lower;

@@ -1,8 +1,8 @@
 -- What is written by whether the parts could be read.
 use Rattle.std.proofs.Common.{◌≡◌, ℕ, List, Option, Some, None, Result, subst}
-use Rattle.comp_bytes.specs.Spelling.{raw}
-use Rattle.comp_bytes.specs.Written.{Writes}
-use Rattle.comp_bytes.specs.declared.fault.BuildFault.{BuildFault}
+use Rattle.byte_encoding.specs.Spelling.{raw}
+use Rattle.byte_encoding.specs.Written.{Writes}
+use Rattle.byte_encoding.specs.declared.fault.BuildFault.{BuildFault}
 use Rattle.core_sections.specs.Sections.{Piece}
 use Rattle.core_bytes.specs.Renaming.{Part, renamed, by_parts}
 

@@ -2,11 +2,11 @@
 use Rattle.std.proofs.Common.{◌≡◌, ℕ, zero, suc, ◌<◌, ◌≤◌, ℤ, List, [], ◌∷◌, ◌++◌, length, false, Some, None, refl, ap, sym, ◌∙◌, arith, append_assoc, length-append}
 use Rattle.std.specs.Prelude.{nat_eq, if◌then◌else◌}
 use Rattle.std.specs.List.{flat_map}
-use Rattle.comp_bytes.proofs.Readers.{Read, Reader, Reads, read_then, made_from, made, pair_from, pair_reads, as_reads, followed_from, followed_reads, tagged, skipped, number_from, number_reads, list_from, list_reads}
+use Rattle.byte_encoding.proofs.Readers.{Read, Reader, Reads, read_then, made_from, made, pair_from, pair_reads, as_reads, followed_from, followed_reads, tagged, skipped, number_from, number_reads, list_from, list_reads}
 use Rattle.core_bytes.specs.Grammar.{instruction, expression, constant, local_run, body}
-use Rattle.core_bytes.specs.declared.types.ValType.{ValType}
-use Rattle.core_bytes.specs.declared.types.ConstExpr.{ConstExpr}
-use Rattle.core_bytes.specs.declared.types.ConstExpr.TheVariants as constants
+use Rattle.core_types.specs.declared.types.ValType.{ValType}
+use Rattle.core_bytes.specs.declared.entity.ConstExpr.{ConstExpr}
+use Rattle.core_bytes.specs.declared.entity.ConstExpr.TheVariants as constants
 use Rattle.core_bytes.specs.declared.code.Instruction.{Instruction}
 use Rattle.core_bytes.specs.declared.code.Instruction.TheVariants as instructions
 use Rattle.core_bytes.specs.declared.code.LocalRun.{LocalRun}

@@ -1,13 +1,13 @@
 -- Entries of sections that are spelled are read again, whatever follows.
 use Rattle.std.proofs.Common.{◌≡◌, ℕ, ℤ, List, ◌++◌, Some, None, refl}
 use Rattle.std.specs.Prelude.{nat_eq, if◌then◌else◌}
-use Rattle.comp_bytes.proofs.Readers.{Reader, Reads, made_from, made, pair_from, pair_reads, as_reads, followed_from, followed_reads, tagged, skipped, number_from, number_reads, list_from, list_reads, name_from, name_reads}
+use Rattle.byte_encoding.proofs.Readers.{Reader, Reads, made_from, made, pair_from, pair_reads, as_reads, followed_from, followed_reads, tagged, skipped, number_from, number_reads, list_from, list_reads, name_from, name_reads}
 use Rattle.comp_bytes.proofs.ValueReaders.{kind_from, kind_reads}
-use Rattle.comp_bytes.specs.declared.space.ExportKind.{ExportKind}
+use Rattle.standard_kinds.specs.declared.kinds.ExportKind.{ExportKind}
 use Rattle.core_bytes.specs.Grammar.{import_entry, defined_global, export_entry, element_segment, data_segment, code_entry, naming}
-use Rattle.core_bytes.specs.declared.types.GlobalType.{GlobalType}
-use Rattle.core_bytes.specs.declared.types.EntityType.{EntityType}
-use Rattle.core_bytes.specs.declared.types.ConstExpr.{ConstExpr}
+use Rattle.core_types.specs.declared.types.GlobalType.{GlobalType}
+use Rattle.core_bytes.specs.declared.entity.EntityType.{EntityType}
+use Rattle.core_bytes.specs.declared.entity.ConstExpr.{ConstExpr}
 use Rattle.core_bytes.specs.declared.code.Body.{Body}
 use Rattle.core_bytes.specs.declared.entry.Import.{Import}
 use Rattle.core_bytes.specs.declared.entry.DefinedGlobal.{DefinedGlobal}

@@ -2,8 +2,8 @@
 use Rattle.std.proofs.Common.{◌≡◌, ℕ, List, [], ◌∷◌, ◌++◌, Option, Some, refl, ap, ap₂, sym, ◌∙◌}
 use Rattle.std.specs.Prelude.{nat_eq, if◌then◌else◌}
 use Rattle.std.specs.List.{flat_map}
-use Rattle.comp_bytes.proofs.Unique.{one_name}
-use Rattle.comp_bytes.proofs.Readers.{number_from, number_reads, list_from, list_reads}
+use Rattle.byte_encoding.proofs.Unique.{one_name}
+use Rattle.byte_encoding.proofs.Readers.{number_from, number_reads, list_from, list_reads}
 use Rattle.core_bytes.specs.Modules.{id_of, contents, section}
 use Rattle.core_bytes.specs.Laws.{OneModule}
 use Rattle.core_bytes.specs.declared.section.Section.{Section}

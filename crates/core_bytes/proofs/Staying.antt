@@ -9,8 +9,8 @@ use Rattle.std.proofs.lemmas.Bool.{cases_lt}
 use Rattle.std.proofs.lemmas.Bool.Decides.{nat_tests}
 use Rattle.std.proofs.lemmas.Grind.{flat_map-append}
 use lib.Utf8.{encode}
-use Rattle.comp_bytes.specs.Spelling.{Spelling, Fits, ◌⊕◌, named, leb, leb128, groups_of_seven}
-use Rattle.comp_bytes.proofs.Numbers.{groups_end}
+use Rattle.byte_encoding.specs.Spelling.{Spelling, Fits, ◌⊕◌, named, leb, leb128, groups_of_seven}
+use Rattle.byte_encoding.proofs.Numbers.{groups_end}
 use Rattle.core_sections.specs.Sections.{custom, Piece, preamble}
 use Rattle.core_sections.specs.Grammar.{IsNumber, IsCounted, IsSection, IsModule, holds_custom}
 use Rattle.core_sections.proofs.Modules.{module_again}

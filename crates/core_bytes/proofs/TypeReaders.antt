@@ -1,19 +1,20 @@
 -- The types of core items that are spelled are read again, whatever follows.
 use Rattle.std.proofs.Common.{◌≡◌, ℕ, List, ◌++◌, Bool, true, false, Option, Some, None, refl, ap}
 use Rattle.std.specs.Prelude.{nat_eq, if◌then◌else◌}
-use Rattle.comp_bytes.specs.Grammar.{flag}
-use Rattle.comp_bytes.proofs.Readers.{Reader, Reads, read_then, made_from, made, pair_from, pair_reads, as_reads, tagged, skipped, number_from, number_reads, index_from, index_reads, list_from, list_reads}
-use Rattle.core_bytes.specs.Grammar.{reference_type, value_type, function_type, limits, table_type, memory_type, global_type, entity_type}
-use Rattle.core_bytes.specs.declared.types.RefType.{RefType}
-use Rattle.core_bytes.specs.declared.types.RefType.TheVariants as references
-use Rattle.core_bytes.specs.declared.types.ValType.{ValType}
-use Rattle.core_bytes.specs.declared.types.ValType.TheVariants as values
-use Rattle.core_bytes.specs.declared.types.FuncType.{FuncType}
-use Rattle.core_bytes.specs.declared.types.GlobalType.{GlobalType}
-use Rattle.core_bytes.specs.declared.types.TableType.{TableType}
-use Rattle.core_bytes.specs.declared.types.MemoryType.{MemoryType}
-use Rattle.core_bytes.specs.declared.types.EntityType.{EntityType}
-use Rattle.core_bytes.specs.declared.types.EntityType.TheVariants as entities
+use Rattle.byte_encoding.specs.Spelling.{flag}
+use Rattle.byte_encoding.proofs.Readers.{Reader, Reads, read_then, made_from, made, pair_from, pair_reads, as_reads, tagged, skipped, number_from, number_reads, index_from, index_reads, list_from, list_reads}
+use Rattle.core_types.specs.Grammar.{reference_type, value_type, function_type, limits, table_type, memory_type, global_type}
+use Rattle.core_bytes.specs.Grammar.{entity_type}
+use Rattle.core_types.specs.declared.types.RefType.{RefType}
+use Rattle.core_types.specs.declared.types.RefType.TheVariants as references
+use Rattle.core_types.specs.declared.types.ValType.{ValType}
+use Rattle.core_types.specs.declared.types.ValType.TheVariants as values
+use Rattle.core_types.specs.declared.types.FuncType.{FuncType}
+use Rattle.core_types.specs.declared.types.GlobalType.{GlobalType}
+use Rattle.core_types.specs.declared.types.TableType.{TableType}
+use Rattle.core_types.specs.declared.types.MemoryType.{MemoryType}
+use Rattle.core_bytes.specs.declared.entity.EntityType.{EntityType}
+use Rattle.core_bytes.specs.declared.entity.EntityType.TheVariants as entities
 
 -- ---- value types
 

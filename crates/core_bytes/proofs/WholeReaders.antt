@@ -1,8 +1,8 @@
 -- What has its size in front is read to its end.
 use Rattle.std.proofs.Common.{◌≡◌, ℕ, List, [], ◌∷◌, Option, Some, None, ap, sym, ◌∙◌}
 use Rattle.std.proofs.lemmas.List.{append-nil}
-use Rattle.comp_bytes.specs.Spelling.{Spelling, sized}
-use Rattle.comp_bytes.proofs.Readers.{Read, Reader, Reads, read_then, name_from, name_reads}
+use Rattle.byte_encoding.specs.Spelling.{Spelling, sized}
+use Rattle.byte_encoding.proofs.Readers.{Read, Reader, Reads, read_then, name_from, name_reads}
 
 -- a value behind which nothing stands
 abbrev pub ended : {A B : Type 0} → (A → B) → Read A → Option B

@@ -1,14 +1,14 @@
 -- Worked examples: modules of shims, of their fixups and of start functions, and their bytes; and signed numbers.
 use Rattle.std.proofs.Common.{◌≡◌, ℕ, List, [], ◌∷◌, refl, Some, None, true, pos, negsuc}
-use Rattle.comp_bytes.specs.Spelling.{leb128}
-use Rattle.comp_bytes.specs.declared.space.ExportKind.TheVariants as kinds
+use Rattle.byte_encoding.specs.Spelling.{leb128}
+use Rattle.standard_kinds.specs.declared.kinds.ExportKind.TheVariants as kinds
 use Rattle.core_bytes.specs.Signed.{signed, signed_within}
 use Rattle.core_bytes.specs.Grammar.{body}
 use Rattle.core_bytes.specs.Modules.{section, spelling_of}
-use Rattle.core_bytes.specs.declared.types.RefType.TheVariants as references
-use Rattle.core_bytes.specs.declared.types.ValType.TheVariants as values
-use Rattle.core_bytes.specs.declared.types.EntityType.TheVariants as entities
-use Rattle.core_bytes.specs.declared.types.ConstExpr.TheVariants as constants
+use Rattle.core_types.specs.declared.types.RefType.TheVariants as references
+use Rattle.core_types.specs.declared.types.ValType.TheVariants as values
+use Rattle.core_bytes.specs.declared.entity.EntityType.TheVariants as entities
+use Rattle.core_bytes.specs.declared.entity.ConstExpr.TheVariants as constants
 use Rattle.core_bytes.specs.declared.code.Instruction.TheVariants as instructions
 use Rattle.core_bytes.specs.declared.code.Body.{Body}
 use Rattle.core_bytes.specs.declared.entry.ElementSegment.TheVariants as segments

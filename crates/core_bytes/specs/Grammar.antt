@@ -2,21 +2,22 @@
 -- Core standard, binary format: types, instructions, modules, with typed function references and tail calls. The
 -- names beside the definitions are those of its grammar.
 use Rattle.std.specs.Prelude.{ℕ, List, Option, Some, None}
-use Rattle.comp_bytes.specs.Spelling.{Spelling, ◌⊕◌, raw, octet, number, signed_leb, each, listed, named, sized}
-use Rattle.comp_bytes.specs.Grammar.{kind_byte, flag}
+use Rattle.byte_encoding.specs.Spelling.{Spelling, ◌⊕◌, raw, octet, number, signed_leb, each, listed, named, sized}
+use Rattle.standard_kinds.specs.Bytes.{kind_byte}
+use Rattle.byte_encoding.specs.Spelling.{flag}
 use Rattle.core_bytes.specs.Signed.{signed}
-use Rattle.core_bytes.specs.declared.types.RefType.{RefType}
-use Rattle.core_bytes.specs.declared.types.RefType.TheVariants as references
-use Rattle.core_bytes.specs.declared.types.ValType.{ValType}
-use Rattle.core_bytes.specs.declared.types.ValType.TheVariants as values
-use Rattle.core_bytes.specs.declared.types.FuncType.{FuncType}
-use Rattle.core_bytes.specs.declared.types.GlobalType.{GlobalType}
-use Rattle.core_bytes.specs.declared.types.TableType.{TableType}
-use Rattle.core_bytes.specs.declared.types.MemoryType.{MemoryType}
-use Rattle.core_bytes.specs.declared.types.EntityType.{EntityType}
-use Rattle.core_bytes.specs.declared.types.EntityType.TheVariants as entities
-use Rattle.core_bytes.specs.declared.types.ConstExpr.{ConstExpr}
-use Rattle.core_bytes.specs.declared.types.ConstExpr.TheVariants as constants
+use Rattle.core_types.specs.declared.types.RefType.{RefType}
+use Rattle.core_types.specs.declared.types.RefType.TheVariants as references
+use Rattle.core_types.specs.declared.types.ValType.{ValType}
+use Rattle.core_types.specs.declared.types.ValType.TheVariants as values
+use Rattle.core_types.specs.declared.types.FuncType.{FuncType}
+use Rattle.core_types.specs.declared.types.GlobalType.{GlobalType}
+use Rattle.core_types.specs.declared.types.TableType.{TableType}
+use Rattle.core_types.specs.declared.types.MemoryType.{MemoryType}
+use Rattle.core_bytes.specs.declared.entity.EntityType.{EntityType}
+use Rattle.core_bytes.specs.declared.entity.EntityType.TheVariants as entities
+use Rattle.core_bytes.specs.declared.entity.ConstExpr.{ConstExpr}
+use Rattle.core_bytes.specs.declared.entity.ConstExpr.TheVariants as constants
 use Rattle.core_bytes.specs.declared.code.Instruction.{Instruction}
 use Rattle.core_bytes.specs.declared.code.Instruction.TheVariants as instructions
 use Rattle.core_bytes.specs.declared.code.LocalRun.{LocalRun}
@@ -28,40 +29,6 @@ use Rattle.core_bytes.specs.declared.entry.ElementSegment.{ElementSegment}
 use Rattle.core_bytes.specs.declared.entry.ElementSegment.TheVariants as segments
 use Rattle.core_bytes.specs.declared.entry.DataSegment.{DataSegment}
 use Rattle.core_bytes.specs.declared.entry.Naming.{Naming}
-
--- reftype: an index of a type is a signed number of 33 bits, since an abstract heap type is a negative one
-abbrev pub reference_type : RefType → Spelling
-reference_type references.FuncRef = octet 0x70
-reference_type (references.Concrete index) = octet 0x64 ⊕ raw (signed_leb index)
-
--- valtype
-abbrev pub value_type : ValType → Spelling
-value_type values.I32 = octet 0x7f
-value_type values.I64 = octet 0x7e
-value_type values.F32 = octet 0x7d
-value_type values.F64 = octet 0x7c
-value_type (values.Ref t) = reference_type t
-
--- functype
-abbrev pub function_type : FuncType → Spelling
-function_type f = octet 0x60 ⊕ listed value_type f.params ⊕ listed value_type f.results
-
--- limits: the least size, and the greatest where there is one
-abbrev pub limits : ℕ → Option ℕ → Spelling
-limits minimum None = octet 0x00 ⊕ number minimum
-limits minimum (Some maximum) = octet 0x01 ⊕ number minimum ⊕ number maximum
-
--- tabletype
-abbrev pub table_type : TableType → Spelling
-table_type t = reference_type t.element_type ⊕ limits t.minimum t.maximum
-
--- memtype
-abbrev pub memory_type : MemoryType → Spelling
-memory_type m = limits m.minimum m.maximum
-
--- globaltype
-abbrev pub global_type : GlobalType → Spelling
-global_type g = value_type g.val_type ⊕ flag g.mutable
 
 -- importdesc
 abbrev pub entity_type : EntityType → Spelling

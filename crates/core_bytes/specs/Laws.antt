@@ -1,7 +1,7 @@
 -- Bytes spell at most one list of sections, so that what is read is what was written; and a module that is given a name
 -- is a module whose other sections stay.
 use Rattle.std.specs.Prelude.{ℕ, ◌≡◌, List, ◌∷◌, ◌++◌, take, drop, true, Some}
-use Rattle.comp_bytes.specs.Spelling.{Fits}
+use Rattle.byte_encoding.specs.Spelling.{Fits}
 use Rattle.core_sections.specs.Sections.{Piece}
 use Rattle.core_sections.specs.Grammar.{IsModule}
 use Rattle.core_bytes.specs.Modules.{Spells}

@@ -1,9 +1,10 @@
 -- Sections, and a module as the list of its sections.
 -- Core standard, binary format: modules; appendix, custom sections: name section.
 use Rattle.std.specs.Prelude.{ℕ, ◌≡◌, List, [], ◌∷◌, Option, Some, None}
-use Rattle.comp_bytes.specs.Spelling.{Spelling, Fits, ◌⊕◌, raw, octet, number, each, listed, named, sized}
-use Rattle.comp_bytes.specs.Core.{core_preamble}
-use Rattle.core_bytes.specs.Grammar.{function_type, import_entry, table_type, memory_type, defined_global, export_entry, element_segment, code_entry, data_segment, naming}
+use Rattle.byte_encoding.specs.Spelling.{Spelling, Fits, ◌⊕◌, raw, octet, number, each, listed, named, sized}
+use Rattle.core_types.specs.Core.{core_preamble}
+use Rattle.core_types.specs.Grammar.{function_type, table_type, memory_type}
+use Rattle.core_bytes.specs.Grammar.{import_entry, defined_global, export_entry, element_segment, code_entry, data_segment, naming}
 use Rattle.core_bytes.specs.declared.entry.Naming.{Naming}
 use Rattle.core_bytes.specs.declared.section.ModuleNames.{ModuleNames}
 use Rattle.core_bytes.specs.declared.section.Section.{Section}

@@ -4,7 +4,7 @@
 use Rattle.std.specs.Prelude.{ℕ, zero, suc, ◌-◌, ◌==◌, not, Bool, false, List, [], ◌∷◌, ◌++◌, length, take, drop, filter, position, unwrap_or, Option, Some, None, option_map, option_and_then, Result, Ok, Err}
 use Rattle.std.specs.List.{flat_map, position_or_len}
 use Rattle.std.specs.Str.{bytes_eq}
-use Rattle.comp_bytes.specs.Spelling.{Spelling, ◌⊕◌, raw, named}
+use Rattle.byte_encoding.specs.Spelling.{Spelling, ◌⊕◌, raw, named}
 use Rattle.core_sections.specs.Numbers.{bytes_at}
 use Rattle.core_sections.specs.Sections.{Body, custom, coded, Piece, preamble, pieces_of}
 use Rattle.core_sections.specs.declared.fault.SectionFault.{SectionFault}

@@ -3,8 +3,8 @@
 //! Core standard, binary format: instructions, code section, with typed function references and tail
 //! calls.
 
-use crate::types::ValType;
 use comp_lists::{Seq, TryClone};
+use core_types::ValType;
 use std::alloc::{AllocError, Global};
 
 /// An instruction. Numbers are the indices that its bytes hold, and the numbers of constants.

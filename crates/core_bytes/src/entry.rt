@@ -3,9 +3,10 @@
 //! Core standard, binary format: import, global, export, element and data section; appendix, custom
 //! sections: name maps.
 
-use crate::types::{ConstExpr, EntityType, GlobalType};
-use comp_bytes::ExportKind;
+use crate::entity::{ConstExpr, EntityType};
 use comp_lists::{Bytes, Seq, Text, TryClone};
+use core_types::GlobalType;
+use standard_kinds::ExportKind;
 use std::alloc::{AllocError, Global};
 
 /// An import, by the two parts of its name.

@@ -15,7 +15,7 @@
 //! Beside that, [`set_module_name`] gives any core module, one of a user too, a name in its section of
 //! names (`specs/Renaming.antt`), and leaves all else as it stands.
 //!
-//! In reading order: `types` (types and constants), `code` (instructions and bodies), `entry` (other
+//! In reading order: `entity` (what is imported, and constants), `code` (instructions and bodies), `entry` (other
 //! entries of sections), `entries` (lists that grow at their end), `section` (what is appended to each
 //! section), `number` (signed numbers, and what has its size in front), `writing` (each value),
 //! `module` (modules and their bytes), `laws` (what holds of all spellings); then `part` (the parts of
@@ -24,6 +24,7 @@
 #![tactic(auto)]
 
 mod code;
+mod entity;
 mod entries;
 mod entry;
 mod laws;
@@ -32,10 +33,10 @@ mod number;
 mod part;
 mod renaming;
 mod section;
-mod types;
 mod writing;
 
 pub use code::{Body, Instruction, LocalRun};
+pub use entity::{ConstExpr, EntityType};
 pub use entries::Entries;
 pub use entry::{DataSegment, DefinedGlobal, ElementSegment, Export, Import, Naming};
 pub use laws::{one_module, other_sections_stay};
@@ -44,7 +45,4 @@ pub use renaming::set_module_name;
 pub use section::{
     Code, DataSection, ElementSection, ExportSection, FunctionSection, GlobalSection,
     ImportSection, MemorySection, ModuleNames, NameMap, Section, TableSection, TypeSection,
-};
-pub use types::{
-    ConstExpr, EntityType, FuncType, GlobalType, MemoryType, RefType, TableType, ValType,
 };

@@ -1,17 +1,18 @@
 //! Modules as lists of sections, and their bytes.
 //!
 //! Core standard, binary format: modules; appendix, custom sections: name section.
-#![tactic(auto, using(comp_bytes::proofs::Pieces::writing))]
+#![tactic(auto, using(byte_encoding::proofs::Pieces::writing))]
 
 ghost use Rattle.std.specs.Prelude.{◌≡◌, [], ◌∷◌, ◌++◌, OnOk, OnErr, IfOk, IfErr};
-ghost use Rattle.comp_bytes.specs.Spelling.{octet, named, Spelling, Fits, ◌⊕◌};
-ghost use Rattle.comp_bytes.specs.Written.{Writes, Refused};
+ghost use Rattle.byte_encoding.specs.Spelling.{octet, named, Spelling, Fits, ◌⊕◌};
+ghost use Rattle.byte_encoding.specs.Written.{Writes, Refused};
 ghost use Rattle.core_bytes.specs.Modules.{name_section, with_id, name_map, module_names, section, spelling_of, Spells};
 
 use crate::entries::Entries;
 use crate::number::{put_blob, put_with_id};
 use crate::section::{ModuleNames, NameMap, Section};
-use comp_bytes::{BuildFault, CoreModule, Spell, put_bytes, put_each};
+use byte_encoding::{BuildFault, Spell, put_bytes, put_each};
+use comp_bytes::CoreModule;
 use comp_lists::{Seq, Text};
 use std::alloc::{AllocError, Global};
 

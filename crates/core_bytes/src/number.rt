@@ -1,13 +1,13 @@
 //! Signed numbers, and what has its size in front, at the end of a buffer.
-#![tactic(auto, using(comp_bytes::proofs::Pieces::writing))]
+#![tactic(auto, using(byte_encoding::proofs::Pieces::writing))]
 
 ghost use Rattle.std.specs.Prelude.{◌≡◌, ◌<◌, ◌++◌, length, OnOk};
-ghost use Rattle.comp_bytes.specs.Spelling.{raw, octet, named, sized, Spelling, ◌⊕◌};
-ghost use Rattle.comp_bytes.specs.Written.{Writes};
+ghost use Rattle.byte_encoding.specs.Spelling.{raw, octet, named, sized, Spelling, ◌⊕◌};
+ghost use Rattle.byte_encoding.specs.Written.{Writes};
 ghost use Rattle.core_bytes.specs.Signed.{low_seven, signed_within, signed};
 ghost use Rattle.core_bytes.specs.Modules.{with_id};
 
-use comp_bytes::{BuildFault, Spell, put_bytes, put_count, spelled};
+use byte_encoding::{BuildFault, Spell, put_bytes, put_count, spelled};
 use std::alloc::AllocError;
 
 /// The low seven bits of a number, or of -1 less it.

@@ -1,18 +1,18 @@
 //! The name of any core module, in its section of names.
 //!
 //! Core standard, appendix, custom sections: name section.
-#![tactic(auto, using(comp_bytes::proofs::Pieces::writing))]
+#![tactic(auto, using(byte_encoding::proofs::Pieces::writing))]
 
 ghost use Rattle.std.specs.Prelude.{◌≡◌, ◌≤◌, ◌++◌, length, take, drop, map, IfOk, IfErr, OnOk, option_map};
-ghost use Rattle.comp_bytes.specs.Spelling.{raw, octet, named, sized, Spelling, Fits, ◌⊕◌};
-ghost use Rattle.comp_bytes.specs.Written.{Writes, Refused};
+ghost use Rattle.byte_encoding.specs.Spelling.{raw, octet, named, sized, Spelling, Fits, ◌⊕◌};
+ghost use Rattle.byte_encoding.specs.Written.{Writes, Refused};
 ghost use Rattle.core_sections.specs.Sections.{view, body_view};
 ghost use Rattle.core_bytes.specs.Modules.{name_section, with_id};
 ghost use Rattle.core_bytes.specs.Renaming.{part_view, others, own_place, with_own, names_with, has_names, names_place, bytes_in, parts_in_front, wholes, renamed, by_parts, with_module_name};
 
 use crate::number::{put_blob, put_with_id};
 use crate::part::{Part, read_parts};
-use comp_bytes::{BuildFault, put_bytes};
+use byte_encoding::{BuildFault, put_bytes};
 use comp_lists::Text;
 use core_sections::{Content, Section, SectionFault, sections_of};
 use std::alloc::{AllocError, Global};

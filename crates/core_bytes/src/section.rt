@@ -3,15 +3,16 @@
 //! Core standard, binary format: modules; appendix, custom sections: name section.
 
 ghost use Rattle.std.specs.Prelude.{◌≡◌, [], ◌∷◌, ◌++◌, OnOk, OnErr};
-ghost use Rattle.core_bytes.specs.declared.types.ConstExpr.TheVariants as constants;
+ghost use Rattle.core_bytes.specs.declared.entity.ConstExpr.TheVariants as constants;
 ghost use Rattle.core_bytes.specs.declared.entry.ElementSegment.TheVariants as segments;
 
 use crate::code::{Body, Instruction, LocalRun};
+use crate::entity::{ConstExpr, EntityType};
 use crate::entries::Entries;
 use crate::entry::{DataSegment, DefinedGlobal, ElementSegment, Export, Import, Naming};
-use crate::types::{ConstExpr, EntityType, FuncType, GlobalType, MemoryType, TableType, ValType};
-use comp_bytes::ExportKind;
 use comp_lists::{Seq, Text};
+use core_types::{FuncType, GlobalType, MemoryType, TableType, ValType};
+use standard_kinds::ExportKind;
 use std::alloc::AllocError;
 
 /// The types of functions.

@@ -3,8 +3,8 @@ use Rattle.std.proofs.Common.{◌≡◌, ℕ, zero, suc, ◌+◌, ◌^◌, List,
 use Rattle.std.specs.Prelude.{slice_get, slice_set, if◌then◌else◌, nat_lt, option_map}
 use Rattle.std.proofs.lemmas.Option.{slice_get-map}
 use Rattle.std.proofs.lemmas.Bool.{lt-ltb}
-use Rattle.core_bytes.specs.declared.types.ValType.{ValType}
-use Rattle.core_bytes.specs.declared.types.ValType.TheVariants.{I32}
+use Rattle.core_types.specs.declared.types.ValType.{ValType}
+use Rattle.core_types.specs.declared.types.ValType.TheVariants.{I32}
 use Rattle.core_runs.specs.Values.{Value, I32Value, fit}
 use Rattle.core_runs.specs.Store.{Cell, Kept, Foreign, Answer, Gives, Traps, Called, SetForeign, Stored, Now, Outcome, Returned, Trapped, Open, Stuck}
 use Rattle.core_runs.specs.Execution.{with_item, where_true, and_then, answered, seen, renewed, read_given, read_cell, write_cell}

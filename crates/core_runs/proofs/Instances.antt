@@ -5,7 +5,7 @@ use Rattle.std.proofs.Math.Seq.{set-append_seam}
 use Rattle.std.proofs.lemmas.List.{append-nil, length-replicate, drop-replicate}
 use Rattle.std.proofs.lemmas.Option.{slice_get-map, slice_get_within}
 use Rattle.std.proofs.lemmas.Bool.Decides.{nat_tests}
-use Rattle.core_bytes.specs.declared.types.FuncType.{FuncType}
+use Rattle.core_types.specs.declared.types.FuncType.{FuncType}
 use Rattle.core_bytes.specs.declared.entry.ElementSegment.TheVariants as segments
 use Rattle.core_runs.specs.Values.{Value, fit}
 use Rattle.core_runs.specs.Store.{Frame, Func, Generated, signature_of, Store, Now, ByCode, Trapped}

@@ -1,7 +1,7 @@
 -- What an instance is made of.
 use Rattle.std.proofs.Common.{◌≡◌, ℕ, zero, suc, ◌+◌, List, [], ◌∷◌, ◌++◌, length, Bool, true, false, Option, Some, None, refl, sym, ap, ◌∙◌, append_assoc}
 use Rattle.std.specs.Prelude.{slice_get, if◌then◌else◌, option_map}
-use Rattle.core_bytes.specs.declared.types.FuncType.{FuncType}
+use Rattle.core_types.specs.declared.types.FuncType.{FuncType}
 use Rattle.core_bytes.specs.declared.code.Body.{Body}
 use Rattle.core_bytes.specs.declared.entry.DataSegment.{DataSegment}
 use Rattle.core_runs.specs.Store.{Frame, Func, Generated, Store, Cell, Now}

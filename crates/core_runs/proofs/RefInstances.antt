@@ -4,8 +4,8 @@ use Rattle.std.specs.Prelude.{slice_get, option_map}
 use Rattle.std.specs.List.{range_with_len}
 use Rattle.std.proofs.lemmas.List.FromFn.{get_or-range_with_len, length-range_with_len}
 use Rattle.std.proofs.lemmas.Option.{slice_get-get_or, slice_get_within}
-use Rattle.core_bytes.specs.declared.types.ValType.TheVariants.{Ref}
-use Rattle.core_bytes.specs.declared.types.RefType.TheVariants.{Concrete}
+use Rattle.core_types.specs.declared.types.ValType.TheVariants.{Ref}
+use Rattle.core_types.specs.declared.types.RefType.TheVariants.{Concrete}
 use Rattle.core_bytes.specs.declared.entry.DefinedGlobal.{DefinedGlobal}
 use Rattle.core_runs.specs.Values.{Function}
 use Rattle.core_runs.specs.Store.{Frame, Store, Cell, Kept, Now}

@@ -3,9 +3,9 @@ use Rattle.std.proofs.Common.{◌≡◌, ℕ, suc, List, [], ◌∷◌, ◌++◌
 use Rattle.std.specs.Prelude.{slice_get, map, option_map}
 use Rattle.std.proofs.lemmas.List.{reverse-reverse, append-nil}
 use Rattle.std.proofs.lemmas.Option.{slice_get-map}
-use Rattle.core_bytes.specs.declared.types.ValType.{ValType}
+use Rattle.core_types.specs.declared.types.ValType.{ValType}
 use Rattle.core_bytes.specs.declared.code.Instruction.TheVariants.{GlobalGet, ReturnCallRef, Unreachable}
-use Rattle.core_bytes.specs.declared.types.FuncType.{FuncType}
+use Rattle.core_types.specs.declared.types.FuncType.{FuncType}
 use Rattle.core_bytes.specs.declared.code.Body.{Body}
 use Rattle.core_runs.specs.Values.{Value, Function, fit}
 use Rattle.core_runs.specs.Store.{Frame, Func, Generated, signature_of, Store, Cell, Kept, Now, ByCode, Returned, Trapped}

@@ -7,8 +7,8 @@ use Rattle.std.proofs.lemmas.Option.{slice_get-get_or}
 use Rattle.std.proofs.lemmas.Grind.{reverse_onto}
 use Rattle.core_bytes.specs.declared.code.Instruction.{Instruction}
 use Rattle.core_bytes.specs.declared.code.Instruction.TheVariants.{LocalGet}
-use Rattle.core_bytes.specs.declared.types.ValType.{ValType}
-use Rattle.core_bytes.specs.declared.types.FuncType.{FuncType}
+use Rattle.core_types.specs.declared.types.ValType.{ValType}
+use Rattle.core_types.specs.declared.types.FuncType.{FuncType}
 use Rattle.core_runs.specs.Values.{Value, fit, zeros}
 use Rattle.core_runs.specs.Store.{Frame, Func, Generated, Opaque, signature_of, Store, Answer, Gives, Traps, Now, Outcome, Returned, Trapped, Open, Stuck}
 use Rattle.core_runs.specs.Execution.{with_item, where_true, and_then, answered, asked, Calling, body, exec, performed}

@@ -4,11 +4,11 @@ use Rattle.std.specs.Prelude.{ℤ, slice_get, ◌^◌, if◌then◌else◌}
 use Rattle.std.proofs.Math.Seq.{take-append_seam, drop-append_seam}
 use Rattle.std.proofs.lemmas.List.{reverse-reverse, length-reverse, append-nil}
 use Rattle.std.proofs.lemmas.Bool.{eq-eqb}
-use Rattle.core_bytes.specs.declared.types.ValType.{ValType}
-use Rattle.core_bytes.specs.declared.types.ValType.TheVariants.{I32, I64, F32, F64, Ref}
-use Rattle.core_bytes.specs.declared.types.RefType.TheVariants.{FuncRef, Concrete}
+use Rattle.core_types.specs.declared.types.ValType.{ValType}
+use Rattle.core_types.specs.declared.types.ValType.TheVariants.{I32, I64, F32, F64, Ref}
+use Rattle.core_types.specs.declared.types.RefType.TheVariants.{FuncRef, Concrete}
 use Rattle.core_bytes.specs.declared.code.Instruction.TheVariants.{I32Const, CallIndirect}
-use Rattle.core_bytes.specs.declared.types.FuncType.{FuncType}
+use Rattle.core_types.specs.declared.types.FuncType.{FuncType}
 use Rattle.core_bytes.specs.declared.code.Body.{Body}
 use Rattle.std.specs.Int.{cast_unsigned, cast_signed, w32}
 use Rattle.core_runs.specs.Values.{Value, I32Value, fits, fit, same_value_type, same_value_types, same_signature}

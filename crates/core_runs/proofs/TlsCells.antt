@@ -1,7 +1,7 @@
 -- The two functions of the cell read it and set it, and do nothing else.
 use Rattle.std.proofs.Common.{◌≡◌, ℕ, zero, suc, List, [], ◌∷◌, true, ◌&&◌, Some, refl, ap, ◌∙◌}
 use Rattle.std.specs.Prelude.{slice_get, slice_set}
-use Rattle.core_bytes.specs.declared.types.ValType.{ValType}
+use Rattle.core_types.specs.declared.types.ValType.{ValType}
 use Rattle.core_runs.specs.Values.{Value, fits, fit}
 use Rattle.core_runs.specs.Store.{Frame, Store, Cell, Kept, Now, Returned}
 use Rattle.core_runs.specs.Execution.{with_item, where_true, and_then, Calling, body, read_cell, write_cell, exec}

@@ -2,7 +2,7 @@
 use Rattle.std.proofs.Common.{◌≡◌, ℕ, suc, List, [], ◌∷◌, ◌++◌, take, Option, Some, None, refl, sym, ap, ◌∙◌, append_assoc}
 use Rattle.std.proofs.lemmas.List.{append-nil}
 use Rattle.std.specs.Prelude.{slice_get}
-use Rattle.core_bytes.specs.declared.types.ValType.{ValType}
+use Rattle.core_types.specs.declared.types.ValType.{ValType}
 use Rattle.core_runs.specs.Values.{Value, I32Value, Function, fits, fit}
 use Rattle.core_runs.specs.Store.{Cell, Kept, Foreign, Answer, Gives, Traps, Event, Called, SetForeign, Stored, Now, Outcome, Returned, Trapped, Open, Stuck}
 use Rattle.core_runs.specs.Execution.{with_item, and_then, answered, seen, write_cell}

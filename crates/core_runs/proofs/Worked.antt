@@ -1,12 +1,12 @@
 -- Worked examples: bodies by their bytes, and what they do.
 use Rattle.std.proofs.Common.{pos, ◌≡◌, ℕ, List, [], ◌∷◌, refl, Some, None, Option, false}
 use Rattle.std.specs.Prelude.{option_map}
-use Rattle.comp_bytes.specs.Spelling.{leb128}
+use Rattle.byte_encoding.specs.Spelling.{leb128}
 use Rattle.core_bytes.specs.Signed.{signed_within}
 use Rattle.core_bytes.specs.Grammar.{body}
-use Rattle.core_bytes.specs.declared.types.ValType.TheVariants.{I32, Ref}
-use Rattle.core_bytes.specs.declared.types.RefType.TheVariants.{Concrete}
-use Rattle.core_bytes.specs.declared.types.FuncType.{FuncType}
+use Rattle.core_types.specs.declared.types.ValType.TheVariants.{I32, Ref}
+use Rattle.core_types.specs.declared.types.RefType.TheVariants.{Concrete}
+use Rattle.core_types.specs.declared.types.FuncType.{FuncType}
 use Rattle.core_runs.specs.declared.bracket.TaskHook.TheVariants.{AsyncResume, InitializeStart, InitializeFinish}
 use Rattle.core_runs.specs.declared.bracket.AfterHook.TheVariants.{ByStatus}
 use Rattle.core_runs.specs.declared.bracket.Bracket.{Bracket}
@@ -17,7 +17,7 @@ use Rattle.core_runs.specs.Store.{Frame, Generated, Opaque, Store, Cell, Kept, F
 use Rattle.core_runs.specs.Instances.{FunctionAt, TableAt, MemoryAt, GlobalAt, bind, Made, instance_of, started}
 use Rattle.core_bytes.specs.declared.section.Section.{Section}
 use Rattle.core_bytes.specs.declared.section.Section.TheVariants as sections
-use Rattle.core_bytes.specs.declared.types.EntityType.TheVariants as entities
+use Rattle.core_bytes.specs.declared.entity.EntityType.TheVariants as entities
 use Rattle.core_runs.specs.Sections.{parts_of}
 use Rattle.core_bytes.proofs.Worked as given
 use Rattle.core_runs.specs.Execution.{exec, acts}

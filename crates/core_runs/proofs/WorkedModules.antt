@@ -2,17 +2,17 @@
 use Rattle.std.proofs.Common.{◌≡◌, ℕ, ◌+◌, List, [], ◌∷◌, ◌++◌, map, refl, Some, None, Option, true, false}
 use Rattle.std.specs.Prelude.{option_map, replicate}
 use Rattle.std.specs.List.{range_with_len}
-use Rattle.comp_bytes.specs.Spelling.{leb128}
-use Rattle.comp_bytes.specs.declared.space.ExportKind.TheVariants as kinds
+use Rattle.byte_encoding.specs.Spelling.{leb128}
+use Rattle.standard_kinds.specs.declared.kinds.ExportKind.TheVariants as kinds
 use Rattle.core_bytes.specs.Signed.{signed_within}
 use Rattle.core_bytes.specs.Modules.{spelling_of}
-use Rattle.core_bytes.specs.declared.types.ValType.TheVariants.{I32, Ref}
-use Rattle.core_bytes.specs.declared.types.RefType.TheVariants.{Concrete}
-use Rattle.core_bytes.specs.declared.types.FuncType.{FuncType}
-use Rattle.core_bytes.specs.declared.types.GlobalType.{GlobalType}
-use Rattle.core_bytes.specs.declared.types.ConstExpr.TheVariants as constants
-use Rattle.core_bytes.specs.declared.types.EntityType.{EntityType}
-use Rattle.core_bytes.specs.declared.types.EntityType.TheVariants as entities
+use Rattle.core_types.specs.declared.types.ValType.TheVariants.{I32, Ref}
+use Rattle.core_types.specs.declared.types.RefType.TheVariants.{Concrete}
+use Rattle.core_types.specs.declared.types.FuncType.{FuncType}
+use Rattle.core_types.specs.declared.types.GlobalType.{GlobalType}
+use Rattle.core_bytes.specs.declared.entity.ConstExpr.TheVariants as constants
+use Rattle.core_bytes.specs.declared.entity.EntityType.{EntityType}
+use Rattle.core_bytes.specs.declared.entity.EntityType.TheVariants as entities
 use Rattle.core_bytes.specs.declared.entry.Import.{Import}
 use Rattle.core_bytes.specs.declared.entry.Export.{Export}
 use Rattle.core_bytes.specs.declared.entry.ElementSegment.TheVariants as segments

@@ -3,8 +3,8 @@ use Rattle.std.proofs.Common.{◌≡◌, ℕ, zero, suc, List, [], ◌∷◌, �
 use Rattle.std.specs.Prelude.{slice_get, slice_set, pos, nat_lt, ◌^◌}
 use Rattle.std.proofs.lemmas.List.{reverse-reverse, append-nil}
 use Rattle.std.proofs.Math.Seq.{set-append_seam}
-use Rattle.core_bytes.specs.declared.types.ValType.{ValType}
-use Rattle.core_bytes.specs.declared.types.ValType.TheVariants.{I32}
+use Rattle.core_types.specs.declared.types.ValType.{ValType}
+use Rattle.core_types.specs.declared.types.ValType.TheVariants.{I32}
 use Rattle.core_runs.specs.declared.bracket.TaskHook.{TaskHook}
 use Rattle.core_runs.specs.declared.bracket.TaskHook.TheVariants.{AsyncBlock, AsyncFinish}
 use Rattle.core_runs.specs.Hooks.{hook_number}
@@ -13,7 +13,7 @@ use Rattle.core_runs.specs.declared.bracket.AfterHook.TheVariants.{Nothing, Alwa
 use Rattle.core_runs.specs.declared.bracket.Bracket.{Bracket}
 use Rattle.core_bytes.specs.declared.code.Instruction.{Instruction}
 use Rattle.core_bytes.specs.declared.code.Instruction.TheVariants.{Call, Select, LocalGet, I32Const}
-use Rattle.core_bytes.specs.declared.types.FuncType.{FuncType}
+use Rattle.core_types.specs.declared.types.FuncType.{FuncType}
 use Rattle.core_bytes.specs.declared.code.Body.{Body}
 use Rattle.core_runs.specs.Values.{Value, I32Value, fit, zeros}
 use Rattle.core_runs.specs.Store.{Frame, Generated, Opaque, Store, Now, Outcome, Returned, Trapped, Open, Stuck}

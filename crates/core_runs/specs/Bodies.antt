@@ -3,9 +3,9 @@
 use Rattle.std.specs.Prelude.{ℕ, ◌+◌, ℤ, pos, List, [], ◌∷◌, ◌++◌, map, Option, Some, None}
 use Rattle.std.specs.List.{range_with_len, flat_map}
 use Rattle.std.specs.Int.{cast_signed, w32}
-use Rattle.core_bytes.specs.declared.types.ValType.TheVariants.{I32}
-use Rattle.core_bytes.specs.declared.types.RefType.TheVariants.{FuncRef}
-use Rattle.core_bytes.specs.declared.types.TableType.{TableType}
+use Rattle.core_types.specs.declared.types.ValType.TheVariants.{I32}
+use Rattle.core_types.specs.declared.types.RefType.TheVariants.{FuncRef}
+use Rattle.core_types.specs.declared.types.TableType.{TableType}
 use Rattle.core_bytes.specs.declared.entry.ElementSegment.{ElementSegment}
 use Rattle.core_bytes.specs.declared.entry.ElementSegment.TheVariants as segments
 use Rattle.core_bytes.specs.declared.code.Instruction.{Instruction}

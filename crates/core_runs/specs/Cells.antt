@@ -1,7 +1,7 @@
 -- A thread-local cell: two functions over a global of their module.
 -- This project's own, over the core standard's execution of instructions.
 use Rattle.std.specs.Prelude.{◌≡◌, ℕ, suc, true, List, [], ◌∷◌, Some, slice_get}
-use Rattle.core_bytes.specs.declared.types.ValType.{ValType}
+use Rattle.core_types.specs.declared.types.ValType.{ValType}
 use Rattle.core_runs.specs.Values.{Value, fits}
 use Rattle.core_runs.specs.Store.{Frame, Store, Kept, Now, Outcome}
 use Rattle.core_runs.specs.Execution.{exec, and_then}

@@ -2,10 +2,10 @@
 -- Core standard, execution: instructions, function calls, with typed function references and tail calls. Calls of
 -- functions that are known only by their names are events, and take an answer (this project's own).
 use Rattle.std.specs.Prelude.{ℕ, zero, suc, ◌+◌, ◌%◌, ◌^◌, Bool, true, false, if◌then◌else◌, List, [], ◌∷◌, ◌++◌, length, map, take, drop, reverse, Option, Some, None, slice_get, slice_set}
-use Rattle.core_bytes.specs.declared.types.ValType.{ValType}
+use Rattle.core_types.specs.declared.types.ValType.{ValType}
 use Rattle.core_bytes.specs.declared.code.Instruction.{Instruction}
 use Rattle.core_bytes.specs.declared.code.Instruction.TheVariants.{Unreachable, Call, CallIndirect, ReturnCallRef, Select, LocalGet, LocalSet, GlobalGet, GlobalSet, I32Store, I32Const, I64Const, I32Add, RefFunc}
-use Rattle.core_bytes.specs.declared.types.FuncType.{FuncType}
+use Rattle.core_types.specs.declared.types.FuncType.{FuncType}
 use Rattle.std.specs.Int.{cast_unsigned, w32, w64}
 use Rattle.core_runs.specs.Values.{Value, I32Value, I64Value, Function, fits, fit, zeros, same_signature}
 use Rattle.core_runs.specs.Store.{Frame, Func, Generated, Opaque, signature_of, Store, Cell, Kept, Foreign, Answer, Gives, Traps, Event, Called, SetForeign, Stored, Now, ByAnswer, ByCode, Outcome, Returned, Trapped, Open, Stuck}

@@ -1,8 +1,8 @@
 -- What a function that is bracketed by task hooks is to do.
 -- This project's own: the core standard has calls; which calls are events is defined in `Store`.
 use Rattle.std.specs.Prelude.{◌≡◌, ◌≤◌, ℕ, zero, suc, true, List, [], ◌∷◌, Option, Some, None, slice_get}
-use Rattle.core_bytes.specs.declared.types.ValType.TheVariants.{I32}
-use Rattle.core_bytes.specs.declared.types.FuncType.{FuncType}
+use Rattle.core_types.specs.declared.types.ValType.TheVariants.{I32}
+use Rattle.core_types.specs.declared.types.FuncType.{FuncType}
 use Rattle.core_runs.specs.declared.bracket.TaskHook.{TaskHook}
 use Rattle.core_runs.specs.declared.bracket.TaskHook.TheVariants.{AsyncBlock, AsyncFinish}
 use Rattle.core_runs.specs.declared.bracket.AfterHook.{AfterHook}

@@ -1,7 +1,7 @@
 -- Laws of instances: their functions; and of the table form as modules: the shims' instance, and the fill of its table.
 -- This project's own, over the core standard's instantiation.
 use Rattle.std.specs.Prelude.{◌≡◌, ℕ, suc, true, ◌+◌, ◌≤◌, ◌^◌, List, [], ◌∷◌, ◌++◌, length, map, Option, Some, None, slice_get}
-use Rattle.core_bytes.specs.declared.types.FuncType.{FuncType}
+use Rattle.core_types.specs.declared.types.FuncType.{FuncType}
 use Rattle.core_bytes.specs.declared.code.Body.{Body}
 use Rattle.core_bytes.specs.declared.section.Section.{Section}
 use Rattle.core_runs.specs.Values.{Value, fit}

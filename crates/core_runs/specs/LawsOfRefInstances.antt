@@ -1,10 +1,10 @@
 -- Laws of the reference form as modules: the shims' instance, and its globals.
 -- This project's own, over the core standard's instantiation.
 use Rattle.std.specs.Prelude.{◌≡◌, ℕ, suc, true, ◌+◌, List, [], ◌∷◌, ◌++◌, length, map, Some, slice_get}
-use Rattle.core_bytes.specs.declared.types.ValType.TheVariants.{Ref}
-use Rattle.core_bytes.specs.declared.types.RefType.TheVariants.{Concrete}
-use Rattle.core_bytes.specs.declared.types.FuncType.{FuncType}
-use Rattle.core_bytes.specs.declared.types.ConstExpr.TheVariants as constants
+use Rattle.core_types.specs.declared.types.ValType.TheVariants.{Ref}
+use Rattle.core_types.specs.declared.types.RefType.TheVariants.{Concrete}
+use Rattle.core_types.specs.declared.types.FuncType.{FuncType}
+use Rattle.core_bytes.specs.declared.entity.ConstExpr.TheVariants as constants
 use Rattle.core_bytes.specs.declared.entry.DefinedGlobal.{DefinedGlobal}
 use Rattle.core_runs.specs.Values.{Value, Function, fit}
 use Rattle.core_runs.specs.Store.{Func, signature_of, Store, Cell, Kept, Now, ByCode, Trapped}

@@ -1,7 +1,7 @@
 -- Laws of shims and stubs: what the values of `Bodies` do.
 -- This project's own, over the core standard's execution of instructions.
 use Rattle.std.specs.Prelude.{◌≡◌, ℕ, suc, ◌<◌, ◌^◌, true, List, Some, None, length, slice_get}
-use Rattle.core_bytes.specs.declared.types.FuncType.{FuncType}
+use Rattle.core_types.specs.declared.types.FuncType.{FuncType}
 use Rattle.core_runs.specs.Values.{Value, fit}
 use Rattle.core_runs.specs.Store.{Frame, Func, signature_of, Store, Now, ByCode, Trapped}
 use Rattle.core_runs.specs.Execution.{exec}

@@ -1,7 +1,7 @@
 -- Laws of start functions: what the values of `Bodies` do.
 -- This project's own, over the core standard's execution of instructions.
 use Rattle.std.specs.Prelude.{◌≡◌, ℕ, suc, ◌+◌, ◌%◌, ◌<◌, ◌^◌, List, [], ◌∷◌, ◌++◌, length, map, true, Some, slice_get, slice_set, Option}
-use Rattle.core_bytes.specs.declared.types.ValType.TheVariants.{I32}
+use Rattle.core_types.specs.declared.types.ValType.TheVariants.{I32}
 use Rattle.core_runs.specs.declared.start.StartStep.{StartStep}
 use Rattle.core_runs.specs.Values.{Value, I32Value, fits, fit}
 use Rattle.core_runs.specs.Store.{Frame, Store, Cell, Kept, Foreign, Answer, Gives, SetForeign, Stored, Now, Outcome, Returned}

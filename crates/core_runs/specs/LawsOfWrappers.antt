@@ -1,7 +1,7 @@
 -- Laws of wrappers: what the values of `Bodies` do, shape by shape, and that this meets what is expected.
 -- This project's own, over the core standard's execution of instructions.
 use Rattle.std.specs.Prelude.{◌≡◌, ℕ, zero, suc, ◌≤◌, true, List, [], ◌∷◌, Some, None, length}
-use Rattle.core_bytes.specs.declared.types.ValType.TheVariants.{I32}
+use Rattle.core_types.specs.declared.types.ValType.TheVariants.{I32}
 use Rattle.core_runs.specs.declared.bracket.TaskHook.{TaskHook}
 use Rattle.core_runs.specs.declared.bracket.TaskHook.TheVariants.{AsyncBlock, AsyncFinish}
 use Rattle.core_runs.specs.declared.bracket.AfterHook.TheVariants.{Nothing, Always, ByStatus}

@@ -1,8 +1,8 @@
 -- Shims and stubs: what their bodies have to do.
 -- This project's own, over the core standard's execution of instructions.
 use Rattle.std.specs.Prelude.{◌≡◌, ℕ, suc, true, List, Option, Some, None, length, slice_get}
-use Rattle.core_bytes.specs.declared.types.ValType.{ValType}
-use Rattle.core_bytes.specs.declared.types.FuncType.{FuncType}
+use Rattle.core_types.specs.declared.types.ValType.{ValType}
+use Rattle.core_types.specs.declared.types.FuncType.{FuncType}
 use Rattle.core_bytes.specs.declared.code.Body.{Body}
 use Rattle.core_runs.specs.Values.{Value, Function, fit}
 use Rattle.core_runs.specs.Store.{Frame, Func, Generated, signature_of, Store, Cell, Kept, Now, ByCode, Trapped}

@@ -2,9 +2,9 @@
 -- This project's own, over the core standard's execution of instructions and its start function.
 use Rattle.std.specs.Prelude.{◌≡◌, ℕ, ◌+◌, ◌%◌, ◌<◌, ◌^◌, List, [], ◌∷◌, ◌++◌, Some, slice_get, map, take}
 use Rattle.std.specs.List.{AllByRecursion}
-use Rattle.core_bytes.specs.declared.types.ValType.TheVariants.{Ref}
-use Rattle.core_bytes.specs.declared.types.RefType.{RefType}
-use Rattle.core_bytes.specs.declared.types.FuncType.{FuncType}
+use Rattle.core_types.specs.declared.types.ValType.TheVariants.{Ref}
+use Rattle.core_types.specs.declared.types.RefType.{RefType}
+use Rattle.core_types.specs.declared.types.FuncType.{FuncType}
 use Rattle.core_runs.specs.declared.start.StartStep.{StartStep}
 use Rattle.core_runs.specs.declared.start.StartStep.TheVariants.{Fill, Thunk, Hook, AddressToGlobal, AddressToMemory}
 use Rattle.core_runs.specs.Hooks.{hook_number}

@@ -3,9 +3,9 @@
 -- The store's lists only grow at their ends, so an address never changes its meaning. This project's own are: functions that are
 -- known only by their names, the outside's answers to their calls, and the events that are seen from outside.
 use Rattle.std.specs.Prelude.{ℕ, List, Option}
-use Rattle.core_bytes.specs.declared.types.ValType.{ValType}
-use Rattle.core_bytes.specs.declared.types.FuncType.{FuncType}
-use Rattle.core_bytes.specs.declared.types.MemoryType.{MemoryType}
+use Rattle.core_types.specs.declared.types.ValType.{ValType}
+use Rattle.core_types.specs.declared.types.FuncType.{FuncType}
+use Rattle.core_types.specs.declared.types.MemoryType.{MemoryType}
 use Rattle.core_bytes.specs.declared.code.Instruction.{Instruction}
 use Rattle.core_bytes.specs.declared.code.LocalRun.{LocalRun}
 use Rattle.core_runs.specs.Values.{Value}

@@ -2,11 +2,11 @@
 -- Core standard, execution: values, results; validation: matching of types. Types are compared as they are written:
 -- where two modules number their types differently, a concrete reference is distinguished by its number (this project's own).
 use Rattle.std.specs.Prelude.{ℕ, ◌^◌, Bool, true, false, ◌&&◌, nat_lt, eqb, List, [], ◌∷◌, ◌++◌, replicate}
-use Rattle.core_bytes.specs.declared.types.ValType.{ValType}
-use Rattle.core_bytes.specs.declared.types.ValType.TheVariants.{I32, I64, F32, F64, Ref}
-use Rattle.core_bytes.specs.declared.types.RefType.{RefType}
-use Rattle.core_bytes.specs.declared.types.RefType.TheVariants.{FuncRef, Concrete}
-use Rattle.core_bytes.specs.declared.types.FuncType.{FuncType}
+use Rattle.core_types.specs.declared.types.ValType.{ValType}
+use Rattle.core_types.specs.declared.types.ValType.TheVariants.{I32, I64, F32, F64, Ref}
+use Rattle.core_types.specs.declared.types.RefType.{RefType}
+use Rattle.core_types.specs.declared.types.RefType.TheVariants.{FuncRef, Concrete}
+use Rattle.core_types.specs.declared.types.FuncType.{FuncType}
 use Rattle.core_bytes.specs.declared.code.LocalRun.{LocalRun}
 
 -- val: a number, a float by its bits, or a function by its address in the store. No instruction of generated code makes

@@ -1,9 +1,9 @@
 -- Wrappers: what their bodies have to do.
 -- This project's own, over the core standard's execution of instructions.
 use Rattle.std.specs.Prelude.{◌≡◌, ℕ, suc, true, List, [], ◌∷◌, Some, length, slice_get}
-use Rattle.core_bytes.specs.declared.types.ValType.{ValType}
-use Rattle.core_bytes.specs.declared.types.ValType.TheVariants.{I32}
-use Rattle.core_bytes.specs.declared.types.FuncType.{FuncType}
+use Rattle.core_types.specs.declared.types.ValType.{ValType}
+use Rattle.core_types.specs.declared.types.ValType.TheVariants.{I32}
+use Rattle.core_types.specs.declared.types.FuncType.{FuncType}
 use Rattle.core_bytes.specs.declared.code.Body.{Body}
 use Rattle.core_runs.specs.declared.bracket.AfterHook.{AfterHook}
 use Rattle.core_runs.specs.declared.bracket.AfterHook.TheVariants.{Nothing, Always, ByStatus}

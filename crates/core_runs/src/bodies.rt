@@ -11,7 +11,8 @@ ghost use Rattle.core_runs.specs.Wrappers.{WrapperOf};
 use crate::bracket::{AfterHook, Bracket, TaskHook};
 use crate::start::{GlobalFill, StartStep};
 use comp_lists::Seq;
-use core_bytes::{Body, Instruction, LocalRun, ValType};
+use core_bytes::{Body, Instruction, LocalRun};
+use core_types::ValType;
 use std::alloc::{AllocError, Global};
 
 /// A shim in the table form, of so many parameters: it calls, by a type index, the function in a slot of table 0.

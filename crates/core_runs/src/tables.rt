@@ -7,7 +7,8 @@ ghost use Rattle.core_runs.specs.Bodies as bodies;
 
 use crate::bodies::table_shim_body;
 use comp_lists::Seq;
-use core_bytes::{Code, ElementSegment, RefType, TableType};
+use core_bytes::{Code, ElementSegment};
+use core_types::{RefType, TableType};
 use std::alloc::{AllocError, Global};
 
 /// A shim, as far as its code needs it: how many parameters it has, and the index of its type.

@@ -1,7 +1,7 @@
 -- What who prepares a world knows of its parts.
 use Rattle.std.specs.Prelude.{◌<◌, length}
 use Rattle.std.specs.List.{flat_map, AllByRecursion}
-use Rattle.comp_bytes.specs.Core.{IsCoreModule}
+use Rattle.core_types.specs.Core.{IsCoreModule}
 use Rattle.wit_data.specs.Sound.{IsSound}
 use Rattle.comp_roles.specs.CoreImports.{imports_from}
 use Rattle.comp_worlds.specs.Mentions.{HasRole}

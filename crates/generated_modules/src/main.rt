@@ -14,7 +14,7 @@ mod others;
 mod sections;
 mod shims;
 
-use comp_bytes::BuildFault;
+use byte_encoding::BuildFault;
 use hex::Hex;
 use std::alloc::Global;
 use std::io;

@@ -4,13 +4,13 @@ use crate::sections::{
     MEMORY, NUMBER, changing, code, exports, finish, functions, globals, imports,
     memory as one_memory, put, put_body, types,
 };
-use comp_bytes::{BuildFault, ExportKind};
-use core_bytes::{
-    Code, ConstExpr, DataSection, EntityType, ImportSection, Module, Section, ValType,
-};
+use byte_encoding::BuildFault;
+use core_bytes::{Code, ConstExpr, DataSection, EntityType, ImportSection, Module, Section};
 use core_runs::{
     Bracketed, StartStep, TaskHook, start_body, tls_get_body, tls_set_body, wrapper_body,
 };
+use core_types::ValType;
+use standard_kinds::ExportKind;
 use std::alloc::{AllocError, Global};
 
 const ONE: [ValType; 1] = [ValType::I32];

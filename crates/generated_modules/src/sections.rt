@@ -1,11 +1,13 @@
 //! Sections of a few entries.
 
-use comp_bytes::{BuildFault, ExportKind};
+use byte_encoding::BuildFault;
 use core_bytes::{
-    Body, Code, ConstExpr, DefinedGlobal, ElementSection, ElementSegment, EntityType,
-    ExportSection, FunctionSection, GlobalSection, GlobalType, ImportSection, MemorySection,
-    MemoryType, Module, Section, TableSection, TableType, TypeSection, ValType,
+    Body, Code, ConstExpr, DefinedGlobal, ElementSection, ElementSegment, EntityType, ExportSection,
+    FunctionSection, GlobalSection, ImportSection, MemorySection, Module, Section, TableSection,
+    TypeSection,
 };
+use core_types::{GlobalType, MemoryType, TableType, ValType};
+use standard_kinds::ExportKind;
 use std::alloc::{AllocError, Global};
 
 /// A memory of one page at least.

@@ -6,16 +6,17 @@ use crate::sections::{
     PAIR, changing, code, element, finish, functions, functions_of_one_type, globals, put,
     put_body, table, types,
 };
-use comp_bytes::{BuildFault, ExportKind};
+use byte_encoding::BuildFault;
 use comp_lists::Seq;
 use core_bytes::{
-    Code, ConstExpr, ElementSegment, EntityType, ExportSection, GlobalType, ImportSection, Module,
-    RefType, Section, ValType,
+    Code, ConstExpr, ElementSegment, EntityType, ExportSection, ImportSection, Module, Section,
 };
 use core_runs::{
     GlobalFill, Shim, ref_shim_body, start_body, stub_body, table_fill, table_of_shims,
     table_shim_bodies,
 };
+use core_types::{GlobalType, RefType, ValType};
+use standard_kinds::ExportKind;
 use std::alloc::{AllocError, Global};
 
 /// The names of shims, by their numbers.

@@ -4,7 +4,7 @@ use Rattle.std.specs.Prelude.{IfErr, IsOk}
 use Rattle.std.specs.Result.{IsErrAnd}
 use Rattle.std.specs.List.{flat_map, AllByRecursion}
 use Rattle.std.proofs.lemmas.List.{append-nil}
-use Rattle.comp_bytes.specs.Core.{IsCoreModule}
+use Rattle.core_types.specs.Core.{IsCoreModule}
 use Rattle.comp_roles.specs.CoreImports.{CoreImport, imports_from}
 use Rattle.comp_roles.specs.declared.exports.Export.{Export}
 use Rattle.comp_worlds.specs.Mentions.{HasRole}

@@ -1,7 +1,7 @@
 -- The whole of preparing.
 use Rattle.std.proofs.Common.{take, ◌≡◌, ℕ, List, Option, Some, None, Result, Ok, Err, refl, ap, subst, ◌∙◌}
 use Rattle.std.specs.Prelude.{◌≢◌, ⊤, IfErr, IsOk, IsSome}
-use Rattle.comp_bytes.specs.Core.{IsCoreModule}
+use Rattle.core_types.specs.Core.{IsCoreModule}
 use Rattle.comp_worlds.specs.declared.gathered.Gathered.{Gathered}
 use Rattle.comp_worlds.specs.declared.gathered.Part.{Part}
 use Rattle.comp_worlds.specs.declared.world.ComponentWorld.{ComponentWorld}

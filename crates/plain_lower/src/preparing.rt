@@ -1,7 +1,7 @@
 //! The validated world.
 
 ghost use Rattle.std.specs.Prelude.{◌≡◌, ◌≢◌, IfOk, IfErr, IsOk, IsSome, Ok, Some};
-ghost use Rattle.comp_bytes.specs.Core.{IsCoreModule};
+ghost use Rattle.core_types.specs.Core.{IsCoreModule};
 ghost use Rattle.comp_worlds.specs.Worlds.{IsWorld};
 ghost use Rattle.record_meanings.specs.Metadata as meant;
 ghost use Rattle.plain_faults.specs.Faults.{Gives, flat};

@@ -2,9 +2,10 @@
 
 ghost use Rattle.std.specs.Prelude.{◌≡◌, IfErr, IfOk, IsTrue};
 ghost use Rattle.comp_bytes.specs.Grammar.{Spells, spelling_of};
-ghost use Rattle.comp_bytes.specs.Written.{Refused};
+ghost use Rattle.byte_encoding.specs.Written.{Refused};
 
-use comp_bytes::{BuildFault, Def, component_bytes};
+use byte_encoding::BuildFault;
+use comp_bytes::{Def, component_bytes};
 use comp_read::{ReadFault, read_component};
 use std::alloc::{AllocError, Global};
 

@@ -2,7 +2,7 @@
 -- are this project's own; what is asked of types is the core standard's and the Canonical ABI's.)
 use Rattle.std.specs.Prelude.{◌≡◌, ℕ, true, false, List, [], ◌∷◌, ◌++◌, Some, None, Ok, Contains}
 use Rattle.std.specs.List.{flat_map}
-use Rattle.core_bytes.specs.declared.types.MemoryType.{MemoryType}
+use Rattle.core_types.specs.declared.types.MemoryType.{MemoryType}
 use Rattle.core_sections.specs.declared.core_module.CoreModule.{CoreModule}
 use Rattle.core_sections.specs.declared.entries.CoreImport.{CoreImport}
 use Rattle.comp_roles.specs.CoreImports.{CoreImport as CoreUse, imports_from}

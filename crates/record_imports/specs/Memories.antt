@@ -2,7 +2,7 @@
 -- (core standard, validation: matching of limits).
 use Rattle.std.specs.Prelude.{ℕ, nat_le, Bool, true, false, ◌&&◌, List, [], ◌∷◌, Option, Some, None, Result, Ok, Err, ⊤, if◌then◌else◌}
 use Rattle.std.specs.List.{flat_map}
-use Rattle.core_bytes.specs.declared.types.MemoryType.{MemoryType}
+use Rattle.core_types.specs.declared.types.MemoryType.{MemoryType}
 use Rattle.comp_roles.specs.CoreImports.{CoreImport, imports_from}
 use Rattle.comp_roles.specs.Lookups.{imported_memory, memory_of_import}
 use Rattle.comp_roles.specs.declared.imports.ImportInstance.{ImportInstance}

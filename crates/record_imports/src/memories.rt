@@ -7,7 +7,7 @@ ghost use Rattle.record_imports.specs.Memories.{fits_maximum, fits_memory, takes
 
 use comp_lists::Text;
 use comp_roles::{Import, ImportMap, NamedImport};
-use core_bytes::MemoryType;
+use core_types::MemoryType;
 use plain_faults::{Failure, Refusal};
 use std::alloc::Global;
 

@@ -7,9 +7,9 @@ use Rattle.std.proofs.lemmas.Slice.Eq.{bytes_eq-Decides}
 use Rattle.std.proofs.lemmas.Bool.Decides.{Decides-eqb}
 use Rattle.std.specs.Prelude.{nat_eq}
 use Rattle.std.specs.Bool.{beq}
-use Rattle.comp_bytes.specs.contracts.space.ExportKindPartialEq.TheImpl as kind_eq
-use Rattle.comp_roles.specs.contracts.encoding.StringEncodingPartialEq.TheImpl as encoding_eq
-use Rattle.core_bytes.specs.contracts.types.ValTypePartialEq.TheImpl as val_eq
+use Rattle.standard_kinds.specs.contracts.kinds.ExportKindPartialEq.TheImpl as kind_eq
+use Rattle.standard_kinds.specs.contracts.kinds.StringEncodingPartialEq.TheImpl as encoding_eq
+use Rattle.core_types.specs.contracts.types.ValTypePartialEq.TheImpl as val_eq
 use Rattle.wit_data.specs.declared.functions.AbiVariant.{AbiVariant}
 use Rattle.wit_data.specs.contracts.functions.AbiVariantPartialEq.TheImpl as abi_eq
 use Rattle.record_values.specs.declared.names.Owner.{Owner}

@@ -2,7 +2,7 @@
 use Rattle.std.specs.Prelude.{List, [], ◌∷◌, Option, None, Some}
 use Rattle.std.specs.Map.{lookup}
 use Rattle.comp_lists.specs.Tables.{with_first}
-use Rattle.comp_roles.specs.declared.encoding.StringEncoding.{StringEncoding}
+use Rattle.standard_kinds.specs.declared.kinds.StringEncoding.{StringEncoding}
 use Rattle.record_values.specs.declared.names.InterfaceName.{InterfaceName}
 use Rattle.record_values.specs.declared.types.Func.{Func}
 use Rattle.record_values.specs.declared.types.Interface.{Interface}

@@ -4,8 +4,8 @@ ghost use Rattle.std.specs.Prelude.{◌≡◌};
 ghost use Rattle.record_joining.specs.Said.{no_wit, no_roles, nothing_said};
 
 use comp_lists::{Keyed, Text};
-use comp_roles::StringEncoding;
 use record_values::{ExportRole, ImportName, ImportRole, ItemKey, Wit};
+use standard_kinds::StringEncoding;
 use std::alloc::Global;
 use std::hash::{Hash, Hasher};
 

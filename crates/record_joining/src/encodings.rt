@@ -5,8 +5,8 @@ ghost use Rattle.record_joining.specs.Encodings.{with_functions, with_item, with
 
 use crate::bindgen::FunctionOf;
 use comp_lists::{Keyed, TryClone};
-use comp_roles::StringEncoding;
 use record_values::{Func, Interface, InterfaceName, Item, ItemKey, Record};
+use standard_kinds::StringEncoding;
 use std::alloc::{AllocError, Global};
 
 /// Functions beside their encodings.

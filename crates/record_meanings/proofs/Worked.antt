@@ -2,7 +2,7 @@
 -- copy of its own.
 use Rattle.std.proofs.Common.{◌≡◌, ℕ, ◌+◌, List, [], ◌∷◌, ◌++◌, Some, None, refl, true, false}
 use Rattle.std.specs.Prelude.{codes}
-use Rattle.comp_bytes.specs.declared.types.Primitive.TheVariants as prims
+use Rattle.standard_kinds.specs.declared.kinds.Primitive.TheVariants as prims
 use Rattle.wit_data.specs.Values.{values_from}
 use Rattle.wit_data.specs.declared.functions.AbiVariant.TheVariants as abis
 use Rattle.wit_data.specs.declared.functions.Function.{Function}

@@ -2,8 +2,8 @@
 -- and the built-in functions).
 use Rattle.std.specs.Prelude.{ℕ, List, Option, Some, None, option_map}
 use Rattle.std.specs.Option.{option_and_then}
-use Rattle.core_bytes.specs.declared.types.FuncType.{FuncType}
-use Rattle.core_bytes.specs.declared.types.MemoryType.{MemoryType}
+use Rattle.core_types.specs.declared.types.FuncType.{FuncType}
+use Rattle.core_types.specs.declared.types.MemoryType.{MemoryType}
 use Rattle.wit_data.specs.declared.functions.AbiVariant.{AbiVariant}
 use Rattle.wit_data.specs.declared.functions.Function.{Function}
 use Rattle.wit_data.specs.declared.ids.InterfaceId.{InterfaceId}

@@ -3,7 +3,7 @@
 use Rattle.std.specs.Prelude.{ℕ, List, [], ◌∷◌, Option, Some, None}
 use Rattle.comp_lists.specs.Tables.{with_first}
 use Rattle.comp_roles.specs.Functions.{is_same_function}
-use Rattle.comp_roles.specs.declared.encoding.StringEncoding.{StringEncoding}
+use Rattle.standard_kinds.specs.declared.kinds.StringEncoding.{StringEncoding}
 use Rattle.comp_roles.specs.declared.metadata.FunctionKey.{FunctionKey}
 use Rattle.comp_roles.specs.declared.metadata.ModuleMetadata.{ModuleMetadata}
 use Rattle.wit_data.specs.declared.worlds.WorldKey.{WorldKey}

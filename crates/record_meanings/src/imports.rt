@@ -15,14 +15,14 @@ use crate::copies::copy_function;
 use crate::payloads::{payload_import, payload_meant};
 use crate::places::{Place, Resource, function_at, function_place, place_of, resource_of};
 use crate::sides::Side;
-use comp_bytes::ExportKind;
 use comp_lists::{Text, TryClone};
 use comp_roles::{ExternType, Import};
-use core_bytes::{FuncType, MemoryType};
+use core_types::{FuncType, MemoryType};
 use record_resolving::Resolved;
 use record_values::{
     ImportRole, Intrinsic, Owner, Payload, PayloadKind, PayloadOperation, TypeName,
 };
+use standard_kinds::ExportKind;
 use std::alloc::{AllocError, Global};
 use wit_data::{AbiVariant, Function};
 

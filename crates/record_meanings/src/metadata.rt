@@ -7,9 +7,10 @@ ghost use Rattle.record_meanings.specs.Metadata.{with_encoding, encodings_after,
 use crate::keys::key_meant;
 use crate::sides::Side;
 use comp_lists::Keyed;
-use comp_roles::{FunctionKey, ModuleMetadata, StringEncoding};
+use comp_roles::{FunctionKey, ModuleMetadata};
 use record_joining::{FunctionOf, Roles};
 use record_resolving::Resolved;
+use standard_kinds::StringEncoding;
 use std::alloc::{AllocError, Global};
 
 /// Functions beside their encodings.

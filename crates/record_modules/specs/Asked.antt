@@ -5,8 +5,8 @@ use Rattle.std.specs.List.{slice_get}
 use Rattle.std.specs.Map.{lookup}
 use Rattle.std.specs.Option.{option_and_then, option_or, option_to_list}
 use Rattle.comp_lists.specs.Found.{found}
-use Rattle.core_bytes.specs.declared.types.ValType.{ValType}
-use Rattle.core_bytes.specs.declared.types.ValType.TheVariants as values
+use Rattle.core_types.specs.declared.types.ValType.{ValType}
+use Rattle.core_types.specs.declared.types.ValType.TheVariants as values
 use Rattle.core_sections.specs.declared.entries.FuncType.{FuncType}
 use Rattle.core_sections.specs.declared.entries.ValType.{ValType as CoreVal}
 use Rattle.core_sections.specs.declared.entries.ValType.TheVariants.{I32, I64, F32, F64}

@@ -4,8 +4,8 @@ use Rattle.std.specs.Prelude.{Bool, false, ◌&&◌, List, Option, Some, None}
 use Rattle.std.specs.Cmp.Lexicographic.{pointwise}
 use Rattle.std.specs.List.{slice_get}
 use Rattle.std.specs.Option.{option_eq, option_map_or, IfSome}
-use Rattle.core_bytes.specs.declared.types.MemoryType.{MemoryType}
-use Rattle.core_bytes.specs.contracts.types.MemoryTypePartialEq.TheImpl as same_memory
+use Rattle.core_types.specs.declared.types.MemoryType.{MemoryType}
+use Rattle.core_types.specs.contracts.types.MemoryTypePartialEq.TheImpl as same_memory
 use Rattle.core_sections.specs.declared.core_module.CoreModule.{CoreModule}
 use Rattle.core_sections.specs.declared.entries.EntityType.{EntityType}
 use Rattle.core_sections.specs.declared.entries.EntityType.TheVariants as entities

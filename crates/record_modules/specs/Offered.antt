@@ -3,12 +3,12 @@
 use Rattle.std.specs.Prelude.{ℕ, ◌^◌, nat_lt, if◌then◌else◌, List, [], ◌∷◌, Option, Some, None, option_map}
 use Rattle.std.specs.List.{flat_map, slice_get}
 use Rattle.std.specs.Option.{option_to_list}
-use Rattle.core_bytes.specs.declared.types.ValType.{ValType}
-use Rattle.core_bytes.specs.declared.types.ValType.TheVariants as values
-use Rattle.core_bytes.specs.declared.types.RefType.TheVariants.{FuncRef}
-use Rattle.core_bytes.specs.declared.types.FuncType.{FuncType}
-use Rattle.core_bytes.specs.declared.types.MemoryType.{MemoryType}
-use Rattle.core_bytes.specs.declared.types.TableType.{TableType}
+use Rattle.core_types.specs.declared.types.ValType.{ValType}
+use Rattle.core_types.specs.declared.types.ValType.TheVariants as values
+use Rattle.core_types.specs.declared.types.RefType.TheVariants.{FuncRef}
+use Rattle.core_types.specs.declared.types.FuncType.{FuncType}
+use Rattle.core_types.specs.declared.types.MemoryType.{MemoryType}
+use Rattle.core_types.specs.declared.types.TableType.{TableType}
 use Rattle.core_sections.specs.declared.core_module.CoreModule.{CoreModule}
 use Rattle.core_sections.specs.declared.entries.EntityType.{EntityType}
 use Rattle.core_sections.specs.declared.entries.EntityType.TheVariants as entities

@@ -15,8 +15,8 @@ use crate::intrinsics::{Shape, intrinsic, plain_export};
 use crate::offering::memory_type;
 use comp_lists::{Seq, Text};
 use comp_roles::{Export, Import};
-use core_bytes::MemoryType;
 use core_sections::{CoreModule, EntityType, ExportedItem, FuncType, ValType};
+use core_types::MemoryType;
 use std::alloc::{AllocError, Global};
 use wit_data::{AbiVariant, Function, FunctionKind, Param, Resolve, WasmType, WorldId};
 

@@ -36,23 +36,23 @@ fn asks(params: &'static [ValType], results: &'static [ValType]) -> Option<Shape
 }
 
 /// What answers a number of 32 or 64 bits of this type.
-fn getter(value: core_bytes::ValType) -> Option<Shape>
+fn getter(value: core_types::ValType) -> Option<Shape>
     ensures { option_map shape_type result ≡ getter value }
 {
     match value {
-        core_bytes::ValType::I32 => asks(&[], &[I32]),
-        core_bytes::ValType::I64 => asks(&[], &[I64]),
+        core_types::ValType::I32 => asks(&[], &[I32]),
+        core_types::ValType::I64 => asks(&[], &[I64]),
         _ => None,
     }
 }
 
 /// What takes a number of 32 or 64 bits of this type.
-fn setter(value: core_bytes::ValType) -> Option<Shape>
+fn setter(value: core_types::ValType) -> Option<Shape>
     ensures { option_map shape_type result ≡ setter value }
 {
     match value {
-        core_bytes::ValType::I32 => asks(&[I32], &[]),
-        core_bytes::ValType::I64 => asks(&[I64], &[]),
+        core_types::ValType::I32 => asks(&[I32], &[]),
+        core_types::ValType::I64 => asks(&[I64], &[]),
         _ => None,
     }
 }

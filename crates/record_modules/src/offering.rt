@@ -7,8 +7,8 @@ ghost use Rattle.record_modules.specs.Offered.{value_type, value_types, func_typ
 
 use comp_lists::{Keyed, Seq, Text};
 use comp_roles::ExternType;
-use core_bytes::{FuncType, GlobalType, MemoryType, RefType, TableType, ValType};
 use core_sections::{CoreModule, EntityType, ExportedItem, Limits};
+use core_types::{FuncType, GlobalType, MemoryType, RefType, TableType, ValType};
 use std::alloc::{AllocError, Global};
 
 /// A value type, where it is a number or a reference to any function.

@@ -3,12 +3,12 @@ use Rattle.std.specs.Prelude.{ℕ, ◌==◌, List, codes, Bool, Option, Some, No
 use Rattle.std.specs.Str.{bytes_eq}
 use Rattle.serde_json.specs.Data.{Data, Items, no_items, item}
 use Rattle.serde_json.specs.Find.{as_array}
-use Rattle.comp_bytes.specs.declared.space.ExportKind.{ExportKind}
-use Rattle.comp_bytes.specs.declared.space.ExportKind.TheVariants as export_kinds
-use Rattle.comp_roles.specs.declared.encoding.StringEncoding.{StringEncoding}
-use Rattle.comp_roles.specs.declared.encoding.StringEncoding.TheVariants as encodings
-use Rattle.core_bytes.specs.declared.types.ValType.{ValType}
-use Rattle.core_bytes.specs.declared.types.ValType.TheVariants as vals
+use Rattle.standard_kinds.specs.declared.kinds.ExportKind.{ExportKind}
+use Rattle.standard_kinds.specs.declared.kinds.ExportKind.TheVariants as export_kinds
+use Rattle.standard_kinds.specs.declared.kinds.StringEncoding.{StringEncoding}
+use Rattle.standard_kinds.specs.declared.kinds.StringEncoding.TheVariants as encodings
+use Rattle.core_types.specs.declared.types.ValType.{ValType}
+use Rattle.core_types.specs.declared.types.ValType.TheVariants as vals
 use Rattle.wit_data.specs.declared.functions.AbiVariant.{AbiVariant}
 use Rattle.wit_data.specs.declared.functions.AbiVariant.TheVariants as abis
 use Rattle.record_json.specs.declared.fault.Failure.{Failure}

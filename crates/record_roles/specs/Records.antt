@@ -7,8 +7,8 @@
 use Rattle.std.specs.Prelude.{⊤, ℕ, ◌==◌, List, [], ◌∷◌, codes, Bool, Option, Some, None, ok_or, option_and_then, Result, Ok, Err, if◌then◌else◌}
 use Rattle.serde_json.specs.Data.{Data}
 use Rattle.serde_json.specs.Find.{get, as_array, as_number, as_u64}
-use Rattle.comp_roles.specs.declared.encoding.StringEncoding.{StringEncoding}
-use Rattle.comp_roles.specs.declared.encoding.StringEncoding.TheVariants as encodings
+use Rattle.standard_kinds.specs.declared.kinds.StringEncoding.{StringEncoding}
+use Rattle.standard_kinds.specs.declared.kinds.StringEncoding.TheVariants as encodings
 use Rattle.record_json.specs.declared.fault.Failure.{Failure}
 use Rattle.record_json.specs.Faults.{◌>>=◌}
 use Rattle.record_json.specs.Reading.{under, here, at_member, required, text_at, bool_if, only, data_of, items_from}

@@ -6,11 +6,10 @@ ghost use Rattle.serde_json.specs.View.{view};
 ghost use Rattle.record_json.specs.Faults.{Gives};
 ghost use Rattle.record_roles.specs.Arguments.{none_of, one_of, two_of, three_of, first_of, no_argument, one_argument, two_arguments, three_arguments, flag_of, encoding_of, address_of, sort_of, import_abi_of, export_abi_of};
 
-use comp_bytes::ExportKind;
-use comp_roles::StringEncoding;
-use core_bytes::ValType;
+use core_types::ValType;
 use record_json::{Failure, fault_here, read_number, read_text};
 use serde_json::Value;
+use standard_kinds::{ExportKind, StringEncoding};
 use std::alloc::Global;
 use wit_data::AbiVariant;
 

@@ -14,7 +14,6 @@ use crate::export_roles::read_export_role;
 use crate::import_roles::read_import_role;
 use crate::payloads::{Met, all_met};
 use comp_lists::{Seq, Text};
-use comp_roles::StringEncoding;
 use record_json::{
     Failure, bool_member, check_members, fault_at, fault_here, read_value, required, text_member,
     under, under_index,
@@ -22,6 +21,7 @@ use record_json::{
 use record_values::{Assigned, ExportRole, ImportName, ImportRole, Record};
 use record_worlds::{RecordWorld, read_world};
 use serde_json::Value;
+use standard_kinds::StringEncoding;
 use std::alloc::Global;
 
 fn import_role_member(

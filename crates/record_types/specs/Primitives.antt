@@ -1,8 +1,8 @@
 -- The names of the primitive types (component model, WIT: `ty`).
 use Rattle.std.specs.Prelude.{ℕ, List, codes, Option, Some, None, if◌then◌else◌}
 use Rattle.std.specs.Str.{bytes_eq}
-use Rattle.comp_bytes.specs.declared.types.Primitive.{Primitive}
-use Rattle.comp_bytes.specs.declared.types.Primitive.TheVariants as primitives
+use Rattle.standard_kinds.specs.declared.kinds.Primitive.{Primitive}
+use Rattle.standard_kinds.specs.declared.kinds.Primitive.TheVariants as primitives
 
 abbrev pub primitive_of : List ℕ → Option Primitive
 primitive_of s =

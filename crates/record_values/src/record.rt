@@ -5,7 +5,7 @@ ghost use Rattle.std.specs.Prelude.{◌≡◌};
 use crate::roles::{ExportRole, ImportRole};
 use crate::world::Wit;
 use comp_lists::{Seq, Text};
-use comp_roles::StringEncoding;
+use standard_kinds::StringEncoding;
 use std::hash::{Hash, Hasher};
 
 /// A core import: its module and its field.

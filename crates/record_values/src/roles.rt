@@ -1,10 +1,9 @@
 //! What the imports and exports of a core module are for.
 
 use crate::names::{Owner, TypeName};
-use comp_bytes::ExportKind;
 use comp_lists::Text;
-use comp_roles::StringEncoding;
-use core_bytes::ValType;
+use core_types::ValType;
+use standard_kinds::{ExportKind, StringEncoding};
 use wit_data::AbiVariant;
 
 /// A built-in function without arguments of its own (Canonical ABI: `canon` built-ins).

@@ -8,7 +8,7 @@ use Rattle.comp_worlds.specs.declared.world.ComponentWorld.{ComponentWorld}
 use Rattle.comp_worlds.specs.declared.world.WorldParts.{WorldParts}
 use Rattle.comp_worlds.specs.Mentions.{HasRole}
 use Rattle.comp_worlds.specs.Uses.{all_imports}
-use Rattle.comp_bytes.specs.Core.{core_preamble}
+use Rattle.core_types.specs.Core.{core_preamble}
 use Rattle.comp_worlds.specs.Worlds.{IsWorld}
 use Rattle.comp_encoder.specs.Encoder.{main_bytes}
 use Rattle.wit_data.specs.Values.{values_from}

@@ -1,7 +1,7 @@
 //! The layer.
 
 ghost use Rattle.std.specs.Prelude.{◌≡◌, ◌≢◌, IfOk, IfErr, IsOk, MatchBool, take};
-ghost use Rattle.comp_bytes.specs.Core.{core_preamble};
+ghost use Rattle.core_types.specs.Core.{core_preamble};
 ghost use Rattle.comp_worlds.specs.Worlds.{IsWorld};
 ghost use Rattle.stub_lower.specs.Stub.{stub_world};
 ghost use Rattle.stub_lower.specs.declared.stub.StubFault.TheVariants.{Memory};

@@ -2,7 +2,7 @@
 
 ghost use Rattle.std.specs.Prelude.{◌≡◌, IfOk, take};
 ghost use Rattle.stub_lower.specs.Stub.{stub_role, stub_fields, stub_imports, stub_items, stub_resolve, stub_parts, stub_world};
-ghost use Rattle.comp_bytes.specs.Core.{core_preamble};
+ghost use Rattle.core_types.specs.Core.{core_preamble};
 ghost use Rattle.comp_worlds.specs.Worlds.{IsWorld};
 
 use comp_lists::{Keyed, Seq, Text};

@@ -1,6 +1,7 @@
 //! Components by their bytes: how they are read, checked and shown.
 
-use comp_bytes::{BuildFault, Defs};
+use byte_encoding::BuildFault;
+use comp_bytes::Defs;
 use comp_check::{CheckFault, check};
 use comp_lines::describe;
 use comp_names::check_names;

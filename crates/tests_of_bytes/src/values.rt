@@ -1,12 +1,11 @@
 //! Counts, index spaces, the texts of faults, and laws.
 
-use comp_bytes::{
-    BuildFault, ComponentExportKind, Description, ExportKind, Sort, Space, count_of, next_count,
-    one_list, one_name, one_number, one_type_index,
-};
+use byte_encoding::{BuildFault, count_of, next_count, one_name, one_number, one_type_index};
+use comp_bytes::{ComponentExportKind, Description, Sort, Space, one_list, space_of_kind};
 use comp_lists::Text;
 use comp_names::NameFault;
 use comp_read::ReadFault;
+use standard_kinds::ExportKind;
 use std::alloc::{AllocError, Global};
 
 /// The count that follows, or what is refused.
@@ -42,7 +41,7 @@ fn space_of(word: &str) -> Option<Space> {
         "Type" => Some(Space::Type),
         "Component" => Some(Space::Component),
         "Instance" => Some(Space::Instance),
-        "ExportKind::Memory" => Some(ExportKind::Memory.space()),
+        "ExportKind::Memory" => Some(space_of_kind(ExportKind::Memory)),
         "ComponentExportKind::Component" => Some(ComponentExportKind::Component.space()),
         "Sort::Core(Table)" => Some(Sort::Core(ExportKind::Table).space()),
         "Description::SubResource" => Some(Description::SubResource.space()),

@@ -1,6 +1,6 @@
 //! Bytes and faults as texts.
 
-use comp_bytes::{BuildFault, Spell, spelled};
+use byte_encoding::{BuildFault, Spell, spelled};
 use core_sections::SectionFault;
 use hex::FromHexError;
 use std::alloc::{AllocError, Global};

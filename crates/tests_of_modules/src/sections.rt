@@ -1,9 +1,8 @@
 //! Sections that are written.
 
 use comp_lists::Text;
-use core_bytes::{
-    Code, ElementSection, Instruction, LocalRun, ModuleNames, NameMap, Section, ValType,
-};
+use core_bytes::{Code, ElementSection, Instruction, LocalRun, ModuleNames, NameMap, Section};
+use core_types::ValType;
 use std::alloc::{AllocError, Global};
 
 /// A sum is stored.

@@ -3,8 +3,9 @@
 use crate::cases::word_and_rest;
 use crate::made::{EXPORTED, IMPORTED, h, k};
 use comp_lists::Text;
-use comp_worlds::{Import, PayloadInfo, PayloadType, StringEncoding};
-use core_bytes::ValType;
+use comp_worlds::{Import, PayloadInfo, PayloadType};
+use core_types::ValType;
+use standard_kinds::StringEncoding;
 use std::alloc::{AllocError, Global};
 use wit_data::{AbiVariant, TypeId, WorldKey};
 

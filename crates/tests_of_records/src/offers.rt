@@ -5,8 +5,8 @@
 use crate::cases::word_and_rest;
 use comp_lists::{Keyed, Text};
 use comp_worlds::ExternType;
-use core_bytes::{MemoryType, RefType, ValType};
 use core_sections::{CoreModule, Limits, SectionFault, read_module};
+use core_types::{MemoryType, RefType, ValType};
 use record_modules::{memory_type, offered};
 use std::alloc::{AllocError, Global};
 

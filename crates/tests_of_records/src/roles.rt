@@ -7,13 +7,13 @@
 ghost use Rattle.std.specs.Prelude.{IsTrue};
 ghost use Rattle.comp_worlds.specs.Mentions.{HasReturned};
 
+use crate::{exports, imports};
 use crate::cases::word_and_rest;
 use crate::made::{WORLD, module, resolve};
 use crate::offers::limits_of;
-use crate::{exports, imports};
 use comp_worlds::{Export, Import};
-use core_bytes::MemoryType;
 use core_sections::{CoreModule, EntityType, ExportedItem, Limits};
+use core_types::MemoryType;
 use record_modules::{fits_export, fits_import};
 use std::alloc::{AllocError, Global};
 use wit_data::Resolve;

@@ -7,7 +7,7 @@
 use crate::types::{id, named_function_of, number, word_and_rest};
 use comp_lists::{Keyed, Text};
 use comp_worlds::{Export, ExportMap};
-use core_bytes::MemoryType;
+use core_types::MemoryType;
 use std::alloc::{AllocError, Global};
 use wit_data::{AbiVariant, Function, InterfaceId, WorldKey};
 

@@ -12,7 +12,8 @@
 use crate::signatures::FORMS;
 use crate::types::{function_of, resolve_of, word_and_rest};
 use bitflags::Flags;
-use comp_worlds::{OptionFault, RequiredOptions, StringEncoding};
+use comp_worlds::{OptionFault, RequiredOptions};
+use standard_kinds::StringEncoding;
 use std::alloc::{AllocError, Global};
 use std::iter::ExactSizeIterator;
 use wit_data::{AbiVariant, Function, Resolve, TypeContents};

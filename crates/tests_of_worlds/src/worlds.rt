@@ -9,13 +9,13 @@
 
 use crate::exports::abi_of;
 use crate::types::word_and_rest;
-use comp_bytes::ExportKind;
 use comp_lists::{Keyed, Seq, Text};
 use comp_worlds::{
     ComponentWorld, CustomModule, Export, ExportMap, FunctionKey, ImportMap, Instance, Item,
-    LibraryArgument, LibraryInfo, LoweringKey, MainOrAdapter, ModuleMetadata, StringEncoding,
-    ValidatedModule, WorldAdapter,
+    LibraryArgument, LibraryInfo, LoweringKey, MainOrAdapter, ModuleMetadata, ValidatedModule,
+    WorldAdapter,
 };
+use standard_kinds::{ExportKind, StringEncoding};
 use std::alloc::{AllocError, Global};
 use wit_data::{Resolve, WorldId};
 

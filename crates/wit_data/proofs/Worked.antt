@@ -1,8 +1,8 @@
 -- Worked examples of core values and core signatures.
 use Rattle.std.proofs.Common.{◌≡◌, true, false, List, [], ◌∷◌, refl, Some, None}
 use Rattle.std.specs.Prelude.{codes, replicate}
-use Rattle.comp_bytes.specs.declared.types.Primitive.{Primitive as Prim}
-use Rattle.comp_bytes.specs.declared.types.Primitive.TheVariants as prims
+use Rattle.standard_kinds.specs.declared.kinds.Primitive.{Primitive as Prim}
+use Rattle.standard_kinds.specs.declared.kinds.Primitive.TheVariants as prims
 use Rattle.wit_data.specs.declared.types.Type.{«Type» as Ty}
 use Rattle.wit_data.specs.declared.types.Type.TheVariants.{Primitive, Id}
 use Rattle.wit_data.specs.declared.types.TypeDefKind.{TypeDefKind}

@@ -3,8 +3,8 @@
 use Rattle.std.specs.Prelude.{ℕ, ◌+◌, Bool, true, false, ◌||◌, List, Option, None, if◌then◌else◌}
 use Rattle.std.specs.List.{list_any}
 use Rattle.wit_data.specs.declared.types.Type.{«Type» as Ty}
-use Rattle.comp_bytes.specs.declared.types.Primitive.{Primitive as Prim}
-use Rattle.comp_bytes.specs.declared.types.Primitive.TheVariants as prims
+use Rattle.standard_kinds.specs.declared.kinds.Primitive.{Primitive as Prim}
+use Rattle.standard_kinds.specs.declared.kinds.Primitive.TheVariants as prims
 use Rattle.wit_data.specs.declared.types.TypeDefKind.{TypeDefKind}
 use Rattle.wit_data.specs.declared.types.TypeDefKind.TheVariants as kinds
 use Rattle.wit_data.specs.declared.types.TypeDef.{TypeDef}

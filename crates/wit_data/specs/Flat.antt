@@ -2,8 +2,8 @@
 use Rattle.std.specs.Prelude.{List, [], ◌∷◌, Option}
 use Rattle.std.specs.List.{flat_map}
 use Rattle.wit_data.specs.declared.types.Type.{«Type» as Ty}
-use Rattle.comp_bytes.specs.declared.types.Primitive.{Primitive as Prim}
-use Rattle.comp_bytes.specs.declared.types.Primitive.TheVariants as prims
+use Rattle.standard_kinds.specs.declared.kinds.Primitive.{Primitive as Prim}
+use Rattle.standard_kinds.specs.declared.kinds.Primitive.TheVariants as prims
 use Rattle.wit_data.specs.declared.types.TypeDefKind.{TypeDefKind}
 use Rattle.wit_data.specs.declared.types.TypeDefKind.TheVariants as kinds
 use Rattle.wit_data.specs.declared.types.TypeDef.{TypeDef}

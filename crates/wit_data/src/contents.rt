@@ -12,7 +12,7 @@ use crate::parts::{kind_of, part_count_of, part_of};
 use crate::resolve::Resolve;
 use crate::types::{Type, TypeDef, TypeDefKind};
 use bitflags::{Flag, Flags, bitflag_items};
-use comp_bytes::Primitive;
+use standard_kinds::Primitive;
 
 /// What a type contains that is in memory (Canonical ABI: `store`, `load`).
 #[derive(Clone, Copy, Debug, PartialEq, Eq)]

@@ -10,7 +10,7 @@ ghost use Rattle.wit_data.specs.declared.signatures.WasmType.TheVariants.{I32};
 use crate::parts::{part_count_of, part_of};
 use crate::signatures::WasmType;
 use crate::types::{Type, TypeDef, TypeDefKind};
-use comp_bytes::Primitive;
+use standard_kinds::Primitive;
 use std::alloc::{AllocError, Global};
 
 /// How the core values of a type follow from those of the types that it names.

@@ -34,7 +34,6 @@ mod types;
 mod versions;
 mod worlds;
 
-pub use comp_bytes::Primitive;
 pub use contents::TypeContents;
 pub use functions::{AbiVariant, Function, FunctionKind, Param};
 pub use ids::{InterfaceId, TypeId, WorldId};
@@ -43,6 +42,7 @@ pub use names::IdName;
 pub use parts::{kind_of, part_count_of, part_of};
 pub use resolve::{Interface, Resolve};
 pub use signatures::{WasmSignature, WasmType};
+pub use standard_kinds::Primitive;
 pub use types::{Case, Field, ResultType, Type, TypeDef, TypeDefKind, TypeOwner};
 pub use versions::{CanonicalVersion, PackageVersion, canonical_version};
 pub use worlds::{World, WorldItem, WorldKey};

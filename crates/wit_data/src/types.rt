@@ -1,8 +1,8 @@
 //! Types.
 
 use crate::ids::{InterfaceId, TypeId, WorldId};
-use comp_bytes::Primitive;
 use comp_lists::{Seq, Text, TryClone};
+use standard_kinds::Primitive;
 use std::alloc::{AllocError, Global};
 
 /// A type as others name it: a primitive one, or one of the resolve's (component model, WIT: `ty`).

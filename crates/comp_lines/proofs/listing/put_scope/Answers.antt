@@ -1,4 +1,4 @@
-use Rattle.comp_bytes.proofs.Pieces.{refused_each}
+use Rattle.byte_encoding.proofs.Pieces.{refused_each}
 use Rattle.comp_lines.proofs.Refusals.{exits}
 use Rattle.comp_lines.proofs.listing.put_scope.Goals as goal
 

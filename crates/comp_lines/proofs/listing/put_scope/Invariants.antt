@@ -1,6 +1,6 @@
 use Rattle.std.proofs.Common.{◌≡◌, ◌++◌, map, string_bytes, take, drop, get_or, Some, []}
 use Rattle.std.specs.List.{flat_map}
-use Rattle.comp_bytes.specs.Spelling.{Fits}
+use Rattle.byte_encoding.specs.Spelling.{Fits}
 use Rattle.comp_bytes.specs.Spaces.{place}
 use Rattle.comp_bytes.specs.declared.space.Space.{Space}
 use Rattle.comp_lines.specs.Lines.{made, scope_lines}

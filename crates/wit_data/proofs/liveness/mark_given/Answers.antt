@@ -1,6 +1,6 @@
 use Rattle.std.proofs.Common.{◌≡◌, ◌<◌, ◌≤◌, ◌+◌, ℕ, length, map, get_or, false, Some, sym, subst, arith}
 use Rattle.std.proofs.lemmas.List.{get_or-map}
-use Rattle.comp_bytes.specs.declared.types.Primitive.TheVariants as prims
+use Rattle.standard_kinds.specs.declared.kinds.Primitive.TheVariants as prims
 use Rattle.wit_data.specs.declared.types.Type.TheVariants.{Primitive}
 use Rattle.wit_data.specs.Parts.{IsBelow}
 use Rattle.wit_data.specs.Values.{value}
