@@ -1,4 +1,4 @@
--- Entries of sections that are spelled are read again, whatever follows.
+-- Entries of sections that are encoded are read again, whatever follows.
 use Rattle.std.proofs.Common.{◌≡◌, ℕ, ℤ, List, ◌++◌, Some, None, refl}
 use Rattle.std.specs.Prelude.{nat_eq, if◌then◌else◌}
 use Rattle.byte_encoding.proofs.Readers.{Reader, Reads, made_from, made, pair_from, pair_reads, as_reads, followed_from, followed_reads, tagged, skipped, number_from, number_reads, list_from, list_reads, name_from, name_reads}
@@ -93,7 +93,7 @@ data_again d rest = made (pair_reads offset_reads name_reads) data_of (d.offset,
 pub data_reads : Reads data_segment data_from
 data_reads = record { again = data_again }
 
--- ---- bodies behind their size, and names
+-- ---- bodies after their size, and names
 
 unfoldable pub entry_from : Reader Body
 entry_from bs = sized_from (whole_from (λ b. b) body_from) bs

@@ -1,4 +1,4 @@
--- The names in a section that is spelled are read again, to the section's end.
+-- The names in a section that is encoded are read again, to the section's end.
 use Rattle.std.proofs.Common.{◌≡◌, ℕ, List, [], ◌∷◌, ◌++◌, Option, Some, None, refl, ap, sym, ◌∙◌, append_assoc}
 use Rattle.std.specs.Prelude.{nat_eq, if◌then◌else◌}
 use Rattle.std.proofs.lemmas.List.{append-nil}

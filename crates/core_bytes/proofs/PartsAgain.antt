@@ -9,7 +9,7 @@ use Rattle.core_sections.specs.Grammar.{IsCounted}
 use Rattle.core_sections.proofs.Laws.{bytes_take, bytes_again}
 use Rattle.core_bytes.specs.Renaming.{Part, part_at, parts_from, parts_of}
 
--- its id, and its contents behind their size
+-- its id, and its contents after their size
 pub record IsPart (p : Part) : Type 0 where
   pub text : List ℕ
   pub contents : List ℕ

@@ -1,4 +1,4 @@
--- Where the first item stands that passes a test, as a loop finds it in a list that is seen as another.
+-- The index of the first item that passes a test, as a loop finds it in a list that is viewed as another.
 use Rattle.std.proofs.Common.{◌≡◌, ℕ, zero, suc, ◌+◌, ◌<◌, List, [], ◌∷◌, length, get_or, drop, map, Bool, true, false, Some, None, cond, refl, ap, ◌∙◌, arith}
 use Rattle.std.specs.Prelude.{nat_lt, not, position, unwrap_or}
 use Rattle.std.specs.List.{position_or_len}
@@ -27,7 +27,7 @@ map_len : {A B : Type 0} (v : A → B) (xs : List A) → length (map v xs) ≡ l
 map_len v [] = refl
 map_len v (x ∷ xs) = ap (λ n. suc n) (map_len v xs)
 
--- the same with another answer where there is none
+-- the same with another result where there is none
 pub or_found : {A B : Type 0} (v : A → B) (p : B → Bool) (xs : List A) (n : ℕ) (d : A) (other : ℕ) → n < length xs → p (v (get_or xs n d)) ≡ true → NoneBefore v p xs n → unwrap_or (position p (map v xs)) other ≡ n
 or_found v p xs n d other l h f =
     let e = place_found v p xs n d l h f in

@@ -1,4 +1,4 @@
--- A module that is given a name is a module, whose other sections stay.
+-- A module that is given a name is a module, whose other sections are kept.
 use Rattle.std.proofs.Common.{◌≡◌, inl, inr, ℕ, zero, suc, ◌+◌, ◌*◌, ◌/◌, ◌%◌, ◌^◌, ◌<◌, ◌≤◌, true, List, [], ◌∷◌, ◌++◌, length, take, drop, Some, refl, sym, ap, subst, ◌∙◌, append_assoc, arith}
 use Rattle.std.specs.Prelude.{Bool, false, cond, not, filter}
 use Rattle.std.proofs.lemmas.Option.{same_Some}

@@ -1,4 +1,4 @@
--- The types of core items that are spelled are read again, whatever follows.
+-- The types of core items that are encoded are read again, whatever follows.
 use Rattle.std.proofs.Common.{◌≡◌, ℕ, List, ◌++◌, Bool, true, false, Option, Some, None, refl, ap}
 use Rattle.std.specs.Prelude.{nat_eq, if◌then◌else◌}
 use Rattle.byte_encoding.specs.Spelling.{flag}

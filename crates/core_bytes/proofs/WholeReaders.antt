@@ -4,7 +4,7 @@ use Rattle.std.proofs.lemmas.List.{append-nil}
 use Rattle.byte_encoding.specs.Spelling.{Spelling, sized}
 use Rattle.byte_encoding.proofs.Readers.{Read, Reader, Reads, read_then, name_from, name_reads}
 
--- a value behind which nothing stands
+-- a value with nothing after it
 abbrev pub ended : {A B : Type 0} → (A → B) → Read A → Option B
 ended make None = None
 ended make (Some p) = elim p.1 [ [] ↦ Some (make p.0) | b ∷ bs ↦ None ]

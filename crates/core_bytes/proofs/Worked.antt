@@ -71,7 +71,7 @@ pub table_shim_bytes : (spelling_of table_shim).bytes ≡ 0x00 ∷ 0x61 ∷ 0x73
 unfolding leb128 signed_within
 table_shim_bytes = refl
 
--- what fills its place, 58 bytes
+-- the module that fills its slot, 58 bytes
 abbrev pub table_fixup : List Section
 table_fixup =
     sections.Types (record { params = (values.I32 ∷ values.I32 ∷ []); results = ([]) } ∷ [])
@@ -177,7 +177,7 @@ pub data_at_bytes : (spelling_of data_at).bytes ≡ 0x00 ∷ 0x61 ∷ 0x73 ∷ 0
 unfolding leb128 signed_within
 data_at_bytes = refl
 
--- a body that stores a sum, 13 bytes behind its size
+-- a body that stores a sum, 13 bytes after its size
 abbrev pub address_body : Body
 address_body = record { locals = ([]); instructions = ((instructions.I32Const (pos 64)) ∷ (instructions.GlobalGet 0) ∷ (instructions.GlobalGet 1) ∷ instructions.I32Add ∷ instructions.I32Store ∷ []) }
 
@@ -185,7 +185,7 @@ pub address_body_bytes : (body address_body).bytes ≡ 0x00 ∷ 0x41 ∷ 0xc0 �
 unfolding leb128 signed_within
 address_body_bytes = refl
 
--- a body with a local variable, which chooses, 29 bytes behind its size
+-- a body with a local variable, which chooses, 29 bytes after its size
 abbrev pub status_body : Body
 status_body = record { locals = (record { count = 1; val_type = values.I32 } ∷ []); instructions = ((instructions.I32Const (pos 3)) ∷ (instructions.Call 0) ∷ (instructions.LocalGet 0) ∷ (instructions.LocalGet 1) ∷ (instructions.LocalGet 2) ∷ (instructions.Call 2) ∷ (instructions.LocalSet 3) ∷ (instructions.I32Const (pos 4)) ∷ (instructions.I32Const (pos 5)) ∷ (instructions.LocalGet 3) ∷ instructions.Select ∷ (instructions.Call 0) ∷ (instructions.LocalGet 3) ∷ []) }
 
@@ -202,7 +202,7 @@ pub twelve_declared : (section (sections.Elements (segments.Declared (0 ∷ 1 �
 unfolding leb128 signed_within
 twelve_declared = refl
 
--- a segment for a table that is told
+-- a segment for an explicit table
 pub on_table : (section (sections.Elements (segments.Active (Some 1) (pos 2) (3 ∷ []) ∷ []))).bytes ≡ 0x09 ∷ 0x09 ∷ 0x01 ∷ 0x02 ∷ 0x01 ∷ 0x41 ∷ 0x02 ∷ 0x0b ∷ 0x00 ∷ 0x01 ∷ 0x03 ∷ []
 unfolding leb128 signed_within
 on_table = refl

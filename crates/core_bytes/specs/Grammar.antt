@@ -1,6 +1,6 @@
 -- The types, the instructions and the entries of core modules as bytes, form by form.
 -- Core standard, binary format: types, instructions, modules, with typed function references and tail calls. The
--- names beside the definitions are those of its grammar.
+-- names next to the definitions are those of its grammar.
 use Rattle.std.specs.Prelude.{ℕ, List, Option, Some, None}
 use Rattle.byte_encoding.specs.Spelling.{Spelling, ◌⊕◌, raw, octet, number, signed_leb, each, listed, named, sized}
 use Rattle.standard_kinds.specs.Bytes.{kind_byte}
@@ -76,14 +76,14 @@ defined_global g = global_type g.global_type ⊕ constant g.init
 abbrev pub export_entry : Export → Spelling
 export_entry e = named e.name ⊕ octet (kind_byte e.kind) ⊕ number e.index
 
--- elem: on table 0, on the table that is told (`00` says that it holds functions), and declared
+-- elem: on table 0, on an explicit table (`00` says that it holds functions), and declared
 abbrev pub element_segment : ElementSegment → Spelling
 element_segment (segments.Active None offset functions) = octet 0x00 ⊕ constant (constants.I32 offset) ⊕ listed number functions
 element_segment (segments.Active (Some table) offset functions) =
     octet 0x02 ⊕ number table ⊕ constant (constants.I32 offset) ⊕ octet 0x00 ⊕ listed number functions
 element_segment (segments.Declared functions) = octet 0x03 ⊕ octet 0x00 ⊕ listed number functions
 
--- data, in memory 0: a list of bytes is spelled as a name is
+-- data, in memory 0: a list of bytes is encoded as a name is
 abbrev pub data_segment : DataSegment → Spelling
 data_segment d = octet 0x00 ⊕ constant (constants.I32 d.offset) ⊕ named d.bytes
 

@@ -1,5 +1,5 @@
--- Bytes spell at most one list of sections, so that what is read is what was written; and a module that is given a name
--- is a module whose other sections stay.
+-- Bytes encode at most one list of sections, so that what is read is what was written; and a module that is given a name
+-- is a module whose other sections are kept.
 use Rattle.std.specs.Prelude.{ℕ, ◌≡◌, List, ◌∷◌, ◌++◌, take, drop, true, Some}
 use Rattle.byte_encoding.specs.Spelling.{Fits}
 use Rattle.core_sections.specs.Sections.{Piece}
@@ -11,8 +11,8 @@ use Rattle.core_bytes.specs.declared.section.Section.{Section}
 abbrev pub OneModule : Type 0
 OneModule = (bytes : List ℕ) (a b : List Section) → Spells bytes a → Spells bytes b → a ≡ b
 
--- Its sections are those before the first of names, one of names, and those behind. The parts of that one are those that
--- were there, but for names of the module, and this name.
+-- Its sections are those before the first of names, one of names, and those after it. The parts of that one are its old
+-- parts, except for names of the module, and this name.
 abbrev pub OtherSectionsStay : Type 0
 OtherSectionsStay =
     (bytes name : List ℕ) (ps : List Piece) (parts : List Part) → IsModule bytes ps → parts_in_front (drop (names_place ps) ps) ≡ Some parts → Fits (with_module_name bytes name).counts

@@ -58,7 +58,7 @@ contents (sections.Names names) = module_names names
 abbrev pub section : Section → Spelling
 section s = with_id (id_of s) (contents s)
 
--- The spelling of a module, by its sections.
+-- The encoding of a module, by its sections.
 abbrev pub spelling_of : List Section → Spelling
 spelling_of ss = raw core_preamble ⊕ each section ss
 

@@ -37,15 +37,15 @@ parts_of bytes = parts_from (length bytes) bytes
 abbrev pub is_own : Part → Bool
 is_own p = p.id == 0
 
--- the parts that aren't, as they stand
+-- the parts that aren't, unchanged
 abbrev pub others : List Part → List ℕ
 others ps = flat_map (λ p. p.whole) (filter (λ p. not (is_own p)) ps)
 
--- where the name of the module stands first, or where it is to stand
+-- the index of the first name of the module, or 0 where there is none
 abbrev pub own_place : List Part → ℕ
 own_place ps = unwrap_or (position is_own ps) 0
 
--- the other parts, with this name where the first one stood, or in front
+-- the other parts, with this name at the index of the first one, or in front
 abbrev pub with_own : List ℕ → List Part → Spelling
 with_own name ps = raw (others (take (own_place ps) ps)) ⊕ with_id 0x00 (named name) ⊕ raw (others (drop (own_place ps) ps))
 
@@ -71,7 +71,7 @@ has_names (coded id bytes) = false
 abbrev pub is_names : Piece → Bool
 is_names p = has_names p.body
 
--- where the first section of names stands, or the end
+-- the index of the first section of names, or the end
 abbrev pub names_place : List Piece → ℕ
 names_place ps = position_or_len is_names ps
 
@@ -87,7 +87,7 @@ parts_in_front (p ∷ ps) = parts_of (bytes_in p.body)
 abbrev pub wholes : List Piece → List ℕ
 wholes ps = flat_map (λ p. p.whole) ps
 
--- the module of these sections, the first section of names changed, or one put at the end
+-- the module of these sections, with the first section of names changed, or one added at the end
 abbrev pub renamed : List ℕ → List Piece → List Part → Spelling
 renamed name ps parts =
     raw preamble ⊕ raw (wholes (take (names_place ps) ps)) ⊕ names_with name parts ⊕ raw (wholes (drop 1 (drop (names_place ps) ps)))

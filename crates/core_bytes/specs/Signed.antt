@@ -8,7 +8,7 @@ low_seven false n = n % 128
 low_seven true n = 127 - n % 128
 
 -- A number in groups of seven bits, the lowest first, each but the last with 128 added. The last is the first whose
--- bit 6 is the sign of all that is left; at most `more` groups stand before it.
+-- bit 6 is the sign of all that is left; at most `more` groups come before it.
 abbrev pub signed_groups : Bool → ℕ → ℕ → List ℕ
 signed_groups negative zero n = low_seven negative n ∷ []
 signed_groups negative (suc more) n =

@@ -34,7 +34,7 @@ pub struct LocalRun {
     pub val_type: ValType,
 }
 
-/// The body of a function: its local variables behind the parameters, and its instructions without
+/// The body of a function: its local variables after the parameters, and its instructions without
 /// their end.
 #[derive(Debug, Drop, PartialEq, Eq)]
 pub struct Body {

@@ -6,7 +6,7 @@ ghost use Rattle.std.specs.Cmp.Lexicographic.{pointwise, lists_per, lists_equiv}
 use std::alloc::{AllocError, Global};
 use std::marker::Model;
 
-/// A list of entries, which contracts see as the list alone. What can be appended to it is told by the
+/// A list of entries, which contracts see as the list alone. What can be appended to it is defined by the
 /// calls of each section.
 #[derive(Debug, Drop)]
 pub struct Entries<T> {

@@ -32,7 +32,7 @@ pub struct Export {
     pub index: u32,
 }
 
-/// An element segment: functions for the places of a table from `offset` on, or functions that are
+/// An element segment: functions for the slots of a table from `offset` on, or functions that are
 /// only declared. `table: None` is table 0, in the short form.
 #[derive(Debug, Drop, PartialEq, Eq)]
 pub enum ElementSegment {

@@ -1,14 +1,14 @@
-//! What holds of all spellings: each function's contract is a law, and its body does nothing.
+//! What holds of all encodings: each function's contract is a law, and its body does nothing.
 
 ghost use Rattle.core_bytes.specs.Laws.{OneModule, OtherSectionsStay};
 
-/// Bytes spell at most one module.
+/// Bytes encode at most one module.
 pub fn one_module()
     ensures { OneModule }
 {}
 
-/// A module that is given a name is a module: all its sections but the first of names stay, and so do all
-/// parts of that one but the names of the module, in whose place the new one stands.
+/// A module that is given a name is a module: all its sections except the first of names are kept, and so are all
+/// parts of that one except the names of the module, which the new one replaces.
 pub fn other_sections_stay()
     ensures { OtherSectionsStay }
 {}

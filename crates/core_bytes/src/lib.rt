@@ -1,25 +1,25 @@
-//! Core WebAssembly modules that an encoder generates, as values, and the bytes that spell them.
+//! Core WebAssembly modules that an encoder generates, as values, and their bytes.
 //!
 //! A module is, to this crate, the list of its sections in the order given ([`Module`], of
-//! [`Section`]s), and a section the list of its entries: plain values, with one variant or one struct a
+//! [`Section`]s), and a section the list of its entries: plain values, with one variant or one struct for each
 //! form of the binary format. Their bytes are one function of that list, `specs/Grammar.antt` and
-//! `specs/Modules.antt`, to be read beside the binary format of the core standard; with the bytes it
+//! `specs/Modules.antt`, to be read next to the binary format of the core standard; with the bytes it
 //! lists every count and size that is written, so that one definition says what is written and what
 //! must be refused.
 //!
-//! Upward this crate promises: an entry that is appended stands at the end of its section, and nothing
-//! else has changed; the bytes of a module spell it (`Spells`), a refusal other than want of memory
-//! names a count or a size that passes 2^32 - 1 (`Refused`), and bytes spell at most one module
-//! ([`one_module`]). Whether a module is valid is not asked: what is given is written.
+//! Upward this crate promises: an entry that is appended is at the end of its section, and nothing
+//! else has changed; the bytes of a module encode it (`Spells`), a refusal other than out of memory
+//! names a count or a size that exceeds 2^32 - 1 (`Refused`), and bytes encode at most one module
+//! ([`one_module`]). Whether a module is valid is not checked: what is given is written.
 //!
-//! Beside that, [`set_module_name`] gives any core module, one of a user too, a name in its section of
-//! names (`specs/Renaming.antt`), and leaves all else as it stands.
+//! Also, [`set_module_name`] gives any core module, one of a user too, a name in its section of
+//! names (`specs/Renaming.antt`), and leaves all else unchanged.
 //!
 //! In reading order: `entity` (what is imported, and constants), `code` (instructions and bodies), `entry` (other
 //! entries of sections), `entries` (lists that grow at their end), `section` (what is appended to each
 //! section), `number` (signed numbers, and what has its size in front), `writing` (each value),
-//! `module` (modules and their bytes), `laws` (what holds of all spellings); then `part` (the parts of
-//! a section of names) and `renaming` (names of modules). Worked examples stand in
+//! `module` (modules and their bytes), `laws` (what holds of all encodings); then `part` (the parts of
+//! a section of names) and `renaming` (names of modules). Worked examples are in
 //! `proofs/Worked.antt` and `proofs/WorkedNames.antt`.
 #![tactic(auto)]
 

@@ -16,7 +16,7 @@ use comp_bytes::CoreModule;
 use comp_lists::{Seq, Text};
 use std::alloc::{AllocError, Global};
 
-/// A core module: its sections, in the order in which they stand.
+/// A core module: its sections, in their order in the module.
 pub type Module = Entries<Section>;
 
 fn put_names(out: &mut Vec<u8>, id: u8, names: &Option<NameMap>) -> Result<(), BuildFault>
@@ -78,8 +78,8 @@ impl Entries<Section> {
         self.add(section)
     }
 
-    /// The bytes of the module: its preamble and its sections (`spelling_of`). It refuses with
-    /// [`BuildFault::TooMany`] only where a count or a size among them passes 2^32 - 1, and tells that
+    /// The bytes of the module: its preamble and its sections (`spelling_of`). It fails with
+    /// [`BuildFault::TooMany`] only where a count or a size among them exceeds 2^32 - 1, and reports that
     /// one.
     pub fn bytes(&self, alloc: Global) -> Result<Vec<u8>, BuildFault>
         ensures ok { IfOk result (λ v. Spells v.items self.now) }

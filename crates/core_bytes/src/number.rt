@@ -45,7 +45,7 @@ pub(crate) fn put_signed(out: &mut Vec<u8>, number: i64) -> Result<(), BuildFaul
     Ok(())
 }
 
-/// Writes bytes behind their count.
+/// Writes bytes after their count.
 pub(crate) fn put_blob(out: &mut Vec<u8>, bytes: &[u8]) -> Result<(), BuildFault>
     ensures { Writes out.old.items out.new.items result (named bytes.now) }
 {
@@ -54,7 +54,7 @@ pub(crate) fn put_blob(out: &mut Vec<u8>, bytes: &[u8]) -> Result<(), BuildFault
     Ok(())
 }
 
-/// Writes a value behind an id and its size.
+/// Writes a value after an id and its size.
 pub(crate) fn put_with_id<T: Spell>(out: &mut Vec<u8>, id: u8, value: &T) -> Result<(), BuildFault>
     ensures { Writes out.old.items out.new.items result (with_id id (T.spelling value.now)) }
 {

@@ -1,4 +1,4 @@
-//! The parts of a section of names, as they stand.
+//! The parts of a section of names, with their bytes unchanged.
 //!
 //! Core standard, appendix, custom sections: name section.
 

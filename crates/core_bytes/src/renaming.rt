@@ -20,7 +20,7 @@ use std::alloc::{AllocError, Global};
 /// The name of the section of names.
 const NAME: [u8; 4] = [0x6e, 0x61, 0x6d, 0x65];
 
-/// Where the name of the module stands first, or where it is to stand.
+/// The index of the first name of the module, or 0 where there is none.
 fn own_place(parts: &[Part<'_>]) -> usize
     ensures place { result ≡ own_place (map part_view parts.now) }
     ensures within { result ≤ length parts.now }
@@ -84,7 +84,7 @@ fn has_names(content: Content<'_>) -> bool
     }
 }
 
-/// Where the first section of names stands, or the end.
+/// The index of the first section of names, or the end.
 fn names_place(sections: &[Section<'_>]) -> usize
     ensures place { result ≡ names_place (map view sections.now) }
     ensures within { result ≤ length sections.now }
@@ -119,7 +119,7 @@ fn parts_in_front<'a>(
     }
 }
 
-/// Writes sections as they stand.
+/// Writes sections unchanged.
 fn put_wholes(out: &mut Vec<u8>, sections: &[Section<'_>]) -> Result<(), AllocError>
     ensures { OnOk result (out.new.items ≡ out.old.items ++ wholes (map view sections.now)) }
 {
@@ -129,7 +129,7 @@ fn put_wholes(out: &mut Vec<u8>, sections: &[Section<'_>]) -> Result<(), AllocEr
     Ok(())
 }
 
-/// The sections behind the first.
+/// The sections after the first.
 fn behind_first<'a, 'b>(sections: &'b [Section<'a>]) -> &'b [Section<'a>]
     ensures { result.now ≡ drop 1 sections.now }
 {
@@ -194,13 +194,13 @@ fn put_renamed(out: &mut Vec<u8>, bytes: &[u8], name: &Text) -> Result<(), Build
 
 /// A core module with this name in its section of names, and otherwise as it is.
 ///
-/// The first section of names counts. There the name stands where the first one stood, or in front of
-/// all else, and further names of the module go; a module without such a section gets one at its end.
-/// Every other section and every other part of that one stays, byte for byte; the sizes of what is
+/// Only the first section of names is changed. The name replaces the first name of the module there, or comes before
+/// all else, and further names of the module are removed; a module without such a section gets one at its end.
+/// Every other section and every other part of that one is kept, byte for byte; the sizes of what is
 /// changed are written the shortest way. A module whose sections, or the parts of whose section of
-/// names, can't be read is answered as it is.
+/// names, can't be read is returned unchanged.
 ///
-/// It refuses with [`BuildFault::TooMany`] only where a size would pass 2^32 - 1, and tells that one.
+/// It fails with [`BuildFault::TooMany`] only where a size would exceed 2^32 - 1, and reports that one.
 pub fn set_module_name(alloc: Global, bytes: &[u8], name: &str) -> Result<Vec<u8>, BuildFault>
     ensures ok { IfOk result (λ v. v.items ≡ (with_module_name bytes.now name.now).bytes) }
     ensures fits { OnOk result (Fits (with_module_name bytes.now name.now).counts) }

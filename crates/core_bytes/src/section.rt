@@ -178,7 +178,7 @@ impl Entries<Export> {
 }
 
 impl Entries<ElementSegment> {
-    /// Appends functions for the places of a table from `offset` on; `None` is table 0, in the short
+    /// Appends functions for the slots of a table from `offset` on; `None` is table 0, in the short
     /// form. Where memory is refused, the section is as it was.
     pub fn active(
         &mut self,
@@ -221,7 +221,7 @@ impl Entries<DataSegment> {
 
 impl Entries<Body> {
     /// Appends a body: its local variables, run by run, and its instructions, whose end is written
-    /// behind them. Where memory is refused, the section is as it was.
+    /// after them. Where memory is refused, the section is as it was.
     pub fn body(
         &mut self,
         locals: &[LocalRun],

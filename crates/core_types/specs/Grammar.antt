@@ -1,5 +1,5 @@
 -- The types of core items as bytes, form by form. Core standard, binary format: types, with typed function references.
--- The names beside the definitions are those of its grammar.
+-- The names next to the definitions are those of its grammar.
 use Rattle.std.specs.Prelude.{ℕ, Option, Some, None}
 use Rattle.byte_encoding.specs.Spelling.{Spelling, ◌⊕◌, raw, octet, number, signed_leb, listed, flag}
 use Rattle.core_types.specs.declared.types.RefType.{RefType}
