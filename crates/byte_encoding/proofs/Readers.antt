@@ -1,4 +1,4 @@
--- Readers: each gives back what is spelled, whatever follows. Numbers, names, lists, options, and one after another.
+-- Readers: each gives back what is encoded, whatever follows. Numbers, names, lists, options, and one after another.
 use Rattle.std.proofs.Common.{◌≡◌, ℕ, zero, suc, ◌+◌, ◌-◌, ◌*◌, ◌/◌, ◌%◌, ◌≤◌, List, [], ◌∷◌, ◌++◌, length, take, drop, Bool, true, false, Option, Some, None, refl, ap, ◌∙◌, arith, append_assoc}
 use Rattle.std.specs.Prelude.{nat_lt, nat_eq, if◌then◌else◌}
 use Rattle.std.specs.List.{flat_map}
@@ -6,7 +6,7 @@ use Rattle.std.proofs.lemmas.Bool.Decides.{nat_tests}
 use Rattle.std.proofs.Math.Seq.{take-append_seam, drop-append_seam}
 use Rattle.byte_encoding.specs.Spelling.{Spelling, ◌⊕◌, raw, octet, groups_of_seven, leb128, leb, signed_leb, number, listed, named, optional}
 
--- what a reader answers: a value and the rest
+-- the result of a reader: a value and the rest
 abbrev pub Read : Type 0 → Type 0
 Read A = Option (A × List ℕ)
 
@@ -17,7 +17,7 @@ abbrev pub read_then : {A B : Type 0} → Read A → (A → Reader B) → Read B
 read_then None go = None
 read_then (Some p) go = go p.0 p.1
 
--- What is spelled is read again.
+-- What is encoded is read again.
 pub record Reads {A : Type 0} (f : A → Spelling) (r : Reader A) : Type 0 where
   pub again : (x : A) (rest : List ℕ) → r ((f x).bytes ++ rest) ≡ Some (x, rest)
 
@@ -64,7 +64,7 @@ abbrev pub tagged : {A : Type 0} → (ℕ → Reader A) → Reader A
 tagged after [] = None
 tagged after (b ∷ bs) = after b bs
 
--- behind a byte that is known
+-- after a byte that is known
 abbrev pub skipped : {A : Type 0} → Reader A → Reader A
 skipped r bs = tagged (λ b rest. r rest) bs
 

@@ -1,4 +1,4 @@
--- No form of a number, of a type index or of a name spells the beginning of another, so that what is read is what was
+-- No form of a number, of a type index or of a name encodes the beginning of another, so that what is read is what was
 -- written. Core standard, binary format: values.
 use Rattle.std.specs.Prelude.{ℕ, ◌≡◌, List, ◌++◌}
 use Rattle.byte_encoding.specs.Spelling.{leb, signed_leb, named}

@@ -24,7 +24,7 @@ abbrev pub octet : ℕ → Spelling
 octet b = raw (b ∷ [])
 
 -- A number in groups of seven bits, the lowest first, each but the last with 128 added. The last is the first that
--- leaves less than `end`; at most `more` groups stand before it.
+-- leaves less than `end`; at most `more` groups come before it.
 abbrev pub groups_of_seven : ℕ → ℕ → ℕ → List ℕ
 groups_of_seven end zero n = n ∷ []
 groups_of_seven end (suc more) n = if nat_lt n end then n ∷ [] else (128 + n % 128) ∷ groups_of_seven end more (n / 128)

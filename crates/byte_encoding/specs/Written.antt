@@ -1,4 +1,4 @@
--- What a call that writes at the end of a buffer answers, and what it may refuse: a count or a size is a number of 32
+-- The result of a call that writes at the end of a buffer, and what it may refuse: a count or a size is a number of 32
 -- bits. Core standard, binary format: vectors, names, sections.
 use Rattle.std.specs.Prelude.{ℕ, ◌≡◌, ◌≤◌, ◌^◌, List, ◌++◌, Result, Ok, Err, Contains}
 use Rattle.byte_encoding.specs.Spelling.{Spelling, Fits}
@@ -10,7 +10,7 @@ abbrev pub Refused : List ℕ → BuildFault → Type 0
 Refused counts Memory = Unit {0}
 Refused counts (TooMany n) = (2 ^ 32 ≤ n) × Contains counts n
 
--- What was written stands behind what was there. Where a piece is refused, the buffer is of no use.
+-- The new bytes are after the old ones. Where a piece is refused, the buffer is of no use.
 abbrev pub Writes : List ℕ → List ℕ → Result Unit BuildFault → Spelling → Type 0
 Writes old new (Ok _) s = (new ≡ old ++ s.bytes) × Fits s.counts
 Writes old new (Err e) s = Refused s.counts e

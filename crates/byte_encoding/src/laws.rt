@@ -7,7 +7,7 @@ pub fn one_number()
     ensures { OneNumber }
 {}
 
-/// No form of a type index begins another, where a primitive type could stand.
+/// No form of a type index begins another, where a primitive type is possible.
 pub fn one_type_index()
     ensures { OneTypeIndex }
 {}

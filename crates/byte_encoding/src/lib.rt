@@ -1,8 +1,8 @@
 //! Numbers, names, lists and options as bytes, as the binary formats of WebAssembly have them.
 //!
-//! What is written of a value is one value itself: its bytes, with each count and size among them
+//! The encoding of a value is one value itself: its bytes, with each count and size among them
 //! (`specs/Spelling.antt`), so that one definition says what is written and what must be refused. [`Spell`] is the trait of
-//! what is written one way; binary formats are made of its implementations.
+//! values with one encoding; binary formats are made of its implementations.
 //!
 //! Upward this crate promises: a call that writes appends the bytes of the value (`Writes`), a refusal other than
 //! out of memory names a count or a size that passes 2^32 - 1 (`Refused`), and no number, type index or name is the

@@ -30,7 +30,7 @@ pub fn put_index(out: &mut Vec<u8>, index: u32) -> Result<(), BuildFault>
     Ok(())
 }
 
-/// Writes a type index where a primitive type, which is a negative number, could stand.
+/// Writes a type index where a primitive type, which is a negative number, is possible.
 pub fn put_type_index(out: &mut Vec<u8>, index: u32) -> Result<(), BuildFault>
     ensures { Writes out.old.items out.new.items result (raw (signed_leb index)) }
 {
@@ -74,15 +74,15 @@ pub fn byte_of_flag(set: bool) -> u8
 pub trait Spell {
     ghost spelling: { Self → Spelling };
 
-    /// Writes the value behind what stands in a buffer. It refuses with [`BuildFault::TooMany`] only
-    /// where a count or a size in its spelling passes 2^32 - 1, and tells that one. After a refusal
+    /// Writes the value after the contents of a buffer. It fails with [`BuildFault::TooMany`] only
+    /// where a count or a size in its encoding exceeds 2^32 - 1, and reports that one. After a failure
     /// the buffer is of no use.
     fn put(&self, out: &mut Vec<u8>) -> Result<(), BuildFault>
         ensures { Writes out.old.items out.new.items result (spelling self.now) };
 }
 
-/// The bytes of a value, as they stand in its section. It refuses with [`BuildFault::TooMany`] only
-/// where a count or a size among them would pass 2^32 - 1, and tells that one.
+/// The bytes of a value, as they are in its section. It fails with [`BuildFault::TooMany`] only
+/// where a count or a size among them would exceed 2^32 - 1, and reports that one.
 pub fn spelled<T: Spell>(alloc: Global, value: &T) -> Result<Vec<u8>, BuildFault>
     ensures ok { IfOk result (λ v. v.items ≡ (T.spelling value.now).bytes) }
     ensures fits { OnOk result (Fits (T.spelling value.now).counts) }

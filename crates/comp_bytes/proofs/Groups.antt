@@ -1,4 +1,4 @@
--- A component's bytes spell at most one list of definitions, where the text of each definition in its section does.
+-- A component's bytes encode at most one list of definitions, where the bytes of each definition in its section do.
 use Rattle.std.proofs.Common.{◌≡◌, ℕ, List, [], ◌∷◌, ◌++◌, length, map, Bool, true, false, refl, sym, ap, ap₂, ◌∙◌, subst}
 use Rattle.std.specs.Prelude.{◌==◌, ◌&&◌, if◌then◌else◌}
 use Rattle.std.specs.List.{flat_map, AllByRecursion}
@@ -18,7 +18,7 @@ pub record OneEntry {A : Type 0} (f : A → Entry) : Type 0 where
 abbrev pub OfId : {A : Type 0} → (A → Entry) → ℕ → List A → Type 0
 OfId f id xs = AllByRecursion (λ x. (f x).id ≡ id) xs
 
--- what stands in one section
+-- the contents of one section
 abbrev pub IsGroup : {A : Type 0} → (A → Entry) → List A → Type 0
 IsGroup f [] = ⊥
 IsGroup f (x ∷ xs) = OfId f (f x).id xs × (shares (f x).id ≡ false → xs ≡ [])

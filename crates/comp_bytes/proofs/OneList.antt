@@ -1,4 +1,4 @@
--- Bytes spell at most one list of definitions: first of items, and so of definitions, a nested component among them.
+-- Bytes encode at most one list of definitions: first of items, and so of definitions, a nested component among them.
 use Rattle.std.proofs.Common.{◌≡◌, ℕ, List, ◌++◌, true, false, Option, Some, sym, ap, ◌∙◌}
 use Rattle.comp_bytes.specs.Sections.{shares}
 use Rattle.comp_bytes.specs.Grammar.{item, definition}
@@ -25,7 +25,7 @@ item_whole x y p s e =
 item_one : OneEntry item
 item_one = record { shared = item_shared; whole = item_whole }
 
--- no item stands in a section of components
+-- no item is in a section of components
 no_component : (i : Item) → (item i).id ≡ 4 → ⊥
 no_component (items.CoreModule bytes) p = cc
 no_component (items.CoreInstantiate made_of args) p = cc
@@ -58,6 +58,6 @@ definition_whole (defs.Component a) (defs.Component b) p s e = ap (λ z. defs.Co
 definition_one : OneEntry definition
 definition_one = record { shared = definition_shared; whole = definition_whole }
 
--- Bytes spell at most one list of definitions.
+-- Bytes encode at most one list of definitions.
 pub one_list : OneList
 one_list bytes a b p q = component_one definition definition_one a b (sym p.1 ∙ q.1)

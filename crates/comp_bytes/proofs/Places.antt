@@ -1,4 +1,4 @@
--- Where an appended definition stands, and that appending moves no item.
+-- The index of an appended definition, and that appending changes no item's index.
 use Rattle.std.proofs.Common.{◌≡◌, sym, subst, ℕ, zero, suc, ◌<◌, true, List, [], ◌∷◌, ◌++◌, length, refl, Option, Some, Result, Ok, Err, arith}
 use Rattle.std.proofs.lemmas.List.Elements.{filter-append}
 use Rattle.std.proofs.lemmas.List.Sums.{length-filter}
@@ -22,11 +22,11 @@ same_space spaces.Type = refl
 same_space spaces.Component = refl
 same_space spaces.Instance = refl
 
--- an item stays what it is when definitions follow
+-- an item is unchanged when definitions follow
 pub IsAt-append : {definitions : List Def} {space : Space} {index : ℕ} {definition : Def} (more : List Def) → IsAt definitions space index definition → IsAt (definitions ++ more) space index definition
 IsAt-append {definitions} {space} {index} {definition} more at = record { made = rw (filter-append (λ d. is_space space (space_of d)) definitions more) (slice_get-append (in_space space definitions) (in_space space more) index definition at.made) }
 
--- an appended definition stands at the count of its space
+-- an appended definition has the count of its space as its index
 pub IsAt-end : (definitions : List Def) (space : Space) (definition : Def) → space_of definition ≡ Some space → IsAt (definitions ++ definition ∷ []) space (items_in space definitions) definition
 IsAt-end definitions space definition e = record {
   made =
@@ -43,6 +43,6 @@ below (y ∷ ys) (suc i) x e = let h = below ys i x e in omega (arith, h)
 pub in_range : {definitions : List Def} {space : Space} {index : ℕ} {definition : Def} → IsAt definitions space index definition → index < items_in space definitions
 in_range {definitions} {space} {index} {definition} at = rw (← length-filter (λ d. is_space space (space_of d)) definitions) (below (in_space space definitions) index definition at.made)
 
--- what a call that adds a definition answers
+-- the result of a call that adds a definition
 pub at_added : (old new : List Def) (space : Space) (index : ℕ) (definition : Def) → space_of definition ≡ Some space → index ≡ items_in space old → new ≡ old ++ definition ∷ [] → IsAt new space index definition
 at_added old new space index definition e i a = rw (i, a) (IsAt-end old space definition e)

@@ -101,7 +101,7 @@ type_reads = record { again = type_again }
 
 -- ---- aliases
 
--- behind the first byte of an alias of an export, or of a type further out
+-- after the first byte of an alias of an export, or of a type further out
 abbrev export_alias_after : ℕ → ℕ → Reader Alias
 export_alias_after b c bs =
     if nat_eq c 0x02 then made_from (λ p. aliases.Outer p.0 p.1) (pair_from number_from number_from) bs
@@ -166,7 +166,7 @@ pub member_reads : Reads member member_from
 unfolding member_from
 member_reads = record { again = member_again }
 
--- behind the first byte of an instance type
+-- after the first byte of an instance type
 unfoldable pub instance_type_from : Reader InstanceType
 instance_type_from bs = made_from (λ ms. record { members = ms }) (list_from member_from) bs
 

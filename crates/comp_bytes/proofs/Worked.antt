@@ -77,7 +77,7 @@ nested =
 pub nested_scoped : Scoped nested
 nested_scoped = ((tt, tt), (((tt, tt), ((tt, tt), ((tt, ((omega arith, tt), ((omega arith, tt), ((omega arith, tt), tt)))), tt))), tt))
 
--- the import stands before its type
+-- the import comes before its type
 abbrev pub import_first : List Def
 import_first = defs.Item (items.Import (plain f) (descriptions.Func 0)) ∷ defs.Item function ∷ []
 

@@ -1,5 +1,5 @@
 -- Each definition as bytes, form by form.
--- Component model, binary format; the names beside the definitions are those of its grammar. Where it isn't settled,
+-- Component model, binary format; the names next to the definitions are those of its grammar. Where it isn't final,
 -- these are this project's own: the version suffix of a name, `43` for an async function, the type of a context
 -- slot, and the `00` of the two waits.
 use Rattle.std.specs.Prelude.{ℕ, ◌≡◌, List, map, Bool, Option, Some, None, if◌then◌else◌}
@@ -85,7 +85,7 @@ value_type (values.Defined index) = raw (signed_leb index)
 abbrev pub field : Field → Spelling
 field f = named f.name ⊕ value_type f.ty
 
--- case; the `00` stands where a case once named another
+-- case; the `00` is where a case once named another
 abbrev pub case_of : Case → Spelling
 case_of c = named c.name ⊕ optional value_type c.ty ⊕ octet 0x00
 
@@ -239,7 +239,7 @@ abbrev pub definition : Def → Entry
 definition (defs.Item i) = item i
 definition (defs.Component inner) = entry 4 (component (map item inner))
 
--- The spelling of a component, by its definitions.
+-- The encoding of a component, by its definitions.
 abbrev pub spelling_of : List Def → Spelling
 spelling_of ds = component (map definition ds)
 

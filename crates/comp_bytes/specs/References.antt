@@ -139,7 +139,7 @@ member_references (members.Type t) = type_references t
 member_references (members.Alias a) = alias_references a
 member_references (members.Export name description) = description_references description
 
--- of an item; the members of an instance type stand in a scope of their own, and are not among these
+-- of an item; the members of an instance type are in a scope of their own, and are not among these
 abbrev pub item_references : Item → List Reference
 item_references (items.CoreModule bytes) = []
 item_references (items.CoreInstantiate made args) = own spaces.CoreModule made ∷ flat_map (λ a. own spaces.CoreInstance a.instance ∷ []) args
@@ -155,7 +155,7 @@ item_references (items.Import name description) = description_references descrip
 item_references (items.Export name sort index description) = own (sort_space sort) index ∷ where_some description_references description
 item_references (items.Custom name contents) = []
 
--- of a definition; the items of a nested component stand in a scope of their own
+-- of a definition; the items of a nested component are in a scope of their own
 abbrev pub references : Def → List Reference
 references (defs.Item i) = item_references i
 references (defs.Component inner) = []

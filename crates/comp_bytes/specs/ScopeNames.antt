@@ -1,6 +1,6 @@
--- The lists of names of a component in each of which a name must stand once.
+-- The lists of names of a component in each of which names must be distinct.
 -- Component model, explainer: names of imports and of exports are distinct in their scope, and so are
--- those of the arguments of an instantiation and of the entries of an instance made of items at hand.
+-- those of the arguments of an instantiation and of the entries of an instance made of inline exports.
 use Rattle.std.specs.Prelude.{ℕ, List, [], ◌∷◌, map}
 use Rattle.std.specs.List.{flat_map, AllByRecursion, IsDistinct}
 use Rattle.std.specs.Str.{bytes_eq}
@@ -55,6 +55,6 @@ def_names (defs.Component inner) = inner_names inner
 abbrev pub names : List Def → List Names
 names definitions = flat_map def_import definitions ∷ flat_map def_export definitions ∷ flat_map def_names definitions
 
--- No name stands twice in its list.
+-- No name occurs twice in its list.
 abbrev pub NamesApart : List Def → Type 0
 NamesApart definitions = AllByRecursion (IsDistinct bytes_eq) (names definitions)

@@ -1,5 +1,5 @@
 -- Index scopes: which items a definition may name.
--- Component model, binary format: index spaces; a definition names items that stand before it. A component
+-- Component model, binary format: index spaces; a definition names items that come before it. A component
 -- and an instance type open a scope each, and an outer alias counts scopes outward.
 use Rattle.std.specs.Prelude.{ℕ, ◌<◌, List, [], ◌∷◌, ◌++◌, Option, count_by, get_or}
 use Rattle.std.specs.List.{AllByRecursion}
@@ -24,7 +24,7 @@ no_items space = 0
 abbrev pub scope_of : {A : Type 0} → (A → Option Space) → List A → Scope
 scope_of made xs space = count_by (λ x. is_space space (made x)) xs
 
--- The index is below the count of its space, in the scope that is named. Scopes stand innermost first.
+-- The index is below the count of its space, in the scope that is named. Scopes are listed innermost first.
 abbrev pub InScope : List Scope → Reference → Type 0
 InScope scopes r = r.index < get_or scopes r.outward no_items r.space
 
@@ -36,7 +36,7 @@ EachIn made Rule before (x ∷ xs) = Rule (scope_of made before) x × EachIn mad
 abbrev pub MemberScoped : List Scope → Scope → Member → Type 0
 MemberScoped outer scope m = AllByRecursion (InScope (scope ∷ outer)) (member_references m)
 
--- what stands inside an item, which these scopes are around
+-- the scopes inside an item, which these scopes enclose
 abbrev pub InsideScoped : List Scope → Item → Type 0
 InsideScoped outer (items.InstanceType t) = EachIn member_space (MemberScoped outer) [] t.members
 InsideScoped outer _ = Unit {0}
@@ -48,6 +48,6 @@ abbrev pub DefScoped : Scope → Def → Type 0
 DefScoped scope (defs.Item i) = ItemScoped [] scope i
 DefScoped scope (defs.Component inner) = EachIn item_space (ItemScoped (scope ∷ [])) [] inner
 
--- Each definition names items that stand before it.
+-- Each definition names items that come before it.
 abbrev pub Scoped : List Def → Type 0
 Scoped definitions = EachIn space_of DefScoped [] definitions

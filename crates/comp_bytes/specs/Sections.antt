@@ -17,7 +17,7 @@ pub record Section : Type 0 where
 abbrev pub shares : ℕ → Bool
 shares id = not (id == 0 || id == 1 || id == 4)
 
--- A definition stands in the section of the next one where they have one id that shares.
+-- A definition is in the section of the next one where they have the same id, and it is one that shares.
 abbrev pub before : Entry → List Section → List Section
 before e [] = record { id = e.id; texts = e.text ∷ [] } ∷ []
 before e (s ∷ ss) = if shares e.id && e.id == s.id then record { id = e.id; texts = e.text ∷ s.texts } ∷ ss else record { id = e.id; texts = e.text ∷ [] } ∷ (s ∷ ss)
@@ -34,7 +34,7 @@ first_id (e ∷ es) = e.id
 abbrev pub section_of : List Entry → Section
 section_of es = record { id = first_id es; texts = map (λ e. e.text) es }
 
--- what stands in a section behind its id and its size
+-- the contents of a section after its id and its size
 abbrev pub contents : {A : Type 0} → (A → Spelling) → Bool → List A → Spelling
 contents f shared xs = if shared then listed f xs else each f xs
 

@@ -80,7 +80,7 @@ abbrev pub space_of : Def → Option Space
 space_of (defs.Item i) = item_space i
 space_of (defs.Component inner) = Some spaces.Component
 
--- the place of a space in the order of the bytes of their sorts
+-- the ordinal of a space in the order of the bytes of their sorts
 abbrev pub place : Space → ℕ
 place spaces.CoreFunc = 0
 place spaces.CoreTable = 1

@@ -30,7 +30,7 @@ fn is_core_module(bytes: &[u8]) -> bool
 }
 
 /// A core module, by its bytes, which begin with the preamble of core modules (core standard, binary
-/// format: `module`). What stands behind that is not looked at.
+/// format: `module`). The bytes after that are not read.
 #[derive(Debug, Drop)]
 pub struct CoreModule {
     bytes: Bytes,

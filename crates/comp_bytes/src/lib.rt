@@ -1,25 +1,25 @@
-//! Components as lists of definitions, and the bytes that spell them.
+//! Components as lists of definitions, and their bytes.
 //!
 //! A component of the component model is, to this crate, a list of definitions ([`Defs`]): plain
-//! values, with one variant a form of the binary format. Their bytes are one function of that list,
-//! `specs/Grammar.antt`, to be read beside the binary format of the component model; with the bytes it
+//! values, with one variant for each form of the binary format. Their bytes are one function of that list,
+//! `specs/Grammar.antt`, to be read next to the binary format of the component model; with the bytes it
 //! lists every count and size that is written, so that one definition says what is written and what
 //! must be refused.
 //!
-//! Upward this crate promises: what [`component_bytes`] answers spells the definitions that were given
-//! (`Spells`), a refusal other than want of memory names a count or a size that passes 2^32 - 1
-//! (`Refused`), and bytes spell at most one list of definitions ([`one_list`]). How numbers, names, lists
+//! Upward this crate promises: the bytes that [`component_bytes`] returns encode the definitions that were given
+//! (`Spells`), a refusal other than out of memory names a count or a size that exceeds 2^32 - 1
+//! (`Refused`), and bytes encode at most one list of definitions ([`one_list`]). How numbers, names, lists
 //! and bytes are written is in `byte_encoding`.
 //!
-//! For those above that speak of indices and names: `specs/References.antt` (what a definition names by
-//! index), `specs/Scopes.antt` (that all of it stands before it), `specs/ScopeNames.antt` (the lists of
-//! names in each of which a name stands once), `specs/Places.antt` (which definition made which item, with
+//! For crates above that are about indices and names: `specs/References.antt` (what a definition names by
+//! index), `specs/Scopes.antt` (that all of it comes before it), `specs/ScopeNames.antt` (the lists of
+//! names in each of which names are distinct), `specs/Places.antt` (which definition made which item, with
 //! its laws in `proofs/Places.antt`), and worked examples in `proofs/Worked.antt`.
 //!
 //! In reading order: `space` (sorts of items and their index spaces), `types` (types and names),
 //! `canon` (canonical functions), `def` (definitions), `name` (debug names), `writing` (each value),
 //! `sections` (definitions in sections), `naming` (the custom section of debug names), `laws` (what holds
-//! of all spellings).
+//! of all encodings).
 #![tactic(auto)]
 
 mod canon;

@@ -16,7 +16,7 @@ use byte_encoding::{BuildFault, Spell, put_bytes, put_count, put_index, put_tagg
 use comp_lists::{Seq, Text};
 use std::alloc::Global;
 
-/// What stands in a section.
+/// The contents of a section.
 pub(crate) trait Definition {
     ghost entry: { Self → Entry };
 
@@ -252,8 +252,8 @@ impl Definition for Def {
     }
 }
 
-/// The bytes of a component: its preamble and its sections (`component`). It refuses with
-/// [`BuildFault::TooMany`] only where a count or a size among them passes 2^32 - 1, and tells that one.
+/// The bytes of a component: its preamble and its sections (`component`). It fails with
+/// [`BuildFault::TooMany`] only where a count or a size among them exceeds 2^32 - 1, and reports that one.
 pub fn component_bytes(alloc: Global, definitions: &[Def]) -> Result<Vec<u8>, BuildFault>
     ensures ok { IfOk result (λ v. Spells v.items definitions.now) }
     ensures err { IfErr result (Refused (spelling_of definitions.now).counts) }

@@ -43,7 +43,7 @@ pub enum Space {
 }
 
 impl Space {
-    /// Its place in that order.
+    /// Its ordinal in that order, from 0.
     pub fn place(self) -> usize
         ensures { result ≡ place self }
     {

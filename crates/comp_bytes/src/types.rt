@@ -88,8 +88,8 @@ pub enum TypeDef {
     Defined(DefinedType),
 }
 
-/// The name of an import or an export. Where a version suffix stands, the name holds the canonical
-/// version alone, and the suffix what follows it.
+/// The name of an import or an export. Where there is a version suffix, the name holds the canonical
+/// version alone, and the suffix is the rest of the version.
 #[derive(Debug, Drop, PartialEq, Eq)]
 pub struct ExternName {
     pub name: Text,
@@ -120,7 +120,7 @@ impl Description {
     }
 }
 
-/// An item that is made of one that stands elsewhere: an export of an instance, an export of a core
+/// An alias of an item elsewhere: an export of an instance, an export of a core
 /// instance, or a type of a scope further out. `count` is the number of scopes outward, 0 the own one.
 #[derive(Debug, Drop, PartialEq, Eq)]
 pub enum Alias {

@@ -1,5 +1,5 @@
 //! Kinds that the standards list, and that several crates name: primitive types of WIT, kinds of core items, and
-//! string encodings. They stand on nothing, so that no crate has to wait for another for the sake of a name.
+//! string encodings. They depend on nothing, so that no crate has to wait for another for the sake of a name.
 //!
 //! In reading order: `kinds` (the kinds), `bytes` (the byte of a kind of core item).
 #![tactic(auto)]
