@@ -4,13 +4,13 @@ use Rattle.comp_roles.specs.declared.imports.Import.{Import}
 use Rattle.comp_roles.specs.declared.imports.ImportInstance.{ImportInstance}
 use Rattle.comp_roles.specs.declared.imports.ImportInstance.TheVariants as instances
 
--- an import of a core module: its module, its field, and what it is for
+-- an import of a core module: its module, its field, and its role
 pub record CoreImport : Type 0 where
   pub module_name : List ℕ
   pub field : List ℕ
   pub role : Import
 
--- the fields that a module imports from one other, each with what it is for
+-- the fields that a module imports from one other, each with its role
 abbrev pub fields_of : ImportInstance → List (List ℕ × Import)
 fields_of (instances.Names fields) = fields
 fields_of (instances.Whole which) = []

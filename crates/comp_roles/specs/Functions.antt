@@ -11,6 +11,6 @@ use Rattle.comp_roles.specs.declared.metadata.FunctionKey.{FunctionKey}
 abbrev pub is_same_function : FunctionKey → FunctionKey → Bool
 is_same_function = eq_of_both (on (λ f. f.key) is_same_key) (on (λ f. f.function) bytes_eq)
 
--- what a table has of a function
+-- the value that a table has for a function
 abbrev pub of_function : {X : Type 0} → WorldKey → List ℕ → List (FunctionKey × X) → Option X
 of_function key function table = lookup (is_same_function (record { key = key; function = function })) table

@@ -17,7 +17,7 @@ use Rattle.comp_roles.specs.declared.imports.NamedImport.{NamedImport}
 use Rattle.comp_roles.specs.declared.exports.Export.{Export}
 use Rattle.comp_roles.specs.declared.exports.Export.TheVariants as exports
 
--- what the first element tells that tells anything
+-- the first value that the function gives for an element
 abbrev pub first_told : {A B : Type 0} → (A → Option B) → List A → Option B
 first_told told [] = None
 first_told told (x ∷ xs) = option_or (told x) (first_told told xs)
@@ -26,7 +26,7 @@ first_told told (x ∷ xs) = option_or (told x) (first_told told xs)
 abbrev pub Exports : Type 0
 Exports = List (List ℕ × Export)
 
--- the name of the first export that is wanted
+-- the name of the first export that passes the test
 abbrev pub first_export : (Export → Bool) → Exports → Option (List ℕ)
 first_export wanted [] = None
 first_export wanted (entry ∷ rest) = if wanted entry.1 then Some entry.0 else first_export wanted rest
@@ -48,11 +48,11 @@ imported_memory groups = first_told (λ g. memory_of_fields (fields_of g.1)) gro
 abbrev pub field_imports : List ℕ → List (List ℕ × Import) → List CoreImport
 field_imports from fields = map (λ f. record { module_name = from; field = f.0; role = f.1 }) fields
 
--- an import as a look-up lends it
+-- an import as a look-up borrows it
 abbrev pub core_import : NamedImport → CoreImport
 core_import entry = record { module_name = entry.from.now; field = entry.field.now; role = entry.role.now }
 
--- ---- what an export is
+-- ---- the role of an export
 
 abbrev pub is_initialize : Export → Bool
 is_initialize exports.Initialize = true
@@ -98,7 +98,7 @@ abbrev pub is_dtor : TypeId → Export → Bool
 is_dtor resource (exports.ResourceDtor id) = nat_eq resource.index id.index
 is_dtor resource role = false
 
--- ---- what is told of one
+-- ---- what the role of one export says
 
 abbrev pub memory_of : List ℕ × Export → Option (List ℕ × MemoryType)
 memory_of (name, exports.Memory ty) = Some (name, ty)
@@ -122,10 +122,10 @@ first_abi key function entries = first_told (λ e. abi_of key function e.1) entr
 abbrev pub realloc_names : Exports → List (List ℕ)
 realloc_names entries = map (λ e. e.0) (filter (λ e. is_realloc e.1) entries)
 
--- the realloc that is meant for this, or else the general one
+-- the realloc for these calls, or else the general one
 abbrev pub realloc_for : (Export → Bool) → Exports → Option (List ℕ)
 realloc_for wanted entries = option_or (first_export wanted entries) (first_export is_general_realloc entries)
 
--- a name with what stands beside it, as a look-up lends it
+-- a name with its value, as a look-up borrows it
 abbrev pub lent_pair : {A X : Type 0} → Option (Bor A × X) → Option (A × X)
 lent_pair answer = option_map (λ p. (p.0.now, p.1)) answer

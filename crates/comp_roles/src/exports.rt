@@ -1,4 +1,4 @@
-//! What the exports of a core module are for.
+//! The roles of the exports of a core module.
 
 ghost use Rattle.std.specs.Prelude.{◌≡◌, ℕ, List, map, IfOk};
 ghost use Rattle.comp_roles.specs.declared.exports.Export.{Export};
@@ -16,16 +16,16 @@ use indexmap::map::Iter;
 use std::alloc::{AllocError, Global};
 use wit_data::{AbiVariant, Function, InterfaceId, TypeId, WorldKey};
 
-/// What an export of a core module is for.
+/// The role of an export of a core module.
 #[derive(Debug, PartialEq, Eq)]
 pub enum Export {
     /// A function that the world exports at its root: its key, its name, and how it is called.
     WorldFunc(WorldKey, Text, AbiVariant),
     /// A function of an exported interface.
     InterfaceFunc(WorldKey, InterfaceId, Text, AbiVariant),
-    /// What is called with the core results of a function once they were read.
+    /// The function that is called with the core results of a function once they were read.
     WorldFuncPostReturn(WorldKey),
-    /// What an asynchronous function goes on with.
+    /// The function that continues an asynchronous function.
     WorldFuncCallback(WorldKey),
     InterfaceFuncPostReturn(WorldKey, Text),
     InterfaceFuncCallback(WorldKey, Text),
@@ -38,9 +38,9 @@ pub enum Export {
     GeneralPurposeExportRealloc,
     /// It has no effect.
     ReallocForAdapter,
-    /// What is called once all modules are linked.
+    /// The function that is called once all modules are linked.
     Initialize,
-    /// What is told of the beginning and the end of each task.
+    /// The function that is called at the beginning and the end of each task.
     WasmTaskHook,
 }
 
@@ -65,14 +65,14 @@ impl Drop for Export {
     }
 }
 
-/// What the exports of a core module are for, by name, in order. Exports for nothing are not here.
+/// The roles of the exports of a core module, by name, in order. Exports without a role are not here.
 #[derive(Drop)]
 pub struct ExportMap {
     pub exports: Keyed<Text, Export>,
 }
 
 impl ExportMap {
-    /// The name of each export and what it is for, in order.
+    /// The name of each export and its role, in order.
     pub fn iter(&self) -> Iter<'_, Text, Export>
         ensures rest { result ≡ self.now.exports }
         ensures runs { ShowsInOrder (deref_pair {K = List ℕ} {X = Export}) }
@@ -105,7 +105,7 @@ impl ExportMap {
     }
 
     /// The names of all reallocs, in order: the general ones, and those for imports and for exports.
-    /// The only refusal is want of memory.
+    /// The only error is out of memory.
     pub fn reallocs(&self, alloc: Global) -> Result<Vec<&str>, AllocError>
         ensures { IfOk result (λ names. map (λ n. n.now) names.items ≡ realloc_names self.now.exports) }
     {
@@ -125,7 +125,7 @@ impl ExportMap {
         first(&self.exports, &Initialize)
     }
 
-    /// The function that is told of the beginning and the end of each task.
+    /// The function that is called at the beginning and the end of each task.
     pub fn wasm_task_hook(&self) -> Option<&str>
         ensures { option_copied result ≡ first_export is_task_hook self.now.exports }
     {
@@ -146,7 +146,7 @@ impl ExportMap {
         first(&self.exports, &ImportRealloc)
     }
 
-    /// What is called with the core results of a function once they were read (Canonical ABI:
+    /// The function that is called with the core results of a function once they were read (Canonical ABI:
     /// `post-return`).
     pub fn post_return(&self, key: &WorldKey, function: &Function) -> Option<&str>
         ensures { option_copied result ≡ first_export (is_post_return key.now function.now.name) self.now.exports }
@@ -155,7 +155,7 @@ impl ExportMap {
         first(&self.exports, &PostReturn { key, function })
     }
 
-    /// What an asynchronous function goes on with (Canonical ABI: `callback`).
+    /// The function that continues an asynchronous function (Canonical ABI: `callback`).
     pub fn callback(&self, key: &WorldKey, function: &Function) -> Option<&str>
         ensures { option_copied result ≡ first_export (is_callback key.now function.now.name) self.now.exports }
     {

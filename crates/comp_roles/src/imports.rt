@@ -1,4 +1,4 @@
-//! What the imports of a core module are for.
+//! The roles of the imports of a core module.
 
 ghost use Rattle.std.specs.Prelude.{◌≡◌, ◌++◌, map, IfOk, OnOk};
 ghost use Rattle.std.specs.List.{flat_map};
@@ -13,8 +13,8 @@ use standard_kinds::{ExportKind, StringEncoding};
 use std::alloc::{AllocError, Global};
 use wit_data::{AbiVariant, Function, InterfaceId, TypeId, WorldKey};
 
-/// What an import of a core module is for. Where a role stands in an interface, its key and its
-/// interface tell which; at the root of the world there is no interface.
+/// The role of an import of a core module. Where a role is in an interface, it has the interface's key and
+/// index; at the root of the world there is no interface.
 pub enum Import {
     /// A function that the world imports at its root: its key, its name, and how it is called.
     WorldFunc(WorldKey, Text, AbiVariant),
@@ -171,7 +171,7 @@ impl Drop for Import {
     }
 }
 
-/// What the imports from one module are for.
+/// The roles of the imports from one module.
 #[derive(Drop)]
 pub enum ImportInstance {
     /// Each field by its name, in the order of first mention.
@@ -180,7 +180,7 @@ pub enum ImportInstance {
     Whole(MainOrAdapter),
 }
 
-/// What the imports of a core module are for: by module, in the order of first mention.
+/// The roles of the imports of a core module: by module, in the order of first mention.
 #[derive(Drop)]
 pub struct ImportMap {
     pub modules: Keyed<Text, ImportInstance>,
@@ -195,8 +195,8 @@ pub struct NamedImport<'a> {
 }
 
 impl ImportMap {
-    /// The imports whose fields are told one by one, module by module, in order. The only refusal is
-    /// want of memory.
+    /// The imports whose fields are listed one by one, module by module, in order. The only error is
+    /// out of memory.
     pub fn imports(&self, alloc: Global) -> Result<Vec<NamedImport<'_>>, AllocError>
         ensures { IfOk result (λ list. map core_import list.items ≡ flat_map imports_from self.now.modules) }
     {
@@ -205,8 +205,8 @@ impl ImportMap {
         Ok(list)
     }
 
-    /// Adds the imports whose fields are told one by one to a list, module by module, in order. The only
-    /// refusal is want of memory.
+    /// Adds the imports whose fields are listed one by one to a list, module by module, in order. The only
+    /// error is out of memory.
     #[tactic(auto, using(crate::proofs::Walking::item_step))]
     pub fn add_imports<'a>(&'a self, list: &mut Vec<NamedImport<'a>>) -> Result<(), AllocError>
         ensures { OnOk result (map core_import list.new.items ≡ map core_import list.old.items ++ flat_map imports_from self.now.modules) }
@@ -260,7 +260,7 @@ fn add_fields<'a>(
     Ok(())
 }
 
-/// Adds the imports from one module, if they are told one by one.
+/// Adds the imports from one module, if they are listed one by one.
 fn add_group<'a>(
     list: &mut Vec<NamedImport<'a>>,
     from: &'a str,

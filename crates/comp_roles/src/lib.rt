@@ -1,13 +1,13 @@
-//! What each import and export of a core module is for.
+//! The role of each import and export of a core module.
 //!
-//! Values alone, by the keys and numbers of a world, and what is looked up in them. Nothing here knows the
-//! world itself, which options a call needs, or how an import is met: what says one of these belongs to a
-//! crate above. Upward this crate promises that its look-ups answer what `specs/Lookups.antt` says: the first
-//! entry that is what is looked for, in the order of the module.
+//! Values alone, by the keys and indices of a world, and look-ups in them. Nothing here knows the
+//! world itself, which options a call needs, or how an import is satisfied: that belongs to the
+//! crates above. Upward this crate promises that its look-ups return what `specs/Lookups.antt` says: the first
+//! matching entry, in the order of the module.
 //!
-//! In reading order: `libraries` (what the imports of a library are met
-//! with), `payloads` (streams and futures), `imports` and `exports` (what the imports and exports of a
-//! core module are for, and what is looked up in them), `roles` (what exports are looked for),
+//! In reading order: `libraries` (the arguments of
+//! libraries), `payloads` (streams and futures), `imports` and `exports` (the roles of imports and exports of a
+//! core module, and look-ups in them), `roles` (the roles that exports are looked up by),
 //! `metadata` (the encodings of functions), `offered` (the types of core exports).
 //!
 //! `specs/CoreImports.antt` has a core module's imports one by one, `specs/Functions.antt` the functions that

@@ -1,4 +1,4 @@
-//! What the imports of a library are met with.
+//! The arguments that satisfy the imports of a library.
 
 ghost use Rattle.std.specs.Prelude.{◌≡◌, IfOk};
 
@@ -36,16 +36,16 @@ impl Drop for Item {
     }
 }
 
-/// What meets the imports from one module.
+/// What satisfies the imports from one module.
 #[derive(Debug, Drop, PartialEq, Eq)]
 pub enum Instance {
     /// All exports of a module.
     MainOrAdapter(MainOrAdapter),
-    /// These.
+    /// These exports.
     Items(Seq<Item>),
 }
 
-/// An argument of a library: the module that it imports from, and what meets it.
+/// An argument of a library: the module that it imports from, and what satisfies these imports.
 #[derive(Debug, Drop, PartialEq, Eq)]
 pub struct LibraryArgument {
     pub name: Text,

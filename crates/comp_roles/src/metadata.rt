@@ -1,4 +1,4 @@
-//! What is known of a core module beside its bytes.
+//! What is known of a core module apart from its bytes.
 
 use comp_lists::{Keyed, Text};
 use standard_kinds::StringEncoding;

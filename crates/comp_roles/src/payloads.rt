@@ -1,4 +1,4 @@
-//! Streams and futures that intrinsics are for.
+//! The streams and futures of intrinsics.
 
 use comp_lists::Text;
 use wit_data::{InterfaceId, TypeId, WorldKey};
@@ -6,7 +6,7 @@ use wit_data::{InterfaceId, TypeId, WorldKey};
 /// A stream or a future (Canonical ABI: `stream.new`, `future.new` and the like).
 #[derive(Debug, Drop, PartialEq, Eq)]
 pub enum PayloadType {
-    /// A type, and the function in which it is met.
+    /// A type, and the function in which it occurs.
     Typed { id: TypeId, function: Text },
     /// A future without a value.
     UnitFuture,
@@ -14,17 +14,17 @@ pub enum PayloadType {
     UnitStream,
 }
 
-/// The stream or the future that a core import is for.
+/// The stream or the future of a core import.
 #[derive(Debug, PartialEq, Eq)]
 pub struct PayloadInfo {
     /// The field of the core import.
     pub name: Text,
     pub ty: PayloadType,
-    /// The key of the world's item where it is met; a unit has none.
+    /// The key of the world's item where it occurs; a unit has none.
     pub key: Option<WorldKey>,
     /// The interface there, or none at the root.
     pub interface: Option<InterfaceId>,
-    /// Whether it is met in an import.
+    /// Whether it occurs in an import.
     pub imported: bool,
 }
 
@@ -40,7 +40,7 @@ impl Drop for PayloadInfo {
     }
 }
 
-/// Which end of a stream or a future is used, and for what.
+/// Which end of a stream or a future is used, and how.
 #[derive(Clone, Copy, Debug, PartialEq, Eq, Hash)]
 pub enum PayloadFuncKind {
     FutureWrite,

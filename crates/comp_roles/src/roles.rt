@@ -1,4 +1,4 @@
-//! What exports of a core module are looked for.
+//! The roles that exports of a core module are looked up by.
 
 ghost use Rattle.std.specs.Prelude.{◌≡◌};
 ghost use Rattle.std.specs.Option.{option_copied};
@@ -8,7 +8,7 @@ use crate::exports::Export;
 use comp_lists::{Keyed, Text};
 use wit_data::{TypeId, WorldKey};
 
-/// What an export may be for.
+/// A role that an export may have.
 pub(crate) trait Role {
     ghost use Rattle.std.specs.Prelude.{Bool};
     ghost use Rattle.comp_roles.specs.declared.exports.Export.{Export};
@@ -19,7 +19,7 @@ pub(crate) trait Role {
         ensures { result ≡ wanted self.now export.now };
 }
 
-/// The name of the first export that is for this.
+/// The name of the first export with this role.
 pub(crate) fn first<'a, R: Role>(exports: &'a Keyed<Text, Export>, role: &R) -> Option<&'a str>
     ensures { option_copied result ≡ first_export (R.wanted role.now) exports.now }
 {
@@ -31,7 +31,7 @@ pub(crate) fn first<'a, R: Role>(exports: &'a Keyed<Text, Export>, role: &R) -> 
     None
 }
 
-/// What is called once all modules are linked.
+/// The function that is called once all modules are linked.
 #[derive(Clone, Copy)]
 pub(crate) struct Initialize;
 
@@ -45,7 +45,7 @@ impl Role for Initialize {
     }
 }
 
-/// What is told of tasks.
+/// The function that is called at the beginning and the end of each task.
 #[derive(Clone, Copy)]
 pub(crate) struct TaskHook;
 
