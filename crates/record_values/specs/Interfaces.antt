@@ -20,7 +20,7 @@ with_item is (items.Interface name) = with_first is_same_interface is name tt
 with_item is (items.Function f) = is
 with_item is (items.Type nodes) = is
 
--- these, and those among the items behind them, in order
+-- these, and those among the items after them, in order
 abbrev pub interfaces_after : Interfaces → List (ItemKey × Item) → Interfaces
 interfaces_after is [] = is
 interfaces_after is (e ∷ es) = interfaces_after (with_item is e.1) es

@@ -1,4 +1,4 @@
--- What becomes of types, functions and items where interfaces become others: all that names one follows.
+-- Types, functions and items where interfaces are renamed: every reference to one is renamed too.
 use Rattle.std.specs.Prelude.{List, map}
 use Rattle.std.specs.Option.{option_map, unwrap_or}
 use Rattle.std.specs.Map.{lookup}
@@ -15,7 +15,7 @@ use Rattle.record_values.specs.declared.world.Item.{Item}
 use Rattle.record_values.specs.declared.world.Item.TheVariants as items
 use Rattle.record_values.specs.Names.{is_same_interface}
 
--- interfaces beside those that they become; the others stay
+-- interfaces with those that replace them; the others are unchanged
 abbrev pub Renames : Type 0
 Renames = List (InterfaceName × InterfaceName)
 
@@ -29,7 +29,7 @@ renamed_owner rs (owners.Interface name) = owners.Interface (renamed rs name)
 abbrev pub renamed_type : Renames → TypeName → TypeName
 renamed_type rs t = record { owner = renamed_owner rs t.owner; name = t.name }
 
--- only handles and named types speak of interfaces
+-- only handles and named types refer to interfaces
 abbrev pub renamed_node : Renames → Node → Node
 renamed_node rs (nodes.Own t) = nodes.Own (renamed_type rs t)
 renamed_node rs (nodes.Borrow t) = nodes.Borrow (renamed_type rs t)

@@ -22,7 +22,7 @@ fn add_item(alloc: Global, interfaces: &mut Interfaces, item: &Item) -> Result<(
 }
 
 /// The interfaces among the items of a world's side, each once, in the order of the items. The only
-/// refusal is want of memory.
+/// error is out of memory.
 pub fn interfaces_among(
     alloc: Global,
     items: &Keyed<ItemKey, Item>,

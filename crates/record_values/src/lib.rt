@@ -1,17 +1,17 @@
-//! What records say, as values: interfaces, types and functions by name, the items of a world, and what
-//! core imports and core exports are for.
+//! What records say, as values: interfaces, types and functions by name, the items of a world, and the
+//! roles of core imports and core exports.
 //!
-//! Nothing in these values is a number that only means something in one record. An interface goes by its
+//! Nothing in these values is a number that only has a meaning in one record. An interface is identified by its
 //! id, or by the name under which the world imports or exports it; a type by its owner and its name
-//! ([`TypeName`]); so what two records say can be compared as it stands, and joining them renumbers
-//! nothing. A type is the list of its nodes, each behind its parts ([`Node`]): equal types are equal
+//! ([`TypeName`]); so what two records say can be compared directly, and merging them renumbers
+//! nothing. A type is the list of its nodes, each after its parts ([`Node`]): equal types are equal
 //! lists, and which types it names is read off the list.
 //!
-//! Upward this crate promises copies that are equal, and what becomes of all this where interfaces
-//! become others (`specs/Renaming.antt`). It knows nothing of JSON.
+//! Upward this crate promises copies that are equal, and how all of this is renamed where interfaces
+//! are replaced by others (`specs/Renaming.antt`). It knows nothing of JSON.
 //!
 //! In reading order: `names` (interfaces, owners, named types), `types` (nodes, functions, interfaces),
-//! `world` (the items of a world), `roles` (what core imports and exports are for), `record` (what one
+//! `world` (the items of a world), `roles` (the roles of core imports and exports), `record` (what one
 //! record says), `copies`, `interfaces` (those among the items of a world), `renaming`.
 #![tactic(auto)]
 

@@ -7,7 +7,7 @@ use comp_lists::Text;
 use std::hash::{Hash, Hasher};
 
 /// An interface: by its id, or by the name under which the world imports or exports it where it has
-/// none. One without an id that the world has not at all goes by its place in its record, and nothing
+/// none. One without an id that the world lacks is identified by its index in its record, and nothing
 /// that the world has can name it.
 #[derive(Debug)]
 pub enum InterfaceName {
@@ -28,7 +28,7 @@ impl Drop for InterfaceName {
     }
 }
 
-/// Whose a type or a function is.
+/// The owner of a type or a function.
 #[derive(Debug, Drop)]
 pub enum Owner {
     World,

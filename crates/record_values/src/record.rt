@@ -15,7 +15,7 @@ pub struct ImportName {
     pub field: Text,
 }
 
-/// A core import or export, by its name, and what it is for.
+/// A core import or export, by its name, and its role.
 #[derive(Debug, Drop)]
 pub struct Assigned<K, R> {
     pub key: K,
@@ -23,7 +23,7 @@ pub struct Assigned<K, R> {
 }
 
 /// What one record says: the world, the roles of core imports and exports in their order, how all
-/// functions of the world spell texts, and whether the task's second slot of storage is free.
+/// functions of the world encode texts, and whether the task's second slot of storage is free.
 pub struct Record {
     pub wit: Wit,
     pub encoding: StringEncoding,

@@ -1,4 +1,4 @@
-//! Interfaces that become others, and all that names them.
+//! Interfaces that are replaced by others, and all references to them.
 
 ghost use Rattle.std.specs.Prelude.{◌≡◌, IfOk, map};
 ghost use Rattle.record_values.specs.Renaming.{renamed, renamed_owner, renamed_type, renamed_node, renamed_nodes, renamed_typed, renamed_function, renamed_interface, renamed_item};
@@ -9,10 +9,10 @@ use crate::world::Item;
 use comp_lists::{Keyed, Seq, TryClone};
 use std::alloc::{AllocError, Global};
 
-/// Interfaces beside those that they become.
+/// Interfaces with those that replace them.
 type Renames = Keyed<InterfaceName, InterfaceName>;
 
-/// What an interface becomes. The only refusal, here and below, is want of memory.
+/// The interface that replaces this one. The only error, here and below, is out of memory.
 pub fn rename_name(
     alloc: Global,
     renames: &Renames,
@@ -55,7 +55,7 @@ fn rename_node(alloc: Global, renames: &Renames, node: &Node) -> Result<Node, Al
     }
 }
 
-/// A type whose references follow.
+/// A type with its references renamed.
 fn rename_nodes(alloc: Global, renames: &Renames, nodes: &[Node]) -> Result<Seq<Node>, AllocError>
     ensures { IfOk result (λ ns. ns ≡ renamed_nodes renames.now nodes.now) }
 {
@@ -116,7 +116,7 @@ fn rename_functions(
     Ok(renamed)
 }
 
-/// An interface whose references follow.
+/// An interface with its references renamed.
 pub fn rename_interface(
     alloc: Global,
     renames: &Renames,
@@ -130,7 +130,7 @@ pub fn rename_interface(
     })
 }
 
-/// An item of a world that follows, with all that it names.
+/// An item of a world with all its references renamed.
 pub fn rename_item(alloc: Global, renames: &Renames, item: &Item) -> Result<Item, AllocError>
     ensures { IfOk result (λ i. i ≡ renamed_item renames.now item.now) }
 {

@@ -1,4 +1,4 @@
-//! What the imports and exports of a core module are for.
+//! The roles of the imports and exports of a core module.
 
 use crate::names::{Owner, TypeName};
 use comp_lists::Text;
@@ -21,14 +21,14 @@ pub enum Intrinsic {
     ErrorContextDrop,
 }
 
-/// What carries values from one component to another.
+/// The values that carry others from one component to another.
 #[derive(Clone, Copy, Debug, PartialEq, Eq)]
 pub enum PayloadKind {
     Stream,
     Future,
 }
 
-/// What is done to a stream or a future (Canonical ABI: `stream.new`, `future.read` and the like).
+/// An operation on a stream or a future (Canonical ABI: `stream.new`, `future.read` and the like).
 #[derive(Clone, Copy, Debug, PartialEq, Eq)]
 pub enum PayloadOperation {
     New,
@@ -53,7 +53,7 @@ pub enum Payload {
     },
 }
 
-/// What a core import is for.
+/// The role of a core import.
 #[derive(Debug, PartialEq, Eq)]
 pub enum ImportRole {
     /// A function that the world or an imported interface has, and how it is called.
@@ -167,7 +167,7 @@ pub enum PlainExport {
     TaskHook,
 }
 
-/// What a core export is for.
+/// The role of a core export.
 #[derive(Debug, PartialEq, Eq, Hash)]
 pub enum ExportRole {
     /// A function that the world or an exported interface has, and how it is called.
@@ -176,12 +176,12 @@ pub enum ExportRole {
         name: Text,
         abi: AbiVariant,
     },
-    /// What is called with the core results of a function once they were read.
+    /// The function that is called with the core results of a function once they were read.
     PostReturn {
         owner: Owner,
         function: Text,
     },
-    /// What an asynchronous function goes on with.
+    /// The function that continues an asynchronous function.
     Callback {
         owner: Owner,
         function: Text,

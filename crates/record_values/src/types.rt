@@ -11,14 +11,14 @@ pub struct Case {
     pub has_type: bool,
 }
 
-/// A node of a type (component model, WIT: `ty`). A type is the list of its nodes, each behind its
+/// A node of a type (component model, WIT: `ty`). A type is the list of its nodes, each after its
 /// parts: a list of a tuple of two texts is `String`, `String`, `Tuple { arity: 2 }`, `List`.
 #[derive(Debug, PartialEq, Eq)]
 pub enum Node {
     Primitive(Primitive),
     List,
     Option,
-    /// A result, with its parts in this order where they are there.
+    /// A result, with its parts in this order where they are present.
     Result { has_ok: bool, has_err: bool },
     Tuple { arity: usize },
     /// A record, with a part for each field.
@@ -33,7 +33,7 @@ pub enum Node {
     Future { has_item: bool },
     /// A type that has a name.
     Named(TypeName),
-    /// A resource. It stands alone, as the type of a name.
+    /// A resource. It occurs alone, as the type of a name.
     Resource,
 }
 
@@ -89,7 +89,7 @@ impl Drop for Func {
     }
 }
 
-/// An interface: its types and its functions by name, in order. No name stands twice among the types,
+/// An interface: its types and its functions by name, in order. No name occurs twice among the types,
 /// and none among the functions.
 #[derive(Debug, Drop, PartialEq, Eq)]
 pub struct Interface {
