@@ -1,4 +1,4 @@
--- Lists, place by place.
+-- Lists, index by index.
 use Rattle.std.proofs.Common.{map, get_or, take, ◌≡◌, ℕ, zero, suc, ◌+◌, ◌<◌, List, [], ◌∷◌, ◌++◌, length, refl, ap, subst, Some, arith}
 use Rattle.std.proofs.lemmas.Option.{same_Some, none-some}
 use Rattle.std.proofs.lemmas.List.{take_more}
@@ -53,7 +53,7 @@ there [] i l = absurd (omega arith)
 there (x ∷ xs) zero l = (x, refl)
 there (x ∷ xs) (suc i) l = there xs i (omega arith)
 
--- a loop's step: what was pushed fits the item of this turn
+-- a loop's step: the pushed item fits the item of this iteration
 pub AllZip-more : {A B : Type 0} (R : A → B → Type 0) (xs new : List A) (ys : List B) (i : ℕ) (x : A) (y : B) →
     new ≡ xs ++ x ∷ [] → i < length ys → y ≡ get_or ys i y → AllZip R xs (take i ys) → R x y → AllZip R new (take (i + 1) ys)
 AllZip-more R xs new ys i x y pushed l is h k =
@@ -67,13 +67,13 @@ pub AllByRecursion-back : {X : Type 0} (P : X → Type 0) (xs ys : List X) → A
 AllByRecursion-back P [] ys h = h
 AllByRecursion-back P (x ∷ xs) ys h = AllByRecursion-back P xs ys h.1
 
--- what holds of all holds of the one at a place
+-- what holds of all items holds of the one at an index
 pub AllByRecursion-at : {X : Type 0} (P : X → Type 0) (xs : List X) (k : ℕ) (x : X) → AllByRecursion P xs → k < length xs → slice_index_or xs k x ≡ x → P x
 AllByRecursion-at P [] k x h l e = absurd (omega arith)
 AllByRecursion-at P (y ∷ ys) zero x h l e = subst P e h.0
 AllByRecursion-at P (y ∷ ys) (suc k) x h l e = AllByRecursion-at P ys k x h.1 (omega arith) e
 
--- what holds of all holds of each
+-- what holds of all items holds of each
 pub AllByRecursion-contains : {X : Type 0} (P : X → Type 0) (xs : List X) (x : X) → AllByRecursion P xs → Contains xs x → P x
 AllByRecursion-contains P xs x h m = AllByRecursion-at P xs m.0 x h m.1 m.2
 

@@ -19,7 +19,7 @@ later : {X : Type 0} (b : Bool) (x y z : Option X) (i : X) → (y ≡ Some i →
 later true x y z i f h = h
 later false x y z i f h = f h
 
--- what is found stays found, when entries follow
+-- what is found is still found when entries follow
 pub found-append : {X : Type 0} (name : List ℕ) (es more : List (List ℕ × X)) (i : X) → found name es ≡ Some i → found name (es ++ more) ≡ Some i
 found-append name [] more i h = cc
 found-append name (e ∷ es) more i h =
@@ -76,7 +76,7 @@ pub some_of : {X : Type 0} (o : Option X) → IsSome o → (x : X) × (o ≡ Som
 some_of None h = cc
 some_of (Some x) h = (x, refl)
 
--- an entry of another name is passed over
+-- an entry of another name is skipped
 pub found-skip : {X : Type 0} (name k : List ℕ) (v : X) (table rest : List (List ℕ × X)) → bytes_eq name k ≡ false → found name (table ++ (k, v) ∷ rest) ≡ found name (table ++ rest)
 found-skip name k v [] rest apart = ap (λ b. cond b (Some v) (found name rest)) apart
 found-skip name k v (e ∷ es) rest apart = ap (λ o. cond (bytes_eq name e.0) (Some e.1) o) (found-skip name k v es rest apart)

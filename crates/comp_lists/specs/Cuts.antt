@@ -1,8 +1,8 @@
--- Texts that are cut at a character.
+-- Texts that are split at a character.
 use Rattle.std.specs.Prelude.{ℕ, ◌==◌, nat_lt, length, List, Option, Some, None, if◌then◌else◌}
 use Rattle.std.specs.List.{before_first, after_first, position_or_len}
 
--- what stands before and after the first such character
+-- the text before and the text after the first such character
 abbrev pub cut_at : ℕ → List ℕ → Option (List ℕ × List ℕ)
 cut_at mark text =
     if nat_lt (position_or_len (λ b. b == mark) text) (length text)

@@ -1,9 +1,9 @@
-//! Texts that are cut at a character.
+//! Texts that are split at a character.
 
 ghost use Rattle.std.specs.Prelude.{◌≡◌, ◌<◌, option_map};
 ghost use Rattle.comp_lists.specs.Cuts.{cut_at};
 
-/// What stands before and after the first such character.
+/// The text before and the text after the first such character.
 #[tactic(auto, using(crate::proofs::Splits::cut_is))]
 pub fn cut(text: &str, mark: char) -> Option<(&str, &str)>
     requires { mark < 128 }

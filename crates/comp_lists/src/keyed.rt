@@ -15,7 +15,7 @@ use std::marker::Model;
 
 /// A table in the order in which its keys came, which contracts see as the list of its entries.
 ///
-/// No key stands twice in it. A look-up takes the time of a hash, whatever the size.
+/// No key occurs twice in it. A look-up takes the time of a hash, whatever the size.
 pub struct Keyed<K: Eq + Hash, V> {
     map: IndexMap<K, V>,
 }
@@ -44,7 +44,7 @@ impl<K: Eq + Hash, V> Keyed<K, V> {
         }
     }
 
-    /// What stands at a key.
+    /// The value at a key.
     pub fn get(&self, key: &K) -> Option<&V>
         ensures { option_copied result ≡ lookup (K.eq key.now) self.now }
     {
@@ -80,7 +80,7 @@ impl<K: Eq + Hash + Drop, V: Drop> Keyed<K, V> {
         Ok(())
     }
 
-    /// Adds an entry, unless its key has one, which then stays. Where memory is refused, the table
+    /// Adds an entry, unless its key has one, which is kept then. Where memory is refused, the table
     /// is as it was.
     pub fn add_first(&mut self, key: K, value: V) -> Result<(), AllocError>
         ensures ok { OnOk result (self.new ≡ with_first K.eq self.old key value) }

@@ -1,11 +1,11 @@
-//! Owned lists and texts that contracts see as lists, and nothing else of the memory behind them.
+//! Owned lists and texts that contracts see as lists, without the memory that holds them.
 //!
-//! Every crate of this repository stands on this one. A struct or an enum whose fields are [`Seq`],
+//! Every crate of this repository depends on this one. A struct or an enum whose fields are [`Seq`],
 //! [`Text`] and [`Bytes`] is itself the value that definitions speak of: equality of values is
-//! equality of lists, and no second copy of a type stands in `specs/`.
+//! equality of lists, and no second copy of a type is needed in `specs/`.
 //!
-//! In reading order: `try_clone` (copies that may lack memory), `seq` (lists), `text` (texts), `cuts`
-//! (texts cut at a character), `keyed` (tables by key).
+//! In reading order: `try_clone` (copies that may fail with out of memory), `seq` (lists), `text` (texts), `cuts`
+//! (texts split at a character), `keyed` (tables by key).
 //! `specs/Found.antt` has look-ups by name in a list of pairs; `proofs/` has the lemmas on lists that
 //! the standard library lacks, for every crate above.
 #![tactic(auto)]

@@ -46,7 +46,7 @@ impl Text {
         }
     }
 
-    /// A text of its own with these bytes. The only refusal is want of memory.
+    /// A text of its own with these bytes. The only error is out of memory.
     pub fn from_str(alloc: Global, text: &str) -> Result<Text, AllocError>
         ensures { IfOk result (λ t. t ≡ text.now) }
     {

@@ -6,7 +6,7 @@ use std::alloc::{AllocError, Global};
 
 /// A value of which an equal one can be made, memory allowing.
 pub trait TryClone: Drop {
-    /// An equal value. The only refusal is want of memory.
+    /// An equal value. The only error is out of memory.
     fn try_clone(&self, alloc: Global) -> Result<Self, AllocError>
         ensures { IfOk result (λ x. x ≡ self.now) };
 }
