@@ -20,12 +20,12 @@ more a b c text i n h k =
     let all : take (length text - i) (drop i text) ≡ drop i text = take_all _ _ (omega (arith, length-drop i text)) in
     both a b c (take i text) (take n (drop i text)) (take (i + n) text) (take-add i n text) h (rw all at k)
 
--- a front of a text, and what is left of it
+-- a front of a text, and the rest of it
 pub front_of : (before after : Option (List ℕ)) (text : List ℕ) (n : ℕ) (whole : Bool) → Appends before after (take n text) → (IsTrue whole → length text ≤ n) → Puts before after text whole
 front_of before after text n whole h ends =
     record { front = take n text; rest = drop n text; split = sym (take-append-drop n text); appended = h; ends = λ w. drop_all n text (ends w) }
 
--- a text behind one that was written whole, and one behind which nothing more was written
+-- a text after one that was written whole, and one after which nothing more was written
 pub puts_both : (a b c : Option (List ℕ)) (x y : List ℕ) (whole : Bool) → Puts a b x true → Puts b c y whole → Puts a c (x ++ y) whole
 puts_both a b c x y whole h k =
     let all : x ≡ h.front = h.split ∙ (ap (λ r. h.front ++ r) (h.ends refl) ∙ append-nil h.front) in
@@ -41,7 +41,7 @@ pub puts_first : (a b : Option (List ℕ)) (x y : List ℕ) → Puts a b x false
 puts_first a b x y h =
     record { front = h.front; rest = h.rest ++ y; split = ap (λ u. u ++ y) h.split ∙ append_assoc h.front h.rest y; appended = h.appended; ends = λ w. absurd (true≢false (sym w)) }
 
--- what is put is said
+-- what is written to a writer is a printed text
 pub said : (a b : Option (List ℕ)) (text : List ℕ) (whole : Bool) (IsLine : List ℕ → Type 0) → Puts a b text whole → IsLine text → Says a b IsLine
 said a b text whole IsLine h is = record { line = text; is_line = is; front = h.front; rest = h.rest; split = h.split; appended = h.appended }
 
@@ -51,11 +51,11 @@ keeps_on (Some xs) None c text h k = absurd h
 keeps_on (Some xs) (Some ys) None text h k = absurd k
 keeps_on (Some xs) (Some ys) (Some zs) text h k = k ∙ h
 
--- a writer that fails behind a front of a text
+-- a writer that fails after a front of a text
 pub fails_behind : (a b c : Option (List ℕ)) (text : List ℕ) (n : ℕ) → Appends a b (take n text) → Keeps b c → Puts a c text false
 fails_behind a b c text n h k = front_of a c text n false (keeps_on a b c (take n text) h k) (λ w. absurd (true≢false (sym w)))
 
--- one that takes nothing
+-- a writer that accepts nothing
 pub stops_behind : (a b c : Option (List ℕ)) (text : List ℕ) (i n : ℕ) → Appends a b (take i text) → Appends b c (take n (take (length text - i) (drop i text))) → Puts a c text false
 stops_behind a b c text i n h k = front_of a c text (i + n) false (more a b c text i n h k) (λ w. absurd (true≢false (sym w)))
 

@@ -38,7 +38,7 @@ module _ {L B F : Type 0} (l : lower.Ghosts L B F) where
   told_refused layer validate bytes (Err (faults.Check f)) h = absurd h
   told_refused layer validate bytes (Err (faults.Encode f)) h = refl
 
-  -- each refusal of the device is told
+  -- each refusal of the device is reported
   pub told_listed : (file : List ℕ) (es : List Event) (before after : Option (List ℕ)) (r : Result ⊤ (RunFault F)) → Listed file es before after r → device_faults es ≡ told_faults r
   told_listed file [] before after r h = rw h.0 refl
   told_listed file (NotRead name ∷ []) before after r h = rw h.1 refl

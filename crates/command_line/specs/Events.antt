@@ -6,13 +6,13 @@ use Rattle.command_line.specs.declared.store.Event.TheVariants.{Read, NotRead, P
 use Rattle.command_line.specs.declared.store.StoreFault.{StoreFault}
 use Rattle.command_line.specs.declared.store.StoreFault.TheVariants.{Device, Memory}
 
--- what an answer to a read tells: nothing, where memory was refused
+-- the events of a read's result: none, where memory was refused
 abbrev pub events_of_read : List ℕ → Result (Vec ℕ) StoreFault → List Event
 events_of_read name (Ok v) = Read name v.items ∷ []
 events_of_read name (Err Device) = NotRead name ∷ []
 events_of_read name (Err Memory) = []
 
--- what an answer to a put tells
+-- the events of a put's result
 abbrev pub events_of_put : List ℕ → List ℕ → Result ⊤ StoreFault → List Event
 events_of_put name bytes (Ok x) = Put name bytes ∷ []
 events_of_put name bytes (Err Device) = NotPut name bytes ∷ []

@@ -7,11 +7,11 @@ use Rattle.command_line.specs.declared.store.StoreFault.TheVariants as store_fau
 use Rattle.command_line.specs.declared.fault.RunFault.{RunFault}
 use Rattle.command_line.specs.declared.fault.RunFault.TheVariants.{Usage, Read, Write, Encode, Check}
 
--- want of memory where a component is made
+-- out of memory where a component is made
 abbrev pub no_memory : {F : Type 0} → RunFault F
 no_memory = Encode encode_faults.Memory
 
--- want of memory, by whether the definitions of a component are asked for
+-- out of memory, by whether the definitions of a component are asked for
 abbrev pub want_of_memory : {F : Type 0} → Bool → RunFault F
 want_of_memory listing = if listing then Check checks.Memory else no_memory
 

@@ -1,4 +1,4 @@
--- A component told on standard output, a line a definition. (The program's own; the lines are those of `comp_lines`,
+-- A component printed on standard output, one line for each definition. (The program's own; the lines are those of `comp_lines`,
 -- and why bytes are not read is said by `comp_check`.)
 use Rattle.std.specs.Prelude.{◌≡◌, ℕ, Bool, true, false, List, [], ◌∷◌, ◌++◌, ⊤, Option, Result, Ok, Err, codes}
 use Rattle.std.specs.List.{flat_map}
@@ -17,21 +17,21 @@ use Rattle.command_line.specs.declared.store.Event.TheVariants.{Read, NotRead}
 abbrev pub told : List (List ℕ) → List ℕ
 told ls = flat_map (λ l. l ++ codes "\n") ls
 
--- a front of the lines of what the bytes spell was written, and where `whole` all of them
+-- a front of the lines of the definitions that the bytes encode was written, and where `whole` all of them
 pub record TellsAll (bytes : List ℕ) (before after : Option (List ℕ)) (whole : Bool) : Type 0 where
   pub definitions : List Def
   pub spelled : Spells bytes definitions
   pub puts : Puts before after (told (lines definitions)) whole
 
--- How telling what the bytes spell ended: all lines were written, or the writer failed behind a front of them, or they
--- spell no component and nothing was written.
+-- How printing the definitions that the bytes encode ended: all lines were written, or the writer failed after a front of them, or they
+-- encode no component and nothing was written.
 abbrev pub Tells : {F : Type 0} → List ℕ → Option (List ℕ) → Option (List ℕ) → Result ⊤ (RunFault F) → Type 0
 Tells bytes before after (Ok x) = TellsAll bytes before after true
 Tells bytes before after (Err faults.Out) = TellsAll bytes before after false
 Tells bytes before after (Err (faults.Check f)) = IsUnread bytes f × (after ≡ before)
 Tells bytes before after (Err _) = ⊥
 
--- What was read, and how the run ended: the file is read, once, and what its bytes spell is told. The first case is want
+-- What was read, and how the run ended: the file is read, once, and the definitions that its bytes encode are printed. The first case is out
 -- of memory before the file was read.
 abbrev pub Listed : {F : Type 0} → List ℕ → List Event → Option (List ℕ) → Option (List ℕ) → Result ⊤ (RunFault F) → Type 0
 Listed file [] before after r = (r ≡ Err (faults.Check checks.Memory)) × (after ≡ before)

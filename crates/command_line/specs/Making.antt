@@ -22,7 +22,7 @@ module _ {L B F : Type 0} (l : lower.Ghosts L B F) where
   abbrev pub given : L → Bool → List ℕ → Encoder L B
   given layer validate bytes = after_module l (begun layer validate) bytes
 
-  -- the component of a module: no cause stood against it, and `encode` answers it of an encoder that was given the module
+  -- the component of a module: it has no cause of a failure, and `encode` returns it of an encoder that was given the module
   pub record IsMade (layer : L) (validate : Bool) (bytes component : List ℕ) : Type 0 where
     pub accepted : (f : F) → ¬ ModuleCause l (begun layer validate) bytes f
     pub clear : NoEncodeCause l (given layer validate bytes)
@@ -38,7 +38,7 @@ module _ {L B F : Type 0} (l : lower.Ghosts L B F) where
 
   -- What was read and put, and how the run ended: MAIN is read, once; OUT is put, once and last,
   -- where what was read has a component, which is what is put; nothing else is read or put. The
-  -- first case is want of memory before MAIN was read.
+  -- first case is out of memory before MAIN was read.
   abbrev pub Made : L → Arguments → List Event → Result ⊤ (RunFault F) → Type 0
   Made layer names [] r = r ≡ Err no_memory
   Made layer names (NotRead name ∷ []) r = (name ≡ names.main) × (r ≡ Err (faults.Read names.main))

@@ -13,20 +13,20 @@ use Rattle.command_line.specs.declared.fault.RunFault.{RunFault}
 use Rattle.command_line.specs.declared.store.Event.{Event}
 use Rattle.command_line.specs.declared.fault.RunFault.TheVariants.{Usage}
 
--- what is said of how a run ended: nothing of success, a line of a failure
+-- what is printed at the end of a run: nothing on success, a line on a failure
 abbrev pub Told : {F : Type 0} → List ℕ → Option (List ℕ) → Option (List ℕ) → Result ⊤ (RunFault F) → Type 0
 Told memory before after (Ok x) = after ≡ before
 Told memory before after (Err f) = Says before after (IsLineOf memory f)
 
 module _ {L B F : Type 0} (l : lower.Ghosts L B F) where
   -- With wrong arguments nothing is read, put or written; with right ones the component is made and nothing is
-  -- written, or a component is told.
+  -- written, or a component is printed.
   abbrev pub Did : L → Option Request → List Event → Option (List ℕ) → Option (List ℕ) → Result ⊤ (RunFault F) → Type 0
   Did layer None es before after r = (es ≡ []) × (r ≡ Err Usage) × (after ≡ before)
   Did layer (Some (requests.New names)) es before after r = Made l layer names es r × (after ≡ before)
   Did layer (Some (requests.Defs file)) es before after r = Listed file es before after r
 
-  -- What was asked for was done, and this was the end of it: these events came, each refusal of the device was told.
+  -- What was asked for was done, and this was the end of it: these events happened, each refusal of the device was reported.
   pub record Performed (layer : L) (request : Option Request) (before after : Option (List Event)) (out_before out_after : Option (List ℕ)) (ended : Result ⊤ (RunFault F)) : Type 0 where
     pub events : List Event
     pub happened : after ≡ happen before events

@@ -1,5 +1,5 @@
--- The lines that tell a failure. (The program's own. Of what a line says of a file's name, of an encoder's
--- fault or of a component that can't be read only the beginning is said here.)
+-- The lines that report a failure. (The program's own. Of what a line says of a file's name, of an encoder's
+-- fault or of a component that can't be read only the beginning is specified here.)
 use Rattle.std.specs.Prelude.{◌≡◌, ℕ, Bool, List, [], ◌++◌, ◌⊎◌, Option, codes, if◌then◌else◌, IsTrue}
 use Rattle.std.specs.Io.KnownBytes.{Appends}
 use Rattle.comp_check.specs.declared.fault.CheckFault.TheVariants as checks
@@ -25,11 +25,11 @@ pub record IsText (start line : List ℕ) : Type 0 where
   pub text : List ℕ
   pub is : line ≡ start ++ text ++ codes "\n"
 
--- a line that begins so, or the one that tells want of memory, where there was none for the line
+-- a line that begins so, or the one that reports out of memory, where there was no memory for the line
 abbrev pub IsTextOr : List ℕ → List ℕ → List ℕ → Type 0
 IsTextOr memory start line = IsText start line ⊎ (line ≡ memory)
 
--- the line of a fault; `memory` is the line that is said where there is no memory for it
+-- the line of a fault; `memory` is the line that is printed where there is no memory for it
 abbrev pub IsLineOf : {F : Type 0} → List ℕ → RunFault F → List ℕ → Type 0
 IsLineOf memory Usage line = line ≡ usage_line
 IsLineOf memory (Read name) line = IsTextOr memory (codes "error: read ") line
@@ -40,7 +40,7 @@ IsLineOf memory (Encode _) line = IsTextOr memory (codes "error: ") line
 IsLineOf memory (Check checks.Memory) line = line ≡ listing_memory_line
 IsLineOf memory (Check _) line = IsTextOr memory (codes "error: ") line
 
--- to what a writer held a front of the text was appended, and where `whole` all of it
+-- a front of the text was appended to a writer's contents, and where `whole` all of it
 pub record Puts (before after : Option (List ℕ)) (text : List ℕ) (whole : Bool) : Type 0 where
   pub front : List ℕ
   pub rest : List ℕ
@@ -48,7 +48,7 @@ pub record Puts (before after : Option (List ℕ)) (text : List ℕ) (whole : Bo
   pub appended : Appends before after front
   pub ends : IsTrue whole → rest ≡ []
 
--- to what a writer held, a front of such a line was appended
+-- a front of such a line was appended to a writer's contents
 pub record Says (before after : Option (List ℕ)) (IsLine : List ℕ → Type 0) : Type 0 where
   pub line : List ℕ
   pub is_line : IsLine line

@@ -7,7 +7,7 @@ ghost use Rattle.command_line.specs.declared.arguments.Request.TheVariants as re
 use comp_lists::Text;
 use std::alloc::{AllocError, Global};
 
-/// The names of the files of a run of `new`: where the component goes, and where the module is; and
+/// The names of the files of a run of `new`: the file for the component, and the module's; and
 /// whether the component is checked.
 #[derive(Drop)]
 pub(crate) struct Arguments {

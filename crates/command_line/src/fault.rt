@@ -19,14 +19,14 @@ pub(crate) enum RunFault<F> {
     Write { name: Text },
     /// Standard output can't be written.
     Out,
-    /// There is no component. Want of memory is told in this way wherever it is met by `new`.
+    /// There is no component. Out of memory is reported in this way wherever it occurs in `new`.
     Encode(EncodeFault<F>),
-    /// The bytes of a file are no component. Want of memory is told in this way wherever it is met by
+    /// The bytes of a file are no component. Out of memory is reported in this way wherever it occurs in
     /// `defs`.
     Check(CheckFault),
 }
 
-/// What want of memory is to a run.
+/// The fault of a run that is out of memory.
 pub(crate) fn want_of_memory<F>(listing: bool) -> RunFault<F>
     ensures { result ≡ want_of_memory listing }
 {
@@ -37,7 +37,7 @@ pub(crate) fn want_of_memory<F>(listing: bool) -> RunFault<F>
     }
 }
 
-/// What a refusal of the store to read a file is to the run. `listing` is whether it was read to tell
+/// The fault of the run where the store refuses to read a file. `listing` is whether it was read to print
 /// its definitions.
 pub(crate) fn read_fault<F>(listing: bool, fault: StoreFault, name: Text) -> RunFault<F>
     ensures { result ≡ of_read listing name fault }
@@ -48,7 +48,7 @@ pub(crate) fn read_fault<F>(listing: bool, fault: StoreFault, name: Text) -> Run
     }
 }
 
-/// What a refusal of the store to put a file is to the run.
+/// The fault of the run where the store refuses to put a file.
 pub(crate) fn put_fault<F>(fault: StoreFault, name: Text) -> RunFault<F>
     ensures { result ≡ of_put name fault }
 {

@@ -2,10 +2,10 @@
 //!
 //! `new OUT MAIN [--validate]` reads the module from the file MAIN and puts its component into the file
 //! OUT. `defs FILE` writes on standard output a line for each definition of the component in FILE. All that
-//! a run does with files, what it writes and what it says of a failure is in the contract of [`run`].
+//! a run does with files, what it writes and what it prints of a failure is in the contract of [`run`].
 //!
 //! In reading order: `arguments` (what is asked for), `store` (files by their names), `fault` (why a
-//! run fails), `making` (from a file to a file), `telling` (the line that tells a failure), `listing` (a
+//! run fails), `making` (from a file to a file), `telling` (the line that reports a failure), `listing` (a
 //! component on standard output), `running` (a run).
 #![tactic(auto)]
 

@@ -1,4 +1,4 @@
-//! A component, told on standard output.
+//! A component, printed on standard output.
 
 ghost use Rattle.std.specs.Prelude.{◌≡◌, ◌∷◌, [], List, IfOk, IfErr, map, string_bytes};
 ghost use Rattle.comp_bytes.specs.Grammar.{Spells};
@@ -20,7 +20,7 @@ use comp_lists::Text;
 use std::alloc::Global;
 use std::io::Write;
 
-/// The lines of the definitions that the bytes of a component spell.
+/// The lines of the definitions that the bytes of a component encode.
 fn lines_of(alloc: Global, bytes: &[u8]) -> Result<Vec<String>, CheckFault>
     ensures ok { IfOk result (λ found. (ds : List Def) × Spells bytes.now ds × (map string_bytes found.items ≡ lines ds)) }
     ensures cause { IfErr result (λ e. IsUnread bytes.now e) }
@@ -52,7 +52,7 @@ fn put_lines<W: Write>(writer: &mut W, lines: &[String]) -> bool
     true
 }
 
-/// Reads a component, and tells its definitions, a line each.
+/// Reads a component, and prints its definitions, one line each.
 pub(crate) fn list<S: Store, W: Write, F>(
     alloc: Global,
     file: Text,

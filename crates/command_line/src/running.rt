@@ -36,7 +36,7 @@ fn perform<L: Lower + Drop, S: Store, W: Write>(
     }
 }
 
-/// Tells how a run ended: nothing of success, a line of a failure.
+/// Reports how a run ended: nothing on success, a line on a failure.
 fn report<W: Write, F: Display>(
     alloc: Global,
     writer: &mut W,
@@ -51,7 +51,7 @@ fn report<W: Write, F: Display>(
     }
 }
 
-/// The exit status: 0 after success, 2 where the arguments are wrong, else 1.
+/// The exit status: 0 after success, 2 where the arguments are wrong, otherwise 1.
 fn status_of<F>(done: &Result<(), RunFault<F>>) -> u8
     ensures { result ≡ status_of done.now }
 {
@@ -63,7 +63,7 @@ fn status_of<F>(done: &Result<(), RunFault<F>>) -> u8
 }
 
 /// Runs the program over any lower layer. `words` are the arguments after the program's name; the
-/// answer is the exit status.
+/// result is the exit status.
 pub fn run_with<L: Lower + Drop, S: Store, W: Write, E: Write>(
     alloc: Global,
     lower: L,
@@ -79,7 +79,7 @@ pub fn run_with<L: Lower + Drop, S: Store, W: Write, E: Write>(
     status_of(&done)
 }
 
-/// Runs the program. `words` are the arguments after the program's name; the answer is the exit
+/// Runs the program. `words` are the arguments after the program's name; the result is the exit
 /// status.
 pub fn run<S: Store, W: Write, E: Write>(
     alloc: Global,

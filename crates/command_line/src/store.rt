@@ -15,7 +15,7 @@ pub enum StoreFault {
     Memory,
 }
 
-/// What a store did, as its history tells it.
+/// What a store did, as an event of its history.
 #[derive(Debug, Drop)]
 pub enum Event {
     /// A file was read, and had these bytes.

@@ -1,4 +1,4 @@
-//! The line that tells a failure.
+//! The line that reports a failure.
 
 ghost use Rattle.std.specs.Prelude.{◌≡◌, ◌++◌, ℕ, List, IfOk, take, string_bytes, codes};
 ghost use Rattle.std.specs.Io.KnownBytes.{Appends};
@@ -11,19 +11,19 @@ use std::alloc::{AllocError, Global};
 use std::fmt::Display;
 use std::io::Write;
 
-/// What is said where the arguments are not those of the program.
+/// The line for arguments that are not those of the program.
 pub const USAGE: &[u8] = b"usage: component_new new OUT MAIN [options] | defs FILE\n";
 
-/// What is said where memory is refused.
+/// The line where memory is refused.
 pub const MEMORY: &[u8] = b"error: E1 Memory\n";
 
-/// What is said where memory is refused and the definitions of a component are asked for.
+/// The line where memory is refused and the definitions of a component are asked for.
 const LISTING_MEMORY: &[u8] = b"error: C1 Memory\n";
 
-/// What is said where standard output can't be written.
+/// The line where standard output can't be written.
 const OUT: &[u8] = b"error: write \"-\"\n";
 
-/// What is said where memory is refused.
+/// The line where memory is refused.
 fn memory_line(listing: bool) -> &'static [u8]
     ensures { result.now ≡ memory_line_of listing }
 {
@@ -52,7 +52,7 @@ pub fn say<W: Write>(writer: &mut W, text: &[u8])
     let _whole = put(writer, text);
 }
 
-/// A line that begins so, and goes on with what the value displays.
+/// A line that begins so, and continues with what the value displays.
 fn line_of<D: Display>(alloc: Global, start: &str, value: &D) -> Result<String, AllocError>
     ensures { IfOk result (λ line. IsText start.now (string_bytes line)) }
 {
@@ -63,7 +63,7 @@ fn line_of<D: Display>(alloc: Global, start: &str, value: &D) -> Result<String, 
     Ok(line)
 }
 
-/// Writes a front of such a line, or of the line that tells want of memory, where there was none for
+/// Writes a front of such a line, or of the line that reports out of memory, where there was no memory for
 /// the line.
 fn say_value<W: Write, D: Display>(
     alloc: Global,
@@ -80,7 +80,7 @@ fn say_value<W: Write, D: Display>(
     }
 }
 
-/// Writes a front of the line that tells a fault, and all of it unless the writer fails. `listing` is
+/// Writes a front of the line that reports a fault, and all of it unless the writer fails. `listing` is
 /// whether the definitions of a component were asked for.
 pub(crate) fn tell<W: Write, F: Display>(
     alloc: Global,

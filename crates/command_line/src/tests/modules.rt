@@ -37,7 +37,7 @@ pub(crate) const DIGIT_FIRST: &[u8] =
     ld-func\",\"1f\",\"sync\"]}],\"core-exports\":[{\"field\":\"g\",\"role\":[\"world\
     -func\",\"g\",\"sync\"]}]}";
 
-/// What is told of the component of `MAIN`.
+/// The lines that are printed of the component of `MAIN`.
 pub(crate) const LINES: &str = "type 0 = 40000100\n\
     func 0 = import \"f\" 0100\n\
     core-module 0 = 44 bytes\n\

@@ -18,7 +18,7 @@ fn fault_text<T, F: Display>(
     }
 }
 
-/// What `encode` says after one module.
+/// The result of `encode` after one module.
 fn encoded<L: Lower + Drop>(
     alloc: Global,
     lower: L,
@@ -28,7 +28,7 @@ fn encoded<L: Lower + Drop>(
     encoder.module(bytes)?.encode()
 }
 
-/// The fault of a module that is given twice, and what `encode` says after that.
+/// The fault of a module that is given twice, and the result of `encode` after that.
 fn given_twice<L: Lower + Drop>(
     alloc: Global,
     lower: L,

@@ -9,7 +9,7 @@ use crate::store::{Event, StoreFault};
 use std::alloc::{AllocError, Global};
 use std::test::Fail;
 
-/// What a run answered, and wrote to its two writers.
+/// The status of a run, and what it wrote to its two writers.
 #[derive(Drop)]
 struct Answer {
     status: u8,

@@ -1,4 +1,4 @@
-//! A store in memory, and a writer that takes nothing.
+//! A store in memory, and a writer that accepts nothing.
 
 ghost use Rattle.std.specs.Prelude.{◌≡◌, ◌++◌, Some, IfOk};
 ghost use Rattle.command_line.specs.Events.{events_of_read, events_of_put};
@@ -119,7 +119,7 @@ impl Store for OneFile {
     }
 }
 
-/// A writer that takes nothing.
+/// A writer that accepts nothing.
 #[derive(Drop)]
 pub(crate) struct Closed;
 
