@@ -1,4 +1,4 @@
-//! What a lower layer answers for records, for a module, and for two modules, as text.
+//! The results of a lower layer for records, for a module, and for two modules, as text.
 
 ghost use Rattle.std.specs.Prelude.{IsSome};
 
@@ -40,7 +40,7 @@ const OPTIONS: EncoderOptions = EncoderOptions {
     realloc_via_memory_grow: false,
 };
 
-/// What a layer answers for the world of what was gathered.
+/// The result of a layer for the world of what was gathered.
 fn prepare_answer<L: Lower>(
     lower: &L,
     alloc: Global,
@@ -57,10 +57,10 @@ fn prepare_answer<L: Lower>(
     }
 }
 
-/// A module without its records, what it says, and what it says together with those before it.
+/// A module without its records, what it says, and what it says merged with those before it.
 type Given<B> = (Bytes, B, Merged<B>);
 
-/// A module that is given behind others, which say this together.
+/// A module that is given after others, whose merged records are these.
 fn given_behind<L: Lower>(
     lower: &L,
     alloc: Global,
@@ -119,7 +119,7 @@ fn prepare_given<L: Lower>(lower: &L, alloc: Global, given: Given<L::Bindgen>) -
     answer
 }
 
-/// What a layer answers for a module as main.
+/// The result of a layer for a module as main.
 fn answer_for<L: Lower>(lower: &L, alloc: Global, bytes: &[u8]) -> Answer<L::Fault> {
     match given_first(lower, alloc, bytes) {
         Ok(given) => prepare_given(lower, alloc, given),
@@ -145,7 +145,7 @@ fn with_keys<B: Drop>(keys: Seq<ExportKey>, given: Given<B>) -> Result<Given<B>,
     }
 }
 
-/// What a layer answers for two modules that are given as main, one after the other.
+/// The result of a layer for two modules that are given as main, one after the other.
 fn answer_for_both<L: Lower>(
     lower: &L,
     alloc: Global,
@@ -163,7 +163,7 @@ fn answer_for_both<L: Lower>(
     }
 }
 
-/// What a layer answers for the second, where the first has to export these keys.
+/// The result of a layer for the second, where the first has to export these keys.
 fn answer_behind<L: Lower>(
     lower: &L,
     alloc: Global,
@@ -179,7 +179,7 @@ fn answer_behind<L: Lower>(
     }
 }
 
-/// The answer for the records of a module: that they are read, or the fault.
+/// The result for the records of a module: that they are read, or the fault.
 fn read_by<L: Lower>(lower: &L, alloc: Global, bytes: &[u8]) -> Result<String, AllocError> {
     match lower.decode(alloc, bytes) {
         Ok(_) => String::from_str(alloc, "read"),
@@ -210,7 +210,7 @@ fn with_records(alloc: Global, records: &str) -> Result<Vec<u8>, AllocError> {
     Ok(bytes)
 }
 
-/// What a layer answers for these records, which are in the sections of one module: that they are read, or the
+/// The result of a layer for these records, which are in the sections of one module: that they are read, or the
 /// fault.
 pub fn records_answer<L: Lower>(
     lower: &L,
@@ -221,7 +221,7 @@ pub fn records_answer<L: Lower>(
     read_by(lower, alloc, &bytes)
 }
 
-/// What a layer answers for a module as main: that its world is prepared, or the call that refuses it, with the fault.
+/// The result of a layer for a module as main: that its world is prepared, or the call that refuses it, with the fault.
 pub fn module_answer<L: Lower>(
     lower: &L,
     alloc: Global,
@@ -231,7 +231,7 @@ pub fn module_answer<L: Lower>(
     format!(in alloc; "{answer}")
 }
 
-/// What a layer answers for two modules as main, one after the other.
+/// The result of a layer for two modules as main, one after the other.
 pub fn modules_answer<L: Lower>(
     lower: &L,
     alloc: Global,

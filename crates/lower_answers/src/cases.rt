@@ -1,11 +1,11 @@
-//! Cases, a line each, and how many have the answer that they are to have.
+//! Cases, one line each, and how many have the expected result.
 
 use crate::answers::{module_answer, modules_answer, records_answer};
 use comp_worlds::Lower;
 use std::alloc::{AllocError, Global};
 use std::fmt;
 
-/// What the lines of a file speak of.
+/// What the lines of a file are about.
 #[derive(Clone, Copy, Debug, PartialEq, Eq)]
 pub enum Kind {
     /// The records of a module, with ` & ` between two of them.
@@ -26,7 +26,7 @@ impl Kind {
     }
 }
 
-/// How many cases have the answer that they are to have.
+/// How many cases have the expected result.
 #[derive(Clone, Copy, Debug, PartialEq, Eq)]
 pub struct Count {
     as_expected: u32,
@@ -34,7 +34,7 @@ pub struct Count {
     otherwise: u32,
 }
 
-/// The answer for a module in hexadecimal digits.
+/// The result for a module in hexadecimal digits.
 fn module_answer_of<L: Lower>(lower: &L, alloc: Global, text: &str) -> Result<String, AllocError> {
     match hex::decode(alloc, text.as_bytes()) {
         Ok(bytes) => module_answer(lower, alloc, &bytes),
@@ -42,7 +42,7 @@ fn module_answer_of<L: Lower>(lower: &L, alloc: Global, text: &str) -> Result<St
     }
 }
 
-/// The answer for two modules in hexadecimal digits.
+/// The result for two modules in hexadecimal digits.
 fn pair_answer_of<L: Lower>(lower: &L, alloc: Global, text: &str) -> Result<String, AllocError> {
     let (first, second) = text.split_once(" & ").unwrap_or((text, ""));
     match hex::decode(alloc, first.as_bytes()) {
@@ -54,7 +54,7 @@ fn pair_answer_of<L: Lower>(lower: &L, alloc: Global, text: &str) -> Result<Stri
     }
 }
 
-/// The answer for a case.
+/// The result for a case.
 fn answer_of<L: Lower>(
     lower: &L,
     alloc: Global,
@@ -77,7 +77,7 @@ impl Count {
         }
     }
 
-    /// Counts a case. The answer, where it is not the expected one.
+    /// Counts a case. The result, where it is not the expected one.
     pub fn add<L: Lower>(
         &mut self,
         lower: &L,

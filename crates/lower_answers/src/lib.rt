@@ -1,7 +1,7 @@
-//! What a lower layer answers for records and modules, beside what it is to answer: for tests of any such layer.
+//! The results of a lower layer for records and modules, compared with the expected ones: for tests of any such layer.
 //!
-//! In reading order: `answers` (the answers, as text), `cases` (a line each, and how many have the answer that they are
-//! to have).
+//! In reading order: `answers` (the results, as text), `cases` (one line each, and how many have the expected
+//! result).
 #![tactic(auto)]
 
 mod answers;

@@ -1,17 +1,17 @@
-//! The program `tell_records`: what the lower layer says of records and of modules, each in turn.
+//! The program `tell_records`: cases of records and of modules, with the fault that the lower layer reports of each.
 //!
-//! Its words go by twos: `records`, `modules` or `pairs`, and a FILE of such cases. Each line of the file has what is to
-//! be said, an arrow, and the records of a module, with ` & ` between two of them, or a whole module in hexadecimal
-//! digits, or two modules that are given as main one after the other. Printed is each line of which something else is said, with that, and then how many were told as they
-//! are to be. A world that is to be prepared but needs what isn't encoded yet counts as left out.
+//! Its words come in pairs: `records`, `modules` or `pairs`, and a FILE of such cases. Each line of the file has the
+//! expected result, an arrow, and the records of a module, with ` & ` between two of them, or a whole module in hexadecimal
+//! digits, or two modules that are given as main one after the other. It prints each line with another result, with that result, and then how many have the
+//! expected one. A world that should be prepared but needs what isn't encoded yet counts as left out.
 //!
-//! What is to be said was worked out by an independent implementation of the same formats, written in Python. The
+//! The expected results were worked out by an independent implementation of the same formats, written in Python. The
 //! records have one fault each, or none. The modules are main modules of random worlds (the first 200 of at most
-//! 1,500 bytes by the generator's seeds), and 200 in which one place of the bytes, or of the record, was changed; those of
+//! 1,500 bytes by the generator's seeds), and 200 in which one byte, or one value of the record, was changed; those of
 //! `roles.txt` have each role of core imports and exports with the type that it asks for and with others, all of them at once,
-//! each rule on them broken, and roles of lesser versions; those of `versions.txt` import several versions of an interface, and those of `hostile.txt` are one module cut short at every place, with and without its
-//! record, counts that nothing holds, a pair of names that stands twice, records that are nested deep, are no JSON or a binary package; the
-//! pairs are small worlds of the same kind, two different ones, or one and what a change in its record made of it.
+//! each rule on them broken, and roles of lesser versions; those of `versions.txt` import several versions of an interface, and those of `hostile.txt` are one module cut short at every offset, with and without its
+//! record, counts that nothing holds, a pair of names that occurs twice, records that are nested deep, are no JSON or a binary package; the
+//! pairs are small worlds of the same kind, two different ones, or one and a changed copy of its record.
 //!
 //! What a line means, and how it is counted, is in `lower_answers`.
 #![tactic(auto)]
@@ -21,7 +21,7 @@ use plain_lower::PlainLower;
 use std::process::ExitCode;
 use std::{env, fs, io};
 
-/// Tells the cases of a file.
+/// Prints the results of the cases of a file.
 fn tell_file(rt: &HostRuntime, kind: Kind, name: &str) -> io::Result<()> {
     let mut count = Count::new();
     let cases = fs::read_to_string(rt, name)?;
