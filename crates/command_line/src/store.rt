@@ -40,7 +40,7 @@ pub trait Store {
     fn read(&mut self, alloc: Global, name: &str) -> Result<Vec<u8>, StoreFault>
         ensures { events self.new ≡ happen (events self.old) (events_of_read name.now result) };
 
-    /// Makes these bytes the contents of a file, in place of what it had.
+    /// Replaces the contents of a file with these bytes.
     fn put(&mut self, name: &str, bytes: &[u8]) -> Result<(), StoreFault>
         ensures { events self.new ≡ happen (events self.old) (events_of_put name.now bytes.now result) };
 }

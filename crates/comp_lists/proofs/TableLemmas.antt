@@ -7,7 +7,7 @@ use Rattle.std.proofs.lemmas.Map.Keys.{IsDistinct-head, IsDistinct-tail}
 use Rattle.indexmap.specs.IndexMap.{insert_entry}
 
 module _ {K X : Type 0} (eq : K → K → Bool) where
-  -- a new key goes last
+  -- a new key comes last
   pub insert_new : (es : List (K × X)) (k : K) (v : X) → lookup (eq k) es ≡ None → insert_entry eq es k v ≡ es ++ (k, v) ∷ []
   insert_new [] k v none = refl
   insert_new (e ∷ es) k v none = by (eq k e.0) none (λ p. insert_new es k v p)

@@ -186,7 +186,7 @@ pub struct ImportMap {
     pub modules: Keyed<Text, ImportInstance>,
 }
 
-/// An import by its names: the module, the field there, and what it is for.
+/// An import by its names: the module and the field there, with its role.
 #[derive(Clone, Copy)]
 pub struct NamedImport<'a> {
     pub from: &'a str,

@@ -1,8 +1,8 @@
-//! The program `generated_modules`: it prints core modules of the kinds that are generated, a line each,
+//! The program `generated_modules`: it prints core modules of the kinds that are generated, one line each,
 //! the name and the bytes in hexadecimal digits.
 //!
-//! They are the modules of `core_runs`' worked examples, made by the writers. What it must print stands
-//! in the file `stdout` beside `src`; `tests/run_modules.sh` takes the modules from there, and runs them
+//! They are the modules of `core_runs`' worked examples, made by the writers. The expected output is
+//! in the file `stdout` next to `src`; `tests/run_modules.sh` takes the modules from there, and runs them
 //! in an engine.
 //!
 //! In reading order: `sections` (sections of a few entries), `shims` (shims and their fixups), `others`

@@ -44,7 +44,7 @@ fn wrapper_bodies(
     Ok(Section::Code(code))
 }
 
-/// The hook, an entry, and what goes with it.
+/// The hook, an entry, and the function that belongs to the entry.
 fn wrapper_imports(alloc: Global, other: &str, other_type: u32) -> Result<Section, AllocError> {
     let mut section = ImportSection::new(alloc);
     section.import("main", "h", EntityType::Function(0))?;

@@ -21,7 +21,7 @@ pub enum Intrinsic {
     ErrorContextDrop,
 }
 
-/// The values that carry others from one component to another.
+/// A carrier of values between components: a stream or a future.
 #[derive(Clone, Copy, Debug, PartialEq, Eq)]
 pub enum PayloadKind {
     Stream,
@@ -40,7 +40,7 @@ pub enum PayloadOperation {
     DropWritable,
 }
 
-/// A stream or a future: one without values, or that which is met at an index in the parameters and
+/// A stream or a future: one without values, or the one that occurs at an index in the parameters and
 /// then the result of a function that the world imports or exports.
 #[derive(Debug, Drop, PartialEq, Eq)]
 pub enum Payload {

@@ -1,4 +1,4 @@
-//! Components that are built again: each definition that was read goes into the call that adds one like it.
+//! Components that are built again: each definition that was read is passed to the call that adds one like it.
 
 use crate::components::{not_built, refused};
 use byte_encoding::BuildFault;
@@ -18,7 +18,7 @@ fn debug_name(word: Option<&str>) -> Option<&str> {
     }
 }
 
-/// An index that was answered.
+/// An index that a call returned.
 fn indexed(index: Result<u32, BuildFault>) -> Result<Option<u32>, BuildFault> {
     Ok(Some(index?))
 }
@@ -29,7 +29,7 @@ fn add_names(builder: &mut ComponentBuilder) -> Result<Option<u32>, BuildFault> 
     Ok(None)
 }
 
-/// Adds an alias. No call adds one that goes outward.
+/// Adds an alias. No call adds one of an outer scope.
 fn add_alias(
     builder: &mut ComponentBuilder,
     debug: Option<&str>,
@@ -133,7 +133,7 @@ fn is_borrowed(item: &Item) -> bool {
     )
 }
 
-/// Adds a definition that is no component. What it owns goes into the call that adds one like it.
+/// Adds a definition that is no component. What it owns is passed to the call that adds one like it.
 fn add_item(
     alloc: Global,
     builder: &mut ComponentBuilder,
@@ -171,7 +171,7 @@ fn add_item(
     }
 }
 
-/// Adds a definition with its debug name, and answers its index.
+/// Adds a definition with its debug name, and returns its index.
 fn add(
     alloc: Global,
     builder: &mut ComponentBuilder,
@@ -238,7 +238,7 @@ fn build_again(
 }
 
 /// How the component of these bytes is built again of its definitions, with these debug names: the index
-/// that each call answered, and whether that gives the same bytes.
+/// that each call returned, and whether that gives the same bytes.
 pub(crate) fn built(alloc: Global, names: &str, bytes: &[u8]) -> Result<String, AllocError> {
     match read_component(alloc, bytes) {
         Ok(definitions) => build_again(alloc, names, definitions, bytes),

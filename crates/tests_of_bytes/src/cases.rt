@@ -1,4 +1,4 @@
-//! Cases, a line each, and what their inputs call.
+//! Cases, one line each, and the calls of their inputs.
 
 use crate::building::built;
 use crate::components::{checked, equal, read};
@@ -46,7 +46,7 @@ fn bytes_of(alloc: Global, digits: &str) -> Result<Vec<u8>, AllocError> {
     }
 }
 
-/// What is answered of the last component of an input, and of what stands in front of it.
+/// The result for the last component of an input, and for the text in front of it.
 fn answer_of_bytes(alloc: Global, call: &str, given: &str) -> Result<String, AllocError> {
     let (first, digits) = given.split_once(" & ").unwrap_or(("", given));
     let bytes = bytes_of(alloc, digits)?;
@@ -58,7 +58,7 @@ fn answer_of_bytes(alloc: Global, call: &str, given: &str) -> Result<String, All
     }
 }
 
-/// The answer to an input.
+/// The result for an input.
 pub(crate) fn answer(alloc: Global, input: &str) -> Result<String, AllocError> {
     let (call, given) = input.split_once(' ').unwrap_or((input, ""));
     match call {

@@ -64,7 +64,7 @@ fn described(alloc: Global, definitions: &Defs) -> Result<String, AllocError> {
     }
 }
 
-/// What a call answers of definitions: whether their names are right, their lines, or the definitions.
+/// The result of a call on definitions: whether their names are right, their lines, or the definitions.
 fn answer_of(alloc: Global, call: &str, definitions: &Defs) -> Result<String, AllocError> {
     match call {
         "check_names" => names_checked(alloc, definitions),
@@ -73,7 +73,7 @@ fn answer_of(alloc: Global, call: &str, definitions: &Defs) -> Result<String, Al
     }
 }
 
-/// What a call answers of the definitions that bytes spell, or the fault.
+/// The result of a call on the definitions that bytes encode, or the fault.
 pub(crate) fn read(alloc: Global, call: &str, bytes: &[u8]) -> Result<String, AllocError> {
     match read_component(alloc, bytes) {
         Ok(definitions) => answer_of(alloc, call, &definitions),
@@ -81,7 +81,7 @@ pub(crate) fn read(alloc: Global, call: &str, bytes: &[u8]) -> Result<String, Al
     }
 }
 
-/// Whether bytes spell these definitions.
+/// Whether bytes encode these definitions.
 fn equal_to(alloc: Global, definitions: &Defs, bytes: &[u8]) -> Result<bool, CheckFault> {
     let others = read_component(alloc, bytes)?;
     Ok(*definitions == others)

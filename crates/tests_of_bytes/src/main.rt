@@ -1,13 +1,13 @@
 //! The program `tests_of_bytes`: components as bytes, how they are built, read, checked and shown, by cases.
 //!
 //! Its words are FILES of cases. A line of a file is a case: `NAME: EXPECTED <- INPUT`, where the input is a
-//! call with what it is given; a line that begins with `#` is a remark. Printed are the remarks and, for each
-//! case, `NAME: ANSWER`, with what was expected where that is something else. So the file `stdout`, which the
-//! output is compared with, is the data without the inputs. What is expected was worked out by hand from
+//! call with its arguments; a line that begins with `#` is a comment. It prints the comments and, for each
+//! case, `NAME: ANSWER`, with the expected answer where that differs. So the file `stdout`, which the
+//! output is compared with, is the data without the inputs. The expected answers were worked out by hand from
 //! the binary format of components. Where memory is refused, the program says so on standard error and ends
-//! with 1, whatever the case.
+//! with status 1, whatever the case.
 //!
-//! In reading order: `cases` (lines, and what their inputs call), `components` (components by their bytes: how
+//! In reading order: `cases` (lines, and the calls of their inputs), `components` (components by their bytes: how
 //! they are read, checked and shown), `building` (components that are built again), `values` (counts, spaces
 //! and the texts of faults).
 #![tactic(auto)]
@@ -21,7 +21,7 @@ use cases::{Case, answer};
 use std::process::ExitCode;
 use std::{env, fs, io};
 
-/// Prints the answer to a case, and what was expected where that is something else.
+/// Prints the answer to a case, and the expected one where that differs.
 fn print_answer(rt: &HostRuntime, case: Case<'_>, answer: &str) -> io::Result<()> {
     if answer == case.expected {
         println!(rt; "{}: {answer}", case.name)
@@ -33,7 +33,7 @@ fn print_answer(rt: &HostRuntime, case: Case<'_>, answer: &str) -> io::Result<()
     }
 }
 
-/// Prints the answer to the case of a line, or the line where it is a remark.
+/// Prints the answer to the case of a line, or the line where it is a comment.
 fn run_line(rt: &HostRuntime, line: &str) -> io::Result<()> {
     if line.starts_with('#') {
         return println!(rt; "{line}");

@@ -56,7 +56,7 @@ fn space_text(alloc: Global, space: Option<Space>) -> Result<String, AllocError>
     }
 }
 
-/// The text of a fault in a name: that it stands twice, or has no form.
+/// The text of a fault in a name: that it occurs twice, or has no form.
 fn name_fault(alloc: Global, is_twice: bool, name: &str) -> Result<String, AllocError> {
     let name = Text::from_str(alloc, name)?;
     let fault = if is_twice {
@@ -81,7 +81,7 @@ fn number(text: &str) -> u32 {
     text.parse::<u32>().unwrap_or(0)
 }
 
-/// What any other call answers.
+/// The result of any other call.
 pub(crate) fn called(alloc: Global, call: &str, given: &str) -> Result<String, AllocError> {
     match call {
         "next_count" => next(alloc, number(given)),

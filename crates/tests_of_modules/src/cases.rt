@@ -1,4 +1,4 @@
-//! Cases, a line each, and what their inputs call.
+//! Cases, one line each, and the calls of their inputs.
 
 use crate::answers::{bytes_of, spelling, written};
 use crate::bodies::body;
@@ -29,7 +29,7 @@ impl<'a> Case<'a> {
     }
 }
 
-/// What a call answers of a module, and of what stands in front of the module.
+/// The result of a call on a module, and on the text in front of the module.
 fn answer_of_module(alloc: Global, call: &str, given: &str) -> Result<String, AllocError> {
     let (asked, digits) = given.split_once(" & ").unwrap_or(("", given));
     let bytes = bytes_of(alloc, digits)?;
@@ -40,7 +40,7 @@ fn answer_of_module(alloc: Global, call: &str, given: &str) -> Result<String, Al
     }
 }
 
-/// The answer to an input.
+/// The result for an input.
 pub(crate) fn answer(alloc: Global, input: &str) -> Result<String, AllocError> {
     let (call, given) = input.split_once(' ').unwrap_or((input, ""));
     match call {

@@ -32,7 +32,7 @@ fn laws(alloc: Global) -> Result<String, AllocError> {
     String::from_str(alloc, "called")
 }
 
-/// What a call answers.
+/// The result of a call.
 pub(crate) fn called(alloc: Global, call: &str) -> Result<String, AllocError> {
     match call {
         "module of a start section" => lengths(alloc, &start_module(alloc)?),

@@ -21,7 +21,7 @@ fn part(alloc: Global, asked: &str, module: &CoreModule) -> Result<String, Alloc
     }
 }
 
-/// What is asked of a module that is read, or the fault.
+/// The result of a query on a module that is read, or the fault.
 pub(crate) fn read(alloc: Global, asked: &str, bytes: &[u8]) -> Result<String, AllocError> {
     match read_module(alloc, bytes) {
         Ok(module) => part(alloc, asked, &module),
@@ -38,7 +38,7 @@ fn parts(alloc: Global, stripped: &Stripped<'_>) -> Result<String, AllocError> {
     Ok(text)
 }
 
-/// What stays of a module, and each record that is taken out, or the fault.
+/// What is kept of a module, and each record that is taken out, or the fault.
 pub(crate) fn stripped(alloc: Global, bytes: &[u8]) -> Result<String, AllocError> {
     match strip(alloc, bytes) {
         Ok(stripped) => parts(alloc, &stripped),

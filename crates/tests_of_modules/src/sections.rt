@@ -56,7 +56,7 @@ fn code(
     Ok(Section::Code(section))
 }
 
-/// A section of functions for the places of a table.
+/// A section of functions for the slots of a table.
 fn active(
     alloc: Global,
     table: Option<u32>,

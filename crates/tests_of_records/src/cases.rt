@@ -34,7 +34,7 @@ impl Topic {
     }
 }
 
-/// The answer to what is asked of what is given.
+/// The answer to a query on the given values.
 fn answer(alloc: Global, topic: Topic, given: &str, asked: &str) -> Result<String, AllocError> {
     match topic {
         Topic::Types => types::answer(alloc, given, asked),
@@ -55,7 +55,7 @@ struct Count {
     other: u32,
 }
 
-/// Prints an answer behind the name of its case.
+/// Prints an answer after the name of its case.
 fn print_answer(
     rt: &HostRuntime,
     count: &mut Count,
@@ -86,7 +86,7 @@ fn print_case(
     print_answer(rt, count, name, expected, answer.as_str())
 }
 
-/// Prints the answers to what lines ask of what is given.
+/// Prints the answers to the queries of lines on the given values.
 fn print_lines(
     rt: &HostRuntime,
     count: &mut Count,
@@ -102,7 +102,7 @@ fn print_lines(
     Ok(())
 }
 
-/// Prints the answers of the cases of a topic: those before the first `given:`, and those behind each.
+/// Prints the answers of the cases of a topic: those before the first `given:`, and those after each.
 fn print_cases(rt: &HostRuntime, count: &mut Count, topic: Topic, text: &str) -> io::Result<()> {
     for group in text.split("given: ") {
         let (given, lines) = group.split_once("\n").unwrap_or((group, ""));
@@ -128,7 +128,7 @@ pub(crate) fn print_file(rt: &HostRuntime, name: &str) -> io::Result<()> {
     )
 }
 
-/// What stands before the first space of a text, and what stands behind it.
+/// The text before the first space of a text, and the text after it.
 pub(crate) fn word_and_rest(text: &str) -> (&str, &str) {
     text.split_once(" ").unwrap_or((text, ""))
 }

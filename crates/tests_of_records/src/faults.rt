@@ -13,7 +13,7 @@ fn print_refusal(alloc: Global, refusal: &Refusal) -> Result<String, AllocError>
     }
 }
 
-/// What is printed of a fault; want of memory is one of the program's own.
+/// The printed text of a fault; out of memory is an error of the program itself.
 pub(crate) fn print_fault(alloc: Global, failure: &Failure) -> Result<String, AllocError> {
     match failure {
         Failure::Memory => Err(AllocError),

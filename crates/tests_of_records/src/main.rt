@@ -1,16 +1,16 @@
-//! The program `tests_of_records`: what records say, the resolve that is made of it, and what core modules have beside it,
-//! tested on cases out of files.
+//! The program `tests_of_records`: what records say, the resolve that is made of it, and what core modules have apart from it,
+//! tested on cases from files.
 //!
 //! Its words are the names of files, each on one topic. A line of a file is a case: its name, a colon, the expected
-//! answer, an arrow, and what is asked. A line `given:` has what the cases behind it are asked of, and a line
-//! that begins with `#` is a comment, as is the first of a file. Each answer is printed behind the name of its
+//! answer, an arrow, and a query. A line `given:` has the values that the cases after it query, and a line
+//! that begins with `#` is a comment, as is the first of a file. Each answer is printed after the name of its
 //! case, with the expected one where that differs, and at the end of a file how many were as expected. Where memory
-//! is refused it says so, and ends with status 1.
+//! is refused it reports so, and ends with status 1.
 //!
-//! The expected answers aren't this program's: each file says where they are from. Which records are refused, and
-//! with which path, is a list of cases of the program `tell_records`.
+//! The expected answers aren't this program's: each file says where they are from. The cases of refused records, with
+//! their paths, are in the program `tell_records`.
 //!
-//! In reading order: `cases` (files and lines), `faults` (what is printed of a fault), then the topics: `types` (the
+//! In reading order: `cases` (files and lines), `faults` (printed faults), then the topics: `types` (the
 //! nodes and sizes of types, and functions), `worlds` (interfaces of whole records), `wits` (worlds by names),
 //! `settling` (compatible interfaces), `resolving` (how many types a world has), `offers` (what a core module
 //! offers), and the core types of roles: `made` (the world they are in), `imports`, `exports` and `roles`.

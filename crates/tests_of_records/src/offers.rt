@@ -1,6 +1,6 @@
-//! What a core module offers. Asked is a module, in hexadecimal digits. The answer is what it offers: each name, and its type.
+//! What a core module offers. The query is a module, in hexadecimal digits. The answer is what it offers: each name, and its type.
 //!
-//! A size (`sizes`) is asked for by a minimum, a maximum or `_`, and `narrow`, or `wide` for addresses of 64 bits.
+//! A size (`sizes`) is requested by a minimum, a maximum or `_`, and `narrow`, or `wide` for addresses of 64 bits.
 
 use crate::cases::word_and_rest;
 use comp_lists::{Keyed, Text};
@@ -108,7 +108,7 @@ fn print_module(alloc: Global, bytes: &[u8]) -> Result<String, AllocError> {
     }
 }
 
-/// All digits in the files are well formed, so they are refused only for want of memory.
+/// All digits in the files are well formed, so the only error is out of memory.
 pub(crate) fn answer(alloc: Global, asked: &str) -> Result<String, AllocError> {
     match hex::decode(alloc, asked.as_bytes()) {
         Ok(bytes) => print_module(alloc, bytes.as_slice()),

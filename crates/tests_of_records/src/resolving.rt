@@ -1,6 +1,6 @@
-//! How many types a small world comes to, or that it is refused.
+//! How many types a small world has, or that it is refused.
 //!
-//! Asked is the id of an interface of two functions that answer lists of texts, and where it stands: `import`, `export`, `both` or
+//! The query is the id of an interface of two functions that return lists of texts, and the side that it is on: `import`, `export`, `both` or
 //! `nowhere`.
 
 use crate::cases::word_and_rest;
@@ -32,7 +32,7 @@ fn add_function(alloc: Global, functions: &mut Seq<Func>, name: &str) -> Result<
     Ok(())
 }
 
-/// An interface of two functions that answer lists of texts.
+/// An interface of two functions that return lists of texts.
 fn interface(alloc: Global) -> Result<Interface, AllocError> {
     let mut functions = Seq::new(alloc);
     add_function(alloc, &mut functions, "f")?;

@@ -1,8 +1,8 @@
 //! Whether core types fit roles of imports and exports, in the world of `made`.
 //!
-//! Asked is a group of roles, the words of one of them, `|`, and types of functions, with `, ` between them: parameters, `>` and
-//! results by letters, as in `made`. Of `imported-memory` and `exported-memory`, of at least one page, the limits of a memory are
-//! asked: a minimum, a maximum or `_`, and `narrow` or `wide`. The answer is `yes` or `no` for each type.
+//! The query is a group of roles, the words of one of them, `|`, and types of functions, with `, ` between them: parameters, `>` and
+//! results by letters, as in `made`. For `imported-memory` and `exported-memory`, of at least one page, the query has the limits of a
+//! memory: a minimum, a maximum or `_`, and `narrow` or `wide`. The answer is `yes` or `no` for each type.
 
 ghost use Rattle.std.specs.Prelude.{IsTrue};
 ghost use Rattle.comp_worlds.specs.Mentions.{HasReturned};
@@ -18,7 +18,7 @@ use record_modules::{fits_export, fits_import};
 use std::alloc::{AllocError, Global};
 use wit_data::Resolve;
 
-/// Whether the function that a role has itself stands in the resolve.
+/// Whether the function that the role itself has is in the resolve.
 fn has_returned(resolve: &Resolve, import: &Import) -> bool
     ensures { IsTrue result → HasReturned resolve.now import.now }
 {

@@ -1,7 +1,7 @@
 //! The nodes and sizes of types, and functions.
 //!
-//! Given are the interfaces of a record, whose types a world may name; asked is a type or a function of that world, all
-//! in JSON. The world has a resource `w`. The answer is the levels and the nodes of a type, what it is, and its nodes; or
+//! Given are the interfaces of a record, whose types a world may name; the query is a type or a function of that world, all
+//! in JSON. The world has a resource `w`. The answer is the levels and the nodes of a type, its kind, and its nodes; or
 //! the function; or the path of what is wrong.
 
 use crate::faults::print_fault;
@@ -61,14 +61,14 @@ fn print_function(alloc: Global, scope: &Scope<'_>, value: &Value) -> Result<Str
     }
 }
 
-/// What is asked for of a value.
+/// What a query asks for of a value.
 #[derive(Clone, Copy)]
 enum Wanted {
     Type,
     Function,
 }
 
-/// What is printed of a value, where the world may name the types of these interfaces.
+/// The printed text of a value, where the world may name the types of these interfaces.
 fn print_value(
     alloc: Global,
     wanted: Wanted,
@@ -87,7 +87,7 @@ fn print_value(
     }
 }
 
-/// What is printed of a text, where the world may name the types of these interfaces.
+/// The printed text of a JSON text, where the world may name the types of these interfaces.
 fn print_text(
     alloc: Global,
     wanted: Wanted,
@@ -100,7 +100,7 @@ fn print_text(
     }
 }
 
-/// What is printed of a text, where the interfaces are those of a value.
+/// The printed text of a JSON text, where the interfaces are those of a value.
 fn print_beside(
     alloc: Global,
     wanted: Wanted,

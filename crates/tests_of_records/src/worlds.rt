@@ -1,4 +1,4 @@
-//! What is read of whole records: the names of interfaces, and where they stand. Asked is a record, in JSON, without its version.
+//! What is read of whole records: the names of interfaces, and the sides that they are on. The query is a record, in JSON, without its version.
 
 use crate::faults::print_fault;
 use record_json::read_value;
@@ -16,7 +16,7 @@ fn kind_of(name: &InterfaceName) -> &'static str {
     }
 }
 
-/// The name of an interface, and the sides where it stands.
+/// The name of an interface, and the sides that it is on.
 fn push_interface(out: &mut String, placed: &PlacedInterface) -> Result<(), AllocError> {
     if !out.is_empty() {
         out.push_str("; ")?;

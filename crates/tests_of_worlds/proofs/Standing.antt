@@ -1,4 +1,4 @@
--- What the core imports name stands in any resolve.
+-- All that the core imports name is in any resolve.
 use Rattle.std.proofs.Common.{◌≡◌, List, [], ◌++◌, ℕ, sym, subst}
 use Rattle.std.specs.List.{AllByRecursion, flat_map}
 use Rattle.wit_data.specs.declared.resolve.Resolve.{Resolve}

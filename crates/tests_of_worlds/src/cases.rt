@@ -43,7 +43,7 @@ impl Topic {
     }
 }
 
-/// The answer to what is asked of what is given.
+/// The answer to a query on the given values.
 fn answer(alloc: Global, topic: Topic, given: &str, asked: &str) -> Result<String, AllocError> {
     match topic {
         Topic::Signatures => signatures::answer(alloc, asked),
@@ -67,7 +67,7 @@ struct Count {
     other: u32,
 }
 
-/// Prints an answer behind the name of its case.
+/// Prints an answer after the name of its case.
 fn print_answer(
     rt: &HostRuntime,
     count: &mut Count,
@@ -98,7 +98,7 @@ fn print_case(
     print_answer(rt, count, name, expected, answer.as_str())
 }
 
-/// Prints the answers to what lines ask of what is given.
+/// Prints the answers to the queries of lines on the given values.
 fn print_lines(
     rt: &HostRuntime,
     count: &mut Count,
@@ -114,7 +114,7 @@ fn print_lines(
     Ok(())
 }
 
-/// Prints the answers of the cases of a topic: those before the first `given:`, and those behind each.
+/// Prints the answers of the cases of a topic: those before the first `given:`, and those after each.
 fn print_cases(rt: &HostRuntime, count: &mut Count, topic: Topic, text: &str) -> io::Result<()> {
     for group in text.split("given: ") {
         let (given, lines) = group.split_once("\n").unwrap_or((group, ""));

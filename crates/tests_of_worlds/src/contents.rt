@@ -1,4 +1,4 @@
-//! What types contain. Given are types; asked is the number of one. The answer is its bits: 1 where it has texts in it, 2 where it
+//! What types contain. Given are types; the query is the index of one. The answer is its bits: 1 where it has texts in it, 2 where it
 //! needs memory.
 
 use crate::types::{id, resolve_of};

@@ -1,8 +1,8 @@
-//! Look-ups in what the exports of a core module are for.
+//! Look-ups in the roles of the exports of a core module.
 //!
-//! Given are exports, with `; ` between them: a name, `=`, and what it is for, as `memory 1`, `dtor 3` or `func 0 f GuestExport`. A
-//! function, its post-return (`post`) and its callback (`back`) have the number of an interface, or `root`, before their
-//! names. Asked is what is looked up. The answer is the name of an export, or `none`.
+//! Given are exports, with `; ` between them: a name, `=`, and its role, as `memory 1`, `dtor 3` or `func 0 f GuestExport`. A
+//! function, its post-return (`post`) and its callback (`back`) have the index of an interface, or `root`, before their
+//! names. The query is what is looked up. The answer is the name of an export, or `none`.
 
 use crate::types::{id, named_function_of, number, word_and_rest};
 use comp_lists::{Keyed, Text};
@@ -41,7 +41,7 @@ fn key(alloc: Global, owner: &str, name: &str) -> Result<WorldKey, AllocError> {
     Ok(WorldKey::Name(text))
 }
 
-/// What an export of a function at the root is for.
+/// The role of an export of a function at the root.
 fn root_role(word: &str, key: WorldKey, name: Text, abi: AbiVariant) -> Export {
     match word {
         "func" => Export::WorldFunc(key, name, abi),
@@ -56,7 +56,7 @@ fn root_role(word: &str, key: WorldKey, name: Text, abi: AbiVariant) -> Export {
     }
 }
 
-/// What an export of a function of an interface is for.
+/// The role of an export of a function of an interface.
 fn interface_role(
     word: &str,
     id: InterfaceId,

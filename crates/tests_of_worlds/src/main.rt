@@ -1,10 +1,10 @@
-//! The program `tests_of_worlds`: WIT values, worlds, and options, tested on cases out of files.
+//! The program `tests_of_worlds`: WIT values, worlds, and options, tested on cases from files.
 //!
 //! Its words are the names of files, each on one topic. A line of a file is a case: its name, a colon, the expected
-//! answer, an arrow, and what is asked. A line `given:` has what the cases behind it are asked of, and a line
-//! that begins with `#` is a comment, as is the first of a file. Each answer is printed behind the name of its
+//! answer, an arrow, and a query. A line `given:` has the values that the cases after it query, and a line
+//! that begins with `#` is a comment, as is the first of a file. Each answer is printed after the name of its
 //! case, with the expected one where that differs, and at the end of a file how many were as expected. Where memory
-//! is refused it says so, and ends with status 1.
+//! is refused it reports so, and ends with status 1.
 //!
 //! The expected answers aren't this program's: each file says where they are from.
 //!

@@ -1,12 +1,12 @@
-//! Versions, and names of interfaces and of what stands in a world.
+//! Versions, and names of interfaces and of the items of a world.
 //!
-//! Asked is one of these:
+//! The query is one of these:
 //!
-//! - `version` and a version: its canonical form and what that lacks;
-//! - `whole`, `canonical` or `suffix`, and a namespace, a package, an interface, and perhaps a version: the whole name, the canonical
-//!   one, or what that lacks, each of a copy;
-//! - `key` or `canonical-key`, and the number of an interface of those that are given: the name of its key, whole or canonical;
-//! - `id` or `canonical-id`, and such a number: the name of the interface;
+//! - `version` and a version: its canonical form and the rest of it;
+//! - `whole`, `canonical` or `suffix`, and a namespace, a package, an interface, and an optional version: the whole name, the canonical
+//!   one, or the rest of it, each of a copy;
+//! - `key` or `canonical-key`, and the index of an interface of those that are given: the name of its key, whole or canonical;
+//! - `id` or `canonical-id`, and such an index: the name of the interface;
 //! - `plain-key` or `canonical-plain-key`, and a text: the name of that key.
 //!
 //! Given are the names of interfaces, with `; ` between them, or `_` where one has none. What is absent is printed as `none`, and
@@ -21,7 +21,7 @@ use wit_data::{
     canonical_version,
 };
 
-/// The version of a text. All versions in the files are well formed, so it fails only for want of memory.
+/// The version of a text. All versions in the files are well formed, so the only error is out of memory.
 fn version_of(alloc: Global, text: &str) -> Result<Version, AllocError> {
     match Version::parse(alloc, text) {
         Ok(version) => Ok(version),
@@ -76,7 +76,7 @@ fn id_name_of(path: (Text, Text, Text), version: Option<PackageVersion>) -> IdNa
     }
 }
 
-/// A namespace, a package, an interface, and perhaps a version, as one name.
+/// A namespace, a package, an interface, and an optional version, as one name.
 fn id_name(alloc: Global, text: &str) -> Result<IdName, AllocError> {
     let (names, version) = text.split_once("@").unwrap_or((text, ""));
     let path = path(alloc, names)?;
@@ -104,7 +104,7 @@ fn print_name(alloc: Global, question: &str, name: &IdName) -> Result<String, Al
     }
 }
 
-/// What is printed of a copy of a name.
+/// The printed text of a copy of a name.
 fn print_copy(alloc: Global, question: &str, name: &IdName) -> Result<String, AllocError> {
     let copy = name.clone(alloc)?;
     let printed = print_name(alloc, question, &copy);

@@ -1,10 +1,10 @@
 //! Sets of options, and the options of a set.
 //!
-//! Asked is one of these:
+//! The query is one of these:
 //!
 //! - `lift` or `lower`, and what values contain (`string`, `memory` or `nothing`): the bits of the set;
 //! - `list`, a set, an encoding, and the numbers of a memory and a realloc (`_` where there is none): how many options there
-//!   are, each option and how many are left behind it, or the fault;
+//!   are, each option and how many are left after it, or the fault;
 //! - `calls` and a function of the types that are given: the bits of what it needs in each form of call.
 //!
 //! A set is `+` alone, or has the names of its options with `+` between them.
@@ -119,7 +119,7 @@ fn list_answer(alloc: Global, text: &str) -> Result<String, AllocError> {
     )
 }
 
-/// What a call needs of a function that stands in the resolve.
+/// What a call needs of a function that is in the resolve.
 fn needed(resolve: &Resolve, function: &Function, abi: AbiVariant) -> Option<u8> {
     if !resolve.is_sound() || !resolve.has_function(function) {
         return None;

@@ -1,5 +1,5 @@
-//! Whether a resolve is sound in which one number stands in one place, and all others are 0: it has one type, one
-//! interface and one world. Asked are the place and the number.
+//! Whether a resolve is sound that has one index at one position, and 0 at all others: it has one type, one
+//! interface and one world. The query is the position and the index.
 
 use crate::soundness::soundness_of;
 use crate::types::{number, word_and_rest};
@@ -10,7 +10,7 @@ use wit_data::{
     TypeId, TypeOwner, World, WorldId, WorldItem, WorldKey,
 };
 
-/// Where a number stands.
+/// The position of an index.
 #[derive(Clone, Copy)]
 enum Place {
     WorldOwner,
@@ -33,7 +33,7 @@ enum Place {
     ExportType,
 }
 
-/// The place of a word.
+/// The position that a word names.
 fn place_of(word: &str) -> Option<Place> {
     match word {
         "world-owner" => Some(Place::WorldOwner),
@@ -50,7 +50,7 @@ fn place_of(word: &str) -> Option<Place> {
     }
 }
 
-/// The place of a word in a world's imports or exports.
+/// The position that a word names in a world's imports or exports.
 fn side_place_of(word: &str) -> Option<Place> {
     match word {
         "import-key" => Some(Place::ImportKey),
@@ -85,7 +85,7 @@ fn kind_at(place: Place, index: usize) -> FunctionKind {
     }
 }
 
-/// A function of one parameter and a result; the place says which of its numbers is this one, and the
+/// A function of one parameter and a result; the position says which of its indices is this one, and the
 /// others are 0.
 fn function_at(alloc: Global, place: Place, index: usize) -> Result<Function, AllocError> {
     let taken = if matches!(place, Place::Param) {
@@ -151,7 +151,7 @@ fn interface_at(alloc: Global, place: Place, index: usize) -> Result<Interface, 
     Ok(interface_of(types, functions))
 }
 
-/// One entry, whose key or item has this number.
+/// One entry, whose key or item has this index.
 fn entry_at(
     alloc: Global,
     place: Place,
@@ -207,7 +207,7 @@ fn world_at(alloc: Global, place: Place, index: usize) -> Result<World, AllocErr
     }
 }
 
-/// One type, one interface and one world, where this number stands at this place.
+/// One type, one interface and one world, with this index at this position.
 fn resolve_at(alloc: Global, place: Place, index: usize) -> Result<Resolve, AllocError> {
     let mut types = Seq::new(alloc);
     types.push(TypeDef {

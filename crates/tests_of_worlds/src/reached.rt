@@ -1,5 +1,5 @@
-//! Which types of an interface others reach. Given are types, `|`, and the numbers of those that the interface names, in its
-//! order; asked are the numbers of two types, or of none. The answer is the numbers of what they reach, or `nothing`.
+//! Which types of an interface others reach. Given are types, `|`, and the indices of those that the interface names, in its
+//! order; the query is the indices of two types, or of none. The answer is the indices of the types that they reach, or `nothing`.
 
 use crate::types::{id, number, resolve_with, word_and_rest};
 use comp_lists::{Keyed, Seq, Text};

@@ -1,6 +1,6 @@
 //! Core signatures of functions, in each form of call.
 //!
-//! Asked are the types of a resolve, `|`, and a function of it.
+//! The query is the types of a resolve, `|`, and a function of it.
 
 use crate::types::{function_of, resolve_of};
 use std::alloc::{AllocError, Global};
@@ -23,7 +23,7 @@ fn push_letters(out: &mut String, types: &[WasmType]) -> Result<(), AllocError> 
     Ok(())
 }
 
-/// Adds the letters of the parameters, `>`, and those of the results; then `p` where the parameters lie in
+/// Adds the letters of the parameters, `>`, and those of the results; then `p` where the parameters are in
 /// memory, and `r` where the result does.
 fn push_signature(out: &mut String, signature: &WasmSignature) -> Result<(), AllocError> {
     push_letters(out, signature.params.as_slice())?;
@@ -38,7 +38,7 @@ fn push_signature(out: &mut String, signature: &WasmSignature) -> Result<(), All
     Ok(())
 }
 
-/// Adds the signature of a function of a resolve, where both hold together.
+/// Adds the signature of a function of a resolve, where both are consistent.
 fn push_form(
     alloc: Global,
     out: &mut String,

@@ -1,4 +1,4 @@
-//! Whether types are sound: those that name others, and those at the limits and past them. Asked are the types.
+//! Whether types are sound: those that name others, and those at the limits and past them. The query is the types.
 
 use crate::types::resolve_of;
 use std::alloc::{AllocError, Global};

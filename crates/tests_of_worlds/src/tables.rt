@@ -1,10 +1,10 @@
 //! The tables that follow from a world's parts: an interface `i` is imported, with types `r` and `s` and functions `f` and `g`,
 //! which main imports; `k` and `j` are exported, and `j` has a function that takes a type of `k`.
 //!
-//! Asked is one of these:
+//! The query is one of these:
 //!
-//! - `met` and the name of a function of `i`: how its import is met (`Direct`, or `Indirect` through a table), the bits of its
-//!   options, and behind `Indirect` how many core parameters and results it has;
+//! - `met` and the name of a function of `i`: how its import is satisfied (`Direct`, or `Indirect` through a table), the bits of its
+//!   options, and after `Indirect` how many core parameters and results it has;
 //! - `live`: how many types of `i` are live, and the first;
 //! - `needed` and `k` or `j`: how many other exported interfaces it needs, and the first.
 
@@ -154,7 +154,7 @@ fn resolve(alloc: Global) -> Result<Resolve, AllocError> {
     })
 }
 
-/// A core import of this name that is for the function of `i` of the same name.
+/// A core import of this name, whose role is the function of `i` of the same name.
 fn role(alloc: Global, name: &str) -> Result<Import, AllocError>
     ensures { IfOk result (λ r. r ≡ role_of name.now) }
 {
@@ -270,7 +270,7 @@ fn print_lowering(alloc: Global, lowering: &Lowering) -> Result<String, AllocErr
     }
 }
 
-/// How the import of a function of `i` is met, where it is.
+/// How the import of a function of `i` is satisfied, where it is.
 fn met<'a>(world: &'a ComponentWorld, called: &LoweringKey) -> Option<&'a Lowering> {
     let key = Some(WorldKey::Interface(interface(0)));
     world.import_map.get(&key)?.lowerings.get(called)

@@ -1,7 +1,7 @@
 //! Types and functions as text.
 //!
-//! Types stand behind one another, with `; ` between them: how a type is made, and of what. A part is the name of a primitive
-//! type, the number of a type, or `_` where there is none; `u32*17` stands for seventeen of them. A function has the
+//! Types are written one after another, with `; ` between them: how a type is made, and of what. A part is the name of a primitive
+//! type, the index of a type, or `_` where there is none; `u32*17` is seventeen of them. A function has the
 //! types of its parameters, an arrow `->`, and the type of its result, where it has one.
 
 use comp_lists::{Keyed, Seq, Text};
@@ -11,12 +11,12 @@ use wit_data::{
     Type, TypeDef, TypeDefKind, TypeId, TypeOwner,
 };
 
-/// A number; where the text is none, one that is the number of nothing.
+/// A number; where the text is none, an index that is out of range.
 pub(crate) fn number(text: &str) -> usize {
     text.parse::<usize>().unwrap_or(usize::MAX)
 }
 
-/// What stands before the first space of a text, and what stands behind it.
+/// The text before the first space of a text, and the text after it.
 pub(crate) fn word_and_rest(text: &str) -> (&str, &str) {
     text.split_once(" ").unwrap_or((text, ""))
 }
@@ -41,7 +41,7 @@ fn primitive(word: &str) -> Option<Primitive> {
     }
 }
 
-/// The type of this number.
+/// The type of this index.
 pub(crate) fn id(text: &str) -> TypeId {
     TypeId {
         index: number(text),

@@ -1,10 +1,10 @@
 //! Other modules of a world.
 //!
-//! Asked is one of these:
+//! The query is one of these:
 //!
 //! - `realloc`, a module (`main`, or the name of an adapter), and its own realloc, or `_`: which module's realloc it takes, in a
 //!   world whose main exports `main's` and which has a library `library`;
-//! - `lowerings`, and two names, each with a form of call behind it: whether their lowerings are one;
+//! - `lowerings`, and two names, each followed by a form of call: whether their lowerings are one;
 //! - `copy`: whether a copy of a library's arguments equals them.
 
 use crate::exports::abi_of;
