@@ -7,14 +7,14 @@
 //! must be refused.
 //!
 //! Upward this crate promises: what [`component_bytes`] answers spells the definitions that were given
-//! (`Spells`), a refusal other than want of memory names a count or a size that passes 2^32 - 1
+//! (`Encodes`), a refusal other than want of memory names a count or a size that passes 2^32 - 1
 //! (`Refused`), and bytes spell at most one list of definitions ([`one_list`]). How numbers, names, lists
 //! and bytes are written is in `byte_encoding`.
 //!
 //! For those above that speak of indices and names: `specs/References.antt` (what a definition names by
 //! index), `specs/Scopes.antt` (that all of it stands before it), `specs/ScopeNames.antt` (the lists of
-//! names in each of which a name stands once), `specs/Places.antt` (which definition made which item, with
-//! its laws in `proofs/Places.antt`), and worked examples in `proofs/Worked.antt`.
+//! names in each of which a name stands once), `specs/ItemIndices.antt` (which definition made which item, with
+//! its laws in `proofs/ItemIndices.antt`), and worked examples in `proofs/Worked.antt`.
 //!
 //! In reading order: `space` (sorts of items and their index spaces), `types` (types and names),
 //! `canon` (canonical functions), `def` (definitions), `name` (debug names), `writing` (each value),

@@ -8,11 +8,11 @@
 //! is refused it says so, and ends with status 1.
 //!
 //! The expected answers aren't this program's: each file says where they are from. Which records are refused, and
-//! with which path, is a list of cases of the program `tell_records`.
+//! with which path, is a list of cases of the program `record_cases`.
 //!
 //! In reading order: `cases` (files and lines), `faults` (what is printed of a fault), then the topics: `types` (the
 //! nodes and sizes of types, and functions), `worlds` (interfaces of whole records), `wits` (worlds by names),
-//! `settling` (compatible interfaces), `resolving` (how many types a world has), `offers` (what a core module
+//! `versions` (compatible interfaces), `resolving` (how many types a world has), `offers` (what a core module
 //! offers), and the core types of roles: `made` (the world they are in), `imports`, `exports` and `roles`.
 #![tactic(auto)]
 
@@ -24,7 +24,7 @@ mod made;
 mod offers;
 mod resolving;
 mod roles;
-mod settling;
+mod versions;
 mod types;
 mod wits;
 mod worlds;
