@@ -4,7 +4,7 @@ use Rattle.std.proofs.lemmas.Bool.Decides.{nat_tests}
 use Rattle.std.proofs.lemmas.Grind.{common_steps}
 use Rattle.std.proofs.Math.Nat.{pow-suc, mul_assoc}
 use Rattle.std.proofs.lemmas.Nat.{div_below}
-use Rattle.byte_encoding.specs.Spelling.{groups_of_seven, leb128}
+use Rattle.byte_encoding.specs.Encoding.{groups_of_seven, leb128}
 
 pub leb_start : (end n : ℕ) → 64 ≤ end → n < 2 ^ 32 → (more : ℕ) × (n < end * 128 ^ more) × (groups_of_seven end more n ≡ leb128 end n)
 unfolding leb128

@@ -3,7 +3,7 @@ use Rattle.std.proofs.Common.{◌≡◌, ℕ, zero, suc, ◌<◌, List, [], ◌�
 use Rattle.std.specs.List.{flat_map}
 use Rattle.std.specs.Result.{IsErrAnd}
 use Rattle.std.proofs.lemmas.List.Elements.{Contains-append_left, Contains-append_right}
-use Rattle.byte_encoding.specs.Spelling.{Spelling, Fits, ◌⊕◌}
+use Rattle.byte_encoding.specs.Encoding.{Encoding, Fits, ◌⊕◌}
 use Rattle.byte_encoding.specs.Written.{Writes, Refused}
 use Rattle.byte_encoding.specs.declared.fault.BuildFault.{BuildFault}
 use Rattle.byte_encoding.specs.declared.fault.BuildFault.TheVariants.{Memory, TooMany}
@@ -27,7 +27,7 @@ pub refused_now : (e : BuildFault) (n : ℕ) (b : List ℕ) → Refused (n ∷ [
 refused_now e n b r = refused_left e (n ∷ []) b r
 
 -- A second piece after a first.
-pub writes_after : (old mid new : List ℕ) (r : Result Unit BuildFault) (a b : Spelling) → mid ≡ old ++ a.bytes → Fits a.counts → Writes mid new r b → Writes old new r (a ⊕ b)
+pub writes_after : (old mid new : List ℕ) (r : Result Unit BuildFault) (a b : Encoding) → mid ≡ old ++ a.bytes → Fits a.counts → Writes mid new r b → Writes old new r (a ⊕ b)
 writes_after old mid new (Ok x) a b e f w = (w.0 ∙ (ap (λ m. m ++ b.bytes) e ∙ append_assoc old a.bytes b.bytes), fits_append a.counts b.counts f w.1)
 writes_after old mid new (Err d) a b e f w = refused_right d a.counts b.counts w
 
@@ -38,7 +38,7 @@ refused_each f (x ∷ xs) zero d e l r = refused_left e (f x) (flat_map f xs) r
 refused_each f (x ∷ xs) (suc k) d e l r = refused_right e (f x) (flat_map f xs) (refused_each f xs k d e (omega (arith, l)) r)
 
 -- A call that gives an error on.
-pub exits : (old new : List ℕ) (r : Result Unit BuildFault) (e : BuildFault) (s : Spelling) → IsErrAnd r (λ y. y ≡ e) → Refused s.counts e → Writes old new r s
+pub exits : (old new : List ℕ) (r : Result Unit BuildFault) (e : BuildFault) (s : Encoding) → IsErrAnd r (λ y. y ≡ e) → Refused s.counts e → Writes old new r s
 exits old new (Ok x) e s h f = absurd h
 exits old new (Err y) e s h f = subst (λ (d : BuildFault). Refused s.counts d) (sym h) f
 

@@ -4,7 +4,7 @@ use Rattle.std.specs.Prelude.{nat_lt, nat_eq, if◌then◌else◌}
 use Rattle.std.specs.List.{flat_map}
 use Rattle.std.proofs.lemmas.Bool.Decides.{nat_tests}
 use Rattle.std.proofs.Math.Seq.{take-append_seam, drop-append_seam}
-use Rattle.byte_encoding.specs.Spelling.{Spelling, ◌⊕◌, raw, octet, groups_of_seven, leb128, leb, signed_leb, number, listed, named, optional}
+use Rattle.byte_encoding.specs.Encoding.{Encoding, ◌⊕◌, raw, octet, groups_of_seven, leb128, leb, signed_leb, number, listed, named, optional}
 
 -- the result of a reader: a value and the rest
 abbrev pub Read : Type 0 → Type 0
@@ -18,21 +18,21 @@ read_then None go = None
 read_then (Some p) go = go p.0 p.1
 
 -- What is encoded is read again.
-pub record Reads {A : Type 0} (f : A → Spelling) (r : Reader A) : Type 0 where
+pub record Reads {A : Type 0} (f : A → Encoding) (r : Reader A) : Type 0 where
   pub again : (x : A) (rest : List ℕ) → r ((f x).bytes ++ rest) ≡ Some (x, rest)
 
 -- a value that was read, made into another
 abbrev pub made_from : {A B : Type 0} → (A → B) → Reader A → Reader B
 made_from make r bs = read_then (r bs) (λ x rest. Some (make x, rest))
 
-pub made : {A B : Type 0} {f : A → Spelling} {r : Reader A} → Reads f r → (make : A → B) (x : A) (rest : List ℕ) → made_from make r ((f x).bytes ++ rest) ≡ Some (make x, rest)
+pub made : {A B : Type 0} {f : A → Encoding} {r : Reader A} → Reads f r → (make : A → B) (x : A) (rest : List ℕ) → made_from make r ((f x).bytes ++ rest) ≡ Some (make x, rest)
 made h make x rest = ap (λ o. read_then o (λ y more. Some (make y, more))) (h.again x rest)
 
 -- one after another
 abbrev pub pair_from : {A B : Type 0} → Reader A → Reader B → Reader (A × B)
 pair_from r s bs = read_then (r bs) (λ x rest. read_then (s rest) (λ y more. Some ((x, y), more)))
 
-pub pair_reads : {A B : Type 0} {f : A → Spelling} {g : B → Spelling} {r : Reader A} {s : Reader B} → Reads f r → Reads g s → Reads (λ (p : A × B). f p.0 ⊕ g p.1) (pair_from r s)
+pub pair_reads : {A B : Type 0} {f : A → Encoding} {g : B → Encoding} {r : Reader A} {s : Reader B} → Reads f r → Reads g s → Reads (λ (p : A × B). f p.0 ⊕ g p.1) (pair_from r s)
 pair_reads {A} {B} {f} {g} {r} {s} h k = record {
   again = λ p rest.
       ap (λ l. read_then (r l) (λ x rest. read_then (s rest) (λ y more. Some ((x, y), more)))) (append_assoc (f p.0).bytes (g p.1).bytes rest)
@@ -41,7 +41,7 @@ pair_reads {A} {B} {f} {g} {r} {s} h k = record {
 }
 
 -- a record by the pair of its parts
-pub as_reads : {A B : Type 0} {f : B → Spelling} {r : Reader B} → Reads f r → (to : A → B) (back : B → A) → ((x : A) → back (to x) ≡ x) → Reads (λ x. f (to x)) (made_from back r)
+pub as_reads : {A B : Type 0} {f : B → Encoding} {r : Reader B} → Reads f r → (to : A → B) (back : B → A) → ((x : A) → back (to x) ≡ x) → Reads (λ x. f (to x)) (made_from back r)
 as_reads h to back same = record { again = λ x rest. made h back (to x) rest ∙ ap (λ y. Some (y, rest)) (same x) }
 
 -- over a byte that is known
@@ -52,7 +52,7 @@ passed x (b ∷ bs) = Some (x, bs)
 abbrev pub followed_from : {A : Type 0} → Reader A → Reader A
 followed_from r bs = read_then (r bs) (λ x rest. passed x rest)
 
-pub followed_reads : {A : Type 0} {f : A → Spelling} {r : Reader A} → Reads f r → (b : ℕ) → Reads (λ x. f x ⊕ octet b) (followed_from r)
+pub followed_reads : {A : Type 0} {f : A → Encoding} {r : Reader A} → Reads f r → (b : ℕ) → Reads (λ x. f x ⊕ octet b) (followed_from r)
 followed_reads {A} {f} {r} h b = record {
   again = λ x rest.
       ap (λ l. read_then (r l) (λ x rest. passed x rest)) (append_assoc (f x).bytes (b ∷ []) rest)
@@ -118,7 +118,7 @@ abbrev pub times : {A : Type 0} → ℕ → Reader A → Reader (List A)
 times zero r bs = Some ([], bs)
 times (suc n) r bs = read_then (r bs) (λ x rest. read_then (times n r rest) (λ xs more. Some (x ∷ xs, more)))
 
-pub times_read : {A : Type 0} {f : A → Spelling} {r : Reader A} → Reads f r → (xs : List A) (rest : List ℕ) → times (length xs) r (flat_map (λ x. (f x).bytes) xs ++ rest) ≡ Some (xs, rest)
+pub times_read : {A : Type 0} {f : A → Encoding} {r : Reader A} → Reads f r → (xs : List A) (rest : List ℕ) → times (length xs) r (flat_map (λ x. (f x).bytes) xs ++ rest) ≡ Some (xs, rest)
 times_read h [] rest = refl
 times_read {A} {f} {r} h (x ∷ xs) rest =
     let more = flat_map (λ x. (f x).bytes) xs in
@@ -129,7 +129,7 @@ times_read {A} {f} {r} h (x ∷ xs) rest =
 abbrev pub list_from : {A : Type 0} → Reader A → Reader (List A)
 list_from r bs = read_then (number_from bs) (λ n rest. times n r rest)
 
-pub list_reads : {A : Type 0} {f : A → Spelling} {r : Reader A} → Reads f r → Reads (listed f) (list_from r)
+pub list_reads : {A : Type 0} {f : A → Encoding} {r : Reader A} → Reads f r → Reads (listed f) (list_from r)
 list_reads {A} {f} {r} h = record {
   again = λ xs rest.
       let bs = flat_map (λ x. (f x).bytes) xs in
@@ -157,9 +157,9 @@ abbrev pub option_from : {A : Type 0} → Reader A → Reader (Option A)
 option_from r [] = None
 option_from r (b ∷ bs) = if nat_eq b 0 then Some (None, bs) else made_from (λ x. Some x) r bs
 
-option_again : {A : Type 0} {f : A → Spelling} {r : Reader A} → Reads f r → (x : Option A) (rest : List ℕ) → option_from r ((optional f x).bytes ++ rest) ≡ Some (x, rest)
+option_again : {A : Type 0} {f : A → Encoding} {r : Reader A} → Reads f r → (x : Option A) (rest : List ℕ) → option_from r ((optional f x).bytes ++ rest) ≡ Some (x, rest)
 option_again h None rest = refl
 option_again h (Some x) rest = made h (λ x. Some x) x rest
 
-pub option_reads : {A : Type 0} {f : A → Spelling} {r : Reader A} → Reads f r → Reads (optional f) (option_from r)
+pub option_reads : {A : Type 0} {f : A → Encoding} {r : Reader A} → Reads f r → Reads (optional f) (option_from r)
 option_reads h = record { again = option_again h }

@@ -2,7 +2,7 @@
 use Rattle.std.proofs.Common.{◌≡◌, ℕ, zero, suc, ◌+◌, ◌/◌, ◌%◌, ◌<◌, ◌≤◌, List, [], ◌∷◌, ◌++◌, length, refl, ◌∙◌, sym, arith, append_assoc, inl, inr}
 use Rattle.std.proofs.lemmas.Bool.{cases_lt}
 use Rattle.std.proofs.lemmas.Bool.Decides.{nat_tests}
-use Rattle.byte_encoding.specs.Spelling.{groups_of_seven, leb128, leb}
+use Rattle.byte_encoding.specs.Encoding.{groups_of_seven, leb128, leb}
 use Rattle.byte_encoding.specs.Laws.{OneNumber, OneTypeIndex, OneName}
 
 small : (end more n : ℕ) → n < end → groups_of_seven end (suc more) n ≡ n ∷ []

@@ -1,3 +1,3 @@
-pub mod Spelling
+pub mod Encoding
 pub mod Written
 pub mod Laws

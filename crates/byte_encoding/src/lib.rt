@@ -1,7 +1,7 @@
 //! Numbers, names, lists and options as bytes, as the binary formats of WebAssembly have them.
 //!
 //! The encoding of a value is one value itself: its bytes, with each count and size among them
-//! (`specs/Spelling.antt`), so that one definition says what is written and what must be refused. [`Spell`] is the trait of
+//! (`specs/Encoding.antt`), so that one definition says what is written and what must be refused. [`Encode`] is the trait of
 //! values with one encoding; binary formats are made of its implementations.
 //!
 //! Upward this crate promises: a call that writes appends the bytes of the value (`Writes`), a refusal other than
@@ -20,6 +20,6 @@ mod number;
 pub use fault::{BuildFault, Excess, count_of, next_count};
 pub use laws::{one_name, one_number, one_type_index};
 pub use number::{
-    Spell, byte_of_flag, put_bytes, put_count, put_each, put_index, put_tagged, put_type_index,
-    spelled,
+    Encode, byte_of_flag, put_bytes, put_count, put_each, put_index, put_tagged, put_type_index,
+    encoded,
 };

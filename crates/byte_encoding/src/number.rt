@@ -1,7 +1,7 @@
 //! Numbers, names and lists at the end of a buffer.
 
 ghost use Rattle.std.specs.Prelude.{if◌then◌else◌, ◌≡◌, ◌+◌, ◌<◌, ◌≤◌, ◌^◌, ◌++◌, length, IfOk, IfErr, OnOk, List, ℕ};
-ghost use Rattle.byte_encoding.specs.Spelling.{leb128, leb, signed_leb, raw, octet, number as a_number, quantity, each, listed, named, optional, Spelling, Fits, ◌⊕◌};
+ghost use Rattle.byte_encoding.specs.Encoding.{leb128, leb, signed_leb, raw, octet, number as a_number, quantity, each, listed, named, optional, Encoding, Fits, ◌⊕◌};
 ghost use Rattle.byte_encoding.specs.Written.{Writes, Refused};
 
 use crate::fault::{BuildFault, counted};
@@ -71,22 +71,22 @@ pub fn byte_of_flag(set: bool) -> u8
 }
 
 /// A value that is written one way: a part of a definition, in the binary format of components.
-pub trait Spell {
-    ghost spelling: { Self → Spelling };
+pub trait Encode {
+    ghost encoding: { Self → Encoding };
 
     /// Writes the value after the contents of a buffer. It fails with [`BuildFault::TooMany`] only
     /// where a count or a size in its encoding exceeds 2^32 - 1, and reports that one. After a failure
     /// the buffer is of no use.
     fn put(&self, out: &mut Vec<u8>) -> Result<(), BuildFault>
-        ensures { Writes out.old.items out.new.items result (spelling self.now) };
+        ensures { Writes out.old.items out.new.items result (encoding self.now) };
 }
 
 /// The bytes of a value, as they are in its section. It fails with [`BuildFault::TooMany`] only
 /// where a count or a size among them would exceed 2^32 - 1, and reports that one.
-pub fn spelled<T: Spell>(alloc: Global, value: &T) -> Result<Vec<u8>, BuildFault>
-    ensures ok { IfOk result (λ v. v.items ≡ (T.spelling value.now).bytes) }
-    ensures fits { OnOk result (Fits (T.spelling value.now).counts) }
-    ensures refused { IfErr result (Refused (T.spelling value.now).counts) }
+pub fn encoded<T: Encode>(alloc: Global, value: &T) -> Result<Vec<u8>, BuildFault>
+    ensures ok { IfOk result (λ v. v.items ≡ (T.encoding value.now).bytes) }
+    ensures fits { OnOk result (Fits (T.encoding value.now).counts) }
+    ensures refused { IfErr result (Refused (T.encoding value.now).counts) }
 {
     let mut out = Vec::new(alloc);
     value.put(&mut out)?;
@@ -94,8 +94,8 @@ pub fn spelled<T: Spell>(alloc: Global, value: &T) -> Result<Vec<u8>, BuildFault
 }
 
 /// Writes values one after the other, without their count.
-pub fn put_each<T: Spell>(out: &mut Vec<u8>, items: &[T]) -> Result<(), BuildFault>
-    ensures { Writes out.old.items out.new.items result (each T.spelling items.now) }
+pub fn put_each<T: Encode>(out: &mut Vec<u8>, items: &[T]) -> Result<(), BuildFault>
+    ensures { Writes out.old.items out.new.items result (each T.encoding items.now) }
 {
     for item in items {
         item.put(out)?;
@@ -103,8 +103,8 @@ pub fn put_each<T: Spell>(out: &mut Vec<u8>, items: &[T]) -> Result<(), BuildFau
     Ok(())
 }
 
-impl Spell for u32 {
-    ghost spelling = { a_number };
+impl Encode for u32 {
+    ghost encoding = { a_number };
 
     fn put(&self, out: &mut Vec<u8>) -> Result<(), BuildFault> {
         put_index(out, *self)
@@ -112,8 +112,8 @@ impl Spell for u32 {
 }
 
 #[tactic(auto, using(crate::proofs::Pieces::writing))]
-impl<T: Spell> Spell for Seq<T> {
-    ghost spelling = { listed T.spelling };
+impl<T: Encode> Encode for Seq<T> {
+    ghost encoding = { listed T.encoding };
 
     fn put(&self, out: &mut Vec<u8>) -> Result<(), BuildFault> {
         put_count(out, self.len())?;
@@ -124,16 +124,16 @@ impl<T: Spell> Spell for Seq<T> {
 
 /// Writes a byte that says what follows, and what follows.
 #[tactic(auto, using(crate::proofs::Pieces::writing))]
-pub fn put_tagged<T: Spell>(out: &mut Vec<u8>, tag: u8, x: &T) -> Result<(), BuildFault>
-    ensures { Writes out.old.items out.new.items result (octet tag ⊕ T.spelling x.now) }
+pub fn put_tagged<T: Encode>(out: &mut Vec<u8>, tag: u8, x: &T) -> Result<(), BuildFault>
+    ensures { Writes out.old.items out.new.items result (octet tag ⊕ T.encoding x.now) }
 {
     put_bytes(out, &[tag])?;
     x.put(out)?;
     Ok(())
 }
 
-impl<T: Spell> Spell for Option<T> {
-    ghost spelling = { optional T.spelling };
+impl<T: Encode> Encode for Option<T> {
+    ghost encoding = { optional T.encoding };
 
     fn put(&self, out: &mut Vec<u8>) -> Result<(), BuildFault> {
         match self {
@@ -143,8 +143,8 @@ impl<T: Spell> Spell for Option<T> {
     }
 }
 
-impl Spell for Text {
-    ghost spelling = { named };
+impl Encode for Text {
+    ghost encoding = { named };
 
     fn put(&self, out: &mut Vec<u8>) -> Result<(), BuildFault> {
         put_name(out, self.as_str())

@@ -5,8 +5,8 @@ use Rattle.std.specs.Io.KnownBytes.{Appends, Keeps}
 use Rattle.std.proofs.Math.Seq.{take-add}
 use Rattle.std.proofs.lemmas.Grind.{flat_map-append}
 use Rattle.std.proofs.lemmas.List.{length-drop, take_all, take-append-drop, drop_all, take_more, map-append}
-use Rattle.command_line.specs.Listing.{told}
-use Rattle.command_line.specs.Telling.{Puts, Says}
+use Rattle.command_line.specs.Listing.{printed}
+use Rattle.command_line.specs.Messages.{Puts, Says}
 
 -- the parts one after another
 pub both : (a b c : Option (List ℕ)) (xs ys zs : List ℕ) → zs ≡ xs ++ ys → Appends a b xs → Appends b c ys → Appends a c zs
@@ -52,12 +52,12 @@ keeps_on (Some xs) (Some ys) None text h k = absurd k
 keeps_on (Some xs) (Some ys) (Some zs) text h k = k ∙ h
 
 -- a writer that fails after a front of a text
-pub fails_behind : (a b c : Option (List ℕ)) (text : List ℕ) (n : ℕ) → Appends a b (take n text) → Keeps b c → Puts a c text false
-fails_behind a b c text n h k = front_of a c text n false (keeps_on a b c (take n text) h k) (λ w. absurd (true≢false (sym w)))
+pub fails_after : (a b c : Option (List ℕ)) (text : List ℕ) (n : ℕ) → Appends a b (take n text) → Keeps b c → Puts a c text false
+fails_after a b c text n h k = front_of a c text n false (keeps_on a b c (take n text) h k) (λ w. absurd (true≢false (sym w)))
 
 -- a writer that accepts nothing
-pub stops_behind : (a b c : Option (List ℕ)) (text : List ℕ) (i n : ℕ) → Appends a b (take i text) → Appends b c (take n (take (length text - i) (drop i text))) → Puts a c text false
-stops_behind a b c text i n h k = front_of a c text (i + n) false (more a b c text i n h k) (λ w. absurd (true≢false (sym w)))
+pub stops_after : (a b c : Option (List ℕ)) (text : List ℕ) (i n : ℕ) → Appends a b (take i text) → Appends b c (take n (take (length text - i) (drop i text))) → Puts a c text false
+stops_after a b c text i n h k = front_of a c text (i + n) false (more a b c text i n h k) (λ w. absurd (true≢false (sym w)))
 
 -- ---- lines
 
@@ -69,25 +69,25 @@ no_lines a = record { front = []; rest = []; split = refl; appended = same a; en
     same (Some xs) = sym (append-nil xs)
 
 module _ {X : Type 0} (f : X → List ℕ) (xs : List X) where
-  told_step : (i : ℕ) (x : X) → i < length xs → x ≡ get_or xs i x → told (map f (take (i + 1) xs)) ≡ told (map f (take i xs)) ++ told (f x ∷ [])
-  told_step i x l e =
-      ap (λ (ys : List X). told (map f ys)) (take_more xs i x l ∙ ap (λ y. take i xs ++ y ∷ []) (sym e))
-      ∙ (ap told (map-append f (take i xs) (x ∷ [])) ∙ flat_map-append (λ l. l ++ codes "\n") (map f (take i xs)) (f x ∷ []))
+  printed_step : (i : ℕ) (x : X) → i < length xs → x ≡ get_or xs i x → printed (map f (take (i + 1) xs)) ≡ printed (map f (take i xs)) ++ printed (f x ∷ [])
+  printed_step i x l e =
+      ap (λ (ys : List X). printed (map f ys)) (take_more xs i x l ∙ ap (λ y. take i xs ++ y ∷ []) (sym e))
+      ∙ (ap printed (map-append f (take i xs) (x ∷ [])) ∙ flat_map-append (λ l. l ++ codes "\n") (map f (take i xs)) (f x ∷ []))
 
-  told_rest : (n : ℕ) → told (map f xs) ≡ told (map f (take n xs)) ++ told (map f (drop n xs))
-  told_rest n =
-      ap (λ (ys : List X). told (map f ys)) (sym (take-append-drop n xs))
-      ∙ (ap told (map-append f (take n xs) (drop n xs)) ∙ flat_map-append (λ l. l ++ codes "\n") (map f (take n xs)) (map f (drop n xs)))
+  printed_rest : (n : ℕ) → printed (map f xs) ≡ printed (map f (take n xs)) ++ printed (map f (drop n xs))
+  printed_rest n =
+      ap (λ (ys : List X). printed (map f ys)) (sym (take-append-drop n xs))
+      ∙ (ap printed (map-append f (take n xs) (drop n xs)) ∙ flat_map-append (λ l. l ++ codes "\n") (map f (take n xs)) (map f (drop n xs)))
 
-  pub line_more : (a b c : Option (List ℕ)) (i : ℕ) (x : X) → i < length xs → x ≡ get_or xs i x → Puts a b (told (map f (take i xs))) true → (whole : Bool) → whole ≡ true → Puts b c (told (f x ∷ [])) whole →
-      Puts a c (told (map f (take (i + 1) xs))) true
+  pub line_more : (a b c : Option (List ℕ)) (i : ℕ) (x : X) → i < length xs → x ≡ get_or xs i x → Puts a b (printed (map f (take i xs))) true → (whole : Bool) → whole ≡ true → Puts b c (printed (f x ∷ [])) whole →
+      Puts a c (printed (map f (take (i + 1) xs))) true
   line_more a b c i x l e h whole w k =
-      subst (λ (t : List ℕ). Puts a c t true) (sym (told_step i x l e))
-      (puts_both a b c (told (map f (take i xs))) (told (f x ∷ [])) true h (subst (λ v. Puts b c (told (f x ∷ [])) v) w k))
+      subst (λ (t : List ℕ). Puts a c t true) (sym (printed_step i x l e))
+      (puts_both a b c (printed (map f (take i xs))) (printed (f x ∷ [])) true h (subst (λ v. Puts b c (printed (f x ∷ [])) v) w k))
 
-  pub line_cut : (a b c : Option (List ℕ)) (i : ℕ) (x : X) → i < length xs → x ≡ get_or xs i x → Puts a b (told (map f (take i xs))) true → (whole : Bool) → whole ≡ false → Puts b c (told (f x ∷ [])) whole →
-      Puts a c (told (map f xs)) false
+  pub line_cut : (a b c : Option (List ℕ)) (i : ℕ) (x : X) → i < length xs → x ≡ get_or xs i x → Puts a b (printed (map f (take i xs))) true → (whole : Bool) → whole ≡ false → Puts b c (printed (f x ∷ [])) whole →
+      Puts a c (printed (map f xs)) false
   line_cut a b c i x l e h whole w k =
-      let part : Puts a c (told (map f (take (i + 1) xs))) false =
-      subst (λ (t : List ℕ). Puts a c t false) (sym (told_step i x l e)) (puts_both a b c (told (map f (take i xs))) (told (f x ∷ [])) false h (subst (λ v. Puts b c (told (f x ∷ [])) v) w k)) in
-      subst (λ (t : List ℕ). Puts a c t false) (sym (told_rest (i + 1))) (puts_first a c (told (map f (take (i + 1) xs))) (told (map f (drop (i + 1) xs))) part)
+      let part : Puts a c (printed (map f (take (i + 1) xs))) false =
+      subst (λ (t : List ℕ). Puts a c t false) (sym (printed_step i x l e)) (puts_both a b c (printed (map f (take i xs))) (printed (f x ∷ [])) false h (subst (λ v. Puts b c (printed (f x ∷ [])) v) w k)) in
+      subst (λ (t : List ℕ). Puts a c t false) (sym (printed_rest (i + 1))) (puts_first a c (printed (map f (take (i + 1) xs))) (printed (map f (drop (i + 1) xs))) part)

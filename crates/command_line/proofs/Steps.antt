@@ -3,9 +3,9 @@ use Rattle.std.proofs.Common.{◌≡◌, ℕ, Bool, false, List, [], ◌∷◌, 
 use Rattle.std.specs.Prelude.{⊤}
 use Rattle.comp_worlds.specs.declared.lower.Lower as lower
 use Rattle.command_line.specs.Events.{happen, events_of_read, events_of_put, device_faults}
-use Rattle.command_line.specs.Faults.{of_put, of_read, told_faults}
+use Rattle.command_line.specs.Faults.{of_put, of_read, reported_faults}
 use Rattle.command_line.specs.Making.{Made, IsRefused, IsMade}
-use Rattle.command_line.specs.Listing.{Listed, Tells}
+use Rattle.command_line.specs.Listing.{Listed, Prints}
 use Rattle.command_line.specs.declared.arguments.Arguments.{Arguments}
 use Rattle.command_line.specs.declared.store.Event.{Event}
 use Rattle.command_line.specs.declared.store.Event.TheVariants.{Read, NotRead, Put, NotPut}
@@ -29,44 +29,44 @@ module _ {L B F : Type 0} (l : lower.Ghosts L B F) where
   not_put layer names name to bytes component store_faults.Device r e k m h = (e, k, m, ap (λ x. Err x) h)
   not_put layer names name to bytes component store_faults.Memory r e k m h = (e, rw h (inl tt))
 
-  told_refused : (layer : L) (validate : Bool) (bytes : List ℕ) (r : Result ⊤ (RunFault F)) → IsRefused l layer validate bytes r → 0 ≡ told_faults r
-  told_refused layer validate bytes (Ok x) h = absurd h
-  told_refused layer validate bytes (Err faults.Usage) h = absurd h
-  told_refused layer validate bytes (Err (faults.Read name)) h = absurd h
-  told_refused layer validate bytes (Err (faults.Write name)) h = absurd h
-  told_refused layer validate bytes (Err faults.Out) h = absurd h
-  told_refused layer validate bytes (Err (faults.Check f)) h = absurd h
-  told_refused layer validate bytes (Err (faults.Encode f)) h = refl
+  reported_refused : (layer : L) (validate : Bool) (bytes : List ℕ) (r : Result ⊤ (RunFault F)) → IsRefused l layer validate bytes r → 0 ≡ reported_faults r
+  reported_refused layer validate bytes (Ok x) h = absurd h
+  reported_refused layer validate bytes (Err faults.Usage) h = absurd h
+  reported_refused layer validate bytes (Err (faults.Read name)) h = absurd h
+  reported_refused layer validate bytes (Err (faults.Write name)) h = absurd h
+  reported_refused layer validate bytes (Err faults.Out) h = absurd h
+  reported_refused layer validate bytes (Err (faults.Check f)) h = absurd h
+  reported_refused layer validate bytes (Err (faults.Encode f)) h = refl
 
   -- each refusal of the device is reported
-  pub told_listed : (file : List ℕ) (es : List Event) (before after : Option (List ℕ)) (r : Result ⊤ (RunFault F)) → Listed file es before after r → device_faults es ≡ told_faults r
-  told_listed file [] before after r h = rw h.0 refl
-  told_listed file (NotRead name ∷ []) before after r h = rw h.1 refl
-  told_listed file (NotRead name ∷ e ∷ es) before after r h = absurd h
-  told_listed file (Read name bytes ∷ e ∷ es) before after r h = absurd h
-  told_listed file (Read name bytes ∷ []) before after r h = told r h.1
+  pub reported_listed : (file : List ℕ) (es : List Event) (before after : Option (List ℕ)) (r : Result ⊤ (RunFault F)) → Listed file es before after r → device_faults es ≡ reported_faults r
+  reported_listed file [] before after r h = rw h.0 refl
+  reported_listed file (NotRead name ∷ []) before after r h = rw h.1 refl
+  reported_listed file (NotRead name ∷ e ∷ es) before after r h = absurd h
+  reported_listed file (Read name bytes ∷ e ∷ es) before after r h = absurd h
+  reported_listed file (Read name bytes ∷ []) before after r h = reported r h.1
     where
-      told : (r : Result ⊤ (RunFault F)) → Tells bytes before after r → 0 ≡ told_faults r
-      told (Ok x) h = refl
-      told (Err faults.Usage) h = absurd h
-      told (Err (faults.Read name)) h = absurd h
-      told (Err (faults.Write name)) h = absurd h
-      told (Err faults.Out) h = refl
-      told (Err (faults.Check f)) h = refl
-      told (Err (faults.Encode f)) h = absurd h
-  told_listed file (Put to component ∷ es) before after r h = absurd h
-  told_listed file (NotPut to component ∷ es) before after r h = absurd h
+      reported : (r : Result ⊤ (RunFault F)) → Prints bytes before after r → 0 ≡ reported_faults r
+      reported (Ok x) h = refl
+      reported (Err faults.Usage) h = absurd h
+      reported (Err (faults.Read name)) h = absurd h
+      reported (Err (faults.Write name)) h = absurd h
+      reported (Err faults.Out) h = refl
+      reported (Err (faults.Check f)) h = refl
+      reported (Err (faults.Encode f)) h = absurd h
+  reported_listed file (Put to component ∷ es) before after r h = absurd h
+  reported_listed file (NotPut to component ∷ es) before after r h = absurd h
 
-  pub told_made : (layer : L) (names : Arguments) (es : List Event) (r : Result ⊤ (RunFault F)) → Made l layer names es r → device_faults es ≡ told_faults r
-  told_made layer names [] r h = rw h refl
-  told_made layer names (NotRead name ∷ []) r h = rw h.1 refl
-  told_made layer names (NotRead name ∷ e ∷ es) r h = absurd h
-  told_made layer names (Read name bytes ∷ []) r h = told_refused layer names.validate bytes r h.1
-  told_made layer names (Read name bytes ∷ Put to component ∷ []) r h = rw h.3 refl
-  told_made layer names (Read name bytes ∷ Put to component ∷ e ∷ es) r h = absurd h
-  told_made layer names (Read name bytes ∷ NotPut to component ∷ []) r h = rw h.3 refl
-  told_made layer names (Read name bytes ∷ NotPut to component ∷ e ∷ es) r h = absurd h
-  told_made layer names (Read name bytes ∷ Read other got ∷ es) r h = absurd h
-  told_made layer names (Read name bytes ∷ NotRead other ∷ es) r h = absurd h
-  told_made layer names (Put to component ∷ es) r h = absurd h
-  told_made layer names (NotPut to component ∷ es) r h = absurd h
+  pub reported_made : (layer : L) (names : Arguments) (es : List Event) (r : Result ⊤ (RunFault F)) → Made l layer names es r → device_faults es ≡ reported_faults r
+  reported_made layer names [] r h = rw h refl
+  reported_made layer names (NotRead name ∷ []) r h = rw h.1 refl
+  reported_made layer names (NotRead name ∷ e ∷ es) r h = absurd h
+  reported_made layer names (Read name bytes ∷ []) r h = reported_refused layer names.validate bytes r h.1
+  reported_made layer names (Read name bytes ∷ Put to component ∷ []) r h = rw h.3 refl
+  reported_made layer names (Read name bytes ∷ Put to component ∷ e ∷ es) r h = absurd h
+  reported_made layer names (Read name bytes ∷ NotPut to component ∷ []) r h = rw h.3 refl
+  reported_made layer names (Read name bytes ∷ NotPut to component ∷ e ∷ es) r h = absurd h
+  reported_made layer names (Read name bytes ∷ Read other got ∷ es) r h = absurd h
+  reported_made layer names (Read name bytes ∷ NotRead other ∷ es) r h = absurd h
+  reported_made layer names (Put to component ∷ es) r h = absurd h
+  reported_made layer names (NotPut to component ∷ es) r h = absurd h

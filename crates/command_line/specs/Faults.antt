@@ -12,22 +12,22 @@ abbrev pub no_memory : {F : Type 0} → RunFault F
 no_memory = Encode encode_faults.Memory
 
 -- out of memory, by whether the definitions of a component are asked for
-abbrev pub want_of_memory : {F : Type 0} → Bool → RunFault F
-want_of_memory listing = if listing then Check checks.Memory else no_memory
+abbrev pub out_of_memory : {F : Type 0} → Bool → RunFault F
+out_of_memory listing = if listing then Check checks.Memory else no_memory
 
 abbrev pub of_read : {F : Type 0} → Bool → List ℕ → StoreFault → RunFault F
 of_read listing name store_faults.Device = Read name
-of_read listing name store_faults.Memory = want_of_memory listing
+of_read listing name store_faults.Memory = out_of_memory listing
 
 abbrev pub of_put : {F : Type 0} → List ℕ → StoreFault → RunFault F
 of_put name store_faults.Device = Write name
 of_put name store_faults.Memory = no_memory
 
 -- 1 where the fault is a refusal of the device
-abbrev pub told_faults : {F : Type 0} → Result ⊤ (RunFault F) → ℕ
-told_faults (Err (Read name)) = 1
-told_faults (Err (Write name)) = 1
-told_faults _ = 0
+abbrev pub reported_faults : {F : Type 0} → Result ⊤ (RunFault F) → ℕ
+reported_faults (Err (Read name)) = 1
+reported_faults (Err (Write name)) = 1
+reported_faults _ = 0
 
 -- the exit status
 abbrev pub status_of : {F : Type 0} → Result ⊤ (RunFault F) → ℕ

@@ -2,6 +2,6 @@ pub mod Arguments
 pub mod Events
 pub mod Faults
 pub mod Making
-pub mod Telling
+pub mod Messages
 pub mod Listing
 pub mod Running

@@ -3,10 +3,10 @@ use Rattle.std.specs.Prelude.{◌≡◌, ℕ, List, [], ⊤, Option, Some, None,
 use Rattle.comp_worlds.specs.declared.lower.Lower as lower
 use Rattle.command_line.specs.Arguments.{request_of, is_listing}
 use Rattle.command_line.specs.Events.{happen, device_faults}
-use Rattle.command_line.specs.Faults.{status_of, told_faults}
+use Rattle.command_line.specs.Faults.{status_of, reported_faults}
 use Rattle.command_line.specs.Listing.{Listed}
 use Rattle.command_line.specs.Making.{Made}
-use Rattle.command_line.specs.Telling.{IsLineOf, Says, memory_line_of}
+use Rattle.command_line.specs.Messages.{IsLineOf, Says, memory_line_of}
 use Rattle.command_line.specs.declared.arguments.Request.{Request}
 use Rattle.command_line.specs.declared.arguments.Request.TheVariants as requests
 use Rattle.command_line.specs.declared.fault.RunFault.{RunFault}
@@ -14,9 +14,9 @@ use Rattle.command_line.specs.declared.store.Event.{Event}
 use Rattle.command_line.specs.declared.fault.RunFault.TheVariants.{Usage}
 
 -- what is printed at the end of a run: nothing on success, a line on a failure
-abbrev pub Told : {F : Type 0} → List ℕ → Option (List ℕ) → Option (List ℕ) → Result ⊤ (RunFault F) → Type 0
-Told memory before after (Ok x) = after ≡ before
-Told memory before after (Err f) = Says before after (IsLineOf memory f)
+abbrev pub Reported : {F : Type 0} → List ℕ → Option (List ℕ) → Option (List ℕ) → Result ⊤ (RunFault F) → Type 0
+Reported memory before after (Ok x) = after ≡ before
+Reported memory before after (Err f) = Says before after (IsLineOf memory f)
 
 module _ {L B F : Type 0} (l : lower.Ghosts L B F) where
   -- With wrong arguments nothing is read, put or written; with right ones the component is made and nothing is
@@ -31,14 +31,14 @@ module _ {L B F : Type 0} (l : lower.Ghosts L B F) where
     pub events : List Event
     pub happened : after ≡ happen before events
     pub did : Did layer request events out_before out_after ended
-    pub counted : device_faults events ≡ told_faults ended
+    pub counted : device_faults events ≡ reported_faults ended
 
   -- A run on these words, with the history of the store before and after, what the two writers held before and after, and the exit status.
   pub record Ran (layer : L) (words : List (List ℕ)) (before after : Option (List Event)) (out_before out_after said_before said_after : Option (List ℕ)) (status : ℕ) : Type 0 where
     pub ended : Result ⊤ (RunFault F)
     pub performed : Performed layer (request_of words) before after out_before out_after ended
-    pub tells : status ≡ status_of ended
-    pub told : Told (memory_line_of (is_listing (request_of words))) said_before said_after ended
+    pub exit_status : status ≡ status_of ended
+    pub reported : Reported (memory_line_of (is_listing (request_of words))) said_before said_after ended
 
   -- a run over some lower layer of the kind
   pub record RanOver (words : List (List ℕ)) (before after : Option (List Event)) (out_before out_after said_before said_after : Option (List ℕ)) (status : ℕ) : Type 0 where

@@ -1,7 +1,7 @@
 //! Why a run fails.
 
 ghost use Rattle.std.specs.Prelude.{◌≡◌};
-ghost use Rattle.command_line.specs.Faults.{of_read, of_put, want_of_memory};
+ghost use Rattle.command_line.specs.Faults.{of_read, of_put, out_of_memory};
 
 use crate::store::StoreFault;
 use comp_check::CheckFault;
@@ -27,8 +27,8 @@ pub(crate) enum RunFault<F> {
 }
 
 /// The fault of a run that is out of memory.
-pub(crate) fn want_of_memory<F>(listing: bool) -> RunFault<F>
-    ensures { result ≡ want_of_memory listing }
+pub(crate) fn out_of_memory<F>(listing: bool) -> RunFault<F>
+    ensures { result ≡ out_of_memory listing }
 {
     if listing {
         RunFault::Check(CheckFault::Memory)
@@ -44,7 +44,7 @@ pub(crate) fn read_fault<F>(listing: bool, fault: StoreFault, name: Text) -> Run
 {
     match fault {
         StoreFault::Device => RunFault::Read { name },
-        StoreFault::Memory => want_of_memory(listing),
+        StoreFault::Memory => out_of_memory(listing),
     }
 }
 

@@ -5,7 +5,7 @@
 //! a run does with files, what it writes and what it prints of a failure is in the contract of [`run`].
 //!
 //! In reading order: `arguments` (what is asked for), `store` (files by their names), `fault` (why a
-//! run fails), `making` (from a file to a file), `telling` (the line that reports a failure), `listing` (a
+//! run fails), `making` (from a file to a file), `messages` (the line that reports a failure), `listing` (a
 //! component on standard output), `running` (a run).
 #![tactic(auto)]
 
@@ -15,11 +15,11 @@ mod listing;
 mod making;
 mod running;
 mod store;
-mod telling;
+mod messages;
 
 pub use running::{run, run_with};
 pub use store::{Event, Store, StoreFault};
-pub use telling::{MEMORY, USAGE, say};
+pub use messages::{MEMORY, USAGE, say};
 
 #[cfg(test)]
 mod tests;

@@ -1,18 +1,18 @@
 //! A component, printed on standard output.
 
 ghost use Rattle.std.specs.Prelude.{◌≡◌, ◌∷◌, [], List, IfOk, IfErr, map, string_bytes};
-ghost use Rattle.comp_bytes.specs.Grammar.{Spells};
+ghost use Rattle.comp_bytes.specs.Grammar.{Encodes};
 ghost use Rattle.comp_bytes.specs.declared.def.Def.{Def};
 ghost use Rattle.comp_check.specs.Faults.{IsUnread};
 ghost use Rattle.comp_lines.specs.Lines.{lines};
 ghost use Rattle.command_line.specs.Events.{happen};
 ghost use Rattle.command_line.specs.declared.store.Event.{Event};
-ghost use Rattle.command_line.specs.Listing.{told, Listed};
-ghost use Rattle.command_line.specs.Telling.{Puts};
+ghost use Rattle.command_line.specs.Listing.{printed, Listed};
+ghost use Rattle.command_line.specs.Messages.{Puts};
 
 use crate::fault::{RunFault, read_fault};
 use crate::store::Store;
-use crate::telling::put;
+use crate::messages::put;
 use byte_encoding::BuildFault;
 use comp_check::{CheckFault, read_component};
 use comp_lines::describe;
@@ -22,7 +22,7 @@ use std::io::Write;
 
 /// The lines of the definitions that the bytes of a component encode.
 fn lines_of(alloc: Global, bytes: &[u8]) -> Result<Vec<String>, CheckFault>
-    ensures ok { IfOk result (λ found. (ds : List Def) × Spells bytes.now ds × (map string_bytes found.items ≡ lines ds)) }
+    ensures ok { IfOk result (λ found. (ds : List Def) × Encodes bytes.now ds × (map string_bytes found.items ≡ lines ds)) }
     ensures cause { IfErr result (λ e. IsUnread bytes.now e) }
 {
     let definitions = read_component(alloc, bytes)?;
@@ -35,14 +35,14 @@ fn lines_of(alloc: Global, bytes: &[u8]) -> Result<Vec<String>, CheckFault>
 
 /// Writes a line with its end. Whether all of it was written.
 fn put_line<W: Write>(writer: &mut W, line: &str) -> bool
-    ensures { Puts (W.contents writer.old) (W.contents writer.new) (told (line.now ∷ [])) result }
+    ensures { Puts (W.contents writer.old) (W.contents writer.new) (printed (line.now ∷ [])) result }
 {
     put(writer, line.as_bytes()) && put(writer, b"\n")
 }
 
 /// Writes lines with their ends. Whether all of them were written.
 fn put_lines<W: Write>(writer: &mut W, lines: &[String]) -> bool
-    ensures { Puts (W.contents writer.old) (W.contents writer.new) (told (map string_bytes lines.now)) result }
+    ensures { Puts (W.contents writer.old) (W.contents writer.new) (printed (map string_bytes lines.now)) result }
 {
     for line in lines {
         if !put_line(writer, line.as_str()) {

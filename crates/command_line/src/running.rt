@@ -2,16 +2,16 @@
 
 ghost use Rattle.std.specs.Prelude.{◌≡◌, map, string_bytes};
 ghost use Rattle.command_line.specs.Arguments.{request_of, is_listing};
-ghost use Rattle.command_line.specs.Running.{Performed, Ran, RanOver, Told};
+ghost use Rattle.command_line.specs.Running.{Performed, Ran, RanOver, Reported};
 ghost use Rattle.command_line.specs.Faults.{status_of};
-ghost use Rattle.command_line.specs.Telling.{memory_line_of};
+ghost use Rattle.command_line.specs.Messages.{memory_line_of};
 
 use crate::arguments::{Request, is_listing};
-use crate::fault::{RunFault, want_of_memory};
+use crate::fault::{RunFault, out_of_memory};
 use crate::listing::list;
 use crate::making::make;
 use crate::store::Store;
-use crate::telling::tell;
+use crate::messages::print_fault;
 use comp_worlds::Lower;
 use plain_lower::PlainLower;
 use std::alloc::Global;
@@ -32,7 +32,7 @@ fn perform<L: Lower + Drop, S: Store, W: Write>(
         Ok(Some(Request::New(arguments))) => make(alloc, lower, arguments, store),
         Ok(Some(Request::Defs { file })) => list(alloc, file, store, out),
         Ok(None) => Err(RunFault::Usage),
-        Err(_) => Err(want_of_memory(is_listing(words))),
+        Err(_) => Err(out_of_memory(is_listing(words))),
     }
 }
 
@@ -43,11 +43,11 @@ fn report<W: Write, F: Display>(
     listing: bool,
     done: &Result<(), RunFault<F>>,
 )
-    ensures { Told (memory_line_of listing) (W.contents writer.old) (W.contents writer.new) done.now }
+    ensures { Reported (memory_line_of listing) (W.contents writer.old) (W.contents writer.new) done.now }
 {
     match done {
         Ok(()) => {}
-        Err(fault) => tell(alloc, writer, listing, fault),
+        Err(fault) => print_fault(alloc, writer, listing, fault),
     }
 }
 

@@ -1,7 +1,7 @@
 -- What a builder of a component holds, and what its calls answer: definitions count their items up in each index
 -- space. Component model, binary format: index spaces.
 use Rattle.std.specs.Prelude.{ℕ, ◌≡◌, ◌+◌, ◌≤◌, ◌^◌, List, [], ◌∷◌, ◌++◌, Option, Some, None, Result, Ok, Err, get_or, option_to_list}
-use Rattle.comp_bytes.specs.Spaces.{place, items_in}
+use Rattle.comp_bytes.specs.Spaces.{ordinal, items_in}
 use Rattle.comp_bytes.specs.declared.def.Def.{Def}
 use Rattle.comp_bytes.specs.declared.name.Name.{Name}
 use Rattle.comp_bytes.specs.declared.space.Space.{Space}
@@ -43,7 +43,7 @@ Pushes old new names added item (Err fault) result = (result ≡ Err fault) × (
 
 -- each counter is the number of items of its space
 abbrev pub Counts : List ℕ → List Def → Type 0
-Counts counts ds = (s : Space) → get_or counts (place s) 0 ≡ items_in s ds
+Counts counts ds = (s : Space) → get_or counts (ordinal s) 0 ≡ items_in s ds
 
 -- the space had all the items that it can have
 abbrev pub Full : Space → List Def → BuildFault → Type 0

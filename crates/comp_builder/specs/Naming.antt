@@ -1,7 +1,7 @@
 -- The custom section with the debug names, behind the definitions of a component that is being built.
 -- Component model, binary format: name section.
 use Rattle.std.specs.Prelude.{◌≡◌, ◌==◌, [], ◌∷◌, ◌++◌, Result, Ok, Err, codes, length, if◌then◌else◌}
-use Rattle.byte_encoding.specs.Spelling.{Fits}
+use Rattle.byte_encoding.specs.Encoding.{Fits}
 use Rattle.comp_bytes.specs.DebugNames.{names_text}
 use Rattle.byte_encoding.specs.Written.{Refused}
 use Rattle.comp_bytes.specs.declared.def.Item.TheVariants as items

@@ -2,10 +2,10 @@
 //! items each index space has.
 
 ghost use Rattle.std.specs.Prelude.{◌≡◌, ◌+◌, ◌<◌, ◌≤◌, ◌^◌, ◌++◌, ◌∷◌, [], List, ℕ, length, IfOk, IfErr, OnOk, OnErr, MatchResult, Some, None, Option, option_to_list};
-ghost use Rattle.comp_bytes.specs.Spaces.{place, items_in, space_of};
+ghost use Rattle.comp_bytes.specs.Spaces.{ordinal, items_in, space_of};
 ghost use Rattle.comp_builder.specs.Built.{Built, nothing_built, and_then, name_of, Passes, IsNext, Pushes, Counts, Full, Adds};
-ghost use Rattle.comp_bytes.specs.Places.{IsAt};
-ghost use Rattle.comp_bytes.specs.Grammar.{Spells, spelling_of};
+ghost use Rattle.comp_bytes.specs.ItemIndices.{IsAt};
+ghost use Rattle.comp_bytes.specs.Grammar.{Encodes, encoding_of};
 ghost use Rattle.byte_encoding.specs.Written.{Refused};
 ghost use Rattle.comp_builder.specs.Naming.{AddsNames};
 ghost use Rattle.comp_builder.specs.Optional.{option_now};
@@ -158,9 +158,9 @@ impl ComponentBuilder {
         ensures adds { Adds self.old self.new result space def (option_now debug.entry) }
         ensures at { IfOk result (λ index. IsAt self.new.defs space index def) }
     {
-        let index = self.counts[space.place()];
+        let index = self.counts[space.ordinal()];
         let next = push_item(&mut self.defs, &mut self.names, def, space, index, debug)?;
-        self.counts[space.place()] = next;
+        self.counts[space.ordinal()] = next;
         Ok(index)
     }
 
@@ -192,8 +192,8 @@ impl ComponentBuilder {
     /// [`BuildFault::TooMany`] only where a count or a size that would be written passes 2^32 - 1, and
     /// tells that one.
     pub fn finish(self) -> Result<Vec<u8>, BuildFault>
-        ensures ok { IfOk result (λ v. Spells v.items self.defs) }
-        ensures err { IfErr result (Refused (spelling_of self.defs).counts) }
+        ensures ok { IfOk result (λ v. Encodes v.items self.defs) }
+        ensures err { IfErr result (Refused (encoding_of self.defs).counts) }
     {
         component_bytes(self.allocator(), self.defs.as_slice())
     }

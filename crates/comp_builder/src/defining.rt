@@ -8,7 +8,7 @@
 ghost use Rattle.std.specs.Prelude.{◌≡◌, IfOk, None};
 ghost use Rattle.comp_bytes.specs.Spaces.{kind_space, export_space, sort_space, description_space};
 ghost use Rattle.comp_builder.specs.Built.{Adds};
-ghost use Rattle.comp_bytes.specs.Places.{IsAt};
+ghost use Rattle.comp_bytes.specs.ItemIndices.{IsAt};
 ghost use Rattle.core_types.specs.Core.{IsCoreModule};
 ghost use Rattle.comp_builder.specs.Optional.{option_now};
 

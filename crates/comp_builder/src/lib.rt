@@ -7,7 +7,7 @@
 //! that it makes (`Adds` of `specs/Built.antt`, `IsAt` of `comp_bytes`); a refusal other than want of
 //! memory comes only where a space is full (`Full`) or a count or a size that would be written passes
 //! 2^32 - 1 (`Refused`), and leaves the builder as it was; and what [`ComponentBuilder::finish`] answers
-//! spells the definitions that were added (`Spells`).
+//! spells the definitions that were added (`Encodes`).
 //!
 //! In reading order: `builder` (what is held, debug names, the finish) and `defining` (one call a form of
 //! definition).

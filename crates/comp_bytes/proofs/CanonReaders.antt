@@ -1,9 +1,9 @@
 -- Readers of the options of canonical functions, and of intrinsics.
 use Rattle.std.proofs.Common.{◌≡◌, ℕ, List, ◌∷◌, ◌++◌, Bool, true, false, Option, Some, None, refl}
 use Rattle.std.specs.Prelude.{nat_eq, if◌then◌else◌}
-use Rattle.byte_encoding.specs.Spelling.{◌⊕◌, octet, number, listed}
+use Rattle.byte_encoding.specs.Encoding.{◌⊕◌, octet, number, listed}
 use Rattle.comp_bytes.specs.Grammar.{function_result, option_bytes, context_byte, intrinsic_bytes}
-use Rattle.byte_encoding.specs.Spelling.{flag}
+use Rattle.byte_encoding.specs.Encoding.{flag}
 use Rattle.comp_bytes.specs.declared.types.ComponentValType.{ComponentValType}
 use Rattle.comp_bytes.specs.declared.canon.CanonicalOption.{CanonicalOption}
 use Rattle.comp_bytes.specs.declared.canon.CanonicalOption.TheVariants as canonical

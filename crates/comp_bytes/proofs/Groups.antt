@@ -4,7 +4,7 @@ use Rattle.std.specs.Prelude.{◌==◌, ◌&&◌, if◌then◌else◌}
 use Rattle.std.specs.List.{flat_map, AllByRecursion}
 use Rattle.std.proofs.lemmas.List.{append-nil}
 use Rattle.std.proofs.lemmas.Bool.{eqb-true}
-use Rattle.byte_encoding.specs.Spelling.{Spelling}
+use Rattle.byte_encoding.specs.Encoding.{Encoding}
 use Rattle.comp_bytes.specs.Sections.{Entry, Section, shares, before, sections, section, contents, section_of, component}
 use Rattle.byte_encoding.proofs.Unique.{one_number, one_name}
 
@@ -71,7 +71,7 @@ grouped f (x ∷ xs) =
 
 -- ---- one section
 
-abbrev texts : {A : Type 0} → (A → Entry) → List A → List Spelling
+abbrev texts : {A : Type 0} → (A → Entry) → List A → List Encoding
 texts f xs = map (λ e. e.text) (map f xs)
 
 abbrev text_bytes : {A : Type 0} → (A → Entry) → List A → List ℕ

@@ -1,6 +1,6 @@
 pub mod Runs
 pub mod Labels
-pub mod Places
+pub mod ItemIndices
 pub mod Worked
 pub mod Groups
 pub mod ValueReaders

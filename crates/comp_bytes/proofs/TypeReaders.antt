@@ -1,7 +1,7 @@
 -- Readers of type definitions, of aliases and of instance types.
 use Rattle.std.proofs.Common.{◌≡◌, ℕ, List, [], ◌∷◌, ◌++◌, Bool, true, false, Option, Some, None, refl, ap, ◌∙◌}
 use Rattle.std.specs.Prelude.{nat_eq, if◌then◌else◌}
-use Rattle.byte_encoding.specs.Spelling.{◌⊕◌, octet, number, listed, named}
+use Rattle.byte_encoding.specs.Encoding.{◌⊕◌, octet, number, listed, named}
 use Rattle.standard_kinds.specs.Bytes.{kind_byte}
 use Rattle.comp_bytes.specs.Grammar.{export_byte, primitive_byte, defined_type, type_def, alias_bytes, member}
 use Rattle.standard_kinds.specs.declared.kinds.ExportKind.{ExportKind}

@@ -2,7 +2,7 @@
 use Rattle.std.proofs.Common.{◌≡◌, ℕ, ◌+◌, ◌/◌, ◌%◌, List, [], ◌∷◌, ◌++◌, Bool, true, false, Option, Some, None, refl, ap, ◌∙◌, arith}
 use Rattle.std.specs.Prelude.{nat_lt, nat_eq, if◌then◌else◌}
 use Rattle.std.proofs.lemmas.Bool.Decides.{nat_tests}
-use Rattle.byte_encoding.specs.Spelling.{octet, groups_of_seven, leb128, signed_leb}
+use Rattle.byte_encoding.specs.Encoding.{octet, groups_of_seven, leb128, signed_leb}
 use Rattle.standard_kinds.specs.Bytes.{kind_byte}
 use Rattle.comp_bytes.specs.Grammar.{export_byte, sort_bytes, primitive_byte, value_type, field, case_of, function_result, extern_name, description_bytes}
 use Rattle.standard_kinds.specs.declared.kinds.ExportKind.{ExportKind}

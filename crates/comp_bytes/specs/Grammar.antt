@@ -3,7 +3,7 @@
 -- these are this project's own: the version suffix of a name, `43` for an async function, the type of a context
 -- slot, and the `00` of the two waits.
 use Rattle.std.specs.Prelude.{ℕ, ◌≡◌, List, map, Bool, Option, Some, None, if◌then◌else◌}
-use Rattle.byte_encoding.specs.Spelling.{Spelling, Fits, ◌⊕◌, raw, octet, number, signed_leb, listed, named, optional}
+use Rattle.byte_encoding.specs.Encoding.{Encoding, Fits, ◌⊕◌, raw, octet, number, signed_leb, listed, named, optional}
 use Rattle.comp_bytes.specs.Sections.{Entry, component}
 use Rattle.standard_kinds.specs.declared.kinds.ExportKind.{ExportKind}
 use Rattle.standard_kinds.specs.declared.kinds.ExportKind.TheVariants as kinds
@@ -52,7 +52,7 @@ export_byte exports.Component = 0x04
 export_byte exports.Instance = 0x05
 
 -- sort
-abbrev pub sort_bytes : Sort → Spelling
+abbrev pub sort_bytes : Sort → Encoding
 sort_bytes (sorts.Core kind) = octet 0x00 ⊕ octet (kind_byte kind)
 sort_bytes sorts.Func = octet 0x01
 sort_bytes sorts.Type = octet 0x03
@@ -77,20 +77,20 @@ primitive_byte primitives.String = 0x73
 primitive_byte primitives.ErrorContext = 0x64
 
 -- valtype: a type index is a signed number, since a primitive type is a negative one
-abbrev pub value_type : ComponentValType → Spelling
+abbrev pub value_type : ComponentValType → Encoding
 value_type (values.Primitive p) = octet (primitive_byte p)
 value_type (values.Defined index) = raw (signed_leb index)
 
 -- labelvaltype
-abbrev pub field : Field → Spelling
+abbrev pub field : Field → Encoding
 field f = named f.name ⊕ value_type f.ty
 
 -- case; the `00` is where a case once named another
-abbrev pub case_of : Case → Spelling
+abbrev pub case_of : Case → Encoding
 case_of c = named c.name ⊕ optional value_type c.ty ⊕ octet 0x00
 
 -- defvaltype
-abbrev pub defined_type : DefinedType → Spelling
+abbrev pub defined_type : DefinedType → Encoding
 defined_type (defined.Primitive p) = octet (primitive_byte p)
 defined_type (defined.Record fields) = octet 0x72 ⊕ listed field fields
 defined_type (defined.Variant cases) = octet 0x71 ⊕ listed case_of cases
@@ -106,53 +106,53 @@ defined_type (defined.Stream t) = octet 0x66 ⊕ optional value_type t
 defined_type (defined.Future t) = octet 0x65 ⊕ optional value_type t
 
 -- resultlist: `00 t`, or `01 00` for none
-abbrev pub function_result : Option ComponentValType → Spelling
+abbrev pub function_result : Option ComponentValType → Encoding
 function_result None = octet 0x01 ⊕ octet 0x00
 function_result (Some t) = octet 0x00 ⊕ value_type t
 
 -- functype
-abbrev pub function_type : FuncTypeDef → Spelling
+abbrev pub function_type : FuncTypeDef → Encoding
 function_type f = octet (if f.async_ then 0x43 else 0x40) ⊕ listed field f.params ⊕ function_result f.result
 
 -- resourcetype, represented by an i32, with its destructor
-abbrev pub resource_type : Option ℕ → Spelling
+abbrev pub resource_type : Option ℕ → Encoding
 resource_type destructor = octet 0x3f ⊕ octet 0x7f ⊕ optional number destructor
 
 -- deftype, but for an instance type
-abbrev pub type_def : TypeDef → Spelling
+abbrev pub type_def : TypeDef → Encoding
 type_def (types.Func f) = function_type f
 type_def (types.Resource destructor) = resource_type destructor
 type_def (types.Defined t) = defined_type t
 
 -- importname', exportname'
-abbrev pub extern_name : ExternName → Spelling
+abbrev pub extern_name : ExternName → Encoding
 extern_name n = elim n.version_suffix [ None ↦ octet 0x00 ⊕ named n.name | Some suffix ↦ octet 0x01 ⊕ named n.name ⊕ named suffix ]
 
 -- externdesc
-abbrev pub description_bytes : Description → Spelling
+abbrev pub description_bytes : Description → Encoding
 description_bytes (descriptions.Func index) = octet 0x01 ⊕ number index
 description_bytes (descriptions.TypeEqual index) = octet 0x03 ⊕ octet 0x00 ⊕ number index
 description_bytes descriptions.SubResource = octet 0x03 ⊕ octet 0x01
 description_bytes (descriptions.Instance index) = octet 0x05 ⊕ number index
 
 -- alias
-abbrev pub alias_bytes : Alias → Spelling
+abbrev pub alias_bytes : Alias → Encoding
 alias_bytes (aliases.Export kind instance name) = octet (export_byte kind) ⊕ octet 0x00 ⊕ number instance ⊕ named name
 alias_bytes (aliases.CoreExport kind instance name) = octet 0x00 ⊕ octet (kind_byte kind) ⊕ octet 0x01 ⊕ number instance ⊕ named name
 alias_bytes (aliases.Outer count index) = octet 0x03 ⊕ octet 0x02 ⊕ number count ⊕ number index
 
 -- instancedecl
-abbrev pub member : Member → Spelling
+abbrev pub member : Member → Encoding
 member (members.Type t) = octet 0x01 ⊕ type_def t
 member (members.Alias a) = octet 0x02 ⊕ alias_bytes a
 member (members.Export name description) = octet 0x04 ⊕ extern_name name ⊕ description_bytes description
 
 -- instancetype
-abbrev pub instance_type : InstanceType → Spelling
+abbrev pub instance_type : InstanceType → Encoding
 instance_type t = octet 0x42 ⊕ listed member t.members
 
 -- canonopt
-abbrev pub option_bytes : CanonicalOption → Spelling
+abbrev pub option_bytes : CanonicalOption → Encoding
 option_bytes canonical.Utf8 = octet 0x00
 option_bytes canonical.Utf16 = octet 0x01
 option_bytes canonical.CompactUtf16 = octet 0x02
@@ -168,7 +168,7 @@ context_byte contexts.I32 = 0x7f
 context_byte contexts.I64 = 0x7e
 
 -- canon, but for lift and lower
-abbrev pub intrinsic_bytes : Intrinsic → Spelling
+abbrev pub intrinsic_bytes : Intrinsic → Encoding
 intrinsic_bytes (intrinsics.ResourceNew index) = octet 0x02 ⊕ number index
 intrinsic_bytes (intrinsics.ResourceDrop index) = octet 0x03 ⊕ number index
 intrinsic_bytes (intrinsics.ResourceRep index) = octet 0x04 ⊕ number index
@@ -204,18 +204,18 @@ intrinsic_bytes intrinsics.BackpressureInc = octet 0x24
 intrinsic_bytes intrinsics.BackpressureDec = octet 0x25
 
 -- core:instantiatearg
-abbrev pub core_argument : CoreArgument → Spelling
+abbrev pub core_argument : CoreArgument → Encoding
 core_argument a = named a.name ⊕ octet 0x12 ⊕ number a.instance
 
 -- core:inlineexport
-abbrev pub core_inline_export : CoreInlineExport → Spelling
+abbrev pub core_inline_export : CoreInlineExport → Encoding
 core_inline_export e = named e.name ⊕ octet (kind_byte e.kind) ⊕ number e.index
 
 -- instantiatearg
-abbrev pub argument : Argument → Spelling
+abbrev pub argument : Argument → Encoding
 argument a = named a.name ⊕ sort_bytes a.sort ⊕ number a.index
 
-abbrev pub entry : ℕ → Spelling → Entry
+abbrev pub entry : ℕ → Encoding → Entry
 entry id text = record { id = id; text = text }
 
 -- section: the id of a definition's section, and what is written of it there
@@ -240,9 +240,9 @@ definition (defs.Item i) = item i
 definition (defs.Component inner) = entry 4 (component (map item inner))
 
 -- The encoding of a component, by its definitions.
-abbrev pub spelling_of : List Def → Spelling
-spelling_of ds = component (map definition ds)
+abbrev pub encoding_of : List Def → Encoding
+encoding_of ds = component (map definition ds)
 
 -- The bytes are those of the definitions, none of whose counts and sizes passes 32 bits.
-abbrev pub Spells : List ℕ → List Def → Type 0
-Spells bytes ds = Fits (spelling_of ds).counts × (bytes ≡ (spelling_of ds).bytes)
+abbrev pub Encodes : List ℕ → List Def → Type 0
+Encodes bytes ds = Fits (encoding_of ds).counts × (bytes ≡ (encoding_of ds).bytes)

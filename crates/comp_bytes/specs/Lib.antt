@@ -1,7 +1,7 @@
 pub mod Sections
 pub mod Grammar
 pub mod Spaces
-pub mod Places
+pub mod ItemIndices
 pub mod References
 pub mod Scopes
 pub mod ScopeNames

@@ -1,17 +1,17 @@
 -- Definitions in sections, and a component as its sections.
 -- Core standard, binary format: sections. Component model, binary format: `component`, `section`.
 use Rattle.std.specs.Prelude.{ℕ, Bool, ◌&&◌, ◌||◌, not, ◌==◌, List, [], ◌∷◌, map, if◌then◌else◌}
-use Rattle.byte_encoding.specs.Spelling.{Spelling, ◌⊕◌, raw, octet, each, listed, sized}
+use Rattle.byte_encoding.specs.Encoding.{Encoding, ◌⊕◌, raw, octet, each, listed, sized}
 
 -- A definition: the id of its section, and what is written of it there.
 pub record Entry : Type 0 where
   pub id : ℕ
-  pub text : Spelling
+  pub text : Encoding
 
 -- A section: its id, and what is written of each of its definitions.
 pub record Section : Type 0 where
   pub id : ℕ
-  pub texts : List Spelling
+  pub texts : List Encoding
 
 -- Custom sections (0), core modules (1) and components (4) have a section each, without a count; all others share.
 abbrev pub shares : ℕ → Bool
@@ -35,15 +35,15 @@ abbrev pub section_of : List Entry → Section
 section_of es = record { id = first_id es; texts = map (λ e. e.text) es }
 
 -- the contents of a section after its id and its size
-abbrev pub contents : {A : Type 0} → (A → Spelling) → Bool → List A → Spelling
+abbrev pub contents : {A : Type 0} → (A → Encoding) → Bool → List A → Encoding
 contents f shared xs = if shared then listed f xs else each f xs
 
-abbrev pub section : Section → Spelling
+abbrev pub section : Section → Encoding
 section s = octet s.id ⊕ sized (contents (λ t. t) (shares s.id) s.texts)
 
 -- a component begins with its magic number, its version and its layer
 abbrev pub preamble : List ℕ
 preamble = 0x00 ∷ 0x61 ∷ 0x73 ∷ 0x6d ∷ 0x0d ∷ 0x00 ∷ 0x01 ∷ 0x00 ∷ []
 
-abbrev pub component : List Entry → Spelling
+abbrev pub component : List Entry → Encoding
 component es = raw preamble ⊕ each section (sections es)

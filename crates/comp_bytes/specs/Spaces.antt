@@ -81,22 +81,22 @@ space_of (defs.Item i) = item_space i
 space_of (defs.Component inner) = Some spaces.Component
 
 -- the ordinal of a space in the order of the bytes of their sorts
-abbrev pub place : Space → ℕ
-place spaces.CoreFunc = 0
-place spaces.CoreTable = 1
-place spaces.CoreMemory = 2
-place spaces.CoreGlobal = 3
-place spaces.CoreModule = 4
-place spaces.CoreInstance = 5
-place spaces.Func = 6
-place spaces.Type = 7
-place spaces.Component = 8
-place spaces.Instance = 9
+abbrev pub ordinal : Space → ℕ
+ordinal spaces.CoreFunc = 0
+ordinal spaces.CoreTable = 1
+ordinal spaces.CoreMemory = 2
+ordinal spaces.CoreGlobal = 3
+ordinal spaces.CoreModule = 4
+ordinal spaces.CoreInstance = 5
+ordinal spaces.Func = 6
+ordinal spaces.Type = 7
+ordinal spaces.Component = 8
+ordinal spaces.Instance = 9
 
 -- whether an item is made in this space
 abbrev pub is_space : Space → Option Space → Bool
 is_space s None = false
-is_space s (Some t) = place t == place s
+is_space s (Some t) = ordinal t == ordinal s
 
 -- how many items of a space the definitions make
 abbrev pub items_in : Space → List Def → ℕ

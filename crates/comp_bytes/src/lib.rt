@@ -7,14 +7,14 @@
 //! must be refused.
 //!
 //! Upward this crate promises: the bytes that [`component_bytes`] returns encode the definitions that were given
-//! (`Spells`), a refusal other than out of memory names a count or a size that exceeds 2^32 - 1
+//! (`Encodes`), a refusal other than out of memory names a count or a size that exceeds 2^32 - 1
 //! (`Refused`), and bytes encode at most one list of definitions ([`one_list`]). How numbers, names, lists
 //! and bytes are written is in `byte_encoding`.
 //!
 //! For crates above that are about indices and names: `specs/References.antt` (what a definition names by
 //! index), `specs/Scopes.antt` (that all of it comes before it), `specs/ScopeNames.antt` (the lists of
-//! names in each of which names are distinct), `specs/Places.antt` (which definition made which item, with
-//! its laws in `proofs/Places.antt`), and worked examples in `proofs/Worked.antt`.
+//! names in each of which names are distinct), `specs/ItemIndices.antt` (which definition made which item, with
+//! its laws in `proofs/ItemIndices.antt`), and worked examples in `proofs/Worked.antt`.
 //!
 //! In reading order: `space` (sorts of items and their index spaces), `types` (types and names),
 //! `canon` (canonical functions), `def` (definitions), `name` (debug names), `writing` (each value),

@@ -2,17 +2,17 @@
 #![tactic(auto, using(byte_encoding::proofs::Pieces::writing))]
 
 ghost use Rattle.std.specs.Prelude.{◌≡◌, ◌++◌, ◌<◌, ◌≤◌, ◌∷◌, List, ℕ, Bool, OnOk, IfOk, IfErr, length, take, drop, map, if◌then◌else◌};
-ghost use Rattle.byte_encoding.specs.Spelling.{leb, raw, octet, number, quantity, each, listed, named, optional, sized, Spelling, Fits, ◌⊕◌};
+ghost use Rattle.byte_encoding.specs.Encoding.{leb, raw, octet, number, quantity, each, listed, named, optional, sized, Encoding, Fits, ◌⊕◌};
 ghost use Rattle.comp_bytes.specs.Sections.{Entry, shares, contents, section, sections, component, section_of};
 ghost use Rattle.byte_encoding.specs.Written.{Writes, Refused};
-ghost use Rattle.comp_bytes.specs.Grammar.{Spells, spelling_of, item, definition, core_argument, core_inline_export, argument, alias_bytes, option_bytes, extern_name, sort_bytes, description_bytes};
+ghost use Rattle.comp_bytes.specs.Grammar.{Encodes, encoding_of, item, definition, core_argument, core_inline_export, argument, alias_bytes, option_bytes, extern_name, sort_bytes, description_bytes};
 
 use crate::canon::CanonicalOption;
 use crate::def::{Argument, CoreArgument, Def, Item};
 use crate::space::Sort;
 use crate::types::{Description, ExternName};
 use crate::writing::put_extern;
-use byte_encoding::{BuildFault, Spell, put_bytes, put_count, put_index, put_tagged};
+use byte_encoding::{BuildFault, Encode, put_bytes, put_count, put_index, put_tagged};
 use comp_lists::{Seq, Text};
 use std::alloc::Global;
 
@@ -255,8 +255,8 @@ impl Definition for Def {
 /// The bytes of a component: its preamble and its sections (`component`). It fails with
 /// [`BuildFault::TooMany`] only where a count or a size among them exceeds 2^32 - 1, and reports that one.
 pub fn component_bytes(alloc: Global, definitions: &[Def]) -> Result<Vec<u8>, BuildFault>
-    ensures ok { IfOk result (λ v. Spells v.items definitions.now) }
-    ensures err { IfErr result (Refused (spelling_of definitions.now).counts) }
+    ensures ok { IfOk result (λ v. Encodes v.items definitions.now) }
+    ensures err { IfErr result (Refused (encoding_of definitions.now).counts) }
 {
     let mut out = Vec::new(alloc);
     put_component(&mut out, definitions)?;

@@ -3,7 +3,7 @@
 //! Component model, binary format: `core:sort`, `sort`.
 
 ghost use Rattle.std.specs.Prelude.{◌≡◌};
-ghost use Rattle.comp_bytes.specs.Spaces.{place, kind_space, export_space, sort_space};
+ghost use Rattle.comp_bytes.specs.Spaces.{ordinal, kind_space, export_space, sort_space};
 
 use standard_kinds::ExportKind;
 use std::fmt;
@@ -44,8 +44,8 @@ pub enum Space {
 
 impl Space {
     /// Its ordinal in that order, from 0.
-    pub fn place(self) -> usize
-        ensures { result ≡ place self }
+    pub fn ordinal(self) -> usize
+        ensures { result ≡ ordinal self }
     {
         self as usize
     }

@@ -2,11 +2,11 @@
 #![tactic(auto, using(byte_encoding::proofs::Pieces::writing))]
 
 ghost use Rattle.std.specs.Prelude.{◌≡◌, ◌++◌, List, ℕ, OnOk, if◌then◌else◌};
-ghost use Rattle.byte_encoding.specs.Spelling.{signed_leb, raw, octet, number, quantity, each, listed, named, optional, Spelling, Fits, ◌⊕◌};
+ghost use Rattle.byte_encoding.specs.Encoding.{signed_leb, raw, octet, number, quantity, each, listed, named, optional, Encoding, Fits, ◌⊕◌};
 ghost use Rattle.byte_encoding.specs.Written.{Writes};
 ghost use Rattle.standard_kinds.specs.Bytes.{kind_byte};
 ghost use Rattle.comp_bytes.specs.Grammar.{export_byte, sort_bytes, primitive_byte, value_type, field, case_of, defined_type, function_result, function_type, resource_type, type_def, extern_name, description_bytes, alias_bytes, member, instance_type, option_bytes, intrinsic_bytes, context_byte, core_argument, core_inline_export, argument};
-ghost use Rattle.byte_encoding.specs.Spelling.{flag};
+ghost use Rattle.byte_encoding.specs.Encoding.{flag};
 
 use crate::canon::{CanonicalOption, ContextType, Intrinsic};
 use crate::def::{Argument, CoreArgument, CoreInlineExport};
@@ -16,7 +16,7 @@ use crate::types::{
     InstanceType, Member, TypeDef,
 };
 use byte_encoding::{
-    BuildFault, Spell, byte_of_flag, put_bytes, put_index, put_tagged, put_type_index,
+    BuildFault, Encode, byte_of_flag, put_bytes, put_index, put_tagged, put_type_index,
 };
 use comp_lists::{Seq, Text};
 use standard_kinds::{Primitive, byte_of_kind};
@@ -53,8 +53,8 @@ fn byte_of_primitive(primitive: Primitive) -> u8
     }
 }
 
-impl Spell for Sort {
-    ghost spelling = { sort_bytes };
+impl Encode for Sort {
+    ghost encoding = { sort_bytes };
 
     fn put(&self, out: &mut Vec<u8>) -> Result<(), BuildFault> {
         match *self {
@@ -67,8 +67,8 @@ impl Spell for Sort {
     }
 }
 
-impl Spell for ComponentValType {
-    ghost spelling = { value_type };
+impl Encode for ComponentValType {
+    ghost encoding = { value_type };
 
     fn put(&self, out: &mut Vec<u8>) -> Result<(), BuildFault> {
         match *self {
@@ -80,8 +80,8 @@ impl Spell for ComponentValType {
     }
 }
 
-impl Spell for Field {
-    ghost spelling = { field };
+impl Encode for Field {
+    ghost encoding = { field };
 
     fn put(&self, out: &mut Vec<u8>) -> Result<(), BuildFault> {
         self.name.put(out)?;
@@ -90,8 +90,8 @@ impl Spell for Field {
     }
 }
 
-impl Spell for Case {
-    ghost spelling = { case_of };
+impl Encode for Case {
+    ghost encoding = { case_of };
 
     fn put(&self, out: &mut Vec<u8>) -> Result<(), BuildFault> {
         self.name.put(out)?;
@@ -101,8 +101,8 @@ impl Spell for Case {
     }
 }
 
-impl Spell for DefinedType {
-    ghost spelling = { defined_type };
+impl Encode for DefinedType {
+    ghost encoding = { defined_type };
 
     fn put(&self, out: &mut Vec<u8>) -> Result<(), BuildFault> {
         match self {
@@ -153,8 +153,8 @@ fn put_result(out: &mut Vec<u8>, ty: &Option<ComponentValType>) -> Result<(), Bu
     }
 }
 
-impl Spell for FuncTypeDef {
-    ghost spelling = { function_type };
+impl Encode for FuncTypeDef {
+    ghost encoding = { function_type };
 
     fn put(&self, out: &mut Vec<u8>) -> Result<(), BuildFault> {
         put_bytes(out, &[if self.async_ { 0x43 } else { 0x40 }])?;
@@ -172,8 +172,8 @@ fn put_resource(out: &mut Vec<u8>, destructor: &Option<u32>) -> Result<(), Build
     Ok(())
 }
 
-impl Spell for TypeDef {
-    ghost spelling = { type_def };
+impl Encode for TypeDef {
+    ghost encoding = { type_def };
 
     fn put(&self, out: &mut Vec<u8>) -> Result<(), BuildFault> {
         match self {
@@ -192,8 +192,8 @@ fn put_versioned(out: &mut Vec<u8>, name: &Text, suffix: &Text) -> Result<(), Bu
     Ok(())
 }
 
-impl Spell for ExternName {
-    ghost spelling = { extern_name };
+impl Encode for ExternName {
+    ghost encoding = { extern_name };
 
     fn put(&self, out: &mut Vec<u8>) -> Result<(), BuildFault> {
         match &self.version_suffix {
@@ -203,8 +203,8 @@ impl Spell for ExternName {
     }
 }
 
-impl Spell for Description {
-    ghost spelling = { description_bytes };
+impl Encode for Description {
+    ghost encoding = { description_bytes };
 
     fn put(&self, out: &mut Vec<u8>) -> Result<(), BuildFault> {
         match self {
@@ -234,8 +234,8 @@ fn put_outer(out: &mut Vec<u8>, count: u32, index: u32) -> Result<(), BuildFault
     Ok(())
 }
 
-impl Spell for Alias {
-    ghost spelling = { alias_bytes };
+impl Encode for Alias {
+    ghost encoding = { alias_bytes };
 
     fn put(&self, out: &mut Vec<u8>) -> Result<(), BuildFault> {
         match self {
@@ -278,8 +278,8 @@ fn put_tagged_extern(
     Ok(())
 }
 
-impl Spell for Member {
-    ghost spelling = { member };
+impl Encode for Member {
+    ghost encoding = { member };
 
     fn put(&self, out: &mut Vec<u8>) -> Result<(), BuildFault> {
         match self {
@@ -290,8 +290,8 @@ impl Spell for Member {
     }
 }
 
-impl Spell for CanonicalOption {
-    ghost spelling = { option_bytes };
+impl Encode for CanonicalOption {
+    ghost encoding = { option_bytes };
 
     fn put(&self, out: &mut Vec<u8>) -> Result<(), BuildFault> {
         match self {
@@ -358,8 +358,8 @@ fn put_with_flag(out: &mut Vec<u8>, tag: u8, index: u32, set: bool) -> Result<()
     Ok(())
 }
 
-impl Spell for Intrinsic {
-    ghost spelling = { intrinsic_bytes };
+impl Encode for Intrinsic {
+    ghost encoding = { intrinsic_bytes };
 
     fn put(&self, out: &mut Vec<u8>) -> Result<(), BuildFault> {
         match self {
@@ -400,8 +400,8 @@ impl Spell for Intrinsic {
     }
 }
 
-impl Spell for CoreArgument {
-    ghost spelling = { core_argument };
+impl Encode for CoreArgument {
+    ghost encoding = { core_argument };
 
     fn put(&self, out: &mut Vec<u8>) -> Result<(), BuildFault> {
         self.name.put(out)?;
@@ -411,8 +411,8 @@ impl Spell for CoreArgument {
     }
 }
 
-impl Spell for CoreInlineExport {
-    ghost spelling = { core_inline_export };
+impl Encode for CoreInlineExport {
+    ghost encoding = { core_inline_export };
 
     fn put(&self, out: &mut Vec<u8>) -> Result<(), BuildFault> {
         self.name.put(out)?;
@@ -422,8 +422,8 @@ impl Spell for CoreInlineExport {
     }
 }
 
-impl Spell for Argument {
-    ghost spelling = { argument };
+impl Encode for Argument {
+    ghost encoding = { argument };
 
     fn put(&self, out: &mut Vec<u8>) -> Result<(), BuildFault> {
         self.name.put(out)?;
@@ -433,8 +433,8 @@ impl Spell for Argument {
     }
 }
 
-impl Spell for InstanceType {
-    ghost spelling = { instance_type };
+impl Encode for InstanceType {
+    ghost encoding = { instance_type };
 
     fn put(&self, out: &mut Vec<u8>) -> Result<(), BuildFault> {
         put_tagged(out, 0x42, &self.members)

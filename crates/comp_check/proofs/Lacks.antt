@@ -32,9 +32,9 @@ lacking_found scopes (r ∷ rs) more lack e =
 
 -- ---- a loop over what refers
 
-pub goes_on : {X : Type 0} (scopes : List Counts) (f : X → List Reference) (xs : List X) (i : ℕ) (x d : X) → i < length xs → x ≡ get_or xs i d → lacking scopes (f x) ≡ None →
+pub continues : {X : Type 0} (scopes : List Counts) (f : X → List Reference) (xs : List X) (i : ℕ) (x d : X) → i < length xs → x ≡ get_or xs i d → lacking scopes (f x) ≡ None →
     lacking scopes (flat_map f (drop i xs)) ≡ lacking scopes (flat_map f (drop (i + 1) xs))
-goes_on {X} scopes f xs i x d lt is none =
+continues {X} scopes f xs i x d lt is none =
     at_drop_more (λ (w : List X). lacking scopes (flat_map f w)) xs i d lt ∙ ap (λ (y : X). lacking scopes (f y ++ flat_map f (drop (i + 1) xs))) (sym is) ∙ lacking_append scopes (f x) (flat_map f (drop (i + 1) xs)) none
 
 pub ends : {X : Type 0} (scopes : List Counts) (f : X → List Reference) (xs : List X) (i : ℕ) (x d : X) (lack : Lack) → i < length xs → x ≡ get_or xs i d → lacking scopes (f x) ≡ Some lack →

@@ -1,4 +1,4 @@
 pub mod Lacks
-pub mod Standing
+pub mod CheckedPrefix
 pub mod Faults
 pub mod Worked

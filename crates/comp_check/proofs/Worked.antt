@@ -19,9 +19,9 @@ outward : ℕ → ℕ → Item
 outward count index = items.Alias (aliases.Outer count index)
 
 -- Behind a nested component of one item, on line 3, an alias names type 1: the only type is 0.
-behind_component : IsIndexFault (a_type ∷ defs.Component (outward 1 0 ∷ []) ∷ defs.Item (outward 0 1) ∷ []) 3 spaces.Type 1
+after_component : IsIndexFault (a_type ∷ defs.Component (outward 1 0 ∷ []) ∷ defs.Item (outward 0 1) ∷ []) 3 spaces.Type 1
 unfolding a_type outward
-behind_component = record {
+after_component = record {
   before = a_type ∷ defs.Component (outward 1 0 ∷ []) ∷ [];
   within = 0;
   fault =

@@ -30,7 +30,7 @@ pub record ReferenceFault (scopes : List Scope) (references : List Reference) (s
   pub missing : Missing scopes reference space index
 
 -- What stands behind these has a fault in the scope that they make, `made` being the space in which each makes an item.
-pub record FaultBehind {A : Type 0} (made : A → Option Space) (Fault : Scope → A → Type 0) (all before : List A) : Type 0 where
+pub record FaultAfter {A : Type 0} (made : A → Option Space) (Fault : Scope → A → Type 0) (all before : List A) : Type 0 where
   pub faulty : A
   pub after : List A
   pub parts : all ≡ before ++ faulty ∷ after
@@ -41,7 +41,7 @@ MemberFault outer space index scope m = ReferenceFault (scope ∷ outer) (member
 
 -- a fault of what stands inside an item, which these scopes are around
 abbrev pub InsideFault : List Scope → Space → ℕ → Item → Type 0
-InsideFault outer space index (items.InstanceType t) = (before : List Member) × FaultBehind member_space (MemberFault outer space index) t.members before
+InsideFault outer space index (items.InstanceType t) = (before : List Member) × FaultAfter member_space (MemberFault outer space index) t.members before
 InsideFault outer space index _ = ⊥
 
 abbrev pub ItemFault : List Scope → Space → ℕ → Scope → Item → Type 0
@@ -51,7 +51,7 @@ ItemFault outer space index scope i = ReferenceFault (scope ∷ outer) (item_ref
 abbrev pub DefFault : ℕ → Space → ℕ → Scope → Def → Type 0
 DefFault line space index scope (defs.Item i) = (line ≡ 0) × ItemFault [] space index scope i
 DefFault line space index scope (defs.Component inner) =
-    (before : List Item) × FaultBehind item_space (ItemFault (scope ∷ []) space index) inner before × (line ≡ 1 + length before)
+    (before : List Item) × FaultAfter item_space (ItemFault (scope ∷ []) space index) inner before × (line ≡ 1 + length before)
 
 -- the lines of a definition
 abbrev pub lines : Def → ℕ
@@ -62,5 +62,5 @@ lines (defs.Component inner) = 1 + length inner
 pub record IsIndexFault (definitions : List Def) (line : ℕ) (space : Space) (index : ℕ) : Type 0 where
   pub before : List Def
   pub within : ℕ
-  pub fault : FaultBehind space_of (DefFault within space index) definitions before
+  pub fault : FaultAfter space_of (DefFault within space index) definitions before
   pub line_is : line ≡ sum_by lines before + within

@@ -1,7 +1,7 @@
 -- What the functions that check references look for: the first item that is missing. Component model, binary format:
 -- index spaces.
 use Rattle.std.specs.Prelude.{ℕ, ◌≡◌, ◌+◌, nat_lt, List, [], ◌∷◌, Option, Some, None, Result, Ok, Err, cond, if◌then◌else◌, slice_get, get_or, length, ◌⊎◌}
-use Rattle.comp_bytes.specs.Spaces.{place, is_space, member_space, item_space}
+use Rattle.comp_bytes.specs.Spaces.{ordinal, is_space, member_space, item_space}
 use Rattle.comp_bytes.specs.References.{Reference, item_references}
 use Rattle.comp_bytes.specs.Scopes.{Scope}
 use Rattle.comp_bytes.specs.declared.space.Space.{Space}
@@ -12,11 +12,11 @@ use Rattle.comp_bytes.specs.declared.def.Def.{Def}
 use Rattle.comp_check.specs.declared.fault.IndexFault.{IndexFault}
 use Rattle.comp_check.specs.declared.scope.Counts.{Counts}
 use Rattle.comp_check.specs.declared.scope.Lack.{Lack}
-use Rattle.comp_check.specs.Indexes.{FaultBehind, MemberFault, ReferenceFault, InsideFault, ItemFault, DefFault}
+use Rattle.comp_check.specs.Indexes.{FaultAfter, MemberFault, ReferenceFault, InsideFault, ItemFault, DefFault}
 
 -- the scope that counters hold
 abbrev pub counted : Counts → Scope
-counted c space = get_or c.counts (place space) 0
+counted c space = get_or c.counts (ordinal space) 0
 
 -- a scope with one item more, in the space where one is made
 abbrev pub and_made : Scope → Option Space → Scope
@@ -42,7 +42,7 @@ Finds (Err lack) found = found ≡ Some lack
 
 -- a fault of members, which these scopes are around
 abbrev pub MembersFault : List Scope → List Member → Lack → Type 0
-MembersFault outer members lack = (before : List Member) × FaultBehind member_space (MemberFault outer lack.space lack.index) members before
+MembersFault outer members lack = (before : List Member) × FaultAfter member_space (MemberFault outer lack.space lack.index) members before
 
 -- a fault of an item, which these scopes are around
 abbrev pub AroundFault : List Scope → Item → Space → ℕ → Type 0
@@ -50,7 +50,7 @@ AroundFault scopes item space index = ReferenceFault scopes (item_references ite
 
 -- a fault of an item of a component that is nested on this line
 abbrev pub NestedFault : ℕ → Scope → List Item → IndexFault → Type 0
-NestedFault line top inner e = (before : List Item) × FaultBehind item_space (ItemFault (top ∷ []) e.space e.index) inner before × (e.definition ≡ line + (1 + length before))
+NestedFault line top inner e = (before : List Item) × FaultAfter item_space (ItemFault (top ∷ []) e.space e.index) inner before × (e.definition ≡ line + (1 + length before))
 
 -- a fault of the definition that begins on this line
 abbrev pub FaultFrom : ℕ → Scope → Def → IndexFault → Type 0

@@ -9,7 +9,7 @@ ghost use Rattle.comp_bytes.specs.Spaces.{member_space, item_space, space_of};
 ghost use Rattle.comp_bytes.specs.References.{item_references};
 ghost use Rattle.comp_bytes.specs.Scopes.{EachIn, InScope, MemberScoped, InsideScoped, ItemScoped, DefScoped, Scoped};
 ghost use Rattle.comp_bytes.specs.declared.def.Item.{Item};
-ghost use Rattle.comp_check.specs.Indexes.{FaultBehind, InsideFault, ItemFault, DefFault, IsIndexFault, lines};
+ghost use Rattle.comp_check.specs.Indexes.{FaultAfter, InsideFault, ItemFault, DefFault, IsIndexFault, lines};
 ghost use Rattle.comp_check.specs.Lacking.{counted, MembersFault, AroundFault, NestedFault, FaultFrom};
 
 use crate::fault::IndexFault;
@@ -67,7 +67,7 @@ fn check_inside(scopes: &Scopes, item: &Item) -> Result<(), Lack>
 }
 
 /// An item, with what stands inside it.
-#[tactic(auto, using(crate::proofs::Standing::all_there, crate::proofs::Standing::one_missing))]
+#[tactic(auto, using(crate::proofs::CheckedPrefix::all_there, crate::proofs::CheckedPrefix::one_missing))]
 fn check_item(scopes: &Scopes, item: &Item) -> Result<(), Lack>
     requires { length scopes.now ≤ 2 }
     ensures named { IfOk result (λ _. AllByRecursion (InScope (map counted scopes.now)) (item_references item.now)) }
@@ -103,8 +103,8 @@ fn check_component(line: u128, top: &Counts, inner: &[Item]) -> Result<(), Index
 {
     let outer = [*top];
     let mut own = Counts::new();
-    for (place, item) in inner.iter().enumerate() {
-        check_item_on(line + 1 + place as u128, &Scopes::new(&own, &outer), item)?;
+    for (item_index, item) in inner.iter().enumerate() {
+        check_item_on(line + 1 + item_index as u128, &Scopes::new(&own, &outer), item)?;
         own.count(items::item_space(item));
     }
     Ok(())

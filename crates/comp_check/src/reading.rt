@@ -1,7 +1,7 @@
 //! A component, read from its bytes.
 
 ghost use Rattle.std.specs.Prelude.{◌≡◌, List, IfOk, IfErr};
-ghost use Rattle.comp_bytes.specs.Grammar.{Spells};
+ghost use Rattle.comp_bytes.specs.Grammar.{Encodes};
 ghost use Rattle.comp_bytes.specs.declared.def.Def.{Def};
 ghost use Rattle.comp_check.specs.Faults.{IsUnread};
 
@@ -19,8 +19,8 @@ use std::alloc::Global;
 /// [`CheckFault::Grammar`] with the place of the section that can't be read; [`CheckFault::Memory`] where a
 /// growth is refused.
 pub fn read_component(alloc: Global, bytes: &[u8]) -> Result<Defs, CheckFault>
-    ensures ok { IfOk result (λ defs. Spells bytes.now defs) }
-    ensures same { IfOk result (λ defs. (ds : List Def) → Spells bytes.now ds → ds ≡ defs) }
+    ensures ok { IfOk result (λ defs. Encodes bytes.now defs) }
+    ensures same { IfOk result (λ defs. (ds : List Def) → Encodes bytes.now ds → ds ≡ defs) }
     ensures cause { IfErr result (λ e. IsUnread bytes.now e) }
 {
     comp_bytes::one_list();

@@ -29,7 +29,7 @@ impl Counts {
     fn get(&self, space: Space) -> usize
         ensures { result ≡ counted self.now space }
     {
-        self.counts[space.place()]
+        self.counts[space.ordinal()]
     }
 
     /// Counts the item that is made, where one is.
@@ -38,7 +38,7 @@ impl Counts {
         ensures { counted self.new ≡ and_made (counted self.old) made }
     {
         if let Some(space) = made {
-            self.counts[space.place()] += 1;
+            self.counts[space.ordinal()] += 1;
         }
     }
 }

@@ -1,6 +1,6 @@
 -- What was built of a world is its component.
 use Rattle.std.proofs.Common.{ℕ, Bool, List, subst, IsTrue}
-use Rattle.comp_bytes.specs.Grammar.{Spells}
+use Rattle.comp_bytes.specs.Grammar.{Encodes}
 use Rattle.comp_bytes.specs.Scopes.{Scoped}
 use Rattle.comp_bytes.specs.declared.def.Def.{Def}
 use Rattle.comp_names.specs.Names.{NamesOk}
@@ -12,10 +12,10 @@ use Rattle.comp_encoder.specs.Encoder.{Encoder, IsWorldOf}
 use Rattle.comp_encoder.specs.Component.{IsComponentOf, IsEncoding}
 use Rattle.comp_encoder.proofs.Runs.{composed, links}
 
-pub made_of : (w : ComponentWorld) (validate : Bool) (bytes : List ℕ) (ds : List Def) → IsWorld w → Spells bytes ds → Scoped ds × IsBuilt w ds → (IsTrue validate → NamesOk ds) →
+pub made_of : (w : ComponentWorld) (validate : Bool) (bytes : List ℕ) (ds : List Def) → IsWorld w → Encodes bytes ds → Scoped ds × IsBuilt w ds → (IsTrue validate → NamesOk ds) →
     IsComponentOf w validate bytes
-made_of w validate bytes ds valid spells built named =
-    record { defs = ds; spells = spells; scoped = built.0; composed = composed w ds built.1; links = links w ds valid built.1; named = named }
+made_of w validate bytes ds valid encodes built named =
+    record { defs = ds; encodes = encodes; scoped = built.0; composed = composed w ds built.1; links = links w ds valid built.1; named = named }
 
 module _ {L B F : Type 0} (l : lower.Ghosts L B F) where
   pub component_of : (e : Encoder L B) (w : ComponentWorld) (bytes : List ℕ) → IsWorldOf l e w → IsComponentOf w e.gathered.options.validate bytes → IsEncoding l e bytes

@@ -8,7 +8,7 @@ use Rattle.std.specs.Option.{option_map}
 use Rattle.comp_lists.specs.Found.{found}
 use Rattle.comp_lists.proofs.Lists.{AllZip-at, length-AllZip, there}
 use Rattle.comp_bytes.specs.Spaces.{kind_space, is_space, space_of, items_in}
-use Rattle.comp_bytes.specs.Places.{in_space, IsAt}
+use Rattle.comp_bytes.specs.ItemIndices.{in_space, IsAt}
 use Rattle.comp_bytes.specs.declared.space.Space.{Space}
 use Rattle.comp_bytes.specs.declared.space.Space.TheVariants as spaces
 use Rattle.standard_kinds.specs.declared.kinds.ExportKind.{ExportKind}
@@ -40,7 +40,7 @@ use Rattle.comp_encoder.specs.Running.{core_argument}
 use Rattle.comp_encoder.specs.Meeting.{IsOpaque}
 use Rattle.comp_encoder.specs.Linking.{import_type}
 use Rattle.comp_encoder.proofs.Zips.{AllZip-filter, filter-both, filter-at, all_some-each, all_some-zip, found-along, FindsIn, found-each, AllByRecursion-join}
-use Rattle.comp_encoder.proofs.Stores.{IsUserExport, IsUserInstance, IsNamedEntry, IsBag, IsLoweredItem, IsLiftedItem, IsAliasedItem, IsPlainFunction, DefIs, Means, makes, IsServedBy, IsServedAs, IsPlanned, IsMainExport, IsLiftedFrom, Agrees}
+use Rattle.comp_encoder.proofs.Stores.{IsUserExport, IsUserInstance, IsNamedEntry, IsInlineInstance, IsLoweredItem, IsLiftedItem, IsAliasedItem, IsPlainFunction, DefIs, Means, makes, IsServedBy, IsServedAs, IsPlanned, IsMainExport, IsLiftedFrom, Agrees}
 
 makes-space : (space : Space) (d : Def) → is_space space (space_of d) ≡ true → makes d ≡ true
 makes-space space d e = by (space_of d) e
@@ -97,8 +97,8 @@ module _ {w : ComponentWorld} {earlier : List Def} {c : Scope} {s : Store} (a : 
 
   -- a function of the scope is a plain one
   plain_def : (d : Def) (x : ℕ) → is_space spaces.Func (space_of d) ≡ true → DefIs w c.items s d x → IsPlainFunction s x
-  plain_def (defs.Item (items.Import name (descriptions.Func kind))) x e h = record { function = Imported (name.name ∷ []) plain_function; stands = h; plain = refl }
-  plain_def (defs.Item (items.Lift core options kind)) x e h = record { function = Lifting h.of [] plain_function; stands = h.is; plain = refl }
+  plain_def (defs.Item (items.Import name (descriptions.Func kind))) x e h = record { function = Imported (name.name ∷ []) plain_function; present = h; plain = refl }
+  plain_def (defs.Item (items.Lift core options kind)) x e h = record { function = Lifting h.of [] plain_function; present = h.is; plain = refl }
   plain_def (defs.Item (items.Export name sorts.Func index description)) x e h = h.1
   plain_def (defs.Item (items.CoreModule bytes)) x e h = absurd (true≢false (sym e))
   plain_def (defs.Item (items.CoreInstantiate number arguments)) x e h = absurd (true≢false (sym e))
@@ -131,7 +131,7 @@ module _ {w : ComponentWorld} {earlier : List Def} {c : Scope} {s : Store} (a : 
       let l : (x : ℕ) × (address_at spaces.CoreFunc index c.items ≡ Some x) × IsAliasedItem c.items s h.instance name x = thing_there h.made in
       let m : (x : ℕ) × (address_at spaces.CoreInstance h.instance c.items ≡ Some x) × IsUserInstance w s 0 x = main_there h.of in
       let same : m.0 ≡ l.2.from = same_Some m.0 l.2.from (sym m.1 ∙ l.2.at) in
-      let exports : m.2.exports ≡ l.2.exports = same_Some m.2.exports l.2.exports (sym m.2.stands ∙ (ap (slice_get s.core_instances) same ∙ l.2.stands)) in
+      let exports : m.2.exports ≡ l.2.exports = same_Some m.2.exports l.2.exports (sym m.2.present ∙ (ap (slice_get s.core_instances) same ∙ l.2.present)) in
       let each : AllByRecursion (IsUserExport s m.2.user) l.2.exports = subst (AllByRecursion (IsUserExport s m.2.user)) exports m.2.each in
       let e : (l.2.export.name ≡ name) × IsUserExport s m.2.user l.2.export = found-each (λ (e : Export). e.name) (IsUserExport s m.2.user) name l.2.exports l.2.export each l.2.found in
       (l.0, l.1, record { user = m.2.user; is = subst (λ n. IsOpaque s n (OfUser m.2.user name)) l.2.is (subst (λ t. IsOpaque s l.2.export.address (OfUser m.2.user t)) e.0 e.1.1); of = m.2.is })
@@ -167,8 +167,8 @@ module _ {w : ComponentWorld} {earlier : List Def} {c : Scope} {s : Store} (a : 
   module _ (m : Machine) (items : m.scope.items ≡ c.items) (instances : m.store.core_instances ≡ s.core_instances) where
     argument_there : (x : CoreArgument) (g : List ℕ × ImportInstance) → IsArgumentFor w earlier x g → (y : List ℕ × List Export) × (core_argument m x ≡ Some y) × IsOffered s y g
     argument_there x g h =
-        let b : (y : ℕ) × (address_at spaces.CoreInstance x.instance c.items ≡ Some y) × IsBag c.items s h.serves.entries y = thing_there h.serves.made in
-        ((x.name, b.2.exports), rw (items, b.1, instances, b.2.stands) refl, record { named = h.named; each = fields_there h.serves.entries b.2.exports (fields_of g.1) h.serves.each b.2.each })
+        let b : (y : ℕ) × (address_at spaces.CoreInstance x.instance c.items ≡ Some y) × IsInlineInstance c.items s h.serves.entries y = thing_there h.serves.made in
+        ((x.name, b.2.exports), rw (items, b.1, instances, b.2.present) refl, record { named = h.named; each = fields_there h.serves.entries b.2.exports (fields_of g.1) h.serves.each b.2.each })
 
     -- the arguments of main's instantiation
     pub arguments_there : (xs : List CoreArgument) (gs : List (List ℕ × ImportInstance)) → AllZip (IsArgumentFor w earlier) xs gs →

@@ -25,7 +25,7 @@ use Rattle.comp_check.specs.declared.fault.CheckFault.TheVariants as checks
 use Rattle.comp_lists.proofs.Lists.{AllByRecursion-contains, AllByRecursion-weaker}
 use Rattle.comp_names.proofs.Judging.{not_distinct}
 use Rattle.comp_names.specs.NameForm.{IsFormed}
-use Rattle.comp_names.specs.Names.{StandsTwice, NamesOk}
+use Rattle.comp_names.specs.Names.{OccursTwice, NamesOk}
 use Rattle.comp_encoder.specs.Linking.{IsComposed, stated_imports, stated_exports}
 use Rattle.comp_encoder.specs.Outputs.{IsNameCause, IsOutputRefusal}
 use Rattle.comp_encoder.specs.declared.output.OutputFault.TheVariants as outputs
@@ -121,18 +121,18 @@ module _ (w : ComponentWorld) where
       here : Contains (def_import d ++ def_export d) name → Contains (extern_names (d ∷ ds)) name
       here i = Contains-append_left (def_extern_names d) (extern_names ds) name (subst (λ (ns : Names). Contains ns name) (sym (def_externs earlier d h.0)) i)
 
-never_twice : (name : List ℕ) (list : Names) → IsDistinct bytes_eq list → StandsTwice name list → ⊥
+never_twice : (name : List ℕ) (list : Names) → IsDistinct bytes_eq list → OccursTwice name list → ⊥
 never_twice name list apart twice = not_distinct name twice.before twice.between twice.after (subst (λ (ns : Names). IsDistinct bytes_eq ns) twice.parts apart)
 
 module _ (w : ComponentWorld) (ds : List Def) (valid : IsWorld w) (built : IsBuilt w ds) (composed : IsComposed w ds) where
   -- what stands twice in a list of names is one of the stated ones
-  twice_stated : (name : List ℕ) (list : Names) → Contains (names ds) list → StandsTwice name list → StandsTwice name (stated_imports w) ⊎ StandsTwice name (stated_exports w)
+  twice_stated : (name : List ℕ) (list : Names) → Contains (names ds) list → OccursTwice name list → OccursTwice name (stated_imports w) ⊎ OccursTwice name (stated_exports w)
   twice_stated name list there twice =
-      let P : Names → Type 0 = λ l. StandsTwice name l → StandsTwice name (stated_imports w) ⊎ StandsTwice name (stated_exports w) in
+      let P : Names → Type 0 = λ l. OccursTwice name l → OccursTwice name (stated_imports w) ⊎ OccursTwice name (stated_exports w) in
       AllByRecursion-contains P (names ds) list (
-        (λ t. inl (subst (λ (l : Names). StandsTwice name l) composed.imports t)),
+        (λ t. inl (subst (λ (l : Names). OccursTwice name l) composed.imports t)),
         (
-          (λ t. inr (subst (λ (l : Names). StandsTwice name l) composed.exports t)),
+          (λ t. inr (subst (λ (l : Names). OccursTwice name l) composed.exports t)),
           AllByRecursion-weaker (λ l apart t. absurd (never_twice name l apart t)) (flat_map def_names ds) (lists_apart w valid [] ds built.right),
         ),
       ) there twice

@@ -28,8 +28,8 @@ module _ {L B F : Type 0} (l : lower.Ghosts L B F) where
   from_output e w (outputs.Check (checks.NameTwice name)) is h = (h.0, subst (λ x. IsNameCause x (checks.NameTwice name)) is.prepared h.1)
   from_output e w (outputs.Check (checks.NameForm name)) is h = (h.0, subst (λ x. IsNameCause x (checks.NameForm name)) is.prepared h.1)
 
-  pub none_stands : (e : Encoder L B) (w : ComponentWorld) → IsWorldOf l e w → NoWorldCause l e → NoOutputCause w e.gathered.options.validate → NoEncodeCause l e
-  none_stands e w is none output = record { world = none; output = subst (λ x. NoOutputCause x e.gathered.options.validate) is.prepared output }
+  pub no_cause_holds : (e : Encoder L B) (w : ComponentWorld) → IsWorldOf l e w → NoWorldCause l e → NoOutputCause w e.gathered.options.validate → NoEncodeCause l e
+  no_cause_holds e w is none output = record { world = none; output = subst (λ x. NoOutputCause x e.gathered.options.validate) is.prepared output }
 
 pub refused_as : {X E : Type 0} (r : Result X E) (e : E) (P : E → Type 0) → IsErrAnd r (λ x. x ≡ e) → P e → IfErr r P
 refused_as (Ok x) e P h k = absurd h

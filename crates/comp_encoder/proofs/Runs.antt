@@ -41,13 +41,13 @@ use Rattle.comp_encoder.specs.Meeting.{IsCoreExport, Meets, MeetsIn}
 use Rattle.comp_encoder.specs.Linking.{def_module, def_instantiates, IsComposed, module_meanings, outcome, questions, LetsRun, IsServed, IsProvided, IsLinked, Links}
 use Rattle.comp_encoder.proofs.Zips.{filter-all, found-each, found-listed, each_listed, map-map, flat_map-marked}
 use Rattle.comp_encoder.proofs.Stores.{IsServedAs, IsPlanned, IsPlannedUser, IsMainExport, IsLiftedExport, Agrees}
-use Rattle.comp_encoder.proofs.Steps.{machine, IsGood, asks, Steps, step_type, step_import, step_lower, step_lift, step_bag, step_alias, step_export, step_module, step_custom, step_instantiate}
+use Rattle.comp_encoder.proofs.Steps.{machine, IsGood, asks, Steps, step_type, step_import, step_lower, step_lift, step_inline_instance, step_alias, step_export, step_module, step_custom, step_instantiate}
 
 module _ {w : ComponentWorld} {earlier : List Def} {c : Scope} {s : Store} (a : Agrees w earlier c s) where
   step : IsWorld w → (d : Def) → IsRight w earlier d → Steps w earlier c s d
   step ok (defs.Item (items.CoreModule bytes)) h = step_module a bytes
   step ok (defs.Item (items.CoreInstantiate number arguments)) h = step_instantiate a ok number arguments h
-  step ok (defs.Item (items.CoreExports entries)) h = step_bag a entries h
+  step ok (defs.Item (items.CoreExports entries)) h = step_inline_instance a entries h
   step ok (defs.Item (items.Alias (aliases.CoreExport kinds.Func instance name))) h = step_alias a instance name h
   step ok (defs.Item (items.Type t)) h = subst (λ (t : TypeDef). Steps w earlier c s (defs.Item (items.Type t))) (sym h) (step_type a)
   step ok (defs.Item (items.Lift core options kind)) h =
@@ -71,7 +71,7 @@ resolves w ok earlier [] c s a h = (c, s, λ now. (refl, refl), rw append-nil a)
 resolves w ok earlier (d ∷ ds) c s a h =
     let one : Steps w earlier c s d = step a ok d h.0 in
     let all : Resolves w (earlier ++ d ∷ []) ds one.0 one.1 = resolves w ok (earlier ++ d ∷ []) ds one.0 one.1 one.3 h.1 in
-    (all.0, all.1, λ now. one.2.goes all.0 all.1 (asked_by ds) ds all.2 now, subst (λ l. Agrees w l all.0 all.1) (append_assoc earlier (d ∷ []) ds) all.3)
+    (all.0, all.1, λ now. one.2.continues all.0 all.1 (asked_by ds) ds all.2 now, subst (λ l. Agrees w l all.0 all.1) (append_assoc earlier (d ∷ []) ds) all.3)
 
 -- the answers of a run to the end
 asked-each : (ds : List Def) → asked_by ds ≡ map (λ (n : ℕ). []) (flat_map def_instantiates ds)
@@ -231,7 +231,7 @@ main_export w s address name h = record {
   of = record {
     instance = h.of.instance;
     world_module = record { of = Main; bytes = w.main.bytes; imports = core_imports w; exports = w.main.exports.exports };
-    stands = h.of.stands;
+    present = h.of.present;
     made_of = ap (slice_get (user_modules w)) h.of.of;
     same_module = refl;
     same_name = refl;
@@ -252,7 +252,7 @@ module _ (w : ComponentWorld) (m : Machine) (names : map (λ (e : Export). e.nam
   functions_all = filter-all (export_in spaces.Func) m.scope.exports (AllByRecursion-weaker (λ (e : Export) h. rw h.space refl) m.scope.exports lifted)
 
   provided : (key : WorldKey) → IsSome (core_name_of w key) → list_any (bytes_eq (name_of_key key)) (map name_of_key w.main_exports) ≡ true → IsProvided w m (Main, key)
-  provided key stands h =
+  provided key present h =
       let listed : list_any (bytes_eq (name_of_key key)) (map (λ (e : Export). e.name) m.scope.exports) ≡ true = subst (λ l. list_any (bytes_eq (name_of_key key)) l ≡ true) (sym names) h in
       let x : (e : Export) × (export_named (name_of_key key) m.scope.exports ≡ Some e) = found-listed (λ (e : Export). e.name) (name_of_key key) m.scope.exports listed in
       let is : (x.0.name ≡ name_of_key key) × IsLiftedExport w m.store x.0 = found-each (λ (e : Export). e.name) (IsLiftedExport w m.store) (name_of_key key) m.scope.exports x.0 lifted x.1 in
@@ -261,13 +261,13 @@ module _ (w : ComponentWorld) (m : Machine) (names : map (λ (e : Export). e.nam
         address = x.0.address;
         target = Lifted (record { of = Main; name = is.1.name }) [];
         found = ap (export_named (name_of_key key)) functions_all ∙ (x.1 ∙ ap (λ (e : Export). Some e) whole);
-        said = ap (option_map (λ n. Lifted (record { of = Main; name = n }) [])) (ap (core_name_of w) (named_key w key stands ∙ ap keys.Name (sym is.0))) ∙ is.1.said;
+        said = ap (option_map (λ n. Lifted (record { of = Main; name = n }) [])) (ap (core_name_of w) (named_key w key present ∙ ap keys.Name (sym is.0))) ∙ is.1.said;
         meets = record { function = Lifting is.1.is.core [] plain_function; is = is.1.is.is; meets = (main_export w m.store is.1.is.core is.1.name is.1.is.of, tt) };
       }
 
   provided_each : (required : List WorldKey) → AllByRecursion (IsRequired w) required → AllByRecursion (λ key. list_any (bytes_eq (name_of_key key)) (map name_of_key w.main_exports) ≡ true) required → AllByRecursion (IsProvided w m) (map (λ key. (Main, key)) required)
   provided_each [] r h = tt
-  provided_each (key ∷ required) r h = (let one = r.0 in provided key one.stands h.0, provided_each required r.1 h.1)
+  provided_each (key ∷ required) r h = (let one = r.0 in provided key one.present h.0, provided_each required r.1 h.1)
 
 -- what a run leads to is linked
 linked_at_end : (w : ComponentWorld) (ds : List Def) (m : Machine) → IsWorld w → IsBuilt w ds → Agrees w ds m.scope m.store → IsLinked w m

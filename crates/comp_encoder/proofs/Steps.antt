@@ -95,7 +95,7 @@ good_answered c s questions (Gives (v ∷ values) number ∷ answers) now m next
 
 -- a definition runs, and then the rest does from this scope and this store
 pub record Runs (w : ComponentWorld) (d : Def) (c : Scope) (s : Store) (c' : Scope) (s' : Store) : Type 0 where
-  pub goes : (e : Scope) (t : Store) (questions : List (List ValType)) (rest : List Def) → ((now : Now) → IsGood e t questions now.answers (run (module_meanings w) rest (machine c' s' now))) →
+  pub continues : (e : Scope) (t : Store) (questions : List (List ValType)) (rest : List Def) → ((now : Now) → IsGood e t questions now.answers (run (module_meanings w) rest (machine c' s' now))) →
       (now : Now) → IsGood e t (asks d ++ questions) now.answers (run (module_meanings w) (d ∷ rest) (machine c s now))
 
 abbrev pub Steps : ComponentWorld → List Def → Scope → Store → Def → Type 0
@@ -122,11 +122,11 @@ numbered-push k (x ∷ ts) n t h e = (h.0, numbered-push (suc k) ts n t h.1 e)
 -- an opaque function stands where it was put, and is what is known of it
 opaque_there : (item : CoreItem) (signature : FuncType) (s : Store) → IsOpaque (with_opaque item signature s) (length s.code.functions) item
 opaque_there item signature s =
-    record { what = length s.known; signature = signature; stands = slice_get-end s.code.functions (Opaque (length s.known) signature); known = slice_get-end s.known item }
+    record { what = length s.known; signature = signature; present = slice_get-end s.code.functions (Opaque (length s.known) signature); known = slice_get-end s.known item }
 
 -- a lowering of a plain function has the plain type
 plain_lowered : (m : Machine) (x : ℕ) → IsPlainFunction m.store x → lowered_signature m x [] ≡ Some (function_type [] [])
-plain_lowered m x h = ap (option_and_then (λ f. core_signature (type_of_function f) [])) h.stands ∙ ap (λ t. core_signature t []) h.plain
+plain_lowered m x h = ap (option_and_then (λ f. core_signature (type_of_function f) [])) h.present ∙ ap (λ t. core_signature t []) h.plain
 
 -- what main exports: functions, by the places of what is known of them, and by their addresses
 abbrev opaques : ℕ → List (List ℕ × WorldExport) → List Func
@@ -188,7 +188,7 @@ user_exports s user fs ks (e ∷ es) functions known =
         record {
           what = length ks;
           signature = function_type [] [];
-          stands = ap (λ l. slice_get l (length fs)) functions ∙ slice_get-middle fs o (opaques (suc (length ks)) es);
+          present = ap (λ l. slice_get l (length fs)) functions ∙ slice_get-middle fs o (opaques (suc (length ks)) es);
           known = ap (λ l. slice_get l (length ks)) known ∙ slice_get-middle ks item (of_user user es);
         },
       ),
@@ -274,7 +274,7 @@ module _ {w : ComponentWorld} {earlier : List Def} {c : Scope} {s : Store} (a : 
       } in (
         with_thing c t,
         s',
-        record { goes = λ e u questions rest h now. h now },
+        record { continues = λ e u questions rest h now. h now },
         agrees_plain (defs.Item (items.Type (types.Func plain_function))) s' t k (record { space = refl; is = slice_get-end s.types (FunctionType plain_function) }) refl refl refl refl refl,
       )
 
@@ -299,7 +299,7 @@ module _ {w : ComponentWorld} {earlier : List Def} {c : Scope} {s : Store} (a : 
       let y : (x : ℕ) × (address_at spaces.Type kind c.items ≡ Some x) × (slice_get s.types x ≡ Some (FunctionType plain_function)) = type_there h in (
         with_thing c t,
         s',
-        record { goes = λ e u questions rest g now. rw (y.1, y.2) (g now) },
+        record { continues = λ e u questions rest g now. rw (y.1, y.2) (g now) },
         agrees_plain d s' t k (record { space = refl; is = slice_get-end s.functions (Imported (name.name ∷ []) plain_function) }) refl refl refl refl refl,
       )
 
@@ -321,7 +321,7 @@ module _ {w : ComponentWorld} {earlier : List Def} {c : Scope} {s : Store} (a : 
       } in (
         with_thing c t,
         s',
-        record { goes = λ e u questions rest g now. rw (x.1, plain_lowered (machine c s now) x.0 x.2) (g now) },
+        record { continues = λ e u questions rest g now. rw (x.1, plain_lowered (machine c s now) x.0 x.2) (g now) },
         agrees_plain d s' t k
             (record { space = refl; is = record { of = x.0; at = address_at-append c.items (t ∷ []) spaces.Func function x.0 x.1; is = opaque_there item (function_type [] []) s } })
             refl refl refl refl refl,
@@ -345,12 +345,12 @@ module _ {w : ComponentWorld} {earlier : List Def} {c : Scope} {s : Store} (a : 
       } in (
         with_thing c t,
         s',
-        record { goes = λ e u questions rest g now. rw (x.1, y.1, y.2) (g now) },
+        record { continues = λ e u questions rest g now. rw (x.1, y.1, y.2) (g now) },
         agrees_plain d s' t k (record { space = refl; is = record { of = x.0; at = address_at-append c.items (t ∷ []) spaces.CoreFunc core x.0 x.1; is = slice_get-end s.functions (Lifting x.0 [] plain_function) } }) refl refl refl refl refl,
       )
 
-  pub step_bag : (entries : List CoreInlineExport) → AreEntries earlier entries → Steps w earlier c s (defs.Item (items.CoreExports entries))
-  step_bag entries h =
+  pub step_inline_instance : (entries : List CoreInlineExport) → AreEntries earlier entries → Steps w earlier c s (defs.Item (items.CoreExports entries))
+  step_inline_instance entries h =
       let d : Def = defs.Item (items.CoreExports entries) in
       let t : Thing = record { space = spaces.CoreInstance; address = length s.core_instances } in
       let found : (xs : List Export) × (all_some (map (core_entry (machine c s no_answers)) entries) ≡ Some xs) × AllZip (IsNamedEntry c.items) entries xs =
@@ -371,13 +371,13 @@ module _ {w : ComponentWorld} {earlier : List Def} {c : Scope} {s : Store} (a : 
       } in (
         with_thing c t,
         s',
-        record { goes = λ e u questions rest g now. rw found.1 (g now) },
+        record { continues = λ e u questions rest g now. rw found.1 (g now) },
         agrees_plain d s' t k
             (record {
               space = refl;
               is = record {
                 exports = found.0;
-                stands = slice_get-end s.core_instances found.0;
+                present = slice_get-end s.core_instances found.0;
                 each = AllZip-weaker (λ e x n. record { named = n.named; space = n.space; at = address_at-append c.items (t ∷ []) (kind_space e.kind) e.index x.address n.at }) entries found.0 found.2;
               };
             })
@@ -404,7 +404,7 @@ module _ {w : ComponentWorld} {earlier : List Def} {c : Scope} {s : Store} (a : 
       } in (
         with_thing c t,
         s,
-        record { goes = λ e u questions rest g now. rw (m.1, m.2.stands, x.1, is.1.0) (g now) },
+        record { continues = λ e u questions rest g now. rw (m.1, m.2.present, x.1, is.1.0) (g now) },
         agrees_plain d s t k
             (record {
               space = refl;
@@ -413,7 +413,7 @@ module _ {w : ComponentWorld} {earlier : List Def} {c : Scope} {s : Store} (a : 
                 exports = m.2.exports;
                 export = x.0;
                 at = address_at-append c.items (t ∷ []) spaces.CoreInstance instance m.0 m.1;
-                stands = m.2.stands;
+                present = m.2.present;
                 found = x.1;
                 is = refl;
               };
@@ -440,9 +440,9 @@ module _ {w : ComponentWorld} {earlier : List Def} {c : Scope} {s : Store} (a : 
       let text : name.name ≡ name_of_key h.key = ap (λ (n : ExternName). n.name) h.named in (
         c',
         s,
-        record { goes = λ e u questions rest g now. rw f.1 (g now) },
+        record { continues = λ e u questions rest g now. rw f.1 (g now) },
         agrees_with d c' s t refl k
-            (record { space = refl; is = (address_at-append c.items (t ∷ []) spaces.Func index f.0 f.1, record { function = Lifting f.2.core [] plain_function; stands = f.2.is; plain = refl }) })
+            (record { space = refl; is = (address_at-append c.items (t ∷ []) spaces.Func index f.0 f.1, record { function = Lifting f.2.core [] plain_function; present = f.2.is; plain = refl }) })
             (rw (filter-push (is_of spaces.CoreModule) false c.items t refl) a.modules)
             (sym (append-nil (map (λ (u : UserInstance). u.module_number) s.users)))
             a.served
@@ -466,7 +466,7 @@ module _ {w : ComponentWorld} {earlier : List Def} {c : Scope} {s : Store} (a : 
       } in (
         with_thing c t,
         s',
-        record { goes = λ e u questions rest g now. g now },
+        record { continues = λ e u questions rest g now. g now },
         agrees_with d (with_thing c t) s' t refl k (record { space = refl; is = tt })
             (rw (filter-push (is_of spaces.CoreModule) true c.items t refl, length-append s.core_modules (bytes ∷ []), add-one (length s.core_modules)) (numbered-push 0 (filter (is_of spaces.CoreModule) c.items) (length s.core_modules) t a.modules refl))
             (sym (append-nil (map (λ (u : UserInstance). u.module_number) s.users)))
@@ -480,7 +480,7 @@ module _ {w : ComponentWorld} {earlier : List Def} {c : Scope} {s : Store} (a : 
       let d : Def = defs.Item (items.Custom name contents) in (
         c,
         s,
-        record { goes = λ e u questions rest g now. g now },
+        record { continues = λ e u questions rest g now. g now },
         record {
           means = subst (λ ds. AllZip (Means w c.items s) ds c.items) (sym (filter-push makes false earlier d refl)) a.means;
           modules = a.modules;
@@ -530,7 +530,7 @@ module _ {w : ComponentWorld} {earlier : List Def} {c : Scope} {s : Store} (a : 
         with_thing c t,
         s',
         record {
-          goes = λ e u questions rest g now. rw (first_address scoped, args.1, given.1) (
+          continues = λ e u questions rest g now. rw (first_address scoped, args.1, given.1) (
               good_answered e u questions now.answers (seen now (Instantiated 0)) (machine c s now) _
               (λ values after. subst (λ (m : Machine). IsGood e u questions after.answers (run (module_meanings w) rest m)) (sym (new after)) (g after)));
         },
@@ -540,8 +540,8 @@ module _ {w : ComponentWorld} {earlier : List Def} {c : Scope} {s : Store} (a : 
               is = record {
                 exports = own;
                 user = user;
-                stands = slice_get-end s.core_instances own;
-                is = record { instance = instance; stands = slice_get-end s.users instance; of = refl };
+                present = slice_get-end s.core_instances own;
+                is = record { instance = instance; present = slice_get-end s.users instance; of = refl };
                 names = export_names (length s.code.functions) es;
                 each = user_exports s' user s.code.functions s.known es refl refl;
               };

@@ -38,14 +38,14 @@ IsUserExport s user e = (e.space ≡ spaces.CoreFunc) × IsOpaque s e.address (O
 -- the user instance of this number is one of this module
 pub record IsInstanceOf (s : Store) (user number : ℕ) : Type 0 where
   pub instance : UserInstance
-  pub stands : slice_get s.users user ≡ Some instance
+  pub present : slice_get s.users user ≡ Some instance
   pub of : instance.module_number ≡ number
 
 -- the core instance is a user instance of this module, with all that main exports
 pub record IsUserInstance (w : ComponentWorld) (s : Store) (number address : ℕ) : Type 0 where
   pub exports : List Export
   pub user : ℕ
-  pub stands : slice_get s.core_instances address ≡ Some exports
+  pub present : slice_get s.core_instances address ≡ Some exports
   pub is : IsInstanceOf s user number
   pub names : map (λ (e : Export). e.name) exports ≡ map (λ e. e.0) w.main.exports.exports
   pub each : AllByRecursion (IsUserExport s user) exports
@@ -56,9 +56,9 @@ pub record IsNamedEntry (things : List Thing) (e : CoreInlineExport) (x : Export
   pub space : x.space ≡ kind_space e.kind
   pub at : address_at (kind_space e.kind) e.index things ≡ Some x.address
 
-pub record IsBag (things : List Thing) (s : Store) (entries : List CoreInlineExport) (address : ℕ) : Type 0 where
+pub record IsInlineInstance (things : List Thing) (s : Store) (entries : List CoreInlineExport) (address : ℕ) : Type 0 where
   pub exports : List Export
-  pub stands : slice_get s.core_instances address ≡ Some exports
+  pub present : slice_get s.core_instances address ≡ Some exports
   pub each : AllZip (IsNamedEntry things) entries exports
 
 pub record IsLoweredItem (things : List Thing) (s : Store) (function address : ℕ) : Type 0 where
@@ -76,21 +76,21 @@ pub record IsAliasedItem (things : List Thing) (s : Store) (instance : ℕ) (nam
   pub exports : List Export
   pub export : Export
   pub at : address_at spaces.CoreInstance instance things ≡ Some from
-  pub stands : slice_get s.core_instances from ≡ Some exports
+  pub present : slice_get s.core_instances from ≡ Some exports
   pub found : export_named name exports ≡ Some export
   pub is : export.address ≡ address
 
 -- the function at this address is a plain one
 pub record IsPlainFunction (s : Store) (address : ℕ) : Type 0 where
   pub function : Function
-  pub stands : slice_get s.functions address ≡ Some function
+  pub present : slice_get s.functions address ≡ Some function
   pub plain : type_of_function function ≡ plain_function
 
 -- what stands at the address of a definition's item
 abbrev pub ItemIs : ComponentWorld → List Thing → Store → Item → ℕ → Type 0
 ItemIs w things s (items.CoreModule bytes) a = Unit {0}
 ItemIs w things s (items.CoreInstantiate number arguments) a = IsUserInstance w s 0 a
-ItemIs w things s (items.CoreExports entries) a = IsBag things s entries a
+ItemIs w things s (items.CoreExports entries) a = IsInlineInstance things s entries a
 ItemIs w things s (items.Alias (aliases.CoreExport kinds.Func instance name)) a = IsAliasedItem things s instance name a
 ItemIs w things s (items.Type t) a = slice_get s.types a ≡ Some (FunctionType plain_function)
 ItemIs w things s (items.Lift core options kind) a = IsLiftedItem things s core a
@@ -180,14 +180,14 @@ address_at-append a more space i x e =
 
 module _ {a b : List Thing} {s t : Store} (k : Keeps a b s t) where
   pub IsInstanceOf-kept : {user number : ℕ} → IsInstanceOf s user number → IsInstanceOf t user number
-  IsInstanceOf-kept {user} h = record { instance = h.instance; stands = k.users user h.instance h.stands; of = h.of }
+  IsInstanceOf-kept {user} h = record { instance = h.instance; present = k.users user h.instance h.present; of = h.of }
 
   pub IsOpaque-kept : {address : ℕ} {item : CoreItem} → IsOpaque s address item → IsOpaque t address item
   IsOpaque-kept {address} {item} h =
-      record { what = h.what; signature = h.signature; stands = k.code address (Opaque h.what h.signature) h.stands; known = k.known h.what item h.known }
+      record { what = h.what; signature = h.signature; present = k.code address (Opaque h.what h.signature) h.present; known = k.known h.what item h.known }
 
   IsPlainFunction-kept : (address : ℕ) → IsPlainFunction s address → IsPlainFunction t address
-  IsPlainFunction-kept address h = record { function = h.function; stands = k.functions address h.function h.stands; plain = h.plain }
+  IsPlainFunction-kept address h = record { function = h.function; present = k.functions address h.function h.present; plain = h.plain }
 
   exports-kept : (user : ℕ) (e : Export) → IsUserExport s user e → IsUserExport t user e
   exports-kept user e h = (h.0, IsOpaque-kept h.1)
@@ -210,7 +210,7 @@ module _ (w : ComponentWorld) {a b : List Thing} {s t : Store} (k : Keeps a b s 
   instance-kept number address h = record {
     exports = h.exports;
     user = h.user;
-    stands = k.instances address h.exports h.stands;
+    present = k.instances address h.exports h.present;
     is = IsInstanceOf-kept k h.is;
     names = h.names;
     each = AllByRecursion-weaker (exports-kept k h.user) h.exports h.each;
@@ -219,13 +219,13 @@ module _ (w : ComponentWorld) {a b : List Thing} {s t : Store} (k : Keeps a b s 
   item-kept : (i : Item) (x : ℕ) → ItemIs w a s i x → ItemIs w b t i x
   item-kept (items.CoreModule bytes) x h = tt
   item-kept (items.CoreInstantiate number arguments) x h = instance-kept 0 x h
-  item-kept (items.CoreExports entries) x h = record { exports = h.exports; stands = k.instances x h.exports h.stands; each = AllZip-weaker (entry-kept k) entries h.exports h.each }
+  item-kept (items.CoreExports entries) x h = record { exports = h.exports; present = k.instances x h.exports h.present; each = AllZip-weaker (entry-kept k) entries h.exports h.each }
   item-kept (items.Alias (aliases.CoreExport kinds.Func instance name)) x h = record {
     from = h.from;
     exports = h.exports;
     export = h.export;
     at = k.things spaces.CoreInstance instance h.from h.at;
-    stands = k.instances h.from h.exports h.stands;
+    present = k.instances h.from h.exports h.present;
     found = h.found;
     is = h.is;
   }

@@ -45,7 +45,7 @@ use Rattle.core_runs.specs.Values.{I32Value}
 use Rattle.core_runs.specs.Store.{Store as CodeStore, Func, Opaque, Cell, Foreign, Answer, Gives, Traps, Event, Instantiated, Called}
 use Rattle.core_runs.specs.Execution.{exec, acts}
 use Rattle.comp_shims.specs.Store.{Thing, Export, CoreItem, Lowering, IntrinsicOf, OfUser, Function, Imported, Lifting, UserInstance, Store}
-use Rattle.comp_bytes.specs.Places.{in_space}
+use Rattle.comp_bytes.specs.ItemIndices.{in_space}
 use Rattle.comp_state.specs.Facts.{plain_function, IsFunctionType, IsImported, IsLowered, IsArgumentFor, IsMain, IsLiftFor}
 use Rattle.std.specs.List.{IsDistinct}
 use Rattle.comp_state.specs.Rules.{IsBuilt}
@@ -218,8 +218,8 @@ b = 0x62 ∷ []
 abbrev two_twice : ComponentWorld
 two_twice = root_world core (f ∷ h ∷ []) (g ∷ k ∷ []) ((a, (f, f) ∷ (h, h) ∷ []) ∷ (b, (h, f) ∷ (f, h) ∷ []) ∷ []) ((k, g) ∷ (g, k) ∷ [])
 
-abbrev bag : List ℕ → ℕ → List ℕ → ℕ → Item
-bag name index name' index' = items.CoreExports (record { name = name; kind = kinds.Func; index = index } ∷ record { name = name'; kind = kinds.Func; index = index' } ∷ [])
+abbrev inline_instance : List ℕ → ℕ → List ℕ → ℕ → Item
+inline_instance name index name' index' = items.CoreExports (record { name = name; kind = kinds.Func; index = index } ∷ record { name = name'; kind = kinds.Func; index = index' } ∷ [])
 
 -- the list, where the two lowerings of the first module have these functions
 abbrev two_twice_defs : ℕ → ℕ → List Def
@@ -230,10 +230,10 @@ two_twice_defs first second = map defs.Item (
     ∷ items.CoreModule core
     ∷ items.Lower first []
     ∷ items.Lower second []
-    ∷ bag f 0 h 1
+    ∷ inline_instance f 0 h 1
     ∷ items.Lower 0 []
     ∷ items.Lower 1 []
-    ∷ bag h 2 f 3
+    ∷ inline_instance h 2 f 3
     ∷ items.CoreInstantiate 0 (record { name = a; instance = 0 } ∷ record { name = b; instance = 1 } ∷ [])
     ∷ items.Alias (aliases.CoreExport kinds.Func 2 k)
     ∷ items.Lift 4 [] 0
@@ -273,7 +273,7 @@ each_kind =
 abbrev core_items : Machine → List (List Export) × CodeStore × List CoreItem × List Cell
 core_items m = (m.store.core_instances, m.store.code, m.store.known, m.now.globals)
 
-pub each_kind_stands : core_items (new_user 0 each_kind [] (new_core_function (Lowering 0 []) plain_type (fresh_machine []))) ≡ (
+pub each_kind_exists : core_items (new_user 0 each_kind [] (new_core_function (Lowering 0 []) plain_type (fresh_machine []))) ≡ (
   (
       record { space = spaces.CoreFunc; name = f; address = 1 }
       ∷ record { space = spaces.CoreMemory; name = g; address = 0 }
@@ -290,7 +290,7 @@ pub each_kind_stands : core_items (new_user 0 each_kind [] (new_core_function (L
   Lowering 0 [] ∷ OfUser 0 f ∷ OfUser 0 h ∷ OfUser 0 a ∷ [],
   Foreign 2 I64 ∷ [],
 )
-each_kind_stands = refl
+each_kind_exists = refl
 
 abbrev machine_of : Outcome → Option Machine
 machine_of (Done m) = Some m
@@ -312,7 +312,7 @@ what_of _ = 0
 another_function : (s : Store) → slice_get s.code.functions 0 ≡ Some (Opaque 0 plain_type) → slice_get s.known 0 ≡ Some (Lowering 1 []) → slice_get s.functions 1 ≡ Some (Imported (h ∷ []) plain_function) →
     CoreFunctionMeets two_twice s 0 (Lowered (OfRoot f) []) → ⊥
 another_function s code known functions m =
-    let opaque : Opaque m.is.what m.is.signature ≡ Opaque 0 plain_type = same_Some (Opaque m.is.what m.is.signature) (Opaque 0 plain_type) (sym m.is.stands ∙ code) in
+    let opaque : Opaque m.is.what m.is.signature ≡ Opaque 0 plain_type = same_Some (Opaque m.is.what m.is.signature) (Opaque 0 plain_type) (sym m.is.present ∙ code) in
     let same : m.item ≡ Lowering 1 [] = same_Some m.item (Lowering 1 []) (sym m.is.known ∙ (ap (slice_get s.known) (ap what_of opaque) ∙ known)) in
     let meets : CoreMeets two_twice s (Lowering 1 []) (Lowered (OfRoot f) []) = subst (λ x. CoreMeets two_twice s x (Lowered (OfRoot f) [])) same m.meets in
     let path : Imported (h ∷ []) plain_function ≡ Imported (f ∷ []) meets.0.type = same_Some (Imported (h ∷ []) plain_function) (Imported (f ∷ []) meets.0.type) (sym functions ∙ meets.0.is) in

@@ -1,6 +1,6 @@
 -- What the bytes that `encode` answers are (component model, binary format; explainer: component definitions).
 use Rattle.std.specs.Prelude.{ℕ, Bool, List, IsTrue}
-use Rattle.comp_bytes.specs.Grammar.{Spells}
+use Rattle.comp_bytes.specs.Grammar.{Encodes}
 use Rattle.comp_bytes.specs.Scopes.{Scoped}
 use Rattle.comp_bytes.specs.declared.def.Def.{Def}
 use Rattle.comp_names.specs.Names.{NamesOk}
@@ -14,7 +14,7 @@ use Rattle.comp_encoder.specs.Linking.{IsComposed, Links}
 -- `validate` is on, no name in it stands twice in its list, and those of imports and exports have their form.
 pub record IsComponentOf (w : ComponentWorld) (validate : Bool) (bytes : List ℕ) : Type 0 where
   pub defs : List Def
-  pub spells : Spells bytes defs
+  pub encodes : Encodes bytes defs
   pub scoped : Scoped defs
   pub composed : IsComposed w defs
   pub links : Links w defs

@@ -39,18 +39,18 @@ required_of (Some part) = part.required
 module _ {L B F : Type 0} (l : lower.Ghosts L B F) where
   -- an encoder that was given nothing
   abbrev pub fresh : L → Encoder L B
-  fresh layer = record { lower = layer; gathered = record { main = None; adapters = []; joint = l.empty_is layer; options = default_options } }
+  fresh layer = record { lower = layer; gathered = record { main = None; adapters = []; combined = l.empty_is layer; options = default_options } }
 
   -- What an accepted module leaves: it is main, its keys are required beside those of the modules
   -- that were accepted before it, and what it says is joined to what they said.
   abbrev pub after_module : Encoder L B → List ℕ → Encoder L B
   after_module e bytes =
       let decoded : List ℕ × B = l.decoded e.lower bytes in
-      let merged = l.merged e.lower e.gathered.joint decoded.1 in
+      let merged = l.merged e.lower e.gathered.combined decoded.1 in
       record e {
         gathered = record e.gathered {
           main = Some (record { bytes = decoded.0; own = decoded.1; required = required_of e.gathered.main ++ merged.exports });
-          joint = merged.joint;
+          combined = merged.combined;
         };
       }
 

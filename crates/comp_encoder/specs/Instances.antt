@@ -140,15 +140,15 @@ type_item (types.Resource (Some index)) m = option_map (λ (a : ℕ). OwnResourc
 type_item (types.Defined t) m = Some ValueType
 
 -- where the type of this index is one of functions
-abbrev pub goes_on_with_function_type : Option TypeItem → (FuncTypeDef → Outcome) → Outcome
-goes_on_with_function_type (Some (FunctionType f)) next = next f
-goes_on_with_function_type type next = Stuck
+abbrev pub continue_with_type_item : Option TypeItem → (FuncTypeDef → Outcome) → Outcome
+continue_with_type_item (Some (FunctionType f)) next = next f
+continue_with_type_item type next = Stuck
 
 abbrev pub type_at : ℕ → Machine → Option TypeItem
 type_at index m = option_and_then (slice_get m.store.types) (address_at spaces.Type index m.scope.items)
 
 abbrev pub with_function_type : ℕ → Machine → (FuncTypeDef → Outcome) → Outcome
-with_function_type index m next = goes_on_with_function_type (type_at index m) next
+with_function_type index m next = continue_with_type_item (type_at index m) next
 
 -- one export more
 abbrev pub announced : Space → List ℕ → ℕ → Machine → Machine

@@ -8,7 +8,7 @@ use Rattle.comp_bytes.specs.declared.types.FuncTypeDef.{FuncTypeDef}
 use Rattle.core_types.specs.declared.types.FuncType.{FuncType}
 use Rattle.core_runs.specs.Store.{Opaque}
 use Rattle.comp_worlds.specs.declared.world.ComponentWorld.{ComponentWorld}
-use Rattle.comp_shims.specs.Targets.{WorldFunction, OfRoot, OfInterface, ExportPlace, TargetOption, Realloc, Encoding, Async, PostReturn, Callback, Target, Lowered, ExportOf, Lifted}
+use Rattle.comp_shims.specs.Targets.{WorldFunction, OfRoot, OfInterface, ExportRef, TargetOption, Realloc, Encoding, Async, PostReturn, Callback, Target, Lowered, ExportOf, Lifted}
 use Rattle.comp_shims.specs.Store.{Thing, HeldOption, HeldEncoding, HeldRealloc, HeldPostReturn, HeldAsync, HeldCallback, CoreItem, Lowering, OfUser, Function, Imported, Lifting, UserInstance, Store}
 use Rattle.comp_state.specs.Modules.{WorldModule, user_modules}
 
@@ -18,35 +18,35 @@ path_of (OfRoot name) = name ∷ []
 path_of (OfInterface interface name) = interface ∷ name ∷ []
 
 -- the user instance of this number is one of this module, and this is the name
-pub record IsExportOf (w : ComponentWorld) (s : Store) (user : ℕ) (name : List ℕ) (place : ExportPlace) : Type 0 where
+pub record IsExportOf (w : ComponentWorld) (s : Store) (user : ℕ) (name : List ℕ) (export_ref : ExportRef) : Type 0 where
   pub instance : UserInstance
   pub world_module : WorldModule
-  pub stands : slice_get s.users user ≡ Some instance
+  pub present : slice_get s.users user ≡ Some instance
   pub made_of : slice_get (user_modules w) instance.module_number ≡ Some world_module
-  pub same_module : world_module.of ≡ place.of
-  pub same_name : name ≡ place.name
+  pub same_module : world_module.of ≡ export_ref.of
+  pub same_name : name ≡ export_ref.name
 
 -- the core function at this address is opaque, and is this item
 pub record IsOpaque (s : Store) (address : ℕ) (item : CoreItem) : Type 0 where
   pub what : ℕ
   pub signature : FuncType
-  pub stands : slice_get s.code.functions address ≡ Some (Opaque what signature)
+  pub present : slice_get s.code.functions address ≡ Some (Opaque what signature)
   pub known : slice_get s.known what ≡ Some item
 
 -- the core function at this address is this export
-pub record IsCoreExport (w : ComponentWorld) (s : Store) (address : ℕ) (place : ExportPlace) : Type 0 where
+pub record IsCoreExport (w : ComponentWorld) (s : Store) (address : ℕ) (export_ref : ExportRef) : Type 0 where
   pub user : ℕ
   pub name : List ℕ
   pub is : IsOpaque s address (OfUser user name)
-  pub of : IsExportOf w s user name place
+  pub of : IsExportOf w s user name export_ref
 
 -- an option is the same one, and a function that it names is the export that it should be
 abbrev pub MeetsOption : ComponentWorld → Store → HeldOption → TargetOption → Type 0
 MeetsOption w s (HeldEncoding e) (Encoding e') = e ≡ e'
 MeetsOption w s HeldAsync Async = Unit {0}
-MeetsOption w s (HeldRealloc function) (Realloc place) = IsCoreExport w s function place
-MeetsOption w s (HeldPostReturn function) (PostReturn place) = IsCoreExport w s function place
-MeetsOption w s (HeldCallback function) (Callback place) = IsCoreExport w s function place
+MeetsOption w s (HeldRealloc function) (Realloc export_ref) = IsCoreExport w s function export_ref
+MeetsOption w s (HeldPostReturn function) (PostReturn export_ref) = IsCoreExport w s function export_ref
+MeetsOption w s (HeldCallback function) (Callback export_ref) = IsCoreExport w s function export_ref
 MeetsOption w s _ _ = ⊥
 
 -- options are lists: as many, in one order
@@ -61,7 +61,7 @@ pub record IsImport (s : Store) (function : ℕ) (path : List (List ℕ)) : Type
 -- a core function meets a target
 abbrev pub CoreMeets : ComponentWorld → Store → CoreItem → Target → Type 0
 CoreMeets w s (Lowering function held) (Lowered of options) = IsImport s function (path_of of) × MeetOptions w s held options
-CoreMeets w s (OfUser user name) (ExportOf place) = IsExportOf w s user name place
+CoreMeets w s (OfUser user name) (ExportOf export_ref) = IsExportOf w s user name export_ref
 CoreMeets w s _ _ = ⊥
 
 -- a function meets a target: it lifts the core function that it should

@@ -4,7 +4,7 @@ use Rattle.std.specs.Prelude.{ℕ, Bool, List, ◌++◌, ⊤, ◌⊎◌, IsTrue,
 use Rattle.comp_check.specs.declared.fault.CheckFault.{CheckFault}
 use Rattle.comp_check.specs.declared.fault.CheckFault.TheVariants as checks
 use Rattle.comp_names.specs.NameForm.{IsFormed}
-use Rattle.comp_names.specs.Names.{StandsTwice}
+use Rattle.comp_names.specs.Names.{OccursTwice}
 use Rattle.comp_worlds.specs.declared.world.ComponentWorld.{ComponentWorld}
 use Rattle.comp_state.specs.Causes.{IsCause, LacksEncoding}
 use Rattle.comp_encoder.specs.Linking.{stated_imports, stated_exports}
@@ -13,7 +13,7 @@ use Rattle.comp_encoder.specs.declared.output.OutputFault.TheVariants as outputs
 
 -- what is wrong with the names of the stated imports and exports: one stands twice, or lacks its form
 abbrev pub IsNameCause : ComponentWorld → CheckFault → Type 0
-IsNameCause w (checks.NameTwice name) = StandsTwice name (stated_imports w) ⊎ StandsTwice name (stated_exports w)
+IsNameCause w (checks.NameTwice name) = OccursTwice name (stated_imports w) ⊎ OccursTwice name (stated_exports w)
 IsNameCause w (checks.NameForm name) = Contains (stated_imports w ++ stated_exports w) name × (IsFormed name → ⊥)
 IsNameCause w _ = ⊥
 

@@ -28,7 +28,7 @@ of_output (outputs.Check fault) = Output fault
 module _ {L B F : Type 0} (l : lower.Ghosts L B F) where
   -- why the lower layer refuses a module: its bytes, or what they say beside what was said before
   abbrev pub ModuleCause : Encoder L B → List ℕ → F → Type 0
-  ModuleCause e bytes f = l.decode_cause e.lower bytes f ⊎ l.merge_cause e.lower e.gathered.joint (l.decoded e.lower bytes).1 f
+  ModuleCause e bytes f = l.decode_cause e.lower bytes f ⊎ l.merge_cause e.lower e.gathered.combined (l.decoded e.lower bytes).1 f
 
   -- a refusal of a module is memory, or has its cause
   abbrev pub IsModuleRefusal : Encoder L B → List ℕ → EncodeFault F → Type 0

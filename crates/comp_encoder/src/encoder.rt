@@ -59,14 +59,14 @@ impl<L: Lower> ComponentEncoder<L> {
     pub fn new(alloc: Global, lower: L) -> ComponentEncoder<L>
         ensures { result ≡ fresh L.Lower lower }
     {
-        let joint = lower.empty(alloc);
+        let combined = lower.empty(alloc);
         ComponentEncoder {
             alloc,
             lower,
             gathered: Gathered {
                 main: None,
                 adapters: Keyed::new(alloc),
-                joint,
+                combined,
                 options: EncoderOptions {
                     validate: false,
                     debug_names: false,
@@ -127,7 +127,7 @@ impl<L: Lower> ComponentEncoder<L> {
             .map_err(|f| fault_of(&self.lower, f))?;
         let merged = self
             .lower
-            .merge(self.alloc, &self.gathered.joint, &own)
+            .merge(self.alloc, &self.gathered.combined, &own)
             .map_err(|f| fault_of(&self.lower, f))?;
         match &mut self.gathered.main {
             Some(part) => {
@@ -143,7 +143,7 @@ impl<L: Lower> ComponentEncoder<L> {
                 });
             }
         }
-        self.gathered.joint = merged.joint;
+        self.gathered.combined = merged.combined;
         Ok(())
     }
 

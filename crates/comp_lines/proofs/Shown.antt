@@ -4,9 +4,9 @@ use Rattle.std.specs.Prelude.{IfErr, ◌<◌, ◌^◌}
 use Rattle.std.specs.List.{flat_map}
 use Rattle.std.proofs.lemmas.Grind.{flat_map-append}
 use Rattle.comp_lists.proofs.Lists.{AllByRecursion-front, AllByRecursion-back, AllByRecursion-contains}
-use Rattle.byte_encoding.specs.Spelling.{Spelling, Fits, each}
+use Rattle.byte_encoding.specs.Encoding.{Encoding, Fits, each}
 use Rattle.comp_bytes.specs.Sections.{Entry, Section, shares, first_id, section, contents, component}
-use Rattle.comp_bytes.specs.Grammar.{item, definition, extern_name, description_bytes, Spells}
+use Rattle.comp_bytes.specs.Grammar.{item, definition, extern_name, description_bytes, Encodes}
 use Rattle.byte_encoding.specs.Written.{Refused}
 use Rattle.comp_bytes.specs.declared.def.Item.{Item}
 use Rattle.comp_bytes.specs.declared.def.Item.TheVariants as items
@@ -31,11 +31,11 @@ flat_fits : {A : Type 0} (p q : A → List ℕ) → ((x : A) → Fits (p x) → 
 flat_fits p q f [] h = tt
 flat_fits p q f (x ∷ xs) h = fits_both (q x) (flat_map q xs) (f x (fits_front (p x) (flat_map p xs) h)) (flat_fits p q f xs (fits_back (p x) (flat_map p xs) h))
 
-contents_fit : (shared : Bool) (texts : List Spelling) → Fits (contents (λ t. t) shared texts).counts → Fits (flat_map (λ t. t.counts) texts)
+contents_fit : (shared : Bool) (texts : List Encoding) → Fits (contents (λ t. t) shared texts).counts → Fits (flat_map (λ t. t.counts) texts)
 contents_fit true texts h = h.1
 contents_fit false texts h = h
 
-section_fits : (id : ℕ) (texts : List Spelling) → Fits (section (record { id = id; texts = texts })).counts → Fits (flat_map (λ t. t.counts) texts)
+section_fits : (id : ℕ) (texts : List Encoding) → Fits (section (record { id = id; texts = texts })).counts → Fits (flat_map (λ t. t.counts) texts)
 section_fits id texts h = contents_fit (shares id) texts h.1
 
 counts_of : {A : Type 0} (f : A → Entry) (xs : List A) → flat_map (λ t. t.counts) (map (λ e. e.text) (map f xs)) ≡ flat_map (λ x. (f x).text.counts) xs
@@ -77,12 +77,12 @@ definition_fits : (d : Def) → Fits (definition d).text.counts → Fits (shown_
 definition_fits (defs.Item i) h = item_fits i h
 definition_fits (defs.Component inner) h = flat_fits (λ i. (item i).text.counts) (λ i. (shown i).counts) item_fits inner (component_fits item inner h)
 
-pub spelled_fits : (bytes : List ℕ) (ds : List Def) → Spells bytes ds → Fits (flat_map shown_counts ds)
-spelled_fits bytes ds h = flat_fits (λ d. (definition d).text.counts) shown_counts definition_fits ds (component_fits definition ds h.0)
+pub encoded_fits : (bytes : List ℕ) (ds : List Def) → Encodes bytes ds → Fits (flat_map shown_counts ds)
+encoded_fits bytes ds h = flat_fits (λ d. (definition d).text.counts) shown_counts definition_fits ds (component_fits definition ds h.0)
 
 -- a refusal of what is spelled is want of memory
-pub only_memory : {A : Type 0} (ds : List Def) (r : Result A BuildFault) → IfErr r (Refused (flat_map shown_counts ds)) → IfErr r (λ e. (bytes : List ℕ) → Spells bytes ds → e ≡ Memory)
+pub only_memory : {A : Type 0} (ds : List Def) (r : Result A BuildFault) → IfErr r (Refused (flat_map shown_counts ds)) → IfErr r (λ e. (bytes : List ℕ) → Encodes bytes ds → e ≡ Memory)
 only_memory ds (Ok x) h = tt
 only_memory ds (Err Memory) h = λ bytes s. refl
 only_memory ds (Err (TooMany n)) h =
-    λ bytes s. let small : n < 2 ^ 32 = AllByRecursion-contains (λ m. m < 2 ^ 32) (flat_map shown_counts ds) n (spelled_fits bytes ds s) h.1 in absurd (omega (arith, small, h.0))
+    λ bytes s. let small : n < 2 ^ 32 = AllByRecursion-contains (λ m. m < 2 ^ 32) (flat_map shown_counts ds) n (encoded_fits bytes ds s) h.1 in absurd (omega (arith, small, h.0))

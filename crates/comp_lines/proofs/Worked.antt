@@ -1,7 +1,7 @@
 -- Worked examples: the lines of a component that imports a function and exports another, and a line of each form.
 use Rattle.std.proofs.Common.{◌≡◌, List, [], ◌∷◌, ◌++◌, refl, codes, replicate, Some, None, false, map}
 use Rattle.std.specs.Fmt.{digits}
-use Rattle.byte_encoding.specs.Spelling.{leb128}
+use Rattle.byte_encoding.specs.Encoding.{leb128}
 use Rattle.standard_kinds.specs.declared.kinds.ExportKind.TheVariants as kinds
 use Rattle.comp_bytes.specs.declared.space.ComponentExportKind.TheVariants as exports
 use Rattle.comp_bytes.specs.declared.space.Sort.TheVariants as sorts
@@ -27,7 +27,7 @@ use Rattle.comp_lines.specs.Lines.{lines, item_line, made}
 pub counted : (s : Space) (ds : List Def) → made space_of (Some s) ds ≡ items_in s ds
 counted s ds = refl
 
-pub told : lines (one_import_one_export ++ defs.Item (items.Custom (codes "component-name") (replicate 47 0)) ∷ []) ≡
+pub printed : lines (one_import_one_export ++ defs.Item (items.Custom (codes "component-name") (replicate 47 0)) ∷ []) ≡
     codes "type 0 = 40000100"
     ∷ codes "func 0 = import \"f\" 0100"
     ∷ codes "core-module 0 = 44 bytes"
@@ -40,7 +40,7 @@ pub told : lines (one_import_one_export ++ defs.Item (items.Custom (codes "compo
     ∷ codes "custom \"component-name\" 47 bytes"
     ∷ []
 unfolding digits leb128
-told = refl
+printed = refl
 
 -- definitions in a component have indices of their own
 pub nested : lines (defs.Item function ∷ defs.Component (function ∷ items.Alias (aliases.Outer 1 0) ∷ []) ∷ defs.Item function ∷ []) ≡

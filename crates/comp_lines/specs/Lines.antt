@@ -3,7 +3,7 @@
 use Rattle.std.specs.Prelude.{ℕ, List, [], ◌∷◌, ◌++◌, length, codes, Option, Some, None, count_by}
 use Rattle.std.specs.List.{flat_map}
 use Rattle.std.specs.Fmt.{decimal}
-use Rattle.byte_encoding.specs.Spelling.{Spelling, raw}
+use Rattle.byte_encoding.specs.Encoding.{Encoding, raw}
 use Rattle.comp_bytes.specs.Grammar.{type_def, instance_type, intrinsic_bytes, description_bytes}
 use Rattle.comp_bytes.specs.Spaces.{is_space, item_space, space_of, sort_space}
 use Rattle.standard_kinds.specs.declared.kinds.ExportKind.{ExportKind}
@@ -76,7 +76,7 @@ alias (aliases.CoreExport kind instance name) = codes "alias " ++ decimal instan
 alias (aliases.Outer count index) = codes "outer " ++ decimal count ++ codes " " ++ decimal index
 
 -- the bytes that are shown as they stand in the definition's section
-abbrev pub shown : Item → Spelling
+abbrev pub shown : Item → Encoding
 shown (items.Type t) = type_def t
 shown (items.InstanceType t) = instance_type t
 shown (items.Intrinsic i) = intrinsic_bytes i

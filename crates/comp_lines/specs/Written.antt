@@ -1,6 +1,6 @@
 -- What a call that writes at the end of a text answers, and what it may refuse.
 use Rattle.std.specs.Prelude.{ℕ, ◌≡◌, List, ◌++◌, Result, Ok, Err}
-use Rattle.byte_encoding.specs.Spelling.{Fits}
+use Rattle.byte_encoding.specs.Encoding.{Fits}
 use Rattle.byte_encoding.specs.Written.{Refused}
 use Rattle.byte_encoding.specs.declared.fault.BuildFault.{BuildFault}
 

@@ -10,9 +10,9 @@ ghost use Rattle.comp_lines.specs.Lines.{space_word, core_export, option, extern
 ghost use Rattle.comp_lines.specs.Written.{Puts};
 ghost use Rattle.comp_bytes.specs.declared.space.Space.TheVariants.{Component};
 
-use crate::parts::{Told, put_each, put_extern, put_item, put_numbered};
+use crate::parts::{Printable, put_each, put_extern, put_item, put_numbered};
 use crate::texts::{put_hex, put_number, put_quoted};
-use byte_encoding::{BuildFault, Spell, spelled};
+use byte_encoding::{BuildFault, Encode, encoded};
 use comp_bytes::{
     Alias, CanonicalOption, CoreInlineExport, Description, ExternName, Intrinsic, Item, Sort, Space,
     space_of_kind,
@@ -30,7 +30,7 @@ fn put_size(out: &mut String, bytes: usize) -> Result<(), BuildFault>
 }
 
 /// Writes a word, a number and each of some values.
-fn put_with_each<T: Told>(
+fn put_with_each<T: Printable>(
     out: &mut String,
     word: &str,
     number: u32,
@@ -44,7 +44,7 @@ fn put_with_each<T: Told>(
 }
 
 /// Writes what is instantiated, and what it is given.
-fn put_instantiate<T: Told>(out: &mut String, made: u32, args: &Seq<T>) -> Result<(), BuildFault>
+fn put_instantiate<T: Printable>(out: &mut String, made: u32, args: &Seq<T>) -> Result<(), BuildFault>
     ensures { Puts (string_bytes out.old) (string_bytes out.new) result (codes "instantiate " ++ decimal made ++ flat_map T.text args.now) [] }
 {
     put_with_each(out, "instantiate ", made, args.as_slice())
@@ -101,10 +101,10 @@ fn put_lift(
 }
 
 /// Writes the bytes that spell a value.
-fn put_spelled<T: Spell>(alloc: Global, out: &mut String, value: &T) -> Result<(), BuildFault>
-    ensures { Puts (string_bytes out.old) (string_bytes out.new) result (hex (T.spelling value.now).bytes) (T.spelling value.now).counts }
+fn put_encoded<T: Encode>(alloc: Global, out: &mut String, value: &T) -> Result<(), BuildFault>
+    ensures { Puts (string_bytes out.old) (string_bytes out.new) result (hex (T.encoding value.now).bytes) (T.encoding value.now).counts }
 {
-    let bytes = spelled(alloc, value)?;
+    let bytes = encoded(alloc, value)?;
     put_hex(out, bytes.as_slice())?;
     Ok(())
 }
@@ -113,7 +113,7 @@ fn put_intrinsic(alloc: Global, out: &mut String, intrinsic: &Intrinsic) -> Resu
     ensures { Puts (string_bytes out.old) (string_bytes out.new) result (codes "canon " ++ hex (intrinsic_bytes intrinsic.now).bytes) (intrinsic_bytes intrinsic.now).counts }
 {
     out.push_str("canon ")?;
-    put_spelled(alloc, out, intrinsic)?;
+    put_encoded(alloc, out, intrinsic)?;
     Ok(())
 }
 
@@ -128,7 +128,7 @@ fn put_import(
     out.push_str("import ")?;
     put_extern(out, name)?;
     out.push_str(" ")?;
-    put_spelled(alloc, out, description)?;
+    put_encoded(alloc, out, description)?;
     Ok(())
 }
 
@@ -162,8 +162,8 @@ fn put_made_of(alloc: Global, out: &mut String, item: &Item) -> Result<(), Build
         Item::CoreExports(exports) => put_exports(out, exports.as_slice()),
         Item::Instantiate { component, args } => put_instantiate(out, *component, args),
         Item::Alias(aliased) => put_alias(out, aliased),
-        Item::Type(ty) => put_spelled(alloc, out, ty),
-        Item::InstanceType(ty) => put_spelled(alloc, out, ty),
+        Item::Type(ty) => put_encoded(alloc, out, ty),
+        Item::InstanceType(ty) => put_encoded(alloc, out, ty),
         Item::Lift { func, options, ty } => put_lift(out, *func, options.as_slice(), *ty),
         Item::Lower { func, options } => put_with_each(out, "lower ", *func, options.as_slice()),
         Item::Intrinsic(intrinsic) => put_intrinsic(alloc, out, intrinsic),

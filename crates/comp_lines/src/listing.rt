@@ -2,9 +2,9 @@
 
 ghost use Rattle.std.specs.Prelude.{◌≡◌, ◌+◌, ◌-◌, ◌^◌, ◌<◌, [], ◌∷◌, ◌++◌, IfErr, IfOk, OnOk, string_bytes, map, length, get_or, List, ℕ, Option, Some, None, if◌then◌else◌};
 ghost use Rattle.std.specs.List.{flat_map};
-ghost use Rattle.comp_bytes.specs.Spaces.{place, is_space, item_space, space_of};
-ghost use Rattle.byte_encoding.specs.Spelling.{Fits};
-ghost use Rattle.comp_bytes.specs.Grammar.{Spells};
+ghost use Rattle.comp_bytes.specs.Spaces.{ordinal, is_space, item_space, space_of};
+ghost use Rattle.byte_encoding.specs.Encoding.{Fits};
+ghost use Rattle.comp_bytes.specs.Grammar.{Encodes};
 ghost use Rattle.byte_encoding.specs.Written.{Refused};
 ghost use Rattle.comp_bytes.specs.declared.space.Space.{Space};
 ghost use Rattle.comp_bytes.specs.declared.def.Def.TheVariants as defs;
@@ -19,23 +19,23 @@ use std::alloc::Global;
 type Counters = [u64; 10];
 
 /// The place of a space in that order.
-fn place_of(space: Space) -> usize
-    ensures { result ≡ place space }
+fn space_index(space: Space) -> usize
+    ensures { result ≡ ordinal space }
 {
     space as usize
 }
 
 /// The count of a space, which is then one more; 0 for none.
 fn count(counters: &mut Counters, space: Option<Space>) -> u64
-    requires { (s : Space) → get_or counters.old (place s) 0 < 2 ^ 64 - 1 }
-    ensures result { result ≡ elim space [ None ↦ 0 | Some s ↦ get_or counters.old (place s) 0 ] }
-    ensures counted { (s : Space) → get_or counters.new (place s) 0 ≡ get_or counters.old (place s) 0 + (if is_space s space then 1 else 0) }
+    requires { (s : Space) → get_or counters.old (ordinal s) 0 < 2 ^ 64 - 1 }
+    ensures result { result ≡ elim space [ None ↦ 0 | Some s ↦ get_or counters.old (ordinal s) 0 ] }
+    ensures counted { (s : Space) → get_or counters.new (ordinal s) 0 ≡ get_or counters.old (ordinal s) 0 + (if is_space s space then 1 else 0) }
 {
     match space {
         None => 0,
         Some(space) => {
-            let index = counters[place_of(space)];
-            counters[place_of(space)] = index + 1;
+            let index = counters[space_index(space)];
+            counters[space_index(space)] = index + 1;
             index
         }
     }
@@ -176,7 +176,7 @@ pub fn describe(alloc: Global, definitions: &Defs) -> Result<Vec<String>, BuildF
     ensures ok { IfOk result (λ found. map string_bytes found.items ≡ lines definitions.now) }
     ensures fits { OnOk result (Fits (flat_map shown_counts definitions.now)) }
     ensures refused { IfErr result (Refused (flat_map shown_counts definitions.now)) }
-    ensures memory { IfErr result (λ e. (bytes : List ℕ) → Spells bytes definitions.now → e ≡ BuildFault.Memory) }
+    ensures memory { IfErr result (λ e. (bytes : List ℕ) → Encodes bytes definitions.now → e ≡ BuildFault.Memory) }
 {
     let mut out = Vec::new(alloc);
     put_scope(alloc, definitions.as_slice(), &mut out)?;

@@ -84,14 +84,14 @@ pub(crate) fn put_extern(out: &mut String, name: &ExternName) -> Result<(), Allo
 }
 
 /// A value that stands one way in a line.
-pub(crate) trait Told {
+pub(crate) trait Printable {
     ghost text: { Self → List ℕ };
 
     fn put(&self, out: &mut String) -> Result<(), AllocError>
         ensures { OnOk result (string_bytes out.new ≡ string_bytes out.old ++ text self.now) };
 }
 
-pub(crate) fn put_each<T: Told>(out: &mut String, items: &[T]) -> Result<(), AllocError>
+pub(crate) fn put_each<T: Printable>(out: &mut String, items: &[T]) -> Result<(), AllocError>
     ensures { OnOk result (string_bytes out.new ≡ string_bytes out.old ++ flat_map T.text items.now) }
 {
     for item in items {
@@ -100,7 +100,7 @@ pub(crate) fn put_each<T: Told>(out: &mut String, items: &[T]) -> Result<(), All
     Ok(())
 }
 
-impl Told for CoreArgument {
+impl Printable for CoreArgument {
     ghost text = { core_argument };
 
     fn put(&self, out: &mut String) -> Result<(), AllocError> {
@@ -110,7 +110,7 @@ impl Told for CoreArgument {
     }
 }
 
-impl Told for CoreInlineExport {
+impl Printable for CoreInlineExport {
     ghost text = { core_export };
 
     fn put(&self, out: &mut String) -> Result<(), AllocError> {
@@ -121,7 +121,7 @@ impl Told for CoreInlineExport {
     }
 }
 
-impl Told for Argument {
+impl Printable for Argument {
     ghost text = { argument };
 
     fn put(&self, out: &mut String) -> Result<(), AllocError> {
@@ -131,7 +131,7 @@ impl Told for Argument {
     }
 }
 
-impl Told for CanonicalOption {
+impl Printable for CanonicalOption {
     ghost text = { option };
 
     fn put(&self, out: &mut String) -> Result<(), AllocError> {

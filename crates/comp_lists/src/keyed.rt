@@ -82,7 +82,7 @@ impl<K: Eq + Hash + Drop, V: Drop> Keyed<K, V> {
 
     /// Adds an entry, unless its key has one, which is kept then. Where memory is refused, the table
     /// is as it was.
-    pub fn add_first(&mut self, key: K, value: V) -> Result<(), AllocError>
+    pub fn insert_if_absent(&mut self, key: K, value: V) -> Result<(), AllocError>
         ensures ok { OnOk result (self.new ≡ with_first K.eq self.old key value) }
         ensures err { OnErr result (self.new ≡ self.old) }
     {

@@ -33,11 +33,11 @@ fn a_list_grows_at_its_end(rt: HostRuntime) {
 
 /// What a map finds at an equal text.
 fn found_by_copy(alloc: Global, name: Text) -> Result<Option<u32>, AllocError> {
-    let mut places: HashMap<Text, u32> = HashMap::new(alloc);
+    let mut indices: HashMap<Text, u32> = HashMap::new(alloc);
     let copy = Some(name.clone(alloc)?).try_clone(alloc)?;
-    places.insert(name, 3)?;
+    indices.insert(name, 3)?;
     match copy {
-        Some(text) => Ok(places.get(&text).map(|place| *place)),
+        Some(text) => Ok(indices.get(&text).map(|index| *index)),
         None => Ok(None),
     }
 }
@@ -54,9 +54,9 @@ fn texts_are_keys(rt: HostRuntime) {
 /// The values of a table in its order, after an entry was kept and one was added at its end.
 fn kept_in_order(alloc: Global) -> Result<Seq<u32>, AllocError> {
     let mut table: Keyed<Text, u32> = Keyed::new(alloc);
-    table.add_first(Text::from_str(alloc, "b")?, 1)?;
-    table.add_first(Text::from_str(alloc, "b")?, 2)?;
-    table.add_first(Text::from_str(alloc, "a")?, 3)?;
+    table.insert_if_absent(Text::from_str(alloc, "b")?, 1)?;
+    table.insert_if_absent(Text::from_str(alloc, "b")?, 2)?;
+    table.insert_if_absent(Text::from_str(alloc, "a")?, 3)?;
     let mut values = Seq::new(alloc);
     if table.contains(&Text::from_str(alloc, "c")?) {
         return Ok(values);

@@ -12,8 +12,8 @@ first_fails is f first = (λ h. absurd (true≢false (sym h ∙ f)), λ p. first
 pub denied : {P A B : Type 0} {a : Bool} → P ↔ (A × B) → a ≡ false → IsTrue a ↔ A → IsTrue false ↔ P
 denied is f first = (λ h. absurd (true≢false (sym h)), λ p. absurd (true≢false (sym (first.1 (is.0 p).0) ∙ f)))
 
-pub goes_on : {P Q A B : Type 0} {a : Bool} → P ↔ Q → Q ↔ (A × B) → a ≡ true → IsTrue a ↔ A → P ↔ B
-goes_on same is t first = (λ p. (is.0 (same.0 p)).1, λ b. same.1 (is.1 (first.0 t, b)))
+pub continues : {P Q A B : Type 0} {a : Bool} → P ↔ Q → Q ↔ (A × B) → a ≡ true → IsTrue a ↔ A → P ↔ B
+continues same is t first = (λ p. (is.0 (same.0 p)).1, λ b. same.1 (is.1 (first.0 t, b)))
 
 pub same : {P A : Type 0} {a : Bool} → P ↔ A → IsTrue a ↔ A → IsTrue a ↔ P
 same is test = (λ h. is.1 (test.0 h), λ p. test.1 (is.0 p))

@@ -14,7 +14,7 @@ use Rattle.std.specs.Cmp.{IsEquivalence}
 use Rattle.comp_bytes.specs.ScopeNames.{Names}
 use Rattle.comp_names.specs.declared.fault.NameFault.{NameFault}
 use Rattle.comp_names.specs.declared.fault.NameFault.TheVariants as faults
-use Rattle.comp_names.specs.Names.{StandsTwice, IsFaultOf}
+use Rattle.comp_names.specs.Names.{OccursTwice, IsFaultOf}
 use Rattle.comp_names.specs.Judged.{IsMetBefore}
 
 pub looked_up : (test : List ℕ → Bool) (es : List (Bor (List ℕ) × Unit {0})) → is_some (lookup (λ b. test b.now) es) ≡ list_any test (map (λ e. e.0.now) es)
@@ -57,8 +57,8 @@ earlier name (m ∷ met) h = elim (cases_Bool (bytes_eq name m)) [
     later : (before : List (List ℕ)) × (between : List (List ℕ)) × (met ≡ before ++ name ∷ between) → (before : List (List ℕ)) × (between : List (List ℕ)) × (m ∷ met ≡ before ++ name ∷ between)
     later p = (m ∷ p.0, p.1, ap (λ t. m ∷ t) p.2)
 
-stands_twice : (name : List ℕ) (list met rest : Names) → list ≡ met ++ ((name ∷ []) ++ rest) → list_any (bytes_eq name) met ≡ true → StandsTwice name list
-stands_twice name list met rest e h =
+occurs_twice : (name : List ℕ) (list met rest : Names) → list ≡ met ++ ((name ∷ []) ++ rest) → list_any (bytes_eq name) met ≡ true → OccursTwice name list
+occurs_twice name list met rest e h =
     let p = earlier name met h in
     record { before = p.0; between = p.1; after = rest; parts = e ∙ ap (λ m. m ++ name ∷ rest) p.2 }
 
@@ -83,9 +83,9 @@ passes f xs i x met h l e none =
 
 pub refuses : {T : Type 0} (f : T → Names) (xs : List T) (i : ℕ) (x : T) (met : Names) (name : List ℕ) (fault : NameFault) → AreMet f xs i met → i < length xs → x ≡ get_or xs i x → f x ≡ name ∷ [] →
     IsMetBefore name met fault → IsFaultOf (flat_map f xs ∷ []) [] fault
-refuses f xs i x met name faults.Memory h l e is told = tt
-refuses f xs i x met name (faults.Twice n) h l e is told =
+refuses f xs i x met name faults.Memory h l e is reported = tt
+refuses f xs i x met name (faults.Twice n) h l e is reported =
     let p = front_and_rest f xs i x l e in
     let q = p.1 ∙ ap (λ t. flat_map f (take i xs) ++ (t ++ p.0)) is ∙ ap (λ m. m ++ ((name ∷ []) ++ p.0)) (sym h.0) in
-    (flat_map f xs, (0, omega arith, refl), subst (λ m. StandsTwice m (flat_map f xs)) (sym told.0) (stands_twice name (flat_map f xs) met p.0 q told.1))
-refuses f xs i x met name (faults.Form n) h l e is told = absurd told
+    (flat_map f xs, (0, omega arith, refl), subst (λ m. OccursTwice m (flat_map f xs)) (sym reported.0) (occurs_twice name (flat_map f xs) met p.0 q reported.1))
+refuses f xs i x met name (faults.Form n) h l e is reported = absurd reported

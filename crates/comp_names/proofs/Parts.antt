@@ -6,7 +6,7 @@ use Rattle.std.specs.List.{AllByRecursion}
 use Rattle.std.proofs.lemmas.List.{append_cancel_left}
 use Rattle.std.proofs.lemmas.Bool.{cases_Bool, eq-eqb, eqb-true}
 use Rattle.std.proofs.Common.{inl, inr}
-use Rattle.comp_names.specs.NameForm.{Joined, Behind}
+use Rattle.comp_names.specs.NameForm.{Joined, Prefixed}
 use Rattle.comp_names.specs.Cuts.{Lacks, IsCut, BeginsElse}
 
 pub all-append : {X : Type 0} (P : X → Type 0) (xs ys : List X) → AllByRecursion P xs → AllByRecursion P ys → AllByRecursion P (xs ++ ys)
@@ -63,12 +63,12 @@ joined_iff {Left} {Right} {mark} {text} {left} {right} lacks at = (there, λ p. 
 pub joined_nowhere : {Left Right : List ℕ → Type 0} (mark : ℕ) (text : List ℕ) → Lacks mark text → Joined Left mark Right text → ⊥
 joined_nowhere mark text lacks j = no_cut mark j.left j.right (subst (Lacks mark) j.parts lacks)
 
-pub behind_iff : {Rest : List ℕ → Type 0} (beginning text rest : List ℕ) → text ≡ beginning ++ rest → Behind beginning Rest text ↔ Rest rest
-behind_iff {Rest} beginning text rest e =
+pub prefixed_iff : {Rest : List ℕ → Type 0} (beginning text rest : List ℕ) → text ≡ beginning ++ rest → Prefixed beginning Rest text ↔ Rest rest
+prefixed_iff {Rest} beginning text rest e =
     (λ b. subst Rest (append_cancel_left beginning b.rest rest (sym b.parts ∙ e)) b.rest_is, λ r. record { rest = rest; parts = e; rest_is = r })
 
-pub behind_nowhere : {Rest : List ℕ → Type 0} (beginning text : List ℕ) → BeginsElse beginning text → Behind beginning Rest text → ⊥
-behind_nowhere beginning text none b = none b.rest b.parts
+pub prefixed_nowhere : {Rest : List ℕ → Type 0} (beginning text : List ℕ) → BeginsElse beginning text → Prefixed beginning Rest text → ⊥
+prefixed_nowhere beginning text none b = none b.rest b.parts
 
 pub some_cut : (mark : ℕ) (text : List ℕ) (r : Option (Bor (List ℕ) × Bor (List ℕ))) → IsSplitOnceResult mark text r → mark < 128 → IfSome r (λ s. IsCut mark text s.0.now s.1.now)
 some_cut mark text None h l = tt

@@ -19,5 +19,5 @@ Judges lists externs (Err fault) = IsFaultOf lists externs fault
 -- the fault of a name that was met before
 abbrev pub IsMetBefore : List ℕ → Names → NameFault → Type 0
 IsMetBefore name met faults.Memory = ⊤
-IsMetBefore name met (faults.Twice told) = (told ≡ name) × (list_any (bytes_eq name) met ≡ true)
-IsMetBefore name met (faults.Form told) = ⊥
+IsMetBefore name met (faults.Twice reported) = (reported ≡ name) × (list_any (bytes_eq name) met ≡ true)
+IsMetBefore name met (faults.Form reported) = ⊥

@@ -19,7 +19,7 @@ pub record Joined (Left : List ℕ → Type 0) (mark : ℕ) (Right : List ℕ �
   pub right_is : Right right
 
 -- a part behind a fixed beginning
-pub record Behind (beginning : List ℕ) (Rest : List ℕ → Type 0) (text : List ℕ) : Type 0 where
+pub record Prefixed (beginning : List ℕ) (Rest : List ℕ → Type 0) (text : List ℕ) : Type 0 where
   pub rest : List ℕ
   pub parts : text ≡ beginning ++ rest
   pub rest_is : Rest rest
@@ -68,11 +68,11 @@ pub record IsLabel (label : List ℕ) : Type 0 where
 -- ---- plain names
 
 abbrev pub IsConstructor : List ℕ → Type 0
-IsConstructor name = Behind (codes "[constructor]") IsLabel name
+IsConstructor name = Prefixed (codes "[constructor]") IsLabel name
 
 -- a function of a resource
 abbrev pub IsMember : List ℕ → List ℕ → Type 0
-IsMember kind name = Behind kind (Joined IsLabel dot IsLabel) name
+IsMember kind name = Prefixed kind (Joined IsLabel dot IsLabel) name
 
 abbrev pub IsPlainName : List ℕ → Type 0
 IsPlainName name = IsLabel name ⊎ IsConstructor name ⊎ IsMember (codes "[method]") name ⊎ IsMember (codes "[static]") name

@@ -33,7 +33,7 @@ NamesOk definitions = NamesApart definitions × AllByRecursion IsFormed (extern_
 
 -- ---- faults
 
-pub record StandsTwice (name : List ℕ) (list : Names) : Type 0 where
+pub record OccursTwice (name : List ℕ) (list : Names) : Type 0 where
   pub before : Names
   pub between : Names
   pub after : Names
@@ -42,7 +42,7 @@ pub record StandsTwice (name : List ℕ) (list : Names) : Type 0 where
 -- what a fault says of lists of names, and of names that are to have the form
 abbrev pub IsFaultOf : List Names → Names → NameFault → Type 0
 IsFaultOf lists externs faults.Memory = ⊤
-IsFaultOf lists externs (faults.Twice name) = (list : Names) × Contains lists list × StandsTwice name list
+IsFaultOf lists externs (faults.Twice name) = (list : Names) × Contains lists list × OccursTwice name list
 IsFaultOf lists externs (faults.Form name) = Contains externs name × (IsFormed name → ⊥)
 
 abbrev pub IsNameFault : List Def → NameFault → Type 0

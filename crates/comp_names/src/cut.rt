@@ -13,7 +13,7 @@ pub(crate) fn cut(text: &str, mark: char) -> Option<(&str, &str)>
 }
 
 /// What stands behind a beginning.
-pub(crate) fn behind<'a>(text: &'a str, beginning: &str) -> Option<&'a str>
+pub(crate) fn after_prefix<'a>(text: &'a str, beginning: &str) -> Option<&'a str>
     ensures some { IfSome result (λ rest. text.now ≡ beginning.now ++ rest.now) }
     ensures none { IfNone result (BeginsElse beginning.now text.now) }
 {

@@ -5,7 +5,7 @@
 ghost use Rattle.std.specs.Prelude.{◌↔◌, IsTrue, IfOk};
 ghost use Rattle.comp_names.specs.NameForm.{IsConstructor, IsMember, IsPlainName, IsUnversioned, Joined, at_sign, IsVersionText, IsFormed};
 
-use crate::cut::{behind, cut};
+use crate::cut::{after_prefix, cut};
 use crate::label::{is_label, is_pair};
 use crate::version::is_version_text;
 use std::alloc::{AllocError, Global};
@@ -13,7 +13,7 @@ use std::alloc::{AllocError, Global};
 fn is_constructor(name: &str) -> bool
     ensures { IsTrue result ↔ IsConstructor name.now }
 {
-    match behind(name, "[constructor]") {
+    match after_prefix(name, "[constructor]") {
         Some(resource) => is_label(resource),
         None => false,
     }
@@ -22,7 +22,7 @@ fn is_constructor(name: &str) -> bool
 fn is_member(kind: &str, name: &str) -> bool
     ensures { IsTrue result ↔ IsMember kind.now name.now }
 {
-    match behind(name, kind) {
+    match after_prefix(name, kind) {
         Some(pair) => is_pair('.', pair),
         None => false,
     }

@@ -13,9 +13,9 @@ pub fn lowering_adds_realloc()
 {}
 
 /// Whether as many options come as were told. They do.
-pub fn ends_as_told(options: Options) -> bool
+pub fn count_equals_len(options: Options) -> bool
     ensures { IsTrue result }
 {
-    let told = options.len();
-    options.count() == told
+    let reported = options.len();
+    options.count() == reported
 }

@@ -12,5 +12,5 @@
 mod laws;
 mod required;
 
-pub use laws::{ends_as_told, lowering_adds_realloc};
+pub use laws::{count_equals_len, lowering_adds_realloc};
 pub use required::{OptionFault, Options, RequiredOptions};

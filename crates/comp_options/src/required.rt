@@ -95,7 +95,7 @@ impl RequiredOptions {
     /// What a call of an imported function needs. It takes no memory.
     pub fn for_import(resolve: &Resolve, function: &Function, abi: AbiVariant) -> RequiredOptions
         requires sound { IsSound resolve.now }
-        requires stands { HasFunction resolve.now function.now }
+        requires present { HasFunction resolve.now function.now }
         ensures { result.0 ≡ import_set abi resolve.now.types function.now }
     {
         let mut set = pass_params(resolve, function.params.as_slice(), Direction::Lift);
@@ -113,7 +113,7 @@ impl RequiredOptions {
     /// asynchronous. It takes no memory.
     pub fn for_export(resolve: &Resolve, function: &Function, abi: AbiVariant) -> RequiredOptions
         requires sound { IsSound resolve.now }
-        requires stands { HasFunction resolve.now function.now }
+        requires present { HasFunction resolve.now function.now }
         ensures { result.0 ≡ export_set abi resolve.now.types function.now }
     {
         let mut set = pass_params(resolve, function.params.as_slice(), Direction::Lower);
@@ -134,7 +134,7 @@ impl RequiredOptions {
     /// What `task.return` of a function needs. It takes no memory.
     pub fn for_task_return(resolve: &Resolve, function: &Function) -> RequiredOptions
         requires sound { IsSound resolve.now }
-        requires stands { HasFunction resolve.now function.now }
+        requires present { HasFunction resolve.now function.now }
         ensures { result.0 ≡ task_return_set resolve.now.types function.now }
     {
         let set = RequiredOptions::for_import(resolve, function, AbiVariant::GuestImport);
@@ -149,7 +149,7 @@ impl RequiredOptions {
         async_: bool,
     ) -> RequiredOptions
         requires sound { IsSound resolve.now }
-        requires stands { HasPayload resolve.now info.now.ty }
+        requires present { HasPayload resolve.now info.now.ty }
         ensures { result.0 ≡ payload_set resolve.now.types info.now.ty kind.now async_ }
     {
         let mut set = RequiredOptions::empty();
@@ -219,19 +219,19 @@ enum Direction {
 /// What is needed to pass parameters one way.
 fn pass_params(resolve: &Resolve, params: &[Param], way: Direction) -> RequiredOptions
     requires sound { IsSound resolve.now }
-    requires stand { AllByRecursion (λ p. HasType resolve.now (Some p.ty)) params.now }
+    requires all_present { AllByRecursion (λ p. HasType resolve.now (Some p.ty)) params.now }
     ensures { result.0 ≡ pass_all way (param_contents resolve.now.types params.now) 0 }
 {
     let mut set = RequiredOptions::empty();
-    for place in 0..params.len() {
-        set.pass(way, resolve.type_contents(&params[place].ty));
+    for param_index in 0..params.len() {
+        set.pass(way, resolve.type_contents(&params[param_index].ty));
     }
     set
 }
 
 fn passes_memory(resolve: &Resolve, function: &Function, abi: AbiVariant) -> bool
     requires sound { IsSound resolve.now }
-    requires stands { HasFunction resolve.now function.now }
+    requires present { HasFunction resolve.now function.now }
     ensures { result ≡ passes_memory abi resolve.now.types function.now }
 {
     resolve.is_indirect(abi, function) || resolve.is_returned_in_memory(abi, function)
@@ -258,7 +258,7 @@ fn direction_of(kind: PayloadFuncKind) -> Direction
 /// What a stream or a future carries contains.
 fn payload_contents(resolve: &Resolve, payload: &PayloadType) -> TypeContents
     requires sound { IsSound resolve.now }
-    requires stands { HasPayload resolve.now payload.now }
+    requires present { HasPayload resolve.now payload.now }
     ensures { result.0 ≡ contents_bits resolve.now.types (carried resolve.now.types payload.now) }
 {
     match payload {

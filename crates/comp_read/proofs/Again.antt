@@ -6,9 +6,9 @@ use Rattle.std.proofs.lemmas.Bool.{eq-eqb, eqb-true, ne_eqb}
 use Rattle.std.proofs.lemmas.List.{append-nil, length-append}
 use Rattle.std.proofs.lemmas.Slice.Eq.{bytes_eq-Decides}
 use Rattle.core_types.specs.Core.{core_preamble}
-use Rattle.byte_encoding.specs.Spelling.{Spelling, Fits, ◌⊕◌, octet, leb, each, listed, sized}
+use Rattle.byte_encoding.specs.Encoding.{Encoding, Fits, ◌⊕◌, octet, leb, each, listed, sized}
 use Rattle.comp_bytes.specs.Sections.{Entry, Section, shares, before, sections, contents, section, component}
-use Rattle.comp_bytes.specs.Grammar.{item, definition, Spells}
+use Rattle.comp_bytes.specs.Grammar.{item, definition, Encodes}
 use Rattle.comp_bytes.specs.declared.def.Item.{Item}
 use Rattle.comp_bytes.specs.declared.def.Item.TheVariants as items
 use Rattle.comp_bytes.specs.declared.def.Def.{Def}
@@ -17,7 +17,7 @@ use Rattle.comp_bytes.proofs.Runs.{section_is}
 use Rattle.comp_bytes.proofs.Groups.{IsGroup, group_section, grouped}
 use Rattle.comp_read.specs.Reading.{number_at, items_at}
 use Rattle.comp_read.specs.ItemReaders.{item_at, counted_at, custom_at, module_at, contents_at}
-use Rattle.comp_read.specs.SectionReaders.{Placed, ◌>>>◌, told_at, Contents, repeats, header_at, section_at, sections_at, component_at, item_contents_at, definition_contents_at}
+use Rattle.comp_read.specs.SectionReaders.{ReadResult, ◌>>>◌, ok_or_at, Contents, repeats, header_at, section_at, sections_at, component_at, item_contents_at, definition_contents_at}
 use Rattle.comp_read.specs.Writable.{IsItem, IsDefinition, IsWritable}
 use Rattle.comp_read.proofs.Exact.{fits_left, fits_right, number_again, sized_exact, name_exact, items_again}
 use Rattle.comp_read.proofs.ItemLaws.{item_exact, Inside}
@@ -72,7 +72,7 @@ first_apart (s ∷ ss) = from_zero s.id (eqb 0 s.id) refl
 -- ---- sections
 
 pub record ReadsAgain {A : Type 0} (f : A → Entry) (W : A → Type 0) (at : Contents A) : Type 0 where
-  pub again : (id place start : ℕ) (inner : List ℕ) (xs : List A) → Inside f id inner xs → AllByRecursion W xs → at id place start inner ≡ Ok xs
+  pub again : (id offset start : ℕ) (inner : List ℕ) (xs : List A) → Inside f id inner xs → AllByRecursion W xs → at id offset start inner ≡ Ok xs
 
 pub all_left : {A : Type 0} (W : A → Type 0) (xs ys : List A) → AllByRecursion W (xs ++ ys) → AllByRecursion W xs
 all_left W [] ys h = tt
@@ -86,24 +86,24 @@ pub header_again : (last id : ℕ) (inner rest : List ℕ) → repeats last id �
 unfolding header_at
 header_again last id inner rest apart lt = rw (apart, sized_exact.again inner rest tt (lt, tt)) refl
 
-pub section_again : {A : Type 0} (f : A → Entry) (W : A → Type 0) (at : Contents A) → ReadsAgain f W at → (place last id : ℕ) (inner rest : List ℕ) (xs : List A) → repeats last id ≡ false → length inner < 2 ^ 32 → Inside f id inner xs → AllByRecursion W xs
-    → section_at at place last (id ∷ (leb (length inner) ++ inner) ++ rest) ≡ Ok (id, xs, rest)
+pub section_again : {A : Type 0} (f : A → Entry) (W : A → Type 0) (at : Contents A) → ReadsAgain f W at → (offset last id : ℕ) (inner rest : List ℕ) (xs : List A) → repeats last id ≡ false → length inner < 2 ^ 32 → Inside f id inner xs → AllByRecursion W xs
+    → section_at at offset last (id ∷ (leb (length inner) ++ inner) ++ rest) ≡ Ok (id, xs, rest)
 unfolding section_at
-section_again f W at reads place last id inner rest xs apart lt inside w =
+section_again f W at reads offset last id inner rest xs apart lt inside w =
     let bytes = id ∷ (leb (length inner) ++ inner) ++ rest in
-    let found : at id place (place + (length bytes - length rest - length inner)) inner ≡ Ok xs = reads.again id place (place + (length bytes - length rest - length inner)) inner xs inside w in
+    let found : at id offset (offset + (length bytes - length rest - length inner)) inner ≡ Ok xs = reads.again id offset (offset + (length bytes - length rest - length inner)) inner xs inside w in
     rw (header_again last id inner rest apart lt, found) refl
 
-abbrev pub groups_text : {A : Type 0} → (A → Entry) → List (List A) → Spelling
+abbrev pub groups_text : {A : Type 0} → (A → Entry) → List (List A) → Encoding
 groups_text f gs = each section (map (group_section f) gs)
 
 abbrev pub joined : {A : Type 0} → List (List A) → List A
 joined gs = flat_map (λ g. g) gs
 
-abbrev pub group_contents : {A : Type 0} → (A → Entry) → A → List A → Spelling
+abbrev pub group_contents : {A : Type 0} → (A → Entry) → A → List A → Encoding
 group_contents f x xs = contents (λ y. (f y).text) (shares (f x).id) (x ∷ xs)
 
-abbrev pub group_text : {A : Type 0} → (A → Entry) → A → List A → Spelling
+abbrev pub group_text : {A : Type 0} → (A → Entry) → A → List A → Encoding
 group_text f x xs = octet (f x).id ⊕ sized (group_contents f x xs)
 
 pub inside_of : {A : Type 0} (f : A → Entry) (x : A) (xs : List A) → IsGroup f (x ∷ xs) → Fits (group_contents f x xs).counts → Inside f (f x).id (group_contents f x xs).bytes (x ∷ xs)
@@ -116,34 +116,34 @@ inside_of {A} f x xs g fits = record {
 }
 
 -- one group more
-group_step : {A : Type 0} (f : A → Entry) (W : A → Type 0) (at : Contents A) → ReadsAgain f W at → (x : A) (xs rest_of : List A) (most place last : ℕ) (rest : List ℕ) → IsGroup f (x ∷ xs) → repeats last (f x).id ≡ false → AllByRecursion W (x ∷ xs) → Fits (group_text f x xs).counts → length ((group_text f x xs).bytes ++ rest) ≤ most
-    → ((fewer next : ℕ) → length rest ≤ fewer → sections_at at fewer next (f x).id rest ≡ Ok rest_of) → sections_at at most place last ((group_text f x xs).bytes ++ rest) ≡ Ok ((x ∷ xs) ++ rest_of)
-group_step f W at reads x xs rest_of zero place last rest g apart w fits enough ih = absurd (omega arith)
-group_step {A} f W at reads x xs rest_of (suc most) place last rest g apart w fits enough ih =
+group_step : {A : Type 0} (f : A → Entry) (W : A → Type 0) (at : Contents A) → ReadsAgain f W at → (x : A) (xs rest_of : List A) (most offset last : ℕ) (rest : List ℕ) → IsGroup f (x ∷ xs) → repeats last (f x).id ≡ false → AllByRecursion W (x ∷ xs) → Fits (group_text f x xs).counts → length ((group_text f x xs).bytes ++ rest) ≤ most
+    → ((fewer next : ℕ) → length rest ≤ fewer → sections_at at fewer next (f x).id rest ≡ Ok rest_of) → sections_at at most offset last ((group_text f x xs).bytes ++ rest) ≡ Ok ((x ∷ xs) ++ rest_of)
+group_step f W at reads x xs rest_of zero offset last rest g apart w fits enough ih = absurd (omega arith)
+group_step {A} f W at reads x xs rest_of (suc most) offset last rest g apart w fits enough ih =
     let bytes = (group_text f x xs).bytes ++ rest in
     let inner = (group_contents f x xs).bytes in
-    let one = section_again f W at reads place last (f x).id inner rest (x ∷ xs) apart fits.0 (inside_of f x xs g fits.1) w in
-    one_step at most place last bytes (f x).id (x ∷ xs) rest (omega arith) one
-    ∙ rw (ih most (place + (length bytes - length rest)) (omega (arith, enough, length-append (leb (length inner) ++ inner) rest))) refl
+    let one = section_again f W at reads offset last (f x).id inner rest (x ∷ xs) apart fits.0 (inside_of f x xs g fits.1) w in
+    one_step at most offset last bytes (f x).id (x ∷ xs) rest (omega arith) one
+    ∙ rw (ih most (offset + (length bytes - length rest)) (omega (arith, enough, length-append (leb (length inner) ++ inner) rest))) refl
 
-groups_again : {A : Type 0} (f : A → Entry) (W : A → Type 0) (at : Contents A) → ReadsAgain f W at → (gs : List (List A)) (most place last : ℕ) → AllByRecursion (IsGroup f) gs → Apart last (map (group_section f) gs) → Links (map (group_section f) gs) → AllByRecursion W (joined gs) → Fits (groups_text f gs).counts → length (groups_text f gs).bytes ≤ most
-    → sections_at at most place last (groups_text f gs).bytes ≡ Ok (joined gs)
-groups_again f W at reads [] most place last g apart links w fits enough = at_end at most place last [] refl
-groups_again f W at reads ([] ∷ gs) most place last g apart links w fits enough = absurd g.0
-groups_again {A} f W at reads ((x ∷ xs) ∷ gs) most place last g apart links w fits enough =
+groups_again : {A : Type 0} (f : A → Entry) (W : A → Type 0) (at : Contents A) → ReadsAgain f W at → (gs : List (List A)) (most offset last : ℕ) → AllByRecursion (IsGroup f) gs → Apart last (map (group_section f) gs) → Links (map (group_section f) gs) → AllByRecursion W (joined gs) → Fits (groups_text f gs).counts → length (groups_text f gs).bytes ≤ most
+    → sections_at at most offset last (groups_text f gs).bytes ≡ Ok (joined gs)
+groups_again f W at reads [] most offset last g apart links w fits enough = at_end at most offset last [] refl
+groups_again f W at reads ([] ∷ gs) most offset last g apart links w fits enough = absurd g.0
+groups_again {A} f W at reads ((x ∷ xs) ∷ gs) most offset last g apart links w fits enough =
     let is : section (group_section f (x ∷ xs)) ≡ group_text f x xs = section_is f (x ∷ xs) (f x).id refl in
     let rest = (groups_text f gs).bytes in
-    let text : (groups_text f ((x ∷ xs) ∷ gs)).bytes ≡ (group_text f x xs).bytes ++ rest = ap (λ (s : Spelling). s.bytes ++ rest) is in
-    let all_fit : Fits ((group_text f x xs).counts ++ (groups_text f gs).counts) = subst (λ (s : Spelling). Fits (s.counts ++ (groups_text f gs).counts)) is fits in
-    let step = group_step f W at reads x xs (joined gs) most place last rest g.0 apart (all_left W (x ∷ xs) (joined gs) w) (fits_left (group_text f x xs).counts (groups_text f gs).counts all_fit) (subst (λ (l : List ℕ). length l ≤ most) text enough)
+    let text : (groups_text f ((x ∷ xs) ∷ gs)).bytes ≡ (group_text f x xs).bytes ++ rest = ap (λ (s : Encoding). s.bytes ++ rest) is in
+    let all_fit : Fits ((group_text f x xs).counts ++ (groups_text f gs).counts) = subst (λ (s : Encoding). Fits (s.counts ++ (groups_text f gs).counts)) is fits in
+    let step = group_step f W at reads x xs (joined gs) most offset last rest g.0 apart (all_left W (x ∷ xs) (joined gs) w) (fits_left (group_text f x xs).counts (groups_text f gs).counts all_fit) (subst (λ (l : List ℕ). length l ≤ most) text enough)
     (λ fewer next le. groups_again f W at reads gs fewer next (f x).id g.1 links.0 links.1 (all_right W (x ∷ xs) (joined gs) w) (fits_right (group_text f x xs).counts (groups_text f gs).counts all_fit) le) in
-    ap (sections_at at most place last) text ∙ step
+    ap (sections_at at most offset last) text ∙ step
 
 -- ---- components
 
-pub component_again : {A : Type 0} (f : A → Entry) (W : A → Type 0) (at : Contents A) → ReadsAgain f W at → (place start : ℕ) (xs : List A) → AllByRecursion W xs → Fits (component (map f xs)).counts → component_at at place start (component (map f xs)).bytes ≡ Ok xs
+pub component_again : {A : Type 0} (f : A → Entry) (W : A → Type 0) (at : Contents A) → ReadsAgain f W at → (offset start : ℕ) (xs : List A) → AllByRecursion W xs → Fits (component (map f xs)).counts → component_at at offset start (component (map f xs)).bytes ≡ Ok xs
 unfolding component_at
-component_again {A} f W at reads place start xs w fits =
+component_again {A} f W at reads offset start xs w fits =
     let g = grouped f xs in
     let body : List ℕ = (each section (sections (map f xs))).bytes in
     let link : Links (map (group_section f) g.groups) = subst (λ (ss : List Section). Links ss) g.are (sections_link (map f xs)) in
@@ -222,7 +222,7 @@ pub contents_again : (id : ℕ) (inner : List ℕ) (xs : List Item) → Inside i
 contents_again id inner xs h w = contents_by id inner xs h w (eqb id 0) (eqb id 1) (eqb id 4) refl refl refl
 
 pub items_again_in : ReadsAgain item IsItem item_contents_at
-items_again_in = record { again = λ id place start inner xs h w. ap (told_at place) (contents_again id inner xs h w) }
+items_again_in = record { again = λ id offset start inner xs h w. ap (ok_or_at offset) (contents_again id inner xs h w) }
 
 -- ---- what is in a section of definitions
 
@@ -251,35 +251,35 @@ unwrapped_inside id inner xs h = record {
   each_of = unwrapped_ids id xs h.each_of;
   some = omega (arith, wrapped_length xs, h.some);
   alone = λ s. sym (wrapped_length xs) ∙ h.alone s;
-  text = h.text ∙ ap (λ (s : Spelling). s.bytes) (wrapped_contents (shares id) xs);
-  fits = subst (λ (s : Spelling). Fits s.counts) (wrapped_contents (shares id) xs) h.fits;
+  text = h.text ∙ ap (λ (s : Encoding). s.bytes) (wrapped_contents (shares id) xs);
+  fits = subst (λ (s : Encoding). Fits s.counts) (wrapped_contents (shares id) xs) h.fits;
 }
 
-component_alone : (place start : ℕ) (inner : List ℕ) (xs : List Def) → Inside definition 4 inner xs → length xs ≡ 1 → AllByRecursion IsDefinition xs → (component_at item_contents_at place start inner >>> λ found. Ok (defs.Component found ∷ [])) ≡ Ok xs
-component_alone place start inner [] h one w = absurd (omega arith)
-component_alone place start inner (x ∷ y ∷ xs) h one w = absurd (omega arith)
-component_alone place start inner (defs.Item i ∷ []) h one w = absurd (not_nested i h.each_of.0)
-component_alone place start inner (defs.Component c ∷ []) h one w =
+component_alone : (offset start : ℕ) (inner : List ℕ) (xs : List Def) → Inside definition 4 inner xs → length xs ≡ 1 → AllByRecursion IsDefinition xs → (component_at item_contents_at offset start inner >>> λ found. Ok (defs.Component found ∷ [])) ≡ Ok xs
+component_alone offset start inner [] h one w = absurd (omega arith)
+component_alone offset start inner (x ∷ y ∷ xs) h one w = absurd (omega arith)
+component_alone offset start inner (defs.Item i ∷ []) h one w = absurd (not_nested i h.each_of.0)
+component_alone offset start inner (defs.Component c ∷ []) h one w =
     let text : inner ≡ (component (map item c)).bytes = h.text ∙ append-nil _ in
     let fits : Fits (component (map item c)).counts = fits_left (component (map item c)).counts [] h.fits in
-    let read : component_at item_contents_at place start inner ≡ Ok c = ap (component_at item_contents_at place start) text ∙ component_again item IsItem item_contents_at items_again_in place start c w.0 fits in
+    let read : component_at item_contents_at offset start inner ≡ Ok c = ap (component_at item_contents_at offset start) text ∙ component_again item IsItem item_contents_at items_again_in offset start c w.0 fits in
     rw read refl
 
 true_false : true ≡ false → ⊥
 true_false e = cc
 
-definitions_by : (id place start : ℕ) (inner : List ℕ) (xs : List Def) → Inside definition id inner xs → AllByRecursion IsDefinition xs → (t : Bool) → eqb id 4 ≡ t → definition_contents_at id place start inner ≡ Ok xs
-definitions_by id place start inner xs h w true e =
-    subst (λ (n : ℕ). Inside definition n inner xs → definition_contents_at n place start inner ≡ Ok xs) (sym (eqb-true _ _ e)) (λ i. component_alone place start inner xs i (i.alone refl) w) h
-definitions_by id place start inner xs h w false e =
+definitions_by : (id offset start : ℕ) (inner : List ℕ) (xs : List Def) → Inside definition id inner xs → AllByRecursion IsDefinition xs → (t : Bool) → eqb id 4 ≡ t → definition_contents_at id offset start inner ≡ Ok xs
+definitions_by id offset start inner xs h w true e =
+    subst (λ (n : ℕ). Inside definition n inner xs → definition_contents_at n offset start inner ≡ Ok xs) (sym (eqb-true _ _ e)) (λ i. component_alone offset start inner xs i (i.alone refl) w) h
+definitions_by id offset start inner xs h w false e =
     let u = unwrapped id xs (λ p. true_false (sym (eq-eqb _ _ p) ∙ e)) h.each_of w in
     let i : Inside item id inner u.inner = unwrapped_inside id inner u.inner (subst (λ (ys : List Def). Inside definition id inner ys) u.is h) in
-    rw (e, contents_again id inner u.inner i u.writable) (ap (λ (ys : List Def). let r : Placed (List Def) = Ok ys in r) (sym u.is))
+    rw (e, contents_again id inner u.inner i u.writable) (ap (λ (ys : List Def). let r : ReadResult (List Def) = Ok ys in r) (sym u.is))
 
 pub definitions_again : ReadsAgain definition IsDefinition definition_contents_at
-definitions_again = record { again = λ id place start inner xs h w. definitions_by id place start inner xs h w (eqb id 4) refl }
+definitions_again = record { again = λ id offset start inner xs h w. definitions_by id offset start inner xs h w (eqb id 4) refl }
 
 -- a list that a program can hold is read from its bytes
-pub again : (bytes : List ℕ) (ds : List Def) → IsWritable ds → Spells bytes ds → component_at definition_contents_at 0 0 bytes ≡ Ok ds
+pub again : (bytes : List ℕ) (ds : List Def) → IsWritable ds → Encodes bytes ds → component_at definition_contents_at 0 0 bytes ≡ Ok ds
 again bytes ds w s =
     ap (component_at definition_contents_at 0 0) s.1 ∙ component_again definition IsDefinition definition_contents_at definitions_again 0 0 ds w s.0

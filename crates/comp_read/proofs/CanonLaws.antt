@@ -1,8 +1,8 @@
 -- Options of canonical functions and intrinsics are read exactly.
 use Rattle.std.proofs.Common.{◌≡◌, ℕ, Bool, true, false, List, [], ◌∷◌, ◌++◌, Option, Some, refl}
-use Rattle.byte_encoding.specs.Spelling.{Spelling, Fits, ◌⊕◌, octet, number, listed}
+use Rattle.byte_encoding.specs.Encoding.{Encoding, Fits, ◌⊕◌, octet, number, listed}
 use Rattle.comp_bytes.specs.Grammar.{function_result, option_bytes, context_byte, intrinsic_bytes}
-use Rattle.byte_encoding.specs.Spelling.{flag}
+use Rattle.byte_encoding.specs.Encoding.{flag}
 use Rattle.comp_bytes.specs.declared.types.ComponentValType.{ComponentValType}
 use Rattle.comp_bytes.specs.declared.canon.CanonicalOption.{CanonicalOption}
 use Rattle.comp_bytes.specs.declared.canon.CanonicalOption.TheVariants as canonical
@@ -13,7 +13,7 @@ use Rattle.comp_bytes.specs.declared.canon.Intrinsic.TheVariants as intrinsics
 use Rattle.comp_read.specs.Reading.{then_at, tagged}
 use Rattle.comp_read.specs.PartReaders.{result_at, canonical_at, options_at, flag_at, context_at, index_and_options_at, index_and_flag_at, slot_at, memory_at, waiting_after, future_after, stream_after, task_after, intrinsic_after}
 use Rattle.comp_read.specs.Writable.{IsIndex, Optionally, Always, IsValueType, IsCanonicalOption, AreOptions, IsIntrinsic}
-use Rattle.comp_read.proofs.Exact.{IsExact, Took, fewer, made_again, fine_case, fine_lone, then_exact, behind_exact, case, lone, number_exact, list_exact}
+use Rattle.comp_read.proofs.Exact.{IsExact, Took, fewer, made_again, fine_case, fine_lone, then_exact, after_byte_exact, case, lone, number_exact, list_exact}
 use Rattle.comp_read.proofs.ValueLaws.{result_exact}
 
 -- ---- options
@@ -86,7 +86,7 @@ context_takes : (bytes : List ℕ) (x : ContextType) (rest : List ℕ) → conte
 unfolding context_at
 context_takes [] x rest e = absurd cc
 context_takes (b ∷ bytes) x rest e =
-    let f : ContextType → Spelling = λ c. octet (context_byte c) in
+    let f : ContextType → Encoding = λ c. octet (context_byte c) in
     lone f contexts.I32 b 0x7f bytes _ x rest refl e (λ e.
     lone f contexts.I64 b 0x7e bytes _ x rest refl e (λ e.
     absurd cc))
@@ -115,7 +115,7 @@ slot_exact = fewer (then_exact context_exact number_exact) (λ p. IsIndex p.1) (
 
 memory_exact : IsExact (λ n. octet 0x00 ⊕ number n) IsIndex memory_at
 unfolding memory_at
-memory_exact = behind_exact 0x00 number_exact
+memory_exact = after_byte_exact 0x00 number_exact
 
 returned : IsExact (λ (p : Option ComponentValType × List CanonicalOption). function_result p.0 ⊕ listed option_bytes p.1) (λ p. Optionally IsValueType p.0 × AreOptions p.1) (then_at result_at options_at)
 returned = then_exact result_exact options_exact

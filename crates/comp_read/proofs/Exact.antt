@@ -6,9 +6,9 @@ use Rattle.std.specs.Str.{IsUtf8, is_utf8}
 use Rattle.std.proofs.lemmas.Bool.{eq-eqb, cases_lt, ltb-true, lt-ltb, ltb-false, le-ltb, eqb-true}
 use Rattle.std.proofs.lemmas.List.{take_at, drop_at, take-append-drop, length-append, length-take}
 use Rattle.std.proofs.lemmas.Str.{IsUtf8-from_is_utf8, is_utf8-from_IsUtf8}
-use Rattle.byte_encoding.specs.Spelling.{Spelling, Fits, ◌⊕◌, raw, octet, groups_of_seven, leb128, leb, signed_leb, number, quantity, each, listed, named, optional}
+use Rattle.byte_encoding.specs.Encoding.{Encoding, Fits, ◌⊕◌, raw, octet, groups_of_seven, leb128, leb, signed_leb, number, quantity, each, listed, named, optional}
 use Rattle.byte_encoding.proofs.Pieces.{fits_append}
-use Rattle.comp_read.specs.Reading.{◌>>=◌, Read, Reader, made_at, then_at, expect, behind, before_byte, tagged, digits_at, number_at, type_index_at, sized_at, name_at, items_at, list_at, option_at}
+use Rattle.comp_read.specs.Reading.{◌>>=◌, Read, Reader, made_at, then_at, expect, after_byte, before_byte, tagged, digits_at, number_at, type_index_at, sized_at, name_at, items_at, list_at, option_at}
 use Rattle.comp_read.specs.Writable.{IsIndex, Optionally}
 
 -- ---- steps that did not fail
@@ -41,11 +41,11 @@ same_cons a b xs ys p q = cc
 -- ---- what was taken
 
 -- what was taken from the front spells so
-pub record Took (s : Spelling) (bytes rest : List ℕ) : Type 0 where
+pub record Took (s : Encoding) (bytes rest : List ℕ) : Type 0 where
   pub parts : bytes ≡ s.bytes ++ rest
   pub fits : Fits s.counts
 
-pub took_then : {a b : Spelling} {x y z : List ℕ} → Took a x y → Took b y z → Took (a ⊕ b) x z
+pub took_then : {a b : Encoding} {x y z : List ℕ} → Took a x y → Took b y z → Took (a ⊕ b) x z
 took_then {a} {b} {x} {y} {z} p q = record {
   parts = p.parts ∙ ap (λ (t : List ℕ). a.bytes ++ t) q.parts ∙ sym (append_assoc a.bytes b.bytes z);
   fits = fits_append a.counts b.counts p.fits q.fits;
@@ -60,39 +60,39 @@ fits_right [] b h = h
 fits_right (x ∷ a) b h = fits_right a b h.1
 
 -- a value is writable where W says so
-pub record IsExact {A : Type 0} (f : A → Spelling) (W : A → Type 0) (at : Reader A) : Type 0 where
+pub record IsExact {A : Type 0} (f : A → Encoding) (W : A → Type 0) (at : Reader A) : Type 0 where
   pub takes : (bytes : List ℕ) (x : A) (rest : List ℕ) → at bytes ≡ Some (x, rest) → Took (f x) bytes rest
   pub fine : (bytes : List ℕ) (x : A) (rest : List ℕ) → at bytes ≡ Some (x, rest) → W x
   pub again : (x : A) (rest : List ℕ) → W x → Fits (f x).counts → at ((f x).bytes ++ rest) ≡ Some (x, rest)
 
 -- a step, and what is read after it
-pub step : {A B : Type 0} {f : A → Spelling} {W : A → Type 0} {at : Reader A} → IsExact f W at → (bytes : List ℕ) (go : A × List ℕ → Option B) (y : B) → (at bytes >>= go) ≡ Some y
+pub step : {A B : Type 0} {f : A → Encoding} {W : A → Type 0} {at : Reader A} → IsExact f W at → (bytes : List ℕ) (go : A × List ℕ → Option B) (y : B) → (at bytes >>= go) ≡ Some y
     → (x : A × List ℕ) × Took (f x.0) bytes x.1 × (go x ≡ Some y)
 step {at} exact bytes go y e =
     let b = bind_some (at bytes) go y e in
     (b.0, exact.takes bytes b.0.0 b.0.1 b.1, b.2)
 
 -- by another name for what is writable
-pub fewer : {A : Type 0} {f : A → Spelling} {V : A → Type 0} {at : Reader A} → IsExact f V at → (W : A → Type 0) → ((x : A) → W x → V x) → ((x : A) → V x → W x) → IsExact f W at
+pub fewer : {A : Type 0} {f : A → Encoding} {V : A → Type 0} {at : Reader A} → IsExact f V at → (W : A → Type 0) → ((x : A) → W x → V x) → ((x : A) → V x → W x) → IsExact f W at
 fewer exact W less more = record {
   takes = exact.takes;
   fine = λ bytes x rest e. more x (exact.fine bytes x rest e);
   again = λ x rest w fits. exact.again x rest (less x w) fits;
 }
 
-pub step_is : {A B : Type 0} {f : A → Spelling} {W : A → Type 0} {at : Reader A} (exact : IsExact f W at) (bytes : List ℕ) (go : A × List ℕ → Option B) (y : B) (e : (at bytes >>= go) ≡ Some y) → at bytes ≡ Some (step exact bytes go y e).0
+pub step_is : {A B : Type 0} {f : A → Encoding} {W : A → Type 0} {at : Reader A} (exact : IsExact f W at) (bytes : List ℕ) (go : A × List ℕ → Option B) (y : B) (e : (at bytes >>= go) ≡ Some y) → at bytes ≡ Some (step exact bytes go y e).0
 unfolding step
 step_is {at = at} exact bytes go y e = (bind_some (at bytes) go y e).1
 
 -- ---- values made of others, and one after another
 
-pub made_takes : {A B : Type 0} {f : A → Spelling} {W : A → Type 0} {at : Reader A} → IsExact f W at → (g : B → Spelling) (make : A → B) → ((a : A) → g (make a) ≡ f a) → (bytes : List ℕ) (y : B) (rest : List ℕ) → made_at make at bytes ≡ Some (y, rest) → Took (g y) bytes rest
+pub made_takes : {A B : Type 0} {f : A → Encoding} {W : A → Type 0} {at : Reader A} → IsExact f W at → (g : B → Encoding) (make : A → B) → ((a : A) → g (make a) ≡ f a) → (bytes : List ℕ) (y : B) (rest : List ℕ) → made_at make at bytes ≡ Some (y, rest) → Took (g y) bytes rest
 made_takes {A} {B} {f} {W} {at} exact g make same bytes y rest e =
     let a = step exact bytes (λ x. let p : Read B = Some (make x.0, x.1) in p) (y, rest) e in
     let made : B × List ℕ = (make a.0.0, a.0.1) in
-    subst (λ (p : B × List ℕ). Took (g p.0) bytes p.1) (some_is made (y, rest) a.2) (subst (λ (s : Spelling). Took s bytes a.0.1) (sym (same a.0.0)) a.1)
+    subst (λ (p : B × List ℕ). Took (g p.0) bytes p.1) (some_is made (y, rest) a.2) (subst (λ (s : Encoding). Took s bytes a.0.1) (sym (same a.0.0)) a.1)
 
-pub made_again : {A B : Type 0} {f : A → Spelling} {W : A → Type 0} {at : Reader A} → IsExact f W at → (make : A → B) (a : A) (rest : List ℕ) → W a → Fits (f a).counts → made_at make at ((f a).bytes ++ rest) ≡ Some (make a, rest)
+pub made_again : {A B : Type 0} {f : A → Encoding} {W : A → Type 0} {at : Reader A} → IsExact f W at → (make : A → B) (a : A) (rest : List ℕ) → W a → Fits (f a).counts → made_at make at ((f a).bytes ++ rest) ≡ Some (make a, rest)
 made_again exact make a rest w fits = rw (exact.again a rest w fits) refl
 
 -- what holds of a value that is made of what is read
@@ -102,18 +102,18 @@ bind_fine {A} {B} {at} F G make one keeps bytes y rest e =
     let made : B × List ℕ = (make a.0.0, a.0.1) in
     subst (λ (p : B × List ℕ). G p.0) (some_is made (y, rest) a.2) (keeps a.0.0 (one bytes a.0.0 a.0.1 a.1))
 
-pub made_fine : {A B : Type 0} {f : A → Spelling} {W : A → Type 0} {at : Reader A} → IsExact f W at → (G : B → Type 0) (make : A → B) → ((a : A) → W a → G (make a)) → (bytes : List ℕ) (y : B) (rest : List ℕ) → made_at make at bytes ≡ Some (y, rest) → G y
+pub made_fine : {A B : Type 0} {f : A → Encoding} {W : A → Type 0} {at : Reader A} → IsExact f W at → (G : B → Type 0) (make : A → B) → ((a : A) → W a → G (make a)) → (bytes : List ℕ) (y : B) (rest : List ℕ) → made_at make at bytes ≡ Some (y, rest) → G y
 made_fine {W = W} exact G make keeps bytes y rest e = bind_fine W G make exact.fine keeps bytes y rest e
 
 -- a record by its parts
-pub made_exact : {A B : Type 0} {f : A → Spelling} {W : A → Type 0} {at : Reader A} → IsExact f W at → (make : A → B) (back : B → A) → ((b : B) → make (back b) ≡ b) → ((a : A) → back (make a) ≡ a) → IsExact (λ b. f (back b)) (λ b. W (back b)) (made_at make at)
+pub made_exact : {A B : Type 0} {f : A → Encoding} {W : A → Type 0} {at : Reader A} → IsExact f W at → (make : A → B) (back : B → A) → ((b : B) → make (back b) ≡ b) → ((a : A) → back (make a) ≡ a) → IsExact (λ b. f (back b)) (λ b. W (back b)) (made_at make at)
 made_exact {A} {B} {f} {W} {at} exact make back there here = record {
   takes = made_takes exact (λ b. f (back b)) make (λ a. ap f (here a));
   fine = made_fine exact (λ b. W (back b)) make (λ a w. subst W (sym (here a)) w);
   again = λ b rest w fits. made_again exact make (back b) rest w fits ∙ ap (λ (y : B). let p : Read B = Some (y, rest) in p) (there b);
 }
 
-pub then_exact : {A B : Type 0} {f : A → Spelling} {g : B → Spelling} {V : A → Type 0} {W : B → Type 0} {a : Reader A} {b : Reader B} → IsExact f V a → IsExact g W b → IsExact (λ (p : A × B). f p.0 ⊕ g p.1) (λ p. V p.0 × W p.1) (then_at a b)
+pub then_exact : {A B : Type 0} {f : A → Encoding} {g : B → Encoding} {V : A → Type 0} {W : B → Type 0} {a : Reader A} {b : Reader B} → IsExact f V a → IsExact g W b → IsExact (λ (p : A × B). f p.0 ⊕ g p.1) (λ p. V p.0 × W p.1) (then_at a b)
 then_exact {A} {B} {f} {g} {V} {W} {a} {b} p q = record {
   takes = λ bytes x rest e.
       let x1 = step p bytes _ _ e in
@@ -144,8 +144,8 @@ pub expect_again : (byte : ℕ) (rest : List ℕ) → expect byte (byte ∷ rest
 unfolding expect
 expect_again byte rest = rw (eq-eqb byte byte refl) refl
 
-pub behind_exact : {A : Type 0} {f : A → Spelling} {W : A → Type 0} {at : Reader A} (byte : ℕ) → IsExact f W at → IsExact (λ x. octet byte ⊕ f x) W (behind byte at)
-behind_exact {A} {f} {W} {at} byte exact = record {
+pub after_byte_exact : {A : Type 0} {f : A → Encoding} {W : A → Type 0} {at : Reader A} (byte : ℕ) → IsExact f W at → IsExact (λ x. octet byte ⊕ f x) W (after_byte byte at)
+after_byte_exact {A} {f} {W} {at} byte exact = record {
   takes = λ bytes x rest e.
       let b = expect_step byte bytes at (x, rest) e in
       took_then b.1 (exact.takes b.0 x rest b.2);
@@ -153,7 +153,7 @@ behind_exact {A} {f} {W} {at} byte exact = record {
   again = λ x rest w fits. rw (expect_again byte ((f x).bytes ++ rest)) (exact.again x rest w fits);
 }
 
-pub before_exact : {A : Type 0} {f : A → Spelling} {W : A → Type 0} {at : Reader A} → IsExact f W at → (byte : ℕ) → IsExact (λ x. f x ⊕ octet byte) W (before_byte at byte)
+pub before_exact : {A : Type 0} {f : A → Encoding} {W : A → Type 0} {at : Reader A} → IsExact f W at → (byte : ℕ) → IsExact (λ x. f x ⊕ octet byte) W (before_byte at byte)
 before_exact {A} {f} {W} {at} exact byte = record {
   takes = λ bytes x rest e.
       let a = step exact bytes _ _ e in
@@ -173,31 +173,31 @@ before_exact {A} {f} {W} {at} exact byte = record {
 -- ---- a first byte, and what it says comes next
 
 -- this byte, and then what a reader takes
-pub case : {A E : Type 0} {g : A → Spelling} {W : A → Type 0} {at : Reader A} → IsExact g W at → (f : E → Spelling) (make : A → E) (b t : ℕ) (bytes : List ℕ) (others : Read E) (x : E) (rest : List ℕ) → ((a : A) → f (make a) ≡ octet t ⊕ g a)
+pub case : {A E : Type 0} {g : A → Encoding} {W : A → Type 0} {at : Reader A} → IsExact g W at → (f : E → Encoding) (make : A → E) (b t : ℕ) (bytes : List ℕ) (others : Read E) (x : E) (rest : List ℕ) → ((a : A) → f (make a) ≡ octet t ⊕ g a)
     → cond (eqb b t) (made_at make at bytes) others ≡ Some (x, rest) → (others ≡ Some (x, rest) → Took (f x) (b ∷ bytes) rest) → Took (f x) (b ∷ bytes) rest
-case {A} {E} {g} {W} {at} exact f make b t bytes others x rest spelled e there =
+case {A} {E} {g} {W} {at} exact f make b t bytes others x rest encoded e there =
     elim (chosen (eqb b t) (made_at make at bytes) others (Some (x, rest)) e) [
       | inl w ↦
           let a = step exact bytes (λ y. let p : Read E = Some (make y.0, y.1) in p) (x, rest) w.1 in
           let made : E × List ℕ = (make a.0.0, a.0.1) in
           let whole : Took (octet t ⊕ g a.0.0) (b ∷ bytes) a.0.1 = took_then (let first : Took (octet t) (b ∷ bytes) bytes = record { parts = same_cons b t bytes bytes (eqb-true _ _ w.0) refl; fits = tt } in first) a.1 in
-          subst (λ (p : E × List ℕ). Took (f p.0) (b ∷ bytes) p.1) (some_is made (x, rest) a.2) (subst (λ (s : Spelling). Took s (b ∷ bytes) a.0.1) (sym (spelled a.0.0)) whole)
+          subst (λ (p : E × List ℕ). Took (f p.0) (b ∷ bytes) p.1) (some_is made (x, rest) a.2) (subst (λ (s : Encoding). Took s (b ∷ bytes) a.0.1) (sym (encoded a.0.0)) whole)
       | inr w ↦ there w.1
     ]
 
 -- this byte alone
-pub lone : {E : Type 0} (f : E → Spelling) (c : E) (b t : ℕ) (bytes : List ℕ) (others : Read E) (x : E) (rest : List ℕ) → f c ≡ octet t
+pub lone : {E : Type 0} (f : E → Encoding) (c : E) (b t : ℕ) (bytes : List ℕ) (others : Read E) (x : E) (rest : List ℕ) → f c ≡ octet t
     → cond (eqb b t) (Some (c, bytes)) others ≡ Some (x, rest) → (others ≡ Some (x, rest) → Took (f x) (b ∷ bytes) rest) → Took (f x) (b ∷ bytes) rest
-lone {E} f c b t bytes others x rest spelled e there =
+lone {E} f c b t bytes others x rest encoded e there =
     elim (chosen (eqb b t) (Some (c, bytes)) others (Some (x, rest)) e) [
       | inl w ↦
           let first : Took (octet t) (b ∷ bytes) bytes = record { parts = same_cons b t bytes bytes (eqb-true _ _ w.0) refl; fits = tt } in
-          subst (λ (p : E × List ℕ). Took (f p.0) (b ∷ bytes) p.1) (some_is (c, bytes) (x, rest) w.1) (subst (λ (s : Spelling). Took s (b ∷ bytes) bytes) (sym spelled) first)
+          subst (λ (p : E × List ℕ). Took (f p.0) (b ∷ bytes) p.1) (some_is (c, bytes) (x, rest) w.1) (subst (λ (s : Encoding). Took s (b ∷ bytes) bytes) (sym encoded) first)
       | inr w ↦ there w.1
     ]
 
 -- this byte, and what another reader takes of the rest
-pub other : {E : Type 0} (f : E → Spelling) (b t : ℕ) (bytes : List ℕ) (read others : Read E) (x : E) (rest : List ℕ)
+pub other : {E : Type 0} (f : E → Encoding) (b t : ℕ) (bytes : List ℕ) (read others : Read E) (x : E) (rest : List ℕ)
     → cond (eqb b t) read others ≡ Some (x, rest) → (b ≡ t → read ≡ Some (x, rest) → Took (f x) (b ∷ bytes) rest) → (others ≡ Some (x, rest) → Took (f x) (b ∷ bytes) rest) → Took (f x) (b ∷ bytes) rest
 other f b t bytes read others x rest e here there =
     elim (chosen (eqb b t) read others (Some (x, rest)) e) [ inl w ↦ here (eqb-true _ _ w.0) w.1 | inr w ↦ there w.1 ]
@@ -207,7 +207,7 @@ tag_case b t made others y e here there =
     elim (chosen (eqb b t) made others (Some y) e) [ inl w ↦ here (eqb-true _ _ w.0) w.1 | inr w ↦ there w.1 ]
 
 -- the same, for what holds of the value
-pub fine_case : {A E : Type 0} {g : A → Spelling} {W : A → Type 0} {at : Reader A} → IsExact g W at → (F : E → Type 0) (make : A → E) (b t : ℕ) (bytes : List ℕ) (others : Read E) (x : E) (rest : List ℕ) → ((a : A) → W a → F (make a))
+pub fine_case : {A E : Type 0} {g : A → Encoding} {W : A → Type 0} {at : Reader A} → IsExact g W at → (F : E → Type 0) (make : A → E) (b t : ℕ) (bytes : List ℕ) (others : Read E) (x : E) (rest : List ℕ) → ((a : A) → W a → F (make a))
     → cond (eqb b t) (made_at make at bytes) others ≡ Some (x, rest) → (others ≡ Some (x, rest) → F x) → F x
 fine_case exact F make b t bytes others x rest keeps e there =
     tag_case b t _ others (x, rest) e (λ is made. made_fine exact F make keeps bytes x rest made) there
@@ -221,15 +221,15 @@ pub took_byte : (b t : ℕ) (bytes : List ℕ) → b ≡ t → Took (octet t) (b
 took_byte b t bytes is = record { parts = same_cons b t bytes bytes is refl; fits = tt }
 
 -- a value of what stands behind something that was taken
-pub after_takes : {A E : Type 0} {g : A → Spelling} {W : A → Type 0} {at : Reader A} → IsExact g W at → (f : E → Spelling) (make : A → E) (s : Spelling) (all bytes : List ℕ) → Took s all bytes → ((a : A) → f (make a) ≡ s ⊕ g a) → (x : E) (rest : List ℕ) → made_at make at bytes ≡ Some (x, rest) → Took (f x) all rest
-after_takes {A} {E} {g} {W} {at} exact f make s all bytes front spelled x rest e =
+pub after_takes : {A E : Type 0} {g : A → Encoding} {W : A → Type 0} {at : Reader A} → IsExact g W at → (f : E → Encoding) (make : A → E) (s : Encoding) (all bytes : List ℕ) → Took s all bytes → ((a : A) → f (make a) ≡ s ⊕ g a) → (x : E) (rest : List ℕ) → made_at make at bytes ≡ Some (x, rest) → Took (f x) all rest
+after_takes {A} {E} {g} {W} {at} exact f make s all bytes front encoded x rest e =
     let a = step exact bytes (λ y. let p : Read E = Some (make y.0, y.1) in p) (x, rest) e in
     let made : E × List ℕ = (make a.0.0, a.0.1) in
-    subst (λ (p : E × List ℕ). Took (f p.0) all p.1) (some_is made (x, rest) a.2) (subst (λ (t : Spelling). Took t all a.0.1) (sym (spelled a.0.0)) (took_then front a.1))
+    subst (λ (p : E × List ℕ). Took (f p.0) all p.1) (some_is made (x, rest) a.2) (subst (λ (t : Encoding). Took t all a.0.1) (sym (encoded a.0.0)) (took_then front a.1))
 
-pub just_took : {E : Type 0} (f : E → Spelling) (c : E) (s : Spelling) (all bytes : List ℕ) → Took s all bytes → f c ≡ s → (x : E) (rest : List ℕ) → ◌≡◌ {A = Read E} (Some (c, bytes)) (Some (x, rest)) → Took (f x) all rest
-just_took {E} f c s all bytes front spelled x rest e =
-    subst (λ (p : E × List ℕ). Took (f p.0) all p.1) (some_is (c, bytes) (x, rest) e) (subst (λ (t : Spelling). Took t all bytes) (sym spelled) front)
+pub just_took : {E : Type 0} (f : E → Encoding) (c : E) (s : Encoding) (all bytes : List ℕ) → Took s all bytes → f c ≡ s → (x : E) (rest : List ℕ) → ◌≡◌ {A = Read E} (Some (c, bytes)) (Some (x, rest)) → Took (f x) all rest
+just_took {E} f c s all bytes front encoded x rest e =
+    subst (λ (p : E × List ℕ). Took (f p.0) all p.1) (some_is (c, bytes) (x, rest) e) (subst (λ (t : Encoding). Took t all bytes) (sym encoded) front)
 
 -- what a first byte that is not t says is not what t says
 pub record First {E : Type 0} (after : ℕ → Reader E) (bytes : List ℕ) (y : E × List ℕ) : Type 0 where
@@ -390,7 +390,7 @@ name_exact = record {
 
 -- ---- lists and options
 
-pub items_takes : {A : Type 0} {f : A → Spelling} {W : A → Type 0} {at : Reader A} → IsExact f W at → (n : ℕ) (bytes : List ℕ) (xs : List A) (rest : List ℕ) → items_at at n bytes ≡ Some (xs, rest) → Took (each f xs) bytes rest × (length xs ≡ n)
+pub items_takes : {A : Type 0} {f : A → Encoding} {W : A → Type 0} {at : Reader A} → IsExact f W at → (n : ℕ) (bytes : List ℕ) (xs : List A) (rest : List ℕ) → items_at at n bytes ≡ Some (xs, rest) → Took (each f xs) bytes rest × (length xs ≡ n)
 unfolding items_at
 items_takes {A} {f} {W} {at} exact zero bytes xs rest e =
     subst (λ (y : List A × List ℕ). Took (each f y.0) bytes y.1 × (length y.0 ≡ 0)) (some_is ([], bytes) (xs, rest) e) (record { parts = refl; fits = tt }, refl)
@@ -402,7 +402,7 @@ items_takes {A} {f} {W} {at} exact (suc n) bytes xs rest e =
     let whole : Took (each f (a.0.0 ∷ b.0.0)) bytes b.0.1 = took_then a.1 t.0 in
     subst (λ (y : List A × List ℕ). Took (each f y.0) bytes y.1 × (length y.0 ≡ suc n)) (some_is made (xs, rest) b.2) (whole, ap suc t.1)
 
-pub items_again : {A : Type 0} {f : A → Spelling} {W : A → Type 0} {at : Reader A} → IsExact f W at → (xs : List A) (rest : List ℕ) → AllByRecursion W xs → Fits (each f xs).counts → items_at at (length xs) ((each f xs).bytes ++ rest) ≡ Some (xs, rest)
+pub items_again : {A : Type 0} {f : A → Encoding} {W : A → Type 0} {at : Reader A} → IsExact f W at → (xs : List A) (rest : List ℕ) → AllByRecursion W xs → Fits (each f xs).counts → items_at at (length xs) ((each f xs).bytes ++ rest) ≡ Some (xs, rest)
 unfolding items_at
 items_again exact [] rest w fits = refl
 items_again {A} {f} {W} {at} exact (x ∷ xs) rest w fits =
@@ -421,7 +421,7 @@ each_read {A} {at} P one (suc n) bytes xs rest e =
     let made : List A × List ℕ = (a.0.0 ∷ b.0.0, b.0.1) in
     subst (λ (y : List A × List ℕ). AllByRecursion P y.0) (some_is made (xs, rest) b.2) (one bytes a.0.0 a.0.1 a.1, t)
 
-pub list_exact : {A : Type 0} {f : A → Spelling} {W : A → Type 0} {at : Reader A} → IsExact f W at → IsExact (listed f) (λ xs. AllByRecursion W xs) (list_at at)
+pub list_exact : {A : Type 0} {f : A → Encoding} {W : A → Type 0} {at : Reader A} → IsExact f W at → IsExact (listed f) (λ xs. AllByRecursion W xs) (list_at at)
 unfolding list_at
 list_exact {A} {f} {W} {at} exact = record {
   takes = λ bytes xs rest e.
@@ -435,12 +435,12 @@ list_exact {A} {f} {W} {at} exact = record {
       ap (list_at at) (append_assoc (leb (length xs)) (each f xs).bytes rest) ∙ rw (number_again (length xs) ((each f xs).bytes ++ rest) fits.0) (items_again exact xs rest w fits.1);
 }
 
-option_again : {A : Type 0} {f : A → Spelling} {W : A → Type 0} {at : Reader A} → IsExact f W at → (x : Option A) (rest : List ℕ) → Optionally W x → Fits (optional f x).counts → option_at at ((optional f x).bytes ++ rest) ≡ Some (x, rest)
+option_again : {A : Type 0} {f : A → Encoding} {W : A → Type 0} {at : Reader A} → IsExact f W at → (x : Option A) (rest : List ℕ) → Optionally W x → Fits (optional f x).counts → option_at at ((optional f x).bytes ++ rest) ≡ Some (x, rest)
 unfolding option_at
 option_again exact None rest w fits = refl
 option_again exact (Some x) rest w fits = made_again exact (λ y. Some y) x rest w fits
 
-option_takes : {A : Type 0} {f : A → Spelling} {W : A → Type 0} {at : Reader A} → IsExact f W at → (bytes : List ℕ) (x : Option A) (rest : List ℕ) → option_at at bytes ≡ Some (x, rest) → Took (optional f x) bytes rest
+option_takes : {A : Type 0} {f : A → Encoding} {W : A → Type 0} {at : Reader A} → IsExact f W at → (bytes : List ℕ) (x : Option A) (rest : List ℕ) → option_at at bytes ≡ Some (x, rest) → Took (optional f x) bytes rest
 unfolding option_at
 option_takes exact [] x rest e = absurd cc
 option_takes {A} {f} {W} {at} exact (b ∷ bytes) x rest e =
@@ -448,7 +448,7 @@ option_takes {A} {f} {W} {at} exact (b ∷ bytes) x rest e =
     case exact (optional f) (λ y. Some y) b 1 bytes _ x rest (λ a. refl) e (λ e.
     absurd cc))
 
-option_fine : {A : Type 0} {f : A → Spelling} {W : A → Type 0} {at : Reader A} → IsExact f W at → (bytes : List ℕ) (x : Option A) (rest : List ℕ) → option_at at bytes ≡ Some (x, rest) → Optionally W x
+option_fine : {A : Type 0} {f : A → Encoding} {W : A → Type 0} {at : Reader A} → IsExact f W at → (bytes : List ℕ) (x : Option A) (rest : List ℕ) → option_at at bytes ≡ Some (x, rest) → Optionally W x
 unfolding option_at
 option_fine exact [] x rest e = absurd cc
 option_fine {A} {f} {W} {at} exact (b ∷ bytes) x rest e =
@@ -456,5 +456,5 @@ option_fine {A} {f} {W} {at} exact (b ∷ bytes) x rest e =
     fine_case exact (Optionally W) (λ y. Some y) b 1 bytes _ x rest (λ a w. w) e (λ e.
     absurd cc))
 
-pub option_exact : {A : Type 0} {f : A → Spelling} {W : A → Type 0} {at : Reader A} → IsExact f W at → IsExact (optional f) (Optionally W) (option_at at)
+pub option_exact : {A : Type 0} {f : A → Encoding} {W : A → Type 0} {at : Reader A} → IsExact f W at → IsExact (optional f) (Optionally W) (option_at at)
 option_exact exact = record { takes = option_takes exact; fine = option_fine exact; again = option_again exact }

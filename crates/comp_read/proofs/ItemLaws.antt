@@ -5,7 +5,7 @@ use Rattle.std.proofs.lemmas.Bool.{eqb-true, eqb-false}
 use Rattle.std.proofs.lemmas.List.{append-nil, nil_from_length}
 use Rattle.std.proofs.lemmas.Slice.Eq.{bytes_eq-Decides}
 use Rattle.core_types.specs.Core.{is_core_module, core_preamble}
-use Rattle.byte_encoding.specs.Spelling.{Spelling, Fits, ◌⊕◌, raw, octet, number, quantity, each, listed, optional}
+use Rattle.byte_encoding.specs.Encoding.{Encoding, Fits, ◌⊕◌, raw, octet, number, quantity, each, listed, optional}
 use Rattle.comp_bytes.specs.Sections.{Entry, shares, contents}
 use Rattle.comp_bytes.specs.Grammar.{sort_bytes, extern_name, description_bytes, option_bytes, core_argument, core_inline_export, argument, item}
 use Rattle.standard_kinds.specs.declared.kinds.ExportKind.{ExportKind}
@@ -71,11 +71,11 @@ record TookItem (id : ℕ) (x : Item) (bytes rest : List ℕ) : Type 0 where
   fine : IsItem x
 
 -- a definition of what stands behind something that was taken
-item_of : {A : Type 0} {g : A → Spelling} {W : A → Type 0} {at : Reader A} → IsExact g W at → (make : A → Item) (id n : ℕ) (s : Spelling) (all bytes : List ℕ) → Took s all bytes → ((a : A) → (item (make a)).text ≡ s ⊕ g a) → ((a : A) → (item (make a)).id ≡ n) → ((a : A) → W a → IsItem (make a)) → id ≡ n → (x : Item) (rest : List ℕ) → made_at make at bytes ≡ Some (x, rest) → TookItem id x all rest
-item_of {A} {g} {W} {at} exact make id n s all bytes front spelled numbered keeps id-is x rest e =
+item_of : {A : Type 0} {g : A → Encoding} {W : A → Type 0} {at : Reader A} → IsExact g W at → (make : A → Item) (id n : ℕ) (s : Encoding) (all bytes : List ℕ) → Took s all bytes → ((a : A) → (item (make a)).text ≡ s ⊕ g a) → ((a : A) → (item (make a)).id ≡ n) → ((a : A) → W a → IsItem (make a)) → id ≡ n → (x : Item) (rest : List ℕ) → made_at make at bytes ≡ Some (x, rest) → TookItem id x all rest
+item_of {A} {g} {W} {at} exact make id n s all bytes front encoded numbered keeps id-is x rest e =
     let a = step exact bytes (λ y. let p : Read Item = Some (make y.0, y.1) in p) (x, rest) e in
     let made : Item × List ℕ = (make a.0.0, a.0.1) in
-    let text : Took (item (make a.0.0)).text all a.0.1 = subst (λ (t : Spelling). Took t all a.0.1) (sym (spelled a.0.0)) (took_then front a.1) in
+    let text : Took (item (make a.0.0)).text all a.0.1 = subst (λ (t : Encoding). Took t all a.0.1) (sym (encoded a.0.0)) (took_then front a.1) in
     let whole : TookItem id (make a.0.0) all a.0.1 = record { took = text; is = numbered a.0.0 ∙ sym id-is; fine = keeps a.0.0 (exact.fine bytes a.0.0 a.0.1 (step_is exact bytes _ (x, rest) e)) } in
     subst (λ (p : Item × List ℕ). TookItem id p.0 all p.1) (some_is made (x, rest) a.2) whole
 

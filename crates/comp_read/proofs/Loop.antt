@@ -13,10 +13,10 @@ regroup : {A : Type 0} (front : List A) (n : A) (read : Read (List A)) → with_
 regroup {A} front n (Some x) = ap (λ (ns : List A). Some (ns, x.1)) (simp append_assoc)
 regroup front n None = refl
 
-pub goes_on : {A : Type 0} (at : Reader A) (front : List A) (count i : ℕ) (bytes : List ℕ) (n : A) (after : List ℕ) (total : Read (List A)) → i < count → at bytes ≡ Some (n, after)
+pub continues : {A : Type 0} (at : Reader A) (front : List A) (count i : ℕ) (bytes : List ℕ) (n : A) (after : List ℕ) (total : Read (List A)) → i < count → at bytes ≡ Some (n, after)
     → with_front front (items_at at (count - i) bytes) ≡ total → with_front (front ++ n ∷ []) (items_at at (count - (i + 1)) after) ≡ total
 unfolding items_at
-goes_on at front count i bytes n after total lt h so_far =
+continues at front count i bytes n after total lt h so_far =
     let k : count - i ≡ suc (count - (i + 1)) = omega arith in
     let one : with_front front (items_at at (count - i) bytes) ≡ with_front (front ++ n ∷ []) (items_at at (count - (i + 1)) after) = rw (k, h) (regroup front n (items_at at (count - (i + 1)) after)) in
     sym one ∙ so_far

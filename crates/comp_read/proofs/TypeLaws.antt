@@ -2,7 +2,7 @@
 use Rattle.std.proofs.Common.{◌≡◌, ℕ, Bool, true, false, eqb, List, [], ◌∷◌, ◌++◌, Option, Some, None, refl, ap, subst, ◌∙◌}
 use Rattle.std.specs.Prelude.{if◌then◌else◌}
 use Rattle.std.specs.List.{AllByRecursion}
-use Rattle.byte_encoding.specs.Spelling.{Spelling, Fits, ◌⊕◌, octet, listed, optional}
+use Rattle.byte_encoding.specs.Encoding.{Encoding, Fits, ◌⊕◌, octet, listed, optional}
 use Rattle.comp_bytes.specs.Grammar.{primitive_byte, value_type, field, defined_type, function_result, function_type, type_def, member}
 use Rattle.standard_kinds.specs.declared.kinds.Primitive.{Primitive}
 use Rattle.standard_kinds.specs.declared.kinds.Primitive.TheVariants as primitives
@@ -16,7 +16,7 @@ use Rattle.comp_bytes.specs.declared.types.TypeDef.TheVariants as types
 use Rattle.comp_bytes.specs.declared.types.Member.{Member}
 use Rattle.comp_bytes.specs.declared.types.Member.TheVariants as members
 use Rattle.comp_bytes.specs.declared.types.InstanceType.{InstanceType}
-use Rattle.comp_read.specs.Reading.{◌>>=◌, Read, Reader, made_at, then_at, behind, tagged, expect, number_at, option_at}
+use Rattle.comp_read.specs.Reading.{◌>>=◌, Read, Reader, made_at, then_at, after_byte, tagged, expect, number_at, option_at}
 use Rattle.comp_read.specs.PartReaders.{primitive_after, value_type_at, result_type_at, small_type_after, defined_after, func_type_at, type_def_after, member_at, instance_type_at}
 use Rattle.comp_read.specs.Writable.{Optionally, IsValueType, IsField, IsDefinedType, IsFuncType, IsTypeDef, IsMember, IsInstanceType}
 use Rattle.comp_read.proofs.Exact.{IsExact, Took, took_then, some_is, made_takes, made_again, bind_fine, made_fine, fine_case, made_exact, then_exact, expect_step, case, tag_case, took_byte, after_takes, first_of_tagged, other_byte, number_exact, name_exact, list_exact, option_exact}
@@ -106,7 +106,7 @@ defined_again (defined.Future t) rest w fits = made_again (option_exact value_ty
 
 -- ---- types
 
-abbrev func_text : FuncTypeDef → Spelling
+abbrev func_text : FuncTypeDef → Encoding
 func_text f = listed field f.params ⊕ function_result f.result
 
 func_takes : (is_async : Bool) (bytes : List ℕ) (f : FuncTypeDef) (rest : List ℕ) → func_type_at is_async bytes ≡ Some (f, rest) → (all : List ℕ) (t : ℕ) → t ≡ (if is_async then 0x43 else 0x40) → Took (octet t) all bytes → Took (function_type f) all rest
@@ -132,7 +132,7 @@ func_case : (is_async : Bool) (b t : ℕ) (bytes : List ℕ) (x : TypeDef) (rest
 func_case is_async b t bytes x rest is b-is e =
     from_func is_async b t bytes x rest is b-is (func_type_at is_async bytes) refl e
 
-resource_case : (b : ℕ) (bytes : List ℕ) (x : TypeDef) (rest : List ℕ) → b ≡ 0x3f → behind 0x7f (made_at (λ destructor. types.Resource destructor) (option_at number_at)) bytes ≡ Some (x, rest) → Took (type_def x) (b ∷ bytes) rest
+resource_case : (b : ℕ) (bytes : List ℕ) (x : TypeDef) (rest : List ℕ) → b ≡ 0x3f → after_byte 0x7f (made_at (λ destructor. types.Resource destructor) (option_at number_at)) bytes ≡ Some (x, rest) → Took (type_def x) (b ∷ bytes) rest
 resource_case b bytes x rest is e =
     let at : Reader TypeDef = made_at (λ destructor. types.Resource destructor) (option_at number_at) in
     let z = expect_step 0x7f bytes at (x, rest) e in

@@ -2,7 +2,7 @@
 use Rattle.std.proofs.Common.{◌≡◌, ℕ, ◌+◌, ◌/◌, ◌%◌, ◌<◌, ◌≤◌, true, false, cond, ltb, eqb, List, [], ◌∷◌, ◌++◌, Option, Some, None, refl, sym, ap, subst, ◌∙◌, arith, inl, inr, ◌⊎◌}
 use Rattle.std.specs.Str.{IsUtf8}
 use Rattle.std.proofs.lemmas.Bool.{cases_lt, lt-ltb, le-ltb, eqb-true}
-use Rattle.byte_encoding.specs.Spelling.{Spelling, Fits, ◌⊕◌, octet, groups_of_seven, leb128, signed_leb, number, named}
+use Rattle.byte_encoding.specs.Encoding.{Encoding, Fits, ◌⊕◌, octet, groups_of_seven, leb128, signed_leb, number, named}
 use Rattle.standard_kinds.specs.Bytes.{kind_byte}
 use Rattle.comp_bytes.specs.Grammar.{export_byte, sort_bytes, primitive_byte, value_type, field, case_of, function_result, extern_name, description_bytes, alias_bytes}
 use Rattle.standard_kinds.specs.declared.kinds.ExportKind.{ExportKind}
@@ -22,7 +22,7 @@ use Rattle.comp_bytes.specs.declared.types.Description.{Description}
 use Rattle.comp_bytes.specs.declared.types.Description.TheVariants as descriptions
 use Rattle.comp_bytes.specs.declared.types.Alias.{Alias}
 use Rattle.comp_bytes.specs.declared.types.Alias.TheVariants as aliases
-use Rattle.comp_read.specs.Reading.{Read, then_at, behind, before_byte, tagged, expect, number_at, type_index_at, name_at}
+use Rattle.comp_read.specs.Reading.{Read, then_at, after_byte, before_byte, tagged, expect, number_at, type_index_at, name_at}
 use Rattle.comp_read.specs.PartReaders.{kind_at, sort_at, primitive_of, primitive_after, primitive_or, value_type_at, field_at, case_at, result_at, extern_name_at, type_bound_at, description_at, core_alias_at, export_alias_at, outer_alias_at, type_alias_at, alias_at}
 use Rattle.comp_read.specs.Writable.{IsIndex, Optionally, Always, IsValueType, IsField, IsCase, IsExternName, IsDescription, IsAlias}
 use Rattle.comp_read.proofs.Exact.{IsExact, Took, took_then, bind_some, some_is, chosen, made_takes, made_again, made_fine, fine_case, fine_lone, made_exact, then_exact, expect_step, expect_again, before_exact, case, lone, other, tag_case, took_byte, after_takes, just_took, number_exact, type_index_exact, name_exact, option_exact}
@@ -33,7 +33,7 @@ kind_takes : (bytes : List ℕ) (x : ExportKind) (rest : List ℕ) → kind_at b
 unfolding kind_at
 kind_takes [] x rest e = absurd cc
 kind_takes (b ∷ bytes) x rest e =
-    let f : ExportKind → Spelling = λ k. octet (kind_byte k) in
+    let f : ExportKind → Encoding = λ k. octet (kind_byte k) in
     lone f kinds.Func b 0x00 bytes _ x rest refl e (λ e.
     lone f kinds.Table b 0x01 bytes _ x rest refl e (λ e.
     lone f kinds.Memory b 0x02 bytes _ x rest refl e (λ e.
@@ -328,8 +328,8 @@ unfolding export_alias_at
 export_alias_takes kind all bytes x rest t e =
     after_takes (then_exact number_exact name_exact) alias_bytes (λ p. aliases.Export kind p.0 p.1) (octet (export_byte kind) ⊕ octet 0x00) all bytes t (λ a. refl) x rest e
 
-behind_kind : (kind : ComponentExportKind) (b : ℕ) (bytes : List ℕ) (x : Alias) (rest : List ℕ) → b ≡ export_byte kind → behind 0x00 (export_alias_at kind) bytes ≡ Some (x, rest) → Took (alias_bytes x) (b ∷ bytes) rest
-behind_kind kind b bytes x rest is e =
+after_kind : (kind : ComponentExportKind) (b : ℕ) (bytes : List ℕ) (x : Alias) (rest : List ℕ) → b ≡ export_byte kind → after_byte 0x00 (export_alias_at kind) bytes ≡ Some (x, rest) → Took (alias_bytes x) (b ∷ bytes) rest
+after_kind kind b bytes x rest is e =
     let z = expect_step 0x00 bytes (export_alias_at kind) (x, rest) e in
     export_alias_takes kind (b ∷ bytes) z.0 x rest (took_then (took_byte b (export_byte kind) bytes is) z.1) z.2
 
@@ -349,10 +349,10 @@ unfolding alias_at core_alias_at
 alias_takes [] x rest e = absurd cc
 alias_takes (b ∷ bytes) x rest e =
     case core_parts alias_bytes (λ p. aliases.CoreExport p.0.0 p.0.1 p.1) b 0x00 bytes _ x rest (λ a. refl) e (λ e.
-    tag_case b 0x01 _ _ (x, rest) e (behind_kind exports.Func b bytes x rest) (λ e.
+    tag_case b 0x01 _ _ (x, rest) e (after_kind exports.Func b bytes x rest) (λ e.
     tag_case b 0x03 _ _ (x, rest) e (λ is made. type_alias_takes (b ∷ bytes) bytes x rest (took_byte b 0x03 bytes is) made) (λ e.
-    tag_case b 0x04 _ _ (x, rest) e (behind_kind exports.Component b bytes x rest) (λ e.
-    tag_case b 0x05 _ _ (x, rest) e (behind_kind exports.Instance b bytes x rest) (λ e.
+    tag_case b 0x04 _ _ (x, rest) e (after_kind exports.Component b bytes x rest) (λ e.
+    tag_case b 0x05 _ _ (x, rest) e (after_kind exports.Instance b bytes x rest) (λ e.
     absurd cc)))))
 
 alias_again : (x : Alias) (rest : List ℕ) → IsAlias x → Fits (alias_bytes x).counts → alias_at ((alias_bytes x).bytes ++ rest) ≡ Some (x, rest)
@@ -368,8 +368,8 @@ export_alias_fine : (kind : ComponentExportKind) (bytes : List ℕ) (x : Alias) 
 unfolding export_alias_at
 export_alias_fine kind bytes x rest e = made_fine (then_exact number_exact name_exact) IsAlias (λ p. aliases.Export kind p.0 p.1) (λ a w. w) bytes x rest e
 
-behind_fine : (kind : ComponentExportKind) (bytes : List ℕ) (x : Alias) (rest : List ℕ) → behind 0x00 (export_alias_at kind) bytes ≡ Some (x, rest) → IsAlias x
-behind_fine kind bytes x rest e =
+after_byte_fine : (kind : ComponentExportKind) (bytes : List ℕ) (x : Alias) (rest : List ℕ) → after_byte 0x00 (export_alias_at kind) bytes ≡ Some (x, rest) → IsAlias x
+after_byte_fine kind bytes x rest e =
     let z = expect_step 0x00 bytes (export_alias_at kind) (x, rest) e in
     export_alias_fine kind z.0 x rest z.2
 
@@ -386,10 +386,10 @@ unfolding alias_at core_alias_at
 alias_fine [] x rest e = absurd cc
 alias_fine (b ∷ bytes) x rest e =
     fine_case core_parts IsAlias (λ p. aliases.CoreExport p.0.0 p.0.1 p.1) b 0x00 bytes _ x rest (λ a w. (w.0.1, w.1)) e (λ e.
-    tag_case b 0x01 _ _ (x, rest) e (λ is made. behind_fine exports.Func bytes x rest made) (λ e.
+    tag_case b 0x01 _ _ (x, rest) e (λ is made. after_byte_fine exports.Func bytes x rest made) (λ e.
     tag_case b 0x03 _ _ (x, rest) e (λ is made. type_alias_fine bytes x rest made) (λ e.
-    tag_case b 0x04 _ _ (x, rest) e (λ is made. behind_fine exports.Component bytes x rest made) (λ e.
-    tag_case b 0x05 _ _ (x, rest) e (λ is made. behind_fine exports.Instance bytes x rest made) (λ e.
+    tag_case b 0x04 _ _ (x, rest) e (λ is made. after_byte_fine exports.Component bytes x rest made) (λ e.
+    tag_case b 0x05 _ _ (x, rest) e (λ is made. after_byte_fine exports.Instance bytes x rest made) (λ e.
     absurd cc)))))
 
 pub alias_exact : IsExact alias_bytes IsAlias alias_at

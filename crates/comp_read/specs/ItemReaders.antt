@@ -7,7 +7,7 @@ use Rattle.comp_bytes.specs.declared.def.CoreInlineExport.{CoreInlineExport}
 use Rattle.comp_bytes.specs.declared.def.Argument.{Argument}
 use Rattle.comp_bytes.specs.declared.def.Item.{Item}
 use Rattle.comp_bytes.specs.declared.def.Item.TheVariants as items
-use Rattle.comp_read.specs.Reading.{◌>>=◌, Reader, made_at, then_at, behind, before_byte, tagged, number_at, name_at, items_at, list_at, option_at}
+use Rattle.comp_read.specs.Reading.{◌>>=◌, Reader, made_at, then_at, after_byte, before_byte, tagged, number_at, name_at, items_at, list_at, option_at}
 use Rattle.comp_read.specs.PartReaders.{kind_at, sort_at, alias_at, type_def_after, instance_type_at, index_and_options_at, intrinsic_after, extern_name_at, description_at}
 
 unfoldable pub core_argument_at : Reader CoreArgument
@@ -29,7 +29,7 @@ unfoldable pub core_instance_at : Reader Item
 core_instance_at bytes = tagged core_instance_after bytes
 
 unfoldable pub instance_at : Reader Item
-instance_at bytes = behind 0x00 (made_at (λ p. items.Instantiate p.0 p.1) (then_at number_at (list_at argument_at))) bytes
+instance_at bytes = after_byte 0x00 (made_at (λ p. items.Instantiate p.0 p.1) (then_at number_at (list_at argument_at))) bytes
 
 abbrev pub type_item_after : ℕ → Reader Item
 type_item_after b bytes =
@@ -40,10 +40,10 @@ unfoldable pub type_item_at : Reader Item
 type_item_at bytes = tagged type_item_after bytes
 
 unfoldable pub lift_at : Reader Item
-lift_at bytes = behind 0x00 (made_at (λ p. items.Lift p.0.0 p.0.1 p.1) (then_at index_and_options_at number_at)) bytes
+lift_at bytes = after_byte 0x00 (made_at (λ p. items.Lift p.0.0 p.0.1 p.1) (then_at index_and_options_at number_at)) bytes
 
 unfoldable pub lower_at : Reader Item
-lower_at bytes = behind 0x00 (made_at (λ p. items.Lower p.0 p.1) index_and_options_at) bytes
+lower_at bytes = after_byte 0x00 (made_at (λ p. items.Lower p.0 p.1) index_and_options_at) bytes
 
 abbrev pub canon_after : ℕ → Reader Item
 canon_after b bytes =

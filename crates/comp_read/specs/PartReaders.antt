@@ -32,7 +32,7 @@ use Rattle.comp_bytes.specs.declared.canon.ContextType.{ContextType}
 use Rattle.comp_bytes.specs.declared.canon.ContextType.TheVariants as contexts
 use Rattle.comp_bytes.specs.declared.canon.Intrinsic.{Intrinsic}
 use Rattle.comp_bytes.specs.declared.canon.Intrinsic.TheVariants as intrinsics
-use Rattle.comp_read.specs.Reading.{◌>>=◌, Read, Reader, made_at, then_at, behind, before_byte, tagged, byte_at, expect, number_at, type_index_at, name_at, list_at, option_at}
+use Rattle.comp_read.specs.Reading.{◌>>=◌, Read, Reader, made_at, then_at, after_byte, before_byte, tagged, byte_at, expect, number_at, type_index_at, name_at, list_at, option_at}
 
 -- ---- sorts
 
@@ -138,7 +138,7 @@ unfoldable pub type_def_after : ℕ → Reader TypeDef
 type_def_after b bytes =
     if b == 0x40 then made_at (λ f. types.Func f) (func_type_at false) bytes
     else (if b == 0x43 then made_at (λ f. types.Func f) (func_type_at true) bytes
-    else (if b == 0x3f then behind 0x7f (made_at (λ destructor. types.Resource destructor) (option_at number_at)) bytes
+    else (if b == 0x3f then after_byte 0x7f (made_at (λ destructor. types.Resource destructor) (option_at number_at)) bytes
     else made_at (λ t. types.Defined t) (defined_after b) bytes))
 
 -- ---- names, descriptions, aliases, members
@@ -194,10 +194,10 @@ type_alias_at bytes = tagged type_alias_after bytes
 abbrev pub alias_after : ℕ → Reader Alias
 alias_after b bytes =
     if b == 0x00 then core_alias_at bytes
-    else (if b == 0x01 then behind 0x00 (export_alias_at exports.Func) bytes
+    else (if b == 0x01 then after_byte 0x00 (export_alias_at exports.Func) bytes
     else (if b == 0x03 then type_alias_at bytes
-    else (if b == 0x04 then behind 0x00 (export_alias_at exports.Component) bytes
-    else (if b == 0x05 then behind 0x00 (export_alias_at exports.Instance) bytes
+    else (if b == 0x04 then after_byte 0x00 (export_alias_at exports.Component) bytes
+    else (if b == 0x05 then after_byte 0x00 (export_alias_at exports.Instance) bytes
     else None))))
 
 unfoldable pub alias_at : Reader Alias
@@ -260,7 +260,7 @@ slot_at bytes = then_at context_at number_at bytes
 
 -- the memory of a wait
 unfoldable pub memory_at : Reader ℕ
-memory_at bytes = behind 0x00 number_at bytes
+memory_at bytes = after_byte 0x00 number_at bytes
 
 unfoldable pub waiting_after : ℕ → Reader Intrinsic
 waiting_after b bytes =

@@ -44,8 +44,8 @@ unfoldable pub expect : ℕ → List ℕ → Option (List ℕ)
 expect byte bytes = byte_at bytes >>= λ b. if b.0 == byte then Some b.1 else None
 
 -- behind this byte
-abbrev pub behind : {A : Type 0} → ℕ → Reader A → Reader A
-behind byte at bytes = expect byte bytes >>= λ rest. at rest
+abbrev pub after_byte : {A : Type 0} → ℕ → Reader A → Reader A
+after_byte byte at bytes = expect byte bytes >>= λ rest. at rest
 
 -- before this byte
 abbrev pub before_byte : {A : Type 0} → Reader A → ℕ → Reader A

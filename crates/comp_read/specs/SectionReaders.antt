@@ -12,24 +12,24 @@ use Rattle.comp_read.specs.Reading.{◌>>=◌, byte_at, sized_at}
 use Rattle.comp_read.specs.ItemReaders.{contents_at}
 
 -- what is read, or where the section begins that can't be
-abbrev pub Placed : Type 0 → Type 0
-Placed A = Result A ℕ
+abbrev pub ReadResult : Type 0 → Type 0
+ReadResult A = Result A ℕ
 
 infixl 10 ◌>>>◌
-abbrev pub ◌>>>◌ : {A B : Type 0} → Placed A → (A → Placed B) → Placed B
+abbrev pub ◌>>>◌ : {A B : Type 0} → ReadResult A → (A → ReadResult B) → ReadResult B
 (Ok x) >>> f = f x
-(Err place) >>> f = Err place
+(Err offset) >>> f = Err offset
 
-abbrev pub told_at : {A : Type 0} → ℕ → Option A → Placed A
-told_at place None = Err place
-told_at place (Some x) = Ok x
+abbrev pub ok_or_at : {A : Type 0} → ℕ → Option A → ReadResult A
+ok_or_at offset None = Err offset
+ok_or_at offset (Some x) = Ok x
 
 -- What a function returned, seen by view, is what reading gives, unless memory ran out.
-abbrev pub FailsAt : {Y : Type 0} → ReadFault → Placed Y → Type 0
+abbrev pub FailsAt : {Y : Type 0} → ReadFault → ReadResult Y → Type 0
 FailsAt reads.Memory read = Unit {0}
-FailsAt (reads.Grammar place) read = read ≡ Err place
+FailsAt (reads.Grammar offset) read = read ≡ Err offset
 
-abbrev pub GivesAt : {X Y : Type 0} → (X → Y) → Result X ReadFault → Placed Y → Type 0
+abbrev pub GivesAt : {X Y : Type 0} → (X → Y) → Result X ReadFault → ReadResult Y → Type 0
 GivesAt view (Ok x) read = read ≡ Ok (view x)
 GivesAt view (Err e) read = FailsAt e read
 
@@ -43,32 +43,32 @@ header_at last bytes = byte_at bytes >>= λ b. if repeats last b.0 then None els
 
 -- How what is in a section is read: by its id, the section's place, the place of what is in it, and these bytes.
 abbrev pub Contents : Type 0 → Type 0
-Contents D = ℕ → ℕ → ℕ → List ℕ → Placed (List D)
+Contents D = ℕ → ℕ → ℕ → List ℕ → ReadResult (List D)
 
-unfoldable pub section_at : {D : Type 0} → Contents D → ℕ → ℕ → List ℕ → Placed (ℕ × List D × List ℕ)
-section_at at place last bytes =
-    told_at place (header_at last bytes) >>> λ h.
-    at h.0 place (place + (length bytes - length h.2 - length h.1)) h.1 >>> λ found. Ok (h.0, found, h.2)
+unfoldable pub section_at : {D : Type 0} → Contents D → ℕ → ℕ → List ℕ → ReadResult (ℕ × List D × List ℕ)
+section_at at offset last bytes =
+    ok_or_at offset (header_at last bytes) >>> λ h.
+    at h.0 offset (offset + (length bytes - length h.2 - length h.1)) h.1 >>> λ found. Ok (h.0, found, h.2)
 
 -- at most so many sections, all of the bytes, which stand at a place
-unfoldable pub sections_at : {D : Type 0} → Contents D → ℕ → ℕ → ℕ → List ℕ → Placed (List D)
-sections_at at zero place last bytes = if length bytes == 0 then Ok [] else Err place
-sections_at at (suc most) place last bytes =
+unfoldable pub sections_at : {D : Type 0} → Contents D → ℕ → ℕ → ℕ → List ℕ → ReadResult (List D)
+sections_at at zero offset last bytes = if length bytes == 0 then Ok [] else Err offset
+sections_at at (suc most) offset last bytes =
     if length bytes == 0 then Ok []
-    else (section_at at place last bytes >>> λ s.
-    sections_at at most (place + (length bytes - length s.2)) s.0 s.2 >>> λ more. Ok (s.1 ++ more))
+    else (section_at at offset last bytes >>> λ s.
+    sections_at at most (offset + (length bytes - length s.2)) s.0 s.2 >>> λ more. Ok (s.1 ++ more))
 
 -- a component, which stands at start; place is where a wrong beginning is told
-unfoldable pub component_at : {D : Type 0} → Contents D → ℕ → ℕ → List ℕ → Placed (List D)
-component_at at place start bytes =
-    if starts_with nat_eq bytes preamble then sections_at at (length (drop 8 bytes)) (start + 8) 0 (drop 8 bytes) else Err place
+unfoldable pub component_at : {D : Type 0} → Contents D → ℕ → ℕ → List ℕ → ReadResult (List D)
+component_at at offset start bytes =
+    if starts_with nat_eq bytes preamble then sections_at at (length (drop 8 bytes)) (start + 8) 0 (drop 8 bytes) else Err offset
 
 -- what is in the sections of a nested component
 abbrev pub item_contents_at : Contents Item
-item_contents_at id place start inner = told_at place (contents_at id inner)
+item_contents_at id offset start inner = ok_or_at offset (contents_at id inner)
 
 -- what is in the sections of a component
 abbrev pub definition_contents_at : Contents Def
-definition_contents_at id place start inner =
-    if id == 4 then (component_at item_contents_at place start inner >>> λ found. Ok (defs.Component found ∷ []))
-    else (told_at place (contents_at id inner) >>> λ found. Ok (map (λ i. defs.Item i) found))
+definition_contents_at id offset start inner =
+    if id == 4 then (component_at item_contents_at offset start inner >>> λ found. Ok (defs.Component found ∷ []))
+    else (ok_or_at offset (contents_at id inner) >>> λ found. Ok (map (λ i. defs.Item i) found))

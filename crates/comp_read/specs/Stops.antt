@@ -2,7 +2,7 @@
 -- no longer beginning of them is one. Component model, binary format: `component`, `section`.
 use Rattle.std.specs.Prelude.{ℕ, ◌≡◌, ◌+◌, ◌<◌, ◌≤◌, ◌^◌, nat_eq, false, true, List, ◌∷◌, ◌++◌, length, map, ◌⊎◌}
 use Rattle.std.specs.List.{AllByRecursion, starts_with}
-use Rattle.byte_encoding.specs.Spelling.{Fits, leb, named}
+use Rattle.byte_encoding.specs.Encoding.{Fits, leb, named}
 use Rattle.comp_bytes.specs.Sections.{Entry, preamble, component}
 use Rattle.comp_bytes.specs.Grammar.{item, definition}
 use Rattle.comp_read.specs.Writable.{IsItem, IsDefinition}
@@ -26,15 +26,15 @@ pub record Nested (bytes inner : List ℕ) : Type 0 where
 
 -- The section at the front stands at `end`. The place is there, or where reading stops in the component in it.
 abbrev pub Innermost : List ℕ → ℕ → ℕ → Type 0
-Innermost bytes end place =
-    (((inner : List ℕ) → Nested bytes inner → ⊥) × (place ≡ end))
-    ⊎ ((inner : List ℕ) × (inside : ℕ) × Nested bytes inner × Longest item IsItem inner inside × (place ≡ end + (1 + length (leb (length inner))) + inside))
+Innermost bytes end offset =
+    (((inner : List ℕ) → Nested bytes inner → ⊥) × (offset ≡ end))
+    ⊎ ((inner : List ℕ) × (inside : ℕ) × Nested bytes inner × Longest item IsItem inner inside × (offset ≡ end + (1 + length (leb (length inner))) + inside))
 
 -- The place of the innermost section that can't be read; 0 where the bytes don't begin as a component does.
-pub record StopsBehind (bytes : List ℕ) (place : ℕ) : Type 0 where
+pub record StopsAfter (bytes : List ℕ) (offset : ℕ) : Type 0 where
   pub end : ℕ
   pub longest : Longest definition IsDefinition bytes end
-  pub innermost : Innermost longest.rest end place
+  pub innermost : Innermost longest.rest end offset
 
-abbrev pub IsPlace : List ℕ → ℕ → Type 0
-IsPlace bytes place = ((starts_with nat_eq bytes preamble ≡ false) × (place ≡ 0)) ⊎ StopsBehind bytes place
+abbrev pub IsFaultOffset : List ℕ → ℕ → Type 0
+IsFaultOffset bytes offset = ((starts_with nat_eq bytes preamble ≡ false) × (offset ≡ 0)) ⊎ StopsAfter bytes offset

@@ -4,10 +4,10 @@
 
 ghost use Rattle.std.specs.Prelude.{◌≡◌, List, length, map, IfOk, IfErr};
 ghost use Rattle.comp_bytes.specs.declared.def.Def.TheVariants as defs;
-ghost use Rattle.comp_bytes.specs.Grammar.{Spells};
+ghost use Rattle.comp_bytes.specs.Grammar.{Encodes};
 ghost use Rattle.comp_read.specs.Causes.{IsRefusal};
 ghost use Rattle.comp_read.specs.ItemReaders.{contents_at};
-ghost use Rattle.comp_read.specs.SectionReaders.{GivesAt, told_at};
+ghost use Rattle.comp_read.specs.SectionReaders.{GivesAt, ok_or_at};
 
 use crate::fault::{PartFault, ReadFault};
 use crate::items;
@@ -17,7 +17,7 @@ use comp_lists::Seq;
 use std::alloc::{AllocError, Global};
 
 fn item_contents(alloc: Global, place: usize, id: u8, inner: &[u8]) -> Result<Seq<Item>, ReadFault>
-    ensures { GivesAt (λ x. x) result (told_at place (contents_at id inner.now)) }
+    ensures { GivesAt (λ x. x) result (ok_or_at place (contents_at id inner.now)) }
 {
     match items::contents(alloc, id, inner) {
         Ok(items) => Ok(items),
@@ -78,7 +78,7 @@ impl SectionItem for Def {
 
 /// The definitions of a component, read from its binary format.
 pub fn read_component(alloc: Global, bytes: &[u8]) -> Result<Defs, ReadFault>
-    ensures ok { IfOk result (λ defs. Spells bytes.now defs) }
+    ensures ok { IfOk result (λ defs. Encodes bytes.now defs) }
     ensures cause { IfErr result (λ e. IsRefusal bytes.now e) }
 {
     component::<Def>(alloc, 0, 0, bytes)

@@ -4,7 +4,7 @@
 //! that it spells. It shares no code with what writes them, and reserves nothing by a count that it
 //! only read.
 //!
-//! Its clauses say three things. What it gives, the bytes spell (`Spells` of `comp_bytes`). Where it
+//! Its clauses say three things. What it gives, the bytes spell (`Encodes` of `comp_bytes`). Where it
 //! refuses for another reason than want of memory, no list that a program can hold is spelled by the
 //! bytes (`specs/Causes.antt`, `specs/Writable.antt`). And the place that it tells is that of the
 //! innermost section that cannot be read (`specs/Stops.antt`): the longest beginning of the bytes that

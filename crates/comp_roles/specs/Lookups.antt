@@ -18,9 +18,9 @@ use Rattle.comp_roles.specs.declared.exports.Export.{Export}
 use Rattle.comp_roles.specs.declared.exports.Export.TheVariants as exports
 
 -- the first value that the function gives for an element
-abbrev pub first_told : {A B : Type 0} → (A → Option B) → List A → Option B
-first_told told [] = None
-first_told told (x ∷ xs) = option_or (told x) (first_told told xs)
+abbrev pub first_some : {A B : Type 0} → (A → Option B) → List A → Option B
+first_some pick [] = None
+first_some pick (x ∷ xs) = option_or (pick x) (first_some pick xs)
 
 -- the exports of a module, by name
 abbrev pub Exports : Type 0
@@ -28,8 +28,8 @@ Exports = List (List ℕ × Export)
 
 -- the name of the first export that passes the test
 abbrev pub first_export : (Export → Bool) → Exports → Option (List ℕ)
-first_export wanted [] = None
-first_export wanted (entry ∷ rest) = if wanted entry.1 then Some entry.0 else first_export wanted rest
+first_export matching [] = None
+first_export matching (entry ∷ rest) = if matching entry.1 then Some entry.0 else first_export matching rest
 
 -- ---- imports
 
@@ -38,11 +38,11 @@ memory_of_import (imports.MainModuleMemory ty) = Some ty
 memory_of_import role = None
 
 abbrev pub memory_of_fields : List (List ℕ × Import) → Option MemoryType
-memory_of_fields fields = first_told (λ f. memory_of_import f.1) fields
+memory_of_fields fields = first_some (λ f. memory_of_import f.1) fields
 
 -- the memory of main that a module imports, group by group
 abbrev pub imported_memory : List (List ℕ × ImportInstance) → Option MemoryType
-imported_memory groups = first_told (λ g. memory_of_fields (fields_of g.1)) groups
+imported_memory groups = first_some (λ g. memory_of_fields (fields_of g.1)) groups
 
 -- the imports of these fields of a module
 abbrev pub field_imports : List ℕ → List (List ℕ × Import) → List CoreImport
@@ -113,10 +113,10 @@ abi_of key function role = None
 -- ---- in all exports of a module
 
 abbrev pub first_memory : Exports → Option (List ℕ × MemoryType)
-first_memory entries = first_told memory_of entries
+first_memory entries = first_some memory_of entries
 
 abbrev pub first_abi : WorldKey → List ℕ → Exports → Option AbiVariant
-first_abi key function entries = first_told (λ e. abi_of key function e.1) entries
+first_abi key function entries = first_some (λ e. abi_of key function e.1) entries
 
 -- the names of all reallocs, in order
 abbrev pub realloc_names : Exports → List (List ℕ)
@@ -124,7 +124,7 @@ realloc_names entries = map (λ e. e.0) (filter (λ e. is_realloc e.1) entries)
 
 -- the realloc for these calls, or else the general one
 abbrev pub realloc_for : (Export → Bool) → Exports → Option (List ℕ)
-realloc_for wanted entries = option_or (first_export wanted entries) (first_export is_general_realloc entries)
+realloc_for matching entries = option_or (first_export matching entries) (first_export is_general_realloc entries)
 
 -- a name with its value, as a look-up borrows it
 abbrev pub lent_pair : {A X : Type 0} → Option (Bor A × X) → Option (A × X)

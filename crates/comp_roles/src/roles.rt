@@ -13,15 +13,15 @@ pub(crate) trait Role {
     ghost use Rattle.std.specs.Prelude.{Bool};
     ghost use Rattle.comp_roles.specs.declared.exports.Export.{Export};
 
-    ghost wanted: { Self → Export → Bool };
+    ghost matching: { Self → Export → Bool };
 
     fn is(&self, export: &Export) -> bool
-        ensures { result ≡ wanted self.now export.now };
+        ensures { result ≡ matching self.now export.now };
 }
 
 /// The name of the first export with this role.
 pub(crate) fn first<'a, R: Role>(exports: &'a Keyed<Text, Export>, role: &R) -> Option<&'a str>
-    ensures { option_copied result ≡ first_export (R.wanted role.now) exports.now }
+    ensures { option_copied result ≡ first_export (R.matching role.now) exports.now }
 {
     for (name, export) in exports.entries() {
         if role.is(export) {
@@ -38,7 +38,7 @@ pub(crate) struct Initialize;
 impl Role for Initialize {
     ghost use Rattle.comp_roles.specs.Lookups.{is_initialize};
 
-    ghost wanted = { λ role. is_initialize };
+    ghost matching = { λ role. is_initialize };
 
     fn is(&self, export: &Export) -> bool {
         matches!(export, Export::Initialize)
@@ -52,7 +52,7 @@ pub(crate) struct TaskHook;
 impl Role for TaskHook {
     ghost use Rattle.comp_roles.specs.Lookups.{is_task_hook};
 
-    ghost wanted = { λ role. is_task_hook };
+    ghost matching = { λ role. is_task_hook };
 
     fn is(&self, export: &Export) -> bool {
         matches!(export, Export::WasmTaskHook)
@@ -66,7 +66,7 @@ pub(crate) struct GeneralRealloc;
 impl Role for GeneralRealloc {
     ghost use Rattle.comp_roles.specs.Lookups.{is_general_realloc};
 
-    ghost wanted = { λ role. is_general_realloc };
+    ghost matching = { λ role. is_general_realloc };
 
     fn is(&self, export: &Export) -> bool {
         matches!(export, Export::GeneralPurposeRealloc)
@@ -80,7 +80,7 @@ pub(crate) struct ImportRealloc;
 impl Role for ImportRealloc {
     ghost use Rattle.comp_roles.specs.Lookups.{is_import_realloc};
 
-    ghost wanted = { λ role. is_import_realloc };
+    ghost matching = { λ role. is_import_realloc };
 
     fn is(&self, export: &Export) -> bool {
         matches!(export, Export::GeneralPurposeImportRealloc)
@@ -94,7 +94,7 @@ pub(crate) struct ExportRealloc;
 impl Role for ExportRealloc {
     ghost use Rattle.comp_roles.specs.Lookups.{is_export_realloc};
 
-    ghost wanted = { λ role. is_export_realloc };
+    ghost matching = { λ role. is_export_realloc };
 
     fn is(&self, export: &Export) -> bool {
         matches!(export, Export::GeneralPurposeExportRealloc)
@@ -111,7 +111,7 @@ pub(crate) struct PostReturn<'a> {
 impl Role for PostReturn<'_> {
     ghost use Rattle.comp_roles.specs.Lookups.{is_post_return};
 
-    ghost wanted = { λ role. is_post_return role.key.now role.function.now };
+    ghost matching = { λ role. is_post_return role.key.now role.function.now };
 
     fn is(&self, export: &Export) -> bool {
         match export {
@@ -134,7 +134,7 @@ pub(crate) struct Callback<'a> {
 impl Role for Callback<'_> {
     ghost use Rattle.comp_roles.specs.Lookups.{is_callback};
 
-    ghost wanted = { λ role. is_callback role.key.now role.function.now };
+    ghost matching = { λ role. is_callback role.key.now role.function.now };
 
     fn is(&self, export: &Export) -> bool {
         match export {
@@ -156,7 +156,7 @@ pub(crate) struct Destructor {
 impl Role for Destructor {
     ghost use Rattle.comp_roles.specs.Lookups.{is_dtor};
 
-    ghost wanted = { λ role. is_dtor role.resource };
+    ghost matching = { λ role. is_dtor role.resource };
 
     fn is(&self, export: &Export) -> bool {
         match export {

@@ -10,7 +10,7 @@ pub data UserModule : Type 0 where
   Adapter : (name : List ℕ) → UserModule
 
 -- an export of a user module
-pub record ExportPlace : Type 0 where
+pub record ExportRef : Type 0 where
   pub of : UserModule
   pub name : List ℕ
 
@@ -22,17 +22,17 @@ pub data WorldFunction : Type 0 where
 -- an option of a lowering or a lift. The memory is main's, and no function here has options of its own
 pub data TargetOption : Type 0 where
   Memory : TargetOption
-  Realloc : (place : ExportPlace) → TargetOption
+  Realloc : (export_ref : ExportRef) → TargetOption
   Encoding : (encoding : StringEncoding) → TargetOption
   Async : TargetOption
-  PostReturn : (place : ExportPlace) → TargetOption
-  Callback : (place : ExportPlace) → TargetOption
+  PostReturn : (export_ref : ExportRef) → TargetOption
+  Callback : (export_ref : ExportRef) → TargetOption
 
 -- what stands behind an import of a core module, or behind an export of the component
 pub data Target : Type 0 where
   Lowered : (function : WorldFunction) (options : List TargetOption) → Target
-  ExportOf : (place : ExportPlace) → Target
+  ExportOf : (export_ref : ExportRef) → Target
   MainMemory : Target
-  Lifted : (entry : ExportPlace) (options : List TargetOption) → Target
+  Lifted : (entry : ExportRef) (options : List TargetOption) → Target
   -- of a role that no world has so far: nothing is it
   Unlinked : Target

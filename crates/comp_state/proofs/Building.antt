@@ -55,5 +55,5 @@ lacks_none (Some x) h e = true≢false (ap is_some e)
 -- where everything has an encoding, nothing lacks one
 pub encoded_lacks : (w : ComponentWorld) → IsEncoded w → (place : List ℕ) → LacksEncoding w place → ⊥
 encoded_lacks w h place (inl l) =
-    lacks_none (import_encoding w l.given.role) (AllByRecursion-contains (λ (i : CoreImport). IsSome (import_encoding w i.role)) (core_imports w) l.given h.imports l.stands) l.none
-encoded_lacks w h place (inr l) = lacks_none (export_encoding w l.key) (AllByRecursion-contains (λ (k : WorldKey). IsSome (export_encoding w k)) w.main_exports l.key h.exports l.stands) l.none
+    lacks_none (import_encoding w l.given.role) (AllByRecursion-contains (λ (i : CoreImport). IsSome (import_encoding w i.role)) (core_imports w) l.given h.imports l.present) l.none
+encoded_lacks w h place (inr l) = lacks_none (export_encoding w l.key) (AllByRecursion-contains (λ (k : WorldKey). IsSome (export_encoding w k)) w.main_exports l.key h.exports l.present) l.none

@@ -4,8 +4,8 @@ use Rattle.std.proofs.lemmas.List.{map_more, take_more, take_all}
 use Rattle.std.specs.List.{AllByRecursion}
 use Rattle.comp_lists.proofs.Lists.{AllByRecursion-push, AllByRecursion-at}
 use Rattle.comp_builder.specs.Built.{Built}
-use Rattle.comp_bytes.specs.Places.{IsAt}
-use Rattle.comp_bytes.proofs.Places.{in_range}
+use Rattle.comp_bytes.specs.ItemIndices.{IsAt}
+use Rattle.comp_bytes.proofs.ItemIndices.{in_range}
 use Rattle.comp_bytes.specs.declared.canon.CanonicalOption.{CanonicalOption}
 use Rattle.comp_bytes.specs.declared.space.Space.TheVariants as spaces
 use Rattle.standard_kinds.specs.declared.kinds.ExportKind.TheVariants as kinds
@@ -112,10 +112,10 @@ pub exports_done : (old new : Encoding) (keys : List WorldKey) (i : ℕ) → len
 exports_done old new keys i e h = subst (λ ks. ExportsSoFar old new ks) (take_all i keys (omega (arith, e))) h
 
 -- a required key stands in main
-pub key_stands : (w : ComponentWorld) (keys : List WorldKey) → IsWorld w → keys ≡ w.main_exports → (i : ℕ) (key : WorldKey) → i < length keys → key ≡ get_or keys i key → IsSome (core_name_of w key)
-key_stands w keys valid same i key l is =
+pub key_has_core_name : (w : ComponentWorld) (keys : List WorldKey) → IsWorld w → keys ≡ w.main_exports → (i : ℕ) (key : WorldKey) → i < length keys → key ≡ get_or keys i key → IsSome (core_name_of w key)
+key_has_core_name w keys valid same i key l is =
     let all : AllByRecursion (IsRequired w) keys = subst (λ ks. AllByRecursion (IsRequired w) ks) (sym same) valid.required in
-    let one : IsRequired w key = AllByRecursion-at (IsRequired w) keys i key all l (sym is) in one.stands
+    let one : IsRequired w key = AllByRecursion-at (IsRequired w) keys i key all l (sym is) in one.present
 
 -- a refusal of a required export is one of the world's
 pub export_refused : (w : ComponentWorld) (keys : List WorldKey) → keys ≡ w.main_exports → (i : ℕ) (key : WorldKey) → i < length keys → key ≡ get_or keys i key →
@@ -123,4 +123,4 @@ pub export_refused : (w : ComponentWorld) (keys : List WorldKey) → keys ≡ w.
 export_refused w keys same i key l is faults.Memory h = tt
 export_refused w keys same i key l is (faults.TooMany excess) h = h
 export_refused w keys same i key l is (faults.NoEncoding place) h =
-    inr (record { key = key; stands = subst (λ ks. Contains ks key) same (i, l, sym is); none = h.1; at = h.0 })
+    inr (record { key = key; present = subst (λ ks. Contains ks key) same (i, l, sym is); none = h.1; at = h.0 })

@@ -8,8 +8,8 @@ use Rattle.comp_lists.specs.Found.{found}
 use Rattle.comp_lists.proofs.Lists.{AllZip-weaker}
 use Rattle.comp_lists.specs.Tables.{with_first}
 use Rattle.comp_lists.proofs.Lookups.{found-push_cases, found-with_first}
-use Rattle.comp_bytes.specs.Places.{IsAt}
-use Rattle.comp_bytes.proofs.Places.{IsAt-append, in_range}
+use Rattle.comp_bytes.specs.ItemIndices.{IsAt}
+use Rattle.comp_bytes.proofs.ItemIndices.{IsAt-append, in_range}
 use Rattle.comp_bytes.specs.declared.def.Def.{Def}
 use Rattle.comp_bytes.specs.declared.def.CoreInlineExport.{CoreInlineExport}
 use Rattle.comp_bytes.specs.declared.def.CoreArgument.{CoreArgument}
@@ -24,7 +24,7 @@ use Rattle.comp_roles.specs.declared.imports.ImportInstance.{ImportInstance}
 use Rattle.comp_worlds.specs.declared.world.ComponentWorld.{ComponentWorld}
 use Rattle.comp_shims.specs.Targets.{Main, Target, OfRoot, Lowered}
 use Rattle.comp_state.specs.Links.{link_of}
-use Rattle.comp_state.specs.Facts.{IsFunctionType, IsImported, IsLowered, IsCoreItemFor, IsEntryFor, IsBagFor, IsArgumentFor, IsMain, IsAliased, IsLiftFor}
+use Rattle.comp_state.specs.Facts.{IsFunctionType, IsImported, IsLowered, IsCoreItemFor, IsEntryFor, IsInlineInstanceFor, IsArgumentFor, IsMain, IsAliased, IsLiftFor}
 use Rattle.comp_state.specs.Rules.{IsRight, RightAfter, Landmark, landmark, landmarks, Grows, IsEntry}
 use Rattle.comp_state.specs.Encoding.{IsEncoding}
 
@@ -70,11 +70,11 @@ module _ {w : ComponentWorld} {old new : List Def} {m : List Landmark} (g : Grow
   pub IsEntryFor-kept : {e : CoreInlineExport} {f : List ℕ × Import} → IsEntryFor w old e f → IsEntryFor w new e f
   IsEntryFor-kept {e} {f} h = record { named = h.named; serves = item-kept e.kind e.index (link_of w Main f.1) h.serves; encoded = h.encoded }
 
-  pub IsBagFor-kept : {b : ℕ} {fields : List (List ℕ × Import)} → IsBagFor w old b fields → IsBagFor w new b fields
-  IsBagFor-kept {b} {fields} h = record { entries = h.entries; made = kept g h.made; each = AllZip-weaker (λ x y. IsEntryFor-kept) h.entries fields h.each }
+  pub IsInlineInstanceFor-kept : {b : ℕ} {fields : List (List ℕ × Import)} → IsInlineInstanceFor w old b fields → IsInlineInstanceFor w new b fields
+  IsInlineInstanceFor-kept {b} {fields} h = record { entries = h.entries; made = kept g h.made; each = AllZip-weaker (λ x y. IsEntryFor-kept) h.entries fields h.each }
 
   pub IsArgumentFor-kept : {a : CoreArgument} {group : List ℕ × ImportInstance} → IsArgumentFor w old a group → IsArgumentFor w new a group
-  IsArgumentFor-kept h = record { named = h.named; serves = IsBagFor-kept h.serves }
+  IsArgumentFor-kept h = record { named = h.named; serves = IsInlineInstanceFor-kept h.serves }
 
   pub IsMain-kept : {i : ℕ} → IsMain old i → IsMain new i
   IsMain-kept h = record { arguments = h.arguments; made = kept g h.made }

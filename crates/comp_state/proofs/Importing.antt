@@ -32,36 +32,36 @@ finds_more names k v = record { each = λ t h. subst (λ o. IsSome o) (sym (foun
 pub finds_added : (names : List (List ℕ × ℕ)) (k : List ℕ) (v : ℕ) → IsSome (found k (with_first bytes_eq names k v))
 finds_added names k v = subst (λ o. IsSome o) (sym (found_first k k v names)) (found-pushed k v names)
 
-abbrev Stands : ComponentWorld → List ℕ → Type 0
-Stands w text = Contains (imported_functions w) text
+abbrev IsWorldImport : ComponentWorld → List ℕ → Type 0
+IsWorldImport w text = Contains (imported_functions w) text
 
-role_stands : (w : ComponentWorld) (text : List ℕ) (role : Import) → is_named text (imported_name role) ≡ true → IsImportRole w role → Stands w text
-role_stands w text (imports.WorldFunc (keys.Name name) function abi) same h = subst (Stands w) (sym ((bytes_eq-Decides text name).0 same)) h.0
-role_stands w text role same h = absurd h
+role_is_imported : (w : ComponentWorld) (text : List ℕ) (role : Import) → is_named text (imported_name role) ≡ true → IsImportRole w role → IsWorldImport w text
+role_is_imported w text (imports.WorldFunc (keys.Name name) function abi) same h = subst (IsWorldImport w) (sym ((bytes_eq-Decides text name).0 same)) h.0
+role_is_imported w text role same h = absurd h
 
-field_stands : (w : ComponentWorld) (text : List ℕ) (fs : List (List ℕ × Import)) → AllByRecursion (λ f. IsImportRole w f.1) fs → is_any_import text fs ≡ true → Stands w text
-field_stands w text [] h e = cc
-field_stands w text (f ∷ fs) h e = by (is_named text (imported_name f.1)) refl e (field_stands w text fs h.1)
+field_is_imported : (w : ComponentWorld) (text : List ℕ) (fs : List (List ℕ × Import)) → AllByRecursion (λ f. IsImportRole w f.1) fs → is_any_import text fs ≡ true → IsWorldImport w text
+field_is_imported w text [] h e = cc
+field_is_imported w text (f ∷ fs) h e = by (is_named text (imported_name f.1)) refl e (field_is_imported w text fs h.1)
   where
-    by : (b : Bool) → is_named text (imported_name f.1) ≡ b → (b || is_any_import text fs) ≡ true → (is_any_import text fs ≡ true → Stands w text) → Stands w text
-    by true same u rest = role_stands w text f.1 same h.0
+    by : (b : Bool) → is_named text (imported_name f.1) ≡ b → (b || is_any_import text fs) ≡ true → (is_any_import text fs ≡ true → IsWorldImport w text) → IsWorldImport w text
+    by true same u rest = role_is_imported w text f.1 same h.0
     by false apart u rest = rest u
 
-one_stands : (w : ComponentWorld) (text : List ℕ) (g : List ℕ × ImportInstance) → IsImportGroup w g → uses_from text g ≡ true → Stands w text
-one_stands w text (name, instances.Names fields) h e = field_stands w text fields h.1 e
-one_stands w text (name, instances.Whole which) h e = absurd h
+instance_is_imported : (w : ComponentWorld) (text : List ℕ) (g : List ℕ × ImportInstance) → IsImportGroup w g → uses_from text g ≡ true → IsWorldImport w text
+instance_is_imported w text (name, instances.Names fields) h e = field_is_imported w text fields h.1 e
+instance_is_imported w text (name, instances.Whole which) h e = absurd h
 
-group_stands : (w : ComponentWorld) (text : List ℕ) (groups : List (List ℕ × ImportInstance)) → AllByRecursion (IsImportGroup w) groups → list_any (uses_from text) groups ≡ true → Stands w text
-group_stands w text [] h e = cc
-group_stands w text (g ∷ gs) h e = by (uses_from text g) refl e (group_stands w text gs h.1)
+groups_are_imported : (w : ComponentWorld) (text : List ℕ) (groups : List (List ℕ × ImportInstance)) → AllByRecursion (IsImportGroup w) groups → list_any (uses_from text) groups ≡ true → IsWorldImport w text
+groups_are_imported w text [] h e = cc
+groups_are_imported w text (g ∷ gs) h e = by (uses_from text g) refl e (groups_are_imported w text gs h.1)
   where
-    by : (b : Bool) → uses_from text g ≡ b → (b || list_any (uses_from text) gs) ≡ true → (list_any (uses_from text) gs ≡ true → Stands w text) → Stands w text
-    by true here u rest = one_stands w text g h.0 here
+    by : (b : Bool) → uses_from text g ≡ b → (b || list_any (uses_from text) gs) ≡ true → (list_any (uses_from text) gs ≡ true → IsWorldImport w text) → IsWorldImport w text
+    by true here u rest = instance_is_imported w text g h.0 here
     by false apart u rest = rest u
 
 -- a root function that an import of main is, is one that the world imports
-pub used_stands : (w : ComponentWorld) → IsWorld w → (text : List ℕ) → IsTrue (is_used w text) → Stands w text
-used_stands w valid text u = group_stands w text w.main.imports.modules valid.import_roles u
+pub used_is_imported : (w : ComponentWorld) → IsWorld w → (text : List ℕ) → IsTrue (is_used w text) → IsWorldImport w text
+used_is_imported w valid text u = groups_are_imported w text w.main.imports.modules valid.import_roles u
 
 -- the keys that were looked at so far, and what was made for them
 pub record ImportsSoFar (old new : Encoding) (rest : List (WorldKey × WorldItem)) : Type 0 where
@@ -136,5 +136,5 @@ imports_found old new valid h = record {
       let all : h.done ≡ (items_of old.world).imports = sym (append-nil h.done) ∙ h.split in
       let P : List ℕ → Type 0 = λ t. IsTrue (is_used old.world t) → IsSome (found t new.functions) in
       let finds : AllByRecursion P (flat_map root_function (items_of old.world).imports) = subst (λ es. AllByRecursion P (flat_map root_function es)) all h.finds in
-      AllByRecursion-contains P (flat_map root_function (items_of old.world).imports) t finds (used_stands old.world valid t u) u;
+      AllByRecursion-contains P (flat_map root_function (items_of old.world).imports) t finds (used_is_imported old.world valid t u) u;
 }

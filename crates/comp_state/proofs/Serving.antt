@@ -24,7 +24,7 @@ use Rattle.comp_bytes.specs.declared.types.Alias.{Alias}
 use Rattle.comp_bytes.specs.declared.types.Alias.TheVariants as aliases
 use Rattle.comp_bytes.specs.declared.types.Description.{Description}
 use Rattle.comp_bytes.specs.declared.types.Description.TheVariants as descriptions
-use Rattle.comp_bytes.specs.Places.{IsAt, in_space}
+use Rattle.comp_bytes.specs.ItemIndices.{IsAt, in_space}
 use Rattle.comp_bytes.specs.Spaces.{items_in, is_space, space_of, sort_space, alias_space, description_space}
 use Rattle.comp_roles.specs.CoreImports.{CoreImport, imports_from, fields_of}
 use Rattle.comp_worlds.specs.Worlds.{imported_name, IsImportRole, IsImportGroup, IsWorld}
@@ -206,11 +206,11 @@ group_refused w done rest g split faults.Memory h = tt
 group_refused w done rest g split (faults.TooMany excess) h = h
 group_refused w done rest g split (faults.NoEncoding place) h =
     let given : CoreImport = record { module_name = g.0; field = h.field.0; role = h.field.1 } in
-    let here : Contains (imports_from g) given = Contains-map (λ f. record { module_name = g.0; field = f.0; role = f.1 }) (fields_of g.1) h.field h.stands in
+    let here : Contains (imports_from g) given = Contains-map (λ f. record { module_name = g.0; field = f.0; role = f.1 }) (fields_of g.1) h.field h.present in
     let within : Contains (flat_map imports_from (done ++ g ∷ rest)) given =
     rw (flat_map-append imports_from done (g ∷ rest))
     (Contains-append_right (flat_map imports_from done) (imports_from g ++ flat_map imports_from rest) given (Contains-append_left (imports_from g) (flat_map imports_from rest) given here)) in
-    inl (record { given = given; stands = subst (λ gs. Contains (flat_map imports_from gs) given) split within; none = h.none; at = h.at })
+    inl (record { given = given; present = subst (λ gs. Contains (flat_map imports_from gs) given) split within; none = h.none; at = h.at })
 
 sort_apart : (sort : Sort) → is_space spaces.CoreModule (Some (sort_space sort)) ≡ false
 sort_apart (sorts.Core kinds.Func) = refl

@@ -12,7 +12,7 @@ use Rattle.byte_encoding.specs.declared.fault.BuildFault.{BuildFault}
 use Rattle.byte_encoding.specs.declared.fault.BuildFault.TheVariants as build
 use Rattle.comp_state.specs.declared.fault.StateFault.{StateFault}
 use Rattle.comp_state.specs.declared.fault.StateFault.TheVariants as faults
-use Rattle.comp_state.specs.Roles.{import_encoding, export_encoding, place_of}
+use Rattle.comp_state.specs.Roles.{import_encoding, export_encoding, field_path}
 
 -- what a refusal of the builder comes up as
 abbrev pub of_build : BuildFault → StateFault
@@ -22,14 +22,14 @@ of_build (build.TooMany excess) = faults.TooMany excess
 -- a core import at this place has no string encoding
 pub record LacksImportEncoding (w : ComponentWorld) (place : List ℕ) : Type 0 where
   pub given : CoreImport
-  pub stands : Contains (core_imports w) given
+  pub present : Contains (core_imports w) given
   pub none : import_encoding w given.role ≡ None
-  pub at : place ≡ place_of given.module_name given.field
+  pub at : place ≡ field_path given.module_name given.field
 
 -- a required export of this name has no string encoding
 pub record LacksExportEncoding (w : ComponentWorld) (place : List ℕ) : Type 0 where
   pub key : WorldKey
-  pub stands : Contains w.main_exports key
+  pub present : Contains w.main_exports key
   pub none : export_encoding w key ≡ None
   pub at : place ≡ name_of_key key
 
@@ -50,15 +50,15 @@ IsBuildRefusal (build.TooMany excess) = 2 ^ 32 ≤ excess
 -- what makes the refusal of one import right
 abbrev pub IsImportRefusal : ComponentWorld → List ℕ → List ℕ → Import → StateFault → Type 0
 IsImportRefusal w module_name field role faults.Memory = Unit {0}
-IsImportRefusal w module_name field role (faults.NoEncoding place) = (place ≡ place_of module_name field) × (import_encoding w role ≡ None)
+IsImportRefusal w module_name field role (faults.NoEncoding place) = (place ≡ field_path module_name field) × (import_encoding w role ≡ None)
 IsImportRefusal w module_name field role (faults.TooMany excess) = 2 ^ 32 ≤ excess
 
 -- an import from this module that has no string encoding
 pub record LacksFieldEncoding (w : ComponentWorld) (module_name : List ℕ) (fields : List (List ℕ × Import)) (place : List ℕ) : Type 0 where
   pub field : List ℕ × Import
-  pub stands : Contains fields field
+  pub present : Contains fields field
   pub none : import_encoding w field.1 ≡ None
-  pub at : place ≡ place_of module_name field.0
+  pub at : place ≡ field_path module_name field.0
 
 -- what makes the refusal of the imports from one module right
 abbrev pub IsFieldsRefusal : ComponentWorld → List ℕ → List (List ℕ × Import) → StateFault → Type 0

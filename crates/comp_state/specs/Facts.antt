@@ -2,7 +2,7 @@
 -- aliases, `canon lower` and `canon lift`).
 use Rattle.std.specs.Prelude.{◌≡◌, ℕ, false, List, [], Some, None, IsSome}
 use Rattle.std.specs.List.{AllZip}
-use Rattle.comp_bytes.specs.Places.{IsAt}
+use Rattle.comp_bytes.specs.ItemIndices.{IsAt}
 use Rattle.comp_bytes.specs.declared.space.Space.TheVariants as spaces
 use Rattle.standard_kinds.specs.declared.kinds.ExportKind.{ExportKind}
 use Rattle.standard_kinds.specs.declared.kinds.ExportKind.TheVariants as kinds
@@ -61,7 +61,7 @@ pub record IsEntryFor (w : ComponentWorld) (ds : List Def) (e : CoreInlineExport
   pub encoded : IsSome (import_encoding w field.1)
 
 -- the core instance is a bag with an entry for each field, in order
-pub record IsBagFor (w : ComponentWorld) (ds : List Def) (index : ℕ) (fields : List (List ℕ × Import)) : Type 0 where
+pub record IsInlineInstanceFor (w : ComponentWorld) (ds : List Def) (index : ℕ) (fields : List (List ℕ × Import)) : Type 0 where
   pub entries : List CoreInlineExport
   pub made : IsAt ds spaces.CoreInstance index (defs.Item (items.CoreExports entries))
   pub each : AllZip (IsEntryFor w ds) entries fields
@@ -69,7 +69,7 @@ pub record IsBagFor (w : ComponentWorld) (ds : List Def) (index : ℕ) (fields :
 -- the argument serves the imports from this module
 pub record IsArgumentFor (w : ComponentWorld) (ds : List Def) (a : CoreArgument) (group : List ℕ × ImportInstance) : Type 0 where
   pub named : a.name ≡ group.0
-  pub serves : IsBagFor w ds a.instance (fields_of group.1)
+  pub serves : IsInlineInstanceFor w ds a.instance (fields_of group.1)
 
 -- the first core module is main's
 pub record IsFirstModule (w : ComponentWorld) (ds : List Def) : Type 0 where

@@ -44,5 +44,5 @@ abbrev pub export_encoding : ComponentWorld → WorldKey → Option StringEncodi
 export_encoding w key = of_function key (name_of_key key) w.main.metadata.export_encodings
 
 -- the place of a core import, as faults tell it
-abbrev pub place_of : List ℕ → List ℕ → List ℕ
-place_of module_name field = module_name ++ 0x3a ∷ 0x3a ∷ field
+abbrev pub field_path : List ℕ → List ℕ → List ℕ
+field_path module_name field = module_name ++ 0x3a ∷ 0x3a ∷ field

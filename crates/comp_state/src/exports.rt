@@ -60,7 +60,7 @@ impl EncodingState<'_> {
         let index = self
             .component
             .core_alias_export(Some(text), main, text, ExportKind::Func)?;
-        self.aliases.add_first(key, index)?;
+        self.aliases.insert_if_absent(key, index)?;
         Ok(index)
     }
 
@@ -100,7 +100,7 @@ impl EncodingState<'_> {
     /// Lifts a root function from the core export that is it.
     fn lift_function(&mut self, key: &WorldKey) -> Result<u32, BuildFault>
         requires made { IsSome self.old.main }
-        requires stands { IsSome (core_name_of self.old.world key.now) }
+        requires present { IsSome (core_name_of self.old.world key.now) }
         requires encoded { IsSome (export_encoding self.old.world key.now) }
         ensures same { self.new ≡ record self.old { built = self.new.built } }
         ensures extends { Extends self.old.built self.new.built }
@@ -122,7 +122,7 @@ impl EncodingState<'_> {
     /// `E9` where it has no string encoding.
     pub fn encode_lift(&mut self, key: &WorldKey) -> Result<u32, StateFault>
         requires made { IsSome self.old.main }
-        requires stands { IsSome (core_name_of self.old.world key.now) }
+        requires present { IsSome (core_name_of self.old.world key.now) }
         ensures same { self.new ≡ record self.old { built = self.new.built } }
         ensures extends { Extends self.old.built self.new.built }
         ensures grows { OnOk result (Grows self.old.world self.old.built.defs self.new.built.defs []) }
@@ -137,7 +137,7 @@ impl EncodingState<'_> {
     /// Lifts a required function, and exports it under its name.
     fn encode_export(&mut self, key: &WorldKey) -> Result<(), StateFault>
         requires made { IsSome self.old.main }
-        requires stands { IsSome (core_name_of self.old.world key.now) }
+        requires present { IsSome (core_name_of self.old.world key.now) }
         ensures same { self.new ≡ record self.old { built = self.new.built } }
         ensures extends { Extends self.old.built self.new.built }
         ensures grows { OnOk result (Grows self.old.world self.old.built.defs self.new.built.defs (ExportNamed (name_of_key key.now) ∷ [])) }

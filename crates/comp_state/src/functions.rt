@@ -85,7 +85,7 @@ impl EncodingState<'_> {
         }
         let index = self.import_function(name)?;
         let name = name.clone(self.alloc)?;
-        self.functions.add_first(name, index)?;
+        self.functions.insert_if_absent(name, index)?;
         Ok(())
     }
 

@@ -23,7 +23,7 @@ fn add_used(
     for (_, import) in fields.entries() {
         match import {
             Import::WorldFunc(WorldKey::Name(function), _, _) => {
-                used.add_first(function.clone(alloc)?, ())?;
+                used.insert_if_absent(function.clone(alloc)?, ())?;
             }
             _ => {}
         }
@@ -59,7 +59,7 @@ pub(crate) fn core_names(
     for (name, export) in exports.entries() {
         match export {
             Export::WorldFunc(WorldKey::Name(function), _, _) => {
-                names.add_first(function.clone(alloc)?, name.clone(alloc)?)?;
+                names.insert_if_absent(function.clone(alloc)?, name.clone(alloc)?)?;
             }
             _ => {}
         }

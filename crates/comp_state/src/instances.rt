@@ -5,7 +5,7 @@ ghost use Rattle.std.specs.Prelude.{◌≡◌, [], ◌∷◌, ◌++◌, List, �
 ghost use Rattle.std.specs.List.{AllZip, AllByRecursion, IsDistinct};
 ghost use Rattle.std.specs.Str.{bytes_eq};
 ghost use Rattle.comp_lists.specs.Found.{found};
-ghost use Rattle.comp_bytes.specs.Places.{IsAt};
+ghost use Rattle.comp_bytes.specs.ItemIndices.{IsAt};
 ghost use Rattle.wit_data.specs.declared.worlds.WorldKey.TheVariants as keys;
 ghost use Rattle.comp_roles.specs.Functions.{of_function};
 ghost use Rattle.comp_roles.specs.CoreImports.{fields_of};
@@ -14,8 +14,8 @@ ghost use Rattle.comp_state.specs.Causes.{IsCause, IsBuildRefusal, IsImportRefus
 ghost use Rattle.comp_state.specs.Encoding.{Extends, FindsUsed, FindsRole, FindsFields, FindsGroup};
 ghost use Rattle.comp_shims.specs.Targets.{Main};
 ghost use Rattle.comp_state.specs.Links.{link_of};
-ghost use Rattle.comp_state.specs.Facts.{IsLowered, IsCoreItemFor, IsEntryFor, IsBagFor, IsArgumentFor, IsMain, IsFirstModule};
-ghost use Rattle.comp_state.specs.Roles.{import_encoding, place_of};
+ghost use Rattle.comp_state.specs.Facts.{IsLowered, IsCoreItemFor, IsEntryFor, IsInlineInstanceFor, IsArgumentFor, IsMain, IsFirstModule};
+ghost use Rattle.comp_state.specs.Roles.{import_encoding, field_path};
 ghost use Rattle.comp_state.specs.Rules.{Grows, ModuleIs, InstanceOf, imports_marked, landmarks};
 
 use crate::fault::StateFault;
@@ -48,8 +48,8 @@ pub(crate) fn is_encoded(
 }
 
 /// The place of a core import: its module and its field.
-fn place_of_import(alloc: Global, module: &Text, field: &Text) -> Result<Text, AllocError>
-    ensures { IfOk result (λ place. place ≡ place_of «module».now field.now) }
+fn path_of_import(alloc: Global, module: &Text, field: &Text) -> Result<Text, AllocError>
+    ensures { IfOk result (λ place. place ≡ field_path «module».now field.now) }
 {
     let mut place = String::from_str(alloc, module.as_str())?;
     place.push_str("::")?;
@@ -96,7 +96,7 @@ impl EncodingState<'_> {
             Import::WorldFunc(WorldKey::Name(name), function, _) => {
                 let encodings = &self.world.main.metadata.import_encodings;
                 if !is_encoded(self.alloc, encodings, name, function)? {
-                    let place = place_of_import(self.alloc, module, field)?;
+                    let place = path_of_import(self.alloc, module, field)?;
                     return Err(StateFault::NoEncoding { place });
                 }
                 let index = self.lower_function(name)?;
@@ -148,7 +148,7 @@ impl EncodingState<'_> {
     }
 
     /// Makes the instance that serves these imports from one module.
-    fn encode_bag(
+    fn encode_inline_instance(
         &mut self,
         module: &Text,
         fields: &Keyed<Text, Import>,
@@ -158,7 +158,7 @@ impl EncodingState<'_> {
         ensures extends { Extends self.old.built self.new.built }
         ensures grows { OnOk result (Grows self.old.world self.old.built.defs self.new.built.defs []) }
         ensures named { IfOk result (λ argument. argument.name ≡ «module».now) }
-        ensures serves { IfOk result (λ argument. IsBagFor self.old.world self.new.built.defs argument.instance fields.now) }
+        ensures serves { IfOk result (λ argument. IsInlineInstanceFor self.old.world self.new.built.defs argument.instance fields.now) }
         ensures cause { IfErr result (IsFieldsRefusal self.old.world «module».now fields.now) }
     {
         let name = module.clone(self.alloc)?;
@@ -183,7 +183,7 @@ impl EncodingState<'_> {
         ensures cause { IfErr result (IsFieldsRefusal self.old.world «module».now (fields_of instance.now)) }
     {
         match instance {
-            ImportInstance::Names(fields) => self.encode_bag(module, fields),
+            ImportInstance::Names(fields) => self.encode_inline_instance(module, fields),
             ImportInstance::Whole(_) => unreachable!(),
         }
     }

@@ -1,4 +1,4 @@
 mod Entering
-mod Standing
+mod Exists
 mod Using
 mod Reaching

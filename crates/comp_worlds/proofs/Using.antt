@@ -18,7 +18,7 @@ use Rattle.wit_data.specs.declared.worlds.WorldItem.{WorldItem}
 use Rattle.wit_data.specs.declared.worlds.WorldItem.TheVariants as items
 use Rattle.wit_data.specs.declared.worlds.WorldKey.{WorldKey}
 use Rattle.comp_roles.specs.CoreImports.{CoreImport}
-use Rattle.comp_worlds.specs.Imported.{Imported, lowering_of, called_as, function_lowerings, drop_lowerings, root_lowerings, functions_of, interface_lowerings, root_entry, interface_entry, imported, is_same_place}
+use Rattle.comp_worlds.specs.Imported.{Imported, lowering_of, called_as, function_lowerings, drop_lowerings, root_lowerings, functions_of, interface_lowerings, root_entry, interface_entry, imported, is_same_import_key}
 use Rattle.comp_worlds.specs.Lowerings.{is_same_lowering}
 use Rattle.comp_worlds.specs.Tables.{with_all}
 use Rattle.comp_worlds.specs.Uses.{Used, IsUsed, used_in, used_by, call_at, calls_in, drops_in, is_same_call}
@@ -74,8 +74,8 @@ module _ (a b : Used) (same : IsUsed a b) where
 
   pub same_imported : (r : Resolve) (entries : List (WorldKey × WorldItem)) → imported a r entries ≡ imported b r entries
   same_imported r entries =
-      ap (λ ls. with_all is_same_place [] ((None, record { lowerings = with_all is_same_lowering [] ls; interface = None }) ∷ flat_map (interface_entry a r) entries)) (same_flat (root_lowerings a r.types) (root_lowerings b r.types) (same_root r.types) entries)
-      ∙ ap (λ es. with_all is_same_place [] (root_entry b r entries ∷ es)) (same_flat (interface_entry a r) (interface_entry b r) (same_entry r) entries)
+      ap (λ ls. with_all is_same_import_key [] ((None, record { lowerings = with_all is_same_lowering [] ls; interface = None }) ∷ flat_map (interface_entry a r) entries)) (same_flat (root_lowerings a r.types) (root_lowerings b r.types) (same_root r.types) entries)
+      ∙ ap (λ es. with_all is_same_import_key [] (root_entry b r entries ∷ es)) (same_flat (interface_entry a r) (interface_entry b r) (same_entry r) entries)
 
 pub imported_are : (a b : Used) (r : Resolve) (entries : List (WorldKey × WorldItem)) (table : Imported) → IsUsed a b → table ≡ imported a r entries → table ≡ imported b r entries
 imported_are a b r entries table same is = is ∙ same_imported a b same r entries

@@ -69,8 +69,8 @@ interface_lowerings used r key id =
 abbrev pub Imported : Type 0
 Imported = List (Option WorldKey × ImportedInterface)
 
-abbrev pub is_same_place : Option WorldKey → Option WorldKey → Bool
-is_same_place = option_eq is_same_key
+abbrev pub is_same_import_key : Option WorldKey → Option WorldKey → Bool
+is_same_import_key = option_eq is_same_key
 
 abbrev pub root_entry : Used → Resolve → List (WorldKey × WorldItem) → Option WorldKey × ImportedInterface
 root_entry used r entries =
@@ -84,4 +84,4 @@ interface_entry used r entry = []
 -- what is lowered of what the world imports: of its root, and of each interface in the world's order
 abbrev pub imported : Used → Resolve → List (WorldKey × WorldItem) → Imported
 imported used r entries =
-    with_all is_same_place [] (root_entry used r entries ∷ flat_map (interface_entry used r) entries)
+    with_all is_same_import_key [] (root_entry used r entries ∷ flat_map (interface_entry used r) entries)

@@ -102,7 +102,7 @@ IsExportRole w role = ⊥
 -- a required export is one of the world's, and stands in main
 pub record IsRequired (w : ComponentWorld) (key : WorldKey) : Type 0 where
   pub exported : Contains (map (λ e. e.0) (items_of w).exports) key
-  pub stands : IsSome (core_name_of w key)
+  pub present : IsSome (core_name_of w key)
 
 -- ---- what follows from it
 
@@ -130,7 +130,7 @@ whole_of p = whole_with p (get_or p.resolve.worlds p.world.index no_items)
 -- what holds of every validated world
 pub record IsWorld (w : ComponentWorld) : Type 0 where
   pub sound : IsSound w.resolve
-  pub stands : w.world.index < length w.resolve.worlds
+  pub present : w.world.index < length w.resolve.worlds
   pub core : IsCoreModule w.main.bytes
   pub imports : AllByRecursion IsItem (items_of w).imports
   pub exports : AllByRecursion IsItem (items_of w).exports

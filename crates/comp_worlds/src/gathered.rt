@@ -23,7 +23,7 @@ pub struct Part<B> {
 /// What two say together, and the keys that the second exports.
 #[derive(Drop)]
 pub struct Merged<B> {
-    pub joint: B,
+    pub combined: B,
     pub exports: Seq<ExportKey>,
 }
 
@@ -39,7 +39,7 @@ pub struct GatheredAdapter<B> {
 pub struct Gathered<B> {
     pub main: Option<Part<B>>,
     pub adapters: Keyed<Text, GatheredAdapter<B>>,
-    pub joint: B,
+    pub combined: B,
     pub options: EncoderOptions,
 }
 
@@ -48,7 +48,7 @@ impl<B: Drop> Drop for Gathered<B> {
         let Gathered {
             main: _,
             adapters: _,
-            joint: _,
+            combined: _,
             options: _,
         } = self;
     }

@@ -7,7 +7,7 @@ ghost use Rattle.wit_data.specs.Keys.{name_of_key};
 ghost use Rattle.comp_worlds.specs.Lowerings.{is_same_lowering};
 ghost use Rattle.comp_worlds.specs.Tables.{with_all};
 ghost use Rattle.comp_worlds.specs.Uses.{used_in};
-ghost use Rattle.comp_worlds.specs.Imported.{lowering_of, called_as, function_lowerings, drop_lowerings, root_lowerings, interface_lowerings, root_entry, interface_entry, imported, is_same_place};
+ghost use Rattle.comp_worlds.specs.Imported.{lowering_of, called_as, function_lowerings, drop_lowerings, root_lowerings, interface_lowerings, root_entry, interface_entry, imported, is_same_import_key};
 
 use crate::lowerings::{ImportedInterface, Lowering, LoweringKey};
 use crate::mentions::interface_of;
@@ -30,7 +30,7 @@ fn lowering_of(
     shares_memory: bool,
 ) -> Result<Lowering, AllocError>
     requires sound { IsSound resolve.now }
-    requires stands { HasFunction resolve.now function.now }
+    requires present { HasFunction resolve.now function.now }
     ensures { IfOk result (λ l. l ≡ lowering_of shares_memory abi resolve.now.types function.now) }
 {
     let options = RequiredOptions::for_import(resolve, function, abi);
@@ -52,7 +52,7 @@ fn add_called(
     abi: AbiVariant,
 ) -> Result<(), AllocError>
     requires sound { IsSound resolve.now }
-    requires stands { HasFunction resolve.now function.now }
+    requires present { HasFunction resolve.now function.now }
     ensures { OnOk result (table.new ≡ with_all is_same_lowering table.old (called_as (used_in uses.now) resolve.now.types key.now function.now abi)) }
 {
     let call = call_at(alloc, key, &function.name, abi)?;
@@ -60,7 +60,7 @@ fn add_called(
         return Ok(());
     }
     let lowering = lowering_of(alloc, resolve, function, abi, uses.shares_memory)?;
-    table.add_first(call.lowering, lowering)
+    table.insert_if_absent(call.lowering, lowering)
 }
 
 /// Adds a function in each form in which it is called.
@@ -74,7 +74,7 @@ fn add_function(
     function: &Function,
 ) -> Result<(), AllocError>
     requires sound { IsSound resolve.now }
-    requires stands { HasFunction resolve.now function.now }
+    requires present { HasFunction resolve.now function.now }
     ensures { OnOk result (table.new ≡ with_all is_same_lowering table.old (function_lowerings (used_in uses.now) resolve.now.types key.now function.now)) }
 {
     add_called(
@@ -115,7 +115,7 @@ fn add_drop(
         name,
         abi: AbiVariant::GuestExport,
     };
-    table.add_first(key, Lowering::ResourceDrop(id))
+    table.insert_if_absent(key, Lowering::ResourceDrop(id))
 }
 
 /// The name under which the drop of a resource stands.
@@ -137,7 +137,7 @@ fn add_root_item(
     item: &WorldItem,
 ) -> Result<(), AllocError>
     requires sound { IsSound resolve.now }
-    requires stands { HasEntry resolve.now (key.now, item.now) }
+    requires present { HasEntry resolve.now (key.now, item.now) }
     ensures { OnOk result (table.new ≡ with_all is_same_lowering table.old (root_lowerings (used_in uses.now) resolve.now.types (key.now, item.now))) }
 {
     match item {
@@ -166,7 +166,7 @@ fn root_lowerings(
     entries: &Keyed<WorldKey, WorldItem>,
 ) -> Result<Lowerings, AllocError>
     requires sound { IsSound resolve.now }
-    requires stand { AllByRecursion (HasEntry resolve.now) entries.now }
+    requires all_present { AllByRecursion (HasEntry resolve.now) entries.now }
     ensures { IfOk result (λ t. t ≡ with_all is_same_lowering [] (flat_map (root_lowerings (used_in uses.now) resolve.now.types) entries.now)) }
 {
     let mut table = Keyed::new(alloc);
@@ -203,7 +203,7 @@ fn add_functions(
     functions: &Keyed<Text, Function>,
 ) -> Result<(), AllocError>
     requires sound { IsSound resolve.now }
-    requires stand { AllByRecursion (λ f. HasFunction resolve.now f.1) functions.now }
+    requires all_present { AllByRecursion (λ f. HasFunction resolve.now f.1) functions.now }
     ensures { OnOk result (table.new ≡ with_all is_same_lowering table.old (flat_map (λ f. function_lowerings (used_in uses.now) resolve.now.types key.now f.1) functions.now)) }
 {
     for (_, function) in functions.entries() {
@@ -222,7 +222,7 @@ fn interface_lowerings(
     id: InterfaceId,
 ) -> Result<Lowerings, AllocError>
     requires sound { IsSound resolve.now }
-    requires stands { HasInterface resolve.now id }
+    requires present { HasInterface resolve.now id }
     ensures { IfOk result (λ t. t ≡ with_all is_same_lowering [] (interface_lowerings (used_in uses.now) resolve.now key.now id)) }
 {
     let interface = interface_of(resolve, id);
@@ -242,19 +242,19 @@ fn add_interface(
     item: &WorldItem,
 ) -> Result<(), AllocError>
     requires sound { IsSound resolve.now }
-    requires stands { HasEntry resolve.now (key.now, item.now) }
-    ensures { OnOk result (table.new ≡ with_all is_same_place table.old (interface_entry (used_in uses.now) resolve.now (key.now, item.now))) }
+    requires present { HasEntry resolve.now (key.now, item.now) }
+    ensures { OnOk result (table.new ≡ with_all is_same_import_key table.old (interface_entry (used_in uses.now) resolve.now (key.now, item.now))) }
 {
     let WorldItem::Interface(id) = item else {
         return Ok(());
     };
     let lowerings = interface_lowerings(alloc, uses, resolve, key, *id)?;
-    let place = Some(key.try_clone(alloc)?);
+    let interface_key = Some(key.try_clone(alloc)?);
     let entry = ImportedInterface {
         lowerings,
         interface: Some(*id),
     };
-    table.add_first(place, entry)
+    table.insert_if_absent(interface_key, entry)
 }
 
 /// A table with the root alone.
@@ -269,7 +269,7 @@ fn of_root(
         lowerings,
         interface: None,
     };
-    table.add_first(None, entry)?;
+    table.insert_if_absent(None, entry)?;
     Ok(table)
 }
 
@@ -282,7 +282,7 @@ pub(crate) fn imported(
     entries: &Keyed<WorldKey, WorldItem>,
 ) -> Result<Keyed<Option<WorldKey>, ImportedInterface>, AllocError>
     requires sound { IsSound resolve.now }
-    requires stand { AllByRecursion (HasEntry resolve.now) entries.now }
+    requires all_present { AllByRecursion (HasEntry resolve.now) entries.now }
     ensures { IfOk result (λ t. t ≡ imported (used_in uses.now) resolve.now entries.now) }
 {
     let root = root_lowerings(alloc, uses, resolve, entries)?;

@@ -30,7 +30,7 @@ mod uses;
 mod world;
 
 pub use comp_options::{
-    OptionFault, Options, RequiredOptions, ends_as_told, lowering_adds_realloc,
+    OptionFault, Options, RequiredOptions, count_equals_len, lowering_adds_realloc,
 };
 pub use comp_roles::{
     Export, ExportMap, ExternType, FunctionKey, Import, ImportInstance, ImportMap, Instance, Item,

@@ -20,10 +20,10 @@ use wit_data::{
 };
 
 /// An interface of a resolve.
-#[tactic(auto, using(crate::proofs::Standing::types_there, crate::proofs::Standing::functions_there, crate::proofs::Standing::interface_sound))]
+#[tactic(auto, using(crate::proofs::Exists::types_there, crate::proofs::Exists::functions_there, crate::proofs::Exists::interface_sound))]
 pub(crate) fn interface_of(resolve: &Resolve, id: InterfaceId) -> &Interface
     requires sound { IsSound resolve.now }
-    requires stands { HasInterface resolve.now id }
+    requires present { HasInterface resolve.now id }
     ensures types { result.now.types ≡ named_types resolve.now id }
     ensures functions { result.now.functions ≡ functions_of resolve.now id }
     ensures sound { HasAll resolve.now result.now }
@@ -102,7 +102,7 @@ pub(crate) fn add_interface(
     id: InterfaceId,
 ) -> Result<(), AllocError>
     requires sound { IsSound resolve.now }
-    requires stands { HasInterface resolve.now id }
+    requires present { HasInterface resolve.now id }
     ensures { OnOk result (list.new.items ≡ list.old.items ++ interface_types resolve.now id) }
 {
     let interface = interface_of(resolve, id);
@@ -248,7 +248,7 @@ fn add_import(list: &mut Vec<Type>, item: &WorldItem) -> Result<(), AllocError>
 /// Adds what an export of the world names.
 fn add_export(list: &mut Vec<Type>, resolve: &Resolve, item: &WorldItem) -> Result<(), AllocError>
     requires sound { IsSound resolve.now }
-    requires stands { HasItem resolve.now item.now }
+    requires present { HasItem resolve.now item.now }
     ensures { OnOk result (list.new.items ≡ list.old.items ++ export_types resolve.now item.now) }
 {
     match item {
@@ -266,7 +266,7 @@ fn add_exports(
     entries: &Keyed<WorldKey, WorldItem>,
 ) -> Result<(), AllocError>
     requires sound { IsSound resolve.now }
-    requires stand { AllByRecursion (HasEntry resolve.now) entries.now }
+    requires all_present { AllByRecursion (HasEntry resolve.now) entries.now }
     ensures { OnOk result (list.new.items ≡ list.old.items ++ flat_map (λ e. export_types resolve.now e.1) entries.now) }
 {
     for (_, item) in entries.entries() {
@@ -283,7 +283,7 @@ fn listed_types(
     world: &World,
 ) -> Result<Vec<Type>, AllocError>
     requires sound { IsSound resolve.now }
-    requires stand { AllByRecursion (HasEntry resolve.now) world.now.exports }
+    requires all_present { AllByRecursion (HasEntry resolve.now) world.now.exports }
     ensures { IfOk result (λ v. v.items ≡ used_types (map core_import imports.now) resolve.now world.now) }
 {
     let mut list = Vec::new(alloc);
@@ -301,10 +301,10 @@ pub(crate) fn used_types(
     world: &World,
 ) -> Result<Vec<Type>, AllocError>
     requires sound { IsSound resolve.now }
-    requires stands { HasWorld resolve.now world.now }
+    requires present { HasWorld resolve.now world.now }
     requires roles { AllByRecursion (λ i. HasRole resolve.now i.role) (map core_import imports.now) }
     ensures used { IfOk result (λ v. v.items ≡ used_types (map core_import imports.now) resolve.now world.now) }
-    ensures stand { IfOk result (λ v. AllByRecursion (λ t. HasType resolve.now (Some t)) v.items) }
+    ensures all_present { IfOk result (λ v. AllByRecursion (λ t. HasType resolve.now (Some t)) v.items) }
 {
     let list = listed_types(alloc, imports, resolve, world)?;
     Ok(list)

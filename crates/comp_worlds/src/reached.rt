@@ -24,7 +24,7 @@ fn live_in(
     id: InterfaceId,
 ) -> Result<Vec<TypeId>, AllocError>
     requires sound { IsSound resolve.now }
-    requires stands { HasInterface resolve.now id }
+    requires present { HasInterface resolve.now id }
     requires long { length marks.now ≡ length resolve.now.types }
     ensures { IfOk result (λ v. v.items ≡ filter (λ t. get_or marks.now t.index false) (map (λ e. e.1) (named_types resolve.now id))) }
 {
@@ -41,7 +41,7 @@ fn add_live(
     item: &WorldItem,
 ) -> Result<(), AllocError>
     requires sound { IsSound resolve.now }
-    requires stands { HasItem resolve.now item.now }
+    requires present { HasItem resolve.now item.now }
     requires long { length marks.now ≡ length resolve.now.types }
     ensures { OnOk result (table.new ≡ with_all same_interface table.old (live_entry (λ n. get_or marks.now n false) resolve.now item.now)) }
 {
@@ -49,7 +49,7 @@ fn add_live(
         return Ok(());
     };
     let live = live_in(alloc, resolve, marks, *id)?;
-    table.add_first(*id, Seq::from_vec(live))
+    table.insert_if_absent(*id, Seq::from_vec(live))
 }
 
 /// Of each imported interface those types that are marked.
@@ -61,7 +61,7 @@ pub(crate) fn live_imports(
     entries: &Keyed<WorldKey, WorldItem>,
 ) -> Result<Keyed<InterfaceId, Seq<TypeId>>, AllocError>
     requires sound { IsSound resolve.now }
-    requires stand { AllByRecursion (HasEntry resolve.now) entries.now }
+    requires all_present { AllByRecursion (HasEntry resolve.now) entries.now }
     requires long { length marks.now ≡ length resolve.now.types }
     ensures { IfOk result (λ t. t ≡ with_all same_interface [] (flat_map (λ e. live_entry (λ n. get_or marks.now n false) resolve.now e.1) entries.now)) }
 {
@@ -103,7 +103,7 @@ fn add_owner(owners: &mut Keyed<usize, ()>, owner: TypeOwner) -> Result<(), Allo
     ensures { OnOk result (owners.new ≡ with_all nat_eq owners.old (owner_in owner)) }
 {
     match owner {
-        TypeOwner::Interface(id) => owners.add_first(id.index, ()),
+        TypeOwner::Interface(id) => owners.insert_if_absent(id.index, ()),
         TypeOwner::World(_) | TypeOwner::None => Ok(()),
     }
 }
@@ -159,12 +159,12 @@ fn owning(
 }
 
 /// The types of an interface, and what its functions name.
-#[tactic(auto, using(crate::proofs::Standing::listed_stand))]
+#[tactic(auto, using(crate::proofs::Exists::listed_types_exist))]
 fn given_by(alloc: Global, resolve: &Resolve, id: InterfaceId) -> Result<Vec<Type>, AllocError>
     requires sound { IsSound resolve.now }
-    requires stands { HasInterface resolve.now id }
+    requires present { HasInterface resolve.now id }
     ensures given { IfOk result (λ v. v.items ≡ interface_types resolve.now id) }
-    ensures stand { IfOk result (λ v. AllByRecursion (λ t. HasType resolve.now (Some t)) v.items) }
+    ensures all_present { IfOk result (λ v. AllByRecursion (λ t. HasType resolve.now (Some t)) v.items) }
 {
     let mut given = Vec::new(alloc);
     add_interface(&mut given, resolve, id)?;
@@ -179,7 +179,7 @@ fn owners_among(
     given: &[Type],
 ) -> Result<Keyed<usize, ()>, AllocError>
     requires sound { IsSound resolve.now }
-    requires stand { AllByRecursion (λ t. HasType resolve.now (Some t)) given.now }
+    requires all_present { AllByRecursion (λ t. HasType resolve.now (Some t)) given.now }
     ensures { IfOk result (λ t. t ≡ with_all nat_eq [] (owners_from (is_live resolve.now.types given.now) 0 resolve.now.types)) }
 {
     let marks = live_marks(alloc, resolve.types.as_slice(), given)?;
@@ -196,7 +196,7 @@ fn named_by(
     all: &[InterfaceId],
 ) -> Result<Vec<InterfaceId>, AllocError>
     requires sound { IsSound resolve.now }
-    requires stands { HasInterface resolve.now id }
+    requires present { HasInterface resolve.now id }
     ensures { IfOk result (λ v. v.items ≡ filter (λ other. names_interface resolve.now id other && not (other.index == id.index)) all.now) }
 {
     let given = given_by(alloc, resolve, id)?;
@@ -214,14 +214,14 @@ fn add_used(
     item: &WorldItem,
 ) -> Result<(), AllocError>
     requires sound { IsSound resolve.now }
-    requires stands { HasItem resolve.now item.now }
+    requires present { HasItem resolve.now item.now }
     ensures { OnOk result (table.new ≡ with_all same_interface table.old (used_entry resolve.now all.now item.now)) }
 {
     let WorldItem::Interface(id) = item else {
         return Ok(());
     };
     let named = named_by(alloc, resolve, *id, all)?;
-    table.add_first(*id, Seq::from_vec(named))
+    table.insert_if_absent(*id, Seq::from_vec(named))
 }
 
 /// Of each exported interface the other exported ones that it names.
@@ -233,7 +233,7 @@ fn used_among(
     entries: &Keyed<WorldKey, WorldItem>,
 ) -> Result<Keyed<InterfaceId, Seq<InterfaceId>>, AllocError>
     requires sound { IsSound resolve.now }
-    requires stand { AllByRecursion (HasEntry resolve.now) entries.now }
+    requires all_present { AllByRecursion (HasEntry resolve.now) entries.now }
     ensures { IfOk result (λ t. t ≡ with_all same_interface [] (flat_map (λ e. used_entry resolve.now all.now e.1) entries.now)) }
 {
     let mut table = Keyed::new(alloc);
@@ -251,7 +251,7 @@ pub(crate) fn exports_used(
     world: &World,
 ) -> Result<Keyed<InterfaceId, Seq<InterfaceId>>, AllocError>
     requires sound { IsSound resolve.now }
-    requires stand { AllByRecursion (HasEntry resolve.now) world.now.exports }
+    requires all_present { AllByRecursion (HasEntry resolve.now) world.now.exports }
     ensures { IfOk result (λ t. t ≡ exports_used resolve.now world.now) }
 {
     let all = interfaces_of(alloc, &world.exports)?;

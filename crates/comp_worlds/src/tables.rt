@@ -37,7 +37,7 @@ fn import_map(
     world: &World,
 ) -> Result<Keyed<Option<WorldKey>, ImportedInterface>, AllocError>
     requires sound { IsSound resolve.now }
-    requires stands { HasWorld resolve.now world.now }
+    requires present { HasWorld resolve.now world.now }
     ensures { IfOk result (λ t. t ≡ imported (used_by (map core_import imports.now) shares_memory) resolve.now world.now.imports) }
 {
     let uses = uses_of(alloc, imports, shares_memory)?;
@@ -54,7 +54,7 @@ fn live_type_imports(
     world: &World,
 ) -> Result<Keyed<InterfaceId, Seq<TypeId>>, AllocError>
     requires sound { IsSound resolve.now }
-    requires stands { HasWorld resolve.now world.now }
+    requires present { HasWorld resolve.now world.now }
     requires roles { AllByRecursion (λ i. HasRole resolve.now i.role) (map core_import imports.now) }
     ensures { IfOk result (λ t. t ≡ live_type_imports (map core_import imports.now) resolve.now world.now) }
 {
@@ -73,7 +73,7 @@ fn tables_with(
     world: &World,
 ) -> Result<Tables, AllocError>
     requires sound { IsSound resolve.now }
-    requires stands { HasWorld resolve.now world.now }
+    requires present { HasWorld resolve.now world.now }
     requires roles { AllByRecursion (λ i. HasRole resolve.now i.role) (map core_import imports.now) }
     ensures imports { IfOk result (λ t. t.import_map ≡ imported (used_by (map core_import imports.now) shares_memory) resolve.now world.now.imports) }
     ensures live { IfOk result (λ t. t.live_type_imports ≡ live_type_imports (map core_import imports.now) resolve.now world.now) }
@@ -98,7 +98,7 @@ pub(crate) fn tables_of(
     adapters: &Keyed<Text, WorldAdapter>,
 ) -> Result<Tables, AllocError>
     requires sound { IsSound resolve.now }
-    requires stands { HasWorld resolve.now world.now }
+    requires present { HasWorld resolve.now world.now }
     requires roles { AllByRecursion (λ i. HasRole resolve.now i.role) (all_imports main.now adapters.now) }
     ensures imports { IfOk result (λ t. t.import_map ≡ imported (used_by (all_imports main.now adapters.now) (is_some (imported_memory main.now.imports.modules))) resolve.now world.now.imports) }
     ensures live { IfOk result (λ t. t.live_type_imports ≡ live_type_imports (all_imports main.now adapters.now) resolve.now world.now) }

@@ -83,9 +83,9 @@ fn add_call(alloc: Global, calls: &mut Keyed<Call, ()>, role: &Import) -> Result
     ensures { OnOk result (calls.new ≡ with_all is_same_call calls.old (calls_in role.now)) }
 {
     match role {
-        Import::WorldFunc(key, name, abi) => calls.add_first(call_at(alloc, key, name, *abi)?, ()),
+        Import::WorldFunc(key, name, abi) => calls.insert_if_absent(call_at(alloc, key, name, *abi)?, ()),
         Import::InterfaceFunc(key, _, name, abi) => {
-            calls.add_first(call_at(alloc, key, name, *abi)?, ())
+            calls.insert_if_absent(call_at(alloc, key, name, *abi)?, ())
         }
         _ => Ok(()),
     }
@@ -96,7 +96,7 @@ fn add_drop(drops: &mut Keyed<usize, ()>, role: &Import) -> Result<(), AllocErro
     ensures { OnOk result (drops.new ≡ with_all nat_eq drops.old (drops_in role.now)) }
 {
     match role {
-        Import::ImportedResourceDrop(_, _, id) => drops.add_first(id.index, ()),
+        Import::ImportedResourceDrop(_, _, id) => drops.insert_if_absent(id.index, ()),
         _ => Ok(()),
     }
 }

@@ -121,7 +121,7 @@ impl ComponentWorld {
     /// ones together by the number of types and of their parts. The only refusal is want of memory.
     pub fn of_parts(alloc: Global, parts: WorldParts) -> Result<ComponentWorld, AllocError>
         requires sound { IsSound parts.resolve }
-        requires stands { parts.world.index < length parts.resolve.worlds }
+        requires present { parts.world.index < length parts.resolve.worlds }
         requires roles { AllByRecursion (λ i. HasRole parts.resolve i.role) (all_imports parts.main parts.adapters) }
         ensures { IfOk result (λ w. w ≡ whole_of parts) }
     {
@@ -167,10 +167,10 @@ impl WorldParts {
 }
 
 /// The imports and exports of a world.
-#[tactic(auto, using(crate::proofs::Standing::world_sound))]
+#[tactic(auto, using(crate::proofs::Exists::world_sound))]
 fn items_in(resolve: &Resolve, world: WorldId) -> &World
     requires sound { IsSound resolve.now }
-    requires stands { world.index < length resolve.now.worlds }
+    requires present { world.index < length resolve.now.worlds }
     ensures items { result.now ≡ get_or resolve.now.worlds world.index no_items }
     ensures sound { HasWorld resolve.now result.now }
 {

@@ -1,6 +1,6 @@
 -- What is written by whether the parts could be read.
 use Rattle.std.proofs.Common.{◌≡◌, ℕ, List, Option, Some, None, Result, subst}
-use Rattle.byte_encoding.specs.Spelling.{raw}
+use Rattle.byte_encoding.specs.Encoding.{raw}
 use Rattle.byte_encoding.specs.Written.{Writes}
 use Rattle.byte_encoding.specs.declared.fault.BuildFault.{BuildFault}
 use Rattle.core_sections.specs.Sections.{Piece}

@@ -10,6 +10,6 @@ pub mod Parts
 pub mod Positions
 pub mod Chosen
 pub mod PartsAgain
-pub mod Staying
+pub mod KeptSections
 pub mod Worked
 pub mod WorkedNames

@@ -2,7 +2,7 @@
 use Rattle.std.proofs.Common.{◌≡◌, ℕ, List, [], ◌∷◌, ◌++◌, Option, Some, None, refl, ap, sym, ◌∙◌, append_assoc}
 use Rattle.std.specs.Prelude.{nat_eq, if◌then◌else◌}
 use Rattle.std.proofs.lemmas.List.{append-nil}
-use Rattle.byte_encoding.specs.Spelling.{◌⊕◌, listed, named, sized}
+use Rattle.byte_encoding.specs.Encoding.{◌⊕◌, listed, named, sized}
 use Rattle.byte_encoding.proofs.Readers.{Reader, Reads, read_then, made_from, made, pair_from, pair_reads, skipped, list_from, list_reads, name_from, name_reads}
 use Rattle.core_bytes.specs.Grammar.{naming}
 use Rattle.core_bytes.specs.Modules.{name_section, with_id, name_map, module_names}

@@ -14,7 +14,7 @@ pub record IsPart (p : Part) : Type 0 where
   pub text : List ℕ
   pub contents : List ℕ
   pub counted : IsCounted text contents
-  pub spelled : p.whole ≡ p.id ∷ text
+  pub encoded : p.whole ≡ p.id ∷ text
 
 map_some : {A B : Type 0} (f : A → B) (o : Option A) (y : B) → option_map f o ≡ Some y → (x : A) × (o ≡ Some x) × (f x ≡ y)
 map_some f None y e = absurd cc
@@ -38,20 +38,20 @@ part_takes (id ∷ bytes) p rest e =
     let t = bytes_take bytes m.0.0 m.0.1 m.1 in
     let cut : id ∷ bytes ≡ (id ∷ t.0) ++ m.0.1 = ap (λ (w : List ℕ). id ∷ w) t.2 in
     let whole : take (length (id ∷ bytes) - length m.0.1) (id ∷ bytes) ≡ id ∷ t.0 = front_is (id ∷ bytes) (id ∷ t.0) m.0.1 cut in
-    let is_part : IsPart (record { id = id; whole = take (length (id ∷ bytes) - length m.0.1) (id ∷ bytes) }) = record { text = t.0; contents = m.0.0; counted = t.1; spelled = whole } in
+    let is_part : IsPart (record { id = id; whole = take (length (id ∷ bytes) - length m.0.1) (id ∷ bytes) }) = record { text = t.0; contents = m.0.0; counted = t.1; encoded = whole } in
     subst (λ (y : Part × List ℕ). IsPart y.0 × (id ∷ bytes ≡ y.0.whole ++ y.1)) m.2 (is_part, cut ∙ ap (λ (w : List ℕ). w ++ m.0.1) (sym whole))
 
 part_again : (p : Part) (rest : List ℕ) → IsPart p → part_at (p.whole ++ rest) ≡ Some (p, rest)
 unfolding part_at
 part_again p rest h =
     let bytes : List ℕ = h.text ++ rest in
-    let whole : take (length (p.id ∷ bytes) - length rest) (p.id ∷ bytes) ≡ p.whole = front_is (p.id ∷ bytes) (p.id ∷ h.text) rest refl ∙ sym h.spelled in
-    ap (λ (w : List ℕ). part_at (w ++ rest)) h.spelled
+    let whole : take (length (p.id ∷ bytes) - length rest) (p.id ∷ bytes) ≡ p.whole = front_is (p.id ∷ bytes) (p.id ∷ h.text) rest refl ∙ sym h.encoded in
+    ap (λ (w : List ℕ). part_at (w ++ rest)) h.encoded
     ∙ ap (λ o. option_map (λ c. (record { id = p.id; whole = take (length (p.id ∷ bytes) - length c.1) (p.id ∷ bytes) }, c.1)) o) (bytes_again h.text h.contents rest h.counted)
     ∙ ap (λ (w : List ℕ). Some (record { id = p.id; whole = w }, rest)) whole
 
 some_bytes : (p : Part) → IsPart p → 0 < length p.whole
-some_bytes p h = omega (arith, ap length h.spelled)
+some_bytes p h = omega (arith, ap length h.encoded)
 
 pub parts_taken : (n : ℕ) (bytes : List ℕ) (ps : List Part) → parts_from n bytes ≡ Some ps → AllByRecursion IsPart ps
 unfolding parts_from
@@ -78,10 +78,10 @@ parts_within (p ∷ ps) zero all enough = absurd (omega (arith, enough, some_byt
 parts_within (p ∷ ps) (suc n) all enough =
     let h = all.0 in
     let rest : List ℕ = flat_map (λ q. q.whole) ps in
-    let spelled : p.whole ++ rest ≡ p.id ∷ (h.text ++ rest) = ap (λ (w : List ℕ). w ++ rest) h.spelled in
-    let front : part_at (p.id ∷ (h.text ++ rest)) ≡ Some (p, rest) = ap part_at (sym spelled) ∙ part_again p rest h in
+    let encoded : p.whole ++ rest ≡ p.id ∷ (h.text ++ rest) = ap (λ (w : List ℕ). w ++ rest) h.encoded in
+    let front : part_at (p.id ∷ (h.text ++ rest)) ≡ Some (p, rest) = ap part_at (sym encoded) ∙ part_again p rest h in
     let short : length rest ≤ n = omega (arith, enough, some_bytes p h, length-append p.whole rest) in
-    ap (parts_from (suc n)) spelled ∙ one_more n p.id (h.text ++ rest) rest p ps front (parts_within ps n all.1 short)
+    ap (parts_from (suc n)) encoded ∙ one_more n p.id (h.text ++ rest) rest p ps front (parts_within ps n all.1 short)
 
 pub parts_again : (ps : List Part) → AllByRecursion IsPart ps → parts_of (flat_map (λ p. p.whole) ps) ≡ Some ps
 unfolding parts_of

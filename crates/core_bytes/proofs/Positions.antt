@@ -8,19 +8,19 @@ use Rattle.std.proofs.lemmas.Bool.Decides.{nat_tests}
 abbrev pub NoneBefore : {A B : Type 0} → (A → B) → (B → Bool) → List A → ℕ → Type 0
 NoneBefore {A} v p xs n = (k : ℕ) (d : A) → k < n → p (v (get_or xs k d)) ≡ false
 
-pub place_found : {A B : Type 0} (v : A → B) (p : B → Bool) (xs : List A) (n : ℕ) (d : A) → n < length xs → p (v (get_or xs n d)) ≡ true → NoneBefore v p xs n → position_or_len p (map v xs) ≡ n
-place_found v p [] n d l h f = absurd (omega (arith, l))
-place_found v p (x ∷ xs) zero d l h f = ap (λ b. cond (not b) (1 + position_or_len p (map v xs)) 0) h
-place_found v p (x ∷ xs) (suc n) d l h f =
+pub position_found : {A B : Type 0} (v : A → B) (p : B → Bool) (xs : List A) (n : ℕ) (d : A) → n < length xs → p (v (get_or xs n d)) ≡ true → NoneBefore v p xs n → position_or_len p (map v xs) ≡ n
+position_found v p [] n d l h f = absurd (omega (arith, l))
+position_found v p (x ∷ xs) zero d l h f = ap (λ b. cond (not b) (1 + position_or_len p (map v xs)) 0) h
+position_found v p (x ∷ xs) (suc n) d l h f =
     let more : position_or_len p (map v (x ∷ xs)) ≡ 1 + position_or_len p (map v xs) = ap (λ b. cond (not b) (1 + position_or_len p (map v xs)) 0) (f 0 d (omega arith)) in
-    let rest = place_found v p xs n d (omega (arith, l)) h (λ k e q. f (suc k) e (omega (arith, q))) in
+    let rest = position_found v p xs n d (omega (arith, l)) h (λ k e q. f (suc k) e (omega (arith, q))) in
     omega (arith, more, rest)
 
-pub place_none : {A B : Type 0} (v : A → B) (p : B → Bool) (xs : List A) → NoneBefore v p xs (length xs) → position_or_len p (map v xs) ≡ length xs
-place_none v p [] f = refl
-place_none v p (x ∷ xs) f =
+pub position_none : {A B : Type 0} (v : A → B) (p : B → Bool) (xs : List A) → NoneBefore v p xs (length xs) → position_or_len p (map v xs) ≡ length xs
+position_none v p [] f = refl
+position_none v p (x ∷ xs) f =
     let more : position_or_len p (map v (x ∷ xs)) ≡ 1 + position_or_len p (map v xs) = ap (λ b. cond (not b) (1 + position_or_len p (map v xs)) 0) (f 0 x (omega arith)) in
-    let rest = place_none v p xs (λ k e q. f (suc k) e (omega (arith, q))) in
+    let rest = position_none v p xs (λ k e q. f (suc k) e (omega (arith, q))) in
     omega (arith, more, rest)
 
 map_len : {A B : Type 0} (v : A → B) (xs : List A) → length (map v xs) ≡ length xs
@@ -30,13 +30,13 @@ map_len v (x ∷ xs) = ap (λ n. suc n) (map_len v xs)
 -- the same with another result where there is none
 pub or_found : {A B : Type 0} (v : A → B) (p : B → Bool) (xs : List A) (n : ℕ) (d : A) (other : ℕ) → n < length xs → p (v (get_or xs n d)) ≡ true → NoneBefore v p xs n → unwrap_or (position p (map v xs)) other ≡ n
 or_found v p xs n d other l h f =
-    let e = place_found v p xs n d l h f in
+    let e = position_found v p xs n d l h f in
     let t : nat_lt (position_or_len p (map v xs)) (length (map v xs)) ≡ true = grind (arith, nat_tests, e, l, map_len v xs) in
     ap (λ b. unwrap_or (cond b (Some (position_or_len p (map v xs))) None) other) t ∙ e
 
 pub or_other : {A B : Type 0} (v : A → B) (p : B → Bool) (xs : List A) (other : ℕ) → NoneBefore v p xs (length xs) → unwrap_or (position p (map v xs)) other ≡ other
 or_other v p xs other f =
-    let e = place_none v p xs f in
+    let e = position_none v p xs f in
     let t : nat_lt (position_or_len p (map v xs)) (length (map v xs)) ≡ false = grind (arith, nat_tests, e, map_len v xs) in
     ap (λ b. unwrap_or (cond b (Some (position_or_len p (map v xs))) None) other) t
 

@@ -3,7 +3,7 @@ use Rattle.std.proofs.Common.{◌≡◌, ℕ, zero, suc, ◌+◌, ◌-◌, ◌*�
 use Rattle.std.specs.Prelude.{nat_lt, if◌then◌else◌}
 use Rattle.std.proofs.lemmas.Bool.{cases_lt}
 use Rattle.std.proofs.lemmas.Bool.Decides.{nat_tests}
-use Rattle.byte_encoding.specs.Spelling.{raw}
+use Rattle.byte_encoding.specs.Encoding.{raw}
 use Rattle.byte_encoding.proofs.Readers.{Read, Reader, Reads}
 use Rattle.core_bytes.specs.Signed.{low_seven, signed_groups, signed_within, signed}
 use Rattle.core_bytes.proofs.Signs.{last_group, first_group}

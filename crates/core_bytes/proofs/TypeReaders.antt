@@ -1,7 +1,7 @@
 -- The types of core items that are encoded are read again, whatever follows.
 use Rattle.std.proofs.Common.{◌≡◌, ℕ, List, ◌++◌, Bool, true, false, Option, Some, None, refl, ap}
 use Rattle.std.specs.Prelude.{nat_eq, if◌then◌else◌}
-use Rattle.byte_encoding.specs.Spelling.{flag}
+use Rattle.byte_encoding.specs.Encoding.{flag}
 use Rattle.byte_encoding.proofs.Readers.{Reader, Reads, read_then, made_from, made, pair_from, pair_reads, as_reads, tagged, skipped, number_from, number_reads, index_from, index_reads, list_from, list_reads}
 use Rattle.core_types.specs.Grammar.{reference_type, value_type, function_type, limits, table_type, memory_type, global_type}
 use Rattle.core_bytes.specs.Grammar.{entity_type}

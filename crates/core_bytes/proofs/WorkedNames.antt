@@ -1,6 +1,6 @@
 -- Worked examples: core modules that are given a name.
 use Rattle.std.proofs.Common.{◌≡◌, [], ◌∷◌, refl}
-use Rattle.byte_encoding.specs.Spelling.{leb128}
+use Rattle.byte_encoding.specs.Encoding.{leb128}
 use Rattle.std.specs.Str.{is_utf8, chars}
 use lib.Utf8.{encode}
 use Rattle.core_sections.specs.Numbers.{leb_at, bytes_at, name_at}

@@ -4,7 +4,7 @@
 use Rattle.std.specs.Prelude.{ℕ, zero, suc, ◌-◌, ◌==◌, not, Bool, false, List, [], ◌∷◌, ◌++◌, length, take, drop, filter, position, unwrap_or, Option, Some, None, option_map, option_and_then, Result, Ok, Err}
 use Rattle.std.specs.List.{flat_map, position_or_len}
 use Rattle.std.specs.Str.{bytes_eq}
-use Rattle.byte_encoding.specs.Spelling.{Spelling, ◌⊕◌, raw, named}
+use Rattle.byte_encoding.specs.Encoding.{Encoding, ◌⊕◌, raw, named}
 use Rattle.core_sections.specs.Numbers.{bytes_at}
 use Rattle.core_sections.specs.Sections.{Body, custom, coded, Piece, preamble, pieces_of}
 use Rattle.core_sections.specs.declared.fault.SectionFault.{SectionFault}
@@ -42,12 +42,12 @@ abbrev pub others : List Part → List ℕ
 others ps = flat_map (λ p. p.whole) (filter (λ p. not (is_own p)) ps)
 
 -- the index of the first name of the module, or 0 where there is none
-abbrev pub own_place : List Part → ℕ
-own_place ps = unwrap_or (position is_own ps) 0
+abbrev pub own_index : List Part → ℕ
+own_index ps = unwrap_or (position is_own ps) 0
 
 -- the other parts, with this name at the index of the first one, or in front
-abbrev pub with_own : List ℕ → List Part → Spelling
-with_own name ps = raw (others (take (own_place ps) ps)) ⊕ with_id 0x00 (named name) ⊕ raw (others (drop (own_place ps) ps))
+abbrev pub with_own : List ℕ → List Part → Encoding
+with_own name ps = raw (others (take (own_index ps) ps)) ⊕ with_id 0x00 (named name) ⊕ raw (others (drop (own_index ps) ps))
 
 -- those parts
 abbrev pub other_parts : List Part → List Part
@@ -57,10 +57,10 @@ abbrev pub own_part : List ℕ → Part
 own_part name = record { id = 0; whole = (with_id 0x00 (named name)).bytes }
 
 abbrev pub named_parts : List ℕ → List Part → List Part
-named_parts name ps = other_parts (take (own_place ps) ps) ++ own_part name ∷ other_parts (drop (own_place ps) ps)
+named_parts name ps = other_parts (take (own_index ps) ps) ++ own_part name ∷ other_parts (drop (own_index ps) ps)
 
 -- a section of names, which these parts were in
-abbrev pub names_with : List ℕ → List Part → Spelling
+abbrev pub names_with : List ℕ → List Part → Encoding
 names_with name ps = with_id 0x00 (named name_section ⊕ with_own name ps)
 
 -- whether a section is one of names
@@ -72,8 +72,8 @@ abbrev pub is_names : Piece → Bool
 is_names p = has_names p.body
 
 -- the index of the first section of names, or the end
-abbrev pub names_place : List Piece → ℕ
-names_place ps = position_or_len is_names ps
+abbrev pub names_index : List Piece → ℕ
+names_index ps = position_or_len is_names ps
 
 abbrev pub bytes_in : Body → List ℕ
 bytes_in (custom name bytes) = bytes
@@ -88,20 +88,20 @@ abbrev pub wholes : List Piece → List ℕ
 wholes ps = flat_map (λ p. p.whole) ps
 
 -- the module of these sections, with the first section of names changed, or one added at the end
-abbrev pub renamed : List ℕ → List Piece → List Part → Spelling
+abbrev pub renamed : List ℕ → List Piece → List Part → Encoding
 renamed name ps parts =
-    raw preamble ⊕ raw (wholes (take (names_place ps) ps)) ⊕ names_with name parts ⊕ raw (wholes (drop 1 (drop (names_place ps) ps)))
+    raw preamble ⊕ raw (wholes (take (names_index ps) ps)) ⊕ names_with name parts ⊕ raw (wholes (drop 1 (drop (names_index ps) ps)))
 
 -- the module unchanged where the parts of that section can't be read
-abbrev pub by_parts : List ℕ → List ℕ → List Piece → Option (List Part) → Spelling
+abbrev pub by_parts : List ℕ → List ℕ → List Piece → Option (List Part) → Encoding
 by_parts bytes name ps None = raw bytes
 by_parts bytes name ps (Some parts) = renamed name ps parts
 
 -- the module unchanged where its sections can't be read
-abbrev pub by_pieces : List ℕ → List ℕ → Result (List Piece) SectionFault → Spelling
+abbrev pub by_pieces : List ℕ → List ℕ → Result (List Piece) SectionFault → Encoding
 by_pieces bytes name (Err e) = raw bytes
-by_pieces bytes name (Ok ps) = by_parts bytes name ps (parts_in_front (drop (names_place ps) ps))
+by_pieces bytes name (Ok ps) = by_parts bytes name ps (parts_in_front (drop (names_index ps) ps))
 
 -- A module with this name.
-abbrev pub with_module_name : List ℕ → List ℕ → Spelling
+abbrev pub with_module_name : List ℕ → List ℕ → Encoding
 with_module_name bytes name = by_pieces bytes name (pieces_of bytes)

@@ -8,7 +8,7 @@
 //! must be refused.
 //!
 //! Upward this crate promises: an entry that is appended is at the end of its section, and nothing
-//! else has changed; the bytes of a module encode it (`Spells`), a refusal other than out of memory
+//! else has changed; the bytes of a module encode it (`Encodes`), a refusal other than out of memory
 //! names a count or a size that exceeds 2^32 - 1 (`Refused`), and bytes encode at most one module
 //! ([`one_module`]). Whether a module is valid is not checked: what is given is written.
 //!
@@ -39,7 +39,7 @@ pub use code::{Body, Instruction, LocalRun};
 pub use entity::{ConstExpr, EntityType};
 pub use entries::Entries;
 pub use entry::{DataSegment, DefinedGlobal, ElementSegment, Export, Import, Naming};
-pub use laws::{one_module, other_sections_stay};
+pub use laws::{one_module, other_sections_kept};
 pub use module::Module;
 pub use renaming::set_module_name;
 pub use section::{

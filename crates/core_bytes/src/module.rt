@@ -4,14 +4,14 @@
 #![tactic(auto, using(byte_encoding::proofs::Pieces::writing))]
 
 ghost use Rattle.std.specs.Prelude.{◌≡◌, [], ◌∷◌, ◌++◌, OnOk, OnErr, IfOk, IfErr};
-ghost use Rattle.byte_encoding.specs.Spelling.{octet, named, Spelling, Fits, ◌⊕◌};
+ghost use Rattle.byte_encoding.specs.Encoding.{octet, named, Encoding, Fits, ◌⊕◌};
 ghost use Rattle.byte_encoding.specs.Written.{Writes, Refused};
-ghost use Rattle.core_bytes.specs.Modules.{name_section, with_id, name_map, module_names, section, spelling_of, Spells};
+ghost use Rattle.core_bytes.specs.Modules.{name_section, with_id, name_map, module_names, section, encoding_of, Encodes};
 
 use crate::entries::Entries;
 use crate::number::{put_blob, put_with_id};
 use crate::section::{ModuleNames, NameMap, Section};
-use byte_encoding::{BuildFault, Spell, put_bytes, put_each};
+use byte_encoding::{BuildFault, Encode, put_bytes, put_each};
 use comp_bytes::CoreModule;
 use comp_lists::{Seq, Text};
 use std::alloc::{AllocError, Global};
@@ -37,8 +37,8 @@ fn put_own_name(out: &mut Vec<u8>, name: &Text) -> Result<(), BuildFault>
     Ok(())
 }
 
-impl Spell for ModuleNames {
-    ghost spelling = { module_names };
+impl Encode for ModuleNames {
+    ghost encoding = { module_names };
 
     fn put(&self, out: &mut Vec<u8>) -> Result<(), BuildFault> {
         put_own_name(out, &self.module_name)?;
@@ -48,8 +48,8 @@ impl Spell for ModuleNames {
     }
 }
 
-impl Spell for Section {
-    ghost spelling = { section };
+impl Encode for Section {
+    ghost encoding = { section };
 
     fn put(&self, out: &mut Vec<u8>) -> Result<(), BuildFault> {
         match self {
@@ -78,12 +78,12 @@ impl Entries<Section> {
         self.add(section)
     }
 
-    /// The bytes of the module: its preamble and its sections (`spelling_of`). It fails with
+    /// The bytes of the module: its preamble and its sections (`encoding_of`). It fails with
     /// [`BuildFault::TooMany`] only where a count or a size among them exceeds 2^32 - 1, and reports that
     /// one.
     pub fn bytes(&self, alloc: Global) -> Result<Vec<u8>, BuildFault>
-        ensures ok { IfOk result (λ v. Spells v.items self.now) }
-        ensures err { IfErr result (Refused (spelling_of self.now).counts) }
+        ensures ok { IfOk result (λ v. Encodes v.items self.now) }
+        ensures err { IfErr result (Refused (encoding_of self.now).counts) }
     {
         let mut out = Vec::new(alloc);
         put_bytes(&mut out, &[0x00, 0x61, 0x73, 0x6d, 0x01, 0x00, 0x00, 0x00])?;
@@ -93,8 +93,8 @@ impl Entries<Section> {
 
     /// The module for a component, by the same bytes, with the same refusals.
     pub fn core_module(&self, alloc: Global) -> Result<CoreModule, BuildFault>
-        ensures ok { IfOk result (λ m. Spells m self.now) }
-        ensures err { IfErr result (Refused (spelling_of self.now).counts) }
+        ensures ok { IfOk result (λ m. Encodes m self.now) }
+        ensures err { IfErr result (Refused (encoding_of self.now).counts) }
     {
         let bytes = self.bytes(alloc)?;
         match CoreModule::from_bytes(Seq::from_vec(bytes)) {

@@ -2,12 +2,12 @@
 #![tactic(auto, using(byte_encoding::proofs::Pieces::writing))]
 
 ghost use Rattle.std.specs.Prelude.{◌≡◌, ◌<◌, ◌++◌, length, OnOk};
-ghost use Rattle.byte_encoding.specs.Spelling.{raw, octet, named, sized, Spelling, ◌⊕◌};
+ghost use Rattle.byte_encoding.specs.Encoding.{raw, octet, named, sized, Encoding, ◌⊕◌};
 ghost use Rattle.byte_encoding.specs.Written.{Writes};
 ghost use Rattle.core_bytes.specs.Signed.{low_seven, signed_within, signed};
 ghost use Rattle.core_bytes.specs.Modules.{with_id};
 
-use byte_encoding::{BuildFault, Spell, put_bytes, put_count, spelled};
+use byte_encoding::{BuildFault, Encode, put_bytes, put_count, encoded};
 use std::alloc::AllocError;
 
 /// The low seven bits of a number, or of -1 less it.
@@ -55,10 +55,10 @@ pub(crate) fn put_blob(out: &mut Vec<u8>, bytes: &[u8]) -> Result<(), BuildFault
 }
 
 /// Writes a value after an id and its size.
-pub(crate) fn put_with_id<T: Spell>(out: &mut Vec<u8>, id: u8, value: &T) -> Result<(), BuildFault>
-    ensures { Writes out.old.items out.new.items result (with_id id (T.spelling value.now)) }
+pub(crate) fn put_with_id<T: Encode>(out: &mut Vec<u8>, id: u8, value: &T) -> Result<(), BuildFault>
+    ensures { Writes out.old.items out.new.items result (with_id id (T.encoding value.now)) }
 {
-    let bytes = spelled(*out.allocator(), value)?;
+    let bytes = encoded(*out.allocator(), value)?;
     put_bytes(out, &[id])?;
     put_blob(out, bytes.as_slice())?;
     Ok(())

@@ -4,11 +4,11 @@
 #![tactic(auto, using(byte_encoding::proofs::Pieces::writing))]
 
 ghost use Rattle.std.specs.Prelude.{◌≡◌, ◌≤◌, ◌++◌, length, take, drop, map, IfOk, IfErr, OnOk, option_map};
-ghost use Rattle.byte_encoding.specs.Spelling.{raw, octet, named, sized, Spelling, Fits, ◌⊕◌};
+ghost use Rattle.byte_encoding.specs.Encoding.{raw, octet, named, sized, Encoding, Fits, ◌⊕◌};
 ghost use Rattle.byte_encoding.specs.Written.{Writes, Refused};
 ghost use Rattle.core_sections.specs.Sections.{view, body_view};
 ghost use Rattle.core_bytes.specs.Modules.{name_section, with_id};
-ghost use Rattle.core_bytes.specs.Renaming.{part_view, others, own_place, with_own, names_with, has_names, names_place, bytes_in, parts_in_front, wholes, renamed, by_parts, with_module_name};
+ghost use Rattle.core_bytes.specs.Renaming.{part_view, others, own_index, with_own, names_with, has_names, names_index, bytes_in, parts_in_front, wholes, renamed, by_parts, with_module_name};
 
 use crate::number::{put_blob, put_with_id};
 use crate::part::{Part, read_parts};
@@ -21,8 +21,8 @@ use std::alloc::{AllocError, Global};
 const NAME: [u8; 4] = [0x6e, 0x61, 0x6d, 0x65];
 
 /// The index of the first name of the module, or 0 where there is none.
-fn own_place(parts: &[Part<'_>]) -> usize
-    ensures place { result ≡ own_place (map part_view parts.now) }
+fn own_index(parts: &[Part<'_>]) -> usize
+    ensures value { result ≡ own_index (map part_view parts.now) }
     ensures within { result ≤ length parts.now }
 {
     for index in 0..parts.len() {
@@ -49,7 +49,7 @@ fn put_others(out: &mut Vec<u8>, parts: &[Part<'_>]) -> Result<(), AllocError>
 fn put_with_own(out: &mut Vec<u8>, name: &Text, parts: &[Part<'_>]) -> Result<(), BuildFault>
     ensures { Writes out.old.items out.new.items result (with_own name.now (map part_view parts.now)) }
 {
-    let (before, rest) = parts.split_at(own_place(parts));
+    let (before, rest) = parts.split_at(own_index(parts));
     put_others(out, before)?;
     put_with_id(out, 0x00, name)?;
     put_others(out, rest)?;
@@ -85,8 +85,8 @@ fn has_names(content: Content<'_>) -> bool
 }
 
 /// The index of the first section of names, or the end.
-fn names_place(sections: &[Section<'_>]) -> usize
-    ensures place { result ≡ names_place (map view sections.now) }
+fn names_index(sections: &[Section<'_>]) -> usize
+    ensures value { result ≡ names_index (map view sections.now) }
     ensures within { result ≤ length sections.now }
 {
     for index in 0..sections.len() {
@@ -130,7 +130,7 @@ fn put_wholes(out: &mut Vec<u8>, sections: &[Section<'_>]) -> Result<(), AllocEr
 }
 
 /// The sections after the first.
-fn behind_first<'a, 'b>(sections: &'b [Section<'a>]) -> &'b [Section<'a>]
+fn without_first<'a, 'b>(sections: &'b [Section<'a>]) -> &'b [Section<'a>]
     ensures { result.now ≡ drop 1 sections.now }
 {
     match sections {
@@ -148,11 +148,11 @@ fn put_module(
 ) -> Result<(), BuildFault>
     ensures { Writes out.old.items out.new.items result (renamed name.now (map view sections.now) (map part_view parts.now)) }
 {
-    let (before, rest) = sections.split_at(names_place(sections));
+    let (before, rest) = sections.split_at(names_index(sections));
     put_bytes(out, &[0x00, 0x61, 0x73, 0x6d, 0x01, 0x00, 0x00, 0x00])?;
     put_wholes(out, before)?;
     put_section(out, name, parts)?;
-    put_wholes(out, behind_first(rest))?;
+    put_wholes(out, without_first(rest))?;
     Ok(())
 }
 
@@ -161,9 +161,9 @@ fn names_parts<'a>(
     alloc: Global,
     sections: &[Section<'a>],
 ) -> Result<Option<Vec<Part<'a>>>, AllocError>
-    ensures { IfOk result (λ o. option_map (λ v. map part_view v.items) o ≡ parts_in_front (drop (names_place (map view sections.now)) (map view sections.now))) }
+    ensures { IfOk result (λ o. option_map (λ v. map part_view v.items) o ≡ parts_in_front (drop (names_index (map view sections.now)) (map view sections.now))) }
 {
-    let (_, front) = sections.split_at(names_place(sections));
+    let (_, front) = sections.split_at(names_index(sections));
     parts_in_front(alloc, front)
 }
 
@@ -174,7 +174,7 @@ fn put_by_parts(
     name: &Text,
     sections: &[Section<'_>],
 ) -> Result<(), BuildFault>
-    ensures { Writes out.old.items out.new.items result (by_parts bytes.now name.now (map view sections.now) (parts_in_front (drop (names_place (map view sections.now)) (map view sections.now)))) }
+    ensures { Writes out.old.items out.new.items result (by_parts bytes.now name.now (map view sections.now) (parts_in_front (drop (names_index (map view sections.now)) (map view sections.now)))) }
 {
     match names_parts(*out.allocator(), sections)? {
         None => put_bytes(out, bytes),

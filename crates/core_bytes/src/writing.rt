@@ -2,7 +2,7 @@
 #![tactic(auto, using(byte_encoding::proofs::Pieces::writing))]
 
 ghost use Rattle.std.specs.Prelude.{◌≡◌, ◌++◌, List, ℕ, OnOk, if◌then◌else◌};
-ghost use Rattle.byte_encoding.specs.Spelling.{raw, octet, number, quantity, each, listed, named, sized, Spelling, Fits, ◌⊕◌};
+ghost use Rattle.byte_encoding.specs.Encoding.{raw, octet, number, quantity, each, listed, named, sized, Encoding, Fits, ◌⊕◌};
 ghost use Rattle.byte_encoding.specs.Written.{Writes};
 ghost use Rattle.core_bytes.specs.Signed.{signed};
 ghost use Rattle.core_bytes.specs.declared.entity.ConstExpr.TheVariants as constants;
@@ -13,12 +13,12 @@ use crate::entity::{ConstExpr, EntityType};
 use crate::entries::Entries;
 use crate::entry::{DataSegment, DefinedGlobal, ElementSegment, Export, Import, Naming};
 use crate::number::{put_blob, put_signed};
-use byte_encoding::{BuildFault, Spell, put_bytes, put_count, put_each, put_index, put_tagged};
+use byte_encoding::{BuildFault, Encode, put_bytes, put_count, put_each, put_index, put_tagged};
 use comp_lists::Seq;
 use standard_kinds::byte_of_kind;
 
-impl<T: Spell> Spell for Entries<T> {
-    ghost spelling = { listed T.spelling };
+impl<T: Encode> Encode for Entries<T> {
+    ghost encoding = { listed T.encoding };
 
     fn put(&self, out: &mut Vec<u8>) -> Result<(), BuildFault> {
         put_count(out, self.len())?;
@@ -27,8 +27,8 @@ impl<T: Spell> Spell for Entries<T> {
     }
 }
 
-impl Spell for EntityType {
-    ghost spelling = { entity_type };
+impl Encode for EntityType {
+    ghost encoding = { entity_type };
 
     fn put(&self, out: &mut Vec<u8>) -> Result<(), BuildFault> {
         match self {
@@ -57,8 +57,8 @@ fn put_call_indirect(out: &mut Vec<u8>, type_index: u32, table: u32) -> Result<(
     Ok(())
 }
 
-impl Spell for Instruction {
-    ghost spelling = { instruction };
+impl Encode for Instruction {
+    ghost encoding = { instruction };
 
     fn put(&self, out: &mut Vec<u8>) -> Result<(), BuildFault> {
         match self {
@@ -69,8 +69,8 @@ impl Spell for Instruction {
             }
             Instruction::ReturnCallRef(type_index) => put_tagged(out, 0x15, type_index),
             Instruction::Select => put_bytes(out, &[0x1b]),
-            Instruction::LocalGet(place) => put_tagged(out, 0x20, place),
-            Instruction::LocalSet(place) => put_tagged(out, 0x21, place),
+            Instruction::LocalGet(local_index) => put_tagged(out, 0x20, local_index),
+            Instruction::LocalSet(local_index) => put_tagged(out, 0x21, local_index),
             Instruction::GlobalGet(index) => put_tagged(out, 0x23, index),
             Instruction::GlobalSet(index) => put_tagged(out, 0x24, index),
             Instruction::I32Store => put_bytes(out, &[0x36, 0x02, 0x00]),
@@ -98,8 +98,8 @@ fn put_ended_function(out: &mut Vec<u8>, function: u32) -> Result<(), BuildFault
     Ok(())
 }
 
-impl Spell for ConstExpr {
-    ghost spelling = { constant };
+impl Encode for ConstExpr {
+    ghost encoding = { constant };
 
     fn put(&self, out: &mut Vec<u8>) -> Result<(), BuildFault> {
         match *self {
@@ -110,8 +110,8 @@ impl Spell for ConstExpr {
     }
 }
 
-impl Spell for Import {
-    ghost spelling = { import_entry };
+impl Encode for Import {
+    ghost encoding = { import_entry };
 
     fn put(&self, out: &mut Vec<u8>) -> Result<(), BuildFault> {
         self.module_name.put(out)?;
@@ -121,8 +121,8 @@ impl Spell for Import {
     }
 }
 
-impl Spell for DefinedGlobal {
-    ghost spelling = { defined_global };
+impl Encode for DefinedGlobal {
+    ghost encoding = { defined_global };
 
     fn put(&self, out: &mut Vec<u8>) -> Result<(), BuildFault> {
         self.global_type.put(out)?;
@@ -131,8 +131,8 @@ impl Spell for DefinedGlobal {
     }
 }
 
-impl Spell for Export {
-    ghost spelling = { export_entry };
+impl Encode for Export {
+    ghost encoding = { export_entry };
 
     fn put(&self, out: &mut Vec<u8>) -> Result<(), BuildFault> {
         self.name.put(out)?;
@@ -173,8 +173,8 @@ fn put_declared(out: &mut Vec<u8>, functions: &Seq<u32>) -> Result<(), BuildFaul
     Ok(())
 }
 
-impl Spell for ElementSegment {
-    ghost spelling = { element_segment };
+impl Encode for ElementSegment {
+    ghost encoding = { element_segment };
 
     fn put(&self, out: &mut Vec<u8>) -> Result<(), BuildFault> {
         match self {
@@ -193,8 +193,8 @@ impl Spell for ElementSegment {
     }
 }
 
-impl Spell for DataSegment {
-    ghost spelling = { data_segment };
+impl Encode for DataSegment {
+    ghost encoding = { data_segment };
 
     fn put(&self, out: &mut Vec<u8>) -> Result<(), BuildFault> {
         put_tagged(out, 0x00, &ConstExpr::I32(self.offset))?;
@@ -203,8 +203,8 @@ impl Spell for DataSegment {
     }
 }
 
-impl Spell for LocalRun {
-    ghost spelling = { local_run };
+impl Encode for LocalRun {
+    ghost encoding = { local_run };
 
     fn put(&self, out: &mut Vec<u8>) -> Result<(), BuildFault> {
         put_index(out, self.count)?;
@@ -229,8 +229,8 @@ fn put_body(out: &mut Vec<u8>, code: &Body) -> Result<(), BuildFault>
     Ok(())
 }
 
-impl Spell for Body {
-    ghost spelling = { code_entry };
+impl Encode for Body {
+    ghost encoding = { code_entry };
 
     fn put(&self, out: &mut Vec<u8>) -> Result<(), BuildFault> {
         let mut buffer = Vec::new(*out.allocator());
@@ -239,8 +239,8 @@ impl Spell for Body {
     }
 }
 
-impl Spell for Naming {
-    ghost spelling = { naming };
+impl Encode for Naming {
+    ghost encoding = { naming };
 
     fn put(&self, out: &mut Vec<u8>) -> Result<(), BuildFault> {
         put_index(out, self.index)?;

@@ -104,8 +104,8 @@ cell_set n store f g v now sets fine =
 
 module _ (store : Store) (n : ℕ) (frame : Frame) where
   -- what code does after a step
-  abbrev pub behind : List Instruction → List Value → Now → Outcome
-  behind rest results after = body store (exec (suc n) store) frame rest [] [] after
+  abbrev pub following : List Instruction → List Value → Now → Outcome
+  following rest results after = body store (exec (suc n) store) frame rest [] [] after
 
   add_run : (v w : Value) (stack : List Value) (rest : List Instruction) (now : Now) → body store (exec (suc n) store) frame (I32Add ∷ rest) (w ∷ v ∷ stack) [] now ≡ added v w (λ s. body store (exec (suc n) store) frame rest (I32Value s ∷ stack) [] now)
   add_run (I32Value x) (I32Value y) stack rest now = refl
@@ -120,10 +120,10 @@ module _ (store : Store) (n : ℕ) (frame : Frame) where
   get_run local g rest stack now h =
       ap (λ o. with_item o (λ x. with_item (slice_get now.globals x) (λ cell. read_cell cell now (λ v after. body store (exec (suc n) store) frame rest (v ∷ stack) [] after)))) h
 
-  set_run : (local g : ℕ) (v : Value) (rest : List Instruction) (now : Now) → slice_get frame.globals local ≡ Some g → body store (exec (suc n) store) frame (GlobalSet local ∷ rest) (v ∷ []) [] now ≡ and_then (write_at g v now) (behind rest)
+  set_run : (local g : ℕ) (v : Value) (rest : List Instruction) (now : Now) → slice_get frame.globals local ≡ Some g → body store (exec (suc n) store) frame (GlobalSet local ∷ rest) (v ∷ []) [] now ≡ and_then (write_at g v now) (following rest)
   set_run local g v rest now h =
       ap (λ o. with_item o (λ x. with_item (slice_get now.globals x) (λ cell. write_cell x cell v now (λ after. body store (exec (suc n) store) frame rest [] [] after)))) h
-      ∙ sym (write_then g (slice_get now.globals g) v now (behind rest))
+      ∙ sym (write_then g (slice_get now.globals g) v now (following rest))
 
   sum_run : (base offset b o : ℕ) (rest : List Instruction) (stack : List Value) (now : Now) → slice_get frame.globals base ≡ Some b → slice_get frame.globals offset ≡ Some o → body store (exec (suc n) store) frame (sum_code base offset ++ rest) stack [] now ≡ sum_of b o now (λ s after. body store (exec (suc n) store) frame rest (I32Value s ∷ stack) [] after)
   sum_run base offset b o rest stack now hb ho =
@@ -133,18 +133,18 @@ module _ (store : Store) (n : ℕ) (frame : Frame) where
       ∙ cell_alike (slice_get first.globals o) first _ _ (λ w second. add_run v w stack rest second))
 
   -- one call of a function from outside that gives nothing
-  call_run : (index : ℕ) (target : Known) (what : ℕ) (arguments : List Value) (rest : List Instruction) (now : Now) → slice_get frame.functions index ≡ Some target.address → Is store target what → length target.signature.params ≡ length arguments → target.signature.results ≡ [] → body store (exec (suc n) store) frame (Call index ∷ rest) (reverse arguments ++ []) [] now ≡ and_then (asked target.address target.signature arguments now) (behind rest)
+  call_run : (index : ℕ) (target : Known) (what : ℕ) (arguments : List Value) (rest : List Instruction) (now : Now) → slice_get frame.functions index ≡ Some target.address → Is store target what → length target.signature.params ≡ length arguments → target.signature.results ≡ [] → body store (exec (suc n) store) frame (Call index ∷ rest) (reverse arguments ++ []) [] now ≡ and_then (asked target.address target.signature arguments now) (following rest)
   call_run index target what arguments rest now names is len none =
       let next = body store (exec (suc n) store) frame rest in
       opaque_run store (suc n) frame index target.address what target.signature arguments [] next [] now names is len
-      ∙ and_then_fitting target.signature.results (asked target.address target.signature arguments now) (λ rs after. next (reverse rs ++ []) [] after) (behind rest) (asked_fits target.address target.signature arguments now) (λ rs after fine.
+      ∙ and_then_fitting target.signature.results (asked target.address target.signature arguments now) (λ rs after. next (reverse rs ++ []) [] after) (following rest) (asked_fits target.address target.signature arguments now) (λ rs after fine.
       ap (λ l. next (reverse l ++ []) [] after) (no_results rs (subst (λ (ts : List ValType). fit ts rs ≡ true) none fine)))
 
-  store_run : (m a s : ℕ) (rest : List Instruction) (now : Now) → slice_get frame.memories 0 ≡ Some m → body store (exec (suc n) store) frame (I32Store ∷ rest) (I32Value s ∷ I32Value a ∷ []) [] now ≡ behind rest [] (seen now (Stored m a s))
-  store_run m a s rest now h = ap (λ o. with_item o (λ x. behind rest [] (seen now (Stored x a s)))) h
+  store_run : (m a s : ℕ) (rest : List Instruction) (now : Now) → slice_get frame.memories 0 ≡ Some m → body store (exec (suc n) store) frame (I32Store ∷ rest) (I32Value s ∷ I32Value a ∷ []) [] now ≡ following rest [] (seen now (Stored m a s))
+  store_run m a s rest now h = ap (λ o. with_item o (λ x. following rest [] (seen now (Stored x a s)))) h
 
   -- one call of a function that sets a cell
-  cell_run : (index f g number : ℕ) (rest : List Instruction) (now : Now) → slice_get frame.functions index ≡ Some f → SetsCell store f g → fit (I32 ∷ []) (I32Value number ∷ []) ≡ true → body store (exec (suc n) store) frame (Call index ∷ rest) (I32Value number ∷ []) [] now ≡ and_then (write_at g (I32Value number) now) (behind rest)
+  cell_run : (index f g number : ℕ) (rest : List Instruction) (now : Now) → slice_get frame.functions index ≡ Some f → SetsCell store f g → fit (I32 ∷ []) (I32Value number ∷ []) ≡ true → body store (exec (suc n) store) frame (Call index ∷ rest) (I32Value number ∷ []) [] now ≡ and_then (write_at g (I32Value number) now) (following rest)
   cell_run index f g number rest now names sets fine =
       let v = I32Value number in
       let next = body store (exec (suc n) store) frame rest in
@@ -153,38 +153,38 @@ module _ (store : Store) (n : ℕ) (frame : Frame) where
       ∙ call_top_run store (exec (suc n) store) frame f _ (v ∷ []) [] next [] now sets.has refl
       ∙ ap (λ o. and_then o k) (cell_set n store f g (I32Value number) now sets fine)
       ∙ write_then g (slice_get now.globals g) v now k
-      ∙ sym (write_then g (slice_get now.globals g) v now (behind rest))
+      ∙ sym (write_then g (slice_get now.globals g) v now (following rest))
 
   -- one step
-  step_run : (step : StartStep) (deed : Deed) (rest : List Instruction) (now : Now) → Means store frame step deed → body store (exec (suc n) store) frame (start_step step ++ rest) [] [] now ≡ and_then (deed_done deed now) (behind rest)
+  step_run : (step : StartStep) (deed : Deed) (rest : List Instruction) (now : Now) → Means store frame step deed → body store (exec (suc n) store) frame (start_step step ++ rest) [] [] now ≡ and_then (deed_done deed now) (following rest)
   step_run (Fill global function) (Fills g f) rest now h =
       ap (λ o. with_item o (λ a. body store (exec (suc n) store) frame (GlobalSet global ∷ rest) (Function a ∷ []) [] now)) h.0
       ∙ set_run global g (Function f) rest now h.1
   step_run (Thunk function) (Calls target arguments) rest now h =
-      subst (λ (vs : List Value). body store (exec (suc n) store) frame (Call function ∷ rest) [] [] now ≡ and_then (asked target.address target.signature vs now) (behind rest)) (sym h.2)
+      subst (λ (vs : List Value). body store (exec (suc n) store) frame (Call function ∷ rest) [] [] now ≡ and_then (asked target.address target.signature vs now) (following rest)) (sym h.2)
       (call_run function target h.3.0 [] rest now h.0 h.3.1 (ap (λ (t : FuncType). length t.params) h.1) (ap (λ (t : FuncType). t.results) h.1))
   step_run (Hook hook moment) (Calls target arguments) rest now h =
-      subst (λ (vs : List Value). body store (exec (suc n) store) frame (Call hook ∷ rest) (I32Value (hook_number moment) ∷ []) [] now ≡ and_then (asked target.address target.signature vs now) (behind rest)) (sym h.2)
+      subst (λ (vs : List Value). body store (exec (suc n) store) frame (Call hook ∷ rest) (I32Value (hook_number moment) ∷ []) [] now ≡ and_then (asked target.address target.signature vs now) (following rest)) (sym h.2)
       (call_run hook target h.3.0 (I32Value (hook_number moment) ∷ []) rest now h.0 h.3.1 (ap (λ (t : FuncType). length t.params) h.1) (ap (λ (t : FuncType). t.results) h.1))
   step_run (Hook hook moment) (Sets g number) rest now h =
-      subst (λ (k : ℕ). body store (exec (suc n) store) frame (Call hook ∷ rest) (I32Value (hook_number moment) ∷ []) [] now ≡ and_then (write_at g (I32Value k) now) (behind rest)) (sym h.3)
+      subst (λ (k : ℕ). body store (exec (suc n) store) frame (Call hook ∷ rest) (I32Value (hook_number moment) ∷ []) [] now ≡ and_then (write_at g (I32Value k) now) (following rest)) (sym h.3)
       (cell_run hook h.0 g (hook_number moment) rest now h.1 h.2 (hook_fits moment))
   step_run (AddressToGlobal base offset global) (Sums b o g) rest now h =
       sum_run base offset b o (GlobalSet global ∷ rest) [] now h.0 h.1
       ∙ sum_alike b o now _ _ (λ s after. set_run global g (I32Value s) rest after h.2)
-      ∙ sym (sum_then b o now (λ s after. write_at g (I32Value s) after) (behind rest))
+      ∙ sym (sum_then b o now (λ s after. write_at g (I32Value s) after) (following rest))
   step_run (AddressToMemory base offset address) (Stores b o m a) rest now h =
       ap (λ x. body store (exec (suc n) store) frame (sum_code base offset ++ (I32Store ∷ rest)) (I32Value x ∷ []) [] now) (of_z-to_z w32 address h.4 ∙ sym h.3)
       ∙ sum_run base offset b o (I32Store ∷ rest) (I32Value a ∷ []) now h.0 h.1
       ∙ sum_alike b o now _ _ (λ s after. store_run m a s rest after h.2)
-      ∙ sym (sum_then b o now (λ s after. Returned [] (seen after (Stored m a s))) (behind rest))
+      ∙ sym (sum_then b o now (λ s after. Returned [] (seen after (Stored m a s))) (following rest))
   step_run step deed rest now h = absurd h
 
   steps_run : (steps : List StartStep) (deeds : List Deed) (now : Now) → MeansEach store frame steps deeds → body store (exec (suc n) store) frame (flat_map start_step steps) [] [] now ≡ deeds_done deeds now
   steps_run [] [] now h = refl
   steps_run (step ∷ steps) (deed ∷ deeds) now h =
       step_run step deed (flat_map start_step steps) now h.0
-      ∙ and_then_cong (deed_done deed now) (behind (flat_map start_step steps)) (λ rs after. deeds_done deeds after) (λ rs after. steps_run steps deeds after h.1)
+      ∙ and_then_cong (deed_done deed now) (following (flat_map start_step steps)) (λ rs after. deeds_done deeds after) (λ rs after. steps_run steps deeds after h.1)
   steps_run steps deeds now h = absurd h
 
 -- deeds give nothing

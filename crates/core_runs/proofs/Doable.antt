@@ -44,16 +44,16 @@ sum_keeps b o now go nb no' h =
     read_keeps now.globals (slice_get now.globals o) (record now { answers = left }) (λ w second. added (I32Value x) w (λ s. go s second)) no' (λ y rest. h _ rest (below (x + y))))
 
 -- a number is unchanged where another is set
-stays_number : (cells : List Cell) (g i s : ℕ) → IsNumber (slice_get cells i) → IsNumber (slice_get (slice_set cells g (Kept I32 (I32Value s))) i)
-stays_number [] g i s h = h
-stays_number (c ∷ cells) zero zero s h = tt
-stays_number (c ∷ cells) zero (suc i) s h = h
-stays_number (c ∷ cells) (suc g) zero s h = h
-stays_number (c ∷ cells) (suc g) (suc i) s h = stays_number cells g i s h
+still_number : (cells : List Cell) (g i s : ℕ) → IsNumber (slice_get cells i) → IsNumber (slice_get (slice_set cells g (Kept I32 (I32Value s))) i)
+still_number [] g i s h = h
+still_number (c ∷ cells) zero zero s h = tt
+still_number (c ∷ cells) zero (suc i) s h = h
+still_number (c ∷ cells) (suc g) zero s h = h
+still_number (c ∷ cells) (suc g) (suc i) s h = still_number cells g i s h
 
 write_keeps : (old : List Cell) (g s : ℕ) (cell : Option Cell) (now : Now) → now.globals ≡ old → IsNumber cell → nat_lt s (2 ^ 32) ≡ true → Keeps old (with_item cell (λ c. write_cell g c (I32Value s) now (λ after. Returned [] after)))
 write_keeps old g s (Some (Kept I32 (I32Value x))) now e is fine =
-    subst (λ b. Keeps old (where_true b (Returned [] (record now { globals = slice_set now.globals g (Kept I32 (I32Value s)) })))) (sym fine) (λ i h. subst (λ (l : List Cell). IsNumber (slice_get (slice_set l g (Kept I32 (I32Value s))) i)) (sym e) (stays_number old g i s h))
+    subst (λ b. Keeps old (where_true b (Returned [] (record now { globals = slice_set now.globals g (Kept I32 (I32Value s)) })))) (sym fine) (λ i h. subst (λ (l : List Cell). IsNumber (slice_get (slice_set l g (Kept I32 (I32Value s))) i)) (sym e) (still_number old g i s h))
 write_keeps old g s (Some (Foreign what I32)) now e is fine =
     subst (λ b. Keeps old (where_true b (Returned [] (seen now (SetForeign what (I32Value s)))))) (sym fine) (λ i h. subst (λ (l : List Cell). IsNumber (slice_get l i)) (sym e) h)
 write_keeps old g s cell now e is fine = absurd is

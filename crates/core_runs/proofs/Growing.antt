@@ -13,15 +13,15 @@ pub gets_more : (code : List Instruction) (i : ℕ) → (code ++ gets i) ++ Loca
 gets_more code i =
     append_assoc code (gets i) (LocalGet i ∷ []) ∙ ap (λ l. code ++ l) (sym (map-range_with_len_more LocalGet 0 i i (omega arith)))
 
-more_from : (shims : List Shim) (place i : ℕ) (none : Shim) → i < length shims → table_shims place (take (suc i) shims) ≡ table_shims place (take i shims) ++ table_shim (get_or shims i none).params (place + i) (get_or shims i none).type_index ∷ []
-more_from [] place i none h = absurd (omega arith)
-more_from (x ∷ shims) place zero none h =
-    let same : place ≡ place + 0 = omega arith in
+more_from : (shims : List Shim) (slot_index i : ℕ) (none : Shim) → i < length shims → table_shims slot_index (take (suc i) shims) ≡ table_shims slot_index (take i shims) ++ table_shim (get_or shims i none).params (slot_index + i) (get_or shims i none).type_index ∷ []
+more_from [] slot_index i none h = absurd (omega arith)
+more_from (x ∷ shims) slot_index zero none h =
+    let same : slot_index ≡ slot_index + 0 = omega arith in
     ap (λ n. table_shim x.params n x.type_index ∷ []) same
-more_from (x ∷ shims) place (suc i) none h =
+more_from (x ∷ shims) slot_index (suc i) none h =
     let s = get_or shims i none in
-    let one : place + 1 + i ≡ place + suc i = omega arith in
-    ap (λ l. table_shim x.params place x.type_index ∷ l) (more_from shims (place + 1) i none (omega arith) ∙ ap (λ n. table_shims (place + 1) (take i shims) ++ table_shim s.params n s.type_index ∷ []) one)
+    let one : slot_index + 1 + i ≡ slot_index + suc i = omega arith in
+    ap (λ l. table_shim x.params slot_index x.type_index ∷ l) (more_from shims (slot_index + 1) i none (omega arith) ∙ ap (λ n. table_shims (slot_index + 1) (take i shims) ++ table_shim s.params n s.type_index ∷ []) one)
 
 pub shims_more : (shims : List Shim) (i : ℕ) (none : Shim) → i < length shims → table_shims 0 (take (i + 1) shims) ≡ table_shims 0 (take i shims) ++ table_shim (get_or shims i none).params i (get_or shims i none).type_index ∷ []
 shims_more shims i none h =

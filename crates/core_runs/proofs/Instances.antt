@@ -13,7 +13,7 @@ use Rattle.core_runs.specs.Execution.{exec}
 use Rattle.core_runs.specs.Bodies.{table_shim, table_shims}
 use Rattle.core_runs.specs.Shims.{HasBody, HoldsSlot}
 use Rattle.core_runs.specs.Instances.{cons_if, bind, all_at, own_functions, new_frame, Made, instance_of, made_of, element_done, with_table, empty_table, slots_after}
-use Rattle.core_runs.specs.LawsOfInstances.{Slot, shim_of, shim_parts, Typed, Extends, ShimsMade, ShimsTrapAtFirst, SegmentsFill, FilledShimsHandOn}
+use Rattle.core_runs.specs.LawsOfInstances.{Slot, shim_of, shim_parts, Typed, Extends, ShimsMade, ShimsTrapAtFirst, SegmentsFill, FilledShimsForward}
 use Rattle.core_runs.proofs.Runs.{has_all}
 use Rattle.core_runs.proofs.Shims.{table_shim_at}
 
@@ -92,26 +92,26 @@ empty_slot (suc n) (suc i) h = empty_slot n i (omega arith)
 pub fill_done : (types : List FuncType) (shims : List Slot) (store : Store) (now : Now) (later : Store) (frame : Frame) (fs addresses : List ℕ) → (e : Extends (table_made types shims store now).store later) → slice_get frame.tables 0 ≡ Some (length store.tables) → all_at frame.functions fs ≡ Some addresses → length addresses ≡ length shims → element_done frame (segments.Active None (pos 0) fs) later.tables ≡ Some (store.tables ++ map (λ a. Some a) addresses ∷ e.more_tables)
 fill_done types shims store now later frame fs addresses e named given len =
     let slots = empty_table (length shims) in
-    let place = length store.tables in
+    let new_address = length store.tables in
     let full = map (λ a. Some a) addresses in
     let tables : later.tables ≡ store.tables ++ slots ∷ e.more_tables = e.tables ∙ append_assoc store.tables (slots ∷ []) e.more_tables in
-    let found : slice_get later.tables place ≡ Some slots = ap (λ l. slice_get l place) tables ∙ (has_all (slots ∷ e.more_tables) store.tables).0 in
+    let found : slice_get later.tables new_address ≡ Some slots = ap (λ l. slice_get l new_address) tables ∙ (has_all (slots ∷ e.more_tables) store.tables).0 in
     ap (λ o. bind o (λ t. bind (slice_get later.tables t) (λ s. bind (all_at frame.functions fs) (λ a. with_table t later.tables (slots_after 0 a s))))) named
-    ∙ ap (λ o. bind o (λ s. bind (all_at frame.functions fs) (λ a. with_table place later.tables (slots_after 0 a s)))) found
-    ∙ ap (λ o. bind o (λ a. with_table place later.tables (slots_after 0 a slots))) given
-    ∙ ap (λ o. with_table place later.tables o) (all_slots addresses (length shims) len)
-    ∙ ap (λ l. Some (slice_set l place full)) tables
+    ∙ ap (λ o. bind o (λ s. bind (all_at frame.functions fs) (λ a. with_table new_address later.tables (slots_after 0 a s)))) found
+    ∙ ap (λ o. bind o (λ a. with_table new_address later.tables (slots_after 0 a slots))) given
+    ∙ ap (λ o. with_table new_address later.tables o) (all_slots addresses (length shims) len)
+    ∙ ap (λ l. Some (slice_set l new_address full)) tables
     ∙ ap Some (set-append_seam store.tables slots e.more_tables full)
 
 -- A shim of the shim module's instance, in a store where the table's slots are these.
 shim_links : (types : List FuncType) (shims : List Slot) (store : Store) (now : Now) → Typed types shims → length shims ≤ 2 ^ 32 → (later : Store) (more_functions : List Func) (slots : List (Option ℕ)) (more_tables : List (List (Option ℕ))) → later.functions ≡ (table_made types shims store now).store.functions ++ more_functions → later.tables ≡ store.tables ++ slots ∷ more_tables → (i : ℕ) (s : Slot) (slot : Option ℕ) → slice_get shims i ≡ Some s → slice_get slots i ≡ Some slot → HasBody later (length store.functions + i) (table_made types shims store now).frame s.type (table_shim (length s.type.params) i s.index) × HoldsSlot later (table_made types shims store now).frame i slot
 shim_links types shims store now typed room later more_functions slots more_tables functions tables i s slot at holds =
     let made = table_made types shims store now in
-    let place = length store.functions + i in
+    let new_address = length store.functions + i in
     let own = table_functions made.frame 0 shims in
     let zero : 0 + i ≡ i = omega arith in
     let code = table_function_at made.frame shims 0 i s at ∙ ap (λ n. Some (Generated made.frame s.type [] ((table_shim (length s.type.params) n s.index).instructions))) zero in
-    let found = ap (λ l. slice_get l place) (functions ∙ append_assoc store.functions own more_functions) ∙ slice_get-behind store.functions (own ++ more_functions) i ∙ slice_get-front own more_functions i _ code in (
+    let found = ap (λ l. slice_get l new_address) (functions ∙ append_assoc store.functions own more_functions) ∙ slice_get-behind store.functions (own ++ more_functions) i ∙ slice_get-front own more_functions i _ code in (
       found,
       record {
         table = length store.tables;
@@ -156,6 +156,6 @@ segments_fill types shims store now made later frame fs addresses h e =
       tables = e.tables ∙ ap (λ (m : Made). m.store.tables ++ e.more_tables) (sym (made_is types shims store now made h));
     })
 
-pub filled_shims_hand_on : FilledShimsHandOn
-filled_shims_hand_on types shims store now made later more_functions addresses more_tables h functions tables =
+pub filled_shims_forward : FilledShimsForward
+filled_shims_forward types shims store now made later more_functions addresses more_tables h functions tables =
     after_fill types shims store now h.typed h.room later more_functions addresses more_tables (functions ∙ ap (λ (m : Made). m.store.functions ++ more_functions) (sym (made_is types shims store now made h))) tables

@@ -11,14 +11,14 @@ use Rattle.core_runs.specs.Values.{Value, Function, fit}
 use Rattle.core_runs.specs.Store.{Frame, Func, Generated, signature_of, Store, Cell, Kept, Now, ByCode, Returned, Trapped}
 use Rattle.core_runs.specs.Execution.{with_item, where_true, and_then, Calling, body, read_cell, renewed, exec}
 use Rattle.core_runs.specs.Bodies.{ref_shim_code, ref_shim, stub}
-use Rattle.core_runs.specs.Shims.{HasBody, HoldsGlobal, HandsOnByGlobal, TrapsAtOnce, ShimByGlobal}
-use Rattle.core_runs.specs.LawsOfShims.{RefShimsHandOn, StubsTrap, EmptyRefShimsTrap}
+use Rattle.core_runs.specs.Shims.{HasBody, HoldsGlobal, ForwardsByGlobal, TrapsAtOnce, ShimByGlobal}
+use Rattle.core_runs.specs.LawsOfShims.{RefShimsForward, StubsTrap, EmptyRefShimsTrap}
 use Rattle.core_runs.proofs.Runs.{has_locals, gets_run, and_then_same, checked, exec_generated, exec_fits}
 use Rattle.core_runs.proofs.Shims.{fit-length, call_top_run, of_type_run}
 
 -- a function in a global is unchanged over opaque calls
-pub function_stays : (globals : List Cell) (g : ℕ) (t : ValType) (f number : ℕ) → slice_get globals g ≡ Some (Kept t (Function f)) → slice_get (map (renewed number) globals) g ≡ Some (Kept t (Function f))
-function_stays globals g t f number h = slice_get-map (renewed number) globals g ∙ ap (option_map (renewed number)) h
+pub function_unchanged : (globals : List Cell) (g : ℕ) (t : ValType) (f number : ℕ) → slice_get globals g ≡ Some (Kept t (Function f)) → slice_get (map (renewed number) globals) g ≡ Some (Kept t (Function f))
+function_unchanged globals g t f number h = slice_get-map (renewed number) globals g ∙ ap (option_map (renewed number)) h
 
 module _ (store : Store) (call : Calling) (frame : Frame) where
   ref_call_run : (local type global : ℕ) (t : ValType) (f : ℕ) (g : Func) (vs locals : List Value) (now : Now) → slice_get frame.globals local ≡ Some global → slice_get now.globals global ≡ Some (Kept t (Function f)) → slice_get store.functions f ≡ Some g → slice_get frame.types type ≡ Some (signature_of g) → length (signature_of g).params ≡ length vs → body store call frame (GlobalGet local ∷ ReturnCallRef type ∷ []) (reverse vs ++ []) locals now ≡ call f vs now
@@ -47,14 +47,14 @@ ref_filled n store frame shim f g s global type arguments now code typed is ther
     ∙ ap (λ o. and_then o (checked s.results)) ran
     ∙ subst (λ (x : FuncType). and_then (exec n store f arguments now) (checked x.results) ≡ exec n store f arguments now) same (exec_fits n store f g arguments now there)
 
-pub ref_shim_hands_on : (s : FuncType) (global type : ℕ) → HandsOnByGlobal s (ref_shim (length s.params) global type) type global
-ref_shim_hands_on s global type = record {
+pub ref_shim_forwards : (s : FuncType) (global type : ℕ) → ForwardsByGlobal s (ref_shim (length s.params) global type) type global
+ref_shim_forwards s global type = record {
   filled = λ n store frame shim f g arguments now. ref_filled n store frame shim f g s global type arguments now;
 }
 
 pub is_ref_shim : (made : Body) (count global type : ℕ) → made ≡ ref_shim count global type → ShimByGlobal count made type global
 is_ref_shim made count global type e =
-    record { hands_on = λ s n. subst (λ (b : Body). HandsOnByGlobal s b type global) (ap (λ m. ref_shim m global type) n ∙ sym e) (ref_shim_hands_on s global type) }
+    record { forwards = λ s n. subst (λ (b : Body). ForwardsByGlobal s b type global) (ap (λ m. ref_shim m global type) n ∙ sym e) (ref_shim_forwards s global type) }
 
 -- A stub traps with no event.
 pub stub_traps : (s : FuncType) → TrapsAtOnce s stub
@@ -62,14 +62,14 @@ stub_traps s = record {
   trap = λ n store frame f arguments now there fine. exec_generated n store f _ arguments now there ∙ ap (λ b. where_true b (Trapped ByCode now)) fine;
 }
 
-pub ref_shims_hand_on : RefShimsHandOn
-ref_shims_hand_on type global type_index n store frame shim f g arguments now =
-    (ref_shim_hands_on type global type_index).filled n store frame shim f g arguments now
+pub ref_shims_forward : RefShimsForward
+ref_shims_forward type global type_index n store frame shim f g arguments now =
+    (ref_shim_forwards type global type_index).filled n store frame shim f g arguments now
 
 pub stubs_trap : StubsTrap
 stubs_trap type n store frame f arguments now = (stub_traps type).trap n store frame f arguments now
 
 pub empty_ref_shims_trap : EmptyRefShimsTrap
 empty_ref_shims_trap type global type_index n store frame other shim f arguments now there typed holds empty fine =
-    ref_shims_hand_on type global type_index (suc n) store frame shim f (Generated other type [] (Unreachable ∷ [])) arguments now there typed holds empty refl fine
+    ref_shims_forward type global type_index (suc n) store frame shim f (Generated other type [] (Unreachable ∷ [])) arguments now there typed holds empty refl fine
     ∙ stubs_trap type n store other f arguments now empty fine

@@ -15,8 +15,8 @@ use Rattle.core_runs.specs.Values.{Value, I32Value, fits, fit, same_value_type, 
 use Rattle.core_runs.specs.Store.{Frame, Func, signature_of, Store, Now, ByCode, Outcome, Returned, Trapped}
 use Rattle.core_runs.specs.Execution.{with_item, where_true, and_then, Calling, Next, body, act, call_top, of_type, with_slot, exec}
 use Rattle.core_runs.specs.Bodies.{plain, table_shim_code, table_shim}
-use Rattle.core_runs.specs.Shims.{HasBody, HoldsSlot, HandsOnBySlot, ShimBySlot}
-use Rattle.core_runs.specs.LawsOfShims.{TableShimsHandOn, EmptyTableShimsTrap}
+use Rattle.core_runs.specs.Shims.{HasBody, HoldsSlot, ForwardsBySlot, ShimBySlot}
+use Rattle.core_runs.specs.LawsOfShims.{TableShimsForward, EmptyTableShimsTrap}
 use Rattle.std.proofs.lemmas.Int.{of_z-to_z}
 use Rattle.core_runs.proofs.Runs.{has_locals, gets_run, and_then_same, checked, exec_generated, exec_fits}
 
@@ -79,28 +79,28 @@ module _ (store : Store) (call : Calling) (frame : Frame) where
       ∙ ap (λ b. if b then go else Trapped ByCode now) (same_signature-refl (signature_of g))
 
   -- the call through the table
-  pub indirect_run : (type table place : ℕ) (slots : List (Option ℕ)) (f : ℕ) (g : Func) (vs : List Value) (next : Next) (locals : List Value) (now : Now) → slice_get frame.tables 0 ≡ Some table → slice_get store.tables table ≡ Some slots → slice_get slots place ≡ Some (Some f) → slice_get store.functions f ≡ Some g → slice_get frame.types type ≡ Some (signature_of g) → length (signature_of g).params ≡ length vs → act store call frame (CallIndirect type 0) next (I32Value place ∷ (reverse vs ++ [])) locals now ≡ and_then (call f vs now) (λ results after. next (reverse results ++ []) locals after)
-  indirect_run type table place slots f g vs next locals now ht hs hp hf hg len =
+  pub indirect_run : (type table slot_index : ℕ) (slots : List (Option ℕ)) (f : ℕ) (g : Func) (vs : List Value) (next : Next) (locals : List Value) (now : Now) → slice_get frame.tables 0 ≡ Some table → slice_get store.tables table ≡ Some slots → slice_get slots slot_index ≡ Some (Some f) → slice_get store.functions f ≡ Some g → slice_get frame.types type ≡ Some (signature_of g) → length (signature_of g).params ≡ length vs → act store call frame (CallIndirect type 0) next (I32Value slot_index ∷ (reverse vs ++ [])) locals now ≡ and_then (call f vs now) (λ results after. next (reverse results ++ []) locals after)
+  indirect_run type table slot_index slots f g vs next locals now ht hs hp hf hg len =
       let stack = reverse vs ++ [] in
       let go = λ (x : ℕ). of_type store call frame x type now (call_top store call frame x next stack locals now) in
-      ap (λ o. with_item o (λ t. with_item (slice_get store.tables t) (λ s. with_slot (slice_get s place) now go))) ht
-      ∙ ap (λ o. with_item o (λ s. with_slot (slice_get s place) now go)) hs
+      ap (λ o. with_item o (λ t. with_item (slice_get store.tables t) (λ s. with_slot (slice_get s slot_index) now go))) ht
+      ∙ ap (λ o. with_item o (λ s. with_slot (slice_get s slot_index) now go)) hs
       ∙ ap (λ o. with_slot o now go) hp
       ∙ of_type_run f type g now _ hf hg
       ∙ call_top_run f g vs [] next locals now hf len
 
-  empty_slot_run : (type table place : ℕ) (slots : List (Option ℕ)) (stack : List Value) (next : Next) (locals : List Value) (now : Now) → slice_get frame.tables 0 ≡ Some table → slice_get store.tables table ≡ Some slots → slice_get slots place ≡ Some None → act store call frame (CallIndirect type 0) next (I32Value place ∷ stack) locals now ≡ Trapped ByCode now
-  empty_slot_run type table place slots stack next locals now ht hs hp =
+  empty_slot_run : (type table slot_index : ℕ) (slots : List (Option ℕ)) (stack : List Value) (next : Next) (locals : List Value) (now : Now) → slice_get frame.tables 0 ≡ Some table → slice_get store.tables table ≡ Some slots → slice_get slots slot_index ≡ Some None → act store call frame (CallIndirect type 0) next (I32Value slot_index ∷ stack) locals now ≡ Trapped ByCode now
+  empty_slot_run type table slot_index slots stack next locals now ht hs hp =
       let go = λ (x : ℕ). of_type store call frame x type now (call_top store call frame x next stack locals now) in
-      ap (λ o. with_item o (λ t. with_item (slice_get store.tables t) (λ s. with_slot (slice_get s place) now go))) ht
-      ∙ ap (λ o. with_item o (λ s. with_slot (slice_get s place) now go)) hs
+      ap (λ o. with_item o (λ t. with_item (slice_get store.tables t) (λ s. with_slot (slice_get s slot_index) now go))) ht
+      ∙ ap (λ o. with_item o (λ s. with_slot (slice_get s slot_index) now go)) hs
       ∙ ap (λ o. with_slot o now go) hp
 
 -- the code of a shim up to the call
-table_shim_up_to : (store : Store) (call : Calling) (frame : Frame) (place : ℤ) (type : ℕ) (ts : List ValType) (vs : List Value) (now : Now) → length ts ≡ length vs → body store call frame (table_shim_code (length ts) place type) [] (vs ++ []) now ≡ act store call frame (CallIndirect type 0) (body store call frame []) (I32Value (cast_unsigned w32 place) ∷ (reverse vs ++ [])) (vs ++ []) now
-table_shim_up_to store call frame place type ts vs now len =
-    ap (λ n. body store call frame (table_shim_code n place type) [] (vs ++ []) now) len
-    ∙ gets_run store call frame vs 0 (I32Const place ∷ CallIndirect type 0 ∷ []) [] (vs ++ []) now (has_locals vs [])
+table_shim_up_to : (store : Store) (call : Calling) (frame : Frame) (slot_index : ℤ) (type : ℕ) (ts : List ValType) (vs : List Value) (now : Now) → length ts ≡ length vs → body store call frame (table_shim_code (length ts) slot_index type) [] (vs ++ []) now ≡ act store call frame (CallIndirect type 0) (body store call frame []) (I32Value (cast_unsigned w32 slot_index) ∷ (reverse vs ++ [])) (vs ++ []) now
+table_shim_up_to store call frame slot_index type ts vs now len =
+    ap (λ n. body store call frame (table_shim_code n slot_index type) [] (vs ++ []) now) len
+    ∙ gets_run store call frame vs 0 (I32Const slot_index ∷ CallIndirect type 0 ∷ []) [] (vs ++ []) now (has_locals vs [])
 
 -- results that are passed on
 handed_on : (o : Outcome) (locals : List Value) (store : Store) (call : Calling) (frame : Frame) → and_then o (λ results after. body store call frame [] (reverse results ++ []) locals after) ≡ o
@@ -108,52 +108,52 @@ handed_on o locals store call frame =
     and_then_same o _ (λ rs now. ap (λ l. Returned l now) (ap reverse (append-nil (reverse rs)) ∙ reverse-reverse rs))
 
 -- A filled shim does what the function does, whatever the function, the arguments and the results.
-shim_filled : (n : ℕ) (store : Store) (frame : Frame) (shim f : ℕ) (g : Func) (s : FuncType) (place : ℤ) (type : ℕ) (arguments : List Value) (now : Now) → HasBody store shim frame s (plain (table_shim_code (length s.params) place type)) → slice_get frame.types type ≡ Some s → HoldsSlot store frame (cast_unsigned w32 place) (Some f) → slice_get store.functions f ≡ Some g → signature_of g ≡ s → fit s.params arguments ≡ true → exec (suc n) store shim arguments now ≡ exec n store f arguments now
-shim_filled n store frame shim f g s place type arguments now code typed is there same fine =
+shim_filled : (n : ℕ) (store : Store) (frame : Frame) (shim f : ℕ) (g : Func) (s : FuncType) (slot_index : ℤ) (type : ℕ) (arguments : List Value) (now : Now) → HasBody store shim frame s (plain (table_shim_code (length s.params) slot_index type)) → slice_get frame.types type ≡ Some s → HoldsSlot store frame (cast_unsigned w32 slot_index) (Some f) → slice_get store.functions f ≡ Some g → signature_of g ≡ s → fit s.params arguments ≡ true → exec (suc n) store shim arguments now ≡ exec n store f arguments now
+shim_filled n store frame shim f g s slot_index type arguments now code typed is there same fine =
     let call = exec n store in
     let len = fit-length s.params arguments fine in
     let typed' : slice_get frame.types type ≡ Some (signature_of g) = typed ∙ ap Some (sym same) in
     let len' : length (signature_of g).params ≡ length arguments = ap (λ (x : FuncType). length x.params) same ∙ len in
-    let ran : body store call frame (table_shim_code (length s.params) place type) [] (arguments ++ []) now ≡ exec n store f arguments now =
-    table_shim_up_to store call frame place type s.params arguments now len
-    ∙ indirect_run store call frame type is.table (cast_unsigned w32 place) is.slots f g arguments (body store call frame []) (arguments ++ []) now is.names_table is.holds_slots is.holds there typed' len'
+    let ran : body store call frame (table_shim_code (length s.params) slot_index type) [] (arguments ++ []) now ≡ exec n store f arguments now =
+    table_shim_up_to store call frame slot_index type s.params arguments now len
+    ∙ indirect_run store call frame type is.table (cast_unsigned w32 slot_index) is.slots f g arguments (body store call frame []) (arguments ++ []) now is.names_table is.holds_slots is.holds there typed' len'
     ∙ handed_on (exec n store f arguments now) (arguments ++ []) store call frame in
     exec_generated n store shim _ arguments now code
-    ∙ ap (λ b. where_true b (and_then (body store call frame (table_shim_code (length s.params) place type) [] (arguments ++ []) now) (checked s.results))) fine
+    ∙ ap (λ b. where_true b (and_then (body store call frame (table_shim_code (length s.params) slot_index type) [] (arguments ++ []) now) (checked s.results))) fine
     ∙ ap (λ o. and_then o (checked s.results)) ran
     ∙ subst (λ (x : FuncType). and_then (exec n store f arguments now) (checked x.results) ≡ exec n store f arguments now) same (exec_fits n store f g arguments now there)
 
 -- A shim that isn't filled traps with no event.
-shim_empty : (n : ℕ) (store : Store) (frame : Frame) (shim : ℕ) (s : FuncType) (place : ℤ) (type : ℕ) (arguments : List Value) (now : Now) → HasBody store shim frame s (plain (table_shim_code (length s.params) place type)) → HoldsSlot store frame (cast_unsigned w32 place) None → fit s.params arguments ≡ true → exec (suc n) store shim arguments now ≡ Trapped ByCode now
-shim_empty n store frame shim s place type arguments now code is fine =
+shim_empty : (n : ℕ) (store : Store) (frame : Frame) (shim : ℕ) (s : FuncType) (slot_index : ℤ) (type : ℕ) (arguments : List Value) (now : Now) → HasBody store shim frame s (plain (table_shim_code (length s.params) slot_index type)) → HoldsSlot store frame (cast_unsigned w32 slot_index) None → fit s.params arguments ≡ true → exec (suc n) store shim arguments now ≡ Trapped ByCode now
+shim_empty n store frame shim s slot_index type arguments now code is fine =
     let call = exec n store in
     let len = fit-length s.params arguments fine in
-    let ran : body store call frame (table_shim_code (length s.params) place type) [] (arguments ++ []) now ≡ Trapped ByCode now =
-    table_shim_up_to store call frame place type s.params arguments now len
-    ∙ empty_slot_run store call frame type is.table (cast_unsigned w32 place) is.slots (reverse arguments ++ []) (body store call frame []) (arguments ++ []) now is.names_table is.holds_slots is.holds in
+    let ran : body store call frame (table_shim_code (length s.params) slot_index type) [] (arguments ++ []) now ≡ Trapped ByCode now =
+    table_shim_up_to store call frame slot_index type s.params arguments now len
+    ∙ empty_slot_run store call frame type is.table (cast_unsigned w32 slot_index) is.slots (reverse arguments ++ []) (body store call frame []) (arguments ++ []) now is.names_table is.holds_slots is.holds in
     exec_generated n store shim _ arguments now code
-    ∙ ap (λ b. where_true b (and_then (body store call frame (table_shim_code (length s.params) place type) [] (arguments ++ []) now) (checked s.results))) fine
+    ∙ ap (λ b. where_true b (and_then (body store call frame (table_shim_code (length s.params) slot_index type) [] (arguments ++ []) now) (checked s.results))) fine
     ∙ ap (λ o. and_then o (checked s.results)) ran
 
-pub table_shim_hands_on : (s : FuncType) (place : ℤ) (type : ℕ) → HandsOnBySlot s (plain (table_shim_code (length s.params) place type)) type (cast_unsigned w32 place)
-table_shim_hands_on s place type = record {
-  filled = λ n store frame shim f g arguments now. shim_filled n store frame shim f g s place type arguments now;
-  empty = λ n store frame shim arguments now. shim_empty n store frame shim s place type arguments now;
+pub table_shim_forwards : (s : FuncType) (slot_index : ℤ) (type : ℕ) → ForwardsBySlot s (plain (table_shim_code (length s.params) slot_index type)) type (cast_unsigned w32 slot_index)
+table_shim_forwards s slot_index type = record {
+  filled = λ n store frame shim f g arguments now. shim_filled n store frame shim f g s slot_index type arguments now;
+  empty = λ n store frame shim arguments now. shim_empty n store frame shim s slot_index type arguments now;
 }
 
 -- for a slot by its index
-pub table_shim_at : (s : FuncType) (place type : ℕ) → place < 2 ^ 32 → HandsOnBySlot s (table_shim (length s.params) place type) type place
-table_shim_at s place type h =
-    subst (λ (p : ℕ). HandsOnBySlot s (table_shim (length s.params) place type) type p) (of_z-to_z w32 place h) (table_shim_hands_on s (cast_signed w32 place) type)
+pub table_shim_at : (s : FuncType) (slot_index type : ℕ) → slot_index < 2 ^ 32 → ForwardsBySlot s (table_shim (length s.params) slot_index type) type slot_index
+table_shim_at s slot_index type h =
+    subst (λ (p : ℕ). ForwardsBySlot s (table_shim (length s.params) slot_index type) type p) (of_z-to_z w32 slot_index h) (table_shim_forwards s (cast_signed w32 slot_index) type)
 
-pub is_table_shim : (made : Body) (count place type : ℕ) → made ≡ table_shim count place type → place < 2 ^ 32 → ShimBySlot count made type place
-is_table_shim made count place type e h =
-    record { hands_on = λ s n. subst (λ (b : Body). HandsOnBySlot s b type place) (ap (λ m. table_shim m place type) n ∙ sym e) (table_shim_at s place type h) }
+pub is_table_shim : (made : Body) (count slot_index type : ℕ) → made ≡ table_shim count slot_index type → slot_index < 2 ^ 32 → ShimBySlot count made type slot_index
+is_table_shim made count slot_index type e h =
+    record { forwards = λ s n. subst (λ (b : Body). ForwardsBySlot s b type slot_index) (ap (λ m. table_shim m slot_index type) n ∙ sym e) (table_shim_at s slot_index type h) }
 
-pub table_shims_hand_on : TableShimsHandOn
-table_shims_hand_on type place type_index n store frame shim f g arguments now h =
-    (table_shim_at type place type_index h).filled n store frame shim f g arguments now
+pub table_shims_forward : TableShimsForward
+table_shims_forward type slot_index type_index n store frame shim f g arguments now h =
+    (table_shim_at type slot_index type_index h).filled n store frame shim f g arguments now
 
 pub empty_table_shims_trap : EmptyTableShimsTrap
-empty_table_shims_trap type place type_index n store frame shim arguments now h =
-    (table_shim_at type place type_index h).empty n store frame shim arguments now
+empty_table_shims_trap type slot_index type_index n store frame shim arguments now h =
+    (table_shim_at type slot_index type_index h).empty n store frame shim arguments now

@@ -14,7 +14,7 @@ use Rattle.core_runs.specs.Execution.{with_item, where_true, and_then, answered,
 use Rattle.core_runs.specs.Starts.{Deed, Fills, Calls, Sets, Sums, Stores, read_at, write_at, added, sum_of, deed_done, deeds_done, Filling, filled, with_globals, Filled, NoFills, Held, Throughout}
 use Rattle.core_runs.specs.LawsOfStarts.{CellsAreSet, FilledThroughout, NumbersAreRead, AddressesAreSums}
 use Rattle.core_runs.proofs.Runs.{has_front, has_all}
-use Rattle.core_runs.proofs.Refs.{function_stays}
+use Rattle.core_runs.proofs.Refs.{function_unchanged}
 
 -- a fact of outcomes that holds of stuck and waiting runs, and where what follows a read has it
 module _ (Q : Outcome → Type 0) (stuck : Q Stuck) where
@@ -53,8 +53,8 @@ module _ (Q : Outcome → Type 0) (stuck : Q Stuck) where
 abbrev pub Stable : (List Cell → Type 0) → Type 0
 Stable P = (number : ℕ) (globals : List Cell) → P globals → P (map (renewed number) globals)
 
-abbrev pub StaysOnSum : (List Cell → Type 0) → Type 0
-StaysOnSum P = (globals : List Cell) (g s : ℕ) (t : ValType) (old : Value) → slice_get globals g ≡ Some (Kept t old) → fits t (I32Value s) ≡ true → P globals → P (slice_set globals g (Kept t (I32Value s)))
+abbrev pub KeptBySum : (List Cell → Type 0) → Type 0
+KeptBySum P = (globals : List Cell) (g s : ℕ) (t : ValType) (old : Value) → slice_get globals g ≡ Some (Kept t old) → fits t (I32Value s) ≡ true → P globals → P (slice_set globals g (Kept t (I32Value s)))
 
 all_append : {X : Type 0} (P : X → Type 0) (xs ys : List X) → AllByRecursion P xs → AllByRecursion P ys → AllByRecursion P (xs ++ ys)
 all_append P [] ys a b = b
@@ -81,54 +81,54 @@ asked_throughout P stable f s arguments now h =
     where_meets (Throughout P) tt (fit s.params arguments) _ (λ fine. answered_throughout P stable s.results now.answers (seen now (Called f arguments)) (seen_held P now (Called f arguments) h))
 
 -- a write of a sum
-write_throughout : (P : List Cell → Type 0) → StaysOnSum P → (g s : ℕ) (now : Now) (cell : Option Cell) → slice_get now.globals g ≡ cell → Held P now → Throughout P (with_item cell (λ c. write_cell g c (I32Value s) now (λ after. Returned [] after)))
-write_throughout P stays g s now None e h = tt
-write_throughout P stays g s now (Some (Kept t old)) e h =
-    where_meets (Throughout P) tt (fits t (I32Value s)) _ (λ fine. (stays now.globals g s t old e fine h.0, h.1))
-write_throughout P stays g s now (Some (Foreign what t)) e h =
+write_throughout : (P : List Cell → Type 0) → KeptBySum P → (g s : ℕ) (now : Now) (cell : Option Cell) → slice_get now.globals g ≡ cell → Held P now → Throughout P (with_item cell (λ c. write_cell g c (I32Value s) now (λ after. Returned [] after)))
+write_throughout P unchanged g s now None e h = tt
+write_throughout P unchanged g s now (Some (Kept t old)) e h =
+    where_meets (Throughout P) tt (fits t (I32Value s)) _ (λ fine. (unchanged now.globals g s t old e fine h.0, h.1))
+write_throughout P unchanged g s now (Some (Foreign what t)) e h =
     where_meets (Throughout P) tt (fits t (I32Value s)) _ (λ fine. seen_held P now (SetForeign what (I32Value s)) h)
 
-deeds_throughout : (P : List Cell → Type 0) → Stable P → StaysOnSum P → (deeds : List Deed) (now : Now) → NoFills deeds → Held P now → Throughout P (deeds_done deeds now)
-deeds_throughout P stable stays [] now no_fills h = h
-deeds_throughout P stable stays (Fills g f ∷ ds) now no_fills h = absurd no_fills
-deeds_throughout P stable stays (Calls target arguments ∷ ds) now no_fills h =
-    then_throughout P (asked target.address target.signature arguments now) _ (asked_throughout P stable target.address target.signature arguments now h) (λ rs after g. deeds_throughout P stable stays ds after no_fills g)
-deeds_throughout P stable stays (Sets g number ∷ ds) now no_fills h =
-    then_throughout P (deed_done (Sets g number) now) _ (write_throughout P stays g number now (slice_get now.globals g) refl h) (λ rs after k. deeds_throughout P stable stays ds after no_fills k)
-deeds_throughout P stable stays (Sums b o g ∷ ds) now no_fills h =
-    then_throughout P (deed_done (Sums b o g) now) _ (sum_meets (Throughout P) tt b o now (λ s after. write_at g (I32Value s) after) (λ left. h) (λ s left. write_throughout P stays g s (record now { answers = left }) (slice_get now.globals g) refl h)) (λ rs after g. deeds_throughout P stable stays ds after no_fills g)
-deeds_throughout P stable stays (Stores b o m a ∷ ds) now no_fills h =
-    then_throughout P (deed_done (Stores b o m a) now) _ (sum_meets (Throughout P) tt b o now (λ s after. Returned [] (seen after (Stored m a s))) (λ left. h) (λ s left. seen_held P (record now { answers = left }) (Stored m a s) h)) (λ rs after g. deeds_throughout P stable stays ds after no_fills g)
+deeds_throughout : (P : List Cell → Type 0) → Stable P → KeptBySum P → (deeds : List Deed) (now : Now) → NoFills deeds → Held P now → Throughout P (deeds_done deeds now)
+deeds_throughout P stable unchanged [] now no_fills h = h
+deeds_throughout P stable unchanged (Fills g f ∷ ds) now no_fills h = absurd no_fills
+deeds_throughout P stable unchanged (Calls target arguments ∷ ds) now no_fills h =
+    then_throughout P (asked target.address target.signature arguments now) _ (asked_throughout P stable target.address target.signature arguments now h) (λ rs after g. deeds_throughout P stable unchanged ds after no_fills g)
+deeds_throughout P stable unchanged (Sets g number ∷ ds) now no_fills h =
+    then_throughout P (deed_done (Sets g number) now) _ (write_throughout P unchanged g number now (slice_get now.globals g) refl h) (λ rs after k. deeds_throughout P stable unchanged ds after no_fills k)
+deeds_throughout P stable unchanged (Sums b o g ∷ ds) now no_fills h =
+    then_throughout P (deed_done (Sums b o g) now) _ (sum_meets (Throughout P) tt b o now (λ s after. write_at g (I32Value s) after) (λ left. h) (λ s left. write_throughout P unchanged g s (record now { answers = left }) (slice_get now.globals g) refl h)) (λ rs after g. deeds_throughout P stable unchanged ds after no_fills g)
+deeds_throughout P stable unchanged (Stores b o m a ∷ ds) now no_fills h =
+    then_throughout P (deed_done (Stores b o m a) now) _ (sum_meets (Throughout P) tt b o now (λ s after. Returned [] (seen after (Stored m a s))) (λ left. h) (λ s left. seen_held P (record now { answers = left }) (Stored m a s) h)) (λ rs after g. deeds_throughout P stable unchanged ds after no_fills g)
 
 -- filled globals are kept filled
 filled_stable : (fills : List Filling) (base : ℕ) → Stable (Filled base fills)
 filled_stable [] base number globals h = tt
 filled_stable (fill ∷ fills) base number globals h =
-    (function_stays globals base (Ref fill.held) fill.function number h.0, filled_stable fills (base + 1) number globals h.1)
+    (function_unchanged globals base (Ref fill.held) fill.function number h.0, filled_stable fills (base + 1) number globals h.1)
 
 -- a number is written to no global of a reference type
-beside : (cells : List Cell) (g i s : ℕ) (t : ValType) (old : Value) (r : RefType) (f : ℕ) → slice_get cells g ≡ Some (Kept t old) → fits t (I32Value s) ≡ true → slice_get cells i ≡ Some (Kept (Ref r) (Function f)) → slice_get (slice_set cells g (Kept t (I32Value s))) i ≡ Some (Kept (Ref r) (Function f))
-beside [] g i s t old r f hg fine hi = cc
-beside (c ∷ cells) zero zero s t old r f hg fine hi =
+other_cell_kept : (cells : List Cell) (g i s : ℕ) (t : ValType) (old : Value) (r : RefType) (f : ℕ) → slice_get cells g ≡ Some (Kept t old) → fits t (I32Value s) ≡ true → slice_get cells i ≡ Some (Kept (Ref r) (Function f)) → slice_get (slice_set cells g (Kept t (I32Value s))) i ≡ Some (Kept (Ref r) (Function f))
+other_cell_kept [] g i s t old r f hg fine hi = cc
+other_cell_kept (c ∷ cells) zero zero s t old r f hg fine hi =
     let same : Some (Kept t old) ≡ Some (Kept (Ref r) (Function f)) = sym hg ∙ hi in
     let type : t ≡ Ref r = cc in
     let bad : false ≡ true = subst (λ x. fits x (I32Value s) ≡ true) type fine in
     absurd (cc)
-beside (c ∷ cells) zero (suc i) s t old r f hg fine hi = hi
-beside (c ∷ cells) (suc g) zero s t old r f hg fine hi = hi
-beside (c ∷ cells) (suc g) (suc i) s t old r f hg fine hi = beside cells g i s t old r f hg fine hi
+other_cell_kept (c ∷ cells) zero (suc i) s t old r f hg fine hi = hi
+other_cell_kept (c ∷ cells) (suc g) zero s t old r f hg fine hi = hi
+other_cell_kept (c ∷ cells) (suc g) (suc i) s t old r f hg fine hi = other_cell_kept cells g i s t old r f hg fine hi
 
-filled_beside : (fills : List Filling) (base : ℕ) → StaysOnSum (Filled base fills)
-filled_beside [] base globals g s t old hg fine h = tt
-filled_beside (fill ∷ fills) base globals g s t old hg fine h =
-    (beside globals g base s t old fill.held fill.function hg fine h.0, filled_beside fills (base + 1) globals g s t old hg fine h.1)
+filled_kept : (fills : List Filling) (base : ℕ) → KeptBySum (Filled base fills)
+filled_kept [] base globals g s t old hg fine h = tt
+filled_kept (fill ∷ fills) base globals g s t old hg fine h =
+    (other_cell_kept globals g base s t old fill.held fill.function hg fine h.0, filled_kept fills (base + 1) globals g s t old hg fine h.1)
 
 pub filled_throughout : FilledThroughout
 filled_throughout fills deeds pre post now no_fills none =
     let P = Filled (length pre) fills in
     let globals = pre ++ (map filled fills ++ post) in
     let here : P globals = has_front globals (length pre) (map filled fills) post (has_all (map filled fills ++ post) pre) in
-    deeds_throughout P (filled_stable fills (length pre)) (filled_beside fills (length pre)) deeds (with_globals now globals) no_fills (here, subst (λ (l : List (List Cell)). AllByRecursion P l) (sym none) tt)
+    deeds_throughout P (filled_stable fills (length pre)) (filled_kept fills (length pre)) deeds (with_globals now globals) no_fills (here, subst (λ (l : List (List Cell)). AllByRecursion P l) (sym none) tt)
 
 -- numbers are read
 pub numbers_are_read : NumbersAreRead

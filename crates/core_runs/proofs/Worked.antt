@@ -1,7 +1,7 @@
 -- Worked examples: bodies by their bytes, and what they do.
 use Rattle.std.proofs.Common.{pos, ◌≡◌, ℕ, List, [], ◌∷◌, refl, Some, None, Option, false}
 use Rattle.std.specs.Prelude.{option_map}
-use Rattle.byte_encoding.specs.Spelling.{leb128}
+use Rattle.byte_encoding.specs.Encoding.{leb128}
 use Rattle.core_bytes.specs.Signed.{signed_within}
 use Rattle.core_bytes.specs.Grammar.{body}
 use Rattle.core_types.specs.declared.types.ValType.TheVariants.{I32, Ref}

@@ -33,15 +33,15 @@ gets n = map LocalGet (range_with_len 0 n)
 
 -- A shim in the table form: of n parameters, through a slot of table 0.
 abbrev pub table_shim_code : ℕ → ℤ → ℕ → List Instruction
-table_shim_code n place type = gets n ++ (I32Const place ∷ CallIndirect type 0 ∷ [])
+table_shim_code n slot_index type = gets n ++ (I32Const slot_index ∷ CallIndirect type 0 ∷ [])
 
 abbrev pub table_shim : ℕ → ℕ → ℕ → Body
-table_shim n place type = plain (table_shim_code n (cast_signed w32 place) type)
+table_shim n slot_index type = plain (table_shim_code n (cast_signed w32 slot_index) type)
 
 -- The bodies of shims from a slot on: each goes through its own slot.
 abbrev pub table_shims : ℕ → List Shim → List Body
-table_shims place [] = []
-table_shims place (s ∷ ss) = table_shim s.params place s.type_index ∷ table_shims (place + 1) ss
+table_shims slot_index [] = []
+table_shims slot_index (s ∷ ss) = table_shim s.params slot_index s.type_index ∷ table_shims (slot_index + 1) ss
 
 -- A table of n slots for functions, no more and no less.
 abbrev pub table_of_shims : ℕ → TableType

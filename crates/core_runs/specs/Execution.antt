@@ -118,10 +118,10 @@ module _ (store : Store) (call : Calling) (frame : Frame) where
   act Unreachable next stack locals now = Trapped ByCode now
   act (Call f) next stack locals now = with_item (slice_get frame.functions f) (λ a. call_top a next stack locals now)
   act (CallIndirect type table) next stack locals now =
-      on_i32 stack (λ place rest.
+      on_i32 stack (λ slot_index rest.
       with_item (slice_get frame.tables table) (λ t.
       with_item (slice_get store.tables t) (λ slots.
-      with_slot (slice_get slots place) now (λ f. of_type f type now (call_top f next rest locals now)))))
+      with_slot (slice_get slots slot_index) now (λ f. of_type f type now (call_top f next rest locals now)))))
   act (ReturnCallRef type) next stack locals now =
       on_function stack (λ f rest. of_type f type now (call_top f (λ results l n. Returned (reverse results) n) rest locals now))
   act Select next stack locals now =

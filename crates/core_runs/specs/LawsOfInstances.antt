@@ -80,6 +80,6 @@ SegmentsFill =
     (types : List FuncType) (shims : List Slot) (store : Store) (now : Now) (made : Made) (later : Store) (frame : Frame) (fs addresses : List ℕ) → ShimsMade types shims store now made → (e : Extends made.store later) → slice_get frame.tables 0 ≡ Some (length store.tables) → all_at frame.functions fs ≡ Some addresses → length addresses ≡ length shims → element_done frame (table_fill fs) later.tables ≡ Some (store.tables ++ map (λ a. Some a) addresses ∷ e.more_tables)
 
 -- Where the table's slots hold these functions, each shim does what its function does.
-abbrev pub FilledShimsHandOn : Type 0
-FilledShimsHandOn =
+abbrev pub FilledShimsForward : Type 0
+FilledShimsForward =
     (types : List FuncType) (shims : List Slot) (store : Store) (now : Now) (made : Made) (later : Store) (more_functions : List Func) (addresses : List ℕ) (more_tables : List (List (Option ℕ))) → ShimsMade types shims store now made → later.functions ≡ made.store.functions ++ more_functions → later.tables ≡ store.tables ++ map (λ a. Some a) addresses ∷ more_tables → (i : ℕ) (s : Slot) (f : ℕ) (g : Func) → slice_get shims i ≡ Some s → slice_get addresses i ≡ Some f → slice_get later.functions f ≡ Some g → signature_of g ≡ s.type → (n : ℕ) (arguments : List Value) (moment : Now) → fit s.type.params arguments ≡ true → exec (suc n) later (length store.functions + i) arguments moment ≡ exec n later f arguments moment

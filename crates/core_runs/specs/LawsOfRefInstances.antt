@@ -28,9 +28,9 @@ ref_global s = record { global_type = record { val_type = Ref (Concrete s.index)
 
 -- The module has these shims, each of which calls through the global of its own number, and their stubs.
 abbrev pub HasRefShims : Parts → ℕ → List RefShim → Type 0
-HasRefShims m place [] = Unit {0}
-HasRefShims m place (s ∷ ss) =
-    Defines m s.function s.index s.type (ref_shim (length s.type.params) place s.index) × Defines m s.stub s.index s.type stub × HasRefShims m (place + 1) ss
+HasRefShims m global_index [] = Unit {0}
+HasRefShims m global_index (s ∷ ss) =
+    Defines m s.function s.index s.type (ref_shim (length s.type.params) global_index s.index) × Defines m s.stub s.index s.type stub × HasRefShims m (global_index + 1) ss
 
 -- An instance is made of a module that has these shims, whose globals are its first, whatever else it has; it imports
 -- nothing.
@@ -57,6 +57,6 @@ RefShimsTrapAtFirst =
     (m : Parts) (shims : List RefShim) (store : Store) (now : Now) (made : Made) (later : Store) → RefShimsMade m shims store now made → Extends made.store later → (i : ℕ) (s : RefShim) → slice_get shims i ≡ Some s → (n : ℕ) (arguments : List Value) (moment : Now) → slice_get moment.globals (length now.globals + i) ≡ slice_get made.now.globals (length now.globals + i) → fit s.type.params arguments ≡ true → exec (suc (suc n)) later (length store.functions + s.function) arguments moment ≡ Trapped ByCode moment
 
 -- Where its global holds a function of its type, each shim does what that function does.
-abbrev pub FilledRefShimsHandOn : Type 0
-FilledRefShimsHandOn =
+abbrev pub FilledRefShimsForward : Type 0
+FilledRefShimsForward =
     (m : Parts) (shims : List RefShim) (store : Store) (now : Now) (made : Made) (later : Store) → RefShimsMade m shims store now made → Extends made.store later → (i : ℕ) (s : RefShim) (f : ℕ) (g : Func) → slice_get shims i ≡ Some s → slice_get later.functions f ≡ Some g → signature_of g ≡ s.type → (n : ℕ) (arguments : List Value) (moment : Now) → slice_get moment.globals (length now.globals + i) ≡ Some (Kept (Ref (Concrete s.index)) (Function f)) → fit s.type.params arguments ≡ true → exec (suc n) later (length store.functions + s.function) arguments moment ≡ exec n later f arguments moment

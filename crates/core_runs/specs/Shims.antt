@@ -12,13 +12,13 @@ use Rattle.core_runs.specs.Execution.{exec}
 abbrev pub HasBody : Store → ℕ → Frame → FuncType → Body → Type 0
 HasBody store f frame type code = slice_get store.functions f ≡ Some (Generated frame type code.locals code.instructions)
 
--- Slot `place` of the frame's table 0 holds this.
-pub record HoldsSlot (store : Store) (frame : Frame) (place : ℕ) (slot : Option ℕ) : Type 0 where
+-- Slot `slot_index` of the frame's table 0 holds this.
+pub record HoldsSlot (store : Store) (frame : Frame) (slot_index : ℕ) (slot : Option ℕ) : Type 0 where
   pub table : ℕ
   pub slots : List (Option ℕ)
   pub names_table : slice_get frame.tables 0 ≡ Some table
   pub holds_slots : slice_get store.tables table ≡ Some slots
-  pub holds : slice_get slots place ≡ Some slot
+  pub holds : slice_get slots slot_index ≡ Some slot
 
 -- The frame's global holds this function.
 pub record HoldsGlobal (frame : Frame) (global : ℕ) (globals : List Cell) (f : ℕ) : Type 0 where
@@ -27,14 +27,14 @@ pub record HoldsGlobal (frame : Frame) (global : ℕ) (globals : List Cell) (f :
   pub names_global : slice_get frame.globals global ≡ Some address
   pub holds : slice_get globals address ≡ Some (Kept held (Function f))
 
--- A function of this type and body forwards its call to the function in slot `place`, whatever the function, the
+-- A function of this type and body forwards its call to the function in slot `slot_index`, whatever the function, the
 -- arguments and the results: it gets all parameters, and all its results come back. An empty slot traps with no event.
-pub record HandsOnBySlot (type : FuncType) (code : Body) (type_index place : ℕ) : Type 0 where
-  pub filled : (n : ℕ) (store : Store) (frame : Frame) (shim f : ℕ) (g : Func) (arguments : List Value) (now : Now) → HasBody store shim frame type code → slice_get frame.types type_index ≡ Some type → HoldsSlot store frame place (Some f) → slice_get store.functions f ≡ Some g → signature_of g ≡ type → fit type.params arguments ≡ true → exec (suc n) store shim arguments now ≡ exec n store f arguments now
-  pub empty : (n : ℕ) (store : Store) (frame : Frame) (shim : ℕ) (arguments : List Value) (now : Now) → HasBody store shim frame type code → HoldsSlot store frame place None → fit type.params arguments ≡ true → exec (suc n) store shim arguments now ≡ Trapped ByCode now
+pub record ForwardsBySlot (type : FuncType) (code : Body) (type_index slot_index : ℕ) : Type 0 where
+  pub filled : (n : ℕ) (store : Store) (frame : Frame) (shim f : ℕ) (g : Func) (arguments : List Value) (now : Now) → HasBody store shim frame type code → slice_get frame.types type_index ≡ Some type → HoldsSlot store frame slot_index (Some f) → slice_get store.functions f ≡ Some g → signature_of g ≡ type → fit type.params arguments ≡ true → exec (suc n) store shim arguments now ≡ exec n store f arguments now
+  pub empty : (n : ℕ) (store : Store) (frame : Frame) (shim : ℕ) (arguments : List Value) (now : Now) → HasBody store shim frame type code → HoldsSlot store frame slot_index None → fit type.params arguments ≡ true → exec (suc n) store shim arguments now ≡ Trapped ByCode now
 
 -- The same for the function in a global.
-pub record HandsOnByGlobal (type : FuncType) (code : Body) (type_index global : ℕ) : Type 0 where
+pub record ForwardsByGlobal (type : FuncType) (code : Body) (type_index global : ℕ) : Type 0 where
   pub filled : (n : ℕ) (store : Store) (frame : Frame) (shim f : ℕ) (g : Func) (arguments : List Value) (now : Now) → HasBody store shim frame type code → slice_get frame.types type_index ≡ Some type → HoldsGlobal frame global now.globals f → slice_get store.functions f ≡ Some g → signature_of g ≡ type → fit type.params arguments ≡ true → exec (suc n) store shim arguments now ≡ exec n store f arguments now
 
 -- A function of this type and body traps with no event.
@@ -42,8 +42,8 @@ pub record TrapsAtOnce (type : FuncType) (code : Body) : Type 0 where
   pub trap : (n : ℕ) (store : Store) (frame : Frame) (f : ℕ) (arguments : List Value) (now : Now) → HasBody store f frame type code → fit type.params arguments ≡ true → exec (suc n) store f arguments now ≡ Trapped ByCode now
 
 -- The body is that of a shim, for all types of so many parameters.
-pub record ShimBySlot (count : ℕ) (code : Body) (type_index place : ℕ) : Type 0 where
-  pub hands_on : (type : FuncType) → length type.params ≡ count → HandsOnBySlot type code type_index place
+pub record ShimBySlot (count : ℕ) (code : Body) (type_index slot_index : ℕ) : Type 0 where
+  pub forwards : (type : FuncType) → length type.params ≡ count → ForwardsBySlot type code type_index slot_index
 
 pub record ShimByGlobal (count : ℕ) (code : Body) (type_index global : ℕ) : Type 0 where
-  pub hands_on : (type : FuncType) → length type.params ≡ count → HandsOnByGlobal type code type_index global
+  pub forwards : (type : FuncType) → length type.params ≡ count → ForwardsByGlobal type code type_index global

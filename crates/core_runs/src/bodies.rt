@@ -20,15 +20,15 @@ use std::alloc::{AllocError, Global};
 pub fn table_shim_body(
     alloc: Global,
     params: u32,
-    place: u32,
+    position: u32,
     type_index: u32,
 ) -> Result<Body, AllocError>
-    ensures exact { IfOk result (λ made. made ≡ bodies.table_shim params place type_index) }
-    ensures hands_on { IfOk result (λ made. ShimBySlot params made type_index place) }
+    ensures exact { IfOk result (λ made. made ≡ bodies.table_shim params position type_index) }
+    ensures forwards { IfOk result (λ made. ShimBySlot params made type_index position) }
 {
     let mut code = Vec::new(alloc);
     put_gets(&mut code, params)?;
-    put(&mut code, Instruction::I32Const(place.cast_signed()))?;
+    put(&mut code, Instruction::I32Const(position.cast_signed()))?;
     put(
         &mut code,
         Instruction::CallIndirect {
@@ -48,7 +48,7 @@ pub fn ref_shim_body(
     type_index: u32,
 ) -> Result<Body, AllocError>
     ensures exact { IfOk result (λ made. made ≡ bodies.ref_shim params global type_index) }
-    ensures hands_on { IfOk result (λ made. ShimByGlobal params made type_index global) }
+    ensures forwards { IfOk result (λ made. ShimByGlobal params made type_index global) }
 {
     let mut code = Vec::new(alloc);
     put_gets(&mut code, params)?;
@@ -148,8 +148,8 @@ fn put(code: &mut Vec<Instruction>, instruction: Instruction) -> Result<(), Allo
 fn put_gets(code: &mut Vec<Instruction>, count: u32) -> Result<(), AllocError>
     ensures { OnOk result (code.new.items ≡ code.old.items ++ bodies.gets count) }
 {
-    for place in 0..count {
-        put(code, Instruction::LocalGet(place))?;
+    for position in 0..count {
+        put(code, Instruction::LocalGet(position))?;
     }
     Ok(())
 }

@@ -1,16 +1,16 @@
 //! What the bodies do: each function's contract is a law, and its body does nothing.
 
-ghost use Rattle.core_runs.specs.LawsOfInstances.{InstancesDefine, ShimsTrapAtFirst, SegmentsFill, FilledShimsHandOn};
-ghost use Rattle.core_runs.specs.LawsOfRefInstances.{RefShimsAreUnfilled, RefShimsTrapAtFirst, FilledRefShimsHandOn};
+ghost use Rattle.core_runs.specs.LawsOfInstances.{InstancesDefine, ShimsTrapAtFirst, SegmentsFill, FilledShimsForward};
+ghost use Rattle.core_runs.specs.LawsOfRefInstances.{RefShimsAreUnfilled, RefShimsTrapAtFirst, FilledRefShimsForward};
 ghost use Rattle.core_runs.specs.LawsOfStarts.{StartsAct, StartsFillFirst, DeedsAreTraced, FilledThroughout, NumbersAreRead, CellsAreSet, AddressesAreSums, DeedsAreNotStuck};
 ghost use Rattle.core_runs.specs.Cells.{TlsIsOneCell};
-ghost use Rattle.core_runs.specs.LawsOfShims.{TableShimsHandOn, EmptyTableShimsTrap, RefShimsHandOn, StubsTrap, EmptyRefShimsTrap};
+ghost use Rattle.core_runs.specs.LawsOfShims.{TableShimsForward, EmptyTableShimsTrap, RefShimsForward, StubsTrap, EmptyRefShimsTrap};
 ghost use Rattle.core_runs.specs.LawsOfWrappers.{WrappersAct, ExpectedShapes, CallbacksAct, TargetsAreMet, ExpectedIsNotStuck};
 
 /// A filled shim of the table form acts as the function in its slot: it passes on all parameters and
 /// returns all results.
-pub fn table_shims_hand_on()
-    ensures { TableShimsHandOn }
+pub fn table_shims_forward()
+    ensures { TableShimsForward }
 {}
 
 /// A shim of the table form whose slot is empty traps, with no event.
@@ -19,8 +19,8 @@ pub fn empty_table_shims_trap()
 {}
 
 /// A shim of the reference form acts as the function that its global holds.
-pub fn ref_shims_hand_on()
-    ensures { RefShimsHandOn }
+pub fn ref_shims_forward()
+    ensures { RefShimsForward }
 {}
 
 /// A stub traps, with no event.
@@ -110,8 +110,8 @@ pub fn segments_fill()
 {}
 
 /// Where the slots of the table hold these functions, each shim of the instance acts as its function.
-pub fn filled_shims_hand_on()
-    ensures { FilledShimsHandOn }
+pub fn filled_shims_forward()
+    ensures { FilledShimsForward }
 {}
 
 /// Deeds that can be done are never stuck.
@@ -136,6 +136,6 @@ pub fn ref_shims_trap_at_first()
 {}
 
 /// Where the global of a shim of that instance holds a function, the shim acts as that function.
-pub fn filled_ref_shims_hand_on()
-    ensures { FilledRefShimsHandOn }
+pub fn filled_ref_shims_forward()
+    ensures { FilledRefShimsForward }
 {}

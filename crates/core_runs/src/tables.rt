@@ -24,17 +24,17 @@ pub fn table_shim_bodies(alloc: Global, shims: &[Shim]) -> Result<Code, AllocErr
     ensures { IfOk result (λ made. made ≡ bodies.table_shims 0 shims.now) }
 {
     let mut code = Code::new(alloc);
-    for (place, shim) in shims.iter().enumerate() {
-        put_shim(&mut code, alloc, place as u32, *shim)?;
+    for (slot_index, shim) in shims.iter().enumerate() {
+        put_shim(&mut code, alloc, slot_index as u32, *shim)?;
     }
     Ok(code)
 }
 
 /// The body of one more shim.
-fn put_shim(code: &mut Code, alloc: Global, place: u32, shim: Shim) -> Result<(), AllocError>
-    ensures { OnOk result (code.new ≡ code.old ++ bodies.table_shim shim.params place shim.type_index ∷ []) }
+fn put_shim(code: &mut Code, alloc: Global, slot_index: u32, shim: Shim) -> Result<(), AllocError>
+    ensures { OnOk result (code.new ≡ code.old ++ bodies.table_shim shim.params slot_index shim.type_index ∷ []) }
 {
-    let body = table_shim_body(alloc, shim.params, place, shim.type_index)?;
+    let body = table_shim_body(alloc, shim.params, slot_index, shim.type_index)?;
     code.body(body.locals.as_slice(), body.instructions.as_slice())
 }
 

@@ -28,37 +28,37 @@ got : {A : Type 0} (o : Option A) (d : SectionFault) (x : A) → ok_or o d ≡ O
 got None d x e = absurd cc
 got (Some y) d x e = cc
 
-record Cut (bytes : List ℕ) (place q : ℕ) : Type 0 where
+record Cut (bytes : List ℕ) (offset q : ℕ) : Type 0 where
   before : List Piece
   rest : List ℕ
-  spelled : bytes ≡ flat_map (λ p. p.whole) before ++ rest
+  encoded : bytes ≡ flat_map (λ p. p.whole) before ++ rest
   each : AllByRecursion IsSection before
-  at : q + length rest ≡ place + length bytes
+  at : q + length rest ≡ offset + length bytes
   some : 0 < length rest
   none : section_at rest ≡ None
 
-cut : (n place : ℕ) (bytes : List ℕ) (q : ℕ) → length bytes ≤ n → pieces_from n place bytes ≡ Err (faults.Section q) → Cut bytes place q
+cut : (n offset : ℕ) (bytes : List ℕ) (q : ℕ) → length bytes ≤ n → pieces_from n offset bytes ≡ Err (faults.Section q) → Cut bytes offset q
 unfolding pieces_from
-cut n place [] q enough e = absurd cc
-cut zero place (b ∷ rest) q enough e = absurd (omega arith)
-cut (suc n) place (b ∷ rest) q enough e =
-    let after = λ (p : Piece × List ℕ). pieces_from n (place + (length (b ∷ rest) - length p.1)) p.1 >>= λ qs. Ok (p.0 ∷ qs) in
-    elim (bind_err (ok_or (section_at (b ∷ rest)) (faults.Section place)) after (faults.Section q) e) [
+cut n offset [] q enough e = absurd cc
+cut zero offset (b ∷ rest) q enough e = absurd (omega arith)
+cut (suc n) offset (b ∷ rest) q enough e =
+    let after = λ (p : Piece × List ℕ). pieces_from n (offset + (length (b ∷ rest) - length p.1)) p.1 >>= λ qs. Ok (p.0 ∷ qs) in
+    elim (bind_err (ok_or (section_at (b ∷ rest)) (faults.Section offset)) after (faults.Section q) e) [
       | inl h ↦
-          let m = missing (section_at (b ∷ rest)) (faults.Section place) (faults.Section q) h in
-          let same : place ≡ q = cc in
-          record { before = []; rest = b ∷ rest; spelled = refl; each = tt; at = omega (arith, same); some = omega arith; none = m.0 }
+          let m = missing (section_at (b ∷ rest)) (faults.Section offset) (faults.Section q) h in
+          let same : offset ≡ q = cc in
+          record { before = []; rest = b ∷ rest; encoded = refl; each = tt; at = omega (arith, same); some = omega arith; none = m.0 }
       | inr a ↦
           let t = section_takes (b ∷ rest) a.0.0 a.0.1 (got _ _ _ a.1) in
           let long : length (b ∷ rest) ≡ length a.0.0.whole + length a.0.1 = ap length t.1 ∙ length-append a.0.0.whole a.0.1 in
-          let some : 0 < length a.0.0.whole = let s = t.0 in omega (arith, ap length s.spelled) in
-          elim (bind_err (pieces_from n (place + (length (b ∷ rest) - length a.0.1)) a.0.1) (λ qs. Ok (a.0.0 ∷ qs)) (faults.Section q) a.2) [
+          let some : 0 < length a.0.0.whole = let s = t.0 in omega (arith, ap length s.encoded) in
+          elim (bind_err (pieces_from n (offset + (length (b ∷ rest) - length a.0.1)) a.0.1) (λ qs. Ok (a.0.0 ∷ qs)) (faults.Section q) a.2) [
             | inl k ↦
-                let c = cut n (place + (length (b ∷ rest) - length a.0.1)) a.0.1 q (omega (arith, long, some, enough)) k in
+                let c = cut n (offset + (length (b ∷ rest) - length a.0.1)) a.0.1 q (omega (arith, long, some, enough)) k in
                 record {
                   before = a.0.0 ∷ c.before;
                   rest = c.rest;
-                  spelled = t.1 ∙ ap (λ (w : List ℕ). a.0.0.whole ++ w) c.spelled ∙ sym (append_assoc a.0.0.whole (flat_map (λ p. p.whole) c.before) c.rest) ∙ ap (λ (w : List ℕ). w ++ c.rest) (sym (flat_map-cons (λ (p : Piece). p.whole) a.0.0 c.before));
+                  encoded = t.1 ∙ ap (λ (w : List ℕ). a.0.0.whole ++ w) c.encoded ∙ sym (append_assoc a.0.0.whole (flat_map (λ p. p.whole) c.before) c.rest) ∙ ap (λ (w : List ℕ). w ++ c.rest) (sym (flat_map-cons (λ (p : Piece). p.whole) a.0.0 c.before));
                   each = (t.0, c.each);
                   at = omega (arith, c.at, long);
                   some = c.some;
@@ -68,19 +68,19 @@ cut (suc n) place (b ∷ rest) q enough e =
           ]
     ]
 
-pub module_cut : (bytes : List ℕ) (place : ℕ) → pieces_of bytes ≡ Err (faults.Section place) → IsCutAt bytes place
+pub module_cut : (bytes : List ℕ) (offset : ℕ) → pieces_of bytes ≡ Err (faults.Section offset) → IsCutAt bytes offset
 unfolding pieces_of
-module_cut bytes place e = by_test (starts_with nat_eq bytes preamble) refl e
+module_cut bytes offset e = by_test (starts_with nat_eq bytes preamble) refl e
   where
-    by_test : (t : Bool) → starts_with nat_eq bytes preamble ≡ t → cond t (pieces_from (length bytes) 8 (drop 8 bytes)) (Err faults.NotModule) ≡ Err (faults.Section place) → IsCutAt bytes place
+    by_test : (t : Bool) → starts_with nat_eq bytes preamble ≡ t → cond t (pieces_from (length bytes) 8 (drop 8 bytes)) (Err faults.NotModule) ≡ Err (faults.Section offset) → IsCutAt bytes offset
     by_test true h e =
         let front : bytes ≡ preamble ++ drop 8 bytes = (starts_is Decides-eqb bytes preamble true (sym h)).0 refl in
         let len : length bytes ≡ 8 + length (drop 8 bytes) = ap length front ∙ length-append preamble (drop 8 bytes) in
-        let c = cut (length bytes) 8 (drop 8 bytes) place (omega (arith, len)) e in
+        let c = cut (length bytes) 8 (drop 8 bytes) offset (omega (arith, len)) e in
         record {
           before = c.before;
           rest = c.rest;
-          spelled = front ∙ ap (λ (w : List ℕ). preamble ++ w) c.spelled;
+          encoded = front ∙ ap (λ (w : List ℕ). preamble ++ w) c.encoded;
           each = c.each;
           here = omega (arith, c.at, len);
           some = c.some;
@@ -88,18 +88,18 @@ module_cut bytes place e = by_test (starts_with nat_eq bytes preamble) refl e
         }
     by_test false h e = absurd cc
 
-stripped_cut : (bytes : List ℕ) (place : ℕ) → stripped bytes ≡ Err (faults.Section place) → IsCutAt bytes place
+stripped_cut : (bytes : List ℕ) (offset : ℕ) → stripped bytes ≡ Err (faults.Section offset) → IsCutAt bytes offset
 unfolding stripped
-stripped_cut bytes place e =
-    elim (bind_err (pieces_of bytes) (λ ps. cond (list_any is_package (removed ps)) (Err faults.PackageBinary) (Ok (preamble ++ kept ps, removed ps))) (faults.Section place) e) [
-      | inl h ↦ module_cut bytes place h
+stripped_cut bytes offset e =
+    elim (bind_err (pieces_of bytes) (λ ps. cond (list_any is_package (removed ps)) (Err faults.PackageBinary) (Ok (preamble ++ kept ps, removed ps))) (faults.Section offset) e) [
+      | inl h ↦ module_cut bytes offset h
       | inr a ↦ absurd (no_cut (list_any is_package (removed a.0)) (preamble ++ kept a.0, removed a.0) a.2)
     ]
   where
-    no_cut : (b : Bool) (s : List ℕ × List (List ℕ)) → cond b (Err faults.PackageBinary) (Ok s) ≡ Err (faults.Section place) → ⊥
+    no_cut : (b : Bool) (s : List ℕ × List (List ℕ)) → cond b (Err faults.PackageBinary) (Ok s) ≡ Err (faults.Section offset) → ⊥
     no_cut true s h = cc
     no_cut false s h = cc
 
-pub is_cut : {X : Type 0} (v : X → List ℕ × List (List ℕ)) (bytes : List ℕ) (r : Result X SectionFault) → Gives v r (stripped bytes) → IfErr r (λ e. (place : ℕ) → e ≡ faults.Section place → IsCutAt bytes place)
+pub is_cut : {X : Type 0} (v : X → List ℕ × List (List ℕ)) (bytes : List ℕ) (r : Result X SectionFault) → Gives v r (stripped bytes) → IfErr r (λ e. (offset : ℕ) → e ≡ faults.Section offset → IsCutAt bytes offset)
 is_cut v bytes (Ok s) h = tt
-is_cut v bytes (Err e) h = λ place same. let not_memory : e ≢ faults.Memory = λ m. cc in stripped_cut bytes place (h not_memory ∙ ap (λ d. Err d) same)
+is_cut v bytes (Err e) h = λ offset same. let not_memory : e ≢ faults.Memory = λ m. cc in stripped_cut bytes offset (h not_memory ∙ ap (λ d. Err d) same)

@@ -65,12 +65,12 @@ bytes_take bytes front rest e =
     let is_rest : drop a.0.0 a.0.1 ≡ rest = ap (λ (p : List ℕ × List ℕ). p.1) g.1 in
     let len : a.0.0 ≡ length front = omega (arith, length-take a.0.0 a.0.1, ap length is_front) in
     let cut : a.0.1 ≡ front ++ rest = sym (take-append-drop a.0.0 a.0.1) ∙ ap (λ (w : List ℕ). w ++ drop a.0.0 a.0.1) is_front ∙ ap (λ (w : List ℕ). front ++ w) is_rest in
-    (t.0 ++ front, record { count = t.0; number = subst (λ (k : ℕ). IsNumber (2 ^ 32) t.0 k) len t.1; spelled = refl }, t.2 ∙ ap (λ (w : List ℕ). t.0 ++ w) cut ∙ sym (append_assoc t.0 front rest))
+    (t.0 ++ front, record { count = t.0; number = subst (λ (k : ℕ). IsNumber (2 ^ 32) t.0 k) len t.1; encoded = refl }, t.2 ∙ ap (λ (w : List ℕ). t.0 ++ w) cut ∙ sym (append_assoc t.0 front rest))
 
 pub bytes_again : (text front rest : List ℕ) → IsCounted text front → bytes_at (text ++ rest) ≡ Some (front, rest)
 unfolding bytes_at
 bytes_again text front rest h =
-    let regrouped : text ++ rest ≡ h.count ++ (front ++ rest) = ap (λ (w : List ℕ). w ++ rest) h.spelled ∙ append_assoc h.count front rest in
+    let regrouped : text ++ rest ≡ h.count ++ (front ++ rest) = ap (λ (w : List ℕ). w ++ rest) h.encoded ∙ append_assoc h.count front rest in
     let long : ltb (length (front ++ rest)) (length front) ≡ false = le-ltb _ _ (omega (arith, length-append front rest)) in
     ap bytes_at regrouped ∙ rw (number_again (2 ^ 32) h.count (length front) (front ++ rest) h.number, long, take_at front rest (length front) refl, drop_at front rest (length front) refl) refl
 
@@ -121,14 +121,14 @@ section_takes (id ∷ bytes) p rest e =
     let cut : id ∷ bytes ≡ (id ∷ t.0) ++ a.0.1 = ap (λ (w : List ℕ). id ∷ w) t.2 in
     let whole : take (length (id ∷ bytes) - length a.0.1) (id ∷ bytes) ≡ id ∷ t.0 = front_is (id ∷ bytes) (id ∷ t.0) a.0.1 cut in
     let is_section : IsSection (record { whole = take (length (id ∷ bytes) - length a.0.1) (id ∷ bytes); body = m.0 }) =
-    record { id = id; size = t.1.count; contents = a.0.0; number = t.1.number; spelled = whole ∙ ap (λ (w : List ℕ). id ∷ w) t.1.spelled; holds = holds } in
+    record { id = id; size = t.1.count; contents = a.0.0; number = t.1.number; encoded = whole ∙ ap (λ (w : List ℕ). id ∷ w) t.1.encoded; holds = holds } in
     subst (λ (y : Piece × List ℕ). IsSection y.0 × (id ∷ bytes ≡ y.0.whole ++ y.1)) m.2 (is_section, cut ∙ ap (λ (w : List ℕ). w ++ a.0.1) (sym whole))
 
 pub section_again : (p : Piece) (rest : List ℕ) → IsSection p → section_at (p.whole ++ rest) ≡ Some (p, rest)
 unfolding section_at
 section_again p rest h =
     let bytes : List ℕ = (h.size ++ h.contents) ++ rest in
-    let counted : IsCounted (h.size ++ h.contents) h.contents = record { count = h.size; number = h.number; spelled = refl } in
-    let regrouped : p.whole ++ rest ≡ h.id ∷ bytes = ap (λ (w : List ℕ). w ++ rest) h.spelled in
-    let whole : take (length (h.id ∷ bytes) - length rest) (h.id ∷ bytes) ≡ p.whole = front_is (h.id ∷ bytes) (h.id ∷ (h.size ++ h.contents)) rest refl ∙ sym h.spelled in
+    let counted : IsCounted (h.size ++ h.contents) h.contents = record { count = h.size; number = h.number; encoded = refl } in
+    let regrouped : p.whole ++ rest ≡ h.id ∷ bytes = ap (λ (w : List ℕ). w ++ rest) h.encoded in
+    let whole : take (length (h.id ∷ bytes) - length rest) (h.id ∷ bytes) ≡ p.whole = front_is (h.id ∷ bytes) (h.id ∷ (h.size ++ h.contents)) rest refl ∙ sym h.encoded in
     ap section_at regrouped ∙ rw (bytes_again (h.size ++ h.contents) h.contents rest counted, body_again h.id h.contents p.body h.holds, whole) refl

@@ -4,7 +4,7 @@ pub mod Laws
 pub mod Modules
 pub mod Cuts
 pub mod Repeated
-pub mod Places
+pub mod Offsets
 pub mod Refusals
 pub mod Expressions
 pub mod Worked

@@ -30,38 +30,38 @@ got (Some y) d x e = cc
 abbrev whole_of : Piece → List ℕ
 whole_of p = p.whole
 
-pub pieces_take : (n place : ℕ) (bytes : List ℕ) (ps : List Piece) → pieces_from n place bytes ≡ Ok ps → (bytes ≡ flat_map (λ p. p.whole) ps) × AllByRecursion IsSection ps
+pub pieces_take : (n offset : ℕ) (bytes : List ℕ) (ps : List Piece) → pieces_from n offset bytes ≡ Ok ps → (bytes ≡ flat_map (λ p. p.whole) ps) × AllByRecursion IsSection ps
 unfolding pieces_from
-pieces_take n place [] ps e = let f = λ (xs : List Piece). let y : Type 0 = ([] ≡ flat_map (λ p. p.whole) xs) × AllByRecursion IsSection xs in y in subst f (ok_is [] ps e) (refl, tt)
-pieces_take zero place (b ∷ rest) ps e = absurd cc
-pieces_take (suc n) place (b ∷ rest) ps e =
-    let after = λ (p : Piece × List ℕ). pieces_from n (place + (length (b ∷ rest) - length p.1)) p.1 >>= λ qs. Ok (p.0 ∷ qs) in
-    let a = bind_ok (ok_or (section_at (b ∷ rest)) (faults.Section place)) after ps e in
-    let c = bind_ok (pieces_from n (place + (length (b ∷ rest) - length a.0.1)) a.0.1) (λ qs. Ok (a.0.0 ∷ qs)) ps a.2 in
+pieces_take n offset [] ps e = let f = λ (xs : List Piece). let y : Type 0 = ([] ≡ flat_map (λ p. p.whole) xs) × AllByRecursion IsSection xs in y in subst f (ok_is [] ps e) (refl, tt)
+pieces_take zero offset (b ∷ rest) ps e = absurd cc
+pieces_take (suc n) offset (b ∷ rest) ps e =
+    let after = λ (p : Piece × List ℕ). pieces_from n (offset + (length (b ∷ rest) - length p.1)) p.1 >>= λ qs. Ok (p.0 ∷ qs) in
+    let a = bind_ok (ok_or (section_at (b ∷ rest)) (faults.Section offset)) after ps e in
+    let c = bind_ok (pieces_from n (offset + (length (b ∷ rest) - length a.0.1)) a.0.1) (λ qs. Ok (a.0.0 ∷ qs)) ps a.2 in
     let first = section_takes (b ∷ rest) a.0.0 a.0.1 (got _ _ _ a.1) in
     let others = pieces_take n _ a.0.1 c.0 c.1 in
-    let spelled : b ∷ rest ≡ flat_map (λ p. p.whole) (a.0.0 ∷ c.0) = first.1 ∙ ap (λ (w : List ℕ). a.0.0.whole ++ w) others.0 ∙ sym (flat_map-cons (λ (p : Piece). p.whole) a.0.0 c.0) in
+    let encoded : b ∷ rest ≡ flat_map (λ p. p.whole) (a.0.0 ∷ c.0) = first.1 ∙ ap (λ (w : List ℕ). a.0.0.whole ++ w) others.0 ∙ sym (flat_map-cons (λ (p : Piece). p.whole) a.0.0 c.0) in
     let f = λ (xs : List Piece). let y : Type 0 = (b ∷ rest ≡ flat_map (λ p. p.whole) xs) × AllByRecursion IsSection xs in y in
-    subst f (ok_is (a.0.0 ∷ c.0) ps c.2) (spelled, (first.0, others.1))
+    subst f (ok_is (a.0.0 ∷ c.0) ps c.2) (encoded, (first.0, others.1))
 
 -- the section at the front, read
-reads_one : (n place b : ℕ) (rest after : List ℕ) (p : Piece) (qs : List Piece) → section_at (b ∷ rest) ≡ Some (p, after) → ((k : ℕ) → pieces_from n k after ≡ Ok qs) → pieces_from (suc n) place (b ∷ rest) ≡ Ok (p ∷ qs)
+reads_one : (n offset b : ℕ) (rest after : List ℕ) (p : Piece) (qs : List Piece) → section_at (b ∷ rest) ≡ Some (p, after) → ((k : ℕ) → pieces_from n k after ≡ Ok qs) → pieces_from (suc n) offset (b ∷ rest) ≡ Ok (p ∷ qs)
 unfolding pieces_from
-reads_one n place b rest after p qs h others = rw (h, others _) refl
+reads_one n offset b rest after p qs h others = rw (h, others _) refl
 
-pub pieces_again : (ps : List Piece) (n place : ℕ) → AllByRecursion IsSection ps → length (flat_map (λ p. p.whole) ps) ≤ n → pieces_from n place (flat_map (λ p. p.whole) ps) ≡ Ok ps
+pub pieces_again : (ps : List Piece) (n offset : ℕ) → AllByRecursion IsSection ps → length (flat_map (λ p. p.whole) ps) ≤ n → pieces_from n offset (flat_map (λ p. p.whole) ps) ≡ Ok ps
 unfolding pieces_from
-pieces_again [] n place all enough = refl
-pieces_again (p ∷ ps) zero place all enough =
-    absurd (let h = all.0 in omega (arith, ap length h.spelled, ap length (flat_map-cons (λ (q : Piece). q.whole) p ps), length-append p.whole (flat_map (λ q. q.whole) ps)))
-pieces_again (p ∷ ps) (suc n) place all enough =
+pieces_again [] n offset all enough = refl
+pieces_again (p ∷ ps) zero offset all enough =
+    absurd (let h = all.0 in omega (arith, ap length h.encoded, ap length (flat_map-cons (λ (q : Piece). q.whole) p ps), length-append p.whole (flat_map (λ q. q.whole) ps)))
+pieces_again (p ∷ ps) (suc n) offset all enough =
     let h = all.0 in
     let rest : List ℕ = flat_map (λ q. q.whole) ps in
     let cons = flat_map-cons (λ (q : Piece). q.whole) p ps in
-    let spelled : flat_map (λ q. q.whole) (p ∷ ps) ≡ h.id ∷ ((h.size ++ h.contents) ++ rest) = cons ∙ ap (λ (w : List ℕ). w ++ rest) h.spelled in
-    let front : section_at (h.id ∷ ((h.size ++ h.contents) ++ rest)) ≡ Some (p, rest) = ap section_at (ap (λ (w : List ℕ). w ++ rest) (sym h.spelled)) ∙ section_again p rest h in
-    let short : length rest ≤ n = omega (arith, ap length spelled, length-append (h.size ++ h.contents) rest) in
-    ap (pieces_from (suc n) place) spelled ∙ reads_one n place h.id _ rest p ps front (λ k. pieces_again ps n k all.1 short)
+    let encoded : flat_map (λ q. q.whole) (p ∷ ps) ≡ h.id ∷ ((h.size ++ h.contents) ++ rest) = cons ∙ ap (λ (w : List ℕ). w ++ rest) h.encoded in
+    let front : section_at (h.id ∷ ((h.size ++ h.contents) ++ rest)) ≡ Some (p, rest) = ap section_at (ap (λ (w : List ℕ). w ++ rest) (sym h.encoded)) ∙ section_again p rest h in
+    let short : length rest ≤ n = omega (arith, ap length encoded, length-append (h.size ++ h.contents) rest) in
+    ap (pieces_from (suc n) offset) encoded ∙ reads_one n offset h.id _ rest p ps front (λ k. pieces_again ps n k all.1 short)
 
 pub module_takes : (bytes : List ℕ) (ps : List Piece) → pieces_of bytes ≡ Ok ps → IsModule bytes ps
 unfolding pieces_of
@@ -71,16 +71,16 @@ module_takes bytes ps e = by_test (starts_with nat_eq bytes preamble) refl e
     by_test true h e =
         let t = pieces_take (length bytes) 8 (drop 8 bytes) ps e in
         let front : bytes ≡ preamble ++ drop 8 bytes = (starts_is Decides-eqb bytes preamble true (sym h)).0 refl in
-        record { spelled = front ∙ ap (λ (w : List ℕ). preamble ++ w) t.0; each = t.1 }
+        record { encoded = front ∙ ap (λ (w : List ℕ). preamble ++ w) t.0; each = t.1 }
     by_test false h e = absurd cc
 
 pub module_again : (bytes : List ℕ) (ps : List Piece) → IsModule bytes ps → pieces_of bytes ≡ Ok ps
 unfolding pieces_of
 module_again bytes ps h =
     let rest : List ℕ = flat_map (λ p. p.whole) ps in
-    let starts : starts_with nat_eq bytes preamble ≡ true = (starts_is Decides-eqb bytes preamble (starts_with nat_eq bytes preamble) refl).1 rest h.spelled in
-    let cut : drop 8 bytes ≡ rest = ap (drop 8) h.spelled in
-    rw (starts, cut) (pieces_again ps (length bytes) 8 h.each (omega (arith, ap length h.spelled, length-append preamble rest)))
+    let starts : starts_with nat_eq bytes preamble ≡ true = (starts_is Decides-eqb bytes preamble (starts_with nat_eq bytes preamble) refl).1 rest h.encoded in
+    let cut : drop 8 bytes ≡ rest = ap (drop 8) h.encoded in
+    rw (starts, cut) (pieces_again ps (length bytes) 8 h.each (omega (arith, ap length h.encoded, length-append preamble rest)))
 
 guard_ended : {A : Type 0} (b : Bool) (d : SectionFault) (x y : A) → cond b (Err d) (Ok x) ≡ Ok y → (b ≡ false) × (x ≡ y)
 guard_ended true d x y e = absurd cc

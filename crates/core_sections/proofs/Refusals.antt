@@ -24,17 +24,17 @@ missed None d e h = cc
 missed (Some x) d e h = absurd cc
 
 -- reading sections never fails with `NotModule`
-tells_place : (n place : ℕ) (bytes : List ℕ) → pieces_from n place bytes ≡ Err faults.NotModule → ⊥
+never_not_module : (n offset : ℕ) (bytes : List ℕ) → pieces_from n offset bytes ≡ Err faults.NotModule → ⊥
 unfolding pieces_from
-tells_place n place [] e = cc
-tells_place zero place (b ∷ rest) e = cc
-tells_place (suc n) place (b ∷ rest) e =
-    let after = λ (p : Piece × List ℕ). pieces_from n (place + (length (b ∷ rest) - length p.1)) p.1 >>= λ qs. Ok (p.0 ∷ qs) in
-    elim (bind_err (ok_or (section_at (b ∷ rest)) (faults.Section place)) after faults.NotModule e) [
-      | inl h ↦ let d = missed (section_at (b ∷ rest)) (faults.Section place) faults.NotModule h in cc
+never_not_module n offset [] e = cc
+never_not_module zero offset (b ∷ rest) e = cc
+never_not_module (suc n) offset (b ∷ rest) e =
+    let after = λ (p : Piece × List ℕ). pieces_from n (offset + (length (b ∷ rest) - length p.1)) p.1 >>= λ qs. Ok (p.0 ∷ qs) in
+    elim (bind_err (ok_or (section_at (b ∷ rest)) (faults.Section offset)) after faults.NotModule e) [
+      | inl h ↦ let d = missed (section_at (b ∷ rest)) (faults.Section offset) faults.NotModule h in cc
       | inr a ↦
-          elim (bind_err (pieces_from n (place + (length (b ∷ rest) - length a.0.1)) a.0.1) (λ qs. Ok (a.0.0 ∷ qs)) faults.NotModule a.2) [
-            | inl k ↦ tells_place n (place + (length (b ∷ rest) - length a.0.1)) a.0.1 k
+          elim (bind_err (pieces_from n (offset + (length (b ∷ rest) - length a.0.1)) a.0.1) (λ qs. Ok (a.0.0 ∷ qs)) faults.NotModule a.2) [
+            | inl k ↦ never_not_module n (offset + (length (b ∷ rest) - length a.0.1)) a.0.1 k
             | inr k ↦ cc
           ]
     ]
@@ -44,7 +44,7 @@ unfolding pieces_of
 no_preamble bytes e rest is =
     let starts : starts_with nat_eq bytes preamble ≡ true = (starts_is Decides-eqb bytes preamble (starts_with nat_eq bytes preamble) refl).1 rest is in
     let read : pieces_from (length bytes) 8 (drop 8 bytes) ≡ Err faults.NotModule = ap (λ b. cond b (pieces_from (length bytes) 8 (drop 8 bytes)) (Err faults.NotModule)) (sym starts) ∙ e in
-    tells_place (length bytes) 8 (drop 8 bytes) read
+    never_not_module (length bytes) 8 (drop 8 bytes) read
 
 -- ---- what `stripped` refuses
 
@@ -60,17 +60,17 @@ stripped_no_module bytes e =
     by true s h = cc
     by false s h = cc
 
-never_package : (n place : ℕ) (bytes : List ℕ) → pieces_from n place bytes ≡ Err faults.PackageBinary → ⊥
+never_package : (n offset : ℕ) (bytes : List ℕ) → pieces_from n offset bytes ≡ Err faults.PackageBinary → ⊥
 unfolding pieces_from
-never_package n place [] e = cc
-never_package zero place (b ∷ rest) e = cc
-never_package (suc n) place (b ∷ rest) e =
-    let after = λ (p : Piece × List ℕ). pieces_from n (place + (length (b ∷ rest) - length p.1)) p.1 >>= λ qs. Ok (p.0 ∷ qs) in
-    elim (bind_err (ok_or (section_at (b ∷ rest)) (faults.Section place)) after faults.PackageBinary e) [
-      | inl h ↦ let d = missed (section_at (b ∷ rest)) (faults.Section place) faults.PackageBinary h in cc
+never_package n offset [] e = cc
+never_package zero offset (b ∷ rest) e = cc
+never_package (suc n) offset (b ∷ rest) e =
+    let after = λ (p : Piece × List ℕ). pieces_from n (offset + (length (b ∷ rest) - length p.1)) p.1 >>= λ qs. Ok (p.0 ∷ qs) in
+    elim (bind_err (ok_or (section_at (b ∷ rest)) (faults.Section offset)) after faults.PackageBinary e) [
+      | inl h ↦ let d = missed (section_at (b ∷ rest)) (faults.Section offset) faults.PackageBinary h in cc
       | inr a ↦
-          elim (bind_err (pieces_from n (place + (length (b ∷ rest) - length a.0.1)) a.0.1) (λ qs. Ok (a.0.0 ∷ qs)) faults.PackageBinary a.2) [
-            | inl k ↦ never_package n (place + (length (b ∷ rest) - length a.0.1)) a.0.1 k
+          elim (bind_err (pieces_from n (offset + (length (b ∷ rest) - length a.0.1)) a.0.1) (λ qs. Ok (a.0.0 ∷ qs)) faults.PackageBinary a.2) [
+            | inl k ↦ never_package n (offset + (length (b ∷ rest) - length a.0.1)) a.0.1 k
             | inr k ↦ cc
           ]
     ]
@@ -120,7 +120,7 @@ no_cut [] (p ∷ ps) rest hb hp some none e = none p (flat_map (λ q. q.whole) p
 no_cut (b ∷ before) [] rest hb hp some none e =
     let s = hb.0 in
     let f = λ (q : Piece). q.whole in
-    absurd (omega (arith, ap length e, length-append (flat_map f (b ∷ before)) rest, ap length (flat_map-cons f b before), length-append b.whole (flat_map f before), ap length s.spelled))
+    absurd (omega (arith, ap length e, length-append (flat_map f (b ∷ before)) rest, ap length (flat_map-cons f b before), length-append b.whole (flat_map f before), ap length s.encoded))
 no_cut (b ∷ before) (p ∷ ps) rest hb hp some none e =
     let f = λ (q : Piece). q.whole in
     let left : b.whole ++ (flat_map f before ++ rest) ≡ flat_map f (b ∷ before) ++ rest = sym (append_assoc b.whole (flat_map f before) rest) ∙ ap (λ (w : List ℕ). w ++ rest) (sym (flat_map-cons f b before)) in
@@ -130,8 +130,8 @@ no_cut (b ∷ before) (p ∷ ps) rest hb hp some none e =
 same_rest : (x y : List ℕ) → preamble ++ x ≡ preamble ++ y → x ≡ y
 same_rest x y e = ap (drop 8) e
 
-pub whole_is_not_cut : (bytes : List ℕ) (ps : List Piece) (place : ℕ) → IsModule bytes ps → IsCutAt bytes place → ⊥
-whole_is_not_cut bytes ps place m c =
+pub whole_is_not_cut : (bytes : List ℕ) (ps : List Piece) (offset : ℕ) → IsModule bytes ps → IsCutAt bytes offset → ⊥
+whole_is_not_cut bytes ps offset m c =
     let f = λ (q : Piece). q.whole in
-    let e : preamble ++ (flat_map f c.before ++ c.rest) ≡ preamble ++ flat_map f ps = sym (append_assoc preamble (flat_map f c.before) c.rest) ∙ sym c.spelled ∙ m.spelled in
+    let e : preamble ++ (flat_map f c.before ++ c.rest) ≡ preamble ++ flat_map f ps = sym (append_assoc preamble (flat_map f c.before) c.rest) ∙ sym c.encoded ∙ m.encoded in
     no_cut c.before ps c.rest c.each m.each c.some c.none (same_rest (flat_map f c.before ++ c.rest) (flat_map f ps) e)

@@ -7,8 +7,8 @@ use Rattle.core_sections.specs.Reading.{◌>>=◌}
 use Rattle.core_sections.specs.Contents.{byte_at, span_of, heap_at}
 
 -- the bytes after so many bytes
-abbrev pub behind : ℕ → List ℕ → Option (List ℕ)
-behind count bytes = if nat_lt (length bytes) count then None else Some (drop count bytes)
+abbrev pub after_count : ℕ → List ℕ → Option (List ℕ)
+after_count count bytes = if nat_lt (length bytes) count then None else Some (drop count bytes)
 
 -- A signed number, by its bits and their span: from half the span on it is itself less the span. It has to
 -- be less than this half, and no less than its negative.
@@ -16,26 +16,26 @@ abbrev pub is_signed : ℕ → ℕ → ℕ → Bool
 is_signed half bits span = if nat_lt bits (span / 2) then nat_lt bits half else nat_le (span - bits) half
 
 -- after a signed number; the limit says how many bytes it may have
-abbrev pub behind_signed : ℕ → ℕ → List ℕ → Option (List ℕ)
-behind_signed half limit bytes = do
+abbrev pub after_signed : ℕ → ℕ → List ℕ → Option (List ℕ)
+after_signed half limit bytes = do
   n ← leb_at limit bytes
   if is_signed half n.0 (span_of (length bytes - length n.1)) then Some n.1 else None
 
-abbrev pub behind_index : List ℕ → Option (List ℕ)
-behind_index bytes = do
+abbrev pub after_index : List ℕ → Option (List ℕ)
+after_index bytes = do
   n ← leb_at (2 ^ 32) bytes
   Some n.1
 
-abbrev pub behind_heap : List ℕ → Option (List ℕ)
-behind_heap bytes = do
+abbrev pub after_heap : List ℕ → Option (List ℕ)
+after_heap bytes = do
   h ← heap_at bytes
   Some h.1
 
 -- after a constant of 128 bits, whose instruction has the number 12
-abbrev pub behind_vector : List ℕ → Option (List ℕ)
-behind_vector bytes = do
+abbrev pub after_vector : List ℕ → Option (List ℕ)
+after_vector bytes = do
   n ← leb_at (2 ^ 32) bytes
-  if n.0 == 12 then behind 16 n.1 else None
+  if n.0 == 12 then after_count 16 n.1 else None
 
 -- the sums, differences and products of whole numbers
 abbrev pub is_arithmetic : ℕ → Bool
@@ -43,25 +43,25 @@ is_arithmetic b = nat_le 0x6a b && nat_le b 0x6c || (nat_le 0x7c b && nat_le b 0
 
 -- after an instruction, whose first byte was read: a constant, a null reference, a reference to a function, a
 -- global, or arithmetic
-abbrev pub behind_instruction : ℕ → List ℕ → Option (List ℕ)
-behind_instruction b bytes =
-    if b == 0x41 then behind_signed (2 ^ 31) (2 ^ 35) bytes
-    else if b == 0x42 then behind_signed (2 ^ 63) (2 ^ 70) bytes
-    else if b == 0x43 then behind 4 bytes
-    else if b == 0x44 then behind 8 bytes
-    else if b == 0xfd then behind_vector bytes
-    else if b == 0xd0 then behind_heap bytes
-    else if b == 0xd2 || (b == 0x23) then behind_index bytes
+abbrev pub after_instruction : ℕ → List ℕ → Option (List ℕ)
+after_instruction b bytes =
+    if b == 0x41 then after_signed (2 ^ 31) (2 ^ 35) bytes
+    else if b == 0x42 then after_signed (2 ^ 63) (2 ^ 70) bytes
+    else if b == 0x43 then after_count 4 bytes
+    else if b == 0x44 then after_count 8 bytes
+    else if b == 0xfd then after_vector bytes
+    else if b == 0xd0 then after_heap bytes
+    else if b == 0xd2 || (b == 0x23) then after_index bytes
     else if is_arithmetic b then Some bytes
     else None
 
 -- after an expression of fewer instructions than this, which ends with 0x0b
-abbrev pub behind_fewer : ℕ → List ℕ → Option (List ℕ)
-behind_fewer zero bytes = None
-behind_fewer (suc n) bytes = do
+abbrev pub after_fewer : ℕ → List ℕ → Option (List ℕ)
+after_fewer zero bytes = None
+after_fewer (suc n) bytes = do
   b ← byte_at bytes
-  if b.0 == 0x0b then Some b.1 else (behind_instruction b.0 b.1 >>= behind_fewer n)
+  if b.0 == 0x0b then Some b.1 else (after_instruction b.0 b.1 >>= after_fewer n)
 
 -- after an expression: it has no more instructions than bytes
-abbrev pub behind_constant : List ℕ → Option (List ℕ)
-behind_constant bytes = behind_fewer (length bytes) bytes
+abbrev pub after_constant : List ℕ → Option (List ℕ)
+after_constant bytes = after_fewer (length bytes) bytes

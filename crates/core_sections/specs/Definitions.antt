@@ -3,14 +3,14 @@
 use Rattle.std.specs.Prelude.{ℕ, ◌==◌, List, Option, Some, None, if◌then◌else◌}
 use Rattle.core_sections.specs.Reading.{◌>>=◌}
 use Rattle.core_sections.specs.Contents.{byte_at, table_at, global_at}
-use Rattle.core_sections.specs.Constants.{behind_constant}
+use Rattle.core_sections.specs.Constants.{after_constant}
 use Rattle.core_sections.specs.declared.entries.EntityType.{EntityType}
 
 -- an item, and then a constant expression
 abbrev pub initialised : Option (EntityType × List ℕ) → Option (EntityType × List ℕ)
 initialised read = do
   e ← read
-  rest ← behind_constant e.1
+  rest ← after_constant e.1
   Some (e.0, rest)
 
 -- a table with an initial value for its elements, after the first of its two bytes

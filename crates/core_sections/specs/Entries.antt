@@ -116,8 +116,8 @@ after_body m (coded id bytes) = after_section m id bytes
 
 -- the sections from this offset on, one after the other
 abbrev pub entries_from : ℕ → CoreModule → List Piece → Result CoreModule SectionFault
-entries_from place m [] = Ok m
-entries_from place m (p ∷ ps) = ok_or (after_body m p.body) (faults.Section place) >>>= λ n. entries_from (place + length p.whole) n ps
+entries_from offset m [] = Ok m
+entries_from offset m (p ∷ ps) = ok_or (after_body m p.body) (faults.Section offset) >>>= λ n. entries_from (offset + length p.whole) n ps
 
 -- the entries of a module
 unfoldable pub module_of : List ℕ → Result CoreModule SectionFault

@@ -17,7 +17,7 @@ IsNumber limit (b ∷ bs) n =
 pub record IsCounted (text bytes : List ℕ) : Type 0 where
   pub count : List ℕ
   pub number : IsNumber (2 ^ 32) count (length bytes)
-  pub spelled : text ≡ count ++ bytes
+  pub encoded : text ≡ count ++ bytes
 
 -- what the contents of a section with this id hold
 pub data Holds : ℕ → List ℕ → Body → Type 0 where
@@ -30,20 +30,20 @@ pub record IsSection (p : Piece) : Type 0 where
   pub size : List ℕ
   pub contents : List ℕ
   pub number : IsNumber (2 ^ 32) size (length contents)
-  pub spelled : p.whole ≡ id ∷ size ++ contents
+  pub encoded : p.whole ≡ id ∷ size ++ contents
   pub holds : Holds id contents p.body
 
 -- the preamble, and then these sections
 pub record IsModule (bytes : List ℕ) (ps : List Piece) : Type 0 where
-  pub spelled : bytes ≡ preamble ++ flat_map (λ p. p.whole) ps
+  pub encoded : bytes ≡ preamble ++ flat_map (λ p. p.whole) ps
   pub each : AllByRecursion IsSection ps
 
 -- At this offset of the module, after whole sections, there are bytes that don't begin with a section.
-pub record IsCutAt (bytes : List ℕ) (place : ℕ) : Type 0 where
+pub record IsCutAt (bytes : List ℕ) (offset : ℕ) : Type 0 where
   pub before : List Piece
   pub rest : List ℕ
-  pub spelled : bytes ≡ preamble ++ flat_map (λ p. p.whole) before ++ rest
+  pub encoded : bytes ≡ preamble ++ flat_map (λ p. p.whole) before ++ rest
   pub each : AllByRecursion IsSection before
-  pub here : place + length rest ≡ length bytes
+  pub here : offset + length rest ≡ length bytes
   pub some : 0 < length rest
   pub none : (p : Piece) (after : List ℕ) → IsSection p → rest ≡ p.whole ++ after → ⊥

@@ -52,11 +52,11 @@ preamble = 0 ∷ 97 ∷ 115 ∷ 109 ∷ 1 ∷ 0 ∷ 0 ∷ 0 ∷ []
 
 -- the sections from an offset of the module on, of which there are at most n
 unfoldable pub pieces_from : ℕ → ℕ → List ℕ → Result (List Piece) SectionFault
-pieces_from n place [] = Ok []
-pieces_from zero place (b ∷ rest) = Err (faults.Section place)
-pieces_from (suc n) place (b ∷ rest) = do
-  p ← ok_or (section_at (b ∷ rest)) (faults.Section place)
-  ps ← pieces_from n (place + (length (b ∷ rest) - length p.1)) p.1
+pieces_from n offset [] = Ok []
+pieces_from zero offset (b ∷ rest) = Err (faults.Section offset)
+pieces_from (suc n) offset (b ∷ rest) = do
+  p ← ok_or (section_at (b ∷ rest)) (faults.Section offset)
+  ps ← pieces_from n (offset + (length (b ∷ rest) - length p.1)) p.1
   Ok (p.0 ∷ ps)
 
 -- the sections of a module

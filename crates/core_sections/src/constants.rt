@@ -1,7 +1,7 @@
 //! Constant expressions: where each ends.
 
 ghost use Rattle.std.specs.Prelude.{◌≡◌};
-ghost use Rattle.core_sections.specs.Constants.{behind, is_signed, behind_signed, behind_vector, behind_instruction, behind_constant};
+ghost use Rattle.core_sections.specs.Constants.{after_count, is_signed, after_signed, after_vector, after_instruction, after_constant};
 ghost use Rattle.core_sections.specs.Reading.{Gives};
 
 use crate::contents::{read_byte, read_heap, read_index, span_of};
@@ -10,7 +10,7 @@ use crate::reading::ReadFault;
 
 /// The bytes after so many bytes.
 fn skip(count: usize, bytes: &[u8]) -> Result<&[u8], ReadFault>
-    ensures { Gives (λ x. x.now) result (behind count bytes.now) }
+    ensures { Gives (λ x. x.now) result (after_count count bytes.now) }
 {
     if bytes.len() < count {
         return Err(ReadFault::Malformed);
@@ -31,7 +31,7 @@ fn is_signed(half: u128, bits: u128, span: u128) -> bool
 }
 
 fn skip_signed(half: u128, limit: u128, bytes: &[u8]) -> Result<&[u8], ReadFault>
-    ensures { Gives (λ x. x.now) result (behind_signed half limit bytes.now) }
+    ensures { Gives (λ x. x.now) result (after_signed half limit bytes.now) }
 {
     let Some((bits, rest)) = read_below(limit, bytes) else {
         return Err(ReadFault::Malformed);
@@ -44,7 +44,7 @@ fn skip_signed(half: u128, limit: u128, bytes: &[u8]) -> Result<&[u8], ReadFault
 
 /// The bytes after a constant of 128 bits.
 fn skip_vector(bytes: &[u8]) -> Result<&[u8], ReadFault>
-    ensures { Gives (λ x. x.now) result (behind_vector bytes.now) }
+    ensures { Gives (λ x. x.now) result (after_vector bytes.now) }
 {
     let (number, rest) = read_index(bytes)?;
     if number != 12 {
@@ -55,7 +55,7 @@ fn skip_vector(bytes: &[u8]) -> Result<&[u8], ReadFault>
 
 /// The bytes after an instruction, whose first byte was read.
 fn skip_instruction(byte: u8, bytes: &[u8]) -> Result<&[u8], ReadFault>
-    ensures { Gives (λ x. x.now) result (behind_instruction byte bytes.now) }
+    ensures { Gives (λ x. x.now) result (after_instruction byte bytes.now) }
 {
     match byte {
         0x41 => skip_signed(1 << 31, 1 << 35, bytes),
@@ -72,7 +72,7 @@ fn skip_instruction(byte: u8, bytes: &[u8]) -> Result<&[u8], ReadFault>
 
 /// The bytes after a constant expression.
 pub(crate) fn skip_constant(bytes: &[u8]) -> Result<&[u8], ReadFault>
-    ensures { Gives (λ x. x.now) result (behind_constant bytes.now) }
+    ensures { Gives (λ x. x.now) result (after_constant bytes.now) }
 {
     let mut rest = bytes;
     for _ in 0..bytes.len() {

@@ -104,7 +104,7 @@ pub fn strip(alloc: Global, bytes: &[u8]) -> Result<Stripped<'_>, SectionFault>
         → Gives {Y = List ℕ × List (List ℕ)} (λ s. (s.bytes.items, map (λ x. x.now) s.records.items)) result
         (Ok (preamble ++ kept ps, removed ps)) }
     // A reported offset is the first at which no section begins.
-    ensures cut { IfErr result (λ e. (place : ℕ) → e ≡ SectionFault.Section place → IsCutAt bytes.now place) }
+    ensures cut { IfErr result (λ e. (offset : ℕ) → e ≡ SectionFault.Section offset → IsCutAt bytes.now offset) }
     // Without the preamble of a core module it is no module.
     ensures no_module { IfErr result (λ e. e ≡ SectionFault.NotModule → (rest : List ℕ) → bytes.now ≡ preamble ++ rest → ⊥) }
     // A reported package is in a section of component types.

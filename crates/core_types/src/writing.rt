@@ -2,13 +2,13 @@
 #![tactic(auto, using(byte_encoding::proofs::Pieces::writing))]
 
 ghost use Rattle.std.specs.Prelude.{◌≡◌, ◌++◌, List, ℕ, OnOk, if◌then◌else◌};
-ghost use Rattle.byte_encoding.specs.Spelling.{signed_leb, raw, octet, number, quantity, each, listed, named, sized, Spelling, Fits, ◌⊕◌};
+ghost use Rattle.byte_encoding.specs.Encoding.{signed_leb, raw, octet, number, quantity, each, listed, named, sized, Encoding, Fits, ◌⊕◌};
 ghost use Rattle.byte_encoding.specs.Written.{Writes};
 ghost use Rattle.core_types.specs.Grammar.{reference_type, value_type, function_type, limits, table_type, memory_type, global_type};
 
 use crate::types::{FuncType, GlobalType, MemoryType, RefType, TableType, ValType};
 use byte_encoding::{
-    BuildFault, Spell, byte_of_flag, put_bytes, put_index, put_tagged, put_type_index,
+    BuildFault, Encode, byte_of_flag, put_bytes, put_index, put_tagged, put_type_index,
 };
 
 fn put_concrete(out: &mut Vec<u8>, type_index: u32) -> Result<(), BuildFault>
@@ -19,8 +19,8 @@ fn put_concrete(out: &mut Vec<u8>, type_index: u32) -> Result<(), BuildFault>
     Ok(())
 }
 
-impl Spell for RefType {
-    ghost spelling = { reference_type };
+impl Encode for RefType {
+    ghost encoding = { reference_type };
 
     fn put(&self, out: &mut Vec<u8>) -> Result<(), BuildFault> {
         match *self {
@@ -30,8 +30,8 @@ impl Spell for RefType {
     }
 }
 
-impl Spell for ValType {
-    ghost spelling = { value_type };
+impl Encode for ValType {
+    ghost encoding = { value_type };
 
     fn put(&self, out: &mut Vec<u8>) -> Result<(), BuildFault> {
         match self {
@@ -44,8 +44,8 @@ impl Spell for ValType {
     }
 }
 
-impl Spell for FuncType {
-    ghost spelling = { function_type };
+impl Encode for FuncType {
+    ghost encoding = { function_type };
 
     fn put(&self, out: &mut Vec<u8>) -> Result<(), BuildFault> {
         put_tagged(out, 0x60, &self.params)?;
@@ -71,8 +71,8 @@ fn put_limits(out: &mut Vec<u8>, minimum: u32, maximum: Option<u32>) -> Result<(
     }
 }
 
-impl Spell for TableType {
-    ghost spelling = { table_type };
+impl Encode for TableType {
+    ghost encoding = { table_type };
 
     fn put(&self, out: &mut Vec<u8>) -> Result<(), BuildFault> {
         self.element_type.put(out)?;
@@ -81,16 +81,16 @@ impl Spell for TableType {
     }
 }
 
-impl Spell for MemoryType {
-    ghost spelling = { memory_type };
+impl Encode for MemoryType {
+    ghost encoding = { memory_type };
 
     fn put(&self, out: &mut Vec<u8>) -> Result<(), BuildFault> {
         put_limits(out, self.minimum, self.maximum)
     }
 }
 
-impl Spell for GlobalType {
-    ghost spelling = { global_type };
+impl Encode for GlobalType {
+    ghost encoding = { global_type };
 
     fn put(&self, out: &mut Vec<u8>) -> Result<(), BuildFault> {
         self.val_type.put(out)?;

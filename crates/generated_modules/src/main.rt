@@ -28,7 +28,7 @@ enum Failure {
 }
 
 /// Prints a line.
-fn tell(rt: &HostRuntime, name: &str, bytes: Result<Vec<u8>, BuildFault>) -> Result<(), Failure> {
+fn print_module(rt: &HostRuntime, name: &str, bytes: Result<Vec<u8>, BuildFault>) -> Result<(), Failure> {
     let Ok(bytes) = bytes else {
         return Err(Failure::Making);
     };
@@ -41,44 +41,44 @@ fn print(rt: &HostRuntime, name: &str, bytes: &[u8]) -> io::Result<()> {
 }
 
 /// Shims in both forms, and what fills them.
-fn tell_shims(rt: &HostRuntime, alloc: Global) -> Result<(), Failure> {
-    tell(rt, "table_shim", shims::table_shims(alloc, 1))?;
-    tell(rt, "table_fill", shims::table_fills(alloc, 1))?;
-    tell(rt, "ref_shim", shims::ref_shims(alloc, 1))?;
-    tell(rt, "ref_fill", shims::ref_fills(alloc, 1))
+fn print_shims(rt: &HostRuntime, alloc: Global) -> Result<(), Failure> {
+    print_module(rt, "table_shim", shims::table_shims(alloc, 1))?;
+    print_module(rt, "table_fill", shims::table_fills(alloc, 1))?;
+    print_module(rt, "ref_shim", shims::ref_shims(alloc, 1))?;
+    print_module(rt, "ref_fill", shims::ref_fills(alloc, 1))
 }
 
 /// The same for twelve shims.
-fn tell_twelve(rt: &HostRuntime, alloc: Global) -> Result<(), Failure> {
-    tell(rt, "twelve_table_shims", shims::table_shims(alloc, 12))?;
-    tell(rt, "twelve_table_fills", shims::table_fills(alloc, 12))?;
-    tell(rt, "twelve_ref_shims", shims::ref_shims(alloc, 12))?;
-    tell(rt, "twelve_ref_fills", shims::ref_fills(alloc, 12))
+fn print_twelve(rt: &HostRuntime, alloc: Global) -> Result<(), Failure> {
+    print_module(rt, "twelve_table_shims", shims::table_shims(alloc, 12))?;
+    print_module(rt, "twelve_table_fills", shims::table_fills(alloc, 12))?;
+    print_module(rt, "twelve_ref_shims", shims::ref_shims(alloc, 12))?;
+    print_module(rt, "twelve_ref_fills", shims::ref_fills(alloc, 12))
 }
 
 /// Wrappers, and a function that is only imported.
-fn tell_wrappers(rt: &HostRuntime, alloc: Global) -> Result<(), Failure> {
-    tell(rt, "code_wrappers", others::code_wrappers(alloc))?;
-    tell(rt, "sync_wrappers", others::sync_wrappers(alloc))?;
-    tell(rt, "one_import", others::one_import(alloc))
+fn print_wrappers(rt: &HostRuntime, alloc: Global) -> Result<(), Failure> {
+    print_module(rt, "code_wrappers", others::code_wrappers(alloc))?;
+    print_module(rt, "sync_wrappers", others::sync_wrappers(alloc))?;
+    print_module(rt, "one_import", others::one_import(alloc))
 }
 
 /// Start functions.
-fn tell_starts(rt: &HostRuntime, alloc: Global) -> Result<(), Failure> {
-    tell(rt, "imported_start", others::imported_start(alloc))?;
-    tell(rt, "hooks_around", others::hooks_around(alloc))?;
-    tell(rt, "data_and_call", others::data_and_call(alloc))?;
-    tell(rt, "address", others::address(alloc))
+fn print_starts(rt: &HostRuntime, alloc: Global) -> Result<(), Failure> {
+    print_module(rt, "imported_start", others::imported_start(alloc))?;
+    print_module(rt, "hooks_around", others::hooks_around(alloc))?;
+    print_module(rt, "data_and_call", others::data_and_call(alloc))?;
+    print_module(rt, "address", others::address(alloc))
 }
 
 fn run(rt: &HostRuntime) -> Result<(), Failure> {
     let alloc = rt.alloc();
-    tell_shims(rt, alloc)?;
-    tell_twelve(rt, alloc)?;
-    tell_wrappers(rt, alloc)?;
-    tell_starts(rt, alloc)?;
-    tell(rt, "memory", others::memory(alloc))?;
-    tell(rt, "cell", others::cell(alloc))
+    print_shims(rt, alloc)?;
+    print_twelve(rt, alloc)?;
+    print_wrappers(rt, alloc)?;
+    print_starts(rt, alloc)?;
+    print_module(rt, "memory", others::memory(alloc))?;
+    print_module(rt, "cell", others::cell(alloc))
 }
 
 fn main(rt: HostRuntime) -> ExitCode {

@@ -61,7 +61,7 @@ pub(crate) fn functions(alloc: Global, all: &[u32]) -> Result<Section, AllocErro
 /// So many functions of type 0.
 pub(crate) fn functions_of_one_type(alloc: Global, count: usize) -> Result<Section, AllocError> {
     let mut section = FunctionSection::new(alloc);
-    for _place in 0..count {
+    for _index in 0..count {
         section.function(0)?;
     }
     Ok(Section::Functions(section))
@@ -88,7 +88,7 @@ pub(crate) fn globals(
     global: DefinedGlobal,
 ) -> Result<Section, AllocError> {
     let mut section = GlobalSection::new(alloc);
-    for _place in 0..count {
+    for _index in 0..count {
         section.global(global.global_type, global.init)?;
     }
     Ok(Section::Globals(section))

@@ -61,14 +61,14 @@ fn prepare_answer<L: Lower>(
 type Given<B> = (Bytes, B, Merged<B>);
 
 /// A module that is given after others, whose merged records are these.
-fn given_behind<L: Lower>(
+fn given_after<L: Lower>(
     lower: &L,
     alloc: Global,
-    joint: &L::Bindgen,
+    combined: &L::Bindgen,
     bytes: &[u8],
 ) -> Result<Given<L::Bindgen>, Answer<L::Fault>> {
     match lower.decode(alloc, bytes) {
-        Ok((bytes, own)) => match lower.merge(alloc, joint, &own) {
+        Ok((bytes, own)) => match lower.merge(alloc, combined, &own) {
             Ok(merged) => Ok((bytes, own, merged)),
             Err(fault) => Err(Answer::Merge(fault)),
         },
@@ -83,7 +83,7 @@ fn given_first<L: Lower>(
     bytes: &[u8],
 ) -> Result<Given<L::Bindgen>, Answer<L::Fault>> {
     let empty = lower.empty(alloc);
-    let given = given_behind(lower, alloc, &empty, bytes);
+    let given = given_after(lower, alloc, &empty, bytes);
     drop(empty);
     given
 }
@@ -93,7 +93,7 @@ fn gathered_with<B>(
     alloc: Global,
     bytes: Bytes,
     own: B,
-    joint: B,
+    combined: B,
     required: Seq<ExportKey>,
 ) -> Gathered<B>
     ensures { IsSome result.main }
@@ -105,7 +105,7 @@ fn gathered_with<B>(
             required,
         }),
         adapters: Keyed::new(alloc),
-        joint,
+        combined,
         options: OPTIONS,
     }
 }
@@ -113,7 +113,7 @@ fn gathered_with<B>(
 /// The world of what was given.
 fn prepare_given<L: Lower>(lower: &L, alloc: Global, given: Given<L::Bindgen>) -> Answer<L::Fault> {
     let (bytes, own, merged) = given;
-    let gathered = gathered_with(alloc, bytes, own, merged.joint, merged.exports);
+    let gathered = gathered_with(alloc, bytes, own, merged.combined, merged.exports);
     let answer = prepare_answer(lower, alloc, &gathered);
     drop(gathered);
     answer
@@ -130,14 +130,14 @@ fn answer_for<L: Lower>(lower: &L, alloc: Global, bytes: &[u8]) -> Answer<L::Fau
 /// All keys that two modules have to export.
 fn with_keys<B: Drop>(keys: Seq<ExportKey>, given: Given<B>) -> Result<Given<B>, AllocError> {
     let (bytes, own, merged) = given;
-    let Merged { joint, exports } = merged;
+    let Merged { combined, exports } = merged;
     let mut all = keys;
     match all.append(exports) {
         Ok(()) => Ok((
             bytes,
             own,
             Merged {
-                joint,
+                combined,
                 exports: all,
             },
         )),
@@ -154,17 +154,17 @@ fn answer_for_both<L: Lower>(
 ) -> Result<Answer<L::Fault>, AllocError> {
     match given_first(lower, alloc, first) {
         Ok((_, _, merged)) => {
-            let Merged { joint, exports } = merged;
-            let given = given_behind(lower, alloc, &joint, second);
-            drop(joint);
-            answer_behind(lower, alloc, exports, given)
+            let Merged { combined, exports } = merged;
+            let given = given_after(lower, alloc, &combined, second);
+            drop(combined);
+            answer_after(lower, alloc, exports, given)
         }
         Err(answer) => Ok(answer),
     }
 }
 
 /// The result of a layer for the second, where the first has to export these keys.
-fn answer_behind<L: Lower>(
+fn answer_after<L: Lower>(
     lower: &L,
     alloc: Global,
     keys: Seq<ExportKey>,

@@ -1,6 +1,6 @@
 pub mod Records
-pub mod Telling
+pub mod Reporting
 mod Refusing
-mod JointCauses
-mod MeetingCauses
+mod CombinedCauses
+mod CheckingCauses
 mod Whole

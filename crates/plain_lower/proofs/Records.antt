@@ -13,24 +13,24 @@ use Rattle.core_sections.specs.Grammar.{IsModule}
 use Rattle.core_sections.proofs.Modules.{module_takes, module_again}
 use Rattle.core_sections.proofs.Cuts.{is_cut}
 use Rattle.core_sections.proofs.Refusals.{stripped_no_module, stripped_package, whole_is_not_cut}
-use Rattle.record_json.specs.declared.fault.Failure.{Failure as RecordFailure}
-use Rattle.record_json.specs.declared.fault.Failure.TheVariants as record_failures
-use Rattle.record_json.specs.declared.fault.Refusal.{Refusal as RecordRefusal}
-use Rattle.record_json.specs.Faults.{◌>>=◌ as ◌>>+=◌}
-use Rattle.record_joining.specs.Causes.{RecordsConflict, WorldConflict}
-use Rattle.record_joining.specs.declared.bindgen.Bindgen.{Bindgen}
-use Rattle.record_joining.specs.Tables.{conflict as conflict_of}
+use Rattle.json_paths.specs.declared.fault.Failure.{Failure as RecordFailure}
+use Rattle.json_paths.specs.declared.fault.Failure.TheVariants as record_failures
+use Rattle.json_paths.specs.declared.fault.Refusal.{Refusal as RecordRefusal}
+use Rattle.json_paths.specs.Faults.{◌>>=◌ as ◌>>+=◌}
+use Rattle.record_merge.specs.Causes.{RecordsConflict, WorldConflict}
+use Rattle.record_merge.specs.declared.bindgen.Bindgen.{Bindgen}
+use Rattle.record_merge.specs.Tables.{conflict as conflict_of}
 use Rattle.record_roles.specs.Records.{record_in}
 use Rattle.record_values.specs.declared.record.Record.{Record}
-use Rattle.plain_faults.specs.declared.fault.Failure.{Failure}
-use Rattle.plain_faults.specs.declared.fault.Failure.TheVariants as failures
-use Rattle.plain_faults.specs.declared.fault.Refusal.{Refusal}
-use Rattle.plain_faults.specs.declared.fault.Refusal.TheVariants as refusals
-use Rattle.plain_faults.specs.declared.fault.PlainFault.{PlainFault}
-use Rattle.plain_faults.specs.Faults.{lifted, of_section, of_record, of_record_refusal, flat, flat_refusal}
-use Rattle.plain_lower.specs.Joining.{records_in}
+use Rattle.record_faults.specs.declared.fault.Failure.{Failure}
+use Rattle.record_faults.specs.declared.fault.Failure.TheVariants as failures
+use Rattle.record_faults.specs.declared.fault.Refusal.{Refusal}
+use Rattle.record_faults.specs.declared.fault.Refusal.TheVariants as refusals
+use Rattle.record_faults.specs.declared.fault.PlainFault.{PlainFault}
+use Rattle.record_faults.specs.Faults.{lifted, of_section, of_record, of_record_refusal, flat, flat_refusal}
+use Rattle.plain_lower.specs.ModuleRecords.{records_in}
 use Rattle.plain_lower.specs.Causes.{SaidCause, misread, conflicting, AreApart, DecodeCause, not_module, cut, binary, misspelt, conflict, MergeCause, conflict_of_worlds}
-use Rattle.plain_faults.proofs.Chains.{refused, same_refusal}
+use Rattle.record_faults.proofs.Chains.{refused, same_refusal}
 
 abbrev IsRead : List ℕ → Record → Type 0
 IsRead text r = record_in text ≡ Ok r
@@ -153,9 +153,9 @@ said_caused bytes s (record_failures.Refused r) is c other =
     by ps m are (misread e) =
         let x = stops s.1 r e in
         misspelt x.0 r (record { pieces = ps; whole = m; there = subst (λ (xs : List (List ℕ)). Contains xs x.0) are x.1 }) x.2
-    by ps m are (conflicting records name read_so c told) =
+    by ps m are (conflicting records name read_so c reported) =
         let whole : AllZip IsRead (removed ps) records = subst (λ (xs : List (List ℕ)). AllZip IsRead xs records) are (each_read s.1 records read_so) in
-        let is_r : of_record (conflict_of name) ≡ of_record (record_failures.Refused r) = ap of_record (sym told) in
+        let is_r : of_record (conflict_of name) ≡ of_record (record_failures.Refused r) = ap of_record (sym reported) in
         subst (λ (f : Failure). DecodeCause bytes (flat f)) is_r (conflict records name (record { pieces = ps; whole = m; read = whole }) c)
 
 -- a refusal of the sections has a cause
@@ -172,7 +172,7 @@ pub no_cause : (bytes : List ℕ) (s : List ℕ × List (List ℕ)) (rs : List R
 no_cause bytes s rs is read_so apart f c = let t = taken bytes s is in by t.0 t.1 t.2 t.3 f c
   where
     by : (ps : List Piece) → IsModule bytes ps → list_any is_package (removed ps) ≡ false → s.1 ≡ removed ps → (f : PlainFault) → DecodeCause bytes f → ⊥
-    by ps m clean are f (not_module none) = none (flat_map (λ p. p.whole) ps) m.spelled
+    by ps m clean are f (not_module none) = none (flat_map (λ p. p.whole) ps) m.encoded
     by ps m clean are f (cut place c) = whole_is_not_cut bytes ps place m c
     by ps m clean are f (binary text x is) =
         let there : Contains (removed ps) text = subst (λ (qs : List Piece). Contains (removed qs) text) (same_pieces bytes x.pieces ps x.whole m) x.there in
@@ -199,10 +199,10 @@ pub said_by_reading : {A : Type 0} (texts : List (List ℕ)) (r : Result A Recor
 said_by_reading texts (Ok x) d is h = tt
 said_by_reading texts (Err e) d is h = subst (λ (x : RecordFailure). x ≢ record_failures.Memory → SaidCause texts x) (sym is) (λ other. misread (h other))
 
-pub said_by_joining : (texts : List (List ℕ)) (records : List Record) (r : Result Bindgen RecordFailure) → records_in texts ≡ Ok records
+pub said_by_merging : (texts : List (List ℕ)) (records : List Record) (r : Result Bindgen RecordFailure) → records_in texts ≡ Ok records
     → IfErr r (λ e. e ≢ record_failures.Memory → (name : List ℕ) × (e ≡ conflict_of name) × RecordsConflict records name) → IfErr r (λ e. e ≢ record_failures.Memory → SaidCause texts e)
-said_by_joining texts records (Ok b) are h = tt
-said_by_joining texts records (Err e) are h = λ other. let c = h other in conflicting records c.0 are c.2 c.1
+said_by_merging texts records (Ok b) are h = tt
+said_by_merging texts records (Err e) are h = λ other. let c = h other in conflicting records c.0 are c.2 c.1
 
 pub said_apart : (texts : List (List ℕ)) (records : List Record) (r : Result Bindgen RecordFailure) → records_in texts ≡ Ok records
     → (IsOk r → (name : List ℕ) → RecordsConflict records name → ⊥) → IfOk r (λ _. AreApart texts)

@@ -5,13 +5,13 @@ use Rattle.std.specs.List.{list_any}
 use Rattle.std.proofs.lemmas.List.Elements.{Contains-append_right}
 use Rattle.comp_worlds.specs.declared.gathered.Gathered.{Gathered}
 use Rattle.comp_worlds.specs.declared.gathered.GatheredAdapter.{GatheredAdapter}
-use Rattle.record_joining.specs.declared.bindgen.Bindgen.{Bindgen}
-use Rattle.plain_faults.specs.declared.fault.Failure.{Failure}
-use Rattle.plain_faults.specs.declared.fault.Failure.TheVariants as failures
-use Rattle.plain_faults.specs.declared.fault.Refusal.{Refusal}
-use Rattle.plain_faults.specs.declared.fault.Refusal.TheVariants as refusals
-use Rattle.plain_faults.specs.Faults.{flat, flat_refusal}
-use Rattle.plain_faults.proofs.Chains.{same_refusal, refused}
+use Rattle.record_merge.specs.declared.bindgen.Bindgen.{Bindgen}
+use Rattle.record_faults.specs.declared.fault.Failure.{Failure}
+use Rattle.record_faults.specs.declared.fault.Failure.TheVariants as failures
+use Rattle.record_faults.specs.declared.fault.Refusal.{Refusal}
+use Rattle.record_faults.specs.declared.fault.Refusal.TheVariants as refusals
+use Rattle.record_faults.specs.Faults.{flat, flat_refusal}
+use Rattle.record_faults.proofs.Chains.{same_refusal, refused}
 use Rattle.plain_lower.specs.Preparing.{Adapters, is_plain, none_there, adapters_pass}
 use Rattle.plain_lower.specs.Causes.{PrepareCause, grows, adapter_left_out}
 

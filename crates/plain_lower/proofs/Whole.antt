@@ -11,15 +11,15 @@ use Rattle.core_sections.specs.declared.fault.SectionFault.TheVariants as sectio
 use Rattle.core_sections.specs.Sections.{◌>>=◌ as ◌>>>=◌, Piece, pieces_of}
 use Rattle.core_sections.specs.Entries.{module_of, entries_from, no_entries}
 use Rattle.core_sections.proofs.Modules.{module_takes}
-use Rattle.plain_faults.specs.declared.fault.Failure.{Failure}
-use Rattle.plain_faults.specs.declared.fault.Failure.TheVariants as failures
-use Rattle.plain_faults.specs.declared.fault.Refusal.{Refusal}
-use Rattle.plain_faults.specs.declared.fault.PlainFault.{PlainFault}
-use Rattle.plain_faults.specs.Faults.{◌>>=◌, lifted, of_section, flat}
-use Rattle.record_joining.specs.declared.bindgen.Bindgen.{Bindgen}
-use Rattle.record_resolving.specs.declared.resolving.Resolved.{Resolved}
-use Rattle.plain_lower.specs.Preparing.{adapters_pass, joint, preparing_if, preparing}
-use Rattle.plain_lower.specs.Causes.{JointCause, CoreCause, MainCause, unread, as_core, PrepareCause, grows, adapter_left_out, of_joint, of_main}
+use Rattle.record_faults.specs.declared.fault.Failure.{Failure}
+use Rattle.record_faults.specs.declared.fault.Failure.TheVariants as failures
+use Rattle.record_faults.specs.declared.fault.Refusal.{Refusal}
+use Rattle.record_faults.specs.declared.fault.PlainFault.{PlainFault}
+use Rattle.record_faults.specs.Faults.{◌>>=◌, lifted, of_section, flat}
+use Rattle.record_merge.specs.declared.bindgen.Bindgen.{Bindgen}
+use Rattle.record_resolve.specs.declared.resolving.Resolved.{Resolved}
+use Rattle.plain_lower.specs.Preparing.{adapters_pass, combined, preparing_if, preparing}
+use Rattle.plain_lower.specs.Causes.{CombinedCause, CoreCause, MainCause, unread, as_core, PrepareCause, grows, adapter_left_out, of_combined, of_main}
 use Rattle.plain_lower.proofs.Refusing.{none_pass, no_adapter}
 
 same_ok : {A E : Type 0} (r : Result A E) (x y : A) → r ≡ Ok x → r ≡ Ok y → x ≡ y
@@ -36,7 +36,7 @@ unfolding module_of
 begins bytes m e = by (pieces_of bytes) refl e
   where
     by : (r : Result (List Piece) SectionFault) → pieces_of bytes ≡ r → (r >>>= λ ps. entries_from 8 no_entries ps) ≡ Ok m → IsCoreModule bytes
-    by (Ok ps) is e = let t = module_takes bytes ps is in ap (take 8) t.spelled
+    by (Ok ps) is e = let t = module_takes bytes ps is in ap (take 8) t.encoded
     by (Err f) is e = absurd cc
 
 -- a module that can't be read
@@ -60,21 +60,21 @@ no_main_cause r main core is h f (as_core other q e c) = h q (subst (λ (x : Cor
 -- ---- the whole
 
 pub is_prepared : (g : Gathered Bindgen) (r : Resolved) (w : ComponentWorld) (t : ⊤) → adapters_pass g.options.realloc_via_memory_grow g.adapters ≡ Ok t
-    → joint g.options.merge_imports_based_on_semver g.joint.wit ≡ Ok r → preparing_if r g.main ≡ Ok w → preparing g ≡ Ok w
+    → combined g.options.merge_imports_based_on_semver g.combined.wit ≡ Ok r → preparing_if r g.main ≡ Ok w → preparing g ≡ Ok w
 unfolding preparing
 is_prepared g r w t a j p =
-    ap (λ (x : Result ⊤ Failure). x >>= λ _. joint g.options.merge_imports_based_on_semver g.joint.wit >>= λ r. preparing_if r g.main) a
+    ap (λ (x : Result ⊤ Failure). x >>= λ _. combined g.options.merge_imports_based_on_semver g.combined.wit >>= λ r. preparing_if r g.main) a
     ∙ ap (λ (x : Result Resolved Failure). x >>= λ r. preparing_if r g.main) j ∙ p
 
-pub no_cause : (g : Gathered Bindgen) (r : Resolved) (t : ⊤) → adapters_pass g.options.realloc_via_memory_grow g.adapters ≡ Ok t → joint g.options.merge_imports_based_on_semver g.joint.wit ≡ Ok r
-    → ((f : PlainFault) → JointCause g.options.merge_imports_based_on_semver g.joint.wit f → ⊥)
+pub no_cause : (g : Gathered Bindgen) (r : Resolved) (t : ⊤) → adapters_pass g.options.realloc_via_memory_grow g.adapters ≡ Ok t → combined g.options.merge_imports_based_on_semver g.combined.wit ≡ Ok r
+    → ((f : PlainFault) → CombinedCause g.options.merge_imports_based_on_semver g.combined.wit f → ⊥)
     → ((p : Part Bindgen) → g.main ≡ Some p → (f : PlainFault) → MainCause r p f → ⊥)
     → (f : PlainFault) → PrepareCause g f → ⊥
 no_cause g r t a j jn mn f (grows x on c none) = no_adapter g x (none_pass g.options.realloc_via_memory_grow g.adapters t a) c
 no_cause g r t a j jn mn f (adapter_left_out x c) = no_adapter g x (none_pass g.options.realloc_via_memory_grow g.adapters t a) c
-no_cause g r t a j jn mn f (of_joint fault c) = jn f c
+no_cause g r t a j jn mn f (of_combined fault c) = jn f c
 no_cause g r t a j jn mn f (of_main other main fault is main_is c) =
-    mn main main_is f (subst (λ (x : Resolved). MainCause x main f) (same_ok (joint g.options.merge_imports_based_on_semver g.joint.wit) other r is j) c)
+    mn main main_is f (subst (λ (x : Resolved). MainCause x main f) (same_ok (combined g.options.merge_imports_based_on_semver g.combined.wit) other r is j) c)
 
 -- ---- what the calls answer
 
@@ -91,7 +91,7 @@ no_part : {A : Type 0} (o : Option A) → o ≡ None → IsSome o → ⊥
 no_part None is there = absurd cc
 no_part (Some x) is there = absurd cc
 
-pub all_caused : (g : Gathered Bindgen) (r : Resolved) (answer : Result ComponentWorld Failure) → joint g.options.merge_imports_based_on_semver g.joint.wit ≡ Ok r → IsSome g.main
+pub all_caused : (g : Gathered Bindgen) (r : Resolved) (answer : Result ComponentWorld Failure) → combined g.options.merge_imports_based_on_semver g.combined.wit ≡ Ok r → IsSome g.main
     → IfErr answer (λ e. e ≢ failures.Memory → (p : Part Bindgen) → g.main ≡ Some p → MainCause r p (flat e)) → IfErr answer (λ e. e ≢ failures.Memory → PrepareCause g (flat e))
 all_caused g r (Ok w) is there h = tt
 all_caused g r (Err e) is there h = λ other. by g.main refl (h other)

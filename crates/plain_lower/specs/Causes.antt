@@ -11,31 +11,31 @@ use Rattle.core_sections.specs.Stripping.{removed, is_package}
 use Rattle.core_sections.specs.Grammar.{IsModule, IsCutAt}
 use Rattle.core_sections.specs.declared.core_module.CoreModule.{CoreModule}
 use Rattle.core_sections.specs.Entries.{module_of}
-use Rattle.plain_faults.specs.declared.fault.Failure.TheVariants as failures
-use Rattle.plain_faults.specs.declared.fault.Refusal.{Refusal}
-use Rattle.plain_faults.specs.declared.fault.PlainFault.{PlainFault}
-use Rattle.plain_faults.specs.declared.fault.PlainFault.TheVariants as faults
-use Rattle.plain_faults.specs.Faults.{flat_refusal, of_record_refusal, lifted}
-use Rattle.record_joining.specs.declared.bindgen.Bindgen.{Bindgen}
-use Rattle.record_joining.specs.Causes.{WorldConflict, RecordsConflict}
-use Rattle.record_joining.specs.Tables.{conflict as conflict_of}
-use Rattle.record_json.specs.declared.fault.Failure.{Failure as RecordFailure}
-use Rattle.record_json.specs.declared.fault.Failure.TheVariants as record_failures
-use Rattle.record_json.specs.declared.fault.Refusal.{Refusal as RecordRefusal}
+use Rattle.record_faults.specs.declared.fault.Failure.TheVariants as failures
+use Rattle.record_faults.specs.declared.fault.Refusal.{Refusal}
+use Rattle.record_faults.specs.declared.fault.PlainFault.{PlainFault}
+use Rattle.record_faults.specs.declared.fault.PlainFault.TheVariants as faults
+use Rattle.record_faults.specs.Faults.{flat_refusal, of_record_refusal, lifted}
+use Rattle.record_merge.specs.declared.bindgen.Bindgen.{Bindgen}
+use Rattle.record_merge.specs.Causes.{WorldConflict, RecordsConflict}
+use Rattle.record_merge.specs.Tables.{conflict as conflict_of}
+use Rattle.json_paths.specs.declared.fault.Failure.{Failure as RecordFailure}
+use Rattle.json_paths.specs.declared.fault.Failure.TheVariants as record_failures
+use Rattle.json_paths.specs.declared.fault.Refusal.{Refusal as RecordRefusal}
 use Rattle.record_roles.specs.Records.{record_in}
 use Rattle.record_values.specs.declared.record.Record.{Record}
 use Rattle.record_values.specs.declared.world.Wit.{Wit}
-use Rattle.record_settling.specs.declared.settling.Settled.{Settled}
-use Rattle.record_settling.specs.Settled.{settled}
-use Rattle.record_resolving.specs.declared.resolving.Resolved.{Resolved}
-use Rattle.record_resolving.specs.Resolved.{resolved, IsWhole}
+use Rattle.record_versions.specs.declared.versions.MergedVersions.{MergedVersions}
+use Rattle.record_versions.specs.MergedVersions.{merged_versions}
+use Rattle.record_resolve.specs.declared.resolving.Resolved.{Resolved}
+use Rattle.record_resolve.specs.Resolved.{resolved, IsWhole}
 use Rattle.record_imports.specs.Causes.{ImportCause}
 use Rattle.record_exports.specs.Exporting.{exports_of}
 use Rattle.record_exports.specs.Causes.{ExportCause, RequiredCause}
-use Rattle.encoded_worlds.specs.Causes.{IsLeftOut}
-use Rattle.plain_lower.specs.Joining.{records_in}
-use Rattle.plain_lower.specs.declared.meeting.Met.{Met}
-use Rattle.plain_lower.specs.Preparing.{joint, met, parts_of}
+use Rattle.supported_worlds.specs.Causes.{IsLeftOut}
+use Rattle.plain_lower.specs.ModuleRecords.{records_in}
+use Rattle.plain_lower.specs.declared.checking.CheckedRoles.{CheckedRoles}
+use Rattle.plain_lower.specs.Preparing.{combined, checked_roles, parts_of}
 
 -- ---- decoding
 
@@ -83,13 +83,13 @@ pub data MergeCause (a b : Bindgen) : PlainFault → Type 0 where
 -- ---- preparing: what all modules say
 
 -- what all modules say can't be met
-pub data JointCause (merging : Bool) (w : Wit) : PlainFault → Type 0 where
+pub data CombinedCause (merging : Bool) (w : Wit) : PlainFault → Type 0 where
   -- compatible versions of imported interfaces can't be one, and this is why
-  unsettled : (r : RecordRefusal) → settled merging w ≡ Err (record_failures.Refused r) → JointCause merging w (flat_refusal (of_record_refusal r))
+  unmerged : (r : RecordRefusal) → merged_versions merging w ≡ Err (record_failures.Refused r) → CombinedCause merging w (flat_refusal (of_record_refusal r))
   -- a name stands for nothing
-  unresolved : (s : Settled) (r : RecordRefusal) → settled merging w ≡ Ok s → resolved s.wit ≡ Err (record_failures.Refused r) → JointCause merging w (flat_refusal (of_record_refusal r))
+  unresolved : (s : MergedVersions) (r : RecordRefusal) → merged_versions merging w ≡ Ok s → resolved s.wit ≡ Err (record_failures.Refused r) → CombinedCause merging w (flat_refusal (of_record_refusal r))
   -- what the names come to doesn't hold together
-  not_whole : (s : Settled) (r : Resolved) → settled merging w ≡ Ok s → resolved s.wit ≡ Ok r → (IsWhole r → ⊥) → JointCause merging w (faults.Record [])
+  not_whole : (s : MergedVersions) (r : Resolved) → merged_versions merging w ≡ Ok s → resolved s.wit ≡ Ok r → (IsWhole r → ⊥) → CombinedCause merging w (faults.Record [])
 
 -- ---- preparing: main
 
@@ -101,16 +101,16 @@ pub data ExportsCause (r : Resolved) (main : Part Bindgen) (core : CoreModule) :
   missing : (exported : List (List ℕ × Export)) (f : Refusal) → exports_of r main.own.roles.export_roles core ≡ Ok exported → RequiredCause r exported main.required f → ExportsCause r main core f
 
 -- why its roles can't be met
-pub data MetCause (r : Resolved) (main : Part Bindgen) (core : CoreModule) : Refusal → Type 0 where
-  of_imports : (f : Refusal) → ImportCause r main.own.roles.import_roles core f → MetCause r main core f
-  of_exports : (f : Refusal) → ExportsCause r main core f → MetCause r main core f
+pub data RolesCause (r : Resolved) (main : Part Bindgen) (core : CoreModule) : Refusal → Type 0 where
+  of_imports : (f : Refusal) → ImportCause r main.own.roles.import_roles core f → RolesCause r main core f
+  of_exports : (f : Refusal) → ExportsCause r main core f → RolesCause r main core f
 
 -- why there is no world of main as this core module
 pub data CoreCause (r : Resolved) (main : Part Bindgen) (core : CoreModule) : Refusal → Type 0 where
   -- its roles can't be met
-  unmet : (f : Refusal) → MetCause r main core f → CoreCause r main core f
+  unmet : (f : Refusal) → RolesCause r main core f → CoreCause r main core f
   -- something of its world isn't encoded yet
-  not_yet : (m : Met) (f : Refusal) → met r main core ≡ Ok m → IsLeftOut (parts_of r main core m) f → CoreCause r main core f
+  not_yet : (m : CheckedRoles) (f : Refusal) → checked_roles r main core ≡ Ok m → IsLeftOut (parts_of r main core m) f → CoreCause r main core f
 
 -- why there is no world of main
 pub data MainCause (r : Resolved) (main : Part Bindgen) : PlainFault → Type 0 where
@@ -127,6 +127,6 @@ pub data PrepareCause (g : Gathered Bindgen) : PlainFault → Type 0 where
   -- no world with an adapter is encoded yet
   adapter_left_out : (a : List ℕ × GatheredAdapter Bindgen) → Contains g.adapters a → PrepareCause g (faults.LeftOut (codes "adapter"))
   -- what all modules say can't be met
-  of_joint : (f : PlainFault) → JointCause g.options.merge_imports_based_on_semver g.joint.wit f → PrepareCause g f
+  of_combined : (f : PlainFault) → CombinedCause g.options.merge_imports_based_on_semver g.combined.wit f → PrepareCause g f
   -- main can't be met with it
-  of_main : (r : Resolved) (main : Part Bindgen) (f : PlainFault) → joint g.options.merge_imports_based_on_semver g.joint.wit ≡ Ok r → g.main ≡ Some main → MainCause r main f → PrepareCause g f
+  of_main : (r : Resolved) (main : Part Bindgen) (f : PlainFault) → combined g.options.merge_imports_based_on_semver g.combined.wit ≡ Ok r → g.main ≡ Some main → MainCause r main f → PrepareCause g f

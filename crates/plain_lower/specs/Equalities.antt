@@ -1,6 +1,6 @@
 -- When items and roles are equal: where all their parts are.
-use Rattle.record_joining.specs.Joining.{RoleTests}
-use Rattle.record_joining.specs.Merging.{Tests}
+use Rattle.record_merge.specs.ModuleRecords.{RoleTests}
+use Rattle.record_merge.specs.Merging.{Tests}
 use Rattle.record_roles.specs.Equalities.{same_interface}
 use Rattle.record_values.specs.contracts.roles.ExportRolePartialEq.TheImpl as export_roles
 use Rattle.record_values.specs.contracts.roles.ImportRolePartialEq.TheImpl as import_roles

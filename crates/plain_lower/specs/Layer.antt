@@ -6,11 +6,11 @@ use Rattle.comp_worlds.specs.declared.gathered.Gathered.{Gathered}
 use Rattle.comp_worlds.specs.declared.gathered.Merged.{Merged}
 use Rattle.comp_worlds.specs.Worlds.{whole_of}
 use Rattle.comp_worlds.specs.declared.world.ComponentWorld.{ComponentWorld}
-use Rattle.plain_faults.specs.declared.fault.PlainFault.{PlainFault}
-use Rattle.plain_faults.specs.declared.fault.PlainFault.TheVariants as faults
-use Rattle.record_joining.specs.declared.bindgen.Bindgen.{Bindgen}
-use Rattle.record_joining.specs.Said.{nothing_said}
-use Rattle.plain_lower.specs.Joining.{decoding, merging}
+use Rattle.record_faults.specs.declared.fault.PlainFault.{PlainFault}
+use Rattle.record_faults.specs.declared.fault.PlainFault.TheVariants as faults
+use Rattle.record_merge.specs.declared.bindgen.Bindgen.{Bindgen}
+use Rattle.record_merge.specs.Said.{nothing_said}
+use Rattle.plain_lower.specs.ModuleRecords.{decoding, merging}
 use Rattle.plain_lower.specs.Preparing.{preparing}
 
 abbrev pub is_memory : PlainFault → Bool
@@ -21,7 +21,7 @@ abbrev pub decoded : List ℕ → List ℕ × Bindgen
 decoded bytes = result_unwrap_or (decoding bytes) ([], nothing_said)
 
 abbrev pub merged : Bindgen → Bindgen → Merged Bindgen
-merged a b = result_unwrap_or (merging a b) (record { joint = nothing_said; exports = [] })
+merged a b = result_unwrap_or (merging a b) (record { combined = nothing_said; exports = [] })
 
 abbrev pub no_world : ComponentWorld
 no_world = whole_of (record {

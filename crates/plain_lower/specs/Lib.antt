@@ -1,6 +1,6 @@
 pub mod Equalities
-pub mod Joining
+pub mod ModuleRecords
 pub mod Preparing
-pub mod Standing
+pub mod Guarantees
 pub mod Layer
 pub mod Causes

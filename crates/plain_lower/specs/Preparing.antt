@@ -18,23 +18,23 @@ use Rattle.wit_data.specs.declared.resolve.Resolve.{Resolve}
 use Rattle.comp_worlds.specs.declared.world.WorldParts.{WorldParts}
 use Rattle.core_sections.specs.declared.core_module.CoreModule.{CoreModule}
 use Rattle.core_sections.specs.Entries.{module_of}
-use Rattle.plain_faults.specs.declared.fault.Failure.{Failure}
-use Rattle.plain_faults.specs.declared.fault.Failure.TheVariants as failures
-use Rattle.plain_faults.specs.declared.fault.Refusal.TheVariants as refusals
-use Rattle.plain_faults.specs.Faults.{◌>>=◌, lifted, read}
-use Rattle.record_joining.specs.declared.bindgen.Bindgen.{Bindgen}
+use Rattle.record_faults.specs.declared.fault.Failure.{Failure}
+use Rattle.record_faults.specs.declared.fault.Failure.TheVariants as failures
+use Rattle.record_faults.specs.declared.fault.Refusal.TheVariants as refusals
+use Rattle.record_faults.specs.Faults.{◌>>=◌, lifted, read}
+use Rattle.record_merge.specs.declared.bindgen.Bindgen.{Bindgen}
 use Rattle.record_values.specs.declared.world.Wit.{Wit}
-use Rattle.record_settling.specs.Settled.{settled}
-use Rattle.record_resolving.specs.declared.resolving.Resolved.{Resolved}
-use Rattle.record_resolving.specs.Resolved.{resolved}
-use Rattle.record_resolving.specs.OtherNames.{also_named}
-use Rattle.record_meanings.specs.Metadata.{metadata_meant}
-use Rattle.record_modules.specs.Offered.{offered}
-use Rattle.plain_lower.specs.declared.meeting.Met.{Met}
+use Rattle.record_versions.specs.MergedVersions.{merged_versions}
+use Rattle.record_resolve.specs.declared.resolving.Resolved.{Resolved}
+use Rattle.record_resolve.specs.Resolved.{resolved}
+use Rattle.record_resolve.specs.OtherNames.{also_named}
+use Rattle.record_role_targets.specs.Metadata.{resolved_metadata}
+use Rattle.record_core_types.specs.Offered.{offered}
+use Rattle.plain_lower.specs.declared.checking.CheckedRoles.{CheckedRoles}
 use Rattle.record_imports.specs.Importing.{imports_of}
 use Rattle.record_exports.specs.Exporting.{exports_of}
 use Rattle.record_exports.specs.Requiring.{required_of}
-use Rattle.encoded_worlds.specs.LeftOut.{encoded}
+use Rattle.supported_worlds.specs.LeftOut.{encoded}
 
 -- ---- adapters
 
@@ -60,9 +60,9 @@ adapters_pass grows all = if grows && list_any is_plain all then Err (failures.R
 -- ---- what all modules say
 
 -- the names of what all modules say, once compatible versions are one; those that became others stay known
-unfoldable pub joint : Bool → Wit → Result Resolved Failure
-joint merging w = do
-  s ← read (settled merging w)
+unfoldable pub combined : Bool → Wit → Result Resolved Failure
+combined merging w = do
+  s ← read (merged_versions merging w)
   r ← read (resolved s.wit)
   Ok (also_named s.renames r)
 
@@ -73,24 +73,24 @@ abbrev pub Offered : Type 0
 Offered = List (List ℕ × ExternType)
 
 -- what main's core exports are for, and the keys of those that it has to have
-unfoldable pub met_exports : Resolved → Part Bindgen → CoreModule → Result (List (List ℕ × Export) × List WorldKey) Failure
-met_exports r main core = do
+unfoldable pub checked_exports : Resolved → Part Bindgen → CoreModule → Result (List (List ℕ × Export) × List WorldKey) Failure
+checked_exports r main core = do
   exported ← exports_of r main.own.roles.export_roles core
   required ← required_of r exported main.required
   Ok (exported, required)
 
-abbrev pub with_imports : List (List ℕ × ImportInstance) → List (List ℕ × Export) × List WorldKey → Met
+abbrev pub with_imports : List (List ℕ × ImportInstance) → List (List ℕ × Export) × List WorldKey → CheckedRoles
 with_imports imported exported = record { imports = record { modules = imported }; exports = exported.0; required = exported.1 }
 
 -- these, and what its core imports are for
-unfoldable pub met : Resolved → Part Bindgen → CoreModule → Result Met Failure
-met r main core = do
+unfoldable pub checked_roles : Resolved → Part Bindgen → CoreModule → Result CheckedRoles Failure
+checked_roles r main core = do
   imported ← imports_of r main.own.roles.import_roles core
-  exported ← met_exports r main core
+  exported ← checked_exports r main core
   Ok (with_imports imported exported)
 
 -- a world of main alone, with these bytes, offers and encodings
-abbrev pub with_own : Resolve → List ℕ → Offered → ModuleMetadata → Met → Bool → WorldParts
+abbrev pub with_own : Resolve → List ℕ → Offered → ModuleMetadata → CheckedRoles → Bool → WorldParts
 with_own resolve bytes offers metadata m slot_1 = record {
   resolve = resolve;
   world = record { index = 0 };
@@ -100,12 +100,12 @@ with_own resolve bytes offers metadata m slot_1 = record {
   can_use_context_slot_1 = slot_1;
 }
 
-abbrev pub parts_of : Resolved → Part Bindgen → CoreModule → Met → WorldParts
-parts_of r main core m = with_own r.resolve main.bytes (offered core) (metadata_meant r main.own.roles) m main.own.roles.context_slot_1
+abbrev pub parts_of : Resolved → Part Bindgen → CoreModule → CheckedRoles → WorldParts
+parts_of r main core m = with_own r.resolve main.bytes (offered core) (resolved_metadata r main.own.roles) m main.own.roles.context_slot_1
 
 -- the world of main alone
 unfoldable pub preparing_core : Resolved → Part Bindgen → CoreModule → Result ComponentWorld Failure
-preparing_core r main core = met r main core >>= λ m. encoded (parts_of r main core m)
+preparing_core r main core = checked_roles r main core >>= λ m. encoded (parts_of r main core m)
 
 unfoldable pub preparing_main : Resolved → Part Bindgen → Result ComponentWorld Failure
 preparing_main r main = lifted (module_of main.bytes) >>= λ core. preparing_core r main core
@@ -120,5 +120,5 @@ preparing_if r (Some main) = preparing_main r main
 unfoldable pub preparing : Gathered Bindgen → Result ComponentWorld Failure
 preparing g = do
   _ ← adapters_pass g.options.realloc_via_memory_grow g.adapters
-  r ← joint g.options.merge_imports_based_on_semver g.joint.wit
+  r ← combined g.options.merge_imports_based_on_semver g.combined.wit
   preparing_if r g.main

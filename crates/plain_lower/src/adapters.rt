@@ -2,14 +2,14 @@
 
 ghost use Rattle.std.specs.Prelude.{◌≡◌, ◌≢◌, [], IfErr, IfOk, IsOk, Err, Ok};
 ghost use Rattle.std.specs.List.{list_any};
-ghost use Rattle.plain_faults.specs.Faults.{Gives, flat};
-ghost use Rattle.plain_faults.specs.declared.fault.Failure.TheVariants as failures;
+ghost use Rattle.record_faults.specs.Faults.{Gives, flat};
+ghost use Rattle.record_faults.specs.declared.fault.Failure.TheVariants as failures;
 ghost use Rattle.plain_lower.specs.Preparing.{left_out, is_plain, none_there, adapters_pass};
 
 use comp_lists::{Keyed, Text};
 use comp_worlds::GatheredAdapter;
-use plain_faults::{Failure, Refusal};
-use record_joining::Bindgen;
+use record_faults::{Failure, Refusal};
+use record_merge::Bindgen;
 use std::alloc::Global;
 
 /// The refusal of what isn't encoded yet.

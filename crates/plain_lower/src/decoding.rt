@@ -1,20 +1,20 @@
 //! What the records of a module say, and what several modules say of their world.
 
 ghost use Rattle.std.specs.Prelude.{◌≡◌, ◌≢◌, map, IfOk, IfErr, IsOk};
-ghost use Rattle.record_json.specs.declared.fault.Failure.TheVariants as records;
-ghost use Rattle.plain_faults.specs.declared.fault.Failure.TheVariants as failures;
-ghost use Rattle.plain_faults.specs.declared.fault.PlainFault.{PlainFault};
+ghost use Rattle.json_paths.specs.declared.fault.Failure.TheVariants as records;
+ghost use Rattle.record_faults.specs.declared.fault.Failure.TheVariants as failures;
+ghost use Rattle.record_faults.specs.declared.fault.PlainFault.{PlainFault};
 ghost use Rattle.plain_lower.specs.Causes.{SaidCause, AreApart, DecodeCause, MergeCause};
-ghost use Rattle.plain_faults.specs.Faults.{Gives, flat};
-ghost use Rattle.record_json.specs.Faults.{Gives as GivesRecord};
-ghost use Rattle.plain_lower.specs.Joining.{records_in, said_in, decoding, merging};
+ghost use Rattle.record_faults.specs.Faults.{Gives, flat};
+ghost use Rattle.json_paths.specs.Faults.{Gives as GivesRecord};
+ghost use Rattle.plain_lower.specs.ModuleRecords.{records_in, said_in, decoding, merging};
 
 use comp_lists::{Bytes, Seq};
 use comp_worlds::Merged;
 use core_sections::strip;
-use plain_faults::Failure;
-use record_joining::{Bindgen, bindgen_of};
-use record_json::Failure as RecordFailure;
+use record_faults::Failure;
+use record_merge::{Bindgen, bindgen_of};
+use json_paths::Failure as RecordFailure;
 use record_roles::read_record;
 use record_values::Record;
 use std::alloc::Global;
@@ -32,7 +32,7 @@ fn read_records(alloc: Global, texts: &[&[u8]]) -> Result<Seq<Record>, RecordFai
 }
 
 /// What the records together say.
-#[tactic(auto, unfolding(crate::specs::Joining::said_in), using(crate::proofs::Records::said_by_reading))]
+#[tactic(auto, unfolding(crate::specs::ModuleRecords::said_in), using(crate::proofs::Records::said_by_reading))]
 fn read_said(alloc: Global, texts: &[&[u8]]) -> Result<Bindgen, RecordFailure>
     ensures exact { GivesRecord (λ b. b) result (said_in (map (λ t. t.now) texts.now)) }
     ensures cause { IfErr result (λ e. e ≢ records.Memory → SaidCause (map (λ t. t.now) texts.now) e) }
@@ -43,7 +43,7 @@ fn read_said(alloc: Global, texts: &[&[u8]]) -> Result<Bindgen, RecordFailure>
 }
 
 /// A module without its records, and what these say.
-#[tactic(auto, unfolding(crate::specs::Joining::decoding))]
+#[tactic(auto, unfolding(crate::specs::ModuleRecords::decoding))]
 pub(crate) fn decode(alloc: Global, bytes: &[u8]) -> Result<(Bytes, Bindgen), Failure>
     ensures exact { Gives (λ d. d) result (decoding bytes.now) }
     ensures cause { IfErr result (λ e. e ≢ failures.Memory → DecodeCause bytes.now (flat e)) }
@@ -64,5 +64,5 @@ pub(crate) fn merge(
     ensures cause { IfErr result (λ e. e ≢ failures.Memory → MergeCause first.now second.now (flat e)) }
     ensures refused { IsOk result → (f : PlainFault) → ¬ MergeCause first.now second.now f }
 {
-    Ok(record_joining::merge(alloc, first, second)?)
+    Ok(record_merge::merge(alloc, first, second)?)
 }

@@ -6,8 +6,8 @@ use crate::decoding::{decode, merge};
 use crate::preparing::prepare;
 use comp_lists::Bytes;
 use comp_worlds::{ComponentWorld, Gathered, Lower, Merged};
-use plain_faults::PlainFault;
-use record_joining::{Bindgen, no_bindgen};
+use record_faults::PlainFault;
+use record_merge::{Bindgen, no_bindgen};
 use std::alloc::Global;
 
 /// A lower layer by records: what a module's component is to be stands as JSON in the custom sections
@@ -22,7 +22,7 @@ impl PlainLower {
 }
 
 impl Lower for PlainLower {
-    ghost use Rattle.record_joining.specs.Said.{nothing_said};
+    ghost use Rattle.record_merge.specs.Said.{nothing_said};
     ghost use Rattle.plain_lower.specs.Causes.{DecodeCause, MergeCause, PrepareCause};
     ghost use Rattle.plain_lower.specs.Layer.{is_memory, decoded, merged, prepared};
 

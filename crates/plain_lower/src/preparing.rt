@@ -3,31 +3,31 @@
 ghost use Rattle.std.specs.Prelude.{◌≡◌, ◌≢◌, IfOk, IfErr, IsOk, IsSome, Ok, Some};
 ghost use Rattle.core_types.specs.Core.{IsCoreModule};
 ghost use Rattle.comp_worlds.specs.Worlds.{IsWorld};
-ghost use Rattle.record_meanings.specs.Metadata as meant;
-ghost use Rattle.plain_faults.specs.Faults.{Gives, flat};
-ghost use Rattle.plain_faults.specs.declared.fault.Failure.TheVariants as failures;
-ghost use Rattle.plain_faults.specs.declared.fault.PlainFault.{PlainFault};
-ghost use Rattle.plain_faults.specs.declared.fault.Refusal.{Refusal as RefusalRecord};
-ghost use Rattle.record_modules.specs.Offered.{offered};
-ghost use Rattle.encoded_worlds.specs.LeftOut.{encoded};
-ghost use Rattle.encoded_worlds.specs.Causes.{IsLeftOut};
+ghost use Rattle.record_role_targets.specs.Metadata as targets;
+ghost use Rattle.record_faults.specs.Faults.{Gives, flat};
+ghost use Rattle.record_faults.specs.declared.fault.Failure.TheVariants as failures;
+ghost use Rattle.record_faults.specs.declared.fault.PlainFault.{PlainFault};
+ghost use Rattle.record_faults.specs.declared.fault.Refusal.{Refusal as RefusalRecord};
+ghost use Rattle.record_core_types.specs.Offered.{offered};
+ghost use Rattle.supported_worlds.specs.LeftOut.{encoded};
+ghost use Rattle.supported_worlds.specs.Causes.{IsLeftOut};
 ghost use Rattle.plain_lower.specs.Preparing.{with_own, parts_of, preparing_core, preparing_main, preparing_if, preparing};
-ghost use Rattle.plain_lower.specs.Standing.{IsUsable, HaveMet};
+ghost use Rattle.plain_lower.specs.Guarantees.{IsUsable, AreChecked};
 ghost use Rattle.plain_lower.specs.Causes.{CoreCause, MainCause, PrepareCause};
 
 use crate::adapters::refuse_adapters;
-use crate::joint::resolve_joint;
-use crate::meeting::{Met, meet};
+use crate::combined::resolve_combined;
+use crate::checking::{CheckedRoles, check_roles};
 use comp_lists::{Bytes, Keyed, Text};
 use comp_roles::{ExportMap, ExternType, ModuleMetadata};
 use comp_worlds::{ComponentWorld, Gathered, Part, ValidatedModule, WorldParts};
 use core_sections::{CoreModule, read_module};
-use encoded_worlds::encoded_world;
-use plain_faults::{Failure, Refusal};
-use record_joining::Bindgen;
-use record_meanings::metadata_meant;
-use record_modules::offered;
-use record_resolving::Resolved;
+use supported_worlds::encoded_world;
+use record_faults::{Failure, Refusal};
+use record_merge::Bindgen;
+use record_role_targets::resolved_metadata;
+use record_core_types::offered;
+use record_resolve::Resolved;
 use std::alloc::{AllocError, Global};
 use wit_data::{Resolve, WorldId};
 
@@ -42,11 +42,11 @@ fn own_of(
 ) -> Result<Own, AllocError>
     ensures bytes { IfOk result (λ o. o.0 ≡ main.now.bytes) }
     ensures offered { IfOk result (λ o. o.1 ≡ offered core.now) }
-    ensures metadata { IfOk result (λ o. o.2 ≡ meant.metadata_meant resolved.now main.now.own.roles) }
+    ensures metadata { IfOk result (λ o. o.2 ≡ targets.resolved_metadata resolved.now main.now.own.roles) }
 {
     let bytes = main.bytes.clone(alloc)?;
     let offered = offered(alloc, core)?;
-    let metadata = metadata_meant(alloc, resolved, &main.own.roles)?;
+    let metadata = resolved_metadata(alloc, resolved, &main.own.roles)?;
     Ok((bytes, offered, metadata))
 }
 
@@ -55,17 +55,17 @@ fn put_together(
     alloc: Global,
     resolve: Resolve,
     own: Own,
-    met: Met,
+    checked_roles: CheckedRoles,
     can_use_context_slot_1: bool,
 ) -> WorldParts
-    ensures { result ≡ with_own resolve own.0 own.1 own.2 met can_use_context_slot_1 }
+    ensures { result ≡ with_own resolve own.0 own.1 own.2 checked_roles can_use_context_slot_1 }
 {
     let (bytes, offered, metadata) = own;
-    let Met {
+    let CheckedRoles {
         imports,
         exports,
         required,
-    } = met;
+    } = checked_roles;
     WorldParts {
         resolve,
         world: WorldId { index: 0 },
@@ -88,33 +88,33 @@ fn parts_of(
     resolved: Resolved,
     main: &Part<Bindgen>,
     core: &CoreModule,
-    met: Met,
+    checked_roles: CheckedRoles,
 ) -> Result<WorldParts, AllocError>
-    ensures { IfOk result (λ p. p ≡ parts_of resolved main.now core.now met) }
+    ensures { IfOk result (λ p. p ≡ parts_of resolved main.now core.now checked_roles) }
 {
     let slot_1 = main.own.roles.context_slot_1;
     let own = own_of(alloc, &resolved, main, core)?;
-    Ok(put_together(alloc, resolved.into_resolve(), own, met, slot_1))
+    Ok(put_together(alloc, resolved.into_resolve(), own, checked_roles, slot_1))
 }
 
 /// The world of main, whose roles are met, where all of it is encoded yet.
-#[tactic(auto, using(crate::proofs::MeetingCauses::stands))]
+#[tactic(auto, using(crate::proofs::CheckingCauses::present))]
 fn world_of(
     alloc: Global,
     resolved: Resolved,
     main: &Part<Bindgen>,
     core: &CoreModule,
-    met: Met,
+    checked_roles: CheckedRoles,
 ) -> Result<ComponentWorld, Failure>
     requires usable { IsUsable resolved }
     requires bytes { IsCoreModule main.now.bytes }
-    requires stand { HaveMet resolved met }
-    ensures exact { Gives (λ w. w) result (encoded (parts_of resolved main.now core.now met)) }
+    requires all_present { AreChecked resolved checked_roles }
+    ensures exact { Gives (λ w. w) result (encoded (parts_of resolved main.now core.now checked_roles)) }
     ensures valid { IfOk result IsWorld }
-    ensures cause { IfErr result (λ e. (f : RefusalRecord) → e ≡ failures.Refused f → IsLeftOut (parts_of resolved main.now core.now met) f) }
-    ensures refused { IsOk result → (f : RefusalRecord) → ¬ IsLeftOut (parts_of resolved main.now core.now met) f }
+    ensures cause { IfErr result (λ e. (f : RefusalRecord) → e ≡ failures.Refused f → IsLeftOut (parts_of resolved main.now core.now checked_roles) f) }
+    ensures refused { IsOk result → (f : RefusalRecord) → ¬ IsLeftOut (parts_of resolved main.now core.now checked_roles) f }
 {
-    let parts = parts_of(alloc, resolved, main, core, met)?;
+    let parts = parts_of(alloc, resolved, main, core, checked_roles)?;
     encoded_world(alloc, parts)
 }
 
@@ -133,8 +133,8 @@ fn prepare_core(
     ensures cause { IfErr result (λ e. (f : RefusalRecord) → e ≡ failures.Refused f → CoreCause resolved main.now core.now f) }
     ensures refused { IsOk result → (f : RefusalRecord) → ¬ CoreCause resolved main.now core.now f }
 {
-    match meet(alloc, &resolved, main, core) {
-        Ok(met) => world_of(alloc, resolved, main, core, met),
+    match check_roles(alloc, &resolved, main, core) {
+        Ok(checked_roles) => world_of(alloc, resolved, main, core, checked_roles),
         Err(failure) => {
             drop(resolved);
             Err(failure)
@@ -202,6 +202,6 @@ pub(crate) fn prepare(
     let grows = gathered.options.realloc_via_memory_grow;
     refuse_adapters(alloc, grows, &gathered.adapters)?;
     let merging = gathered.options.merge_imports_based_on_semver;
-    let resolved = resolve_joint(alloc, merging, &gathered.joint.wit)?;
+    let resolved = resolve_combined(alloc, merging, &gathered.combined.wit)?;
     prepare_some(alloc, resolved, &gathered.main)
 }

@@ -28,18 +28,18 @@ use Rattle.comp_worlds.specs.Worlds.{no_items, root_export}
 use Rattle.comp_worlds.specs.declared.gathered.ExportKey.{ExportKey}
 use Rattle.comp_worlds.specs.declared.gathered.ExportKey.TheVariants as export_keys
 use Rattle.record_values.specs.declared.names.InterfaceName.TheVariants as names
-use Rattle.record_resolving.specs.declared.resolving.Resolved.{Resolved}
-use Rattle.record_meanings.specs.declared.sides.Side.TheVariants as sides
-use Rattle.record_meanings.specs.Sides.{items_of, item_at, interface_of}
-use Rattle.record_meanings.specs.Keys.{standing, export_key_meant}
-use Rattle.record_modules.specs.Asked.{exported_function}
-use Rattle.record_modules.specs.Standing.{IsKept}
-use Rattle.plain_faults.specs.Faults.{◌>>=◌}
-use Rattle.plain_faults.proofs.Chains.{bind_ok, got, passed}
+use Rattle.record_resolve.specs.declared.resolving.Resolved.{Resolved}
+use Rattle.record_role_targets.specs.declared.sides.Side.TheVariants as sides
+use Rattle.record_role_targets.specs.Sides.{items_of, item_at, interface_of}
+use Rattle.record_role_targets.specs.Keys.{existing, resolved_export_key}
+use Rattle.record_core_types.specs.Asked.{exported_function}
+use Rattle.record_core_types.specs.Guarantees.{IsKept}
+use Rattle.record_faults.specs.Faults.{◌>>=◌}
+use Rattle.record_faults.proofs.Chains.{bind_ok, got, passed}
 use Rattle.record_exports.specs.Functions.{Exports, Known, known, function_key, lifted_functions, abi_at}
 use Rattle.record_exports.specs.Meaning.{world_id}
 use Rattle.record_exports.specs.Requiring.{missing, key_text, names_in, functions_at, suffices, is_there, function_there, all_there, required_key, required_after, required_of}
-use Rattle.record_exports.specs.Standing.{IsWithin}
+use Rattle.record_exports.specs.Guarantees.{IsWithin}
 use Rattle.record_exports.proofs.Lifting.{root_item}
 
 -- ---- the world has the key
@@ -62,20 +62,20 @@ key_same (keys.Interface i) (keys.Interface j) e = by (nat_eq (suc i.index) (suc
 key_same (keys.Name x) (keys.Interface j) e = absurd (true≢false (sym e ∙ none_both (bytes_eq x []) (nat_eq 0 (suc j.index)) (eqb-zero-suc j.index)))
 key_same (keys.Interface i) (keys.Name y) e = absurd (true≢false (sym e ∙ none_both (bytes_eq [] y) (nat_eq (suc i.index) 0) (eqb-suc-zero i.index)))
 
-stands_there : (r : Resolved) (key answer : WorldKey) → standing sides.Exported r key ≡ Some answer → is_some (item_at sides.Exported r answer) ≡ true
-stands_there r key answer e = by (is_some (item_at sides.Exported r key)) refl e
+exists_there : (r : Resolved) (key answer : WorldKey) → existing sides.Exported r key ≡ Some answer → is_some (item_at sides.Exported r answer) ≡ true
+exists_there r key answer e = by (is_some (item_at sides.Exported r key)) refl e
   where
     by : (b : Bool) → is_some (item_at sides.Exported r key) ≡ b → (if b then Some key else None) ≡ Some answer → is_some (item_at sides.Exported r answer) ≡ true
     by true is e = let same : key ≡ answer = cc (e) in subst (λ (k : WorldKey). is_some (item_at sides.Exported r k) ≡ true) same is
     by false is e = absurd cc
 
-interface_there : (r : Resolved) (o : Option InterfaceId) (answer : WorldKey) → option_and_then (λ i. standing sides.Exported r (keys.Interface i)) o ≡ Some answer → is_some (item_at sides.Exported r answer) ≡ true
+interface_there : (r : Resolved) (o : Option InterfaceId) (answer : WorldKey) → option_and_then (λ i. existing sides.Exported r (keys.Interface i)) o ≡ Some answer → is_some (item_at sides.Exported r answer) ≡ true
 interface_there r None answer e = absurd cc
-interface_there r (Some id) answer e = stands_there r (keys.Interface id) answer e
+interface_there r (Some id) answer e = exists_there r (keys.Interface id) answer e
 
-meant_there : (r : Resolved) (wanted : ExportKey) (key : WorldKey) → export_key_meant r wanted ≡ Some key → is_some (item_at sides.Exported r key) ≡ true
-meant_there r (export_keys.Name text) key e = stands_there r (keys.Name text) key e
-meant_there r (export_keys.Interface id) key e = interface_there r (interface_of sides.Exported r (names.Id id)) key e
+target_exists : (r : Resolved) (needed : ExportKey) (key : WorldKey) → resolved_export_key r needed ≡ Some key → is_some (item_at sides.Exported r key) ≡ true
+target_exists r (export_keys.Name text) key e = exists_there r (keys.Name text) key e
+target_exists r (export_keys.Interface id) key e = interface_there r (interface_of sides.Exported r (names.Id id)) key e
 
 world_items : (ws : List World) → option_map_or (λ w. w.exports) (slice_get ws 0) [] ≡ (get_or ws 0 no_items).exports
 world_items [] = refl
@@ -143,25 +143,25 @@ names_of_function r (Some (items.NamedType t)) f e = absurd cc
 -- ---- keys that were answered
 
 -- what a key that was answered has, by the steps to it
-pub record Required (r : Resolved) (k : Known) (wanted : ExportKey) (key : WorldKey) : Type 0 where
-  pub meant : export_key_meant r wanted ≡ Some key
+pub record Required (r : Resolved) (k : Known) (needed : ExportKey) (key : WorldKey) : Type 0 where
+  pub target : resolved_export_key r needed ≡ Some key
   pub there : all_there k key (functions_at r key) ≡ Ok tt
 
-pub key_required : (r : Resolved) (k : Known) (wanted : ExportKey) (key : WorldKey) → required_key r k wanted ≡ Ok key → Required r k wanted key
+pub key_required : (r : Resolved) (k : Known) (needed : ExportKey) (key : WorldKey) → required_key r k needed ≡ Ok key → Required r k needed key
 unfolding required_key
-key_required r k wanted key e =
-    let a = bind_ok (ok_or (export_key_meant r wanted) (missing (key_text wanted))) (λ (x : WorldKey). all_there k x (functions_at r x) >>= λ _. Ok x) key e in
+key_required r k needed key e =
+    let a = bind_ok (ok_or (resolved_export_key r needed) (missing (key_text needed))) (λ (x : WorldKey). all_there k x (functions_at r x) >>= λ _. Ok x) key e in
     let b = bind_ok (all_there k a.0 (functions_at r a.0)) (λ (_ : ⊤). Ok a.0) key a.2 in
     let same : a.0 ≡ key = cc (b.2) in
     let there : all_there k a.0 (functions_at r a.0) ≡ Ok tt = b.1 in
-    record { meant = got (export_key_meant r wanted) (missing (key_text wanted)) a.0 a.1 ∙ ap Some same; there = subst (λ (x : WorldKey). all_there k x (functions_at r x) ≡ Ok tt) same there }
+    record { target = got (resolved_export_key r needed) (missing (key_text needed)) a.0 a.1 ∙ ap Some same; there = subst (λ (x : WorldKey). all_there k x (functions_at r x) ≡ Ok tt) same there }
 
-key_kept : (r : Resolved) (all : Exports) (wanted : ExportKey) (key : WorldKey) → AllByRecursion (λ e. IsWithin r.resolve world_id e.1) all → required_key r (known all) wanted ≡ Ok key → IsKept r.resolve world_id all key
-key_kept r all wanted key within e =
-    let q = key_required r (known all) wanted key e in
+key_kept : (r : Resolved) (all : Exports) (needed : ExportKey) (key : WorldKey) → AllByRecursion (λ e. IsWithin r.resolve world_id e.1) all → required_key r (known all) needed ≡ Ok key → IsKept r.resolve world_id all key
+key_kept r all needed key within e =
+    let q = key_required r (known all) needed key e in
     record {
-      exported = key_there r key (meant_there r wanted key q.meant);
-      stands = λ text f named is.
+      exported = key_there r key (target_exists r needed key q.target);
+      present = λ text f named is.
           let here : exported_function r.resolve world_id (keys.Name text) ≡ Some f = ap (exported_function r.resolve world_id) (sym named) ∙ is in
           let one : functions_at r key ≡ f.name ∷ [] = names_of_function r (item_at sides.Exported r key) f (sym (root_item r key) ∙ is) in
           let there : all_there (known all) key (f.name ∷ []) ≡ Ok tt = ap (all_there (known all) key) (sym one) ∙ q.there in

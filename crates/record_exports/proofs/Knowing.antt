@@ -11,10 +11,10 @@ use Rattle.comp_roles.specs.declared.exports.Export.{Export}
 use Rattle.comp_roles.specs.declared.metadata.FunctionKey.{FunctionKey}
 use Rattle.comp_worlds.specs.Tables.{with_all}
 use Rattle.comp_worlds.specs.declared.gathered.ExportKey.{ExportKey}
-use Rattle.record_resolving.specs.declared.resolving.Resolved.{Resolved}
-use Rattle.record_meanings.specs.Keys.{export_key_meant}
-use Rattle.plain_faults.specs.declared.fault.Failure.{Failure}
-use Rattle.plain_faults.specs.Faults.{◌>>=◌, Gives}
+use Rattle.record_resolve.specs.declared.resolving.Resolved.{Resolved}
+use Rattle.record_role_targets.specs.Keys.{resolved_export_key}
+use Rattle.record_faults.specs.declared.fault.Failure.{Failure}
+use Rattle.record_faults.specs.Faults.{◌>>=◌, Gives}
 use Rattle.record_exports.specs.declared.functions.Functions.{Functions}
 use Rattle.record_exports.specs.Functions.{Exports, IsOf, known, known_by, function_key, lifted_functions, callbacks, post_return_function, callback_function}
 use Rattle.record_exports.specs.Meaning.{unfit}
@@ -71,10 +71,10 @@ module _ (f : Functions) (all : Exports) (of : IsOf f all) where
       ap (λ (r : Result ⊤ Failure). r >>= λ _. all_there (known_by f) key ns) (same_function key n)
       ∙ ap (λ (r : Result ⊤ Failure). function_there (known all) key n >>= λ _. r) (same_functions key ns)
 
-  same_key : (r : Resolved) (wanted : ExportKey) → required_key r (known_by f) wanted ≡ required_key r (known all) wanted
+  same_key : (r : Resolved) (needed : ExportKey) → required_key r (known_by f) needed ≡ required_key r (known all) needed
   unfolding required_key
-  same_key r wanted =
-      same_then (ok_or (export_key_meant r wanted) (missing (key_text wanted))) (λ key. all_there (known_by f) key (functions_at r key) >>= λ _. Ok key) (λ key. all_there (known all) key (functions_at r key) >>= λ _. Ok key)
+  same_key r needed =
+      same_then (ok_or (resolved_export_key r needed) (missing (key_text needed))) (λ key. all_there (known_by f) key (functions_at r key) >>= λ _. Ok key) (λ key. all_there (known all) key (functions_at r key) >>= λ _. Ok key)
       (λ key. ap (λ (there : Result ⊤ Failure). there >>= λ _. Ok key) (same_functions key (functions_at r key)))
 
   same_required : (r : Resolved) (done : List WorldKey) (ws : List ExportKey) → required_after r (known_by f) done ws ≡ required_after r (known all) done ws

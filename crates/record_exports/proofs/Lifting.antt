@@ -30,23 +30,23 @@ use Rattle.record_values.specs.declared.roles.ExportRole.{ExportRole}
 use Rattle.record_values.specs.declared.roles.ExportRole.TheVariants as roles
 use Rattle.record_values.specs.declared.roles.PlainExport.{PlainExport}
 use Rattle.record_values.specs.declared.roles.PlainExport.TheVariants as plain
-use Rattle.record_resolving.specs.declared.resolving.Resolved.{Resolved}
-use Rattle.record_meanings.specs.declared.sides.Side.TheVariants as sides
-use Rattle.record_meanings.specs.Sides.{item_at, interface_of, interface_keys}
-use Rattle.record_meanings.specs.Keys.{is_interface, standing_as, first_key, interface_key}
-use Rattle.record_meanings.specs.Places.{at_root, in_interface, function_at, function_place, resource_of}
-use Rattle.record_meanings.specs.Imports.{memory_type}
-use Rattle.record_meanings.specs.Exports.{lifted, post_return_there, post_return, callback_there, callback, plain_export, export_meant}
-use Rattle.record_modules.specs.Asked.{exported_function}
-use Rattle.record_modules.specs.Fitting.{fits_export}
-use Rattle.record_modules.specs.Offered.{item_type}
-use Rattle.record_modules.specs.Standing.{IsLifted}
-use Rattle.plain_faults.specs.Faults.{◌>>=◌}
-use Rattle.plain_faults.proofs.Chains.{bind_ok, got, passed}
+use Rattle.record_resolve.specs.declared.resolving.Resolved.{Resolved}
+use Rattle.record_role_targets.specs.declared.sides.Side.TheVariants as sides
+use Rattle.record_role_targets.specs.Sides.{item_at, interface_of, interface_keys}
+use Rattle.record_role_targets.specs.Keys.{is_interface, existing_as, first_key, interface_key}
+use Rattle.record_role_targets.specs.Positions.{at_root, in_interface, function_at, function_position, resource_of}
+use Rattle.record_role_targets.specs.Imports.{memory_type}
+use Rattle.record_role_targets.specs.Exports.{lifted, post_return_there, post_return, callback_there, callback, plain_export, resolved_export}
+use Rattle.record_core_types.specs.Asked.{exported_function}
+use Rattle.record_core_types.specs.Fitting.{fits_export}
+use Rattle.record_core_types.specs.Offered.{item_type}
+use Rattle.record_core_types.specs.Guarantees.{IsLifted}
+use Rattle.record_faults.specs.Faults.{◌>>=◌}
+use Rattle.record_faults.proofs.Chains.{bind_ok, got, passed}
 use Rattle.record_exports.specs.Functions.{Exports}
 use Rattle.record_exports.specs.Meaning.{world_id, unfit, fitting, export_of}
 use Rattle.record_exports.specs.Exporting.{Roles, with_role, exports_after, exports_of}
-use Rattle.record_exports.specs.Standing.{IsWithin, Stand}
+use Rattle.record_exports.specs.Guarantees.{IsWithin, AreInWorld}
 use Rattle.record_exports.specs.Taking.{all_taken}
 
 -- ---- what one role means
@@ -60,36 +60,36 @@ pub root_item : (r : Resolved) (key : WorldKey) → exported_function r.resolve 
 root_item r key = same_item (slice_get r.resolve.worlds 0) key
 
 -- an export that is lifted stands at the root under its name, or within its interface
-abbrev Stands : Resolved → Export → Type 0
-Stands r e = IsLifted r.resolve world_id e × IsWithin r.resolve world_id e
+abbrev IsInWorld : Resolved → Export → Type 0
+IsInWorld r e = IsLifted r.resolve world_id e × IsWithin r.resolve world_id e
 
 mapped : {A B : Type 0} (g : A → B) (P : B → Type 0) → ((x : A) → P (g x)) → (o : Option A) → IfSome (option_map g o) P
 mapped g P each None = tt
 mapped g P each (Some x) = each x
 
-root_stands : (r : Resolved) (name : List ℕ) (abi : AbiVariant) → IfSome (option_map (lifted name abi) (function_place sides.Exported r owners.World name)) (Stands r)
-root_stands r name abi = by (function_at sides.Exported r (at_root name) name) (root_item r (keys.Name name))
+root_in_world : (r : Resolved) (name : List ℕ) (abi : AbiVariant) → IfSome (option_map (lifted name abi) (function_position sides.Exported r owners.World name)) (IsInWorld r)
+root_in_world r name abi = by (function_at sides.Exported r (at_root name) name) (root_item r (keys.Name name))
   where
-    by : (o : Option Function) → exported_function r.resolve world_id (keys.Name name) ≡ o → IfSome (option_map (lifted name abi) (option_map (λ f. at_root name) o)) (Stands r)
+    by : (o : Option Function) → exported_function r.resolve world_id (keys.Name name) ≡ o → IfSome (option_map (lifted name abi) (option_map (λ f. at_root name) o)) (IsInWorld r)
     by None e = tt
     by (Some f) e = ((refl, ap is_some e), tt)
 
-post_return_stands : (r : Resolved) (name : List ℕ) (key : WorldKey) (interface : Option InterfaceId) → Stands r (post_return_there key interface name)
-post_return_stands r name key None = (tt, tt)
-post_return_stands r name key (Some id) = (tt, tt)
+post_return_in_world : (r : Resolved) (name : List ℕ) (key : WorldKey) (interface : Option InterfaceId) → IsInWorld r (post_return_there key interface name)
+post_return_in_world r name key None = (tt, tt)
+post_return_in_world r name key (Some id) = (tt, tt)
 
-callback_stands : (r : Resolved) (name : List ℕ) (key : WorldKey) (interface : Option InterfaceId) → Stands r (callback_there key interface name)
-callback_stands r name key None = (tt, tt)
-callback_stands r name key (Some id) = (tt, tt)
+callback_in_world : (r : Resolved) (name : List ℕ) (key : WorldKey) (interface : Option InterfaceId) → IsInWorld r (callback_there key interface name)
+callback_in_world r name key None = (tt, tt)
+callback_in_world r name key (Some id) = (tt, tt)
 
-plain_stands : (r : Resolved) (p : PlainExport) (ty : Option ExternType) → IfSome (plain_export p ty) (Stands r)
-plain_stands r plain.Memory ty = mapped exports.Memory (Stands r) (λ m. (tt, tt)) (memory_type ty)
-plain_stands r plain.Realloc ty = (tt, tt)
-plain_stands r plain.ImportRealloc ty = (tt, tt)
-plain_stands r plain.ExportRealloc ty = (tt, tt)
-plain_stands r plain.AdapterRealloc ty = (tt, tt)
-plain_stands r plain.Initialize ty = (tt, tt)
-plain_stands r plain.TaskHook ty = (tt, tt)
+plain_in_world : (r : Resolved) (p : PlainExport) (ty : Option ExternType) → IfSome (plain_export p ty) (IsInWorld r)
+plain_in_world r plain.Memory ty = mapped exports.Memory (IsInWorld r) (λ m. (tt, tt)) (memory_type ty)
+plain_in_world r plain.Realloc ty = (tt, tt)
+plain_in_world r plain.ImportRealloc ty = (tt, tt)
+plain_in_world r plain.ExportRealloc ty = (tt, tt)
+plain_in_world r plain.AdapterRealloc ty = (tt, tt)
+plain_in_world r plain.Initialize ty = (tt, tt)
+plain_in_world r plain.TaskHook ty = (tt, tt)
 
 -- where an interface stands, no function does
 no_function : (id : InterfaceId) (item : WorldItem) → is_interface id item ≡ true → function_in item ≡ None
@@ -102,70 +102,70 @@ none_there id None e = refl
 none_there id (Some item) e = no_function id item e
 
 module _ (r : Resolved) where
-  key_stands_at : (id : InterfaceId) (name : List ℕ) (abi : AbiVariant) (key : WorldKey) → option_map_or (is_interface id) (item_at sides.Exported r key) false ≡ true → Stands r (exports.InterfaceFunc key id name abi)
-  key_stands_at id name abi (keys.Name text) e = (tt, root_item r (keys.Name text) ∙ none_there id (item_at sides.Exported r (keys.Name text)) e)
-  key_stands_at id name abi (keys.Interface i) e = (tt, tt)
+  key_in_world_at : (id : InterfaceId) (name : List ℕ) (abi : AbiVariant) (key : WorldKey) → option_map_or (is_interface id) (item_at sides.Exported r key) false ≡ true → IsInWorld r (exports.InterfaceFunc key id name abi)
+  key_in_world_at id name abi (keys.Name text) e = (tt, root_item r (keys.Name text) ∙ none_there id (item_at sides.Exported r (keys.Name text)) e)
+  key_in_world_at id name abi (keys.Interface i) e = (tt, tt)
 
-  standing_stands : (id : InterfaceId) (name : List ℕ) (abi : AbiVariant) (there key : WorldKey) → standing_as id sides.Exported r there ≡ Some key → Stands r (exports.InterfaceFunc key id name abi)
-  standing_stands id name abi there key e = by (option_map_or (is_interface id) (item_at sides.Exported r there) false) refl e
+  existing_in_world : (id : InterfaceId) (name : List ℕ) (abi : AbiVariant) (there key : WorldKey) → existing_as id sides.Exported r there ≡ Some key → IsInWorld r (exports.InterfaceFunc key id name abi)
+  existing_in_world id name abi there key e = by (option_map_or (is_interface id) (item_at sides.Exported r there) false) refl e
     where
-      by : (b : Bool) → option_map_or (is_interface id) (item_at sides.Exported r there) false ≡ b → (if b then Some there else None) ≡ Some key → Stands r (exports.InterfaceFunc key id name abi)
-      by true is e = let same : there ≡ key = cc (e) in subst (λ (k : WorldKey). Stands r (exports.InterfaceFunc k id name abi)) same (key_stands_at id name abi there is)
+      by : (b : Bool) → option_map_or (is_interface id) (item_at sides.Exported r there) false ≡ b → (if b then Some there else None) ≡ Some key → IsInWorld r (exports.InterfaceFunc key id name abi)
+      by true is e = let same : there ≡ key = cc (e) in subst (λ (k : WorldKey). IsInWorld r (exports.InterfaceFunc k id name abi)) same (key_in_world_at id name abi there is)
       by false is e = absurd cc
 
-  first_stands : (id : InterfaceId) (name : List ℕ) (abi : AbiVariant) (key : WorldKey) (o : Option WorldKey) → option_and_then (standing_as id sides.Exported r) o ≡ Some key → Stands r (exports.InterfaceFunc key id name abi)
-  first_stands id name abi key None e = absurd cc
-  first_stands id name abi key (Some there) e = standing_stands id name abi there key e
+  first_in_world : (id : InterfaceId) (name : List ℕ) (abi : AbiVariant) (key : WorldKey) (o : Option WorldKey) → option_and_then (existing_as id sides.Exported r) o ≡ Some key → IsInWorld r (exports.InterfaceFunc key id name abi)
+  first_in_world id name abi key None e = absurd cc
+  first_in_world id name abi key (Some there) e = existing_in_world id name abi there key e
 
-  key_stands : (id : InterfaceId) (name : List ℕ) (abi : AbiVariant) (key : WorldKey) → interface_key sides.Exported r id ≡ Some key → Stands r (exports.InterfaceFunc key id name abi)
-  key_stands id name abi key e = by (is_some (item_at sides.Exported r (keys.Interface id))) e
+  key_in_world : (id : InterfaceId) (name : List ℕ) (abi : AbiVariant) (key : WorldKey) → interface_key sides.Exported r id ≡ Some key → IsInWorld r (exports.InterfaceFunc key id name abi)
+  key_in_world id name abi key e = by (is_some (item_at sides.Exported r (keys.Interface id))) e
     where
-      by : (b : Bool) → (if b then Some (keys.Interface id) else first_key sides.Exported r id) ≡ Some key → Stands r (exports.InterfaceFunc key id name abi)
-      by true e = let same : keys.Interface id ≡ key = cc (e) in subst (λ (k : WorldKey). Stands r (exports.InterfaceFunc k id name abi)) same (tt, tt)
-      by false e = first_stands id name abi key (lookup (same_id.eq-value.it id) (interface_keys sides.Exported r)) e
+      by : (b : Bool) → (if b then Some (keys.Interface id) else first_key sides.Exported r id) ≡ Some key → IsInWorld r (exports.InterfaceFunc key id name abi)
+      by true e = let same : keys.Interface id ≡ key = cc (e) in subst (λ (k : WorldKey). IsInWorld r (exports.InterfaceFunc k id name abi)) same (tt, tt)
+      by false e = first_in_world id name abi key (lookup (same_id.eq-value.it id) (interface_keys sides.Exported r)) e
 
-  within_stands : (name : List ℕ) (abi : AbiVariant) (id : InterfaceId) (key : Option WorldKey) → interface_key sides.Exported r id ≡ key
-      → IfSome (option_map (lifted name abi) (option_and_then (λ p. option_map (λ f. p) (function_at sides.Exported r p name)) (option_map (in_interface id) key))) (Stands r)
-  within_stands name abi id None is = tt
-  within_stands name abi id (Some key) is = by (function_at sides.Exported r (in_interface id key) name)
+  within_in_world : (name : List ℕ) (abi : AbiVariant) (id : InterfaceId) (key : Option WorldKey) → interface_key sides.Exported r id ≡ key
+      → IfSome (option_map (lifted name abi) (option_and_then (λ p. option_map (λ f. p) (function_at sides.Exported r p name)) (option_map (in_interface id) key))) (IsInWorld r)
+  within_in_world name abi id None is = tt
+  within_in_world name abi id (Some key) is = by (function_at sides.Exported r (in_interface id key) name)
     where
-      by : (o : Option Function) → IfSome (option_map (lifted name abi) (option_map (λ f. in_interface id key) o)) (Stands r)
+      by : (o : Option Function) → IfSome (option_map (lifted name abi) (option_map (λ f. in_interface id key) o)) (IsInWorld r)
       by None = tt
-      by (Some f) = key_stands id name abi key is
+      by (Some f) = key_in_world id name abi key is
 
-  interface_stands : (name : List ℕ) (abi : AbiVariant) (o : Option InterfaceId)
-      → IfSome (option_map (lifted name abi) (option_and_then (λ p. option_map (λ f. p) (function_at sides.Exported r p name)) (option_and_then (λ id. option_map (in_interface id) (interface_key sides.Exported r id)) o))) (Stands r)
-  interface_stands name abi None = tt
-  interface_stands name abi (Some id) = within_stands name abi id (interface_key sides.Exported r id) refl
+  interface_in_world : (name : List ℕ) (abi : AbiVariant) (o : Option InterfaceId)
+      → IfSome (option_map (lifted name abi) (option_and_then (λ p. option_map (λ f. p) (function_at sides.Exported r p name)) (option_and_then (λ id. option_map (in_interface id) (interface_key sides.Exported r id)) o))) (IsInWorld r)
+  interface_in_world name abi None = tt
+  interface_in_world name abi (Some id) = within_in_world name abi id (interface_key sides.Exported r id) refl
 
-  function_stands : (owner : Owner) (name : List ℕ) (abi : AbiVariant) → IfSome (option_map (lifted name abi) (function_place sides.Exported r owner name)) (Stands r)
-  function_stands owners.World name abi = root_stands r name abi
-  function_stands (owners.Interface i) name abi = interface_stands name abi (interface_of sides.Exported r i)
+  function_in_world : (owner : Owner) (name : List ℕ) (abi : AbiVariant) → IfSome (option_map (lifted name abi) (function_position sides.Exported r owner name)) (IsInWorld r)
+  function_in_world owners.World name abi = root_in_world r name abi
+  function_in_world (owners.Interface i) name abi = interface_in_world name abi (interface_of sides.Exported r i)
 
-  role_stands : (role : ExportRole) (ty : Option ExternType) → IfSome (export_meant r role ty) (Stands r)
-  role_stands (roles.Function owner name abi) ty = function_stands owner name abi
-  role_stands (roles.PostReturn owner name) ty = mapped (post_return name) (Stands r) (λ p. post_return_stands r name p.key p.interface) (function_place sides.Exported r owner name)
-  role_stands (roles.Callback owner name) ty = mapped (callback name) (Stands r) (λ p. callback_stands r name p.key p.interface) (function_place sides.Exported r owner name)
-  role_stands (roles.Destructor t) ty = mapped (λ d. exports.ResourceDtor d.id) (Stands r) (λ d. (tt, tt)) (resource_of sides.Exported r t)
-  role_stands (roles.Plain p) ty = plain_stands r p ty
+  role_in_world : (role : ExportRole) (ty : Option ExternType) → IfSome (resolved_export r role ty) (IsInWorld r)
+  role_in_world (roles.Function owner name abi) ty = function_in_world owner name abi
+  role_in_world (roles.PostReturn owner name) ty = mapped (post_return name) (IsInWorld r) (λ p. post_return_in_world r name p.key p.interface) (function_position sides.Exported r owner name)
+  role_in_world (roles.Callback owner name) ty = mapped (callback name) (IsInWorld r) (λ p. callback_in_world r name p.key p.interface) (function_position sides.Exported r owner name)
+  role_in_world (roles.Destructor t) ty = mapped (λ d. exports.ResourceDtor d.id) (IsInWorld r) (λ d. (tt, tt)) (resource_of sides.Exported r t)
+  role_in_world (roles.Plain p) ty = plain_in_world r p ty
 
   -- what a role that means this is
-  some_stands : (role : ExportRole) (ty : Option ExternType) (export : Export) → export_meant r role ty ≡ Some export → Stands r export
-  some_stands role ty export e = subst (λ o. IfSome o (Stands r)) e (role_stands role ty)
+  some_in_world : (role : ExportRole) (ty : Option ExternType) (export : Export) → resolved_export r role ty ≡ Some export → IsInWorld r export
+  some_in_world role ty export e = subst (λ o. IfSome o (IsInWorld r)) e (role_in_world role ty)
 
 -- ---- what all roles mean
 
 -- what an export that was answered is, by the steps to it
 pub record Passes (r : Resolved) (core : CoreModule) (item : ExportedItem) (role : ExportRole) (export : Export) : Type 0 where
-  pub meant : export_meant r role (item_type core item) ≡ Some export
+  pub target : resolved_export r role (item_type core item) ≡ Some export
   pub fits : fits_export r.resolve world_id core export item ≡ true
 
 pub export_passes : (r : Resolved) (core : CoreModule) (name : List ℕ) (item : ExportedItem) (role : ExportRole) (export : Export) → export_of r core name item role ≡ Ok export → Passes r core item role export
 unfolding export_of
 export_passes r core name item role export e =
-    let a = bind_ok (ok_or (export_meant r role (item_type core item)) (unfit name)) (fitting r core name item) export e in
+    let a = bind_ok (ok_or (resolved_export r role (item_type core item)) (unfit name)) (fitting r core name item) export e in
     let p = passed (fits_export r.resolve world_id core a.0 item) a.0 export (unfit name) a.2 in
-    record { meant = got (export_meant r role (item_type core item)) (unfit name) a.0 a.1 ∙ ap Some p.1; fits = subst (λ (x : Export). fits_export r.resolve world_id core x item ≡ true) p.1 p.0 }
+    record { target = got (resolved_export r role (item_type core item)) (unfit name) a.0 a.1 ∙ ap Some p.1; fits = subst (λ (x : Export). fits_export r.resolve world_id core x item ≡ true) p.1 p.0 }
 
 first_all : (P : List ℕ × Export → Type 0) (all : Exports) (name : List ℕ) (export : Export) → AllByRecursion P all → P (name, export) → AllByRecursion P (with_first bytes_eq all name export)
 first_all P all name export h k = by (is_some (found name all))
@@ -175,14 +175,14 @@ first_all P all name export h k = by (is_some (found name all))
     by false = AllByRecursion-push P all (name, export) h k
 
 -- what holds of every export that a role means holds of all that were answered
-module _ (r : Resolved) (core : CoreModule) (P : Export → Type 0) (each : (role : ExportRole) (ty : Option ExternType) (export : Export) → export_meant r role ty ≡ Some export → P export) where
+module _ (r : Resolved) (core : CoreModule) (P : Export → Type 0) (each : (role : ExportRole) (ty : Option ExternType) (export : Export) → resolved_export r role ty ≡ Some export → P export) where
   one_more : (all more : Exports) (name : List ℕ) (item : ExportedItem) (role : Option ExportRole) → AllByRecursion (λ e. P e.1) all → with_role r core all name item role ≡ Ok more → AllByRecursion (λ e. P e.1) more
   one_more all more name item None h e = let same : all ≡ more = cc (e) in subst (λ (x : Exports). AllByRecursion (λ e. P e.1) x) same h
   one_more all more name item (Some role) h e =
       let a = bind_ok (export_of r core name item role) (λ export. Ok (with_first bytes_eq all name export)) more e in
       let same : with_first bytes_eq all name a.0 ≡ more = cc (a.2) in
       let p = export_passes r core name item role a.0 a.1 in
-      subst (λ (x : Exports). AllByRecursion (λ e. P e.1) x) same (first_all (λ e. P e.1) all name a.0 h (each role (item_type core item) a.0 p.meant))
+      subst (λ (x : Exports). AllByRecursion (λ e. P e.1) x) same (first_all (λ e. P e.1) all name a.0 h (each role (item_type core item) a.0 p.target))
 
   pub all_more : (rs : Roles) (all made : Exports) (es : List (List ℕ × ExportedItem)) → AllByRecursion (λ e. P e.1) all → exports_after r rs core all es ≡ Ok made → AllByRecursion (λ e. P e.1) made
   all_more rs all made [] h e = let same : all ≡ made = cc (e) in subst (λ (x : Exports). AllByRecursion (λ e. P e.1) x) same h
@@ -204,9 +204,9 @@ steps r rs core all e =
     let unit : all_taken a.0 ≡ Ok tt = b.1 in
     record { read = a.1 ∙ ap (λ (x : Exports). Ok x) same; taken = ap (λ (x : Exports). all_taken x) (sym same) ∙ unit }
 
-pub all_stand : (r : Resolved) (rs : Roles) (core : CoreModule) (all : Exports) → exports_after r rs core [] core.exports ≡ Ok all → Stand r all
-all_stand r rs core all e =
-    let both = all_more r core (Stands r) (some_stands r) rs [] all core.exports tt e in
+pub all_in_world : (r : Resolved) (rs : Roles) (core : CoreModule) (all : Exports) → exports_after r rs core [] core.exports ≡ Ok all → AreInWorld r all
+all_in_world r rs core all e =
+    let both = all_more r core (IsInWorld r) (some_in_world r) rs [] all core.exports tt e in
     record {
       lifted = AllByRecursion-weaker (λ x h. h.0) all both;
       within = AllByRecursion-weaker (λ x h. h.1) all both;

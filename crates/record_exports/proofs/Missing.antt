@@ -7,14 +7,14 @@ use Rattle.wit_data.specs.declared.functions.AbiVariant.{AbiVariant}
 use Rattle.wit_data.specs.declared.functions.AbiVariant.TheVariants as abis
 use Rattle.wit_data.specs.declared.worlds.WorldKey.{WorldKey}
 use Rattle.comp_worlds.specs.declared.gathered.ExportKey.{ExportKey}
-use Rattle.record_resolving.specs.declared.resolving.Resolved.{Resolved}
-use Rattle.record_meanings.specs.Keys.{export_key_meant}
-use Rattle.plain_faults.specs.declared.fault.Failure.{Failure}
-use Rattle.plain_faults.specs.declared.fault.Failure.TheVariants as failures
-use Rattle.plain_faults.specs.declared.fault.Refusal.{Refusal}
-use Rattle.plain_faults.specs.declared.fault.Refusal.TheVariants as refusals
-use Rattle.plain_faults.specs.Faults.{◌>>=◌}
-use Rattle.plain_faults.proofs.Chains.{refused, same_refusal, bind_ok, bind_err, missed, got, failed, passed}
+use Rattle.record_resolve.specs.declared.resolving.Resolved.{Resolved}
+use Rattle.record_role_targets.specs.Keys.{resolved_export_key}
+use Rattle.record_faults.specs.declared.fault.Failure.{Failure}
+use Rattle.record_faults.specs.declared.fault.Failure.TheVariants as failures
+use Rattle.record_faults.specs.declared.fault.Refusal.{Refusal}
+use Rattle.record_faults.specs.declared.fault.Refusal.TheVariants as refusals
+use Rattle.record_faults.specs.Faults.{◌>>=◌}
+use Rattle.record_faults.proofs.Chains.{refused, same_refusal, bind_ok, bind_err, missed, got, failed, passed}
 use Rattle.record_exports.specs.Functions.{Exports, known, function_key, abi_at, has_callback}
 use Rattle.record_exports.specs.Requiring.{missing, key_text, functions_at, suffices, is_there, function_there, all_there, required_key, required_after, required_of}
 use Rattle.record_exports.specs.Causes.{IsRequired, RequiredCause, not_there, no_export, no_callback}
@@ -34,38 +34,38 @@ lacks (Some abis.GuestExportAsync) called_back e = its_callback refl e
 lacks (Some abi) called_back e = absurd (true≢false e)
 
 module _ (r : Resolved) (all : Exports) (required : List ExportKey) where
-  told : (name : List ℕ) (f : Refusal) → missing name ≡ failures.Refused f → RequiredCause r all required (refusals.ExportMissing name) → RequiredCause r all required f
-  told name f e cause = subst (λ (x : Refusal). RequiredCause r all required x) (same_refusal (refusals.ExportMissing name) f e) cause
+  reported : (name : List ℕ) (f : Refusal) → missing name ≡ failures.Refused f → RequiredCause r all required (refusals.ExportMissing name) → RequiredCause r all required f
+  reported name f e cause = subst (λ (x : Refusal). RequiredCause r all required x) (same_refusal (refusals.ExportMissing name) f e) cause
 
   lacking : (key : WorldKey) (name : List ℕ) → IsRequired r required key name → Lacks (abi_at all (function_key key name)) (has_callback all (function_key key name)) → RequiredCause r all required (refusals.ExportMissing name)
   lacking key name is (any_export none) = no_export key name is none
-  lacking key name is (its_callback goes none) = no_callback key name is goes none
+  lacking key name is (its_callback by_abi none) = no_callback key name is by_abi none
 
   function_refused : (key : WorldKey) (name : List ℕ) (f : Refusal) → IsRequired r required key name → function_there (known all) key name ≡ refused f → RequiredCause r all required f
   function_refused key name f is e =
       let n = failed (is_there (known all) (function_key key name)) tt (missing name) (failures.Refused f) e in
-      told name f n.1 (lacking key name is (lacks (abi_at all (function_key key name)) (has_callback all (function_key key name)) n.0))
+      reported name f n.1 (lacking key name is (lacks (abi_at all (function_key key name)) (has_callback all (function_key key name)) n.0))
 
   -- functions of a key that is required
-  functions_refused : (wanted : ExportKey) (key : WorldKey) (seen names : List (List ℕ)) (f : Refusal) → Contains required wanted → export_key_meant r wanted ≡ Some key
+  functions_refused : (needed : ExportKey) (key : WorldKey) (seen names : List (List ℕ)) (f : Refusal) → Contains required needed → resolved_export_key r needed ≡ Some key
       → functions_at r key ≡ seen ++ names → all_there (known all) key names ≡ refused f → RequiredCause r all required f
-  functions_refused wanted key seen [] f c meant split e = absurd cc
-  functions_refused wanted key seen (n ∷ ns) f c meant split e =
+  functions_refused needed key seen [] f c target split e = absurd cc
+  functions_refused needed key seen (n ∷ ns) f c target split e =
       elim (bind_err (function_there (known all) key n) (λ (_ : ⊤). all_there (known all) key ns) (failures.Refused f) e) [
-        | inl h ↦ function_refused key n f (record { wanted = wanted; asked = c; meant = meant; has = subst (λ (xs : List (List ℕ)). Contains xs n) (sym split) (middle seen ns n) }) h
-        | inr a ↦ functions_refused wanted key (seen ++ n ∷ []) ns f c meant (split ∙ sym (append_assoc seen (n ∷ []) ns)) a.2
+        | inl h ↦ function_refused key n f (record { needed = needed; asked = c; target = target; has = subst (λ (xs : List (List ℕ)). Contains xs n) (sym split) (middle seen ns n) }) h
+        | inr a ↦ functions_refused needed key (seen ++ n ∷ []) ns f c target (split ∙ sym (append_assoc seen (n ∷ []) ns)) a.2
       ]
 
-  key_refused : (wanted : ExportKey) (f : Refusal) → Contains required wanted → required_key r (known all) wanted ≡ refused f → RequiredCause r all required f
+  key_refused : (needed : ExportKey) (f : Refusal) → Contains required needed → required_key r (known all) needed ≡ refused f → RequiredCause r all required f
   unfolding required_key
-  key_refused wanted f c e =
-      elim (bind_err (ok_or (export_key_meant r wanted) (missing (key_text wanted))) (λ (x : WorldKey). all_there (known all) x (functions_at r x) >>= λ _. Ok x) (failures.Refused f) e) [
+  key_refused needed f c e =
+      elim (bind_err (ok_or (resolved_export_key r needed) (missing (key_text needed))) (λ (x : WorldKey). all_there (known all) x (functions_at r x) >>= λ _. Ok x) (failures.Refused f) e) [
         | inl h ↦
-            let n = missed (export_key_meant r wanted) (missing (key_text wanted)) (failures.Refused f) h in
-            told (key_text wanted) f n.1 (not_there wanted c n.0)
+            let n = missed (resolved_export_key r needed) (missing (key_text needed)) (failures.Refused f) h in
+            reported (key_text needed) f n.1 (not_there needed c n.0)
         | inr a ↦
             elim (bind_err (all_there (known all) a.0 (functions_at r a.0)) (λ (_ : ⊤). Ok a.0) (failures.Refused f) a.2) [
-              | inl h ↦ functions_refused wanted a.0 [] (functions_at r a.0) f c (got (export_key_meant r wanted) (missing (key_text wanted)) a.0 a.1) refl h
+              | inl h ↦ functions_refused needed a.0 [] (functions_at r a.0) f c (got (resolved_export_key r needed) (missing (key_text needed)) a.0 a.1) refl h
               | inr b ↦ absurd cc
             ]
       ]
@@ -82,7 +82,7 @@ module _ (r : Resolved) (all : Exports) (required : List ExportKey) where
 
 module _ (r : Resolved) (all : Exports) where
   abbrev IsRight : ExportKey → Type 0
-  IsRight wanted = (key : WorldKey) × Required r (known all) wanted key
+  IsRight needed = (key : WorldKey) × Required r (known all) needed key
 
   keys_right : (done ks : List WorldKey) (ws : List ExportKey) → required_after r (known all) done ws ≡ Ok ks → AllByRecursion IsRight ws
   keys_right done ks [] e = tt
@@ -100,22 +100,22 @@ module _ (r : Resolved) (all : Exports) where
   -- each function of a required key is there
   there_at : (required : List ExportKey) (ks : List WorldKey) (key : WorldKey) (name : List ℕ) → required_of r all required ≡ Ok ks → IsRequired r required key name → is_there (known all) (function_key key name) ≡ true
   there_at required ks key name e is =
-      let p = AllByRecursion-contains IsRight required is.wanted (keys_right [] ks required e) is.asked in
+      let p = AllByRecursion-contains IsRight required is.needed (keys_right [] ks required e) is.asked in
       let q = p.1 in
-      let same : p.0 ≡ key = same_some (export_key_meant r is.wanted) p.0 key q.meant is.meant in
+      let same : p.0 ≡ key = same_some (resolved_export_key r is.needed) p.0 key q.target is.target in
       let there : all_there (known all) key (functions_at r key) ≡ Ok tt = subst (λ (x : WorldKey). all_there (known all) x (functions_at r x) ≡ Ok tt) same q.there in
       AllByRecursion-contains (λ n. is_there (known all) (function_key key n) ≡ true) (functions_at r key) name (all_suffice key (functions_at r key) there) is.has
 
 -- what is answered has no cause of a refusal
 pub no_cause : (r : Resolved) (all : Exports) (required : List ExportKey) (ks : List WorldKey) → required_of r all required ≡ Ok ks → (f : Refusal) → RequiredCause r all required f → ⊥
-no_cause r all required ks e f (not_there wanted c none) =
-    let p = AllByRecursion-contains (IsRight r all) required wanted (keys_right r all [] ks required e) c in
+no_cause r all required ks e f (not_there needed c none) =
+    let p = AllByRecursion-contains (IsRight r all) required needed (keys_right r all [] ks required e) c in
     let q = p.1 in
-    let clash : Some p.0 ≡ None = sym q.meant ∙ none in cc
+    let clash : Some p.0 ≡ None = sym q.target ∙ none in cc
 no_cause r all required ks e f (no_export key name is none) =
     true≢false (sym (there_at r all required ks key name e is) ∙ ap (λ o. suffices o (has_callback all (function_key key name))) none)
-no_cause r all required ks e f (no_callback key name is goes none) =
-    true≢false (sym (there_at r all required ks key name e is) ∙ (ap (λ o. suffices o (has_callback all (function_key key name))) goes ∙ none))
+no_cause r all required ks e f (no_callback key name is by_abi none) =
+    true≢false (sym (there_at r all required ks key name e is) ∙ (ap (λ o. suffices o (has_callback all (function_key key name))) by_abi ∙ none))
 
 -- what was refused, by what the call of the definition gives
 pub has_cause : (r : Resolved) (all : Exports) (required : List ExportKey) (d : Failure) → (d ≢ failures.Memory → required_of r all required ≡ Err d) → (f : Refusal) → d ≡ failures.Refused f → RequiredCause r all required f

@@ -15,16 +15,16 @@ use Rattle.wit_data.specs.declared.functions.AbiVariant.TheVariants as abis
 use Rattle.comp_roles.specs.declared.exports.Export.{Export}
 use Rattle.comp_roles.specs.declared.metadata.FunctionKey.{FunctionKey}
 use Rattle.record_values.specs.declared.roles.ExportRole.{ExportRole}
-use Rattle.record_resolving.specs.declared.resolving.Resolved.{Resolved}
-use Rattle.record_meanings.specs.Exports.{export_meant}
-use Rattle.record_modules.specs.Fitting.{fits_export}
-use Rattle.record_modules.specs.Offered.{item_type}
-use Rattle.plain_faults.specs.declared.fault.Failure.{Failure}
-use Rattle.plain_faults.specs.declared.fault.Failure.TheVariants as failures
-use Rattle.plain_faults.specs.declared.fault.Refusal.{Refusal}
-use Rattle.plain_faults.specs.declared.fault.Refusal.TheVariants as refusals
-use Rattle.plain_faults.specs.Faults.{◌>>=◌}
-use Rattle.plain_faults.proofs.Chains.{refused, same_refusal, bind_ok, bind_err, missed, got, failed}
+use Rattle.record_resolve.specs.declared.resolving.Resolved.{Resolved}
+use Rattle.record_role_targets.specs.Exports.{resolved_export}
+use Rattle.record_core_types.specs.Fitting.{fits_export}
+use Rattle.record_core_types.specs.Offered.{item_type}
+use Rattle.record_faults.specs.declared.fault.Failure.{Failure}
+use Rattle.record_faults.specs.declared.fault.Failure.TheVariants as failures
+use Rattle.record_faults.specs.declared.fault.Refusal.{Refusal}
+use Rattle.record_faults.specs.declared.fault.Refusal.TheVariants as refusals
+use Rattle.record_faults.specs.Faults.{◌>>=◌}
+use Rattle.record_faults.proofs.Chains.{refused, same_refusal, bind_ok, bind_err, missed, got, failed}
 use Rattle.record_exports.specs.Functions.{Exports, known, post_return_function, callback_function, abi_at}
 use Rattle.record_exports.specs.Meaning.{world_id, unfit as unfit_name, fitting, export_of}
 use Rattle.record_exports.specs.Exporting.{Roles, with_role, exports_after, exports_of}
@@ -45,19 +45,19 @@ same_ok r x y a b = cc
 -- ---- one role
 
 module _ (r : Resolved) (rs : Roles) (core : CoreModule) where
-  told : (name : List ℕ) (f : Refusal) → unfit_name name ≡ failures.Refused f → ExportCause r rs core (refusals.CoreType name) → ExportCause r rs core f
-  told name f e cause = subst (λ (x : Refusal). ExportCause r rs core x) (same_refusal (refusals.CoreType name) f e) cause
+  reported : (name : List ℕ) (f : Refusal) → unfit_name name ≡ failures.Refused f → ExportCause r rs core (refusals.CoreType name) → ExportCause r rs core f
+  reported name f e cause = subst (λ (x : Refusal). ExportCause r rs core x) (same_refusal (refusals.CoreType name) f e) cause
 
   role_refused : (name : List ℕ) (item : ExportedItem) (role : ExportRole) (f : Refusal) → HasRole rs core name item role → export_of r core name item role ≡ refused f → ExportCause r rs core f
   unfolding export_of
   role_refused name item role f has e =
-      elim (bind_err (ok_or (export_meant r role (item_type core item)) (unfit_name name)) (fitting r core name item) (failures.Refused f) e) [
+      elim (bind_err (ok_or (resolved_export r role (item_type core item)) (unfit_name name)) (fitting r core name item) (failures.Refused f) e) [
         | inl h ↦
-            let n = missed (export_meant r role (item_type core item)) (unfit_name name) (failures.Refused f) h in
-            told name f n.1 (means_nothing name item role has n.0)
+            let n = missed (resolved_export r role (item_type core item)) (unfit_name name) (failures.Refused f) h in
+            reported name f n.1 (means_nothing name item role has n.0)
         | inr a ↦
             let n = failed (fits_export r.resolve world_id core a.0 item) a.0 (unfit_name name) (failures.Refused f) a.2 in
-            told name f n.1 (unfit name item role a.0 has (got (export_meant r role (item_type core item)) (unfit_name name) a.0 a.1) n.0)
+            reported name f n.1 (unfit name item role a.0 has (got (resolved_export r role (item_type core item)) (unfit_name name) a.0 a.1) n.0)
       ]
 
   one_refused : (all : Exports) (name : List ℕ) (item : ExportedItem) (role : Option ExportRole) (f : Refusal) → Contains core.exports (name, item) → found name rs ≡ role
@@ -199,11 +199,11 @@ pub no_cause : (r : Resolved) (rs : Roles) (core : CoreModule) (made : Exports) 
 no_cause r rs core made e f (means_nothing name item role has none) =
     let p = right_at r rs core made name item role e has in
     let q = p.1 in
-    let clash : Some p.0 ≡ None = sym q.meant ∙ none in cc
-no_cause r rs core made e f (unfit name item role export has meant unfits) =
+    let clash : Some p.0 ≡ None = sym q.target ∙ none in cc
+no_cause r rs core made e f (unfit name item role export has target unfits) =
     let p = right_at r rs core made name item role e has in
     let q = p.1 in
-    let same : p.0 ≡ export = same_some (export_meant r role (item_type core item)) p.0 export q.meant meant in
+    let same : p.0 ≡ export = same_some (resolved_export r role (item_type core item)) p.0 export q.target target in
     true≢false (sym q.fits ∙ ap (λ (x : Export). fits_export r.resolve world_id core x item) same ∙ unfits)
 no_cause r rs core made e f (returns_in_vain all name export k abi is post called other) =
     let both = both_true (option_map_or (λ g. takes_post_return (abi_at all g)) (post_return_function export) true) (option_map_or (λ g. takes_callback (abi_at all g)) (callback_function export) true) (taken_at r rs core made all name export e is) in

@@ -22,7 +22,7 @@ use Rattle.record_values.specs.declared.names.InterfaceName.TheVariants as names
 use Rattle.record_values.specs.declared.names.Owner.TheVariants as owners
 use Rattle.record_values.specs.declared.roles.ExportRole.TheVariants as roles
 use Rattle.record_values.specs.declared.roles.PlainExport.TheVariants as plain
-use Rattle.record_resolving.specs.declared.resolving.Resolved.{Resolved}
+use Rattle.record_resolve.specs.declared.resolving.Resolved.{Resolved}
 use Rattle.record_exports.specs.Meaning.{unfit, export_of}
 use Rattle.record_exports.specs.Exporting.{Roles, exports_of}
 use Rattle.record_exports.specs.Taking.{all_taken}

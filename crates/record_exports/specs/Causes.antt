@@ -10,13 +10,13 @@ use Rattle.comp_roles.specs.declared.exports.Export.{Export}
 use Rattle.comp_roles.specs.declared.metadata.FunctionKey.{FunctionKey}
 use Rattle.comp_worlds.specs.declared.gathered.ExportKey.{ExportKey}
 use Rattle.record_values.specs.declared.roles.ExportRole.{ExportRole}
-use Rattle.record_resolving.specs.declared.resolving.Resolved.{Resolved}
-use Rattle.record_meanings.specs.Exports.{export_meant}
-use Rattle.record_meanings.specs.Keys.{export_key_meant}
-use Rattle.record_modules.specs.Fitting.{fits_export}
-use Rattle.record_modules.specs.Offered.{item_type}
-use Rattle.plain_faults.specs.declared.fault.Refusal.{Refusal}
-use Rattle.plain_faults.specs.declared.fault.Refusal.TheVariants as refusals
+use Rattle.record_resolve.specs.declared.resolving.Resolved.{Resolved}
+use Rattle.record_role_targets.specs.Exports.{resolved_export}
+use Rattle.record_role_targets.specs.Keys.{resolved_export_key}
+use Rattle.record_core_types.specs.Fitting.{fits_export}
+use Rattle.record_core_types.specs.Offered.{item_type}
+use Rattle.record_faults.specs.declared.fault.Refusal.{Refusal}
+use Rattle.record_faults.specs.declared.fault.Refusal.TheVariants as refusals
 use Rattle.record_exports.specs.Functions.{Exports, function_key, post_return_function, callback_function, abi_at, has_callback}
 use Rattle.record_exports.specs.Meaning.{world_id}
 use Rattle.record_exports.specs.Exporting.{Roles, exports_after}
@@ -37,10 +37,10 @@ pub record IsFor (r : Resolved) (roles : Roles) (core : CoreModule) (all : Expor
 pub data ExportCause (r : Resolved) (roles : Roles) (core : CoreModule) : Refusal → Type 0 where
   -- a role names something that the world doesn't export, or a memory where none is exported
   means_nothing : (name : List ℕ) (item : ExportedItem) (role : ExportRole) → HasRole roles core name item role
-      → export_meant r role (item_type core item) ≡ None → ExportCause r roles core (refusals.CoreType name)
+      → resolved_export r role (item_type core item) ≡ None → ExportCause r roles core (refusals.CoreType name)
   -- the type of an export isn't that of its role
   unfit : (name : List ℕ) (item : ExportedItem) (role : ExportRole) (export : Export) → HasRole roles core name item role
-      → export_meant r role (item_type core item) ≡ Some export → fits_export r.resolve world_id core export item ≡ false → ExportCause r roles core (refusals.CoreType name)
+      → resolved_export r role (item_type core item) ≡ Some export → fits_export r.resolve world_id core export item ≡ false → ExportCause r roles core (refusals.CoreType name)
   -- a post-return of a function that isn't synchronous
   returns_in_vain : (all : Exports) (name : List ℕ) (export : Export) (f : FunctionKey) (abi : AbiVariant) → IsFor r roles core all name export
       → post_return_function export ≡ Some f → abi_at all f ≡ Some abi → abi ≢ GuestExport → ExportCause r roles core (refusals.CoreType name)
@@ -52,14 +52,14 @@ pub data ExportCause (r : Resolved) (roles : Roles) (core : CoreModule) : Refusa
 
 -- the world exports a function of this name at a required key
 pub record IsRequired (r : Resolved) (required : List ExportKey) (key : WorldKey) (name : List ℕ) : Type 0 where
-  pub wanted : ExportKey
-  pub asked : Contains required wanted
-  pub meant : export_key_meant r wanted ≡ Some key
+  pub needed : ExportKey
+  pub asked : Contains required needed
+  pub target : resolved_export_key r needed ≡ Some key
   pub has : Contains (functions_at r key) name
 
 pub data RequiredCause (r : Resolved) (all : Exports) (required : List ExportKey) : Refusal → Type 0 where
   -- the world exports nothing at a required key
-  not_there : (wanted : ExportKey) → Contains required wanted → export_key_meant r wanted ≡ None → RequiredCause r all required (refusals.ExportMissing (key_text wanted))
+  not_there : (needed : ExportKey) → Contains required needed → resolved_export_key r needed ≡ None → RequiredCause r all required (refusals.ExportMissing (key_text needed))
   -- no core export is a required function
   no_export : (key : WorldKey) (name : List ℕ) → IsRequired r required key name → abi_at all (function_key key name) ≡ None
       → RequiredCause r all required (refusals.ExportMissing name)

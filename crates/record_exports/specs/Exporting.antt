@@ -6,9 +6,9 @@ use Rattle.comp_lists.specs.Tables.{with_first}
 use Rattle.core_sections.specs.declared.core_module.CoreModule.{CoreModule}
 use Rattle.core_sections.specs.declared.entries.ExportedItem.{ExportedItem}
 use Rattle.record_values.specs.declared.roles.ExportRole.{ExportRole}
-use Rattle.record_resolving.specs.declared.resolving.Resolved.{Resolved}
-use Rattle.plain_faults.specs.declared.fault.Failure.{Failure}
-use Rattle.plain_faults.specs.Faults.{◌>>=◌}
+use Rattle.record_resolve.specs.declared.resolving.Resolved.{Resolved}
+use Rattle.record_faults.specs.declared.fault.Failure.{Failure}
+use Rattle.record_faults.specs.Faults.{◌>>=◌}
 use Rattle.record_exports.specs.Functions.{Exports}
 use Rattle.record_exports.specs.Meaning.{export_of}
 use Rattle.record_exports.specs.Taking.{all_taken}

@@ -1,6 +1,6 @@
 pub mod Functions
 pub mod Meaning
-pub mod Standing
+pub mod Guarantees
 pub mod Exporting
 pub mod Taking
 pub mod Requiring

@@ -5,14 +5,14 @@ use Rattle.core_sections.specs.declared.entries.ExportedItem.{ExportedItem}
 use Rattle.wit_data.specs.declared.ids.WorldId.{WorldId}
 use Rattle.comp_roles.specs.declared.exports.Export.{Export}
 use Rattle.record_values.specs.declared.roles.ExportRole.{ExportRole}
-use Rattle.record_resolving.specs.declared.resolving.Resolved.{Resolved}
-use Rattle.record_meanings.specs.Exports.{export_meant}
-use Rattle.record_modules.specs.Fitting.{fits_export}
-use Rattle.record_modules.specs.Offered.{item_type}
-use Rattle.plain_faults.specs.declared.fault.Failure.{Failure}
-use Rattle.plain_faults.specs.declared.fault.Failure.TheVariants as failures
-use Rattle.plain_faults.specs.declared.fault.Refusal.TheVariants as refusals
-use Rattle.plain_faults.specs.Faults.{◌>>=◌}
+use Rattle.record_resolve.specs.declared.resolving.Resolved.{Resolved}
+use Rattle.record_role_targets.specs.Exports.{resolved_export}
+use Rattle.record_core_types.specs.Fitting.{fits_export}
+use Rattle.record_core_types.specs.Offered.{item_type}
+use Rattle.record_faults.specs.declared.fault.Failure.{Failure}
+use Rattle.record_faults.specs.declared.fault.Failure.TheVariants as failures
+use Rattle.record_faults.specs.declared.fault.Refusal.TheVariants as refusals
+use Rattle.record_faults.specs.Faults.{◌>>=◌}
 
 -- the one world of a resolve
 abbrev pub world_id : WorldId
@@ -29,5 +29,5 @@ fitting r core name item export = if fits_export r.resolve world_id core export 
 -- what an export with this role is for; a role that means nothing there asks for nothing that a type could be
 unfoldable pub export_of : Resolved → CoreModule → List ℕ → ExportedItem → ExportRole → Result Export Failure
 export_of r core name item role = do
-  export ← ok_or (export_meant r role (item_type core item)) (unfit name)
+  export ← ok_or (resolved_export r role (item_type core item)) (unfit name)
   fitting r core name item export

@@ -11,14 +11,14 @@ use Rattle.comp_roles.specs.declared.metadata.FunctionKey.{FunctionKey}
 use Rattle.comp_worlds.specs.Imported.{functions_of}
 use Rattle.comp_worlds.specs.declared.gathered.ExportKey.{ExportKey}
 use Rattle.comp_worlds.specs.declared.gathered.ExportKey.TheVariants as export_keys
-use Rattle.record_resolving.specs.declared.resolving.Resolved.{Resolved}
-use Rattle.record_meanings.specs.declared.sides.Side.TheVariants as sides
-use Rattle.record_meanings.specs.Keys.{export_key_meant}
-use Rattle.record_meanings.specs.Sides.{item_at}
-use Rattle.plain_faults.specs.declared.fault.Failure.{Failure}
-use Rattle.plain_faults.specs.declared.fault.Failure.TheVariants as failures
-use Rattle.plain_faults.specs.declared.fault.Refusal.TheVariants as refusals
-use Rattle.plain_faults.specs.Faults.{◌>>=◌}
+use Rattle.record_resolve.specs.declared.resolving.Resolved.{Resolved}
+use Rattle.record_role_targets.specs.declared.sides.Side.TheVariants as sides
+use Rattle.record_role_targets.specs.Keys.{resolved_export_key}
+use Rattle.record_role_targets.specs.Sides.{item_at}
+use Rattle.record_faults.specs.declared.fault.Failure.{Failure}
+use Rattle.record_faults.specs.declared.fault.Failure.TheVariants as failures
+use Rattle.record_faults.specs.declared.fault.Refusal.TheVariants as refusals
+use Rattle.record_faults.specs.Faults.{◌>>=◌}
 use Rattle.record_exports.specs.Functions.{Exports, Known, known, function_key}
 
 abbrev pub missing : List ℕ → Failure
@@ -65,16 +65,16 @@ all_there k key (f ∷ fs) = function_there k key f >>= λ _. all_there k key fs
 
 -- the key of a required export, where all of its functions are there
 unfoldable pub required_key : Resolved → Known → ExportKey → Result WorldKey Failure
-required_key r k wanted = do
-  key ← ok_or (export_key_meant r wanted) (missing (key_text wanted))
+required_key r k needed = do
+  key ← ok_or (resolved_export_key r needed) (missing (key_text needed))
   _ ← all_there k key (functions_at r key)
   Ok key
 
 -- those of several, behind others
 abbrev pub required_after : Resolved → Known → List WorldKey → List ExportKey → Result (List WorldKey) Failure
 required_after r k done [] = Ok done
-required_after r k done (wanted ∷ more) = required_key r k wanted >>= λ key. required_after r k (done ++ key ∷ []) more
+required_after r k done (needed ∷ more) = required_key r k needed >>= λ key. required_after r k (done ++ key ∷ []) more
 
 -- the keys of the exports that a module has to have, where its exports are these
 abbrev pub required_of : Resolved → Exports → List ExportKey → Result (List WorldKey) Failure
-required_of r all wanted = required_after r (known all) [] wanted
+required_of r all needed = required_after r (known all) [] needed

@@ -5,7 +5,7 @@ use Rattle.std.specs.Option.{option_map_or}
 use Rattle.wit_data.specs.declared.functions.AbiVariant.{AbiVariant}
 use Rattle.wit_data.specs.declared.functions.AbiVariant.TheVariants as abis
 use Rattle.comp_roles.specs.declared.exports.Export.{Export}
-use Rattle.plain_faults.specs.declared.fault.Failure.{Failure}
+use Rattle.record_faults.specs.declared.fault.Failure.{Failure}
 use Rattle.record_exports.specs.Functions.{Exports, Known, known, post_return_function, callback_function}
 use Rattle.record_exports.specs.Meaning.{unfit}
 

@@ -4,22 +4,22 @@ ghost use Rattle.std.specs.Prelude.{◌≡◌, [], IfOk, IfErr, IsOk};
 ghost use Rattle.std.specs.List.{AllByRecursion};
 ghost use Rattle.std.specs.Option.{option_copied};
 ghost use Rattle.wit_data.specs.Sound.{IsSound};
-ghost use Rattle.plain_faults.specs.Faults.{Gives};
-ghost use Rattle.plain_faults.specs.declared.fault.Failure.TheVariants as failures;
-ghost use Rattle.plain_faults.specs.declared.fault.Refusal.{Refusal};
-ghost use Rattle.record_modules.specs.Standing.{IsLifted};
+ghost use Rattle.record_faults.specs.Faults.{Gives};
+ghost use Rattle.record_faults.specs.declared.fault.Failure.TheVariants as failures;
+ghost use Rattle.record_faults.specs.declared.fault.Refusal.{Refusal};
+ghost use Rattle.record_core_types.specs.Guarantees.{IsLifted};
 ghost use Rattle.record_exports.specs.Causes.{ExportCause};
 ghost use Rattle.record_exports.specs.Exporting.{with_role, exports_after, exports_of};
 ghost use Rattle.record_exports.specs.Meaning.{world_id};
-ghost use Rattle.record_exports.specs.Standing.{IsWithin, Stand};
+ghost use Rattle.record_exports.specs.Guarantees.{IsWithin, AreInWorld};
 
 use crate::meaning::export_of;
 use crate::taking::check_taken;
 use comp_lists::{Keyed, Text};
 use comp_roles::Export;
 use core_sections::{CoreModule, ExportedItem};
-use plain_faults::Failure;
-use record_resolving::Resolved;
+use record_faults::Failure;
+use record_resolve::Resolved;
 use record_values::ExportRole;
 use std::alloc::Global;
 
@@ -41,7 +41,7 @@ fn add_export(
         Some(role) => {
             let export = export_of(alloc, resolved, core, name, item, role)?;
             let name = name.clone(alloc)?;
-            all.add_first(name, export)?;
+            all.insert_if_absent(name, export)?;
             Ok(())
         }
     }
@@ -66,7 +66,7 @@ fn exports_with_roles(
 }
 
 /// What all exports are for, none of which is a post-return or a callback of a function that takes none.
-#[tactic(auto, using(crate::proofs::Lifting::all_stand), unfolding(crate::specs::Exporting::exports_of))]
+#[tactic(auto, using(crate::proofs::Lifting::all_in_world), unfolding(crate::specs::Exporting::exports_of))]
 fn exports_of(
     alloc: Global,
     resolved: &Resolved,
@@ -75,7 +75,7 @@ fn exports_of(
 ) -> Result<Keyed<Text, Export>, Failure>
     requires { IsSound resolved.now.resolve }
     ensures exact { Gives (λ t. t) result (exports_of resolved.now roles.now core.now) }
-    ensures stand { IfOk result (λ t. Stand resolved.now t) }
+    ensures all_present { IfOk result (λ t. AreInWorld resolved.now t) }
 {
     let all = exports_with_roles(alloc, resolved, roles, core)?;
     check_taken(alloc, &all)?;

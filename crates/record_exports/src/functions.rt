@@ -103,10 +103,10 @@ fn add_lifted(
 {
     match export {
         Export::WorldFunc(key, name, abi) => {
-            abis.add_first(function_key(alloc, key, name)?, *abi)
+            abis.insert_if_absent(function_key(alloc, key, name)?, *abi)
         }
         Export::InterfaceFunc(key, _, name, abi) => {
-            abis.add_first(function_key(alloc, key, name)?, *abi)
+            abis.insert_if_absent(function_key(alloc, key, name)?, *abi)
         }
         _ => Ok(()),
     }
@@ -121,7 +121,7 @@ fn add_callback(
     ensures { OnOk result (callbacks.new ≡ with_all is_same_function callbacks.old (alone (callback_function export.now))) }
 {
     match callback_function(alloc, export)? {
-        Some(function) => callbacks.add_first(function, ()),
+        Some(function) => callbacks.insert_if_absent(function, ()),
         None => Ok(()),
     }
 }

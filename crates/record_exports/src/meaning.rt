@@ -2,17 +2,17 @@
 
 ghost use Rattle.std.specs.Prelude.{◌≡◌, ◌≢◌};
 ghost use Rattle.wit_data.specs.Sound.{IsSound};
-ghost use Rattle.plain_faults.specs.Faults.{Gives};
-ghost use Rattle.plain_faults.specs.declared.fault.Failure.TheVariants as failures;
+ghost use Rattle.record_faults.specs.Faults.{Gives};
+ghost use Rattle.record_faults.specs.declared.fault.Failure.TheVariants as failures;
 ghost use Rattle.record_exports.specs.Meaning.{unfit, fitting, export_of};
 
 use comp_lists::Text;
 use comp_roles::Export;
 use core_sections::{CoreModule, ExportedItem};
-use plain_faults::{Failure, Refusal};
-use record_meanings::export_meant;
-use record_modules::{fits_export, item_type};
-use record_resolving::Resolved;
+use record_faults::{Failure, Refusal};
+use record_role_targets::resolved_export;
+use record_core_types::{fits_export, item_type};
+use record_resolve::Resolved;
 use record_values::ExportRole;
 use std::alloc::Global;
 use wit_data::WorldId;
@@ -62,7 +62,7 @@ pub(crate) fn export_of(
     ensures { Gives (λ e. e) result (export_of resolved.now core.now name.now item.now role.now) }
 {
     let ty = item_type(alloc, core, item)?;
-    match export_meant(alloc, resolved, role, ty.as_ref())? {
+    match resolved_export(alloc, resolved, role, ty.as_ref())? {
         Some(export) => fitting(alloc, resolved, core, name, item, export),
         None => Err(unfit(alloc, name)),
     }

@@ -5,25 +5,25 @@ ghost use Rattle.std.specs.List.{AllByRecursion};
 ghost use Rattle.std.specs.Option.{option_copied};
 ghost use Rattle.wit_data.specs.Sound.{IsSound};
 ghost use Rattle.comp_worlds.specs.Imported.{functions_of};
-ghost use Rattle.record_meanings.specs.Sides.{item_at};
-ghost use Rattle.record_meanings.specs.declared.sides.Side.TheVariants as sides;
-ghost use Rattle.plain_faults.specs.Faults.{Gives};
-ghost use Rattle.plain_faults.specs.declared.fault.Failure.TheVariants as failures;
-ghost use Rattle.plain_faults.specs.declared.fault.Refusal.{Refusal};
-ghost use Rattle.record_modules.specs.Standing.{IsKept};
+ghost use Rattle.record_role_targets.specs.Sides.{item_at};
+ghost use Rattle.record_role_targets.specs.declared.sides.Side.TheVariants as sides;
+ghost use Rattle.record_faults.specs.Faults.{Gives};
+ghost use Rattle.record_faults.specs.declared.fault.Failure.TheVariants as failures;
+ghost use Rattle.record_faults.specs.declared.fault.Refusal.{Refusal};
+ghost use Rattle.record_core_types.specs.Guarantees.{IsKept};
 ghost use Rattle.record_exports.specs.Causes.{RequiredCause};
 ghost use Rattle.record_exports.specs.Functions.{known_by};
 ghost use Rattle.record_exports.specs.Meaning.{world_id};
-ghost use Rattle.record_exports.specs.Standing.{IsWithin};
+ghost use Rattle.record_exports.specs.Guarantees.{IsWithin};
 ghost use Rattle.record_exports.specs.Requiring.{missing, key_text, function_names, names_in, functions_at, suffices, is_there, function_there, all_there, required_key, required_after, required_of};
 
 use crate::functions::{Functions, function_key};
 use comp_lists::{Keyed, Seq, Text};
 use comp_roles::{Export, FunctionKey};
 use comp_worlds::ExportKey;
-use plain_faults::{Failure, Refusal};
-use record_meanings::export_key_meant;
-use record_resolving::Resolved;
+use record_faults::{Failure, Refusal};
+use record_role_targets::resolved_export_key;
+use record_resolve::Resolved;
 use std::alloc::Global;
 use wit_data::{AbiVariant, Function, InterfaceId, WorldItem, WorldKey};
 
@@ -149,7 +149,7 @@ fn required_key(
 ) -> Result<WorldKey, Failure>
     ensures { Gives (λ k. k) result (required_key resolved.now (known_by functions.now) required.now) }
 {
-    match export_key_meant(alloc, resolved, required)? {
+    match resolved_export_key(alloc, resolved, required)? {
         Some(key) => {
             check_key(alloc, resolved, functions, &key)?;
             Ok(key)

@@ -2,7 +2,7 @@
 
 ghost use Rattle.std.specs.Prelude.{◌≡◌, true, IfOk};
 ghost use Rattle.std.specs.Option.{option_map_or};
-ghost use Rattle.plain_faults.specs.Faults.{Gives};
+ghost use Rattle.record_faults.specs.Faults.{Gives};
 ghost use Rattle.record_exports.specs.Functions.{known_by, post_return_function, callback_function};
 ghost use Rattle.record_exports.specs.Taking.{takes_post_return, takes_callback, is_taken, taken, all_taken};
 
@@ -10,7 +10,7 @@ use crate::functions::{Functions, callback_function, post_return_function};
 use crate::meaning::unfit;
 use comp_lists::{Keyed, Text};
 use comp_roles::Export;
-use plain_faults::Failure;
+use record_faults::Failure;
 use std::alloc::{AllocError, Global};
 use wit_data::AbiVariant;
 

@@ -16,12 +16,12 @@ use Rattle.comp_roles.specs.Lookups.{field_imports}
 use Rattle.comp_roles.specs.declared.imports.Import.{Import}
 use Rattle.comp_roles.specs.declared.imports.ImportInstance.{ImportInstance}
 use Rattle.comp_worlds.specs.Mentions.{HasRole}
-use Rattle.record_modules.specs.Standing.{IsCalled}
-use Rattle.plain_faults.proofs.Chains.{equivalence}
+use Rattle.record_core_types.specs.Guarantees.{IsCalled}
+use Rattle.record_faults.proofs.Chains.{equivalence}
 use Rattle.record_imports.specs.declared.grouping.Group.{Group}
 use Rattle.record_imports.specs.Meaning.{world_id}
 use Rattle.record_imports.specs.Grouping.{fields_in, with_field, instances_of}
-use Rattle.record_imports.specs.Standing.{IsMet, IsGood, AreGood, AreMet, HasDistinctFields}
+use Rattle.record_imports.specs.Guarantees.{IsChecked, IsGood, AreGood, AreChecked, HasDistinctFields}
 
 -- ---- which fields are there
 
@@ -103,16 +103,16 @@ none_is f (e ∷ es) h = by (bytes_eq f e.0) h (none_is f es)
     by false h more = more h
 
 -- a group with one field more, which it lacked
-grown_is_good : (r : Resolve) (g : Group) (f : List ℕ) (import : Import) → IsGood r g → is_some (found f g.fields) ≡ false → IsMet r import → IsGood r (record { name = g.name; fields = g.fields ++ (f, import) ∷ [] })
+grown_is_good : (r : Resolve) (g : Group) (f : List ℕ) (import : Import) → IsGood r g → is_some (found f g.fields) ≡ false → IsChecked r import → IsGood r (record { name = g.name; fields = g.fields ++ (f, import) ∷ [] })
 grown_is_good r g f import h lacks is = record {
   apart = subst (λ (ks : List (List ℕ)). IsDistinct bytes_eq ks) (sym (map_push (λ e. e.0) g.fields (f, import))) (IsDistinct-push equivalence (keys_of g.fields) f h.apart (none_is f g.fields lacks));
-  met = AllByRecursion-push (λ e. IsMet r e.1) g.fields (f, import) h.met is;
+  checks = AllByRecursion-push (λ e. IsChecked r e.1) g.fields (f, import) h.checks is;
 }
 
-with_field_good : (r : Resolve) (gs : List Group) (m f : List ℕ) (import : Import) → AllByRecursion (IsGood r) gs → is_some (found f (fields_in gs m)) ≡ false → IsMet r import
+with_field_good : (r : Resolve) (gs : List Group) (m f : List ℕ) (import : Import) → AllByRecursion (IsGood r) gs → is_some (found f (fields_in gs m)) ≡ false → IsChecked r import
     → AllByRecursion (IsGood r) (with_field gs m f import)
 unfolding IsDistinct
-with_field_good r [] m f import h lacks is = (record { apart = (tt, tt); met = (is, tt) }, tt)
+with_field_good r [] m f import h lacks is = (record { apart = (tt, tt); checks = (is, tt) }, tt)
 with_field_good r (g ∷ gs) m f import h lacks is = by (bytes_eq m g.name) lacks (λ later. with_field_good r gs m f import h.1 later is)
   where
     by : (b : Bool) → is_some (found f (if b then g.fields else fields_in gs m)) ≡ false → (is_some (found f (fields_in gs m)) ≡ false → AllByRecursion (IsGood r) (with_field gs m f import))
@@ -121,9 +121,9 @@ with_field_good r (g ∷ gs) m f import h lacks is = by (bytes_eq m g.name) lack
     by false lacks more = (h.0, more lacks)
 
 -- what was good stays so with one field more, which wasn't there
-pub stays_good : (r : Resolve) (gs gs' : List Group) (m f m' f' : List ℕ) (import : Import) → AreGood r gs → is_some (found f (fields_in gs m)) ≡ false → IsMet r import
+pub remains_good : (r : Resolve) (gs gs' : List Group) (m f m' f' : List ℕ) (import : Import) → AreGood r gs → is_some (found f (fields_in gs m)) ≡ false → IsChecked r import
     → m' ≡ m → f' ≡ f → gs' ≡ with_field gs m' f' import → AreGood r gs'
-stays_good r gs gs' m f m' f' import h lacks is module_is field_is made =
+remains_good r gs gs' m f m' f' import h lacks is module_is field_is made =
     let same : gs' ≡ with_field gs m f import = made ∙ ap (λ (x : List ℕ). with_field gs x f' import) module_is ∙ ap (λ (x : List ℕ). with_field gs m x import) field_is in
     record { each = subst (λ (xs : List Group). AllByRecursion (IsGood r) xs) (sym same) (with_field_good r gs m f import h.each lacks is) }
 
@@ -133,28 +133,28 @@ both_all : {X : Type 0} (P : X → Type 0) (xs ys : List X) → AllByRecursion P
 both_all P [] ys h more = more
 both_all P (x ∷ xs) ys h more = (h.0, both_all P xs ys h.1 more)
 
-fields_meet : (r : Resolve) (P : Import → Type 0) → ((import : Import) → IsMet r import → P import) → (m : List ℕ) (fs : List (List ℕ × Import)) → AllByRecursion (λ f. IsMet r f.1) fs
+fields_satisfy : (r : Resolve) (P : Import → Type 0) → ((import : Import) → IsChecked r import → P import) → (m : List ℕ) (fs : List (List ℕ × Import)) → AllByRecursion (λ f. IsChecked r f.1) fs
     → AllByRecursion (λ (i : CoreUse). P i.role) (map (λ f. record { module_name = m; field = f.0; role = f.1 }) fs)
-fields_meet r P of m [] h = tt
-fields_meet r P of m (f ∷ fs) h = (of f.1 h.0, fields_meet r P of m fs h.1)
+fields_satisfy r P of m [] h = tt
+fields_satisfy r P of m (f ∷ fs) h = (of f.1 h.0, fields_satisfy r P of m fs h.1)
 
-all_meet : (r : Resolve) (P : Import → Type 0) → ((import : Import) → IsMet r import → P import) → (gs : List Group) → AllByRecursion (IsGood r) gs
+all_satisfy : (r : Resolve) (P : Import → Type 0) → ((import : Import) → IsChecked r import → P import) → (gs : List Group) → AllByRecursion (IsGood r) gs
     → AllByRecursion (λ (i : CoreUse). P i.role) (flat_map imports_from (instances_of gs))
-all_meet r P of [] h = tt
-all_meet r P of (g ∷ gs) h =
+all_satisfy r P of [] h = tt
+all_satisfy r P of (g ∷ gs) h =
     let good = h.0 in
-    both_all (λ (i : CoreUse). P i.role) (field_imports g.name g.fields) (flat_map imports_from (instances_of gs)) (fields_meet r P of g.name g.fields good.met) (all_meet r P of gs h.1)
+    both_all (λ (i : CoreUse). P i.role) (field_imports g.name g.fields) (flat_map imports_from (instances_of gs)) (fields_satisfy r P of g.name g.fields good.checks) (all_satisfy r P of gs h.1)
 
 fields_apart : (r : Resolve) (gs : List Group) → AllByRecursion (IsGood r) gs → AllByRecursion HasDistinctFields (instances_of gs)
 fields_apart r [] h = tt
 fields_apart r (g ∷ gs) h = (let good = h.0 in good.apart, fields_apart r gs h.1)
 
-pub are_met : (r : Resolve) (gs : List Group) (modules : List (List ℕ × ImportInstance)) → modules ≡ instances_of gs → AreGood r gs → IsDistinct bytes_eq (keys_of (instances_of gs)) → AreMet r modules
+pub are_met : (r : Resolve) (gs : List Group) (modules : List (List ℕ × ImportInstance)) → modules ≡ instances_of gs → AreGood r gs → IsDistinct bytes_eq (keys_of (instances_of gs)) → AreChecked r modules
 are_met r gs modules same h apart =
-    let all : AreMet r (instances_of gs) = record {
-      stands = all_meet r (HasRole r) (λ import met. met.stands) gs h.each;
-      called = all_meet r (IsCalled r world_id) (λ import met. met.called) gs h.each;
+    let all : AreChecked r (instances_of gs) = record {
+      present = all_satisfy r (HasRole r) (λ import checks. checks.present) gs h.each;
+      called = all_satisfy r (IsCalled r world_id) (λ import checks. checks.called) gs h.each;
       apart = apart;
       fields = fields_apart r gs h.each;
     } in
-    subst (AreMet r) (sym same) all
+    subst (AreChecked r) (sym same) all

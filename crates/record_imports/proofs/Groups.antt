@@ -9,10 +9,10 @@ use Rattle.comp_lists.proofs.TableLemmas.{absent}
 use Rattle.comp_roles.specs.declared.imports.Import.{Import}
 use Rattle.comp_roles.specs.declared.imports.ImportInstance.{ImportInstance}
 use Rattle.comp_roles.specs.declared.imports.ImportInstance.TheVariants as instances
-use Rattle.plain_faults.proofs.Chains.{equivalence}
+use Rattle.record_faults.proofs.Chains.{equivalence}
 use Rattle.record_imports.specs.declared.grouping.Group.{Group}
 use Rattle.record_imports.specs.declared.grouping.Grouping.{Grouping}
-use Rattle.record_imports.specs.Grouping.{places_of, fields_in, with_field, instances_of}
+use Rattle.record_imports.specs.Grouping.{positions_of, fields_in, with_field, instances_of}
 
 abbrev pub with_fields : Group → List (List ℕ × Import) → Group
 with_fields g fs = record { name = g.name; fields = fs }
@@ -24,7 +24,7 @@ pub record GroupAt (gs : List Group) (m : List ℕ) (k : ℕ) : Type 0 where
   pub there : slice_get gs k ≡ Some group
   pub fields : fields_in gs m ≡ group.fields
   pub put : (f : List ℕ) (import : Import) → with_field gs m f import ≡ slice_set gs k (with_fields group (group.fields ++ (f, import) ∷ []))
-  pub kept : (i : ℕ) (fs : List (List ℕ × Import)) → places_of i (slice_set gs k (with_fields group fs)) ≡ places_of i gs
+  pub kept : (i : ℕ) (fs : List (List ℕ × Import)) → positions_of i (slice_set gs k (with_fields group fs)) ≡ positions_of i gs
 
 first_at : (g : Group) (gs : List Group) (m : List ℕ) → bytes_eq m g.name ≡ true → GroupAt (g ∷ gs) m 0
 first_at g gs m h = record {
@@ -46,19 +46,19 @@ later_at g gs m k h t = record {
   kept = λ i fs. ap (λ (r : List (List ℕ × ℕ)). (g.name, i) ∷ r) (t.kept (i + 1) fs);
 }
 
-at_from : (i : ℕ) (gs : List Group) (m : List ℕ) (k : ℕ) → found m (places_of i gs) ≡ Some k → (j : ℕ) × (k ≡ i + j) × GroupAt gs m j
+at_from : (i : ℕ) (gs : List Group) (m : List ℕ) (k : ℕ) → found m (positions_of i gs) ≡ Some k → (j : ℕ) × (k ≡ i + j) × GroupAt gs m j
 at_from i [] m k e = absurd cc
 at_from i (g ∷ gs) m k e = by (bytes_eq m g.name) refl e (λ later. at_from (i + 1) gs m k later)
   where
-    by : (b : Bool) → bytes_eq m g.name ≡ b → cond b (Some i) (found m (places_of (i + 1) gs)) ≡ Some k
-        → (found m (places_of (i + 1) gs) ≡ Some k → (j : ℕ) × (k ≡ (i + 1) + j) × GroupAt gs m j) → (j : ℕ) × (k ≡ i + j) × GroupAt (g ∷ gs) m j
+    by : (b : Bool) → bytes_eq m g.name ≡ b → cond b (Some i) (found m (positions_of (i + 1) gs)) ≡ Some k
+        → (found m (positions_of (i + 1) gs) ≡ Some k → (j : ℕ) × (k ≡ (i + 1) + j) × GroupAt gs m j) → (j : ℕ) × (k ≡ i + j) × GroupAt (g ∷ gs) m j
     by true h e more = let same : i ≡ k = cc in (0, omega arith, first_at g gs m h)
     by false h e more =
         let t = more e in
         let n = t.1 in (suc t.0, omega arith, later_at g gs m t.0 h t.2)
 
 -- where a module's place is known, its group stands there
-pub group_at : (gs : List Group) (m : List ℕ) (k : ℕ) → found m (places_of 0 gs) ≡ Some k → GroupAt gs m k
+pub group_at : (gs : List Group) (m : List ℕ) (k : ℕ) → found m (positions_of 0 gs) ≡ Some k → GroupAt gs m k
 group_at gs m k e =
     let t = at_from 0 gs m k e in
     let n = t.1 in
@@ -70,12 +70,12 @@ pub record NoGroup (gs : List Group) (m : List ℕ) : Type 0 where
   pub fields : fields_in gs m ≡ []
   pub put : (f : List ℕ) (import : Import) → with_field gs m f import ≡ gs ++ record { name = m; fields = (f, import) ∷ [] } ∷ []
 
-none_from : (i : ℕ) (gs : List Group) (m : List ℕ) → found m (places_of i gs) ≡ None → NoGroup gs m
+none_from : (i : ℕ) (gs : List Group) (m : List ℕ) → found m (positions_of i gs) ≡ None → NoGroup gs m
 none_from i [] m e = record { fields = refl; put = λ f import. refl }
 none_from i (g ∷ gs) m e = by (bytes_eq m g.name) refl e (λ later. none_from (i + 1) gs m later)
   where
-    by : (b : Bool) → bytes_eq m g.name ≡ b → cond b (Some i) (found m (places_of (i + 1) gs)) ≡ None
-        → (found m (places_of (i + 1) gs) ≡ None → NoGroup gs m) → NoGroup (g ∷ gs) m
+    by : (b : Bool) → bytes_eq m g.name ≡ b → cond b (Some i) (found m (positions_of (i + 1) gs)) ≡ None
+        → (found m (positions_of (i + 1) gs) ≡ None → NoGroup gs m) → NoGroup (g ∷ gs) m
     by true h e more = absurd cc
     by false h e more =
         let t = more e in
@@ -84,18 +84,18 @@ none_from i (g ∷ gs) m e = by (bytes_eq m g.name) refl e (λ later. none_from 
           put = λ f import. ap (λ b. cond b (with_fields g (g.fields ++ (f, import) ∷ []) ∷ gs) (g ∷ with_field gs m f import)) h ∙ ap (λ (r : List Group). g ∷ r) (t.put f import);
         }
 
-pub no_group : (gs : List Group) (m : List ℕ) → found m (places_of 0 gs) ≡ None → NoGroup gs m
+pub no_group : (gs : List Group) (m : List ℕ) → found m (positions_of 0 gs) ≡ None → NoGroup gs m
 no_group gs m e = none_from 0 gs m e
 
-places_push : (i : ℕ) (gs : List Group) (g : Group) → places_of i (gs ++ g ∷ []) ≡ places_of i gs ++ (g.name, i + length gs) ∷ []
-places_push i [] g = ap (λ (n : ℕ). (g.name, n) ∷ []) (let n : i ≡ i + 0 = omega arith in n)
-places_push i (h ∷ gs) g =
+positions_push : (i : ℕ) (gs : List Group) (g : Group) → positions_of i (gs ++ g ∷ []) ≡ positions_of i gs ++ (g.name, i + length gs) ∷ []
+positions_push i [] g = ap (λ (n : ℕ). (g.name, n) ∷ []) (let n : i ≡ i + 0 = omega arith in n)
+positions_push i (h ∷ gs) g =
     let n : (i + 1) + length gs ≡ i + length (h ∷ gs) = omega arith in
-    ap (λ (r : List (List ℕ × ℕ)). (h.name, i) ∷ r) (places_push (i + 1) gs g ∙ ap (λ (n : ℕ). places_of (i + 1) gs ++ (g.name, n) ∷ []) n)
+    ap (λ (r : List (List ℕ × ℕ)). (h.name, i) ∷ r) (positions_push (i + 1) gs g ∙ ap (λ (n : ℕ). positions_of (i + 1) gs ++ (g.name, n) ∷ []) n)
 
 -- a new group's place is the next
-pub new_place : (gs : List Group) (g : Group) → places_of 0 (gs ++ g ∷ []) ≡ places_of 0 gs ++ (g.name, length gs) ∷ []
-new_place gs g = let n : 0 + length gs ≡ length gs = omega arith in places_push 0 gs g ∙ ap (λ (n : ℕ). places_of 0 gs ++ (g.name, n) ∷ []) n
+pub new_position : (gs : List Group) (g : Group) → positions_of 0 (gs ++ g ∷ []) ≡ positions_of 0 gs ++ (g.name, length gs) ∷ []
+new_position gs g = let n : 0 + length gs ≡ length gs = omega arith in positions_push 0 gs g ∙ ap (λ (n : ℕ). positions_of 0 gs ++ (g.name, n) ∷ []) n
 
 -- ---- what adding a field leaves
 
@@ -103,42 +103,42 @@ got_group : (gs : List Group) (k : ℕ) (x y : Group) → slice_get gs k ≡ Som
 got_group gs k x y a b = cc
 
 -- the field is the last of its module's group
-pub put_known : {E : Type 0} (r : Result Grouping E) (places : List (List ℕ × ℕ)) (gs : List Group) (m f f' : List ℕ) (k : ℕ) (role : Import)
-    → Some k ≡ found m places → places ≡ places_of 0 gs → f' ≡ f
-    → IfOk r (λ x. x.places ≡ places)
+pub put_known : {E : Type 0} (r : Result Grouping E) (positions : List (List ℕ × ℕ)) (gs : List Group) (m f f' : List ℕ) (k : ℕ) (role : Import)
+    → Some k ≡ found m positions → positions ≡ positions_of 0 gs → f' ≡ f
+    → IfOk r (λ x. x.positions ≡ positions)
     → IfOk r (λ x. (g : Group) → slice_get gs k ≡ Some g → x.groups.items ≡ slice_set gs k (record { name = g.name; fields = g.fields ++ (f', role) ∷ [] }))
-    → IfOk r (λ x. x.groups.items ≡ with_field gs m f role) × IfOk r (λ x. x.places ≡ places_of 0 x.groups.items)
-put_known (Err e) places gs m f f' k role known placed same kept set = (tt, tt)
-put_known (Ok x) places gs m f f' k role known placed same kept set =
-    let at : found m (places_of 0 gs) ≡ Some k = ap (found m) (sym placed) ∙ sym known in
+    → IfOk r (λ x. x.groups.items ≡ with_field gs m f role) × IfOk r (λ x. x.positions ≡ positions_of 0 x.groups.items)
+put_known (Err e) positions gs m f f' k role known indexed same kept set = (tt, tt)
+put_known (Ok x) positions gs m f f' k role known indexed same kept set =
+    let at : found m (positions_of 0 gs) ≡ Some k = ap (found m) (sym indexed) ∙ sym known in
     let t = group_at gs m k at in
     let is : x.groups.items ≡ slice_set gs k (with_fields t.group (t.group.fields ++ (f', role) ∷ [])) = set t.group t.there in
     let put : x.groups.items ≡ with_field gs m f role =
     is ∙ ap (λ (w : List ℕ). slice_set gs k (with_fields t.group (t.group.fields ++ (w, role) ∷ []))) same ∙ sym (t.put f role) in
-    let places' : places_of 0 x.groups.items ≡ places_of 0 gs = ap (places_of 0) is ∙ t.kept 0 (t.group.fields ++ (f', role) ∷ []) in
-    (put, kept ∙ placed ∙ sym places')
+    let positions' : positions_of 0 x.groups.items ≡ positions_of 0 gs = ap (positions_of 0) is ∙ t.kept 0 (t.group.fields ++ (f', role) ∷ []) in
+    (put, kept ∙ indexed ∙ sym positions')
 
 -- the field is that of a new group
-pub put_new : {E : Type 0} (r : Result Grouping E) (places : List (List ℕ × ℕ)) (gs : List Group) (m m' f f' : List ℕ) (role : Import)
-    → None ≡ found m places → places ≡ places_of 0 gs → f' ≡ f → m' ≡ m
-    → IfOk r (λ x. x.places ≡ places ++ (m', length gs) ∷ [])
+pub put_new : {E : Type 0} (r : Result Grouping E) (positions : List (List ℕ × ℕ)) (gs : List Group) (m m' f f' : List ℕ) (role : Import)
+    → None ≡ found m positions → positions ≡ positions_of 0 gs → f' ≡ f → m' ≡ m
+    → IfOk r (λ x. x.positions ≡ positions ++ (m', length gs) ∷ [])
     → IfOk r (λ x. x.groups.items ≡ gs ++ record { name = m'; fields = (f', role) ∷ [] } ∷ [])
-    → IfOk r (λ x. x.groups.items ≡ with_field gs m f role) × IfOk r (λ x. x.places ≡ places_of 0 x.groups.items)
-put_new (Err e) places gs m m' f f' role known placed same same' kept set = (tt, tt)
-put_new (Ok x) places gs m m' f f' role known placed same same' kept set =
-    let at : found m (places_of 0 gs) ≡ None = ap (found m) (sym placed) ∙ sym known in
+    → IfOk r (λ x. x.groups.items ≡ with_field gs m f role) × IfOk r (λ x. x.positions ≡ positions_of 0 x.groups.items)
+put_new (Err e) positions gs m m' f f' role known indexed same same' kept set = (tt, tt)
+put_new (Ok x) positions gs m m' f f' role known indexed same same' kept set =
+    let at : found m (positions_of 0 gs) ≡ None = ap (found m) (sym indexed) ∙ sym known in
     let t = no_group gs m at in
     let made = λ (n w : List ℕ). let g : Group = record { name = n; fields = (w, role) ∷ [] } in g in
     let put : x.groups.items ≡ with_field gs m f role =
     set ∙ ap (λ (n : List ℕ). gs ++ made n f' ∷ []) same' ∙ ap (λ (w : List ℕ). gs ++ made m w ∷ []) same ∙ sym (t.put f role) in
-    let places' : places_of 0 x.groups.items ≡ places_of 0 gs ++ (m', length gs) ∷ [] = ap (places_of 0) set ∙ new_place gs (made m' f') in
-    (put, kept ∙ ap (λ (p : List (List ℕ × ℕ)). p ++ (m', length gs) ∷ []) placed ∙ sym places')
+    let positions' : positions_of 0 x.groups.items ≡ positions_of 0 gs ++ (m', length gs) ∷ [] = ap (positions_of 0) set ∙ new_position gs (made m' f') in
+    (put, kept ∙ ap (λ (p : List (List ℕ × ℕ)). p ++ (m', length gs) ∷ []) indexed ∙ sym positions')
 
 -- the group at a known place lacks a field that its module lacks
-pub lacks : (places : List (List ℕ × ℕ)) (gs : List Group) (m f f' : List ℕ) (k : ℕ) → Some k ≡ found m places → places ≡ places_of 0 gs → f' ≡ f
+pub lacks : (positions : List (List ℕ × ℕ)) (gs : List Group) (m f f' : List ℕ) (k : ℕ) → Some k ≡ found m positions → positions ≡ positions_of 0 gs → f' ≡ f
     → found f (fields_in gs m) ≡ None → (k < length gs) × ((g : Group) → slice_get gs k ≡ Some g → found f' g.fields ≡ None)
-lacks places gs m f f' k known placed same none =
-    let at : found m (places_of 0 gs) ≡ Some k = ap (found m) (sym placed) ∙ sym known in
+lacks positions gs m f f' k known indexed same none =
+    let at : found m (positions_of 0 gs) ≡ Some k = ap (found m) (sym indexed) ∙ sym known in
     let t = group_at gs m k at in (
       t.below,
       λ g there.
@@ -146,15 +146,15 @@ lacks places gs m f f' k known placed same none =
           ap (λ (w : List ℕ). found w g.fields) same ∙ ap (λ (x : Group). found f x.fields) (sym is) ∙ ap (found f) (sym t.fields) ∙ none,
     )
 
-pub has_none : (places : List (List ℕ × ℕ)) (gs : List Group) (m : List ℕ) → None ≡ found m places → places ≡ places_of 0 gs → fields_in gs m ≡ []
-has_none places gs m known placed =
-    let at : found m (places_of 0 gs) ≡ None = ap (found m) (sym placed) ∙ sym known in
+pub has_none : (positions : List (List ℕ × ℕ)) (gs : List Group) (m : List ℕ) → None ≡ found m positions → positions ≡ positions_of 0 gs → fields_in gs m ≡ []
+has_none positions gs m known indexed =
+    let at : found m (positions_of 0 gs) ≡ None = ap (found m) (sym indexed) ∙ sym known in
     let t = no_group gs m at in
     t.fields
 
-pub at_place : (places : List (List ℕ × ℕ)) (gs : List Group) (m : List ℕ) (k : ℕ) → Some k ≡ found m places → places ≡ places_of 0 gs → k < length gs
-at_place places gs m k known placed =
-    let at : found m (places_of 0 gs) ≡ Some k = ap (found m) (sym placed) ∙ sym known in
+pub at_position : (positions : List (List ℕ × ℕ)) (gs : List Group) (m : List ℕ) (k : ℕ) → Some k ≡ found m positions → positions ≡ positions_of 0 gs → k < length gs
+at_position positions gs m k known indexed =
+    let at : found m (positions_of 0 gs) ≡ Some k = ap (found m) (sym indexed) ∙ sym known in
     let t = group_at gs m k at in
     t.below
 
@@ -163,20 +163,20 @@ at_index [] k x d e = absurd cc
 at_index (g ∷ gs) zero x d e = cc
 at_index (g ∷ gs) (suc k) x d e = at_index gs k x d e
 
-pub has_at : (places : List (List ℕ × ℕ)) (gs : List Group) (m : List ℕ) (k : ℕ) (g : Group) → Some k ≡ found m places → places ≡ places_of 0 gs → g ≡ get_or gs k g → fields_in gs m ≡ g.fields
-has_at places gs m k g known placed is =
-    let at : found m (places_of 0 gs) ≡ Some k = ap (found m) (sym placed) ∙ sym known in
+pub has_at : (positions : List (List ℕ × ℕ)) (gs : List Group) (m : List ℕ) (k : ℕ) (g : Group) → Some k ≡ found m positions → positions ≡ positions_of 0 gs → g ≡ get_or gs k g → fields_in gs m ≡ g.fields
+has_at positions gs m k g known indexed is =
+    let at : found m (positions_of 0 gs) ≡ Some k = ap (found m) (sym indexed) ∙ sym known in
     let t = group_at gs m k at in
     t.fields ∙ ap (λ (x : Group). x.fields) (sym (is ∙ at_index gs k t.group g t.there))
 
-keys-places : (i : ℕ) (gs : List Group) → keys_of (places_of i gs) ≡ keys_of (instances_of gs)
-keys-places i [] = refl
-keys-places i (g ∷ gs) = ap (λ (r : List (List ℕ)). g.name ∷ r) (keys-places (i + 1) gs)
+keys-positions : (i : ℕ) (gs : List Group) → keys_of (positions_of i gs) ≡ keys_of (instances_of gs)
+keys-positions i [] = refl
+keys-positions i (g ∷ gs) = ap (λ (r : List (List ℕ)). g.name ∷ r) (keys-positions (i + 1) gs)
 
 -- no two groups are of one module
-pub groups_apart : (places : List (List ℕ × ℕ)) (gs : List Group) → places ≡ places_of 0 gs → IsDistinct bytes_eq (keys_of places) → IsDistinct bytes_eq (keys_of (instances_of gs))
-groups_apart places gs placed apart =
-    subst (λ (ks : List (List ℕ)). IsDistinct bytes_eq ks) (ap (λ (p : List (List ℕ × ℕ)). keys_of p) placed ∙ keys-places 0 gs) apart
+pub groups_apart : (positions : List (List ℕ × ℕ)) (gs : List Group) → positions ≡ positions_of 0 gs → IsDistinct bytes_eq (keys_of positions) → IsDistinct bytes_eq (keys_of (instances_of gs))
+groups_apart positions gs indexed apart =
+    subst (λ (ks : List (List ℕ)). IsDistinct bytes_eq ks) (ap (λ (p : List (List ℕ × ℕ)). keys_of p) indexed ∙ keys-positions 0 gs) apart
 
 -- a group's module isn't among those of the groups before it
 pub not_yet : (done : List (List ℕ × ImportInstance)) (left after gs : List Group) (g : Group) → done ++ instances_of left ≡ instances_of gs → left ≡ g ∷ after

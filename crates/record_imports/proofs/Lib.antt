@@ -1,5 +1,5 @@
 mod Groups
-mod Meeting
+mod Checking
 mod Fields
 mod Refusing
 mod Worked

@@ -16,23 +16,23 @@ use Rattle.comp_roles.specs.declared.imports.ImportInstance.{ImportInstance}
 use Rattle.comp_roles.specs.declared.offered.ExternType.{ExternType}
 use Rattle.record_values.specs.declared.roles.ImportRole.{ImportRole}
 use Rattle.record_values.specs.declared.roles.ImportRole.TheVariants as roles
-use Rattle.record_resolving.specs.declared.resolving.Resolved.{Resolved}
-use Rattle.record_meanings.specs.Imports.{import_meant}
-use Rattle.record_modules.specs.Fitting.{fits_import}
-use Rattle.record_modules.specs.Offered.{extern_type}
-use Rattle.plain_faults.specs.declared.fault.Failure.{Failure}
-use Rattle.plain_faults.specs.declared.fault.Failure.TheVariants as failures
-use Rattle.plain_faults.specs.declared.fault.Refusal.{Refusal}
-use Rattle.plain_faults.specs.declared.fault.Refusal.TheVariants as refusals
-use Rattle.plain_faults.specs.Faults.{◌>>=◌}
-use Rattle.plain_faults.proofs.Chains.{refused, same_refusal, bind_ok, bind_err, missed, got, failed}
+use Rattle.record_resolve.specs.declared.resolving.Resolved.{Resolved}
+use Rattle.record_role_targets.specs.Imports.{resolved_import}
+use Rattle.record_core_types.specs.Fitting.{fits_import}
+use Rattle.record_core_types.specs.Offered.{extern_type}
+use Rattle.record_faults.specs.declared.fault.Failure.{Failure}
+use Rattle.record_faults.specs.declared.fault.Failure.TheVariants as failures
+use Rattle.record_faults.specs.declared.fault.Refusal.{Refusal}
+use Rattle.record_faults.specs.declared.fault.Refusal.TheVariants as refusals
+use Rattle.record_faults.specs.Faults.{◌>>=◌}
+use Rattle.record_faults.proofs.Chains.{refused, same_refusal, bind_ok, bind_err, missed, got, failed}
 use Rattle.record_imports.specs.declared.grouping.Group.{Group}
-use Rattle.record_imports.specs.Meaning.{Roles, world_id, role_of, is_of_other, meant, no_role as missing_role, unfit as unfit_type, meaningless, fitting, import_of}
+use Rattle.record_imports.specs.Meaning.{Roles, world_id, role_of, is_of_other, target, no_role as missing_role, unfit as unfit_type, meaningless, fitting, import_of}
 use Rattle.record_imports.specs.Grouping.{fields_in, with_field, imported_twice, group_after, groups_after, instances_of}
 use Rattle.record_imports.specs.Memories.{fits_memory, takes, unfit_memory as refused_memory, all_take, all_take_first, memories_fit}
 use Rattle.record_imports.specs.Importing.{imports_of}
 use Rattle.record_imports.specs.Causes.{AreImports, ImportCause, twice, untyped, no_role, of_other, nothing_there, no_memory, unfit, unfit_memory}
-use Rattle.record_imports.proofs.Meeting.{unless_other, Passes, after_type, after_role, import_passes}
+use Rattle.record_imports.proofs.Checking.{unless_other, Passes, after_type, after_role, import_passes}
 use Rattle.record_imports.proofs.Fields.{with_field_cases, with_field_keeps, with_field_adds}
 
 -- an element in the middle
@@ -54,7 +54,7 @@ record Unfit (first : MemoryType) (is : List CoreUse) (f : Refusal) : Type 0 whe
   there : Contains is i
   asks : i.role ≡ imports.MainModuleMemory ty
   unfits : fits_memory first ty ≡ false
-  told : refusals.CoreType i.field ≡ f
+  reported : refusals.CoreType i.field ≡ f
 
 asked : (first : MemoryType) (role : Import) → takes first (memory_of_import role) ≡ false → (ty : MemoryType) × (role ≡ imports.MainModuleMemory ty) × (fits_memory first ty ≡ false)
 asked first (imports.MainModuleMemory ty) h = (ty, refl, h)
@@ -67,10 +67,10 @@ take_refused first (i ∷ is) f e = by (takes first (memory_of_import i.role)) r
     by : (b : Bool) → takes first (memory_of_import i.role) ≡ b → (if b then all_take first is else Err (refused_memory i.field)) ≡ refused f → (all_take first is ≡ refused f → Unfit first is f) → Unfit first (i ∷ is) f
     by true h e more =
         let u = more e in
-        record { i = u.i; ty = u.ty; there = Contains-append_right (i ∷ []) is u.i u.there; asks = u.asks; unfits = u.unfits; told = u.told }
+        record { i = u.i; ty = u.ty; there = Contains-append_right (i ∷ []) is u.i u.there; asks = u.asks; unfits = u.unfits; reported = u.reported }
     by false h e more =
         let a = asked first i.role h in
-        record { i = i; ty = a.0; there = middle [] is i; asks = a.1; unfits = a.2; told = cc (e) }
+        record { i = i; ty = a.0; there = middle [] is i; asks = a.1; unfits = a.2; reported = cc (e) }
 
 all_taken : (first : MemoryType) (is : List CoreUse) (u : ⊤) → all_take first is ≡ Ok u → AllByRecursion (λ i. takes first (memory_of_import i.role) ≡ true) is
 all_taken first [] u e = tt
@@ -106,18 +106,18 @@ memory_taken modules u first ty i e is there asks =
 module _ (r : Resolved) (table : Roles) (core : CoreModule) where
   -- ---- one import
 
-  nothing_meant : (i : CoreImport) (role : ImportRole) (ty : ExternType) (f : Refusal) → Contains core.imports i → extern_type core i.entity ≡ Some ty → role_of table i ≡ Some role
-      → meant r i role ty ≡ None → meaningless i role ≡ failures.Refused f → ImportCause r table core f
-  nothing_meant i roles.Memory ty f c typed has none told =
-      let none' : import_meant r i.field roles.Memory (extern_type core i.entity) ≡ None = ap (import_meant r i.field roles.Memory) typed ∙ none in
-      subst (λ (x : Refusal). ImportCause r table core x) (same_refusal (refusals.CoreType i.field) f told) (no_memory i c has none')
-  nothing_meant i (roles.MainExport name kind) ty f c typed has none told =
-      subst (λ (x : Refusal). ImportCause r table core x) (same_refusal (refusals.RoleMissing i.«module» i.field) f told) (of_other i (roles.MainExport name kind) c has refl)
-  nothing_meant i (roles.AdapterExport adapter name) ty f c typed has none told =
-      subst (λ (x : Refusal). ImportCause r table core x) (same_refusal (refusals.RoleMissing i.«module» i.field) f told) (of_other i (roles.AdapterExport adapter name) c has refl)
-  nothing_meant i role ty f c typed has none told =
-      let none' : import_meant r i.field role (extern_type core i.entity) ≡ None = ap (import_meant r i.field role) typed ∙ none in
-      subst (λ (x : Refusal). ImportCause r table core x) (same_refusal (refusals.RoleMissing i.«module» i.field) f told) (nothing_there i role c has refl none')
+  no_target : (i : CoreImport) (role : ImportRole) (ty : ExternType) (f : Refusal) → Contains core.imports i → extern_type core i.entity ≡ Some ty → role_of table i ≡ Some role
+      → target r i role ty ≡ None → meaningless i role ≡ failures.Refused f → ImportCause r table core f
+  no_target i roles.Memory ty f c typed has none reported =
+      let none' : resolved_import r i.field roles.Memory (extern_type core i.entity) ≡ None = ap (resolved_import r i.field roles.Memory) typed ∙ none in
+      subst (λ (x : Refusal). ImportCause r table core x) (same_refusal (refusals.CoreType i.field) f reported) (no_memory i c has none')
+  no_target i (roles.MainExport name kind) ty f c typed has none reported =
+      subst (λ (x : Refusal). ImportCause r table core x) (same_refusal (refusals.RoleMissing i.«module» i.field) f reported) (of_other i (roles.MainExport name kind) c has refl)
+  no_target i (roles.AdapterExport adapter name) ty f c typed has none reported =
+      subst (λ (x : Refusal). ImportCause r table core x) (same_refusal (refusals.RoleMissing i.«module» i.field) f reported) (of_other i (roles.AdapterExport adapter name) c has refl)
+  no_target i role ty f c typed has none reported =
+      let none' : resolved_import r i.field role (extern_type core i.entity) ≡ None = ap (resolved_import r i.field role) typed ∙ none in
+      subst (λ (x : Refusal). ImportCause r table core x) (same_refusal (refusals.RoleMissing i.«module» i.field) f reported) (nothing_there i role c has refl none')
 
   import_refused : (i : CoreImport) (f : Refusal) → Contains core.imports i → import_of r table core i ≡ refused f → ImportCause r table core f
   unfolding import_of
@@ -134,14 +134,14 @@ module _ (r : Resolved) (table : Roles) (core : CoreModule) where
                   subst (λ (x : Refusal). ImportCause r table core x) (same_refusal (refusals.RoleMissing i.«module» i.field) f n.1) (no_role i c n.0)
               | inr b ↦
                   let has = got (role_of table i) (missing_role i) b.0 b.1 in
-                  elim (bind_err (ok_or (meant r i b.0 a.0) (meaningless i b.0)) (fitting r core i) (failures.Refused f) b.2) [
+                  elim (bind_err (ok_or (target r i b.0 a.0) (meaningless i b.0)) (fitting r core i) (failures.Refused f) b.2) [
                     | inl h ↦
-                        let n = missed (meant r i b.0 a.0) (meaningless i b.0) (failures.Refused f) h in
-                        nothing_meant i b.0 a.0 f c typed has n.0 n.1
+                        let n = missed (target r i b.0 a.0) (meaningless i b.0) (failures.Refused f) h in
+                        no_target i b.0 a.0 f c typed has n.0 n.1
                     | inr d ↦
                         let n = failed (fits_import r.resolve world_id core d.0 i.entity) d.0 (unfit_type i) (failures.Refused f) d.2 in
-                        let m = unless_other (is_of_other b.0) (import_meant r i.field b.0 (Some a.0)) d.0 (got (meant r i b.0 a.0) (meaningless i b.0) d.0 d.1) in
-                        let means : import_meant r i.field b.0 (extern_type core i.entity) ≡ Some d.0 = ap (import_meant r i.field b.0) typed ∙ m.1 in
+                        let m = unless_other (is_of_other b.0) (resolved_import r i.field b.0 (Some a.0)) d.0 (got (target r i b.0 a.0) (meaningless i b.0) d.0 d.1) in
+                        let means : resolved_import r i.field b.0 (extern_type core i.entity) ≡ Some d.0 = ap (resolved_import r i.field b.0) typed ∙ m.1 in
                         subst (λ (x : Refusal). ImportCause r table core x) (same_refusal (refusals.CoreType i.field) f n.1) (unfit i b.0 d.0 c has m.0 means n.0)
                   ]
             ]
@@ -278,7 +278,7 @@ module _ (r : Resolved) (table : Roles) (core : CoreModule) where
                   let u = memories_refused (instances_of a.0) f h in
                   let one = u.unfit_one in
                   let are : AreImports r table core (instances_of a.0) = record { groups = a.0; grouped = a.1; are = refl } in
-                  subst (λ (x : Refusal). ImportCause r table core x) one.told (unfit_memory (instances_of a.0) u.first one.ty one.i are u.is_first one.there one.asks one.unfits)
+                  subst (λ (x : Refusal). ImportCause r table core x) one.reported (unfit_memory (instances_of a.0) u.first one.ty one.i are u.is_first one.there one.asks one.unfits)
               | inr b ↦ absurd cc
             ]
       ]
@@ -312,9 +312,9 @@ module _ (r : Resolved) (table : Roles) (core : CoreModule) where
   same_role : (i : CoreImport) (import : Import) (p : Passes r table core i import) (role : ImportRole) → role_of table i ≡ Some role → p.role ≡ role
   same_role i import p role has = same_some (role_of table i) p.role role p.has has
 
-  means_at : (i : CoreImport) (import : Import) (p : Passes r table core i import) (role : ImportRole) → role_of table i ≡ Some role → import_meant r i.field role (extern_type core i.entity) ≡ Some import
+  means_at : (i : CoreImport) (import : Import) (p : Passes r table core i import) (role : ImportRole) → role_of table i ≡ Some role → resolved_import r i.field role (extern_type core i.entity) ≡ Some import
   means_at i import p role has =
-      ap (λ (o : Option ExternType). import_meant r i.field role o) p.typed ∙ ap (λ (x : ImportRole). import_meant r i.field x (Some p.ty)) (sym (same_role i import p role has)) ∙ p.means
+      ap (λ (o : Option ExternType). resolved_import r i.field role o) p.typed ∙ ap (λ (x : ImportRole). resolved_import r i.field x (Some p.ty)) (sym (same_role i import p role has)) ∙ p.means
 
   -- imports that were answered have no cause of a refusal
   pub no_cause : (modules : List (List ℕ × ImportInstance)) → imports_of r table core ≡ Ok modules → (f : Refusal) → ImportCause r table core f → ⊥
@@ -343,7 +343,7 @@ module _ (r : Resolved) (table : Roles) (core : CoreModule) where
   no_cause modules e f (unfit i role import c has own means unfits) =
       let p = passes_at modules i e c in
       let q = p.passes in
-      let same : p.import ≡ import = same_some (import_meant r i.field role (extern_type core i.entity)) p.import import (means_at i p.import q role has) means in
+      let same : p.import ≡ import = same_some (resolved_import r i.field role (extern_type core i.entity)) p.import import (means_at i p.import q role has) means in
       true≢false (sym q.fits ∙ ap (λ (x : Import). fits_import r.resolve world_id core x i.entity) same ∙ unfits)
   no_cause modules e f (unfit_memory imported first ty i are is_first c asks unfits) =
       let p = answered modules e in

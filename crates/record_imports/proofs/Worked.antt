@@ -19,10 +19,10 @@ use Rattle.record_values.specs.declared.names.Owner.TheVariants as owners
 use Rattle.record_values.specs.declared.record.ImportName.{ImportName}
 use Rattle.record_values.specs.declared.roles.ImportRole.{ImportRole}
 use Rattle.record_values.specs.declared.roles.ImportRole.TheVariants as roles
-use Rattle.record_resolving.specs.declared.resolving.Resolved.{Resolved}
-use Rattle.plain_faults.specs.declared.fault.Failure.{Failure}
-use Rattle.plain_faults.specs.declared.fault.Refusal.TheVariants as refusals
-use Rattle.plain_faults.proofs.Chains.{refused}
+use Rattle.record_resolve.specs.declared.resolving.Resolved.{Resolved}
+use Rattle.record_faults.specs.declared.fault.Failure.{Failure}
+use Rattle.record_faults.specs.declared.fault.Refusal.TheVariants as refusals
+use Rattle.record_faults.proofs.Chains.{refused}
 use Rattle.record_imports.specs.Meaning.{Roles, import_of}
 use Rattle.record_imports.specs.Grouping.{group_after}
 use Rattle.record_imports.specs.Memories.{memories_fit}
@@ -103,9 +103,9 @@ takes_more : answered (of (codes "a") roles.Memory ∷ of (codes "b") roles.Memo
 unfolding imports_of group_after import_of memories_fit
 takes_more = refl
 
-wants_more : answered (of (codes "a") roles.Memory ∷ of (codes "b") roles.Memory ∷ []) (import (codes "a") (memory 1 (Some 2)) ∷ import (codes "b") (memory 2 None) ∷ []) ≡ refused (refusals.CoreType (codes "b"))
+needs_more : answered (of (codes "a") roles.Memory ∷ of (codes "b") roles.Memory ∷ []) (import (codes "a") (memory 1 (Some 2)) ∷ import (codes "b") (memory 2 None) ∷ []) ≡ refused (refusals.CoreType (codes "b"))
 unfolding imports_of group_after import_of memories_fit
-wants_more = refl
+needs_more = refl
 
 takes_less : answered (of (codes "a") roles.Memory ∷ of (codes "b") roles.Memory ∷ []) (import (codes "a") (memory 1 (Some 2)) ∷ import (codes "b") (memory 0 (Some 1)) ∷ []) ≡ refused (refusals.CoreType (codes "b"))
 unfolding imports_of group_after import_of memories_fit

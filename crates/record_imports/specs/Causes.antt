@@ -12,12 +12,12 @@ use Rattle.comp_roles.specs.declared.imports.Import.TheVariants as imports
 use Rattle.comp_roles.specs.declared.imports.ImportInstance.{ImportInstance}
 use Rattle.record_values.specs.declared.roles.ImportRole.{ImportRole}
 use Rattle.record_values.specs.declared.roles.ImportRole.TheVariants as roles
-use Rattle.record_resolving.specs.declared.resolving.Resolved.{Resolved}
-use Rattle.record_meanings.specs.Imports.{import_meant}
-use Rattle.record_modules.specs.Fitting.{fits_import}
-use Rattle.record_modules.specs.Offered.{extern_type}
-use Rattle.plain_faults.specs.declared.fault.Refusal.{Refusal}
-use Rattle.plain_faults.specs.declared.fault.Refusal.TheVariants as refusals
+use Rattle.record_resolve.specs.declared.resolving.Resolved.{Resolved}
+use Rattle.record_role_targets.specs.Imports.{resolved_import}
+use Rattle.record_core_types.specs.Fitting.{fits_import}
+use Rattle.record_core_types.specs.Offered.{extern_type}
+use Rattle.record_faults.specs.declared.fault.Refusal.{Refusal}
+use Rattle.record_faults.specs.declared.fault.Refusal.TheVariants as refusals
 use Rattle.record_imports.specs.declared.grouping.Group.{Group}
 use Rattle.record_imports.specs.Meaning.{Roles, world_id, role_of, is_of_other, is_memory}
 use Rattle.record_imports.specs.Grouping.{groups_after, instances_of}
@@ -42,13 +42,13 @@ pub data ImportCause (r : Resolved) (table : Roles) (core : CoreModule) : Refusa
       → ImportCause r table core (refusals.RoleMissing i.«module» i.field)
   -- what its role names isn't in the world
   nothing_there : (i : CoreImport) (role : ImportRole) → Contains core.imports i → role_of table i ≡ Some role → is_memory role ≡ false
-      → import_meant r i.field role (extern_type core i.entity) ≡ None → ImportCause r table core (refusals.RoleMissing i.«module» i.field)
+      → resolved_import r i.field role (extern_type core i.entity) ≡ None → ImportCause r table core (refusals.RoleMissing i.«module» i.field)
   -- its role is a memory, and it is none
   no_memory : (i : CoreImport) → Contains core.imports i → role_of table i ≡ Some roles.Memory
-      → import_meant r i.field roles.Memory (extern_type core i.entity) ≡ None → ImportCause r table core (refusals.CoreType i.field)
+      → resolved_import r i.field roles.Memory (extern_type core i.entity) ≡ None → ImportCause r table core (refusals.CoreType i.field)
   -- its type isn't that of its role
   unfit : (i : CoreImport) (role : ImportRole) (import : Import) → Contains core.imports i → role_of table i ≡ Some role → is_of_other role ≡ false
-      → import_meant r i.field role (extern_type core i.entity) ≡ Some import → fits_import r.resolve world_id core import i.entity ≡ false
+      → resolved_import r i.field role (extern_type core i.entity) ≡ Some import → fits_import r.resolve world_id core import i.entity ≡ false
       → ImportCause r table core (refusals.CoreType i.field)
   -- a memory is imported, and the first that is doesn't fit it
   unfit_memory : (modules : List (List ℕ × ImportInstance)) (first ty : MemoryType) (i : CoreUse) → AreImports r table core modules

@@ -8,18 +8,18 @@ use Rattle.core_sections.specs.declared.entries.CoreImport.{CoreImport}
 use Rattle.comp_roles.specs.declared.imports.Import.{Import}
 use Rattle.comp_roles.specs.declared.imports.ImportInstance.{ImportInstance}
 use Rattle.comp_roles.specs.declared.imports.ImportInstance.TheVariants as instances
-use Rattle.record_resolving.specs.declared.resolving.Resolved.{Resolved}
-use Rattle.plain_faults.specs.declared.fault.Failure.{Failure}
-use Rattle.plain_faults.specs.declared.fault.Failure.TheVariants as failures
-use Rattle.plain_faults.specs.declared.fault.Refusal.TheVariants as refusals
-use Rattle.plain_faults.specs.Faults.{◌>>=◌}
+use Rattle.record_resolve.specs.declared.resolving.Resolved.{Resolved}
+use Rattle.record_faults.specs.declared.fault.Failure.{Failure}
+use Rattle.record_faults.specs.declared.fault.Failure.TheVariants as failures
+use Rattle.record_faults.specs.declared.fault.Refusal.TheVariants as refusals
+use Rattle.record_faults.specs.Faults.{◌>>=◌}
 use Rattle.record_imports.specs.declared.grouping.Group.{Group}
 use Rattle.record_imports.specs.Meaning.{Roles, import_of}
 
 -- each module's name with the number of its group, the first of which is i
-abbrev pub places_of : ℕ → List Group → List (List ℕ × ℕ)
-places_of i [] = []
-places_of i (g ∷ gs) = (g.name, i) ∷ places_of (i + 1) gs
+abbrev pub positions_of : ℕ → List Group → List (List ℕ × ℕ)
+positions_of i [] = []
+positions_of i (g ∷ gs) = (g.name, i) ∷ positions_of (i + 1) gs
 
 -- the fields of a module so far
 abbrev pub fields_in : List Group → List ℕ → List (List ℕ × Import)

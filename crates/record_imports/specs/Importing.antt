@@ -2,9 +2,9 @@
 use Rattle.std.specs.Prelude.{ℕ, List, [], Result, Ok}
 use Rattle.core_sections.specs.declared.core_module.CoreModule.{CoreModule}
 use Rattle.comp_roles.specs.declared.imports.ImportInstance.{ImportInstance}
-use Rattle.record_resolving.specs.declared.resolving.Resolved.{Resolved}
-use Rattle.plain_faults.specs.declared.fault.Failure.{Failure}
-use Rattle.plain_faults.specs.Faults.{◌>>=◌}
+use Rattle.record_resolve.specs.declared.resolving.Resolved.{Resolved}
+use Rattle.record_faults.specs.declared.fault.Failure.{Failure}
+use Rattle.record_faults.specs.Faults.{◌>>=◌}
 use Rattle.record_imports.specs.Meaning.{Roles}
 use Rattle.record_imports.specs.Grouping.{groups_after, instances_of}
 use Rattle.record_imports.specs.Memories.{memories_fit}

@@ -2,5 +2,5 @@ pub mod Meaning
 pub mod Grouping
 pub mod Memories
 pub mod Importing
-pub mod Standing
+pub mod Guarantees
 pub mod Causes

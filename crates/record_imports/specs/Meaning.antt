@@ -14,14 +14,14 @@ use Rattle.record_values.specs.Names.{is_same_import}
 use Rattle.record_values.specs.declared.record.ImportName.{ImportName}
 use Rattle.record_values.specs.declared.roles.ImportRole.{ImportRole}
 use Rattle.record_values.specs.declared.roles.ImportRole.TheVariants as roles
-use Rattle.record_resolving.specs.declared.resolving.Resolved.{Resolved}
-use Rattle.record_meanings.specs.Imports.{import_meant}
-use Rattle.record_modules.specs.Fitting.{fits_import}
-use Rattle.record_modules.specs.Offered.{extern_type}
-use Rattle.plain_faults.specs.declared.fault.Failure.{Failure}
-use Rattle.plain_faults.specs.declared.fault.Failure.TheVariants as failures
-use Rattle.plain_faults.specs.declared.fault.Refusal.TheVariants as refusals
-use Rattle.plain_faults.specs.Faults.{◌>>=◌}
+use Rattle.record_resolve.specs.declared.resolving.Resolved.{Resolved}
+use Rattle.record_role_targets.specs.Imports.{resolved_import}
+use Rattle.record_core_types.specs.Fitting.{fits_import}
+use Rattle.record_core_types.specs.Offered.{extern_type}
+use Rattle.record_faults.specs.declared.fault.Failure.{Failure}
+use Rattle.record_faults.specs.declared.fault.Failure.TheVariants as failures
+use Rattle.record_faults.specs.declared.fault.Refusal.TheVariants as refusals
+use Rattle.record_faults.specs.Faults.{◌>>=◌}
 
 -- the roles of core imports, by module and field
 abbrev pub Roles : Type 0
@@ -47,8 +47,8 @@ is_memory roles.Memory = true
 is_memory role = false
 
 -- what a role means for an import of this type
-abbrev pub meant : Resolved → CoreImport → ImportRole → ExternType → Option Import
-meant r i role ty = if is_of_other role then None else import_meant r i.field role (Some ty)
+abbrev pub target : Resolved → CoreImport → ImportRole → ExternType → Option Import
+target r i role ty = if is_of_other role then None else resolved_import r i.field role (Some ty)
 
 -- ---- refusals
 
@@ -78,5 +78,5 @@ unfoldable pub import_of : Resolved → Roles → CoreModule → CoreImport → 
 import_of r table core i = do
   ty ← ok_or (extern_type core i.entity) (unfit i)
   role ← ok_or (role_of table i) (no_role i)
-  import ← ok_or (meant r i role ty) (meaningless i role)
+  import ← ok_or (target r i role ty) (meaningless i role)
   fitting r core i import

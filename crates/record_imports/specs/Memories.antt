@@ -6,9 +6,9 @@ use Rattle.core_types.specs.declared.types.MemoryType.{MemoryType}
 use Rattle.comp_roles.specs.CoreImports.{CoreImport, imports_from}
 use Rattle.comp_roles.specs.Lookups.{imported_memory, memory_of_import}
 use Rattle.comp_roles.specs.declared.imports.ImportInstance.{ImportInstance}
-use Rattle.plain_faults.specs.declared.fault.Failure.{Failure}
-use Rattle.plain_faults.specs.declared.fault.Failure.TheVariants as failures
-use Rattle.plain_faults.specs.declared.fault.Refusal.TheVariants as refusals
+use Rattle.record_faults.specs.declared.fault.Failure.{Failure}
+use Rattle.record_faults.specs.declared.fault.Failure.TheVariants as failures
+use Rattle.record_faults.specs.declared.fault.Refusal.TheVariants as refusals
 
 -- where a greatest size is asked for, one that isn't greater is offered
 abbrev pub fits_maximum : Option ℕ → Option ℕ → Bool

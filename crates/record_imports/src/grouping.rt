@@ -6,17 +6,17 @@ ghost use Rattle.std.specs.List.{IsDistinct};
 ghost use Rattle.std.specs.Str.{bytes_eq};
 ghost use Rattle.comp_lists.specs.Found.{found};
 ghost use Rattle.wit_data.specs.Sound.{IsSound};
-ghost use Rattle.plain_faults.specs.Faults.{Gives};
+ghost use Rattle.record_faults.specs.Faults.{Gives};
 ghost use Rattle.record_imports.specs.declared.grouping.Group.{Group as GroupRecord};
-ghost use Rattle.record_imports.specs.Grouping.{places_of, fields_in, with_field, imported_twice, group_after, groups_after, instances_of};
-ghost use Rattle.record_imports.specs.Standing.{IsMet, AreGood};
+ghost use Rattle.record_imports.specs.Grouping.{positions_of, fields_in, with_field, imported_twice, group_after, groups_after, instances_of};
+ghost use Rattle.record_imports.specs.Guarantees.{IsChecked, AreGood};
 
 use crate::meaning::import_of;
 use comp_lists::{Keyed, Text};
 use comp_roles::Import;
 use core_sections::{CoreImport, CoreModule};
-use plain_faults::{Failure, Refusal};
-use record_resolving::Resolved;
+use record_faults::{Failure, Refusal};
+use record_resolve::Resolved;
 use record_values::{ImportName, ImportRole};
 use std::alloc::{AllocError, Global};
 
@@ -31,25 +31,25 @@ pub(crate) struct Group {
 /// of each module stands.
 #[derive(Drop)]
 struct Grouping {
-    places: Keyed<Text, usize>,
+    positions: Keyed<Text, usize>,
     groups: Vec<Group>,
 }
 
 /// Where a module's group stands, if there is one.
-fn place_of(grouping: &Grouping, name: &Text) -> Option<usize>
-    ensures { result ≡ found name.now grouping.now.places }
+fn position_of(grouping: &Grouping, name: &Text) -> Option<usize>
+    ensures { result ≡ found name.now grouping.now.positions }
 {
-    grouping.places.get(name).copied()
+    grouping.positions.get(name).copied()
 }
 
 /// Whether a module's group, if there is one, has a field.
 #[tactic(auto, using(crate::proofs::Groups::has_none))]
 fn has_field(grouping: &Grouping, name: &Text, field: &Text) -> bool
-    requires { grouping.now.places ≡ places_of 0 grouping.now.groups.items }
+    requires { grouping.now.positions ≡ positions_of 0 grouping.now.groups.items }
     ensures { result ≡ is_some (found field.now (fields_in grouping.now.groups.items name.now)) }
 {
-    match place_of(grouping, name) {
-        Some(place) => grouping.groups[place].fields.contains(field),
+    match position_of(grouping, name) {
+        Some(position) => grouping.groups[position].fields.contains(field),
         None => false,
     }
 }
@@ -57,19 +57,19 @@ fn has_field(grouping: &Grouping, name: &Text, field: &Text) -> bool
 /// Adds a field to the group at a place, which lacks it.
 fn add_field(
     grouping: Grouping,
-    place: usize,
+    position: usize,
     field: Text,
     role: Import,
 ) -> Result<Grouping, AllocError>
-    requires below { place < length grouping.groups.items }
-    requires absent { (g : GroupRecord) → slice_get grouping.groups.items place ≡ Some g → found field g.fields ≡ None }
-    ensures places { IfOk result (λ x. x.places ≡ grouping.places) }
-    ensures groups { IfOk result (λ x. (g : GroupRecord) → slice_get grouping.groups.items place ≡ Some g
-        → x.groups.items ≡ slice_set grouping.groups.items place (record { name = g.name; fields = g.fields ++ (field, role) ∷ [] })) }
+    requires below { position < length grouping.groups.items }
+    requires absent { (g : GroupRecord) → slice_get grouping.groups.items position ≡ Some g → found field g.fields ≡ None }
+    ensures positions { IfOk result (λ x. x.positions ≡ grouping.positions) }
+    ensures groups { IfOk result (λ x. (g : GroupRecord) → slice_get grouping.groups.items position ≡ Some g
+        → x.groups.items ≡ slice_set grouping.groups.items position (record { name = g.name; fields = g.fields ++ (field, role) ∷ [] })) }
 {
-    let Grouping { places, mut groups } = grouping;
-    groups[place].fields.add(field, role)?;
-    Ok(Grouping { places, groups })
+    let Grouping { positions, mut groups } = grouping;
+    groups[position].fields.add(field, role)?;
+    Ok(Grouping { positions, groups })
 }
 
 /// A group of one field.
@@ -83,17 +83,17 @@ fn group_of(alloc: Global, name: Text, field: Text, role: Import) -> Result<Grou
 
 /// Adds a group, whose module is named apart from it and has none.
 fn push_group(grouping: Grouping, name: Text, group: Group) -> Result<Grouping, AllocError>
-    requires { found name grouping.places ≡ None }
-    ensures places { IfOk result (λ g. g.places ≡ grouping.places ++ (name, length grouping.groups.items) ∷ []) }
+    requires { found name grouping.positions ≡ None }
+    ensures positions { IfOk result (λ g. g.positions ≡ grouping.positions ++ (name, length grouping.groups.items) ∷ []) }
     ensures groups { IfOk result (λ g. g.groups.items ≡ grouping.groups.items ++ group ∷ []) }
 {
     let Grouping {
-        mut places,
+        mut positions,
         mut groups,
     } = grouping;
-    places.add(name, groups.len())?;
+    positions.add(name, groups.len())?;
     groups.push(group)?;
-    Ok(Grouping { places, groups })
+    Ok(Grouping { positions, groups })
 }
 
 /// Adds a group of one field, of a module that has none.
@@ -104,8 +104,8 @@ fn add_group(
     field: Text,
     role: Import,
 ) -> Result<Grouping, AllocError>
-    requires { found name grouping.places ≡ None }
-    ensures places { IfOk result (λ g. g.places ≡ grouping.places ++ (name, length grouping.groups.items) ∷ []) }
+    requires { found name grouping.positions ≡ None }
+    ensures positions { IfOk result (λ g. g.positions ≡ grouping.positions ++ (name, length grouping.groups.items) ∷ []) }
     ensures groups { IfOk result (λ g. g.groups.items ≡ grouping.groups.items ++ record { name = name; fields = (field, role) ∷ [] } ∷ []) }
 {
     let group = group_of(alloc, name, field, role)?;
@@ -121,13 +121,13 @@ fn put_field(
     field: Text,
     role: Import,
 ) -> Result<Grouping, AllocError>
-    requires placed { grouping.places ≡ places_of 0 grouping.groups.items }
+    requires indexed { grouping.positions ≡ positions_of 0 grouping.groups.items }
     requires absent { found field (fields_in grouping.groups.items «module») ≡ None }
     ensures put { IfOk result (λ g. g.groups.items ≡ with_field grouping.groups.items «module» field role) }
-    ensures placed { IfOk result (λ g. g.places ≡ places_of 0 g.groups.items) }
+    ensures indexed { IfOk result (λ g. g.positions ≡ positions_of 0 g.groups.items) }
 {
-    match place_of(&grouping, &module) {
-        Some(place) => add_field(grouping, place, field, role),
+    match position_of(&grouping, &module) {
+        Some(position) => add_field(grouping, position, field, role),
         None => add_group(alloc, grouping, module, field, role),
     }
 }
@@ -143,7 +143,7 @@ fn imported_twice<T>(alloc: Global, import: &CoreImport) -> Result<T, Failure>
 }
 
 /// The groups with one core import more.
-#[tactic(auto, unfolding(crate::specs::Grouping::group_after), using(crate::proofs::Fields::stays_good))]
+#[tactic(auto, unfolding(crate::specs::Grouping::group_after), using(crate::proofs::Fields::remains_good))]
 fn add_import(
     alloc: Global,
     resolved: &Resolved,
@@ -153,10 +153,10 @@ fn add_import(
     import: &CoreImport,
 ) -> Result<Grouping, Failure>
     requires sound { IsSound resolved.now.resolve }
-    requires placed { grouping.places ≡ places_of 0 grouping.groups.items }
+    requires indexed { grouping.positions ≡ positions_of 0 grouping.groups.items }
     requires good { AreGood resolved.now.resolve grouping.groups.items }
     ensures exact { Gives (λ g. g.groups.items) result (group_after resolved.now roles.now core.now grouping.groups.items import.now) }
-    ensures placed { IfOk result (λ g. g.places ≡ places_of 0 g.groups.items) }
+    ensures indexed { IfOk result (λ g. g.positions ≡ positions_of 0 g.groups.items) }
     ensures good { IfOk result (λ g. AreGood resolved.now.resolve g.groups.items) }
 {
     if has_field(&grouping, &import.module, &import.field) {
@@ -177,11 +177,11 @@ fn group_imports(
 ) -> Result<Grouping, Failure>
     requires { IsSound resolved.now.resolve }
     ensures exact { Gives (λ g. g.groups.items) result (groups_after resolved.now roles.now core.now [] core.now.imports) }
-    ensures placed { IfOk result (λ g. g.places ≡ places_of 0 g.groups.items) }
+    ensures indexed { IfOk result (λ g. g.positions ≡ positions_of 0 g.groups.items) }
     ensures good { IfOk result (λ g. AreGood resolved.now.resolve g.groups.items) }
 {
     let mut grouping = Grouping {
-        places: Keyed::new(alloc),
+        positions: Keyed::new(alloc),
         groups: Vec::new(alloc),
     };
     for import in core.imports.as_slice() {
@@ -191,20 +191,20 @@ fn group_imports(
 }
 
 /// No two places are of one module.
-fn places_are_apart(places: &Keyed<Text, usize>)
-    ensures { IsDistinct bytes_eq (keys_of places.now) }
+fn positions_are_apart(positions: &Keyed<Text, usize>)
+    ensures { IsDistinct bytes_eq (keys_of positions.now) }
 {
-    let _entries = places.entries();
+    let _entries = positions.entries();
 }
 
 /// The groups alone.
 #[tactic(auto, using(crate::proofs::Groups::groups_apart))]
 fn into_groups(grouping: Grouping) -> Vec<Group>
-    requires { grouping.places ≡ places_of 0 grouping.groups.items }
+    requires { grouping.positions ≡ positions_of 0 grouping.groups.items }
     ensures same { result ≡ grouping.groups }
     ensures apart { IsDistinct bytes_eq (keys_of (instances_of result.items)) }
 {
-    places_are_apart(&grouping.places);
+    positions_are_apart(&grouping.positions);
     grouping.groups
 }
 

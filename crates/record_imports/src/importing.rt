@@ -7,14 +7,14 @@ ghost use Rattle.std.specs.Str.{bytes_eq};
 ghost use Rattle.wit_data.specs.Sound.{IsSound};
 ghost use Rattle.comp_roles.specs.CoreImports.{imports_from};
 ghost use Rattle.comp_worlds.specs.Mentions.{HasRole};
-ghost use Rattle.record_modules.specs.Standing.{IsCalled};
-ghost use Rattle.plain_faults.specs.Faults.{Gives};
-ghost use Rattle.plain_faults.specs.declared.fault.Refusal.{Refusal as RefusalRecord};
-ghost use Rattle.plain_faults.specs.declared.fault.Failure.TheVariants.{Refused};
+ghost use Rattle.record_core_types.specs.Guarantees.{IsCalled};
+ghost use Rattle.record_faults.specs.Faults.{Gives};
+ghost use Rattle.record_faults.specs.declared.fault.Refusal.{Refusal as RefusalRecord};
+ghost use Rattle.record_faults.specs.declared.fault.Failure.TheVariants.{Refused};
 ghost use Rattle.record_imports.specs.Meaning.{world_id};
 ghost use Rattle.record_imports.specs.Grouping.{instances_of};
 ghost use Rattle.record_imports.specs.Importing.{imports_of};
-ghost use Rattle.record_imports.specs.Standing.{AreGood, AreMet, HasDistinctFields};
+ghost use Rattle.record_imports.specs.Guarantees.{AreGood, AreChecked, HasDistinctFields};
 ghost use Rattle.record_imports.specs.Causes.{ImportCause};
 
 use crate::grouping::{Group, read_groups};
@@ -22,8 +22,8 @@ use crate::memories::check_memories;
 use comp_lists::{Keyed, Text};
 use comp_roles::{ImportInstance, ImportMap};
 use core_sections::CoreModule;
-use plain_faults::Failure;
-use record_resolving::Resolved;
+use record_faults::Failure;
+use record_resolve::Resolved;
 use record_values::{ImportName, ImportRole};
 use std::alloc::{AllocError, Global};
 
@@ -44,7 +44,7 @@ fn map_of(alloc: Global, resolved: &Resolved, groups: Vec<Group>) -> Result<Impo
     requires apart { IsDistinct bytes_eq (keys_of (instances_of groups.items)) }
     requires good { AreGood resolved.now.resolve groups.items }
     ensures modules { IfOk result (λ m. m.modules ≡ instances_of groups.items) }
-    ensures met { IfOk result (λ m. AreMet resolved.now.resolve m.modules) }
+    ensures checks { IfOk result (λ m. AreChecked resolved.now.resolve m.modules) }
 {
     let modules = table_of(alloc, groups)?;
     Ok(ImportMap { modules })
@@ -60,7 +60,7 @@ fn read_all(
 ) -> Result<ImportMap, Failure>
     requires { IsSound resolved.now.resolve }
     ensures exact { Gives (λ m. m.modules) result (imports_of resolved.now roles.now core.now) }
-    ensures met { IfOk result (λ m. AreMet resolved.now.resolve m.modules) }
+    ensures checks { IfOk result (λ m. AreChecked resolved.now.resolve m.modules) }
 {
     let groups = read_groups(alloc, resolved, roles, core)?;
     let map = map_of(alloc, resolved, groups)?;
@@ -89,7 +89,7 @@ pub fn read_imports(
 ) -> Result<ImportMap, Failure>
     requires { IsSound resolved.now.resolve }
     ensures exact { Gives (λ m. m.modules) result (imports_of resolved.now roles.now core.now) }
-    ensures stands { IfOk result (λ m. AllByRecursion (λ i. HasRole resolved.now.resolve i.role) (flat_map imports_from m.modules)) }
+    ensures present { IfOk result (λ m. AllByRecursion (λ i. HasRole resolved.now.resolve i.role) (flat_map imports_from m.modules)) }
     ensures called { IfOk result (λ m. AllByRecursion (λ i. IsCalled resolved.now.resolve world_id i.role) (flat_map imports_from m.modules)) }
     ensures apart { IfOk result (λ m. IsDistinct bytes_eq (keys_of m.modules)) }
     ensures fields { IfOk result (λ m. AllByRecursion HasDistinctFields m.modules) }

@@ -3,19 +3,19 @@
 ghost use Rattle.std.specs.Prelude.{◌≡◌, Err, ok_or, IfOk};
 ghost use Rattle.std.specs.Option.{IfSome};
 ghost use Rattle.wit_data.specs.Sound.{IsSound};
-ghost use Rattle.record_meanings.specs.Named.{HasNamed};
-ghost use Rattle.record_modules.specs.Offered.{extern_type};
-ghost use Rattle.plain_faults.specs.Faults.{Gives};
-ghost use Rattle.record_imports.specs.Meaning.{is_of_other, meant, no_role, unfit, meaningless, fitting, kept, import_of};
-ghost use Rattle.record_imports.specs.Standing.{IsMet};
+ghost use Rattle.record_role_targets.specs.Named.{HasNamed};
+ghost use Rattle.record_core_types.specs.Offered.{extern_type};
+ghost use Rattle.record_faults.specs.Faults.{Gives};
+ghost use Rattle.record_imports.specs.Meaning.{is_of_other, target, no_role, unfit, meaningless, fitting, kept, import_of};
+ghost use Rattle.record_imports.specs.Guarantees.{IsChecked};
 
 use comp_lists::Keyed;
 use comp_roles::{ExternType, Import};
 use core_sections::{CoreImport, CoreModule};
-use plain_faults::{Failure, Refusal};
-use record_meanings::import_meant;
-use record_modules::{extern_type, fits_import};
-use record_resolving::Resolved;
+use record_faults::{Failure, Refusal};
+use record_role_targets::resolved_import;
+use record_core_types::{extern_type, fits_import};
+use record_resolve::Resolved;
 use record_values::{ImportName, ImportRole};
 use std::alloc::{AllocError, Global};
 use wit_data::WorldId;
@@ -81,7 +81,7 @@ fn is_of_other(role: &ImportRole) -> bool
 }
 
 /// What a role means for an import of a type, if it means anything.
-fn meant(
+fn target(
     alloc: Global,
     resolved: &Resolved,
     import: &CoreImport,
@@ -89,13 +89,13 @@ fn meant(
     ty: &ExternType,
 ) -> Result<Option<Import>, AllocError>
     requires { IsSound resolved.now.resolve }
-    ensures exact { IfOk result (λ m. m ≡ meant resolved.now import.now role.now ty.now) }
-    ensures stands { IfOk result (λ m. IfSome m (HasNamed resolved.now.resolve)) }
+    ensures exact { IfOk result (λ m. m ≡ target resolved.now import.now role.now ty.now) }
+    ensures present { IfOk result (λ m. IfSome m (HasNamed resolved.now.resolve)) }
 {
     if is_of_other(role) {
         return Ok(None);
     }
-    import_meant(alloc, resolved, &import.field, role, Some(ty))
+    resolved_import(alloc, resolved, &import.field, role, Some(ty))
 }
 
 /// What the role of an import means for it.
@@ -107,17 +107,17 @@ fn meaning_of(
     ty: &ExternType,
 ) -> Result<Import, Failure>
     requires { IsSound resolved.now.resolve }
-    ensures exact { Gives (λ i. i) result (ok_or (meant resolved.now import.now role.now ty.now) (meaningless import.now role.now)) }
-    ensures stands { IfOk result (HasNamed resolved.now.resolve) }
+    ensures exact { Gives (λ i. i) result (ok_or (target resolved.now import.now role.now ty.now) (meaningless import.now role.now)) }
+    ensures present { IfOk result (HasNamed resolved.now.resolve) }
 {
-    match meant(alloc, resolved, import, role, ty)? {
+    match target(alloc, resolved, import, role, ty)? {
         Some(meaning) => Ok(meaning),
         None => meaningless(alloc, import, role),
     }
 }
 
 /// Refuses an import whose type isn't that for which its meaning asks.
-#[tactic(auto, using(crate::proofs::Meeting::returned))]
+#[tactic(auto, using(crate::proofs::Checking::returned))]
 fn check_type(
     alloc: Global,
     resolved: &Resolved,
@@ -126,7 +126,7 @@ fn check_type(
     meaning: &Import,
 ) -> Result<(), Failure>
     requires sound { IsSound resolved.now.resolve }
-    requires stands { HasNamed resolved.now.resolve meaning.now }
+    requires present { HasNamed resolved.now.resolve meaning.now }
     ensures { Gives (λ x. meaning.now) result (fitting resolved.now core.now import.now meaning.now) }
 {
     let world = WorldId { index: 0 };
@@ -146,7 +146,7 @@ fn unless_refused<T: Drop>(value: T, step: Result<(), Failure>) -> Result<T, Fai
 }
 
 /// What a core import is for; what it names stands in the resolve.
-#[tactic(auto, unfolding(crate::specs::Meaning::import_of), using(crate::proofs::Meeting::settled))]
+#[tactic(auto, unfolding(crate::specs::Meaning::import_of), using(crate::proofs::Checking::concluded))]
 fn read_import(
     alloc: Global,
     resolved: &Resolved,
@@ -156,7 +156,7 @@ fn read_import(
 ) -> Result<Import, Failure>
     requires { IsSound resolved.now.resolve }
     ensures exact { Gives (λ i. i) result (import_of resolved.now roles.now core.now import.now) }
-    ensures stands { IfOk result (HasNamed resolved.now.resolve) }
+    ensures present { IfOk result (HasNamed resolved.now.resolve) }
 {
     let ty = typed(alloc, core, import)?;
     let name = name_of(alloc, import)?;
@@ -172,7 +172,7 @@ fn read_import(
 ///
 /// What it names stands in the resolve, and where it is a root function, the world imports it under its
 /// own name.
-#[tactic(auto, using(crate::proofs::Meeting::meets))]
+#[tactic(auto, using(crate::proofs::Checking::is_checked))]
 pub(crate) fn import_of(
     alloc: Global,
     resolved: &Resolved,
@@ -182,7 +182,7 @@ pub(crate) fn import_of(
 ) -> Result<Import, Failure>
     requires { IsSound resolved.now.resolve }
     ensures exact { Gives (λ i. i) result (import_of resolved.now roles.now core.now import.now) }
-    ensures met { IfOk result (IsMet resolved.now.resolve) }
+    ensures checks { IfOk result (IsChecked resolved.now.resolve) }
 {
     let meaning = read_import(alloc, resolved, roles, core, import)?;
     Ok(meaning)

@@ -2,13 +2,13 @@
 
 ghost use Rattle.std.specs.Prelude.{◌≡◌, map, Err};
 ghost use Rattle.comp_roles.specs.Lookups.{core_import, memory_of_import};
-ghost use Rattle.plain_faults.specs.Faults.{Gives};
+ghost use Rattle.record_faults.specs.Faults.{Gives};
 ghost use Rattle.record_imports.specs.Memories.{fits_maximum, fits_memory, takes, unfit_memory, all_take, memories_fit};
 
 use comp_lists::Text;
 use comp_roles::{Import, ImportMap, NamedImport};
 use core_types::MemoryType;
-use plain_faults::{Failure, Refusal};
+use record_faults::{Failure, Refusal};
 use std::alloc::Global;
 
 /// Whether a greatest size can be given where this one is asked for.

@@ -2,14 +2,14 @@
 use Rattle.std.specs.Prelude.{ℕ, List, codes, Option, Some, None, ok_or, option_and_then, Result, Ok, Err}
 use Rattle.serde_json.specs.Data.{Data}
 use Rattle.serde_json.specs.Find.{as_array}
-use Rattle.record_json.specs.declared.fault.Failure.{Failure}
-use Rattle.record_json.specs.Faults.{◌>>=◌}
-use Rattle.record_json.specs.Reading.{under, here, at_member, text_of}
+use Rattle.json_paths.specs.declared.fault.Failure.{Failure}
+use Rattle.json_paths.specs.Faults.{◌>>=◌}
+use Rattle.json_paths.specs.Reading.{under, here, at_member, text_of}
 use Rattle.record_values.specs.declared.names.Owner.TheVariants as owners
 use Rattle.record_values.specs.declared.roles.ExportRole.{ExportRole}
 use Rattle.record_values.specs.declared.roles.ExportRole.TheVariants as roles
 use Rattle.record_values.specs.declared.roles.PlainExport.{PlainExport}
-use Rattle.record_worlds.specs.declared.placed.RecordWorld.{RecordWorld}
+use Rattle.record_worlds.specs.declared.indexed.RecordWorld.{RecordWorld}
 use Rattle.record_roles.specs.declared.kinds.ExportRoleKind.{ExportRoleKind}
 use Rattle.record_roles.specs.declared.kinds.ExportRoleKind.TheVariants as kinds
 use Rattle.record_roles.specs.declared.sides.Side.TheVariants as sides
@@ -30,10 +30,10 @@ world_func_of w d = do
 unfoldable pub interface_func_of : RecordWorld → Data → Result ExportRole Failure
 interface_func_of w d = do
   a ← three_arguments d
-  place ← under (codes "1") (interface_of w sides.Export a.0)
-  name ← under (codes "2") (function_of w sides.Export (Some place) a.1)
+  owner_index ← under (codes "1") (interface_of w sides.Export a.0)
+  name ← under (codes "2") (function_of w sides.Export (Some owner_index) a.1)
   abi ← under (codes "3") (export_abi_of a.2)
-  Ok (roles.Function (owner_at w (Some place)) name abi)
+  Ok (roles.Function (owner_at w (Some owner_index)) name abi)
 
 -- the name of a function of the world
 unfoldable pub world_name_of : RecordWorld → Data → Result (List ℕ) Failure
@@ -55,16 +55,16 @@ world_callback_of w d = do
 unfoldable pub interface_post_return_of : RecordWorld → Data → Result ExportRole Failure
 interface_post_return_of w d = do
   a ← two_arguments d
-  place ← under (codes "1") (interface_of w sides.Export a.0)
-  name ← under (codes "2") (function_of w sides.Export (Some place) a.1)
-  Ok (roles.PostReturn (owner_at w (Some place)) name)
+  owner_index ← under (codes "1") (interface_of w sides.Export a.0)
+  name ← under (codes "2") (function_of w sides.Export (Some owner_index) a.1)
+  Ok (roles.PostReturn (owner_at w (Some owner_index)) name)
 
 unfoldable pub interface_callback_of : RecordWorld → Data → Result ExportRole Failure
 interface_callback_of w d = do
   a ← two_arguments d
-  place ← under (codes "1") (interface_of w sides.Export a.0)
-  name ← under (codes "2") (function_of w sides.Export (Some place) a.1)
-  Ok (roles.Callback (owner_at w (Some place)) name)
+  owner_index ← under (codes "1") (interface_of w sides.Export a.0)
+  name ← under (codes "2") (function_of w sides.Export (Some owner_index) a.1)
+  Ok (roles.Callback (owner_at w (Some owner_index)) name)
 
 -- interface, resource
 abbrev pub destructor_of : RecordWorld → Data → Result ExportRole Failure

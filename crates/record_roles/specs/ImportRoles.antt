@@ -5,9 +5,9 @@ use Rattle.std.specs.List.{slice_get}
 use Rattle.std.specs.Str.{bytes_eq}
 use Rattle.serde_json.specs.Data.{Data}
 use Rattle.serde_json.specs.Find.{get, as_array}
-use Rattle.record_json.specs.declared.fault.Failure.{Failure}
-use Rattle.record_json.specs.Faults.{◌>>=◌}
-use Rattle.record_json.specs.Reading.{under, here, at_member, required, text_of, text_at, number_of, bool_of, only}
+use Rattle.json_paths.specs.declared.fault.Failure.{Failure}
+use Rattle.json_paths.specs.Faults.{◌>>=◌}
+use Rattle.json_paths.specs.Reading.{under, here, at_member, required, text_of, text_at, number_of, bool_of, only}
 use Rattle.record_values.specs.declared.names.TypeName.{TypeName}
 use Rattle.record_values.specs.declared.names.Owner.TheVariants as owners
 use Rattle.record_values.specs.declared.roles.ImportRole.{ImportRole}
@@ -18,7 +18,7 @@ use Rattle.record_values.specs.declared.roles.PayloadKind.{PayloadKind}
 use Rattle.record_values.specs.declared.roles.PayloadKind.TheVariants as payload_kinds
 use Rattle.record_values.specs.declared.roles.PayloadOperation.{PayloadOperation}
 use Rattle.record_values.specs.declared.roles.PayloadOperation.TheVariants as operations
-use Rattle.record_worlds.specs.declared.placed.RecordWorld.{RecordWorld}
+use Rattle.record_worlds.specs.declared.indexed.RecordWorld.{RecordWorld}
 use Rattle.record_roles.specs.declared.kinds.ImportKind.{ImportKind}
 use Rattle.record_roles.specs.declared.kinds.ImportKind.TheVariants as kinds
 use Rattle.record_roles.specs.declared.sides.Side.{Side}
@@ -42,34 +42,34 @@ world_func_of w d = do
 unfoldable pub interface_func_of : RecordWorld → Data → Result ImportRole Failure
 interface_func_of w d = do
   a ← three_arguments d
-  place ← under (codes "1") (interface_of w sides.Import a.0)
-  name ← under (codes "2") (function_of w sides.Import (Some place) a.1)
+  owner_index ← under (codes "1") (interface_of w sides.Import a.0)
+  name ← under (codes "2") (function_of w sides.Import (Some owner_index) a.1)
   abi ← under (codes "3") (import_abi_of a.2)
-  Ok (roles.Function (owner_at w (Some place)) name abi)
+  Ok (roles.Function (owner_at w (Some owner_index)) name abi)
 
 -- interface or null, resource
 unfoldable pub imported_resource : RecordWorld → Data → Result TypeName Failure
 imported_resource w d = do
   a ← two_arguments d
-  place ← under (codes "1") (owner_of w sides.Import a.0)
-  name ← under (codes "2") (resource_of w sides.Import place a.1)
-  Ok (record { owner = owner_at w place; name = name })
+  owner_index ← under (codes "1") (owner_of w sides.Import a.0)
+  name ← under (codes "2") (resource_of w sides.Import owner_index a.1)
+  Ok (record { owner = owner_at w owner_index; name = name })
 
 -- interface, resource
 unfoldable pub exported_resource : RecordWorld → Data → Result TypeName Failure
 exported_resource w d = do
   a ← two_arguments d
-  place ← under (codes "1") (interface_of w sides.Export a.0)
-  name ← under (codes "2") (resource_of w sides.Export (Some place) a.1)
-  Ok (record { owner = owner_at w (Some place); name = name })
+  owner_index ← under (codes "1") (interface_of w sides.Export a.0)
+  name ← under (codes "2") (resource_of w sides.Export (Some owner_index) a.1)
+  Ok (record { owner = owner_at w (Some owner_index); name = name })
 
 -- interface or null, function
 unfoldable pub task_return_of : RecordWorld → Data → Result ImportRole Failure
 task_return_of w d = do
   a ← two_arguments d
-  place ← under (codes "1") (owner_of w sides.Export a.0)
-  name ← under (codes "2") (function_of w sides.Export place a.1)
-  Ok (roles.TaskReturn (owner_at w place) name)
+  owner_index ← under (codes "1") (owner_of w sides.Export a.0)
+  name ← under (codes "2") (function_of w sides.Export owner_index a.1)
+  Ok (roles.TaskReturn (owner_at w owner_index) name)
 
 -- ---- streams and futures
 
@@ -95,9 +95,9 @@ is_kind payload_kinds.Future payload_kinds.Stream = false
 
 -- what is met there in the function is of this kind
 abbrev pub is_met : RecordWorld → Met → PayloadKind → Side → Option ℕ → List ℕ → ℕ → Bool
-is_met w met kind side place function index = option_map_or
+is_met w met kind side owner_index function index = option_map_or
     (λ f. option_map_or (is_kind kind) (slice_get (met_in_function met f) index) false)
-    (function_at w side place function) false
+    (function_at w side owner_index function) false
 
 abbrev pub bool_at : List ℕ → Data → Result Bool Failure
 bool_at key d = do
@@ -110,9 +110,9 @@ owner_member w side d = do
   under (codes "interface") (owner_of w side v)
 
 abbrev pub function_member : RecordWorld → Side → Option ℕ → Data → Result (List ℕ) Failure
-function_member w side place d = do
+function_member w side owner_index d = do
   v ← required (codes "function") d
-  under (codes "function") (function_of w side place v)
+  under (codes "function") (function_of w side owner_index v)
 
 abbrev pub index_member : Data → Result ℕ Failure
 index_member d = do
@@ -120,9 +120,9 @@ index_member d = do
   under (codes "index") (number_of (2 ^ 32) v)
 
 abbrev pub met_payload : RecordWorld → Met → PayloadKind → Bool → Option ℕ → List ℕ → ℕ → Result Payload Failure
-met_payload w met kind imported place function index =
-    if is_met w met kind (side_of imported) place function index
-    then Ok (payloads.Met imported (owner_at w place) function index)
+met_payload w met kind imported owner_index function index =
+    if is_met w met kind (side_of imported) owner_index function index
+    then Ok (payloads.Met imported (owner_at w owner_index) function index)
     else Err (at_member (codes "index"))
 
 -- {"imported", "interface", "function", "index"}
@@ -130,10 +130,10 @@ unfoldable pub met_of : RecordWorld → Met → PayloadKind → Data → Result 
 met_of w met kind d = do
   _ ← only (codes "imported" ∷ codes "interface" ∷ codes "function" ∷ codes "index" ∷ []) d
   imported ← bool_at (codes "imported") d
-  place ← owner_member w (side_of imported) d
-  function ← function_member w (side_of imported) place d
+  owner_index ← owner_member w (side_of imported) d
+  function ← function_member w (side_of imported) owner_index d
   index ← index_member d
-  met_payload w met kind imported place function index
+  met_payload w met kind imported owner_index function index
 
 unfoldable pub payload_of : RecordWorld → Met → PayloadKind → Data → Result Payload Failure
 payload_of w met kind d = if is_some (get (codes "unit") d) then unit_of kind d else met_of w met kind d

@@ -9,15 +9,15 @@ use Rattle.serde_json.specs.Data.{Data}
 use Rattle.serde_json.specs.Find.{get, as_array, as_number, as_u64}
 use Rattle.standard_kinds.specs.declared.kinds.StringEncoding.{StringEncoding}
 use Rattle.standard_kinds.specs.declared.kinds.StringEncoding.TheVariants as encodings
-use Rattle.record_json.specs.declared.fault.Failure.{Failure}
-use Rattle.record_json.specs.Faults.{◌>>=◌}
-use Rattle.record_json.specs.Reading.{under, here, at_member, required, text_at, bool_if, only, data_of, items_from}
+use Rattle.json_paths.specs.declared.fault.Failure.{Failure}
+use Rattle.json_paths.specs.Faults.{◌>>=◌}
+use Rattle.json_paths.specs.Reading.{under, here, at_member, required, text_at, bool_if, only, data_of, items_from}
 use Rattle.record_values.specs.declared.record.Assigned.{Assigned}
 use Rattle.record_values.specs.declared.record.ImportName.{ImportName}
 use Rattle.record_values.specs.declared.record.Record.{Record}
 use Rattle.record_values.specs.declared.roles.ExportRole.{ExportRole}
 use Rattle.record_values.specs.declared.roles.ImportRole.{ImportRole}
-use Rattle.record_worlds.specs.declared.placed.RecordWorld.{RecordWorld}
+use Rattle.record_worlds.specs.declared.indexed.RecordWorld.{RecordWorld}
 use Rattle.record_worlds.specs.Worlds.{world_of}
 use Rattle.record_roles.specs.Arguments.{encoding_of}
 use Rattle.record_roles.specs.Equalities.{same_interface}

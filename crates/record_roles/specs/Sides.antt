@@ -7,9 +7,9 @@ use Rattle.std.specs.Map.{lookup}
 use Rattle.serde_json.specs.Data.{Data}
 use Rattle.serde_json.specs.Find.{as_null}
 use Rattle.comp_lists.specs.Found.{found}
-use Rattle.record_json.specs.declared.fault.Failure.{Failure}
-use Rattle.record_json.specs.Faults.{◌>>=◌}
-use Rattle.record_json.specs.Reading.{here, text_of, number_of}
+use Rattle.json_paths.specs.declared.fault.Failure.{Failure}
+use Rattle.json_paths.specs.Faults.{◌>>=◌}
+use Rattle.json_paths.specs.Reading.{here, text_of, number_of}
 use Rattle.record_values.specs.declared.names.Owner.{Owner}
 use Rattle.record_values.specs.declared.names.Owner.TheVariants as owners
 use Rattle.record_values.specs.declared.types.Func.{Func}
@@ -20,8 +20,8 @@ use Rattle.record_values.specs.declared.world.Item.TheVariants as items
 use Rattle.record_values.specs.declared.world.ItemKey.{ItemKey}
 use Rattle.record_values.specs.declared.world.ItemKey.TheVariants as keys
 use Rattle.record_values.specs.Names.{is_same_item, is_same_interface}
-use Rattle.record_worlds.specs.declared.placed.PlacedInterface.{PlacedInterface}
-use Rattle.record_worlds.specs.declared.placed.RecordWorld.{RecordWorld}
+use Rattle.record_worlds.specs.declared.indexed.IndexedInterface.{IndexedInterface}
+use Rattle.record_worlds.specs.declared.indexed.RecordWorld.{RecordWorld}
 use Rattle.record_roles.specs.declared.sides.Side.{Side}
 use Rattle.record_roles.specs.declared.sides.Side.TheVariants as sides
 
@@ -31,22 +31,22 @@ items_of w sides.Export = w.wit.exports
 
 -- ---- owners, by the places of interfaces in the record
 
-abbrev pub stands_on : Side → PlacedInterface → Bool
-stands_on sides.Import i = i.is_imported
-stands_on sides.Export i = i.is_exported
+abbrev pub is_on_side : Side → IndexedInterface → Bool
+is_on_side sides.Import i = i.is_imported
+is_on_side sides.Export i = i.is_exported
 
-abbrev pub standing : RecordWorld → Side → ℕ → Bool
-standing w side place = option_map_or (stands_on side) (slice_get w.interfaces place) false
+abbrev pub is_present : RecordWorld → Side → ℕ → Bool
+is_present w side index = option_map_or (is_on_side side) (slice_get w.interfaces index) false
 
 unfoldable pub interface_of : RecordWorld → Side → Data → Result ℕ Failure
 interface_of w side d = do
-  place ← number_of (2 ^ 32) d
-  if standing w side place then Ok place else Err here
+  index ← number_of (2 ^ 32) d
+  if is_present w side index then Ok index else Err here
 
 abbrev pub some_interface : RecordWorld → Side → Data → Result (Option ℕ) Failure
 some_interface w side d = do
-  place ← interface_of w side d
-  Ok (Some place)
+  index ← interface_of w side d
+  Ok (Some index)
 
 -- null is the world itself
 unfoldable pub owner_of : RecordWorld → Side → Data → Result (Option ℕ) Failure
@@ -54,7 +54,7 @@ owner_of w side d = if is_some (as_null d) then Ok None else some_interface w si
 
 abbrev pub owner_at : RecordWorld → Option ℕ → Owner
 owner_at w None = owners.World
-owner_at w (Some place) = option_map_or (λ i. owners.Interface i.name) (slice_get w.interfaces place) owners.World
+owner_at w (Some index) = option_map_or (λ i. owners.Interface i.name) (slice_get w.interfaces index) owners.World
 
 -- ---- functions
 
@@ -66,20 +66,20 @@ function_in (items.Type ns) = None
 abbrev pub world_function : RecordWorld → Side → List ℕ → Option Func
 world_function w side name = option_and_then function_in (lookup (is_same_item (keys.Name name)) (items_of w side))
 
-abbrev pub interface_function : RecordWorld → PlacedInterface → List ℕ → Option Func
+abbrev pub interface_function : RecordWorld → IndexedInterface → List ℕ → Option Func
 interface_function w i name = option_and_then
-    (λ place. option_and_then (λ found. slice_get found.functions place) (lookup (is_same_interface i.name) w.wit.interfaces))
+    (λ index. option_and_then (λ found. slice_get found.functions index) (lookup (is_same_interface i.name) w.wit.interfaces))
     (found name i.functions)
 
 abbrev pub function_at : RecordWorld → Side → Option ℕ → List ℕ → Option Func
 function_at w side None name = world_function w side name
-function_at w side (Some place) name = option_and_then (λ i. interface_function w i name) (slice_get w.interfaces place)
+function_at w side (Some index) name = option_and_then (λ i. interface_function w i name) (slice_get w.interfaces index)
 
 -- the name of a function that the owner has
 unfoldable pub function_of : RecordWorld → Side → Option ℕ → Data → Result (List ℕ) Failure
-function_of w side place d = do
+function_of w side index d = do
   name ← text_of d
-  if is_some (function_at w side place name) then Ok name else Err here
+  if is_some (function_at w side index name) then Ok name else Err here
 
 -- ---- resources
 
@@ -95,15 +95,15 @@ is_resource (items.Function f) = false
 abbrev pub world_resource : RecordWorld → Side → List ℕ → Bool
 world_resource w side name = option_map_or is_resource (lookup (is_same_item (keys.Name name)) (items_of w side)) false
 
-abbrev pub interface_resource : PlacedInterface → List ℕ → Bool
+abbrev pub interface_resource : IndexedInterface → List ℕ → Bool
 interface_resource i name = unwrap_or (found name i.types) false
 
 abbrev pub resource_at : RecordWorld → Side → Option ℕ → List ℕ → Bool
 resource_at w side None name = world_resource w side name
-resource_at w side (Some place) name = option_map_or (λ i. interface_resource i name) (slice_get w.interfaces place) false
+resource_at w side (Some index) name = option_map_or (λ i. interface_resource i name) (slice_get w.interfaces index) false
 
 -- the name of a resource that the owner has
 unfoldable pub resource_of : RecordWorld → Side → Option ℕ → Data → Result (List ℕ) Failure
-resource_of w side place d = do
+resource_of w side index d = do
   name ← text_of d
-  if resource_at w side place name then Ok name else Err here
+  if resource_at w side index name then Ok name else Err here

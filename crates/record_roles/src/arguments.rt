@@ -3,11 +3,11 @@
 ghost use Rattle.std.specs.Prelude.{◌≡◌, option_map, option_and_then};
 ghost use Rattle.serde_json.specs.Find.{as_array};
 ghost use Rattle.serde_json.specs.View.{view};
-ghost use Rattle.record_json.specs.Faults.{Gives};
+ghost use Rattle.json_paths.specs.Faults.{Gives};
 ghost use Rattle.record_roles.specs.Arguments.{none_of, one_of, two_of, three_of, first_of, no_argument, one_argument, two_arguments, three_arguments, flag_of, encoding_of, address_of, sort_of, import_abi_of, export_abi_of};
 
 use core_types::ValType;
-use record_json::{Failure, fault_here, read_number, read_text};
+use json_paths::{Failure, fault_here, read_number, read_text};
 use serde_json::Value;
 use standard_kinds::{ExportKind, StringEncoding};
 use std::alloc::Global;

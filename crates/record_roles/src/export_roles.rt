@@ -2,7 +2,7 @@
 
 ghost use Rattle.std.specs.Prelude.{◌≡◌};
 ghost use Rattle.serde_json.specs.View.{view};
-ghost use Rattle.record_json.specs.Faults.{Gives};
+ghost use Rattle.json_paths.specs.Faults.{Gives};
 ghost use Rattle.record_roles.specs.ExportRoles.{world_func_of, interface_func_of, world_name_of, world_post_return_of, world_callback_of, interface_post_return_of, interface_callback_of, destructor_of, plain_of, export_role_of_kind, some_export_role, export_role_of};
 
 use crate::arguments::{
@@ -12,7 +12,7 @@ use crate::import_roles::read_exported_resource;
 use crate::kinds::{ExportRoleKind, export_kind};
 use crate::sides::{Side, owner_at, read_function_name, read_interface};
 use comp_lists::Text;
-use record_json::{Failure, fault_at, fault_here, read_text, under};
+use json_paths::{Failure, fault_at, fault_here, read_text, under};
 use record_values::{ExportRole, Owner, PlainExport};
 use record_worlds::RecordWorld;
 use serde_json::Value;
@@ -38,13 +38,13 @@ fn read_interface_func(
 ) -> Result<ExportRole, Failure>
     ensures { Gives (λ r. r) result (interface_func_of world.now (view value.now)) }
 {
-    let (place, name, abi) = three_arguments(alloc, value)?;
-    let place = read_interface(alloc, world, Side::Export, place);
-    let place = Some(under(alloc, "1", place)?);
-    let name = read_function_name(alloc, world, Side::Export, place, name);
+    let (owner_index, name, abi) = three_arguments(alloc, value)?;
+    let owner_index = read_interface(alloc, world, Side::Export, owner_index);
+    let owner_index = Some(under(alloc, "1", owner_index)?);
+    let name = read_function_name(alloc, world, Side::Export, owner_index, name);
     let name = under(alloc, "2", name)?;
     let abi = under(alloc, "3", read_export_abi(alloc, abi))?;
-    let owner = owner_at(alloc, world, place)?;
+    let owner = owner_at(alloc, world, owner_index)?;
     Ok(ExportRole::Function { owner, name, abi })
 }
 
@@ -90,12 +90,12 @@ fn read_interface_post_return(
 ) -> Result<ExportRole, Failure>
     ensures { Gives (λ r. r) result (interface_post_return_of world.now (view value.now)) }
 {
-    let (place, name) = two_arguments(alloc, value)?;
-    let place = read_interface(alloc, world, Side::Export, place);
-    let place = Some(under(alloc, "1", place)?);
-    let name = read_function_name(alloc, world, Side::Export, place, name);
+    let (owner_index, name) = two_arguments(alloc, value)?;
+    let owner_index = read_interface(alloc, world, Side::Export, owner_index);
+    let owner_index = Some(under(alloc, "1", owner_index)?);
+    let name = read_function_name(alloc, world, Side::Export, owner_index, name);
     let function = under(alloc, "2", name)?;
-    let owner = owner_at(alloc, world, place)?;
+    let owner = owner_at(alloc, world, owner_index)?;
     Ok(ExportRole::PostReturn { owner, function })
 }
 
@@ -107,12 +107,12 @@ fn read_interface_callback(
 ) -> Result<ExportRole, Failure>
     ensures { Gives (λ r. r) result (interface_callback_of world.now (view value.now)) }
 {
-    let (place, name) = two_arguments(alloc, value)?;
-    let place = read_interface(alloc, world, Side::Export, place);
-    let place = Some(under(alloc, "1", place)?);
-    let name = read_function_name(alloc, world, Side::Export, place, name);
+    let (owner_index, name) = two_arguments(alloc, value)?;
+    let owner_index = read_interface(alloc, world, Side::Export, owner_index);
+    let owner_index = Some(under(alloc, "1", owner_index)?);
+    let name = read_function_name(alloc, world, Side::Export, owner_index, name);
     let function = under(alloc, "2", name)?;
-    let owner = owner_at(alloc, world, place)?;
+    let owner = owner_at(alloc, world, owner_index)?;
     Ok(ExportRole::Callback { owner, function })
 }
 

@@ -2,7 +2,7 @@
 
 ghost use Rattle.std.specs.Prelude.{◌≡◌};
 ghost use Rattle.serde_json.specs.View.{view};
-ghost use Rattle.record_json.specs.Faults.{Gives};
+ghost use Rattle.json_paths.specs.Faults.{Gives};
 ghost use Rattle.record_roles.specs.ImportRoles.{world_func_of, interface_func_of, imported_resource, exported_resource, task_return_of, subtask_cancel_of, error_context_new_of, debug_message_of, context_get_of, context_set_of, tls_get_of, tls_set_of, main_export_of, adapter_export_of, alone, of_type, import_role_of_kind, some_import_role, import_role_of};
 
 use crate::arguments::{
@@ -15,7 +15,7 @@ use crate::payloads::Met;
 use crate::sides::{
     Side, owner_at, read_function_name, read_interface, read_owner, read_resource_name,
 };
-use record_json::{Failure, fault_at, fault_here, read_number, read_text, under};
+use json_paths::{Failure, fault_at, fault_here, read_number, read_text, under};
 use record_values::{ImportRole, Owner, TypeName};
 use record_worlds::RecordWorld;
 use serde_json::Value;
@@ -41,13 +41,13 @@ fn read_interface_func(
 ) -> Result<ImportRole, Failure>
     ensures { Gives (λ r. r) result (interface_func_of world.now (view value.now)) }
 {
-    let (place, name, abi) = three_arguments(alloc, value)?;
-    let place = read_interface(alloc, world, Side::Import, place);
-    let place = Some(under(alloc, "1", place)?);
-    let name = read_function_name(alloc, world, Side::Import, place, name);
+    let (owner_index, name, abi) = three_arguments(alloc, value)?;
+    let owner_index = read_interface(alloc, world, Side::Import, owner_index);
+    let owner_index = Some(under(alloc, "1", owner_index)?);
+    let name = read_function_name(alloc, world, Side::Import, owner_index, name);
     let name = under(alloc, "2", name)?;
     let abi = under(alloc, "3", read_import_abi(alloc, abi))?;
-    let owner = owner_at(alloc, world, place)?;
+    let owner = owner_at(alloc, world, owner_index)?;
     Ok(ImportRole::Function { owner, name, abi })
 }
 
@@ -60,11 +60,11 @@ fn read_imported_resource(
 ) -> Result<TypeName, Failure>
     ensures { Gives (λ t. t) result (imported_resource world.now (view value.now)) }
 {
-    let (place, name) = two_arguments(alloc, value)?;
-    let place = under(alloc, "1", read_owner(alloc, world, Side::Import, place))?;
-    let name = read_resource_name(alloc, world, Side::Import, place, name);
+    let (owner_index, name) = two_arguments(alloc, value)?;
+    let owner_index = under(alloc, "1", read_owner(alloc, world, Side::Import, owner_index))?;
+    let name = read_resource_name(alloc, world, Side::Import, owner_index, name);
     let name = under(alloc, "2", name)?;
-    let owner = owner_at(alloc, world, place)?;
+    let owner = owner_at(alloc, world, owner_index)?;
     Ok(TypeName { owner, name })
 }
 
@@ -77,12 +77,12 @@ pub(crate) fn read_exported_resource(
 ) -> Result<TypeName, Failure>
     ensures { Gives (λ t. t) result (exported_resource world.now (view value.now)) }
 {
-    let (place, name) = two_arguments(alloc, value)?;
-    let place = read_interface(alloc, world, Side::Export, place);
-    let place = Some(under(alloc, "1", place)?);
-    let name = read_resource_name(alloc, world, Side::Export, place, name);
+    let (owner_index, name) = two_arguments(alloc, value)?;
+    let owner_index = read_interface(alloc, world, Side::Export, owner_index);
+    let owner_index = Some(under(alloc, "1", owner_index)?);
+    let name = read_resource_name(alloc, world, Side::Export, owner_index, name);
     let name = under(alloc, "2", name)?;
-    let owner = owner_at(alloc, world, place)?;
+    let owner = owner_at(alloc, world, owner_index)?;
     Ok(TypeName { owner, name })
 }
 
@@ -94,11 +94,11 @@ fn read_task_return(
 ) -> Result<ImportRole, Failure>
     ensures { Gives (λ r. r) result (task_return_of world.now (view value.now)) }
 {
-    let (place, name) = two_arguments(alloc, value)?;
-    let place = under(alloc, "1", read_owner(alloc, world, Side::Export, place))?;
-    let name = read_function_name(alloc, world, Side::Export, place, name);
+    let (owner_index, name) = two_arguments(alloc, value)?;
+    let owner_index = under(alloc, "1", read_owner(alloc, world, Side::Export, owner_index))?;
+    let name = read_function_name(alloc, world, Side::Export, owner_index, name);
     let function = under(alloc, "2", name)?;
-    let owner = owner_at(alloc, world, place)?;
+    let owner = owner_at(alloc, world, owner_index)?;
     Ok(ImportRole::TaskReturn { owner, function })
 }
 

@@ -2,14 +2,14 @@
 
 ghost use Rattle.std.specs.Prelude.{◌≡◌, ◌<◌, ◌^◌, IfOk, codes};
 ghost use Rattle.serde_json.specs.View.{view};
-ghost use Rattle.record_json.specs.Faults.{Gives};
+ghost use Rattle.json_paths.specs.Faults.{Gives};
 ghost use Rattle.record_roles.specs.ImportRoles.{kind_name, unit_of, side_of, is_kind, is_met, bool_at, owner_member, function_member, index_member, met_payload, met_of, payload_of, can_be_async, sync_payload_of, async_payload_of, payload_role_of};
 
 use crate::arguments::{one_argument, read_flag, two_arguments};
 use crate::payloads::{Met, met_in_function};
 use crate::sides::{Side, function_at, owner_at, read_function_name, read_owner};
 use comp_lists::Text;
-use record_json::{
+use json_paths::{
     Failure, check_members, fault_at, read_bool, read_number, required, text_member, under,
 };
 use record_values::{ImportRole, Payload, PayloadKind, PayloadOperation};
@@ -62,13 +62,13 @@ fn is_met(
     met: &Met,
     kind: PayloadKind,
     side: Side,
-    place: Option<usize>,
+    owner_index: Option<usize>,
     function: &Text,
     index: usize,
 ) -> Result<bool, AllocError>
-    ensures { IfOk result (λ b. b ≡ is_met world.now met.now kind side place function.now index) }
+    ensures { IfOk result (λ b. b ≡ is_met world.now met.now kind side owner_index function.now index) }
 {
-    let Some(function) = function_at(alloc, world, side, place, function)? else {
+    let Some(function) = function_at(alloc, world, side, owner_index, function)? else {
         return Ok(false);
     };
     let kinds = met_in_function(alloc, met, function)?;
@@ -101,13 +101,13 @@ fn function_member(
     alloc: Global,
     world: &RecordWorld,
     side: Side,
-    place: Option<usize>,
+    owner_index: Option<usize>,
     value: &Value,
 ) -> Result<Text, Failure>
-    ensures { Gives (λ f. f) result (function_member world.now side place (view value.now)) }
+    ensures { Gives (λ f. f) result (function_member world.now side owner_index (view value.now)) }
 {
     let member = required(alloc, value, "function")?;
-    let name = read_function_name(alloc, world, side, place, member);
+    let name = read_function_name(alloc, world, side, owner_index, member);
     under(alloc, "function", name)
 }
 
@@ -125,18 +125,18 @@ fn met_payload(
     met: &Met,
     kind: PayloadKind,
     imported: bool,
-    place: Option<usize>,
+    owner_index: Option<usize>,
     function: Text,
     index: u32,
 ) -> Result<Payload, Failure>
-    ensures { Gives (λ p. p) result (met_payload world.now met.now kind imported place function index) }
+    ensures { Gives (λ p. p) result (met_payload world.now met.now kind imported owner_index function index) }
 {
     let side = side_of(imported);
     let at = index as usize;
-    if !is_met(alloc, world, met, kind, side, place, &function, at)? {
+    if !is_met(alloc, world, met, kind, side, owner_index, &function, at)? {
         return Err(fault_at(alloc, "index"));
     }
-    let owner = owner_at(alloc, world, place)?;
+    let owner = owner_at(alloc, world, owner_index)?;
     Ok(Payload::Met {
         imported,
         owner,
@@ -163,10 +163,10 @@ fn read_met(
     )?;
     let imported = imported_member(alloc, value)?;
     let side = side_of(imported);
-    let place = owner_member(alloc, world, side, value)?;
-    let function = function_member(alloc, world, side, place, value)?;
+    let owner_index = owner_member(alloc, world, side, value)?;
+    let function = function_member(alloc, world, side, owner_index, value)?;
     let index = index_member(alloc, value)? as u32;
-    met_payload(alloc, world, met, kind, imported, place, function, index)
+    met_payload(alloc, world, met, kind, imported, owner_index, function, index)
 }
 
 #[tactic(auto, unfolding(crate::specs::ImportRoles::payload_of))]

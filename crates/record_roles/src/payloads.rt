@@ -76,7 +76,7 @@ fn add_type(alloc: Global, met: &mut Met, name: TypeName, nodes: &[Node]) -> Res
 {
     let mut kinds = Seq::new(alloc);
     push_met_in(met, nodes, &mut kinds)?;
-    met.add_first(name, kinds)
+    met.insert_if_absent(name, kinds)
 }
 
 fn add_types(

@@ -3,9 +3,9 @@
 ghost use Rattle.std.specs.Prelude.{◌≡◌, codes};
 ghost use Rattle.serde_json.specs.Find.{get};
 ghost use Rattle.serde_json.specs.View.{view, items_view};
-ghost use Rattle.record_json.specs.Faults.{Gives};
+ghost use Rattle.json_paths.specs.Faults.{Gives};
 ghost use Rattle.std.specs.Fmt.{decimal};
-ghost use Rattle.record_json.specs.Reading.{under, items_from};
+ghost use Rattle.json_paths.specs.Reading.{under, items_from};
 ghost use Rattle.record_roles.specs.Payloads.{all_met};
 ghost use Rattle.record_roles.specs.Records.{import_role_at, export_role_at, core_import_of, core_export_of, core_imports_of, core_exports_of, core_imports_if, core_exports_if, version_of, encoding_if, only_known, with_world, record_of, record_in};
 
@@ -14,7 +14,7 @@ use crate::export_roles::read_export_role;
 use crate::import_roles::read_import_role;
 use crate::payloads::{Met, all_met};
 use comp_lists::{Seq, Text};
-use record_json::{
+use json_paths::{
     Failure, bool_member, check_members, fault_at, fault_here, read_value, required, text_member,
     under, under_index,
 };

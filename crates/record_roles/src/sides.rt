@@ -3,13 +3,13 @@
 ghost use Rattle.std.specs.Prelude.{◌≡◌, option_map, option_and_then, IfOk, is_some};
 ghost use Rattle.std.specs.Option.{option_copied};
 ghost use Rattle.serde_json.specs.View.{view};
-ghost use Rattle.record_json.specs.Faults.{Gives};
-ghost use Rattle.record_roles.specs.Sides.{items_of, stands_on, standing, interface_of, owner_of, owner_at, function_in, world_function, interface_function, function_at, is_resource, world_resource, interface_resource, resource_at, function_of, resource_of};
+ghost use Rattle.json_paths.specs.Faults.{Gives};
+ghost use Rattle.record_roles.specs.Sides.{items_of, is_on_side, is_present, interface_of, owner_of, owner_at, function_in, world_function, interface_function, function_at, is_resource, world_resource, interface_resource, resource_at, function_of, resource_of};
 
 use comp_lists::{Keyed, Text, TryClone};
-use record_json::{Failure, fault_here, read_number, read_text};
+use json_paths::{Failure, fault_here, read_number, read_text};
 use record_values::{Func, Item, ItemKey, Node, Owner};
-use record_worlds::{PlacedInterface, RecordWorld};
+use record_worlds::{IndexedInterface, RecordWorld};
 use serde_json::Value;
 use std::alloc::{AllocError, Global};
 
@@ -29,8 +29,8 @@ fn items_of(world: &RecordWorld, side: Side) -> &Keyed<ItemKey, Item>
     }
 }
 
-fn stands_on(interface: &PlacedInterface, side: Side) -> bool
-    ensures { result ≡ stands_on side interface.now }
+fn is_on_side(interface: &IndexedInterface, side: Side) -> bool
+    ensures { result ≡ is_on_side side interface.now }
 {
     match side {
         Side::Import => interface.is_imported,
@@ -39,11 +39,11 @@ fn stands_on(interface: &PlacedInterface, side: Side) -> bool
 }
 
 /// Whether the interface of this place stands on a side.
-fn is_standing(world: &RecordWorld, side: Side, place: usize) -> bool
-    ensures { result ≡ standing world.now side place }
+fn is_present(world: &RecordWorld, side: Side, index: usize) -> bool
+    ensures { result ≡ is_present world.now side index }
 {
-    match world.interfaces.as_slice().get(place) {
-        Some(interface) => stands_on(interface, side),
+    match world.interfaces.as_slice().get(index) {
+        Some(interface) => is_on_side(interface, side),
         None => false,
     }
 }
@@ -58,9 +58,9 @@ pub(crate) fn read_interface(
 ) -> Result<usize, Failure>
     ensures { Gives (λ i. i) result (interface_of world.now side (view value.now)) }
 {
-    let place = read_number(alloc, 1 << 32, value)? as usize;
-    if is_standing(world, side, place) {
-        Ok(place)
+    let index = read_number(alloc, 1 << 32, value)? as usize;
+    if is_present(world, side, index) {
+        Ok(index)
     } else {
         Err(fault_here(alloc))
     }
@@ -79,22 +79,22 @@ pub(crate) fn read_owner(
     if value.is_null() {
         return Ok(None);
     }
-    let place = read_interface(alloc, world, side, value)?;
-    Ok(Some(place))
+    let index = read_interface(alloc, world, side, value)?;
+    Ok(Some(index))
 }
 
 /// The owner at a place.
 pub(crate) fn owner_at(
     alloc: Global,
     world: &RecordWorld,
-    place: Option<usize>,
+    index: Option<usize>,
 ) -> Result<Owner, AllocError>
-    ensures { IfOk result (λ o. o ≡ owner_at world.now place) }
+    ensures { IfOk result (λ o. o ≡ owner_at world.now index) }
 {
-    let Some(place) = place else {
+    let Some(index) = index else {
         return Ok(Owner::World);
     };
-    match world.interfaces.as_slice().get(place) {
+    match world.interfaces.as_slice().get(index) {
         Some(interface) => Ok(Owner::Interface(interface.name.try_clone(alloc)?)),
         None => Ok(Owner::World),
     }
@@ -128,14 +128,14 @@ fn world_function<'w>(
 /// A function of an interface.
 fn interface_function<'w>(
     world: &'w RecordWorld,
-    interface: &PlacedInterface,
+    interface: &IndexedInterface,
     name: &Text,
 ) -> Option<&'w Func>
     ensures { option_copied result ≡ interface_function world.now interface.now name.now }
 {
-    let place = *interface.functions.get(name)?;
+    let index = *interface.functions.get(name)?;
     let found = world.wit.interfaces.get(&interface.name)?;
-    found.functions.as_slice().get(place)
+    found.functions.as_slice().get(index)
 }
 
 /// The function of this name that the owner at a place has.
@@ -143,15 +143,15 @@ pub(crate) fn function_at<'w>(
     alloc: Global,
     world: &'w RecordWorld,
     side: Side,
-    place: Option<usize>,
+    index: Option<usize>,
     name: &Text,
 ) -> Result<Option<&'w Func>, AllocError>
-    ensures { IfOk result (λ f. option_copied f ≡ function_at world.now side place name.now) }
+    ensures { IfOk result (λ f. option_copied f ≡ function_at world.now side index name.now) }
 {
-    let Some(place) = place else {
+    let Some(index) = index else {
         return world_function(alloc, world, side, name);
     };
-    match world.interfaces.as_slice().get(place) {
+    match world.interfaces.as_slice().get(index) {
         Some(interface) => Ok(interface_function(world, interface, name)),
         None => Ok(None),
     }
@@ -184,7 +184,7 @@ fn world_resource(
     }
 }
 
-fn interface_resource(interface: &PlacedInterface, name: &Text) -> bool
+fn interface_resource(interface: &IndexedInterface, name: &Text) -> bool
     ensures { result ≡ interface_resource interface.now name.now }
 {
     match interface.types.get(name) {
@@ -198,15 +198,15 @@ fn resource_at(
     alloc: Global,
     world: &RecordWorld,
     side: Side,
-    place: Option<usize>,
+    index: Option<usize>,
     name: &Text,
 ) -> Result<bool, AllocError>
-    ensures { IfOk result (λ b. b ≡ resource_at world.now side place name.now) }
+    ensures { IfOk result (λ b. b ≡ resource_at world.now side index name.now) }
 {
-    let Some(place) = place else {
+    let Some(index) = index else {
         return world_resource(alloc, world, side, name);
     };
-    match world.interfaces.as_slice().get(place) {
+    match world.interfaces.as_slice().get(index) {
         Some(interface) => Ok(interface_resource(interface, name)),
         None => Ok(false),
     }
@@ -218,13 +218,13 @@ pub(crate) fn read_function_name(
     alloc: Global,
     world: &RecordWorld,
     side: Side,
-    place: Option<usize>,
+    index: Option<usize>,
     value: &Value,
 ) -> Result<Text, Failure>
-    ensures { Gives (λ n. n) result (function_of world.now side place (view value.now)) }
+    ensures { Gives (λ n. n) result (function_of world.now side index (view value.now)) }
 {
     let name = read_text(alloc, value)?;
-    let found = function_at(alloc, world, side, place, &name)?;
+    let found = function_at(alloc, world, side, index, &name)?;
     if found.is_some() {
         Ok(name)
     } else {
@@ -238,13 +238,13 @@ pub(crate) fn read_resource_name(
     alloc: Global,
     world: &RecordWorld,
     side: Side,
-    place: Option<usize>,
+    index: Option<usize>,
     value: &Value,
 ) -> Result<Text, Failure>
-    ensures { Gives (λ n. n) result (resource_of world.now side place (view value.now)) }
+    ensures { Gives (λ n. n) result (resource_of world.now side index (view value.now)) }
 {
     let name = read_text(alloc, value)?;
-    if resource_at(alloc, world, side, place, &name)? {
+    if resource_at(alloc, world, side, index, &name)? {
         Ok(name)
     } else {
         Err(fault_here(alloc))

@@ -7,10 +7,10 @@ use Rattle.std.specs.Str.{bytes_eq}
 use Rattle.serde_json.specs.Data.{Data, Items, no_items, item}
 use Rattle.serde_json.specs.Find.{as_array}
 use Rattle.comp_lists.specs.Tables.{with_first}
-use Rattle.record_json.specs.declared.fault.Failure.{Failure}
-use Rattle.record_json.specs.declared.fault.Failure.TheVariants as failures
-use Rattle.record_json.specs.Faults.{◌>>=◌}
-use Rattle.record_json.specs.Reading.{under, here, at_member, required, only}
+use Rattle.json_paths.specs.declared.fault.Failure.{Failure}
+use Rattle.json_paths.specs.declared.fault.Failure.TheVariants as failures
+use Rattle.json_paths.specs.Faults.{◌>>=◌}
+use Rattle.json_paths.specs.Reading.{under, here, at_member, required, only}
 use Rattle.record_values.specs.declared.types.Typed.{Typed}
 use Rattle.record_values.specs.declared.types.Func.{Func}
 use Rattle.record_types.specs.declared.known.TypeFacts.{TypeFacts}

@@ -4,9 +4,9 @@ use Rattle.std.specs.Map.{lookup}
 use Rattle.std.specs.Str.{bytes_eq}
 use Rattle.serde_json.specs.Data.{Data}
 use Rattle.serde_json.specs.Find.{as_null, as_array, as_number, as_u64}
-use Rattle.record_json.specs.declared.fault.Failure.{Failure}
-use Rattle.record_json.specs.Faults.{◌>>=◌}
-use Rattle.record_json.specs.Reading.{under, here, at_member, text_of, pair_of}
+use Rattle.json_paths.specs.declared.fault.Failure.{Failure}
+use Rattle.json_paths.specs.Faults.{◌>>=◌}
+use Rattle.json_paths.specs.Reading.{under, here, at_member, text_of, pair_of}
 use Rattle.record_values.specs.declared.names.InterfaceName.TheVariants as interfaces
 use Rattle.record_values.specs.declared.names.Owner.{Owner}
 use Rattle.record_values.specs.declared.names.Owner.TheVariants as owners
@@ -16,17 +16,17 @@ use Rattle.record_types.specs.declared.known.ReadInterface.{ReadInterface}
 use Rattle.record_types.specs.Scopes.{Table, Names}
 
 abbrev pub table_by : Names → ℕ → Option ReadInterface → Option Table
-table_by k place (Some i) = Some i.known
-table_by k place None = if (place == length k.done) && not k.is_world then Some k.current else None
+table_by k index (Some i) = Some i.known
+table_by k index None = if (index == length k.done) && not k.is_world then Some k.current else None
 
 -- the named types of the interface at a place; the one that is being read stands behind those before
 abbrev pub table_at : Names → ℕ → Option Table
-table_at k place = table_by k place (slice_get k.done place)
+table_at k index = table_by k index (slice_get k.done index)
 
 abbrev pub interface_at : Names → ℕ → Result (Owner × Table) Failure
-interface_at k place = do
-  table ← ok_or (table_at k place) here
-  Ok (owners.Interface (interfaces.Unused place), table)
+interface_at k index = do
+  table ← ok_or (table_at k index) here
+  Ok (owners.Interface (interfaces.Unused index), table)
 
 abbrev pub interface_by : Names → Option ℕ → Result (Owner × Table) Failure
 interface_by k None = Err here

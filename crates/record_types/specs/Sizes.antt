@@ -2,8 +2,8 @@
 -- A part that isn't there is a node too, but no level. (The component model sets no limit; these are this
 -- project's own.)
 use Rattle.std.specs.Prelude.{◌+◌, min, max, nat_le, codes, Result, Ok, Err, if◌then◌else◌}
-use Rattle.record_json.specs.declared.fault.Failure.{Failure}
-use Rattle.record_json.specs.Reading.{left_out}
+use Rattle.json_paths.specs.declared.fault.Failure.{Failure}
+use Rattle.json_paths.specs.Reading.{left_out}
 use Rattle.record_types.specs.declared.known.Size.{Size}
 
 abbrev pub nothing : Size
@@ -18,8 +18,8 @@ abbrev pub simple : Size
 simple = record { levels = 1; nodes = 1 }
 
 -- of parts together: the levels of the deepest, and the nodes of all, up to 10,000
-abbrev pub beside : Size → Size → Size
-beside a b = record { levels = max a.levels b.levels; nodes = min (a.nodes + b.nodes) 10000 }
+abbrev pub combined : Size → Size → Size
+combined a b = record { levels = max a.levels b.levels; nodes = min (a.nodes + b.nodes) 10000 }
 
 -- a type with parts that have this size together; it has at most 100 levels and 10,000 nodes
 unfoldable pub above : Size → Result Size Failure

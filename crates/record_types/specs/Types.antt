@@ -5,17 +5,17 @@ use Rattle.std.specs.Fmt.{decimal}
 use Rattle.std.specs.Str.{bytes_eq}
 use Rattle.serde_json.specs.Data.{Data, Items, no_items, item}
 use Rattle.serde_json.specs.Find.{as_str, as_null, as_array}
-use Rattle.record_json.specs.declared.fault.Failure.{Failure}
-use Rattle.record_json.specs.declared.fault.Failure.TheVariants as failures
-use Rattle.record_json.specs.Faults.{◌>>=◌}
-use Rattle.record_json.specs.Reading.{under, here, left_out, text_of, single, pair_of, items_from}
+use Rattle.json_paths.specs.declared.fault.Failure.{Failure}
+use Rattle.json_paths.specs.declared.fault.Failure.TheVariants as failures
+use Rattle.json_paths.specs.Faults.{◌>>=◌}
+use Rattle.json_paths.specs.Reading.{under, here, left_out, text_of, single, pair_of, items_from}
 use Rattle.record_values.specs.declared.names.TypeName.{TypeName}
 use Rattle.record_values.specs.declared.types.Case.{Case}
 use Rattle.record_values.specs.declared.types.Node.{Node}
 use Rattle.record_values.specs.declared.types.Node.TheVariants as nodes
 use Rattle.record_types.specs.declared.known.Size.{Size}
 use Rattle.record_types.specs.Scopes.{Names}
-use Rattle.record_types.specs.Sizes.{nothing, absent, simple, beside, above}
+use Rattle.record_types.specs.Sizes.{nothing, absent, simple, combined, above}
 use Rattle.record_types.specs.References.{reference_of}
 use Rattle.record_types.specs.Primitives.{primitive_of}
 
@@ -32,8 +32,8 @@ abbrev pub Reader : Type 0
 Reader = Data → List Node → With Size
 
 -- a node behind its parts, which have this size together
-abbrev pub behind : Node → Size → List Node → With Size
-behind node parts ns = do
+abbrev pub after_parts : Node → Size → List Node → With Size
+after_parts node parts ns = do
   size ← above parts
   Ok (size, ns ++ node ∷ [])
 
@@ -66,33 +66,33 @@ item_count (item d ds) = suc (item_count ds)
 abbrev pub holding_of : Node → Size → Reader → Reader
 holding_of node others read d ns = do
   part ← read d ns
-  behind node (beside others part.0) part.1
+  after_parts node (combined others part.0) part.1
 
 -- a type with one part, which may be null
 abbrev pub carrying_of : Node → Reader → Reader
 carrying_of node read d ns = do
   part ← part_of read d ns
-  behind node part.0 part.1
+  after_parts node part.0 part.1
 
 unfoldable pub result_of : Reader → Reader
 result_of read d ns = do
   p ← ok_or (option_and_then pair_of (as_array d)) here
   good ← under (codes "0") (part_of read p.0 ns)
   bad ← under (codes "1") (part_of read p.1 good.1)
-  behind (nodes.«Result» (is_part p.0) (is_part p.1)) (beside good.0 bad.0) bad.1
+  after_parts (nodes.«Result» (is_part p.0) (is_part p.1)) (combined good.0 bad.0) bad.1
 
 -- the parts of a tuple, behind parts that have this size together; the first of them at this index
 abbrev pub tuple_from : Reader → ℕ → Items → Size → List Node → With Size
 tuple_from read i no_items size ns = Ok (size, ns)
 tuple_from read i (item d ds) size ns = do
   part ← under (decimal i) (read d ns)
-  tuple_from read (suc i) ds (beside size part.0) part.1
+  tuple_from read (suc i) ds (combined size part.0) part.1
 
 unfoldable pub tuple_of : Reader → Reader
 tuple_of read d ns = do
   ds ← some_items d
   parts ← tuple_from read 0 ds nothing ns
-  behind (nodes.Tuple (item_count ds)) parts.0 parts.1
+  after_parts (nodes.Tuple (item_count ds)) parts.0 parts.1
 
 -- a field: an array of its name and its type
 unfoldable pub field_of : Reader → Data → List Node → With (List ℕ × Size)
@@ -104,10 +104,10 @@ field_of read d ns = do
 
 -- a record with fields behind these
 abbrev pub fields_from : Reader → ℕ → Items → List (List ℕ) → Size → List Node → With Size
-fields_from read i no_items names size ns = behind (nodes.Record names) size ns
+fields_from read i no_items names size ns = after_parts (nodes.Record names) size ns
 fields_from read i (item d ds) names size ns = do
   f ← under (decimal i) (field_of read d ns)
-  fields_from read (suc i) ds (names ++ f.0.0 ∷ []) (beside size f.0.1) f.1
+  fields_from read (suc i) ds (names ++ f.0.0 ∷ []) (combined size f.0.1) f.1
 
 unfoldable pub record_of : Reader → Reader
 record_of read d ns = do
@@ -127,10 +127,10 @@ case_of read d ns = do
 
 -- a variant with cases behind these
 abbrev pub cases_from : Reader → ℕ → Items → List Case → Size → List Node → With Size
-cases_from read i no_items cases size ns = behind (nodes.Variant cases) size ns
+cases_from read i no_items cases size ns = after_parts (nodes.Variant cases) size ns
 cases_from read i (item d ds) cases size ns = do
   c ← under (decimal i) (case_of read d ns)
-  cases_from read (suc i) ds (cases ++ c.0.0 ∷ []) (beside size c.0.1) c.1
+  cases_from read (suc i) ds (cases ++ c.0.0 ∷ []) (combined size c.0.1) c.1
 
 unfoldable pub variant_of : Reader → Reader
 variant_of read d ns = do
@@ -163,12 +163,12 @@ resource_of k d = do
 abbrev pub own_of : Names → Reader
 own_of k d ns = do
   r ← resource_of k d
-  behind (nodes.Own r.0) r.1 ns
+  after_parts (nodes.Own r.0) r.1 ns
 
 abbrev pub borrow_of : Names → Reader
 borrow_of k d ns = do
   r ← resource_of k d
-  behind (nodes.Borrow r.0) r.1 ns
+  after_parts (nodes.Borrow r.0) r.1 ns
 
 -- a named type in use has the size that it has
 abbrev pub ref_of : Names → Reader

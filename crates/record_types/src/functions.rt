@@ -4,14 +4,14 @@ ghost use Rattle.std.specs.Prelude.{◌≡◌};
 ghost use Rattle.serde_json.specs.Find.{get};
 ghost use Rattle.serde_json.specs.View.{view, items_view};
 ghost use Rattle.std.specs.Prelude.{codes};
-ghost use Rattle.record_json.specs.Faults.{Gives};
+ghost use Rattle.json_paths.specs.Faults.{Gives};
 ghost use Rattle.record_types.specs.Scopes.{names_in};
 ghost use Rattle.record_types.specs.Functions.{param_of, params_of, params_if, result_of, result_if, is_constructor, async_of, function_of};
 
 use crate::known::Scope;
 use crate::types::read_nodes;
 use comp_lists::Seq;
-use record_json::{
+use json_paths::{
     Failure, bool_member, check_members, fault_at, fault_here, pair_items, read_text, text_member,
     under, under_index,
 };

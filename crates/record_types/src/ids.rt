@@ -3,12 +3,12 @@
 ghost use Rattle.std.specs.Prelude.{◌≡◌, ◌<◌, Ok, true, option_map};
 ghost use Rattle.std.specs.List.{list_any};
 ghost use Rattle.serde_json.specs.View.{view};
-ghost use Rattle.record_json.specs.Faults.{Gives};
+ghost use Rattle.json_paths.specs.Faults.{Gives};
 ghost use Rattle.semver.specs.Parse.{memory_error};
 ghost use Rattle.record_types.specs.Ids.{cut_at, is_mark, is_name, is_unversioned, is_version, is_id, some_id, id_of};
 
 use comp_lists::Text;
-use record_json::{Failure, fault_here, read_text};
+use json_paths::{Failure, fault_here, read_text};
 use semver::{Error, Version};
 use serde_json::Value;
 use std::alloc::{AllocError, Global};

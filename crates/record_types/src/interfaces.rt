@@ -2,7 +2,7 @@
 
 ghost use Rattle.std.specs.Prelude.{◌≡◌, OnOk};
 ghost use Rattle.serde_json.specs.View.{view};
-ghost use Rattle.record_json.specs.Faults.{Gives};
+ghost use Rattle.json_paths.specs.Faults.{Gives};
 ghost use Rattle.record_types.specs.Scopes.{names_in};
 ghost use Rattle.record_types.specs.Named.{named_type_of};
 ghost use Rattle.record_types.specs.Interfaces.{inside, Becomes, with_known, with_name, next_type, next_function, types_of, new_function, functions_of, members_of, interface_of, interfaces_of};
@@ -12,7 +12,7 @@ use crate::ids::read_id;
 use crate::known::{ReadInterface, Scope, TypeFacts};
 use crate::named::read_named_type;
 use comp_lists::{Keyed, Seq, Text};
-use record_json::{Failure, check_members, fault_at, fault_here, required, under, under_index};
+use json_paths::{Failure, check_members, fault_at, fault_here, required, under, under_index};
 use record_values::{Func, Typed};
 use serde_json::Value;
 use std::alloc::{AllocError, Global};
@@ -44,7 +44,7 @@ fn add_known(
 ) -> Result<(), AllocError>
     ensures { OnOk result (known.new ≡ with_known known.old name.now facts) }
 {
-    known.add_first(name.clone(alloc)?, facts)?;
+    known.insert_if_absent(name.clone(alloc)?, facts)?;
     Ok(())
 }
 
@@ -53,7 +53,7 @@ fn add_known(
 fn add_name(alloc: Global, seen: &mut Keyed<Text, ()>, name: &Text) -> Result<(), AllocError>
     ensures { OnOk result (seen.new ≡ with_name seen.old name.now) }
 {
-    seen.add_first(name.clone(alloc)?, ())?;
+    seen.insert_if_absent(name.clone(alloc)?, ())?;
     Ok(())
 }
 

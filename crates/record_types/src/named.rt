@@ -3,7 +3,7 @@
 ghost use Rattle.std.specs.Prelude.{◌≡◌, true, Some};
 ghost use Rattle.serde_json.specs.View.{view};
 ghost use Rattle.serde_json.specs.Find.{as_bool};
-ghost use Rattle.record_json.specs.Faults.{Gives};
+ghost use Rattle.json_paths.specs.Faults.{Gives};
 ghost use Rattle.record_types.specs.Scopes.{names_in};
 ghost use Rattle.record_types.specs.Named.{value_facts, primitive_name, other_name, resource_by, new_type, meaning_of, new_name, named_type_of};
 
@@ -13,7 +13,7 @@ use crate::references::read_reference;
 use crate::sizes::{above, simple};
 use crate::types::read_type;
 use comp_lists::{Keyed, Seq, Text};
-use record_json::{Failure, check_members, fault_here, only_member, read_text, required, under};
+use json_paths::{Failure, check_members, fault_here, only_member, read_text, required, under};
 use record_values::{Node, Typed};
 use serde_json::Value;
 use std::alloc::Global;

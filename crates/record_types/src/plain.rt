@@ -2,29 +2,29 @@
 
 ghost use Rattle.std.specs.Prelude.{◌≡◌, [], length};
 ghost use Rattle.serde_json.specs.View.{view, items_view};
-ghost use Rattle.record_json.specs.Faults.{Gives};
-ghost use Rattle.record_json.specs.Reading.{items_from, text_of};
+ghost use Rattle.json_paths.specs.Faults.{Gives};
+ghost use Rattle.json_paths.specs.Reading.{items_from, text_of};
 ghost use Rattle.record_types.specs.Scopes.{names_in};
-ghost use Rattle.record_types.specs.Types.{GivesWith, behind, alone, some_of, some_items, labels_of, enum_of, flags_of, resource_of, own_of, borrow_of, ref_of, plain_of, primitive_type};
+ghost use Rattle.record_types.specs.Types.{GivesWith, after_parts, alone, some_of, some_items, labels_of, enum_of, flags_of, resource_of, own_of, borrow_of, ref_of, plain_of, primitive_type};
 
 use crate::known::{Scope, Size};
 use crate::primitives::primitive;
 use crate::references::read_reference;
 use crate::sizes::{above, simple};
 use comp_lists::{Seq, Text};
-use record_json::{Failure, fault_here, left_out, read_text, under_index};
+use json_paths::{Failure, fault_here, left_out, read_text, under_index};
 use record_values::{Node, TypeName};
 use serde_json::Value;
 use std::alloc::Global;
 
 /// Writes a node behind its parts, which have this size together.
-pub(crate) fn push_behind(
+pub(crate) fn push_after(
     alloc: Global,
     node: Node,
     parts: Size,
     nodes: &mut Seq<Node>,
 ) -> Result<Size, Failure>
-    ensures { GivesWith result nodes.new (behind node parts nodes.old) }
+    ensures { GivesWith result nodes.new (after_parts node parts nodes.old) }
 {
     let size = above(alloc, parts)?;
     nodes.push(node)?;
@@ -124,7 +124,7 @@ fn read_own(
     ensures { GivesWith result nodes.new (own_of (names_in scope.now) (view value.now) nodes.old) }
 {
     let (named, size) = read_resource(alloc, scope, value)?;
-    push_behind(alloc, Node::Own(named), size, nodes)
+    push_after(alloc, Node::Own(named), size, nodes)
 }
 
 fn read_borrow(
@@ -136,7 +136,7 @@ fn read_borrow(
     ensures { GivesWith result nodes.new (borrow_of (names_in scope.now) (view value.now) nodes.old) }
 {
     let (named, size) = read_resource(alloc, scope, value)?;
-    push_behind(alloc, Node::Borrow(named), size, nodes)
+    push_after(alloc, Node::Borrow(named), size, nodes)
 }
 
 /// A named type in use.

@@ -2,25 +2,25 @@
 
 ghost use Rattle.std.specs.Prelude.{◌≡◌, option_map, option_copied};
 ghost use Rattle.serde_json.specs.View.{view};
-ghost use Rattle.record_json.specs.Faults.{Gives};
+ghost use Rattle.json_paths.specs.Faults.{Gives};
 ghost use Rattle.record_types.specs.Scopes.{names_in};
 ghost use Rattle.record_types.specs.References.{table_at, interface_at, owner_of, reference_of};
 
 use crate::known::{Scope, TypeFacts};
 use comp_lists::{Keyed, Text};
-use record_json::{Failure, fault_at, fault_here, pair_items, read_text, under};
+use json_paths::{Failure, fault_at, fault_here, pair_items, read_text, under};
 use record_values::{InterfaceName, Owner, TypeName};
 use serde_json::Value;
 use std::alloc::Global;
 
 /// The named types of the interface at a place.
-fn table_at<'s>(scope: &'s Scope<'_>, place: u32) -> Option<&'s Keyed<Text, TypeFacts>>
-    ensures { option_map (λ t. t.now) result ≡ table_at (names_in scope.now) place }
+fn table_at<'s>(scope: &'s Scope<'_>, index: u32) -> Option<&'s Keyed<Text, TypeFacts>>
+    ensures { option_map (λ t. t.now) result ≡ table_at (names_in scope.now) index }
 {
-    match scope.done.get(place as usize) {
+    match scope.done.get(index as usize) {
         Some(interface) => Some(&interface.known),
         None => {
-            if place as usize == scope.done.len() && !scope.is_world {
+            if index as usize == scope.done.len() && !scope.is_world {
                 Some(scope.current)
             } else {
                 None
@@ -32,12 +32,12 @@ fn table_at<'s>(scope: &'s Scope<'_>, place: u32) -> Option<&'s Keyed<Text, Type
 fn read_interface_at<'s>(
     alloc: Global,
     scope: &'s Scope<'_>,
-    place: u32,
+    index: u32,
 ) -> Result<(Owner, &'s Keyed<Text, TypeFacts>), Failure>
-    ensures { Gives (λ p. (p.0, p.1.now)) result (interface_at (names_in scope.now) place) }
+    ensures { Gives (λ p. (p.0, p.1.now)) result (interface_at (names_in scope.now) index) }
 {
-    match table_at(scope, place) {
-        Some(table) => Ok((Owner::Interface(InterfaceName::Unused(place)), table)),
+    match table_at(scope, index) {
+        Some(table) => Ok((Owner::Interface(InterfaceName::Unused(index)), table)),
         None => Err(fault_here(alloc)),
     }
 }
@@ -57,11 +57,11 @@ fn read_owner<'s>(
         }
         return Err(fault_here(alloc));
     }
-    let Some(place) = value.as_u64() else {
+    let Some(index) = value.as_u64() else {
         return Err(fault_here(alloc));
     };
-    if place < 1 << 32 {
-        return read_interface_at(alloc, scope, place as u32);
+    if index < 1 << 32 {
+        return read_interface_at(alloc, scope, index as u32);
     }
     Err(fault_here(alloc))
 }
@@ -75,10 +75,10 @@ pub(crate) fn read_reference(
 ) -> Result<(TypeName, TypeFacts), Failure>
     ensures { Gives (λ r. r) result (reference_of (names_in scope.now) (view value.now)) }
 {
-    let Some((place, name)) = pair_items(value) else {
+    let Some((index, name)) = pair_items(value) else {
         return Err(fault_here(alloc));
     };
-    let (owner, table) = under(alloc, "0", read_owner(alloc, scope, place))?;
+    let (owner, table) = under(alloc, "0", read_owner(alloc, scope, index))?;
     let name = under(alloc, "1", read_text(alloc, name))?;
     match table.get(&name) {
         Some(facts) => Ok((TypeName { owner, name }, *facts)),

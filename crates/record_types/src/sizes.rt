@@ -1,11 +1,11 @@
 //! How large types are, and the limits.
 
 ghost use Rattle.std.specs.Prelude.{◌≡◌, ◌+◌, min};
-ghost use Rattle.record_json.specs.Faults.{Gives};
-ghost use Rattle.record_types.specs.Sizes.{nothing, absent, simple, beside, above};
+ghost use Rattle.json_paths.specs.Faults.{Gives};
+ghost use Rattle.record_types.specs.Sizes.{nothing, absent, simple, combined, above};
 
 use crate::known::Size;
-use record_json::{Failure, left_out};
+use json_paths::{Failure, left_out};
 use std::alloc::Global;
 
 pub(crate) fn nothing() -> Size
@@ -46,8 +46,8 @@ fn bounded_sum(one: usize, other: usize) -> usize
 }
 
 /// Parts together.
-pub(crate) fn beside(one: Size, other: Size) -> Size
-    ensures { result ≡ beside one other }
+pub(crate) fn combined(one: Size, other: Size) -> Size
+    ensures { result ≡ combined one other }
 {
     Size {
         levels: one.levels.max(other.levels),

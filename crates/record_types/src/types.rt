@@ -2,18 +2,18 @@
 
 ghost use Rattle.std.specs.Prelude.{◌≡◌, []};
 ghost use Rattle.serde_json.specs.View.{view, items_view};
-ghost use Rattle.record_json.specs.Faults.{Gives};
-ghost use Rattle.record_json.specs.Reading.{single};
+ghost use Rattle.json_paths.specs.Faults.{Gives};
+ghost use Rattle.json_paths.specs.Reading.{single};
 ghost use Rattle.record_values.specs.declared.types.Node.TheVariants as variants;
 ghost use Rattle.record_types.specs.Scopes.{names_in};
 ghost use Rattle.record_types.specs.Sizes.{nothing};
 ghost use Rattle.record_types.specs.Types.{GivesWith, is_part, part_of, item_count, holding_of, carrying_of, result_of, tuple_from, tuple_of, field_of, fields_from, record_of, case_of, cases_from, variant_of, kind_of, member_of, compound_of, type_of, nodes_of};
 
 use crate::known::{Scope, Size};
-use crate::plain::{push_behind, read_plain, read_primitive, some_items};
-use crate::sizes::{absent, beside, nothing};
+use crate::plain::{push_after, read_plain, read_primitive, some_items};
+use crate::sizes::{absent, combined, nothing};
 use comp_lists::{Seq, Text};
-use record_json::{
+use json_paths::{
     Failure, fault_here, left_out, only_member, pair_items, read_text, under, under_index,
 };
 use record_values::{Case, Node};
@@ -136,7 +136,7 @@ fn read_holding(
     ensures { GivesWith result nodes.new (holding_of node others (type_of levels (names_in scope.now)) (view value.now) nodes.old) }
 {
     let part = read_type(alloc, levels, scope, value, nodes)?;
-    push_behind(alloc, node, beside(others, part), nodes)
+    push_after(alloc, node, combined(others, part), nodes)
 }
 
 /// A part that may be null.
@@ -169,7 +169,7 @@ fn read_carrying(
     ensures { GivesWith result nodes.new (carrying_of node (type_of levels (names_in scope.now)) (view value.now) nodes.old) }
 {
     let part = read_part(alloc, levels, scope, value, nodes)?;
-    push_behind(alloc, node, part, nodes)
+    push_after(alloc, node, part, nodes)
 }
 
 #[cycle(types)]
@@ -192,7 +192,7 @@ fn read_result(
         has_ok: !ok.is_null(),
         has_err: !err.is_null(),
     };
-    push_behind(alloc, node, beside(good, bad), nodes)
+    push_after(alloc, node, combined(good, bad), nodes)
 }
 
 /// A tuple of so many.
@@ -219,7 +219,7 @@ fn read_parts(
     let mut size = nothing();
     for (index, value) in values.iter().enumerate() {
         let part = under_index(alloc, index, read_type(alloc, levels, scope, value, nodes))?;
-        size = beside(size, part);
+        size = combined(size, part);
     }
     Ok(size)
 }
@@ -237,7 +237,7 @@ fn read_tuple(
 {
     let values = some_items(alloc, value)?;
     let parts = read_parts(alloc, levels, scope, values, nodes)?;
-    push_behind(alloc, tuple(values), parts, nodes)
+    push_after(alloc, tuple(values), parts, nodes)
 }
 
 /// A field, with the size of its type.
@@ -276,9 +276,9 @@ fn read_fields(
         let field = read_field(alloc, levels, scope, value, nodes);
         let (name, size) = under_index(alloc, index, field)?;
         names.push(name)?;
-        parts = beside(parts, size);
+        parts = combined(parts, size);
     }
-    push_behind(alloc, Node::Record(names), parts, nodes)
+    push_after(alloc, Node::Record(names), parts, nodes)
 }
 
 #[cycle(types)]
@@ -333,9 +333,9 @@ fn read_cases(
         let read = read_case(alloc, levels, scope, value, nodes);
         let (case, size) = under_index(alloc, index, read)?;
         cases.push(case)?;
-        parts = beside(parts, size);
+        parts = combined(parts, size);
     }
-    push_behind(alloc, Node::Variant(cases), parts, nodes)
+    push_after(alloc, Node::Variant(cases), parts, nodes)
 }
 
 #[cycle(types)]

@@ -12,8 +12,8 @@ use Rattle.record_values.specs.Names.{is_same_interface}
 abbrev pub Interfaces : Type 0
 Interfaces = List (InterfaceName × ⊤)
 
-abbrev pub stands_among : Interfaces → InterfaceName → Bool
-stands_among is name = is_some (lookup (is_same_interface name) is)
+abbrev pub is_among : Interfaces → InterfaceName → Bool
+is_among is name = is_some (lookup (is_same_interface name) is)
 
 abbrev pub with_item : Interfaces → Item → Interfaces
 with_item is (items.Interface name) = with_first is_same_interface is name tt

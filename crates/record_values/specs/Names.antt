@@ -16,13 +16,13 @@ abbrev pub name_kind : InterfaceName → ℕ
 name_kind (names.Id text) = 1
 name_kind (names.Imported text) = 2
 name_kind (names.Exported text) = 3
-name_kind (names.Unused place) = 4 + place
+name_kind (names.Unused index) = 4 + index
 
 abbrev pub name_text : InterfaceName → List ℕ
 name_text (names.Id text) = text
 name_text (names.Imported text) = text
 name_text (names.Exported text) = text
-name_text (names.Unused place) = []
+name_text (names.Unused index) = []
 
 abbrev pub is_same_interface : InterfaceName → InterfaceName → Bool
 is_same_interface = eq_of_both (on name_kind nat_eq) (on name_text bytes_eq)

@@ -13,7 +13,7 @@ impl TryClone for InterfaceName {
             InterfaceName::Id(text) => Ok(InterfaceName::Id(text.clone(alloc)?)),
             InterfaceName::Imported(text) => Ok(InterfaceName::Imported(text.clone(alloc)?)),
             InterfaceName::Exported(text) => Ok(InterfaceName::Exported(text.clone(alloc)?)),
-            InterfaceName::Unused(place) => Ok(InterfaceName::Unused(*place)),
+            InterfaceName::Unused(index) => Ok(InterfaceName::Unused(*index)),
         }
     }
 }

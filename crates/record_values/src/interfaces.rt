@@ -15,7 +15,7 @@ fn add_item(alloc: Global, interfaces: &mut Interfaces, item: &Item) -> Result<(
     ensures { OnOk result (interfaces.new ≡ with_item interfaces.old item.now) }
 {
     match item {
-        Item::Interface(name) => interfaces.add_first(name.try_clone(alloc)?, ()),
+        Item::Interface(name) => interfaces.insert_if_absent(name.try_clone(alloc)?, ()),
         Item::Function(_) => Ok(()),
         Item::Type(_) => Ok(()),
     }

@@ -51,7 +51,7 @@ impl InterfaceName {
             InterfaceName::Id(_) => 1,
             InterfaceName::Imported(_) => 2,
             InterfaceName::Exported(_) => 3,
-            InterfaceName::Unused(place) => 4 + *place as u64,
+            InterfaceName::Unused(index) => 4 + *index as u64,
         }
     }
 

@@ -8,9 +8,9 @@ use Rattle.std.specs.Str.{bytes_eq}
 use Rattle.serde_json.specs.Data.{Data, Items, no_items, item}
 use Rattle.serde_json.specs.Find.{get, as_array, as_number, as_u64}
 use Rattle.comp_lists.specs.Tables.{with_first}
-use Rattle.record_json.specs.declared.fault.Failure.{Failure}
-use Rattle.record_json.specs.Faults.{◌>>=◌}
-use Rattle.record_json.specs.Reading.{under, here, at_member, required, text_of, only, below}
+use Rattle.json_paths.specs.declared.fault.Failure.{Failure}
+use Rattle.json_paths.specs.Faults.{◌>>=◌}
+use Rattle.json_paths.specs.Reading.{under, here, at_member, required, text_of, only, below}
 use Rattle.record_types.specs.declared.known.TypeFacts.{TypeFacts}
 use Rattle.record_types.specs.declared.known.ReadInterface.{ReadInterface}
 use Rattle.record_types.specs.Scopes.{Names}
@@ -59,8 +59,8 @@ type_item is ts d = do
   Ok (record { key = keys.Name t.0.name; item = items.Type t.0.nodes; facts = Some t.1 })
 
 -- the place of an interface is a whole number below 2^32
-unfoldable pub place_of : Data → Result ℕ Failure
-place_of d = below 4294967296 (option_and_then as_u64 (as_number d))
+unfoldable pub index_of : Data → Result ℕ Failure
+index_of d = below 4294967296 (option_and_then as_u64 (as_number d))
 
 abbrev pub holds_colon : List ℕ → Bool
 holds_colon bytes = list_any (nat_eq 58) bytes
@@ -91,16 +91,16 @@ key_of id None = id_key id
 key_of id (Some v) = named_key id v
 
 abbrev pub interface_at : List ReadInterface → ℕ → Result ReadInterface Failure
-interface_at is place = ok_or (slice_get is place) (at_member (codes "interface"))
+interface_at is index = ok_or (slice_get is index) (at_member (codes "interface"))
 
 unfoldable pub interface_item : List ReadInterface → Data → Result ReadItem Failure
 interface_item is d = do
   _ ← only (codes "interface" ∷ codes "name" ∷ []) d
   v ← required (codes "interface") d
-  place ← under (codes "interface") (place_of v)
-  x ← interface_at is place
+  index ← under (codes "interface") (index_of v)
+  x ← interface_at is index
   key ← key_of x.id (get (codes "name") d)
-  Ok (record { key = key; item = items.Interface (names.Unused place); facts = None })
+  Ok (record { key = key; item = items.Interface (names.Unused index); facts = None })
 
 -- types are imported only
 abbrev pub other_item : Side → List ReadInterface → Types → Data → Result ReadItem Failure

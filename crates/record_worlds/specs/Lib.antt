@@ -2,5 +2,5 @@ pub mod Items
 pub mod Naming
 pub mod Tables
 pub mod Rules
-pub mod Places
+pub mod Indexing
 pub mod Worlds

@@ -18,8 +18,8 @@ use Rattle.record_worlds.specs.declared.items.WorldItems.{WorldItems}
 use Rattle.record_worlds.specs.declared.naming.Entry.{Entry}
 
 -- an interface by its place in the record, which is a number of 32 bits
-abbrev pub place_name : ℕ → InterfaceName
-place_name i = names.Unused (i % 4294967296)
+abbrev pub index_name : ℕ → InterfaceName
+index_name i = names.Unused (i % 4294967296)
 
 abbrev pub given_name : Side → List ℕ → InterfaceName
 given_name sides.Import name = names.Imported name
@@ -27,7 +27,7 @@ given_name sides.Export name = names.Exported name
 
 abbrev pub with_id : Renames → ℕ → Option (List ℕ) → Renames
 with_id ns i None = ns
-with_id ns i (Some id) = with_first is_same_interface ns (place_name i) (names.Id id)
+with_id ns i (Some id) = with_first is_same_interface ns (index_name i) (names.Id id)
 
 -- the names of those that have an id; the first interface stands at this place
 abbrev pub ids_from : Renames → ℕ → List ReadInterface → Renames

@@ -4,11 +4,11 @@ use Rattle.std.specs.Prelude.{⊤, ℕ, suc, Bool, false, List, [], ◌∷◌, �
 use Rattle.std.specs.Map.{lookup}
 use Rattle.std.specs.Fmt.{decimal}
 use Rattle.comp_lists.specs.Tables.{with_first}
-use Rattle.record_json.specs.declared.fault.Failure.{Failure}
-use Rattle.record_json.specs.declared.fault.Failure.TheVariants as failures
-use Rattle.record_json.specs.declared.fault.Refusal.TheVariants as refusals
-use Rattle.record_json.specs.Faults.{◌>>=◌}
-use Rattle.record_json.specs.Reading.{under, under_failure, here}
+use Rattle.json_paths.specs.declared.fault.Failure.{Failure}
+use Rattle.json_paths.specs.declared.fault.Failure.TheVariants as failures
+use Rattle.json_paths.specs.declared.fault.Refusal.TheVariants as refusals
+use Rattle.json_paths.specs.Faults.{◌>>=◌}
+use Rattle.json_paths.specs.Reading.{under, under_failure, here}
 use Rattle.record_types.specs.declared.known.ReadInterface.{ReadInterface}
 use Rattle.record_values.specs.declared.names.InterfaceName.{InterfaceName}
 use Rattle.record_values.specs.declared.names.InterfaceName.TheVariants as names
@@ -21,15 +21,15 @@ use Rattle.record_worlds.specs.declared.items.Side.{Side}
 use Rattle.record_worlds.specs.declared.items.Side.TheVariants as sides
 use Rattle.record_worlds.specs.declared.naming.Entry.{Entry}
 use Rattle.record_worlds.specs.declared.tables.SideTable.{SideTable}
-use Rattle.record_worlds.specs.Naming.{place_name}
+use Rattle.record_worlds.specs.Naming.{index_name}
 
 -- interfaces by name
 abbrev pub Interfaces : Type 0
 Interfaces = List (InterfaceName × Interface)
 
 -- names of interfaces
-abbrev pub Standing : Type 0
-Standing = List (InterfaceName × ⊤)
+abbrev pub InterfaceSet : Type 0
+InterfaceSet = List (InterfaceName × ⊤)
 
 -- a test of equality of interfaces
 abbrev pub Test : Type 0
@@ -60,15 +60,15 @@ with_interface same table (names.Unused i) x = Ok table
 abbrev pub interfaces_from : Test → Renames → ℕ → Interfaces → List ReadInterface → Result Interfaces Failure
 interfaces_from same ns i table [] = Ok table
 interfaces_from same ns i table (x ∷ xs) = do
-  t ← with_interface same table (renamed ns (place_name i)) (renamed_content ns x)
+  t ← with_interface same table (renamed ns (index_name i)) (renamed_content ns x)
   interfaces_from same ns (suc i) t xs
 
-abbrev pub is_seen : Standing → Item → Bool
+abbrev pub is_seen : InterfaceSet → Item → Bool
 is_seen seen (items.Interface name) = is_some (lookup (is_same_interface name) seen)
 is_seen seen (items.Function f) = false
 is_seen seen (items.Type nodes) = false
 
-abbrev pub with_seen : Standing → Item → Standing
+abbrev pub with_seen : InterfaceSet → Item → InterfaceSet
 with_seen seen (items.Interface name) = with_first is_same_interface seen name tt
 with_seen seen (items.Function f) = seen
 with_seen seen (items.Type nodes) = seen

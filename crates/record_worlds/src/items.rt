@@ -4,11 +4,11 @@ ghost use Rattle.std.specs.Prelude.{◌≡◌, [], OnOk, codes};
 ghost use Rattle.std.specs.List.{list_any};
 ghost use Rattle.serde_json.specs.Find.{get};
 ghost use Rattle.serde_json.specs.View.{view, items_view};
-ghost use Rattle.record_json.specs.Faults.{Gives};
-ghost use Rattle.record_worlds.specs.Items.{holds_colon, place_of, plain_name_of, key_of, named_key, id_key, interface_at, other_item, function_item, type_item, interface_item, item_of, with_type, with_read, items_from, items_of, items_if, interfaces_if, world_items_of, world_function, world_type};
+ghost use Rattle.json_paths.specs.Faults.{Gives};
+ghost use Rattle.record_worlds.specs.Items.{holds_colon, index_of, plain_name_of, key_of, named_key, id_key, interface_at, other_item, function_item, type_item, interface_item, item_of, with_type, with_read, items_from, items_of, items_if, interfaces_if, world_items_of, world_function, world_type};
 
 use comp_lists::{Keyed, Seq, Text};
-use record_json::{
+use json_paths::{
     Failure, check_members, fault_at, fault_here, read_text, required, under, under_index,
 };
 use record_types::{
@@ -125,9 +125,9 @@ fn read_type_item(
 }
 
 /// The place of an interface.
-#[tactic(auto, unfolding(crate::specs::Items::place_of))]
-fn read_place(alloc: Global, value: &Value) -> Result<u32, Failure>
-    ensures { Gives (λ n. n) result (place_of (view value.now)) }
+#[tactic(auto, unfolding(crate::specs::Items::index_of))]
+fn read_index(alloc: Global, value: &Value) -> Result<u32, Failure>
+    ensures { Gives (λ n. n) result (index_of (view value.now)) }
 {
     match value.as_u64() {
         Some(number) => {
@@ -200,11 +200,11 @@ fn read_key(alloc: Global, id: &Option<Text>, value: &Value) -> Result<ItemKey, 
 fn find_interface<'v>(
     alloc: Global,
     interfaces: &'v [ReadInterface],
-    place: u32,
+    index: u32,
 ) -> Result<&'v ReadInterface, Failure>
-    ensures { Gives (λ x. x.now) result (interface_at interfaces.now place) }
+    ensures { Gives (λ x. x.now) result (interface_at interfaces.now index) }
 {
-    match interfaces.get(place as usize) {
+    match interfaces.get(index as usize) {
         Some(interface) => Ok(interface),
         None => Err(fault_at(alloc, "interface")),
     }
@@ -220,12 +220,12 @@ fn read_interface_item(
 {
     check_members(alloc, value, &["interface", "name"])?;
     let member = required(alloc, value, "interface")?;
-    let place = under(alloc, "interface", read_place(alloc, member))?;
-    let interface = find_interface(alloc, interfaces, place)?;
+    let index = under(alloc, "interface", read_index(alloc, member))?;
+    let interface = find_interface(alloc, interfaces, index)?;
     let key = read_key(alloc, &interface.id, value)?;
     Ok(ReadItem {
         key,
-        item: Item::Interface(InterfaceName::Unused(place)),
+        item: Item::Interface(InterfaceName::Unused(index)),
         facts: None,
     })
 }
@@ -278,7 +278,7 @@ fn note_type(
     ensures { OnOk result (types.new ≡ with_type types.old item.now) }
 {
     match item.facts {
-        Some(facts) => types.add_first(item.key.text().clone(alloc)?, facts),
+        Some(facts) => types.insert_if_absent(item.key.text().clone(alloc)?, facts),
         None => Ok(()),
     }
 }

@@ -5,18 +5,18 @@
 //! places, come beside it for those that read the rest of the record. Upward this crate promises exactly
 //! what `specs/Worlds.antt` gives, unless memory runs out.
 //!
-//! In reading order: `placed` (what is read), `items` (the items of imports and exports as they
+//! In reading order: `indexed` (what is read), `items` (the items of imports and exports as they
 //! stand in the record), `naming` (names of interfaces), `tables` (interfaces and items by name),
-//! `rules` (what items may name), `places` (interfaces by their places), `world` (all of it).
+//! `rules` (what items may name), `indexing` (interfaces by their places), `world` (all of it).
 #![tactic(auto)]
 
 mod items;
 mod naming;
-mod placed;
-mod places;
+mod indexed;
+mod indexing;
 mod rules;
 mod tables;
 mod world;
 
-pub use placed::{PlacedInterface, RecordWorld};
+pub use indexed::{IndexedInterface, RecordWorld};
 pub use world::read_world;

@@ -1,7 +1,7 @@
 //! Names of the interfaces of a record.
 
 ghost use Rattle.std.specs.Prelude.{◌≡◌, [], OnOk, IfOk, map};
-ghost use Rattle.record_worlds.specs.Naming.{place_name, given_name, with_id, ids_from, with_key, with_given, with_all_given, names_of, renamed_entry, renamed_entries};
+ghost use Rattle.record_worlds.specs.Naming.{index_name, given_name, with_id, ids_from, with_key, with_given, with_all_given, names_of, renamed_entry, renamed_entries};
 
 use crate::items::{ReadItem, Side, WorldItems};
 use comp_lists::{Keyed, Seq, Text, TryClone};
@@ -20,10 +20,10 @@ pub(crate) struct Entry {
 }
 
 /// The name of an interface before it is known how the world names it.
-pub(crate) fn place_name(place: usize) -> InterfaceName
-    ensures { result ≡ place_name place }
+pub(crate) fn index_name(index: usize) -> InterfaceName
+    ensures { result ≡ index_name index }
 {
-    InterfaceName::Unused((place % 4294967296) as u32)
+    InterfaceName::Unused((index % 4294967296) as u32)
 }
 
 /// The name of an interface without id that stands on a side under this name.
@@ -40,13 +40,13 @@ fn given_name(alloc: Global, side: Side, name: &Text) -> Result<InterfaceName, A
 fn add_id(
     alloc: Global,
     names: &mut Names,
-    place: usize,
+    index: usize,
     id: &Option<Text>,
 ) -> Result<(), AllocError>
-    ensures { OnOk result (names.new ≡ with_id names.old place id.now) }
+    ensures { OnOk result (names.new ≡ with_id names.old index id.now) }
 {
     match id {
-        Some(id) => names.add_first(place_name(place), InterfaceName::Id(id.clone(alloc)?)),
+        Some(id) => names.insert_if_absent(index_name(index), InterfaceName::Id(id.clone(alloc)?)),
         None => Ok(()),
     }
 }
@@ -74,7 +74,7 @@ fn add_key(
     match key {
         ItemKey::Name(text) => {
             let given = given_name(alloc, side, text)?;
-            names.add_first(name.try_clone(alloc)?, given)
+            names.insert_if_absent(name.try_clone(alloc)?, given)
         }
         ItemKey::Interface(_) => Ok(()),
     }

@@ -1,136 +1,136 @@
 //! Which interfaces the items of a world may name.
 
 ghost use Rattle.std.specs.Prelude.{◌≡◌, []};
-ghost use Rattle.record_json.specs.Faults.{Gives};
-ghost use Rattle.record_worlds.specs.Rules.{owner_stands, node_stands, nodes_stand, types_stand, result_stands, function_stands, functions_stand, content_stands, named_stands, import_stands, imports_stand, export_stands, exports_stand, rules_hold};
+ghost use Rattle.json_paths.specs.Faults.{Gives};
+ghost use Rattle.record_worlds.specs.Rules.{owner_in_scope, node_in_scope, nodes_in_scope, types_in_scope, result_in_scope, function_in_scope, functions_in_scope, content_in_scope, named_in_scope, import_in_scope, imports_in_scope, export_in_scope, exports_in_scope, rules_hold};
 
 use crate::naming::Entry;
-use crate::tables::{Interfaces, Standing, note_seen};
+use crate::tables::{Interfaces, InterfaceSet, note_seen};
 use comp_lists::{Keyed, Seq};
-use record_json::{Failure, fault_here, under, under_index};
+use json_paths::{Failure, fault_here, under, under_index};
 use record_values::{Func, Interface, InterfaceName, Item, Node, Owner, Typed};
 use std::alloc::Global;
 
-fn owner_stands(standing: &Standing, more: &Standing, owner: &Owner) -> bool
-    ensures { result ≡ owner_stands standing.now more.now owner.now }
+fn owner_in_scope(scope: &InterfaceSet, more: &InterfaceSet, owner: &Owner) -> bool
+    ensures { result ≡ owner_in_scope scope.now more.now owner.now }
 {
     match owner {
         Owner::World => true,
-        Owner::Interface(name) => standing.contains(name) || more.contains(name),
+        Owner::Interface(name) => scope.contains(name) || more.contains(name),
     }
 }
 
-fn node_stands(standing: &Standing, more: &Standing, node: &Node) -> bool
-    ensures { result ≡ node_stands standing.now more.now node.now }
+fn node_in_scope(scope: &InterfaceSet, more: &InterfaceSet, node: &Node) -> bool
+    ensures { result ≡ node_in_scope scope.now more.now node.now }
 {
     match node {
-        Node::Own(named) => owner_stands(standing, more, &named.owner),
-        Node::Borrow(named) => owner_stands(standing, more, &named.owner),
-        Node::Named(named) => owner_stands(standing, more, &named.owner),
+        Node::Own(named) => owner_in_scope(scope, more, &named.owner),
+        Node::Borrow(named) => owner_in_scope(scope, more, &named.owner),
+        Node::Named(named) => owner_in_scope(scope, more, &named.owner),
         _ => true,
     }
 }
 
 /// Whether all interfaces that a type names stand in one of these.
-fn nodes_stand(standing: &Standing, more: &Standing, nodes: &[Node]) -> bool
-    ensures { result ≡ nodes_stand standing.now more.now nodes.now }
+fn nodes_in_scope(scope: &InterfaceSet, more: &InterfaceSet, nodes: &[Node]) -> bool
+    ensures { result ≡ nodes_in_scope scope.now more.now nodes.now }
 {
     for node in nodes {
-        if !node_stands(standing, more, node) {
+        if !node_in_scope(scope, more, node) {
             return false;
         }
     }
     true
 }
 
-fn types_stand(standing: &Standing, more: &Standing, types: &[Typed]) -> bool
-    ensures { result ≡ types_stand standing.now more.now types.now }
+fn types_in_scope(scope: &InterfaceSet, more: &InterfaceSet, types: &[Typed]) -> bool
+    ensures { result ≡ types_in_scope scope.now more.now types.now }
 {
     for typed in types {
-        if !nodes_stand(standing, more, typed.nodes.as_slice()) {
+        if !nodes_in_scope(scope, more, typed.nodes.as_slice()) {
             return false;
         }
     }
     true
 }
 
-fn result_stands(standing: &Standing, more: &Standing, nodes: &Option<Seq<Node>>) -> bool
-    ensures { result ≡ result_stands standing.now more.now nodes.now }
+fn result_in_scope(scope: &InterfaceSet, more: &InterfaceSet, nodes: &Option<Seq<Node>>) -> bool
+    ensures { result ≡ result_in_scope scope.now more.now nodes.now }
 {
     match nodes {
-        Some(nodes) => nodes_stand(standing, more, nodes.as_slice()),
+        Some(nodes) => nodes_in_scope(scope, more, nodes.as_slice()),
         None => true,
     }
 }
 
-fn function_stands(standing: &Standing, more: &Standing, function: &Func) -> bool
-    ensures { result ≡ function_stands standing.now more.now function.now }
+fn function_in_scope(scope: &InterfaceSet, more: &InterfaceSet, function: &Func) -> bool
+    ensures { result ≡ function_in_scope scope.now more.now function.now }
 {
-    types_stand(standing, more, function.params.as_slice())
-        && result_stands(standing, more, &function.result)
+    types_in_scope(scope, more, function.params.as_slice())
+        && result_in_scope(scope, more, &function.result)
 }
 
-fn functions_stand(standing: &Standing, more: &Standing, functions: &[Func]) -> bool
-    ensures { result ≡ functions_stand standing.now more.now functions.now }
+fn functions_in_scope(scope: &InterfaceSet, more: &InterfaceSet, functions: &[Func]) -> bool
+    ensures { result ≡ functions_in_scope scope.now more.now functions.now }
 {
     for function in functions {
-        if !function_stands(standing, more, function) {
+        if !function_in_scope(scope, more, function) {
             return false;
         }
     }
     true
 }
 
-fn content_stands(standing: &Standing, more: &Standing, interface: &Interface) -> bool
-    ensures { result ≡ content_stands standing.now more.now interface.now }
+fn content_in_scope(scope: &InterfaceSet, more: &InterfaceSet, interface: &Interface) -> bool
+    ensures { result ≡ content_in_scope scope.now more.now interface.now }
 {
-    types_stand(standing, more, interface.types.as_slice())
-        && functions_stand(standing, more, interface.functions.as_slice())
+    types_in_scope(scope, more, interface.types.as_slice())
+        && functions_in_scope(scope, more, interface.functions.as_slice())
 }
 
 /// Whether all interfaces that the interface of this name names stand in one of these.
-fn named_stands(
+fn named_in_scope(
     interfaces: &Interfaces,
-    standing: &Standing,
-    more: &Standing,
+    scope: &InterfaceSet,
+    more: &InterfaceSet,
     name: &InterfaceName,
 ) -> bool
-    ensures { result ≡ named_stands interfaces.now standing.now more.now name.now }
+    ensures { result ≡ named_in_scope interfaces.now scope.now more.now name.now }
 {
     match interfaces.get(name) {
-        Some(interface) => content_stands(standing, more, interface),
+        Some(interface) => content_in_scope(scope, more, interface),
         None => true,
     }
 }
 
 /// Whether an import names what it may: these interfaces are imported up to it, and these at all.
-fn import_stands(
+fn import_in_scope(
     interfaces: &Interfaces,
-    before: &Standing,
-    imported: &Standing,
+    before: &InterfaceSet,
+    imported: &InterfaceSet,
     item: &Item,
 ) -> bool
-    ensures { result ≡ import_stands interfaces.now before.now imported.now item.now }
+    ensures { result ≡ import_in_scope interfaces.now before.now imported.now item.now }
 {
     match item {
-        Item::Interface(name) => named_stands(interfaces, before, before, name),
-        Item::Function(function) => function_stands(imported, imported, function),
-        Item::Type(nodes) => nodes_stand(imported, imported, nodes.as_slice()),
+        Item::Interface(name) => named_in_scope(interfaces, before, before, name),
+        Item::Function(function) => function_in_scope(imported, imported, function),
+        Item::Type(nodes) => nodes_in_scope(imported, imported, nodes.as_slice()),
     }
 }
 
 fn check_imports(
     alloc: Global,
     interfaces: &Interfaces,
-    imported: &Standing,
+    imported: &InterfaceSet,
     entries: &[Entry],
 ) -> Result<(), Failure>
-    ensures { Gives (λ x. x) result (imports_stand interfaces.now imported.now 0 [] entries.now) }
+    ensures { Gives (λ x. x) result (imports_in_scope interfaces.now imported.now 0 [] entries.now) }
 {
     let mut before = Keyed::new(alloc);
     for (index, entry) in entries.iter().enumerate() {
         note_seen(alloc, &mut before, &entry.item)?;
-        if !import_stands(interfaces, &before, imported, &entry.item) {
+        if !import_in_scope(interfaces, &before, imported, &entry.item) {
             return under_index(alloc, index, Err(fault_here(alloc)));
         }
     }
@@ -138,32 +138,32 @@ fn check_imports(
 }
 
 /// Whether an export names what it may: these interfaces are imported, and these are exported.
-fn export_stands(
+fn export_in_scope(
     interfaces: &Interfaces,
-    imported: &Standing,
-    exported: &Standing,
+    imported: &InterfaceSet,
+    exported: &InterfaceSet,
     item: &Item,
 ) -> bool
-    ensures { result ≡ export_stands interfaces.now imported.now exported.now item.now }
+    ensures { result ≡ export_in_scope interfaces.now imported.now exported.now item.now }
 {
     match item {
-        Item::Interface(name) => named_stands(interfaces, imported, exported, name),
-        Item::Function(function) => function_stands(imported, imported, function),
-        Item::Type(nodes) => nodes_stand(imported, imported, nodes.as_slice()),
+        Item::Interface(name) => named_in_scope(interfaces, imported, exported, name),
+        Item::Function(function) => function_in_scope(imported, imported, function),
+        Item::Type(nodes) => nodes_in_scope(imported, imported, nodes.as_slice()),
     }
 }
 
 fn check_exports(
     alloc: Global,
     interfaces: &Interfaces,
-    imported: &Standing,
-    exported: &Standing,
+    imported: &InterfaceSet,
+    exported: &InterfaceSet,
     entries: &[Entry],
 ) -> Result<(), Failure>
-    ensures { Gives (λ x. x) result (exports_stand interfaces.now imported.now exported.now 0 entries.now) }
+    ensures { Gives (λ x. x) result (exports_in_scope interfaces.now imported.now exported.now 0 entries.now) }
 {
     for (index, entry) in entries.iter().enumerate() {
-        if !export_stands(interfaces, imported, exported, &entry.item) {
+        if !export_in_scope(interfaces, imported, exported, &entry.item) {
             return under_index(alloc, index, Err(fault_here(alloc)));
         }
     }
@@ -175,8 +175,8 @@ fn check_exports(
 pub(crate) fn check_rules(
     alloc: Global,
     interfaces: &Interfaces,
-    imported: &Standing,
-    exported: &Standing,
+    imported: &InterfaceSet,
+    exported: &InterfaceSet,
     imports: &[Entry],
     exports: &[Entry],
 ) -> Result<(), Failure>

@@ -1,17 +1,17 @@
 //! Interfaces and items of a world by name.
 
 ghost use Rattle.std.specs.Prelude.{◌≡◌, [], OnOk, IfOk};
-ghost use Rattle.record_json.specs.Faults.{Gives};
+ghost use Rattle.json_paths.specs.Faults.{Gives};
 ghost use Rattle.comp_lists.specs.Tables.{with_first};
 ghost use Rattle.record_values.specs.Names.{is_same_item};
 ghost use Rattle.record_values.specs.Renaming.{renamed};
-ghost use Rattle.record_worlds.specs.Naming.{place_name};
+ghost use Rattle.record_worlds.specs.Naming.{index_name};
 ghost use Rattle.record_worlds.specs.Tables.{renamed_content, with_interface, with_same, interfaces_from, is_seen, with_seen, with_item, side_from, side_at};
 
 use crate::items::Side;
-use crate::naming::{Entry, Names, place_name};
+use crate::naming::{Entry, Names, index_name};
 use comp_lists::{Keyed, Text, TryClone};
-use record_json::{Failure, Refusal, fault_here, under, under_index};
+use json_paths::{Failure, Refusal, fault_here, under, under_index};
 use record_types::ReadInterface;
 use record_values::{Interface, InterfaceName, Item, ItemKey, rename_interface, rename_name};
 use std::alloc::{AllocError, Global};
@@ -20,13 +20,13 @@ use std::alloc::{AllocError, Global};
 pub(crate) type Interfaces = Keyed<InterfaceName, Interface>;
 
 /// Names of interfaces.
-pub(crate) type Standing = Keyed<InterfaceName, ()>;
+pub(crate) type InterfaceSet = Keyed<InterfaceName, ()>;
 
 /// The items of a side by key, and the interfaces among them.
 #[derive(Drop)]
 pub(crate) struct SideTable {
     pub items: Keyed<ItemKey, Item>,
-    pub interfaces: Standing,
+    pub interfaces: InterfaceSet,
 }
 
 /// What an interface has, where interfaces go by their names.
@@ -83,7 +83,7 @@ fn add_interface(
     match &name {
         InterfaceName::Id(id) => add_same(alloc, table, id, interface),
         InterfaceName::Unused(_) => Ok(()),
-        _ => Ok(table.add_first(name, interface)?),
+        _ => Ok(table.insert_if_absent(name, interface)?),
     }
 }
 
@@ -95,9 +95,9 @@ fn add_read(
     index: usize,
     read: &ReadInterface,
 ) -> Result<(), Failure>
-    ensures { Gives (λ _. table.new) result (with_interface ⟦<Interface as PartialEq>⟧.eq table.old (renamed names.now (place_name index)) (renamed_content names.now read.now)) }
+    ensures { Gives (λ _. table.new) result (with_interface ⟦<Interface as PartialEq>⟧.eq table.old (renamed names.now (index_name index)) (renamed_content names.now read.now)) }
 {
-    let name = rename_name(alloc, names, &place_name(index))?;
+    let name = rename_name(alloc, names, &index_name(index))?;
     let interface = rename_content(alloc, names, read)?;
     add_interface(alloc, table, name, interface)
 }
@@ -118,7 +118,7 @@ pub(crate) fn table_interfaces(
 }
 
 /// Whether an item is an interface that is there.
-fn is_seen(interfaces: &Standing, item: &Item) -> bool
+fn is_seen(interfaces: &InterfaceSet, item: &Item) -> bool
     ensures { result ≡ is_seen interfaces.now item.now }
 {
     match item {
@@ -131,13 +131,13 @@ fn is_seen(interfaces: &Standing, item: &Item) -> bool
 /// Adds an item to the interfaces that are there, where it is one.
 pub(crate) fn note_seen(
     alloc: Global,
-    interfaces: &mut Standing,
+    interfaces: &mut InterfaceSet,
     item: &Item,
 ) -> Result<(), AllocError>
     ensures { OnOk result (interfaces.new ≡ with_seen interfaces.old item.now) }
 {
     match item {
-        Item::Interface(name) => interfaces.add_first(name.try_clone(alloc)?, ()),
+        Item::Interface(name) => interfaces.insert_if_absent(name.try_clone(alloc)?, ()),
         Item::Function(_) => Ok(()),
         Item::Type(_) => Ok(()),
     }
@@ -153,7 +153,7 @@ fn put_entry(alloc: Global, table: &mut SideTable, entry: &Entry) -> Result<(), 
     note_seen(alloc, &mut table.interfaces, &entry.item)?;
     let key = entry.key.try_clone(alloc)?;
     let item = entry.item.try_clone(alloc)?;
-    table.items.add_first(key, item)
+    table.items.insert_if_absent(key, item)
 }
 
 /// Adds the entry at an index: its key and its interface have to be new.

@@ -2,18 +2,18 @@
 
 ghost use Rattle.std.specs.Prelude.{◌≡◌, IfOk};
 ghost use Rattle.serde_json.specs.View.{view};
-ghost use Rattle.record_json.specs.Faults.{Gives};
-ghost use Rattle.record_worlds.specs.Places.{placed_from};
-ghost use Rattle.record_worlds.specs.Worlds.{once_checked, sides_of, standing_of, joined_world, named_world_of, world_of};
+ghost use Rattle.json_paths.specs.Faults.{Gives};
+ghost use Rattle.record_worlds.specs.Indexing.{indexed_from};
+ghost use Rattle.record_worlds.specs.Worlds.{once_checked, sides_of, checked_sides, built_world, named_world_of, world_of};
 
 use crate::items::{Side, WorldItems, read_world_items};
 use crate::naming::{Entry, Names, names_of, rename_entries};
-use crate::placed::{PlacedInterface, RecordWorld};
-use crate::places::place_interfaces;
+use crate::indexed::{IndexedInterface, RecordWorld};
+use crate::indexing::index_interfaces;
 use crate::rules::check_rules;
 use crate::tables::{Interfaces, SideTable, table_interfaces, table_side};
 use comp_lists::Seq;
-use record_json::Failure;
+use json_paths::Failure;
 use record_types::ReadInterface;
 use record_values::{Interface, Wit};
 use serde_json::Value;
@@ -46,14 +46,14 @@ fn checked<T: Drop>(check: Result<(), Failure>, value: T) -> Result<T, Failure>
 }
 
 /// The items of both sides by key, of which each names only what it may.
-#[tactic(auto, unfolding(crate::specs::Worlds::standing_of))]
+#[tactic(auto, unfolding(crate::specs::Worlds::checked_sides))]
 fn check_sides(
     alloc: Global,
     interfaces: &Interfaces,
     imports: &[Entry],
     exports: &[Entry],
 ) -> Result<Sides, Failure>
-    ensures { Gives (λ s. s) result (standing_of interfaces.now imports.now exports.now) }
+    ensures { Gives (λ s. s) result (checked_sides interfaces.now imports.now exports.now) }
 {
     let sides = table_sides(alloc, imports, exports)?;
     let imported = &sides.imports.interfaces;
@@ -63,24 +63,24 @@ fn check_sides(
 }
 
 /// The interfaces of a record by their places, where the world has these sides.
-fn place_sides(
+fn index_sides(
     alloc: Global,
     names: &Names,
     all: &[ReadInterface],
     sides: &Sides,
-) -> Result<Seq<PlacedInterface>, AllocError>
-    ensures { IfOk result (λ p. p ≡ placed_from names.now sides.now.imports.interfaces sides.now.exports.interfaces 0 all.now) }
+) -> Result<Seq<IndexedInterface>, AllocError>
+    ensures { IfOk result (λ p. p ≡ indexed_from names.now sides.now.imports.interfaces sides.now.exports.interfaces 0 all.now) }
 {
     let imported = &sides.imports.interfaces;
     let exported = &sides.exports.interfaces;
-    place_interfaces(alloc, names, imported, exported, all)
+    index_interfaces(alloc, names, imported, exported, all)
 }
 
 /// The world of these interfaces and sides.
-fn world_with(interfaces: Interfaces, sides: Sides, placed: Seq<PlacedInterface>) -> RecordWorld
+fn world_with(interfaces: Interfaces, sides: Sides, indexed: Seq<IndexedInterface>) -> RecordWorld
     ensures { result ≡ record {
       wit = record { interfaces = interfaces; imports = sides.imports.items; exports = sides.exports.items };
-      interfaces = placed;
+      interfaces = indexed;
     } }
 {
     let Sides { imports, exports } = sides;
@@ -90,25 +90,25 @@ fn world_with(interfaces: Interfaces, sides: Sides, placed: Seq<PlacedInterface>
             imports: imports.items,
             exports: exports.items,
         },
-        interfaces: placed,
+        interfaces: indexed,
     }
 }
 
 /// What is known of the world, from the items of its sides.
-fn join_world(
+fn build_world(
     alloc: Global,
     names: &Names,
     all: &[ReadInterface],
     interfaces: Interfaces,
     sides: Result<Sides, Failure>,
 ) -> Result<RecordWorld, Failure>
-    ensures { Gives (λ w. w) result (joined_world names.now all.now interfaces sides) }
+    ensures { Gives (λ w. w) result (built_world names.now all.now interfaces sides) }
 {
     match sides {
         Err(failure) => Err(failure),
         Ok(sides) => {
-            let placed = place_sides(alloc, names, all, &sides)?;
-            Ok(world_with(interfaces, sides, placed))
+            let indexed = index_sides(alloc, names, all, &sides)?;
+            Ok(world_with(interfaces, sides, indexed))
         }
     }
 }
@@ -123,7 +123,7 @@ fn named_world(alloc: Global, names: &Names, read: &WorldItems) -> Result<Record
     let imports = rename_entries(alloc, names, read.imports.as_slice())?;
     let exports = rename_entries(alloc, names, read.exports.as_slice())?;
     let sides = check_sides(alloc, &table, imports.as_slice(), exports.as_slice());
-    join_world(alloc, names, all, table, sides)
+    build_world(alloc, names, all, table, sides)
 }
 
 /// The world of a record, from the whole object: its members `interfaces`, `imports` and `exports`, each of

@@ -44,9 +44,9 @@ pub parts_sound : (p : WorldParts) (bytes : List ℕ) → p ≡ stub_parts bytes
 unfolding stub_parts
 parts_sound p bytes is = subst (λ (x : WorldParts). IsSound x.resolve) (sym is) sound
 
-pub parts_stand : (p : WorldParts) (bytes : List ℕ) → p ≡ stub_parts bytes → p.world.index < length p.resolve.worlds
+pub parts_exist : (p : WorldParts) (bytes : List ℕ) → p ≡ stub_parts bytes → p.world.index < length p.resolve.worlds
 unfolding stub_parts
-parts_stand p bytes is = subst (λ (x : WorldParts). x.world.index < length x.resolve.worlds) (sym is) (omega arith)
+parts_exist p bytes is = subst (λ (x : WorldParts). x.world.index < length x.resolve.worlds) (sym is) (omega arith)
 
 pub parts_roles : (p : WorldParts) (bytes : List ℕ) → p ≡ stub_parts bytes → AllByRecursion (λ i. HasRole p.resolve i.role) (all_imports p.main p.adapters)
 unfolding stub_parts
@@ -56,7 +56,7 @@ valid_of : (bytes : List ℕ) → take 8 bytes ≡ core_preamble → IsWorld (st
 unfolding stub_parts stub_world
 valid_of bytes core = record {
   sound = sound;
-  stands = omega arith;
+  present = omega arith;
   core = core;
   imports = ((refl, record { kind = refl; params = refl; result = refl }), tt);
   exports = tt;

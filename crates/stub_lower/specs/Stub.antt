@@ -26,7 +26,7 @@ abbrev pub decoded_of : List ℕ → List ℕ × ⊤
 decoded_of bytes = (bytes, tt)
 
 abbrev pub merged_of : ⊤ → ⊤ → Merged ⊤
-merged_of first second = record { joint = tt; exports = [] }
+merged_of first second = record { combined = tt; exports = [] }
 
 -- main imports `f` of `$root`, which is the root function `f`
 abbrev pub stub_role : Import

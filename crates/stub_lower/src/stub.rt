@@ -93,7 +93,7 @@ impl Lower for StubLower {
 
     fn merge(&self, alloc: Global, _first: &(), _second: &()) -> Result<Merged<()>, StubFault> {
         Ok(Merged {
-            joint: (),
+            combined: (),
             exports: Seq::new(alloc),
         })
     }

@@ -31,14 +31,14 @@ fn after(alloc: Global, lower: StubLower, bytes: &[u8]) -> Result<String, AllocE
 fn without_a_module_there_is_no_component(rt: HostRuntime) {
     let alloc = rt.alloc();
     let encoder = ComponentEncoder::new(alloc, StubLower::NoEncoding);
-    let told = fault_text(alloc, &encoder.encode()).expect(&rt, "memory");
-    assert_eq!(rt; told.as_str(), "E2 NoModule");
+    let reported = fault_text(alloc, &encoder.encode()).expect(&rt, "memory");
+    assert_eq!(rt; reported.as_str(), "E2 NoModule");
 }
 
 #[test]
-fn the_refusals_of_encode_are_told(rt: HostRuntime) {
+fn the_refusals_of_encode_are_reported(rt: HostRuntime) {
     let alloc = rt.alloc();
-    let told = [
+    let reported = [
         (StubLower::NoEncoding, b"".as_slice(), "E2 NoModule"),
         (StubLower::NoEncoding, b"\0asm", "E3 Lower: S2 Refused"),
         (
@@ -48,7 +48,7 @@ fn the_refusals_of_encode_are_told(rt: HostRuntime) {
         ),
         (StubLower::Refusing, CORE, "E3 Lower: S2 Refused"),
     ];
-    for (lower, bytes, fault) in told {
+    for (lower, bytes, fault) in reported {
         let answer = after(alloc, lower, bytes).expect(&rt, "memory");
         assert_eq!(rt; answer.as_str(), fault);
     }

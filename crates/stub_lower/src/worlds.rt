@@ -29,7 +29,7 @@ fn fields(alloc: Global) -> Result<Keyed<Text, Import>, AllocError>
     let name = Text::from_str(alloc, "f")?;
     let role = role(alloc)?;
     let mut fields = Keyed::new(alloc);
-    fields.add_first(name, role)?;
+    fields.insert_if_absent(name, role)?;
     Ok(fields)
 }
 
@@ -40,7 +40,7 @@ fn imports(alloc: Global) -> Result<ImportMap, AllocError>
     let name = Text::from_str(alloc, "$root")?;
     let fields = fields(alloc)?;
     let mut modules = Keyed::new(alloc);
-    modules.add_first(name, ImportInstance::Names(fields))?;
+    modules.insert_if_absent(name, ImportInstance::Names(fields))?;
     Ok(ImportMap { modules })
 }
 
@@ -56,7 +56,7 @@ fn items(alloc: Global) -> Result<World, AllocError>
         result: None,
     };
     let mut imports = Keyed::new(alloc);
-    imports.add_first(key, WorldItem::Function(function))?;
+    imports.insert_if_absent(key, WorldItem::Function(function))?;
     Ok(World {
         imports,
         exports: Keyed::new(alloc),
@@ -103,7 +103,7 @@ fn parts_of(alloc: Global, bytes: &[u8]) -> Result<WorldParts, AllocError>
     })
 }
 
-#[tactic(auto, using(crate::proofs::Stubs::parts_stand, crate::proofs::Stubs::parts_roles), unfolding(crate::specs::Stub::stub_world))]
+#[tactic(auto, using(crate::proofs::Stubs::parts_exist, crate::proofs::Stubs::parts_roles), unfolding(crate::specs::Stub::stub_world))]
 fn world_of(alloc: Global, bytes: &[u8]) -> Result<ComponentWorld, AllocError>
     ensures { IfOk result (λ w. w ≡ stub_world bytes.now) }
 {

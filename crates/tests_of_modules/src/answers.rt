@@ -1,6 +1,6 @@
 //! Bytes and faults as texts.
 
-use byte_encoding::{BuildFault, Spell, spelled};
+use byte_encoding::{BuildFault, Encode, encoded};
 use core_sections::SectionFault;
 use hex::FromHexError;
 use std::alloc::{AllocError, Global};
@@ -34,12 +34,12 @@ pub(crate) fn written(
 }
 
 /// The hexadecimal digits of the bytes of a value that was made.
-pub(crate) fn spelling<T: Spell + Drop>(
+pub(crate) fn encoding<T: Encode + Drop>(
     alloc: Global,
     made: Result<T, AllocError>,
 ) -> Result<String, AllocError> {
     let value = made?;
-    let bytes = spelled(alloc, &value);
+    let bytes = encoded(alloc, &value);
     drop(value);
     written(alloc, bytes)
 }

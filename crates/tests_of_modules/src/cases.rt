@@ -1,6 +1,6 @@
 //! Cases, one line each, and the calls of their inputs.
 
-use crate::answers::{bytes_of, spelling, written};
+use crate::answers::{bytes_of, encoding, written};
 use crate::bodies::body;
 use crate::modules::called;
 use crate::reading::{read, stripped};
@@ -45,8 +45,8 @@ pub(crate) fn answer(alloc: Global, input: &str) -> Result<String, AllocError> {
     let (call, given) = input.split_once(' ').unwrap_or((input, ""));
     match call {
         "read" | "rename" | "strip" => answer_of_module(alloc, call, given),
-        "body" => spelling(alloc, body(alloc, given)),
-        "section" => spelling(alloc, section(alloc, given)),
+        "body" => encoding(alloc, body(alloc, given)),
+        "section" => encoding(alloc, section(alloc, given)),
         _ => called(alloc, input),
     }
 }

@@ -1,7 +1,7 @@
 //! New modules and sections, and laws.
 
 use crate::answers::not_written;
-use core_bytes::{Module, Section, TypeSection, one_module, other_sections_stay};
+use core_bytes::{Module, Section, TypeSection, one_module, other_sections_kept};
 use std::alloc::{AllocError, Global};
 
 /// How many bytes a module has that a component is given, and how many sections.
@@ -28,7 +28,7 @@ fn is_empty(alloc: Global) -> bool {
 /// Nothing is done when a law is called: what it says is its contract.
 fn laws(alloc: Global) -> Result<String, AllocError> {
     one_module();
-    other_sections_stay();
+    other_sections_kept();
     String::from_str(alloc, "called")
 }
 

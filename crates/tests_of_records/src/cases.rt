@@ -1,6 +1,6 @@
 //! Files of cases, their lines, and their answers.
 
-use crate::{offers, resolving, roles, settling, types, worlds};
+use crate::{offers, resolving, roles, versions, types, worlds};
 use std::alloc::{AllocError, Global};
 use std::{fs, io};
 
@@ -10,7 +10,7 @@ enum Topic {
     Types,
     Functions,
     Worlds,
-    Settling,
+    Versions,
     Resolving,
     Offers,
     Sizes,
@@ -24,7 +24,7 @@ impl Topic {
             "types.txt" => Some(Topic::Types),
             "functions.txt" => Some(Topic::Functions),
             "worlds.txt" => Some(Topic::Worlds),
-            "settling.txt" => Some(Topic::Settling),
+            "settling.txt" => Some(Topic::Versions),
             "resolving.txt" => Some(Topic::Resolving),
             "offers.txt" => Some(Topic::Offers),
             "sizes.txt" => Some(Topic::Sizes),
@@ -40,7 +40,7 @@ fn answer(alloc: Global, topic: Topic, given: &str, asked: &str) -> Result<Strin
         Topic::Types => types::answer(alloc, given, asked),
         Topic::Functions => types::function_answer(alloc, given, asked),
         Topic::Worlds => worlds::answer(alloc, asked),
-        Topic::Settling => settling::answer(alloc, asked),
+        Topic::Versions => versions::answer(alloc, asked),
         Topic::Resolving => resolving::answer(alloc, asked),
         Topic::Offers => offers::answer(alloc, asked),
         Topic::Sizes => offers::size_answer(alloc, asked),

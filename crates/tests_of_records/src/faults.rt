@@ -1,6 +1,6 @@
 //! What is printed of a fault.
 
-use record_json::{Failure, Refusal};
+use json_paths::{Failure, Refusal};
 use std::alloc::{AllocError, Global};
 
 /// The path of what is no record, or what is wrong.

@@ -62,7 +62,7 @@ fn functions(
     let key = Text::from_str(alloc, name)?;
     let function = function(alloc, name, param, returned)?;
     let mut functions = Keyed::new(alloc);
-    functions.add_first(key, function)?;
+    functions.insert_if_absent(key, function)?;
     Ok(functions)
 }
 
@@ -99,9 +99,9 @@ fn side(
     interface: InterfaceId,
 ) -> Result<Keyed<WorldKey, WorldItem>, AllocError> {
     let mut entries = Keyed::new(alloc);
-    entries.add_first(key, WorldItem::Function(function))?;
+    entries.insert_if_absent(key, WorldItem::Function(function))?;
     let key = WorldKey::Interface(interface);
-    entries.add_first(key, WorldItem::Interface(interface))?;
+    entries.insert_if_absent(key, WorldItem::Interface(interface))?;
     Ok(entries)
 }
 
@@ -150,11 +150,11 @@ fn value(letter: char) -> ValType {
 fn func_type(alloc: Global, letters: &str) -> Result<FuncType, AllocError> {
     let mut params = Seq::new(alloc);
     let mut results = Seq::new(alloc);
-    let mut is_behind = false;
+    let mut is_after = false;
     for letter in letters.chars() {
         if letter == '>' {
-            is_behind = true;
-        } else if is_behind {
+            is_after = true;
+        } else if is_after {
             results.push(value(letter))?;
         } else {
             params.push(value(letter))?;

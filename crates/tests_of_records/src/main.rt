@@ -8,11 +8,11 @@
 //! is refused it reports so, and ends with status 1.
 //!
 //! The expected answers aren't this program's: each file says where they are from. The cases of refused records, with
-//! their paths, are in the program `tell_records`.
+//! their paths, are in the program `record_cases`.
 //!
 //! In reading order: `cases` (files and lines), `faults` (printed faults), then the topics: `types` (the
 //! nodes and sizes of types, and functions), `worlds` (interfaces of whole records), `wits` (worlds by names),
-//! `settling` (compatible interfaces), `resolving` (how many types a world has), `offers` (what a core module
+//! `versions` (compatible interfaces), `resolving` (how many types a world has), `offers` (what a core module
 //! offers), and the core types of roles: `made` (the world they are in), `imports`, `exports` and `roles`.
 #![tactic(auto)]
 
@@ -24,7 +24,7 @@ mod made;
 mod offers;
 mod resolving;
 mod roles;
-mod settling;
+mod versions;
 mod types;
 mod wits;
 mod worlds;

@@ -7,7 +7,7 @@ use comp_lists::{Keyed, Text};
 use comp_worlds::ExternType;
 use core_sections::{CoreModule, Limits, SectionFault, read_module};
 use core_types::{MemoryType, RefType, ValType};
-use record_modules::{memory_type, offered};
+use record_core_types::{memory_type, offered};
 use std::alloc::{AllocError, Global};
 
 /// A letter a value type: `i` for i32, `l` for i64, `f` for f32, `d` for f64, `r` for a reference.

@@ -7,8 +7,8 @@ use crate::cases::word_and_rest;
 use crate::faults::print_fault;
 use crate::wits::{add_item, empty, name};
 use comp_lists::{Keyed, Seq, Text};
-use record_json::{Failure, Refusal};
-use record_resolving::{Resolved, resolve};
+use json_paths::{Failure, Refusal};
+use record_resolve::{Resolved, resolve};
 use record_values::{Func, Interface, InterfaceName, Node, Wit};
 use std::alloc::{AllocError, Global};
 use wit_data::Primitive;
@@ -49,7 +49,7 @@ fn add_interface(
     id: &str,
 ) -> Result<(), AllocError> {
     let interface = interface(alloc)?;
-    interfaces.add_first(name(alloc, id)?, interface)
+    interfaces.insert_if_absent(name(alloc, id)?, interface)
 }
 
 fn world(alloc: Global, id: &str, imported: bool, exported: bool) -> Result<Wit, AllocError> {
@@ -80,9 +80,9 @@ fn print_resolved(alloc: Global, wit: &Wit) -> Result<String, AllocError> {
 }
 
 pub(crate) fn answer(alloc: Global, asked: &str) -> Result<String, AllocError> {
-    let (id, place) = word_and_rest(asked);
-    let imported = matches!(place, "import" | "both");
-    let exported = matches!(place, "export" | "both");
+    let (id, side) = word_and_rest(asked);
+    let imported = matches!(side, "import" | "both");
+    let exported = matches!(side, "export" | "both");
     let wit = world(alloc, id, imported, exported)?;
     let printed = print_resolved(alloc, &wit);
     drop(wit);

@@ -14,7 +14,7 @@ use crate::offers::limits_of;
 use comp_worlds::{Export, Import};
 use core_sections::{CoreModule, EntityType, ExportedItem, Limits};
 use core_types::MemoryType;
-use record_modules::{fits_export, fits_import};
+use record_core_types::{fits_export, fits_import};
 use std::alloc::{AllocError, Global};
 use wit_data::Resolve;
 

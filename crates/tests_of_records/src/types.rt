@@ -6,7 +6,7 @@
 
 use crate::faults::print_fault;
 use comp_lists::{Keyed, Text};
-use record_json::read_value;
+use json_paths::read_value;
 use record_types::{
     ReadInterface, Scope, Size, TypeFacts, read_function, read_interfaces, read_named_type,
 };
@@ -26,7 +26,7 @@ fn world_types(alloc: Global) -> Result<Keyed<Text, TypeFacts>, AllocError> {
         is_resource: true,
         ends_at_resource: true,
     };
-    types.add_first(Text::from_str(alloc, "w")?, facts)?;
+    types.insert_if_absent(Text::from_str(alloc, "w")?, facts)?;
     Ok(types)
 }
 
@@ -63,7 +63,7 @@ fn print_function(alloc: Global, scope: &Scope<'_>, value: &Value) -> Result<Str
 
 /// What a query asks for of a value.
 #[derive(Clone, Copy)]
-enum Wanted {
+enum Requested {
     Type,
     Function,
 }
@@ -71,7 +71,7 @@ enum Wanted {
 /// The printed text of a value, where the world may name the types of these interfaces.
 fn print_value(
     alloc: Global,
-    wanted: Wanted,
+    requested: Requested,
     done: &[ReadInterface],
     value: &Value,
 ) -> Result<String, AllocError> {
@@ -81,53 +81,53 @@ fn print_value(
         current: &current,
         is_world: true,
     };
-    match wanted {
-        Wanted::Type => print_type(alloc, &scope, value),
-        Wanted::Function => print_function(alloc, &scope, value),
+    match requested {
+        Requested::Type => print_type(alloc, &scope, value),
+        Requested::Function => print_function(alloc, &scope, value),
     }
 }
 
 /// The printed text of a JSON text, where the world may name the types of these interfaces.
 fn print_text(
     alloc: Global,
-    wanted: Wanted,
+    requested: Requested,
     done: &[ReadInterface],
     text: &str,
 ) -> Result<String, AllocError> {
     match read_value(alloc, text.as_bytes()) {
-        Ok(value) => print_value(alloc, wanted, done, &value),
+        Ok(value) => print_value(alloc, requested, done, &value),
         Err(failure) => print_fault(alloc, &failure),
     }
 }
 
 /// The printed text of a JSON text, where the interfaces are those of a value.
-fn print_beside(
+fn print_with(
     alloc: Global,
-    wanted: Wanted,
+    requested: Requested,
     before: &Value,
     text: &str,
 ) -> Result<String, AllocError> {
     match read_interfaces(alloc, before) {
-        Ok(done) => print_text(alloc, wanted, done.as_slice(), text),
+        Ok(done) => print_text(alloc, requested, done.as_slice(), text),
         Err(failure) => print_fault(alloc, &failure),
     }
 }
 
 fn print_asked(
     alloc: Global,
-    wanted: Wanted,
+    requested: Requested,
     given: &str,
     text: &str,
 ) -> Result<String, AllocError> {
     match read_value(alloc, given.as_bytes()) {
-        Ok(before) => print_beside(alloc, wanted, &before, text),
+        Ok(before) => print_with(alloc, requested, &before, text),
         Err(failure) => print_fault(alloc, &failure),
     }
 }
 
 pub(crate) fn answer(alloc: Global, given: &str, asked: &str) -> Result<String, AllocError> {
     let named = format!(in alloc; "{{\"name\":\"a\",\"type\":{asked}}}")?;
-    print_asked(alloc, Wanted::Type, given, named.as_str())
+    print_asked(alloc, Requested::Type, given, named.as_str())
 }
 
 pub(crate) fn function_answer(
@@ -135,5 +135,5 @@ pub(crate) fn function_answer(
     given: &str,
     asked: &str,
 ) -> Result<String, AllocError> {
-    print_asked(alloc, Wanted::Function, given, asked)
+    print_asked(alloc, Requested::Function, given, asked)
 }

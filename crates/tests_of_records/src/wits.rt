@@ -39,5 +39,5 @@ pub(crate) fn add_item(
         return Ok(());
     }
     let key = key(alloc, id)?;
-    items.add_first(key, Item::Interface(name(alloc, id)?))
+    items.insert_if_absent(key, Item::Interface(name(alloc, id)?))
 }

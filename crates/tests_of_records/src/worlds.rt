@@ -1,9 +1,9 @@
 //! What is read of whole records: the names of interfaces, and the sides that they are on. The query is a record, in JSON, without its version.
 
 use crate::faults::print_fault;
-use record_json::read_value;
+use json_paths::read_value;
 use record_values::InterfaceName;
-use record_worlds::{PlacedInterface, RecordWorld, read_world};
+use record_worlds::{IndexedInterface, RecordWorld, read_world};
 use serde_json::Value;
 use std::alloc::{AllocError, Global};
 
@@ -17,7 +17,7 @@ fn kind_of(name: &InterfaceName) -> &'static str {
 }
 
 /// The name of an interface, and the sides that it is on.
-fn push_interface(out: &mut String, placed: &PlacedInterface) -> Result<(), AllocError> {
+fn push_interface(out: &mut String, placed: &IndexedInterface) -> Result<(), AllocError> {
     if !out.is_empty() {
         out.push_str("; ")?;
     }
@@ -32,7 +32,7 @@ fn push_interface(out: &mut String, placed: &PlacedInterface) -> Result<(), Allo
     Ok(())
 }
 
-fn print_interfaces(alloc: Global, interfaces: &[PlacedInterface]) -> Result<String, AllocError> {
+fn print_interfaces(alloc: Global, interfaces: &[IndexedInterface]) -> Result<String, AllocError> {
     if interfaces.is_empty() {
         return String::from_str(alloc, "nothing");
     }

@@ -1,1 +1,1 @@
-mod Standing
+mod PresentRoles

@@ -1,7 +1,7 @@
 //! Files of cases, their lines, and their answers.
 
 use crate::{
-    contents, exports, imports, names, options, places, reached, signatures, soundness, tables,
+    contents, exports, imports, names, options, positions, reached, signatures, soundness, tables,
     worlds,
 };
 use std::alloc::{AllocError, Global};
@@ -12,7 +12,7 @@ use std::{fs, io};
 enum Topic {
     Signatures,
     Soundness,
-    Places,
+    Positions,
     Names,
     Contents,
     Reached,
@@ -29,7 +29,7 @@ impl Topic {
         match name {
             "signatures.txt" => Some(Topic::Signatures),
             "soundness.txt" => Some(Topic::Soundness),
-            "places.txt" => Some(Topic::Places),
+            "places.txt" => Some(Topic::Positions),
             "names.txt" => Some(Topic::Names),
             "contents.txt" => Some(Topic::Contents),
             "reached.txt" => Some(Topic::Reached),
@@ -48,7 +48,7 @@ fn answer(alloc: Global, topic: Topic, given: &str, asked: &str) -> Result<Strin
     match topic {
         Topic::Signatures => signatures::answer(alloc, asked),
         Topic::Soundness => soundness::answer(alloc, asked),
-        Topic::Places => places::answer(alloc, asked),
+        Topic::Positions => positions::answer(alloc, asked),
         Topic::Names => names::answer(alloc, given, asked),
         Topic::Contents => contents::answer(alloc, given, asked),
         Topic::Reached => reached::answer(alloc, given, asked),

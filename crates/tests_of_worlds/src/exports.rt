@@ -114,7 +114,7 @@ fn add_export(
     let (name, role_text) = text.split_once("=").unwrap_or((text, ""));
     let name = Text::from_str(alloc, name)?;
     let role = role(alloc, role_text)?;
-    exports.add_first(name, role)
+    exports.insert_if_absent(name, role)
 }
 
 fn export_map(alloc: Global, given: &str) -> Result<ExportMap, AllocError> {

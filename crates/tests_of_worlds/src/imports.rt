@@ -25,7 +25,7 @@ fn add_field(
 ) -> Result<(), AllocError> {
     let (name, size) = text.split_once("=").unwrap_or((text, "_"));
     let name = Text::from_str(alloc, name)?;
-    fields.add_first(name, import(size))
+    fields.insert_if_absent(name, import(size))
 }
 
 fn fields(alloc: Global, text: &str) -> Result<Keyed<Text, Import>, AllocError> {
@@ -54,7 +54,7 @@ fn add_module(
     let (name, rest) = word_and_rest(text);
     let name = Text::from_str(alloc, name)?;
     let instance = instance(alloc, rest)?;
-    modules.add_first(name, instance)
+    modules.insert_if_absent(name, instance)
 }
 
 fn import_map(alloc: Global, given: &str) -> Result<ImportMap, AllocError> {

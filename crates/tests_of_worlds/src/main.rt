@@ -9,7 +9,7 @@
 //! The expected answers aren't this program's: each file says where they are from.
 //!
 //! In reading order: `cases` (files and lines), `types` (types and functions as text), then the topics: `signatures`
-//! (core signatures), `soundness` and `places` (what is sound), `names`, `contents`, `reached`, `options`, `exports`,
+//! (core signatures), `soundness` and `positions` (what is sound), `names`, `contents`, `reached`, `options`, `exports`,
 //! `imports`, `worlds` (other modules of a world), `tables` (what follows from a world's parts).
 #![tactic(auto)]
 
@@ -19,7 +19,7 @@ mod exports;
 mod imports;
 mod names;
 mod options;
-mod places;
+mod positions;
 mod reached;
 mod signatures;
 mod soundness;

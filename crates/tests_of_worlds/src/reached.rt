@@ -11,7 +11,7 @@ fn named_types(alloc: Global, order: &str) -> Result<Keyed<Text, TypeId>, AllocE
     let mut types = Keyed::new(alloc);
     for word in order.split_whitespace() {
         let name = Text::from_str(alloc, word)?;
-        types.add_first(name, id(word))?;
+        types.insert_if_absent(name, id(word))?;
     }
     Ok(types)
 }

@@ -67,7 +67,7 @@ fn add_function(
 ) -> Result<(), AllocError> {
     let key = Text::from_str(alloc, name)?;
     let function = named_function_of(alloc, name, text)?;
-    functions.add_first(key, function)
+    functions.insert_if_absent(key, function)
 }
 
 fn functions_of(
@@ -85,7 +85,7 @@ fn named_types(alloc: Global, named: &[(&str, usize)]) -> Result<Keyed<Text, Typ
     let mut types = Keyed::new(alloc);
     for (name, index) in named {
         let name = Text::from_str(alloc, name)?;
-        types.add_first(name, TypeId { index: *index })?;
+        types.insert_if_absent(name, TypeId { index: *index })?;
     }
     Ok(types)
 }
@@ -123,7 +123,7 @@ fn interfaces(alloc: Global) -> Result<Seq<Interface>, AllocError> {
 
 /// Adds an interface to the imports or the exports of a world.
 fn add_item(items: &mut Keyed<WorldKey, WorldItem>, id: InterfaceId) -> Result<(), AllocError> {
-    items.add_first(WorldKey::Interface(id), WorldItem::Interface(id))
+    items.insert_if_absent(WorldKey::Interface(id), WorldItem::Interface(id))
 }
 
 /// The world imports `i`, and exports `k` and `j`.
@@ -169,7 +169,7 @@ fn fields(alloc: Global, name: &str) -> Result<Keyed<Text, Import>, AllocError>
     let field = Text::from_str(alloc, name)?;
     let role = role(alloc, name)?;
     let mut fields = Keyed::new(alloc);
-    fields.add_first(field, role)?;
+    fields.insert_if_absent(field, role)?;
     Ok(fields)
 }
 
@@ -184,7 +184,7 @@ fn add_module(
 {
     let name = Text::from_str(alloc, name)?;
     let fields = fields(alloc, field)?;
-    modules.add_first(name, ImportInstance::Names(fields))
+    modules.insert_if_absent(name, ImportInstance::Names(fields))
 }
 
 /// The core imports of main: `f` of `a`, and `g` of `b`.
@@ -238,7 +238,7 @@ fn parts(alloc: Global) -> Result<WorldParts, AllocError>
 }
 
 /// The world of these parts, where they are sound.
-#[tactic(auto, using(crate::proofs::Standing::roles_stand))]
+#[tactic(auto, using(crate::proofs::PresentRoles::roles_present))]
 fn whole(alloc: Global, parts: WorldParts) -> Result<Option<ComponentWorld>, AllocError>
     requires imports { parts.main.imports ≡ core_imports }
     requires alone { parts.adapters ≡ [] }

@@ -41,7 +41,7 @@ fn module(alloc: Global, exports: ExportMap) -> ValidatedModule {
 fn realloc(alloc: Global, name: &str) -> Result<ExportMap, AllocError> {
     let mut exports = Keyed::new(alloc);
     let name = Text::from_str(alloc, name)?;
-    exports.add_first(name, Export::GeneralPurposeRealloc)?;
+    exports.insert_if_absent(name, Export::GeneralPurposeRealloc)?;
     Ok(ExportMap { exports })
 }
 
@@ -61,7 +61,7 @@ fn libraries(alloc: Global) -> Result<Keyed<Text, WorldAdapter>, AllocError> {
     let name = Text::from_str(alloc, "library")?;
     let exports = realloc(alloc, "its")?;
     let mut adapters = Keyed::new(alloc);
-    adapters.add_first(name, library(alloc, exports))?;
+    adapters.insert_if_absent(name, library(alloc, exports))?;
     Ok(adapters)
 }
 

@@ -93,12 +93,12 @@ pub spread_start : (types : List TypeDef) (marks : List Bool) (n : ℕ) (found :
 spread_start types marks n found = record { long = refl; each = λ target. met_start (reached types marks n target) (found target) }
 
 pub spread_step : (types : List TypeDef) (old marks : List Bool) (n done : ℕ) (found : ℕ → List Bool) (p : Option Ty) → RefersBack types → IsBelow n p → n ≤ length old → length old ≡ length types → ((target : ℕ) → done < length (found target)) → ((target : ℕ) → value (reaching target) types p ≡ get_or (found target) done false) → SpreadsSoFar types old marks n done found → SpreadsSoFar types old (with_mark marks p) n (done + 1) found
-spread_step types old marks n done found p s b h long place at so_far =
+spread_step types old marks n done found p s b h long in_range at so_far =
     let room : n ≤ length marks = omega (arith, h, so_far.long) in
     let same : length marks ≡ length types = so_far.long ∙ long in
     record {
       long = length_marked marks p ∙ so_far.long;
-      each = λ target. subst (λ b. MetSoFar (reached types old n target) b (done + 1) (found target)) (sym (marked_part types marks p n target s b room same)) (met_step (reached types old n target) (reached types marks n target) (value (reaching target) types p) done (found target) (place target) (at target) (so_far.each target));
+      each = λ target. subst (λ b. MetSoFar (reached types old n target) b (done + 1) (found target)) (sym (marked_part types marks p n target s b room same)) (met_step (reached types old n target) (reached types marks n target) (value (reaching target) types p) done (found target) (in_range target) (at target) (so_far.each target));
     }
 
 pub spread_end : (types : List TypeDef) (old new : List Bool) (n done : ℕ) (found : ℕ → List Bool) → ((target : ℕ) → done ≡ length (found target)) → SpreadsSoFar types old new n done found → Spreads types old new n found

@@ -58,23 +58,23 @@ met_at m types id n b p l c e = c ∙ (ap (λ q. value m types q) e ∙ sym (par
 
 -- Of a type whose values have those of its parts in them, and of others.
 pub texts_entered : (types : List TypeDef) (id : ℕ) (k : TypeDefKind) (entered met : Bool) → RefersBack types → id < length types → k ≡ kind_at types id → entered ≡ is_entered k → entered ≡ true → met ≡ (false || list_any (λ b. b) (part_values finding_texts types id)) → met ≡ get_or (values finding_texts types) id false
-texts_entered types id k entered met s l e is goes_in found =
-    let test : is_entered (kind_at types id) ≡ true = ap is_entered (sym e) ∙ (sym is ∙ goes_in) in
+texts_entered types id k entered met s l e is is_inside found =
+    let test : is_entered (kind_at types id) ≡ true = ap is_entered (sym e) ∙ (sym is ∙ is_inside) in
     found ∙ sym (made_whole finding_texts types id s l ∙ ap (λ b. if b then list_any (λ b. b) (part_values finding_texts types id) else false) test)
 
 pub texts_closed : (types : List TypeDef) (id : ℕ) (k : TypeDefKind) (entered : Bool) → RefersBack types → id < length types → k ≡ kind_at types id → entered ≡ is_entered k → entered ≡ false → false ≡ get_or (values finding_texts types) id false
-texts_closed types id k entered s l e is stays_out =
-    let test : is_entered (kind_at types id) ≡ false = ap is_entered (sym e) ∙ (sym is ∙ stays_out) in
+texts_closed types id k entered s l e is is_outside =
+    let test : is_entered (kind_at types id) ≡ false = ap is_entered (sym e) ∙ (sym is ∙ is_outside) in
     sym (made_whole finding_texts types id s l ∙ ap (λ b. if b then list_any (λ b. b) (part_values finding_texts types id) else false) test)
 
 pub lists_entered : (types : List TypeDef) (id : ℕ) (k : TypeDefKind) (entered list met : Bool) → RefersBack types → id < length types → k ≡ kind_at types id → entered ≡ is_entered k → entered ≡ true → list ≡ is_list k → met ≡ (list || list_any (λ b. b) (part_values finding_lists types id)) → met ≡ get_or (values finding_lists types) id false
-lists_entered types id k entered list met s l e is goes_in own found =
-    let test : is_entered (kind_at types id) ≡ true = ap is_entered (sym e) ∙ (sym is ∙ goes_in) in
+lists_entered types id k entered list met s l e is is_inside own found =
+    let test : is_entered (kind_at types id) ≡ true = ap is_entered (sym e) ∙ (sym is ∙ is_inside) in
     let one : list ≡ is_list (kind_at types id) = own ∙ ap is_list e in
     found ∙ (ap (λ b. b || list_any (λ b. b) (part_values finding_lists types id)) one ∙ sym (made_whole finding_lists types id s l ∙ ap (λ b. is_list (kind_at types id) || (if b then list_any (λ b. b) (part_values finding_lists types id) else false)) test))
 
 pub lists_closed : (types : List TypeDef) (id : ℕ) (k : TypeDefKind) (entered list : Bool) → RefersBack types → id < length types → k ≡ kind_at types id → entered ≡ is_entered k → entered ≡ false → list ≡ is_list k → list ≡ get_or (values finding_lists types) id false
-lists_closed types id k entered list s l e is stays_out own =
-    let test : is_entered (kind_at types id) ≡ false = ap is_entered (sym e) ∙ (sym is ∙ stays_out) in
+lists_closed types id k entered list s l e is is_outside own =
+    let test : is_entered (kind_at types id) ≡ false = ap is_entered (sym e) ∙ (sym is ∙ is_outside) in
     let one : list ≡ is_list (kind_at types id) = own ∙ ap is_list e in
     one ∙ (sym (or_false (is_list (kind_at types id))) ∙ sym (made_whole finding_lists types id s l ∙ ap (λ b. is_list (kind_at types id) || (if b then list_any (λ b. b) (part_values finding_lists types id) else false)) test))

@@ -43,9 +43,9 @@ made_at m done (t ∷ ts) (suc n) s l =
     let v = next_value m done t.kind in
     let all = values_from m (done ++ v ∷ []) ts in
     let one : length (done ++ v ∷ []) ≡ suc (length done) = omega (arith, length-append done (v ∷ [])) in
-    let place : length (done ++ v ∷ []) + n ≡ length done + suc n = omega (arith, one) in
+    let same_index : length (done ++ v ∷ []) + n ≡ length done + suc n = omega (arith, one) in
     let later : RefersBackFrom (length (done ++ v ∷ [])) ts = subst (λ b. RefersBackFrom b ts) (sym one) s.1 in
-    subst (λ k. get_or all k m.absent ≡ m.made k (kind_at ts n) (map (part_value m all) (parts (kind_at ts n)))) place (made_at m (done ++ v ∷ []) ts n later (omega (arith, l)))
+    subst (λ k. get_or all k m.absent ≡ m.made k (kind_at ts n) (map (part_value m all) (parts (kind_at ts n)))) same_index (made_at m (done ++ v ∷ []) ts n later (omega (arith, l)))
 
 pub made_whole : {A : Type 0} (m : Making A) (types : List TypeDef) (n : ℕ) → RefersBack types → n < length types → get_or (values m types) n m.absent ≡ m.made n (kind_at types n) (part_values m types n)
 made_whole m types n s l = subst (λ k. get_or (values m types) k m.absent ≡ m.made k (kind_at types n) (part_values m types n)) (nothing_more n) (made_at m [] types n s l)

@@ -114,7 +114,7 @@ fn is_text(primitive: Primitive) -> bool
 #[cycle(meeting)]
 fn met_in(types: &[TypeDef], part: Option<Type>) -> Met
     requires sound { RefersBack types.now }
-    requires stands { IsBelow (length types.now) part }
+    requires present { IsBelow (length types.now) part }
     ensures text { result.text ≡ has_text types.now part }
     ensures list { result.list ≡ has_list types.now part }
 {
@@ -135,7 +135,7 @@ fn met_in(types: &[TypeDef], part: Option<Type>) -> Met
 #[cycle(meeting)]
 fn met_in_kind(types: &[TypeDef], id: usize) -> Met
     requires sound { RefersBack types.now }
-    requires stands { id < length types.now }
+    requires present { id < length types.now }
     ensures text { result.text ≡ get_or (values finding_texts types.now) id false }
     ensures list { result.list ≡ get_or (values finding_lists types.now) id false }
 {
@@ -156,7 +156,7 @@ fn met_in_kind(types: &[TypeDef], id: usize) -> Met
 #[cycle(meeting)]
 fn met_in_parts(types: &[TypeDef], id: usize, before: Met) -> Met
     requires sound { RefersBack types.now }
-    requires stands { id < length types.now }
+    requires present { id < length types.now }
     ensures text { result.text ≡ (before.text || list_any (λ b. b) (part_values finding_texts types.now id)) }
     ensures list { result.list ≡ (before.list || list_any (λ b. b) (part_values finding_lists types.now id)) }
 {
@@ -174,7 +174,7 @@ impl Resolve {
     /// What a type contains: a string, or anything in memory.
     pub fn type_contents(&self, ty: &Type) -> TypeContents
         requires sound { IsSound self.now }
-        requires stands { HasType self.now (Some ty.now) }
+        requires present { HasType self.now (Some ty.now) }
         ensures { result.0 ≡ contents_bits self.now.types (Some ty.now) }
     {
         self.contents_of(Some(*ty))
@@ -184,7 +184,7 @@ impl Resolve {
     /// nothing.
     pub fn contents_of(&self, part: Option<Type>) -> TypeContents
         requires sound { IsSound self.now }
-        requires stands { HasType self.now part }
+        requires present { HasType self.now part }
         ensures { result.0 ≡ contents_bits self.now.types part }
     {
         let met = met_in(self.types.as_slice(), part);
@@ -199,9 +199,9 @@ impl Resolve {
     /// The type of what a stream or a future carries, if it carries anything.
     pub fn carried_by(&self, id: TypeId) -> Option<Type>
         requires sound { IsSound self.now }
-        requires stands { HasTypeId self.now id }
+        requires present { HasTypeId self.now id }
         ensures carried { result ≡ carried_by (kind_at self.now.types id.index) }
-        ensures stands { HasType self.now result }
+        ensures present { HasType self.now result }
     {
         let types = self.types.as_slice();
         match kind_of(types, id.index) {

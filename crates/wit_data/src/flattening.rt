@@ -55,7 +55,7 @@ pub(crate) const MANY: usize = 17;
 #[cycle(counting)]
 pub(crate) fn flat_count(types: &[TypeDef], part: Option<Type>) -> usize
     requires back { RefersBack types.now }
-    requires stands { IsBelow (length types.now) part }
+    requires present { IsBelow (length types.now) part }
     ensures count { result ≡ min (length (flat types.now part)) 17 }
     ensures small { result ≤ 17 }
 {
@@ -78,7 +78,7 @@ fn primitive_count(primitive: Primitive) -> usize
 #[cycle(counting)]
 fn shape_count(types: &[TypeDef], id: usize) -> usize
     requires back { RefersBack types.now }
-    requires stands { id < length types.now }
+    requires present { id < length types.now }
     ensures { result ≡ min (length (get_or (values flattening types.now) id [])) 17 }
 {
     match shape_of(&types[id].kind) {
@@ -101,12 +101,12 @@ fn tagged_count(count: usize) -> usize
 #[cycle(counting)]
 fn count_together(types: &[TypeDef], id: usize) -> usize
     requires back { RefersBack types.now }
-    requires stands { id < length types.now }
+    requires present { id < length types.now }
     ensures { result ≡ min (length (flat_map (λ f. f) (part_values flattening types.now id))) 17 }
 {
     let mut total: usize = 0;
-    for place in 0..part_count_of(types, id) {
-        total += flat_count(types, part_of(types, id, place));
+    for index in 0..part_count_of(types, id) {
+        total += flat_count(types, part_of(types, id, index));
         if total >= MANY {
             return MANY;
         }
@@ -118,12 +118,12 @@ fn count_together(types: &[TypeDef], id: usize) -> usize
 #[cycle(counting)]
 fn count_of_longest(types: &[TypeDef], id: usize) -> usize
     requires back { RefersBack types.now }
-    requires stands { id < length types.now }
+    requires present { id < length types.now }
     ensures { result ≡ min (length (joined [] (part_values flattening types.now id))) 17 }
 {
     let mut most: usize = 0;
-    for place in 0..part_count_of(types, id) {
-        let count = flat_count(types, part_of(types, id, place));
+    for index in 0..part_count_of(types, id) {
+        let count = flat_count(types, part_of(types, id, index));
         if count >= MANY {
             return MANY;
         }
@@ -141,7 +141,7 @@ pub(crate) fn flatten(
     out: &mut Vec<WasmType>,
 ) -> Result<(), AllocError>
     requires back { RefersBack types.now }
-    requires stands { IsBelow (length types.now) part }
+    requires present { IsBelow (length types.now) part }
     ensures { OnOk result (out.new.items ≡ out.old.items ++ flat types.now part) }
 {
     match part {
@@ -188,7 +188,7 @@ fn flatten_shape(
     out: &mut Vec<WasmType>,
 ) -> Result<(), AllocError>
     requires back { RefersBack types.now }
-    requires stands { id < length types.now }
+    requires present { id < length types.now }
     ensures { OnOk result (out.new.items ≡ out.old.items ++ get_or (values flattening types.now) id []) }
 {
     match shape_of(&types[id].kind) {
@@ -208,11 +208,11 @@ fn flatten_together(
     out: &mut Vec<WasmType>,
 ) -> Result<(), AllocError>
     requires back { RefersBack types.now }
-    requires stands { id < length types.now }
+    requires present { id < length types.now }
     ensures { OnOk result (out.new.items ≡ out.old.items ++ flat_map (λ f. f) (part_values flattening types.now id)) }
 {
-    for place in 0..part_count_of(types, id) {
-        flatten(types, part_of(types, id, place), alloc, out)?;
+    for index in 0..part_count_of(types, id) {
+        flatten(types, part_of(types, id, index), alloc, out)?;
     }
     Ok(())
 }
@@ -226,7 +226,7 @@ fn flatten_cases(
     out: &mut Vec<WasmType>,
 ) -> Result<(), AllocError>
     requires back { RefersBack types.now }
-    requires stands { id < length types.now }
+    requires present { id < length types.now }
     ensures { OnOk result (out.new.items ≡ out.old.items ++ I32 ∷ joined [] (part_values flattening types.now id)) }
 {
     let mut values = joined_cases(types, id, alloc)?;
@@ -238,13 +238,13 @@ fn flatten_cases(
 #[cycle(listing)]
 fn joined_cases(types: &[TypeDef], id: usize, alloc: Global) -> Result<Vec<WasmType>, AllocError>
     requires back { RefersBack types.now }
-    requires stands { id < length types.now }
+    requires present { id < length types.now }
     ensures { IfOk result (λ values. values.items ≡ joined [] (part_values flattening types.now id)) }
 {
     let mut values = Vec::new(alloc);
-    for place in 0..part_count_of(types, id) {
+    for index in 0..part_count_of(types, id) {
         let mut case = Vec::new(alloc);
-        flatten(types, part_of(types, id, place), alloc, &mut case)?;
+        flatten(types, part_of(types, id, index), alloc, &mut case)?;
         join_into(&mut values, case.as_slice())?;
     }
     Ok(values)
@@ -254,11 +254,11 @@ fn joined_cases(types: &[TypeDef], id: usize, alloc: Global) -> Result<Vec<WasmT
 fn join_into(values: &mut Vec<WasmType>, others: &[WasmType]) -> Result<(), AllocError>
     ensures { OnOk result (values.new.items ≡ join_lists values.old.items others.now) }
 {
-    for place in 0..others.len() {
-        if place < values.len() {
-            values[place] = joined_type(values[place], others[place]);
+    for index in 0..others.len() {
+        if index < values.len() {
+            values[index] = joined_type(values[index], others[index]);
         } else {
-            values.push(others[place])?;
+            values.push(others[index])?;
         }
     }
     Ok(())

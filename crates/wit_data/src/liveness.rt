@@ -27,7 +27,7 @@ impl Resolve {
         given: &[Type],
     ) -> Result<Vec<TypeId>, AllocError>
         requires sound { IsSound self.now }
-        requires stands { HasInterface self.now id }
+        requires present { HasInterface self.now id }
         requires given { AllByRecursion (λ t. HasType self.now (Some t)) given.now }
         ensures { IfOk result (λ v. v.items ≡ live_types self.now.types given.now (named_types self.now id)) }
     {
@@ -93,7 +93,7 @@ fn pass_all_on(types: &[TypeDef], marks: &mut [bool])
 fn pass_on(types: &[TypeDef], marks: &mut [bool], n: usize)
     requires sound { RefersBack types.now }
     requires long { length marks.old ≡ length types.now }
-    requires stands { n < length types.now }
+    requires present { n < length types.now }
     ensures { PassesOn types.now marks.old (n + 1) marks.new n }
 {
     if marks[n] {
@@ -105,7 +105,7 @@ fn pass_on(types: &[TypeDef], marks: &mut [bool], n: usize)
 fn mark_parts(types: &[TypeDef], marks: &mut [bool], id: usize)
     requires sound { RefersBack types.now }
     requires long { length marks.old ≡ length types.now }
-    requires stands { id < length types.now }
+    requires present { id < length types.now }
     ensures { Spreads types.now marks.old marks.new id (λ target. part_values (reaching target) types.now id) }
 {
     for n in 0..part_count_of(types, id) {

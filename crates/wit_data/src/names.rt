@@ -118,7 +118,7 @@ impl Resolve {
     /// without a name has the empty text. The only error is out of memory.
     pub fn name_world_key(&self, alloc: Global, key: &WorldKey) -> Result<Text, AllocError>
         requires sound { IsSound self.now }
-        requires stands { HasKey self.now key.now }
+        requires present { HasKey self.now key.now }
         ensures { IfOk result (λ t. t ≡ key_text self.now key.now) }
     {
         match key {
@@ -136,7 +136,7 @@ impl Resolve {
         key: &WorldKey,
     ) -> Result<Text, AllocError>
         requires sound { IsSound self.now }
-        requires stands { HasKey self.now key.now }
+        requires present { HasKey self.now key.now }
         ensures { IfOk result (λ t. t ≡ canonical_key_text self.now key.now) }
     {
         match key {
@@ -152,7 +152,7 @@ impl Resolve {
     /// of memory.
     pub fn id_of(&self, alloc: Global, id: InterfaceId) -> Result<Option<Text>, AllocError>
         requires sound { IsSound self.now }
-        requires stands { HasInterface self.now id }
+        requires present { HasInterface self.now id }
         ensures { IfOk result (λ t. t ≡ option_map id_text (id_name_of self.now id)) }
     {
         match &self.interfaces.as_slice()[id.index].id {
@@ -169,7 +169,7 @@ impl Resolve {
         id: InterfaceId,
     ) -> Result<Option<Text>, AllocError>
         requires sound { IsSound self.now }
-        requires stands { HasInterface self.now id }
+        requires present { HasInterface self.now id }
         ensures { IfOk result (λ t. t ≡ option_map canonical_id_text (id_name_of self.now id)) }
     {
         match &self.interfaces.as_slice()[id.index].id {

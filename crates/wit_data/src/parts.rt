@@ -30,18 +30,18 @@ impl TypeDefKind {
     }
 
     /// The part of the kind at an index, from 0.
-    pub fn part(&self, place: usize) -> Option<Type>
-        requires { place < length (parts self.now) }
-        ensures { result ≡ get_or (parts self.now) place None }
+    pub fn part(&self, index: usize) -> Option<Type>
+        requires { index < length (parts self.now) }
+        ensures { result ≡ get_or (parts self.now) index None }
     {
         match self {
-            TypeDefKind::Record(fields) => Some(fields.as_slice()[place].ty),
-            TypeDefKind::Variant(cases) => cases.as_slice()[place].ty,
+            TypeDefKind::Record(fields) => Some(fields.as_slice()[index].ty),
+            TypeDefKind::Variant(cases) => cases.as_slice()[index].ty,
             TypeDefKind::Enum(_) => None,
             TypeDefKind::Flags(_) => None,
-            TypeDefKind::Tuple(types) => Some(types.as_slice()[place]),
-            TypeDefKind::Option(ty) => { if place == 0 { None } else { Some(*ty) } }
-            TypeDefKind::Result(result) => { if place == 0 { result.ok } else { result.err } }
+            TypeDefKind::Tuple(types) => Some(types.as_slice()[index]),
+            TypeDefKind::Option(ty) => { if index == 0 { None } else { Some(*ty) } }
+            TypeDefKind::Result(result) => { if index == 0 { result.ok } else { result.err } }
             TypeDefKind::List(ty) => Some(*ty),
             TypeDefKind::Own(id) => Some(Type::Id(*id)),
             TypeDefKind::Borrow(id) => Some(Type::Id(*id)),
@@ -64,16 +64,16 @@ pub fn part_count_of(types: &[TypeDef], id: usize) -> usize
 
 /// The part at an index of the type with an index. It is an earlier type.
 #[tactic(auto, using(crate::proofs::Values::kind_there, crate::proofs::Values::part_below, crate::proofs::Values::height_below, crate::proofs::Values::below_later))]
-pub fn part_of(types: &[TypeDef], id: usize, place: usize) -> Option<Type>
+pub fn part_of(types: &[TypeDef], id: usize, index: usize) -> Option<Type>
     requires back { RefersBack types.now }
-    requires stands { id < length types.now }
-    requires place { place < length (parts (kind_at types.now id)) }
-    ensures value { result ≡ get_or (parts (kind_at types.now id)) place None }
+    requires present { id < length types.now }
+    requires index { index < length (parts (kind_at types.now id)) }
+    ensures value { result ≡ get_or (parts (kind_at types.now id)) index None }
     ensures earlier { IsBelow id result }
-    ensures stands { IsBelow (length types.now) result }
+    ensures present { IsBelow (length types.now) result }
     ensures lower { height result ≤ id }
 {
-    types[id].kind.part(place)
+    types[id].kind.part(index)
 }
 
 /// The kind of the type with an index.

@@ -49,12 +49,12 @@ fn most_params(abi: AbiVariant) -> usize
 /// How many core values the parameters have, or 17 if there are more.
 fn param_count(types: &[TypeDef], params: &[Param]) -> usize
     requires back { RefersBack types.now }
-    requires stand { AllByRecursion (λ p. IsBelow (length types.now) (Some p.ty)) params.now }
+    requires present { AllByRecursion (λ p. IsBelow (length types.now) (Some p.ty)) params.now }
     ensures { result ≡ min (length (flat_map (λ p. flat types.now (Some p.ty)) params.now)) 17 }
 {
     let mut total: usize = 0;
-    for place in 0..params.len() {
-        total += flat_count(types, Some(params[place].ty));
+    for index in 0..params.len() {
+        total += flat_count(types, Some(params[index].ty));
         if total >= MANY {
             return MANY;
         }
@@ -69,12 +69,12 @@ fn flat_params(
     alloc: Global,
 ) -> Result<Vec<WasmType>, AllocError>
     requires back { RefersBack types.now }
-    requires stand { AllByRecursion (λ p. IsBelow (length types.now) (Some p.ty)) params.now }
+    requires present { AllByRecursion (λ p. IsBelow (length types.now) (Some p.ty)) params.now }
     ensures { IfOk result (λ values. values.items ≡ flat_map (λ p. flat types.now (Some p.ty)) params.now) }
 {
     let mut values = Vec::new(alloc);
-    for place in 0..params.len() {
-        flatten(types, Some(params[place].ty), alloc, &mut values)?;
+    for index in 0..params.len() {
+        flatten(types, Some(params[index].ty), alloc, &mut values)?;
     }
     Ok(values)
 }
@@ -92,7 +92,7 @@ impl Resolve {
     /// Whether the parameters of a function are in memory, and one pointer to them is passed. It takes no memory.
     pub fn is_indirect(&self, abi: AbiVariant, function: &Function) -> bool
         requires sound { IsSound self.now }
-        requires stands { HasFunction self.now function.now }
+        requires present { HasFunction self.now function.now }
         ensures { result ≡ signatures.is_indirect abi self.now.types function.now }
     {
         param_count(self.types.as_slice(), function.params.as_slice()) > most_params(abi)
@@ -101,7 +101,7 @@ impl Resolve {
     /// Whether the result of a function is in memory. It takes no memory.
     pub fn is_returned_in_memory(&self, abi: AbiVariant, function: &Function) -> bool
         requires sound { IsSound self.now }
-        requires stands { HasFunction self.now function.now }
+        requires present { HasFunction self.now function.now }
         ensures { result ≡ signatures.is_returned_in_memory abi self.now.types function.now }
     {
         match abi {
@@ -121,7 +121,7 @@ impl Resolve {
         function: &Function,
     ) -> Result<WasmSignature, AllocError>
         requires sound { IsSound self.now }
-        requires stands { HasFunction self.now function.now }
+        requires present { HasFunction self.now function.now }
         ensures { IfOk result (λ s. s ≡ signatures.signature abi self.now.types function.now) }
     {
         let indirect_params = self.is_indirect(abi, function);
@@ -145,7 +145,7 @@ impl Resolve {
         indirect: bool,
     ) -> Result<Vec<WasmType>, AllocError>
         requires sound { IsSound self.now }
-        requires stands { HasFunction self.now function.now }
+        requires present { HasFunction self.now function.now }
         ensures { IfOk result (λ values. values.items ≡ (if indirect then I32 ∷ [] else signatures.flat_params self.now.types function.now)) }
     {
         if indirect {
@@ -164,7 +164,7 @@ impl Resolve {
         in_memory: bool,
     ) -> Result<Vec<WasmType>, AllocError>
         requires sound { IsSound self.now }
-        requires stands { HasFunction self.now function.now }
+        requires present { HasFunction self.now function.now }
         ensures { IfOk result (λ values. values.items ≡ signatures.core_results abi in_memory (signatures.flat_result self.now.types function.now)) }
     {
         match abi {
@@ -183,7 +183,7 @@ impl Resolve {
         in_memory: bool,
     ) -> Result<Vec<WasmType>, AllocError>
         requires sound { IsSound self.now }
-        requires stands { HasFunction self.now function.now }
+        requires present { HasFunction self.now function.now }
         ensures { IfOk result (λ values. values.items ≡ (if in_memory then [] else signatures.flat_result self.now.types function.now)) }
     {
         if in_memory {
@@ -200,7 +200,7 @@ impl Resolve {
         in_memory: bool,
     ) -> Result<Vec<WasmType>, AllocError>
         requires sound { IsSound self.now }
-        requires stands { HasFunction self.now function.now }
+        requires present { HasFunction self.now function.now }
         ensures { IfOk result (λ values. values.items ≡ (if in_memory then I32 ∷ [] else signatures.flat_result self.now.types function.now)) }
     {
         if in_memory {
@@ -213,7 +213,7 @@ impl Resolve {
     /// The core values of the result.
     fn flat_result(&self, alloc: Global, function: &Function) -> Result<Vec<WasmType>, AllocError>
         requires sound { IsSound self.now }
-        requires stands { HasFunction self.now function.now }
+        requires present { HasFunction self.now function.now }
         ensures { IfOk result (λ values. values.items ≡ signatures.flat_result self.now.types function.now) }
     {
         let mut values = Vec::new(alloc);

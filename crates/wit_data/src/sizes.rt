@@ -65,7 +65,7 @@ fn are_within(types: &[TypeDef]) -> bool
 #[cycle(node_counting)]
 fn node_count(types: &[TypeDef], part: Option<Type>) -> usize
     requires back { RefersBack types.now }
-    requires stands { IsBelow (length types.now) part }
+    requires present { IsBelow (length types.now) part }
     ensures count { result ≡ min (value sizes.counting_nodes types.now part) 10001 }
     ensures small { result ≤ 10001 }
 {
@@ -79,7 +79,7 @@ fn node_count(types: &[TypeDef], part: Option<Type>) -> usize
 #[cycle(node_counting)]
 fn node_count_of(types: &[TypeDef], id: usize) -> usize
     requires back { RefersBack types.now }
-    requires stands { id < length types.now }
+    requires present { id < length types.now }
     ensures { result ≡ min (get_or (values sizes.counting_nodes types.now) id 1) 10001 }
 {
     let total = nodes_together(types, id);
@@ -90,12 +90,12 @@ fn node_count_of(types: &[TypeDef], id: usize) -> usize
 #[cycle(node_counting)]
 fn nodes_together(types: &[TypeDef], id: usize) -> usize
     requires back { RefersBack types.now }
-    requires stands { id < length types.now }
+    requires present { id < length types.now }
     ensures { result ≡ min (sizes.sum (part_values sizes.counting_nodes types.now id)) 10001 }
 {
     let mut total: usize = 0;
-    for place in 0..part_count_of(types, id) {
-        total += node_count(types, part_of(types, id, place));
+    for index in 0..part_count_of(types, id) {
+        total += node_count(types, part_of(types, id, index));
         if total >= MANY_NODES {
             return MANY_NODES;
         }
@@ -107,7 +107,7 @@ fn nodes_together(types: &[TypeDef], id: usize) -> usize
 #[cycle(level_counting)]
 fn level_count(types: &[TypeDef], part: Option<Type>) -> usize
     requires back { RefersBack types.now }
-    requires stands { IsBelow (length types.now) part }
+    requires present { IsBelow (length types.now) part }
     ensures count { result ≡ min (value sizes.counting_levels types.now part) 101 }
     ensures small { result ≤ 101 }
 {
@@ -121,7 +121,7 @@ fn level_count(types: &[TypeDef], part: Option<Type>) -> usize
 #[cycle(level_counting)]
 fn level_count_of(types: &[TypeDef], id: usize) -> usize
     requires back { RefersBack types.now }
-    requires stands { id < length types.now }
+    requires present { id < length types.now }
     ensures { result ≡ min (get_or (values sizes.counting_levels types.now) id 0) 101 }
 {
     let most = most_levels(types, id);
@@ -132,12 +132,12 @@ fn level_count_of(types: &[TypeDef], id: usize) -> usize
 #[cycle(level_counting)]
 fn most_levels(types: &[TypeDef], id: usize) -> usize
     requires back { RefersBack types.now }
-    requires stands { id < length types.now }
+    requires present { id < length types.now }
     ensures { result ≡ min (sizes.greatest (part_values sizes.counting_levels types.now id)) 101 }
 {
     let mut most: usize = 0;
-    for place in 0..part_count_of(types, id) {
-        let count = level_count(types, part_of(types, id, place));
+    for index in 0..part_count_of(types, id) {
+        let count = level_count(types, part_of(types, id, index));
         if count >= MANY_LEVELS {
             return MANY_LEVELS;
         }

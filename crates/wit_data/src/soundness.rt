@@ -90,8 +90,8 @@ impl Resolve {
     fn has_params(&self, params: &[Param]) -> bool
         ensures { IsTrue result ↔ AllByRecursion (λ p. sound.HasType self.now (Some p.ty)) params.now }
     {
-        for place in 0..params.len() {
-            if !self.has_type(Some(params[place].ty)) {
+        for index in 0..params.len() {
+            if !self.has_type(Some(params[index].ty)) {
                 return false;
             }
         }
@@ -206,8 +206,8 @@ pub(crate) fn refer_back(types: &[TypeDef]) -> bool
 fn are_below(bound: usize, kind: &TypeDefKind) -> bool
     ensures { IsTrue result ↔ AllByRecursion (IsBelow bound) (parts kind.now) }
 {
-    for place in 0..kind.part_count() {
-        if !is_below(bound, kind.part(place)) {
+    for index in 0..kind.part_count() {
+        if !is_below(bound, kind.part(index)) {
             return false;
         }
     }

@@ -63,15 +63,15 @@ fn a_refused_module_leaves_the_encoder_as_it_was(rt: HostRuntime) -> Result<(), 
 }
 
 #[test]
-fn refusals_of_the_layer_are_told(rt: HostRuntime) -> Result<(), Fail> {
+fn refusals_of_the_layer_are_reported(rt: HostRuntime) -> Result<(), Fail> {
     let alloc = rt.alloc();
-    let told = [
+    let reported = [
         (b"".as_slice(), "E3 Lower: P2 NotModule"),
         (CUT, "E3 Lower: P3 Section place=8"),
         (PACKAGE, "E3 Lower: P4 PackageBinary"),
         (OPEN, "E3 Lower: P5 Json"),
     ];
-    for (bytes, fault) in told {
+    for (bytes, fault) in reported {
         let text = fault_text(alloc, &encoded(alloc, PlainLower::new(), bytes))?;
         assert_eq!(rt; text.as_str(), fault);
     }

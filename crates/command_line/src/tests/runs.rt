@@ -41,7 +41,7 @@ fn refused(alloc: Global, calls: u32, fault: StoreFault) -> Result<Answer, Alloc
 }
 
 #[test]
-fn wrong_arguments_are_told_before_anything_is_read(rt: HostRuntime) {
+fn wrong_arguments_are_reported_before_anything_is_read(rt: HostRuntime) {
     let alloc = rt.alloc();
     let wrong: [&[&str]; 8] = [
         &[],
@@ -66,15 +66,15 @@ fn wrong_arguments_are_told_before_anything_is_read(rt: HostRuntime) {
 }
 
 #[test]
-fn a_refusal_of_the_store_is_told(rt: HostRuntime) {
+fn a_refusal_of_the_store_is_reported(rt: HostRuntime) {
     let alloc = rt.alloc();
-    let told = [
+    let reported = [
         (0, StoreFault::Device, "error: read \"main.wasm\"\n"),
         (1, StoreFault::Device, "error: write \"out.wasm\"\n"),
         (0, StoreFault::Memory, "error: E1 Memory\n"),
         (1, StoreFault::Memory, "error: E1 Memory\n"),
     ];
-    for (calls, fault, line) in told {
+    for (calls, fault, line) in reported {
         let answer = refused(alloc, calls, fault).expect(&rt, "memory");
         assert_eq!(rt; answer.status, 1);
         assert_eq!(rt; answer.err.as_slice(), line.as_bytes());
@@ -83,7 +83,7 @@ fn a_refusal_of_the_store_is_told(rt: HostRuntime) {
 }
 
 #[test]
-fn a_name_is_told_in_quotes(rt: HostRuntime) {
+fn a_name_is_printed_in_quotes(rt: HostRuntime) {
     let alloc = rt.alloc();
     let mut store = OneFile::new(alloc, "main.wasm", EMPTY).expect(&rt, "memory");
     let answer = run_on(alloc, &["new", "out.wasm", "a \"b\"\n"], &mut store).expect(&rt, "memory");
@@ -95,7 +95,7 @@ fn a_name_is_told_in_quotes(rt: HostRuntime) {
 }
 
 #[test]
-fn the_status_tells_where_no_line_can(rt: HostRuntime) {
+fn the_status_reports_where_no_line_can(rt: HostRuntime) {
     let alloc = rt.alloc();
     let mut store = OneFile::new(alloc, "main.wasm", EMPTY).expect(&rt, "memory");
     let words = texts(alloc, &["new", "out.wasm", "other.wasm"]).expect(&rt, "memory");
@@ -104,7 +104,7 @@ fn the_status_tells_where_no_line_can(rt: HostRuntime) {
 }
 
 /// What a run on the file `main.wasm` printed, where it made no component.
-fn told(alloc: Global, main: &[u8]) -> Result<String, Fail> {
+fn reported(alloc: Global, main: &[u8]) -> Result<String, Fail> {
     let mut store = OneFile::new(alloc, "main.wasm", main)?;
     let answer = run_on(alloc, &["new", "out.wasm", "main.wasm"], &mut store)?;
     match store.log.as_slice() {
@@ -118,7 +118,7 @@ fn told(alloc: Global, main: &[u8]) -> Result<String, Fail> {
 }
 
 #[test]
-fn refusals_of_the_encoder_are_told(rt: HostRuntime) -> Result<(), Fail> {
+fn refusals_of_the_encoder_are_reported(rt: HostRuntime) -> Result<(), Fail> {
     let alloc = rt.alloc();
     let lines = [
         (b"".as_slice(), "error: E3 Lower: P2 NotModule\n"),
@@ -127,7 +127,7 @@ fn refusals_of_the_encoder_are_told(rt: HostRuntime) -> Result<(), Fail> {
         (OPEN, "error: E3 Lower: P5 Json\n"),
     ];
     for (main, line) in lines {
-        assert_eq!(rt; told(alloc, main)?.as_str(), line);
+        assert_eq!(rt; reported(alloc, main)?.as_str(), line);
     }
     Ok(())
 }
@@ -176,7 +176,7 @@ fn ends(
 }
 
 #[test]
-fn definitions_are_told(rt: HostRuntime) -> Result<(), Fail> {
+fn definitions_are_printed(rt: HostRuntime) -> Result<(), Fail> {
     let alloc = rt.alloc();
     let cut = &COMPONENT[..100];
     let runs = [
@@ -192,7 +192,7 @@ fn definitions_are_told(rt: HostRuntime) -> Result<(), Fail> {
 }
 
 #[test]
-fn an_output_that_takes_nothing_is_told(rt: HostRuntime) -> Result<(), Fail> {
+fn an_output_that_takes_nothing_is_reported(rt: HostRuntime) -> Result<(), Fail> {
     let alloc = rt.alloc();
     let mut store = OneFile::new(alloc, "main.wasm", COMPONENT)?;
     let words = texts(alloc, &["defs", "main.wasm"])?;

@@ -1,5 +1,5 @@
 use Rattle.std.proofs.Common.{◌≡◌, ℕ, ◌++◌, ◌<◌, ◌^◌, ◌*◌}
-use Rattle.byte_encoding.specs.Spelling.{groups_of_seven, leb128}
+use Rattle.byte_encoding.specs.Encoding.{groups_of_seven, leb128}
 use Rattle.byte_encoding.proofs.number.put_groups.Given as goal
 
 abbrev pub invariant-loop-rest : goal.invariant-loop-rest

@@ -3,7 +3,7 @@ use Rattle.std.specs.List.{flat_map}
 use Rattle.std.proofs.lemmas.List.{at_drop_all}
 use Rattle.std.proofs.lemmas.Result.{err_from_is_err_and}
 use Rattle.comp_check.specs.Lacking.{lacking}
-use Rattle.comp_check.proofs.Lacks.{goes_on, ends}
+use Rattle.comp_check.proofs.Lacks.{continues, ends}
 use Rattle.comp_check.proofs.refers.check_each.Goals as goal
 
 pub returns-in_err-check : goal.returns-in_err-check
@@ -13,7 +13,7 @@ returns-in_err-check g c =
 
 pub loop-item-preserved : goal.loop-item-preserved
 loop-item-preserved g c =
-    sym (goes_on c.args.scopes.now g.T.Refers.references c.args.items.now c.loop-item.item-index c.item-item.result c.item-item.result c.loop-item-test.true c.item-item.is c.in_ok-check.ensures) ∙ c.loop-item.invariant
+    sym (continues c.args.scopes.now g.T.Refers.references c.args.items.now c.loop-item.item-index c.item-item.result c.item-item.result c.loop-item-test.true c.item-item.is c.in_ok-check.ensures) ∙ c.loop-item.invariant
 
 pub returns : goal.returns
 unfolding lacking

@@ -3,5 +3,5 @@ use Rattle.comp_lines.proofs.listing.count.Goals as goal
 
 pub overflow_add-counters : goal.overflow_add-counters
 overflow_add-counters c =
-    let h = rw (← c.place_of.ensures) at (c.requires c.in-Some.space) in
+    let h = rw (← c.space_index.ensures) at (c.requires c.in-Some.space) in
     omega (arith, h)

@@ -1,5 +1,5 @@
 use Rattle.std.proofs.Common.{rules}
-use Rattle.comp_names.proofs.Deciding.{denied, goes_on, same}
+use Rattle.comp_names.proofs.Deciding.{denied, continues, same}
 use Rattle.comp_names.proofs.Labels.{next_word, last_word}
 use Rattle.comp_names.proofs.label.are_words.Goals as goal
 
@@ -7,7 +7,7 @@ pub returns-then-not-is_word : goal.returns-then-not-is_word
 returns-then-not-is_word c = same c.loop-word.invariant.1 (denied (next_word c.in-Some.ensures.some) c.if-not-is_word.true c.is_word.ensures)
 
 pub loop-word-preserved : goal.loop-word-preserved
-loop-word-preserved c = (search rules, goes_on c.loop-word.invariant.1 (next_word c.in-Some.ensures.some) c.if-not-is_word.false c.is_word.ensures)
+loop-word-preserved c = (search rules, continues c.loop-word.invariant.1 (next_word c.in-Some.ensures.some) c.if-not-is_word.false c.is_word.ensures)
 
 pub returns : goal.returns
 returns c = same c.loop-word.invariant.1 (same (last_word c.loop-word.rest.now c.in_default.ensures.none) c.is_word-2.ensures)

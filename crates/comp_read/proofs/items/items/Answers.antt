@@ -1,7 +1,7 @@
 use Rattle.std.proofs.lemmas.Result.{err_from_is_err_and}
 use Rattle.comp_read.specs.Reading.{items_at}
 use Rattle.comp_read.specs.ItemReaders.{item_at}
-use Rattle.comp_read.proofs.Loop.{goes_on, ends, is_done}
+use Rattle.comp_read.proofs.Loop.{continues, ends, is_done}
 use Rattle.comp_read.proofs.items.items.Goals as goal
 
 pub returns-in_err-item : goal.returns-in_err-item
@@ -11,7 +11,7 @@ returns-in_err-item c =
 
 pub loop-preserved : goal.loop-preserved
 loop-preserved c =
-    rw c.in_ok-push.ensures.ok (goes_on (item_at c.args.id) c.loop.items c.args.count c.loop.counter c.loop.rest.now c.in_ok-item.item c.in_ok-item.after.now (items_at (item_at c.args.id) c.args.count c.args.bytes.now) c.loop-test.true c.in_ok-item.ensures c.loop.invariant)
+    rw c.in_ok-push.ensures.ok (continues (item_at c.args.id) c.loop.items c.args.count c.loop.counter c.loop.rest.now c.in_ok-item.item c.in_ok-item.after.now (items_at (item_at c.args.id) c.args.count c.args.bytes.now) c.loop-test.true c.in_ok-item.ensures c.loop.invariant)
 
 pub returns : goal.returns
 returns c = is_done (item_at c.args.id) c.loop.items c.args.count c.loop.counter c.loop.rest.now (items_at (item_at c.args.id) c.args.count c.args.bytes.now) c.loop-test.false c.loop.invariant

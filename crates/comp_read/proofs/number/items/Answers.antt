@@ -1,6 +1,6 @@
 use Rattle.std.proofs.lemmas.Result.{err_from_is_err_and}
 use Rattle.comp_read.specs.Reading.{items_at}
-use Rattle.comp_read.proofs.Loop.{goes_on, ends, is_done}
+use Rattle.comp_read.proofs.Loop.{continues, ends, is_done}
 use Rattle.comp_read.proofs.number.items.Goals as goal
 
 pub returns-in_err-item : goal.returns-in_err-item
@@ -10,7 +10,7 @@ returns-in_err-item g c =
 
 pub loop-preserved : goal.loop-preserved
 loop-preserved g c =
-    rw c.in_ok-push.ensures.ok (goes_on g.T.Decode.at c.loop.items c.args.count c.loop.counter c.loop.rest.now c.in_ok-item.item c.in_ok-item.after.now (items_at g.T.Decode.at c.args.count c.args.bytes.now) c.loop-test.true c.in_ok-item.ensures c.loop.invariant)
+    rw c.in_ok-push.ensures.ok (continues g.T.Decode.at c.loop.items c.args.count c.loop.counter c.loop.rest.now c.in_ok-item.item c.in_ok-item.after.now (items_at g.T.Decode.at c.args.count c.args.bytes.now) c.loop-test.true c.in_ok-item.ensures c.loop.invariant)
 
 pub returns : goal.returns
 returns g c = is_done g.T.Decode.at c.loop.items c.args.count c.loop.counter c.loop.rest.now (items_at g.T.Decode.at c.args.count c.args.bytes.now) c.loop-test.false c.loop.invariant

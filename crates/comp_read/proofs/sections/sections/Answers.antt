@@ -1,7 +1,7 @@
 use Rattle.std.proofs.Common.{◌+◌, ◌-◌, length, sym, arith}
 use Rattle.std.proofs.lemmas.Bool.{eqb-true, eqb-false}
 use Rattle.std.proofs.lemmas.Result.{err_from_is_err_and}
-use Rattle.comp_read.proofs.SectionLoop.{section_shorter, goes_on, ends, fails}
+use Rattle.comp_read.proofs.SectionLoop.{section_shorter, continues, ends, fails}
 use Rattle.comp_read.proofs.sections.sections.Goals as goal
 
 pub returns-in_err-id : goal.returns-in_err-id
@@ -15,7 +15,7 @@ loop-rest-smaller g c =
 
 pub loop-rest-preserved : goal.loop-rest-preserved
 loop-rest-preserved g c =
-    rw c.in_ok-append.ensures.ok (goes_on g.D.SectionItem.contents_at c.args.start c.args.bytes.now c.loop-rest.last c.loop-rest.rest.now c.loop-rest.defs c.in_ok-id.id c.in_ok-id.found c.in_ok-id.after.now (omega (arith, eqb-false _ _ (sym c.loop-rest-test.ensures))) c.loop-rest.invariant c.in_ok-id.ensures)
+    rw c.in_ok-append.ensures.ok (continues g.D.SectionItem.contents_at c.args.start c.args.bytes.now c.loop-rest.last c.loop-rest.rest.now c.loop-rest.defs c.in_ok-id.id c.in_ok-id.found c.in_ok-id.after.now (omega (arith, eqb-false _ _ (sym c.loop-rest-test.ensures))) c.loop-rest.invariant c.in_ok-id.ensures)
 
 pub returns : goal.returns
 returns g c =

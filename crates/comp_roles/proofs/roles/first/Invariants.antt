@@ -6,4 +6,4 @@ abbrev pub invariant-loop-name : goal.invariant-loop-name
 invariant-loop-name g l =
     (goal.iterator-loop-name g).can_next l.name-iterator ×
     (goal.iterator-loop-name g).is_finite l.name-iterator ×
-    (first_export (g.R.Role.wanted l.role) l.name-iterator ≡ first_export (g.R.Role.wanted l.role) l.exports)
+    (first_export (g.R.Role.matching l.role) l.name-iterator ≡ first_export (g.R.Role.matching l.role) l.exports)

@@ -1,7 +1,7 @@
 use Rattle.std.proofs.Common.{◌≡◌, ◌+◌, length, map, drop}
 use Rattle.core_sections.specs.Sections.{view}
 use Rattle.core_sections.specs.Entries.{entries_from, no_entries}
-use Rattle.core_sections.proofs.Places.{size_of}
+use Rattle.core_sections.proofs.Offsets.{size_of}
 use Rattle.core_sections.proofs.core_module.read_module.Given as goal
 
 abbrev pub invariant-loop-section : goal.invariant-loop-section

@@ -3,7 +3,7 @@ use Rattle.std.proofs.lemmas.Grind.{common_steps}
 use Rattle.std.specs.List.{starts_with}
 use Rattle.std.proofs.lemmas.List.{map_push, length-drop}
 use Rattle.core_sections.specs.Sections.{view, preamble}
-use Rattle.core_sections.proofs.Loop.{starts, goes_on}
+use Rattle.core_sections.proofs.Loop.{starts, continues}
 use Rattle.core_sections.proofs.sections.sections_of.Goals as goal
 
 pub loop-rest-init : goal.loop-rest-init
@@ -17,4 +17,4 @@ loop-rest-init c =
 pub loop-rest-preserved : goal.loop-rest-preserved
 loop-rest-preserved c =
     let e : map view c.push.new.self.items ≡ map view c.loop-rest.sections.items ++ view c.in-Some.section ∷ [] = rw c.in_ok-push.ensures.items (map_push _ c.loop-rest.sections.items c.in-Some.section) in
-    rw e (goes_on _ _ _ _ _ (sym c.in-Some.ensures.value) c.in-Some.ensures.shorter c.loop-rest.invariant)
+    rw e (continues _ _ _ _ _ (sym c.in-Some.ensures.value) c.in-Some.ensures.shorter c.loop-rest.invariant)

@@ -1,6 +1,6 @@
 use Rattle.std.proofs.Common.{map, ap}
 use Rattle.plain_lower.specs.Causes.{DecodeCause}
-use Rattle.plain_faults.specs.Faults.{of_section, of_record, flat}
+use Rattle.record_faults.specs.Faults.{of_section, of_record, flat}
 use Rattle.plain_lower.proofs.Records.{handed_out, sections_caused, decode_caused, decode_has_none}
 use Rattle.plain_lower.proofs.decoding.decode.Goals as goal
 

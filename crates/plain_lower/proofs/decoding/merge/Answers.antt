@@ -1,5 +1,5 @@
 use Rattle.plain_lower.specs.Causes.{MergeCause}
-use Rattle.plain_faults.specs.Faults.{of_record, flat}
+use Rattle.record_faults.specs.Faults.{of_record, flat}
 use Rattle.plain_lower.proofs.Records.{handed_out, merge_caused, merge_has_none}
 use Rattle.plain_lower.proofs.decoding.merge.Goals as goal
 

@@ -1,6 +1,6 @@
 use Rattle.std.proofs.Common.{◌≡◌, drop, map}
-use Rattle.record_json.proofs.Loop.{with_front}
-use Rattle.plain_lower.specs.Joining.{records_in}
+use Rattle.json_paths.proofs.Loop.{with_front}
+use Rattle.plain_lower.specs.ModuleRecords.{records_in}
 use Rattle.plain_lower.proofs.decoding.read_records.Given as goal
 
 abbrev pub invariant-loop-text : goal.invariant-loop-text

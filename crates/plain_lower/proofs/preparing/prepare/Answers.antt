@@ -1,6 +1,6 @@
 use Rattle.std.proofs.Common.{refl}
-use Rattle.plain_faults.specs.Faults.{flat}
-use Rattle.plain_lower.specs.Causes.{PrepareCause, of_joint}
+use Rattle.record_faults.specs.Faults.{flat}
+use Rattle.plain_lower.specs.Causes.{PrepareCause, of_combined}
 use Rattle.plain_lower.proofs.Records.{handed_out}
 use Rattle.plain_lower.proofs.Refusing.{caused}
 use Rattle.plain_lower.proofs.Whole.{no_cause, all_caused}
@@ -14,7 +14,7 @@ returns-in_err-refuse_adapters-clause-cause c =
 pub returns-in_err-resolved-clause-cause : goal.returns-in_err-resolved-clause-cause
 returns-in_err-resolved-clause-cause c =
     handed_out (λ e. PrepareCause c.args.gathered.now (flat e)) c.from_residual-in_err-resolved.result c.in_err-resolved.field-0.0 c.from_residual-in_err-resolved.ensures.1
-    (λ other. of_joint (flat c.in_err-resolved.field-0.0) (c.in_err-resolved.ensures.cause other))
+    (λ other. of_combined (flat c.in_err-resolved.field-0.0) (c.in_err-resolved.ensures.cause other))
 
 pub returns-clause-cause : goal.returns-clause-cause
 returns-clause-cause c = all_caused c.args.gathered.now c.in_ok-resolved.resolved c.prepare_some.result c.in_ok-resolved.ensures.exact c.requires c.prepare_some.ensures.cause

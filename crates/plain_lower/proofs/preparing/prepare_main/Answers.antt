@@ -1,9 +1,9 @@
 use Rattle.std.proofs.Common.{ap, subst, sym, ◌∙◌}
 use Rattle.std.specs.Prelude.{◌≢◌}
 use Rattle.core_sections.specs.Entries.{module_of}
-use Rattle.plain_faults.specs.declared.fault.Failure.{Failure}
-use Rattle.plain_faults.specs.declared.fault.Failure.TheVariants as failures
-use Rattle.plain_faults.specs.Faults.{flat}
+use Rattle.record_faults.specs.declared.fault.Failure.{Failure}
+use Rattle.record_faults.specs.declared.fault.Failure.TheVariants as failures
+use Rattle.record_faults.specs.Faults.{flat}
 use Rattle.plain_lower.specs.Causes.{MainCause}
 use Rattle.plain_lower.proofs.Whole.{begins, unread_caused, all_main_caused, all_main_refused}
 use Rattle.plain_lower.proofs.preparing.prepare_main.Goals as goal

@@ -1,10 +1,10 @@
 use Rattle.std.proofs.Common.{◌≡◌, [], drop}
-use Rattle.record_imports.specs.Grouping.{places_of, groups_after}
-use Rattle.record_imports.specs.Standing.{AreGood}
+use Rattle.record_imports.specs.Grouping.{positions_of, groups_after}
+use Rattle.record_imports.specs.Guarantees.{AreGood}
 use Rattle.record_imports.proofs.grouping.group_imports.Given as goal
 
 abbrev pub invariant-loop-import : goal.invariant-loop-import
 invariant-loop-import l =
     (groups_after l.resolved l.roles l.core l.grouping.groups.items (drop l.import-index l.import-items) ≡ groups_after l.resolved l.roles l.core [] l.import-items) ×
-    (l.grouping.places ≡ places_of 0 l.grouping.groups.items) ×
+    (l.grouping.positions ≡ positions_of 0 l.grouping.groups.items) ×
     AreGood l.resolved.resolve l.grouping.groups.items

@@ -1,5 +1,5 @@
 use Rattle.record_imports.proofs.Fields.{are_met}
 use Rattle.record_imports.proofs.importing.map_of.Goals as goal
 
-pub returns-clause-met : goal.returns-clause-met
-returns-clause-met c = are_met _ c.args.groups.items _ c.in_ok-modules.ensures c.requires.good c.requires.apart
+pub returns-clause-checks : goal.returns-clause-checks
+returns-clause-checks c = are_met _ c.args.groups.items _ c.in_ok-modules.ensures c.requires.good c.requires.apart

@@ -1,7 +1,7 @@
 use Rattle.std.proofs.Common.{◌≡◌, drop}
 use Rattle.serde_json.specs.View.{items_view}
-use Rattle.record_json.specs.Reading.{items_from}
-use Rattle.record_json.proofs.Loop.{with_front}
+use Rattle.json_paths.specs.Reading.{items_from}
+use Rattle.json_paths.proofs.Loop.{with_front}
 use Rattle.record_roles.specs.Records.{core_import_of}
 use Rattle.record_roles.proofs.record.read_imports.Given as goal
 

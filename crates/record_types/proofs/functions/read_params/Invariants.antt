@@ -1,6 +1,6 @@
 use Rattle.std.proofs.Common.{◌≡◌, drop}
 use Rattle.serde_json.specs.View.{items_view}
-use Rattle.record_json.specs.Reading.{items_from}
+use Rattle.json_paths.specs.Reading.{items_from}
 use Rattle.record_types.specs.Scopes.{names_in}
 use Rattle.record_types.specs.Functions.{param_of}
 use Rattle.record_types.proofs.Loop.{with_front}

@@ -1,6 +1,6 @@
 use Rattle.std.proofs.Common.{◌≡◌, drop}
 use Rattle.serde_json.specs.View.{items_view}
-use Rattle.record_json.specs.Reading.{items_from, text_of}
+use Rattle.json_paths.specs.Reading.{items_from, text_of}
 use Rattle.record_types.proofs.Loop.{with_front}
 use Rattle.record_types.proofs.plain.read_texts.Given as goal
 

@@ -16,8 +16,8 @@ decreases-count_of_longest l = 3 * l.id + 1
 abbrev pub decreases-count_together : goal.decreases-count_together
 decreases-count_together l = 3 * l.id + 1
 
-abbrev pub invariant-count_of_longest-loop-place : goal.invariant-count_of_longest-loop-place
-invariant-count_of_longest-loop-place l = GreatestSoFar 17 l.most l.place (part_counts l.types l.id)
+abbrev pub invariant-count_of_longest-loop-index : goal.invariant-count_of_longest-loop-index
+invariant-count_of_longest-loop-index l = GreatestSoFar 17 l.most l.index (part_counts l.types l.id)
 
-abbrev pub invariant-count_together-loop-place : goal.invariant-count_together-loop-place
-invariant-count_together-loop-place l = TotalSoFar 17 l.total l.place (part_counts l.types l.id)
+abbrev pub invariant-count_together-loop-index : goal.invariant-count_together-loop-index
+invariant-count_together-loop-index l = TotalSoFar 17 l.total l.index (part_counts l.types l.id)

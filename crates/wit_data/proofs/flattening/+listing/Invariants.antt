@@ -20,8 +20,8 @@ decreases-flatten_cases l = 4 * l.id + 2
 abbrev pub decreases-joined_cases : goal.decreases-joined_cases
 decreases-joined_cases l = 4 * l.id + 1
 
-abbrev pub invariant-flatten_together-loop-place : goal.invariant-flatten_together-loop-place
-invariant-flatten_together-loop-place l = l.out.items ++ flat_map (λ f. f) (drop l.place (part_values flattening l.types l.id)) ≡ l.fn.out.items ++ flat_map (λ f. f) (part_values flattening l.types l.id)
+abbrev pub invariant-flatten_together-loop-index : goal.invariant-flatten_together-loop-index
+invariant-flatten_together-loop-index l = l.out.items ++ flat_map (λ f. f) (drop l.index (part_values flattening l.types l.id)) ≡ l.fn.out.items ++ flat_map (λ f. f) (part_values flattening l.types l.id)
 
-abbrev pub invariant-joined_cases-loop-place : goal.invariant-joined_cases-loop-place
-invariant-joined_cases-loop-place l = joined l.values.items (drop l.place (part_values flattening l.types l.id)) ≡ joined [] (part_values flattening l.types l.id)
+abbrev pub invariant-joined_cases-loop-index : goal.invariant-joined_cases-loop-index
+invariant-joined_cases-loop-index l = joined l.values.items (drop l.index (part_values flattening l.types l.id)) ≡ joined [] (part_values flattening l.types l.id)

@@ -4,5 +4,5 @@ use Rattle.wit_data.proofs.flattening.join_into.Goals as goal
 
 pub returns : goal.returns
 returns c =
-    let all : length c.args.others.now ≤ c.loop-place.place = omega (arith, c.loop-place-test.false) in
-    sym (joined_all c.loop-place.values.items c.args.others.now c.loop-place.place all) ∙ c.loop-place.invariant
+    let all : length c.args.others.now ≤ c.loop-index.index = omega (arith, c.loop-index-test.false) in
+    sym (joined_all c.loop-index.values.items c.args.others.now c.loop-index.index all) ∙ c.loop-index.invariant

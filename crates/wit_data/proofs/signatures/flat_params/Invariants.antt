@@ -3,5 +3,5 @@ use Rattle.std.specs.List.{flat_map}
 use Rattle.wit_data.specs.Flat.{flat}
 use Rattle.wit_data.proofs.signatures.flat_params.Given as goal
 
-abbrev pub invariant-loop-place : goal.invariant-loop-place
-invariant-loop-place l = l.values.items ++ flat_map (λ p. flat l.types (Some p.ty)) (drop l.place l.params) ≡ flat_map (λ p. flat l.types (Some p.ty)) l.params
+abbrev pub invariant-loop-index : goal.invariant-loop-index
+invariant-loop-index l = l.values.items ++ flat_map (λ p. flat l.types (Some p.ty)) (drop l.index l.params) ≡ flat_map (λ p. flat l.types (Some p.ty)) l.params

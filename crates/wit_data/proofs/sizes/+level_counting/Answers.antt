@@ -8,20 +8,20 @@ use Rattle.wit_data.proofs.sizes.+level_counting.Goals as goal
 
 pub level_count_of-returns : goal.level_count_of-returns
 level_count_of-returns t c =
-    omega (arith, levels_at c.args.types.now c.args.id c.requires.back c.requires.stands, c.most_levels-most.ensures, c.min.ensures)
+    omega (arith, levels_at c.args.types.now c.args.id c.requires.back c.requires.present, c.most_levels-most.ensures, c.min.ensures)
 
 pub most_levels-returns-then-count-ge-MANY_LEVELS : goal.most_levels-returns-then-count-ge-MANY_LEVELS
 most_levels-returns-then-count-ge-MANY_LEVELS t c =
-    let here : c.loop-place.place < length (parts (kind_at c.args.types.now c.args.id)) = omega (arith, c.loop-place-test.true, c.part_count_of-place-end.ensures) in
-    let within : c.loop-place.place < length (part_values counting_levels c.args.types.now c.args.id) = omega (arith, here, length_counts counting_levels c.args.types.now c.args.id) in
-    let counted = counted_at counting_levels 101 c.args.types.now c.args.id c.loop-place.place c.level_count-count.result c.part_of.result here c.level_count-count.ensures.count c.part_of.ensures.value in
-    greatest_stop 101 c.loop-place.most c.loop-place.place c.level_count-count.result (part_values counting_levels c.args.types.now c.args.id) within counted c.if-count-ge-MANY_LEVELS.true c.loop-place.invariant
+    let here : c.loop-index.index < length (parts (kind_at c.args.types.now c.args.id)) = omega (arith, c.loop-index-test.true, c.part_count_of-index-end.ensures) in
+    let within : c.loop-index.index < length (part_values counting_levels c.args.types.now c.args.id) = omega (arith, here, length_counts counting_levels c.args.types.now c.args.id) in
+    let counted = counted_at counting_levels 101 c.args.types.now c.args.id c.loop-index.index c.level_count-count.result c.part_of.result here c.level_count-count.ensures.count c.part_of.ensures.value in
+    greatest_stop 101 c.loop-index.most c.loop-index.index c.level_count-count.result (part_values counting_levels c.args.types.now c.args.id) within counted c.if-count-ge-MANY_LEVELS.true c.loop-index.invariant
 
-pub most_levels-loop-place-preserved : goal.most_levels-loop-place-preserved
-most_levels-loop-place-preserved t c =
-    let here : c.loop-place.place < length (parts (kind_at c.args.types.now c.args.id)) = omega (arith, c.loop-place-test.true, c.part_count_of-place-end.ensures) in
-    let within : c.loop-place.place < length (part_values counting_levels c.args.types.now c.args.id) = omega (arith, here, length_counts counting_levels c.args.types.now c.args.id) in
-    let counted = counted_at counting_levels 101 c.args.types.now c.args.id c.loop-place.place c.level_count-count.result c.part_of.result here c.level_count-count.ensures.count c.part_of.ensures.value in
-    let larger : c.max-most.result ≡ max c.loop-place.most c.level_count-count.result = omega (arith, c.max-most.ensures) in
-    let small : c.max-most.result < 101 = omega (arith, larger, c.if-count-ge-MANY_LEVELS.false, c.loop-place.invariant.small) in
-    greatest_step 101 c.loop-place.most c.loop-place.place c.level_count-count.result c.max-most.result (part_values counting_levels c.args.types.now c.args.id) within counted larger small c.loop-place.invariant
+pub most_levels-loop-index-preserved : goal.most_levels-loop-index-preserved
+most_levels-loop-index-preserved t c =
+    let here : c.loop-index.index < length (parts (kind_at c.args.types.now c.args.id)) = omega (arith, c.loop-index-test.true, c.part_count_of-index-end.ensures) in
+    let within : c.loop-index.index < length (part_values counting_levels c.args.types.now c.args.id) = omega (arith, here, length_counts counting_levels c.args.types.now c.args.id) in
+    let counted = counted_at counting_levels 101 c.args.types.now c.args.id c.loop-index.index c.level_count-count.result c.part_of.result here c.level_count-count.ensures.count c.part_of.ensures.value in
+    let larger : c.max-most.result ≡ max c.loop-index.most c.level_count-count.result = omega (arith, c.max-most.ensures) in
+    let small : c.max-most.result < 101 = omega (arith, larger, c.if-count-ge-MANY_LEVELS.false, c.loop-index.invariant.small) in
+    greatest_step 101 c.loop-index.most c.loop-index.index c.level_count-count.result c.max-most.result (part_values counting_levels c.args.types.now c.args.id) within counted larger small c.loop-index.invariant

@@ -14,5 +14,5 @@ decreases-level_count_of l = 3 * l.id + 2
 abbrev pub decreases-most_levels : goal.decreases-most_levels
 decreases-most_levels l = 3 * l.id + 1
 
-abbrev pub invariant-most_levels-loop-place : goal.invariant-most_levels-loop-place
-invariant-most_levels-loop-place l = GreatestSoFar 101 l.most l.place (part_values counting_levels l.types l.id)
+abbrev pub invariant-most_levels-loop-index : goal.invariant-most_levels-loop-index
+invariant-most_levels-loop-index l = GreatestSoFar 101 l.most l.index (part_values counting_levels l.types l.id)

@@ -8,18 +8,18 @@ use Rattle.wit_data.proofs.sizes.+node_counting.Goals as goal
 
 pub node_count_of-returns : goal.node_count_of-returns
 node_count_of-returns t c =
-    omega (arith, nodes_at c.args.types.now c.args.id c.requires.back c.requires.stands, c.nodes_together-total.ensures, c.min.ensures)
+    omega (arith, nodes_at c.args.types.now c.args.id c.requires.back c.requires.present, c.nodes_together-total.ensures, c.min.ensures)
 
 pub nodes_together-returns-then-total-ge-MANY_NODES : goal.nodes_together-returns-then-total-ge-MANY_NODES
 nodes_together-returns-then-total-ge-MANY_NODES t c =
-    let here : c.loop-place.place < length (parts (kind_at c.args.types.now c.args.id)) = omega (arith, c.loop-place-test.true, c.part_count_of-place-end.ensures) in
-    let within : c.loop-place.place < length (part_values counting_nodes c.args.types.now c.args.id) = omega (arith, here, length_counts counting_nodes c.args.types.now c.args.id) in
-    let counted = counted_at counting_nodes 10001 c.args.types.now c.args.id c.loop-place.place c.node_count-total.result c.part_of.result here c.node_count-total.ensures.count c.part_of.ensures.value in
-    total_stop 10001 c.loop-place.total c.loop-place.place c.node_count-total.result (part_values counting_nodes c.args.types.now c.args.id) within counted c.if-total-ge-MANY_NODES.true c.loop-place.invariant
+    let here : c.loop-index.index < length (parts (kind_at c.args.types.now c.args.id)) = omega (arith, c.loop-index-test.true, c.part_count_of-index-end.ensures) in
+    let within : c.loop-index.index < length (part_values counting_nodes c.args.types.now c.args.id) = omega (arith, here, length_counts counting_nodes c.args.types.now c.args.id) in
+    let counted = counted_at counting_nodes 10001 c.args.types.now c.args.id c.loop-index.index c.node_count-total.result c.part_of.result here c.node_count-total.ensures.count c.part_of.ensures.value in
+    total_stop 10001 c.loop-index.total c.loop-index.index c.node_count-total.result (part_values counting_nodes c.args.types.now c.args.id) within counted c.if-total-ge-MANY_NODES.true c.loop-index.invariant
 
-pub nodes_together-loop-place-preserved : goal.nodes_together-loop-place-preserved
-nodes_together-loop-place-preserved t c =
-    let here : c.loop-place.place < length (parts (kind_at c.args.types.now c.args.id)) = omega (arith, c.loop-place-test.true, c.part_count_of-place-end.ensures) in
-    let within : c.loop-place.place < length (part_values counting_nodes c.args.types.now c.args.id) = omega (arith, here, length_counts counting_nodes c.args.types.now c.args.id) in
-    let counted = counted_at counting_nodes 10001 c.args.types.now c.args.id c.loop-place.place c.node_count-total.result c.part_of.result here c.node_count-total.ensures.count c.part_of.ensures.value in
-    total_step 10001 c.loop-place.total c.loop-place.place c.node_count-total.result (part_values counting_nodes c.args.types.now c.args.id) within counted (omega (arith, c.if-total-ge-MANY_NODES.false)) c.loop-place.invariant
+pub nodes_together-loop-index-preserved : goal.nodes_together-loop-index-preserved
+nodes_together-loop-index-preserved t c =
+    let here : c.loop-index.index < length (parts (kind_at c.args.types.now c.args.id)) = omega (arith, c.loop-index-test.true, c.part_count_of-index-end.ensures) in
+    let within : c.loop-index.index < length (part_values counting_nodes c.args.types.now c.args.id) = omega (arith, here, length_counts counting_nodes c.args.types.now c.args.id) in
+    let counted = counted_at counting_nodes 10001 c.args.types.now c.args.id c.loop-index.index c.node_count-total.result c.part_of.result here c.node_count-total.ensures.count c.part_of.ensures.value in
+    total_step 10001 c.loop-index.total c.loop-index.index c.node_count-total.result (part_values counting_nodes c.args.types.now c.args.id) within counted (omega (arith, c.if-total-ge-MANY_NODES.false)) c.loop-index.invariant

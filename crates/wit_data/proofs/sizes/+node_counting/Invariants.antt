@@ -14,5 +14,5 @@ decreases-node_count_of l = 3 * l.id + 2
 abbrev pub decreases-nodes_together : goal.decreases-nodes_together
 decreases-nodes_together l = 3 * l.id + 1
 
-abbrev pub invariant-nodes_together-loop-place : goal.invariant-nodes_together-loop-place
-invariant-nodes_together-loop-place l = TotalSoFar 10001 l.total l.place (part_values counting_nodes l.types l.id)
+abbrev pub invariant-nodes_together-loop-index : goal.invariant-nodes_together-loop-index
+invariant-nodes_together-loop-index l = TotalSoFar 10001 l.total l.index (part_values counting_nodes l.types l.id)

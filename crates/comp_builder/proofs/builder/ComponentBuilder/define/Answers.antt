@@ -1,5 +1,5 @@
 use Rattle.std.proofs.Common.{rules}
-use Rattle.comp_bytes.proofs.Places.{at_added}
+use Rattle.comp_bytes.proofs.ItemIndices.{at_added}
 use Rattle.comp_builder.proofs.builder.ComponentBuilder.define.Goals as goal
 
 pub returns-clause-at : goal.returns-clause-at

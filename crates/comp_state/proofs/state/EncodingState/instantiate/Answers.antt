@@ -1,7 +1,7 @@
 use Rattle.std.proofs.Common.{◌≡◌, ◌∙◌, ◌∷◌, [], ap}
 use Rattle.std.specs.List.{AllZip}
 use Rattle.comp_builder.specs.Built.{Built}
-use Rattle.comp_bytes.proofs.Places.{in_range}
+use Rattle.comp_bytes.proofs.ItemIndices.{in_range}
 use Rattle.comp_bytes.specs.declared.def.Def.TheVariants as defs
 use Rattle.comp_bytes.specs.declared.def.Item.TheVariants as items
 use Rattle.comp_state.specs.Encoding.{Encoding}

@@ -1,5 +1,5 @@
 use Rattle.std.proofs.Common.{◌≡◌, [], ap, rules}
-use Rattle.comp_bytes.proofs.Places.{in_range}
+use Rattle.comp_bytes.proofs.ItemIndices.{in_range}
 use Rattle.comp_state.specs.Encoding.{Encoding}
 use Rattle.comp_state.specs.Facts.{IsImported}
 use Rattle.comp_state.specs.Rules.{Grows}

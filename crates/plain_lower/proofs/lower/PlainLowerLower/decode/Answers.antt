@@ -1,5 +1,5 @@
 use Rattle.plain_lower.specs.Causes.{DecodeCause}
-use Rattle.plain_lower.proofs.Telling.{told_unless_memory}
+use Rattle.plain_lower.proofs.Reporting.{reported_unless_memory}
 use Rattle.plain_lower.proofs.lower.PlainLowerLower.decode.Goals as goal
 
 pub returns-clause-refused : goal.returns-clause-refused
@@ -7,4 +7,4 @@ returns-clause-refused c = c.in_ok-decode.ensures.refused
 
 pub returns-in_err-decode-clause-cause : goal.returns-in_err-decode-clause-cause
 returns-in_err-decode-clause-cause c =
-    told_unless_memory (λ f. DecodeCause c.args.bytes.now f) c.from_residual.result c.in_err-decode.field-0.0 c.from_residual.ensures.1 c.in_err-decode.ensures.cause
+    reported_unless_memory (λ f. DecodeCause c.args.bytes.now f) c.from_residual.result c.in_err-decode.field-0.0 c.from_residual.ensures.1 c.in_err-decode.ensures.cause

@@ -1,5 +1,5 @@
 use Rattle.plain_lower.specs.Causes.{PrepareCause}
-use Rattle.plain_lower.proofs.Telling.{told_unless_memory}
+use Rattle.plain_lower.proofs.Reporting.{reported_unless_memory}
 use Rattle.plain_lower.proofs.lower.PlainLowerLower.prepare.Goals as goal
 
 pub returns-clause-refused : goal.returns-clause-refused
@@ -7,4 +7,4 @@ returns-clause-refused c = c.in_ok-prepare.ensures.refused
 
 pub returns-in_err-prepare-clause-cause : goal.returns-in_err-prepare-clause-cause
 returns-in_err-prepare-clause-cause c =
-    told_unless_memory (λ f. PrepareCause c.args.gathered.now f) c.from_residual.result c.in_err-prepare.field-0.0 c.from_residual.ensures.1 c.in_err-prepare.ensures.cause
+    reported_unless_memory (λ f. PrepareCause c.args.gathered.now f) c.from_residual.result c.in_err-prepare.field-0.0 c.from_residual.ensures.1 c.in_err-prepare.ensures.cause

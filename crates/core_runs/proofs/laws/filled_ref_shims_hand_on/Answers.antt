@@ -1,5 +1,0 @@
-use Rattle.core_runs.proofs.RefInstances as lemmas
-use Rattle.core_runs.proofs.laws.filled_ref_shims_hand_on.Goals as goal
-
-pub returns : goal.returns
-returns c = lemmas.filled_ref_shims_hand_on

@@ -1,5 +1,0 @@
-mod Lists
-mod Telling
-mod Valid
-mod Walking
-mod Worked

@@ -1,5 +1,0 @@
-use Rattle.encoded_worlds.proofs.Telling.{no_cause}
-use Rattle.encoded_worlds.proofs.encoding.encoded_world.Goals as goal
-
-pub returns-clause-refused : goal.returns-clause-refused
-returns-clause-refused c = λ ok f k. no_cause c.args.parts c.in_ok-world.world c.in_ok-world.ensures.exact f k

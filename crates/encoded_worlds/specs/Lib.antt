@@ -1,5 +1,0 @@
-pub mod Kinds
-pub mod LeftOut
-pub mod Standing
-pub mod Apart
-pub mod Causes

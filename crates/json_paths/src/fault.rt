@@ -1,0 +1,46 @@
+//! Why a value of JSON isn't what was asked for.
+
+use comp_lists::Text;
+use std::alloc::{AllocError, AllocFailed};
+
+/// A refusal that isn't want of memory.
+#[derive(Debug, Drop)]
+pub enum Refusal {
+    /// The text is no JSON (RFC 8259).
+    Json,
+    /// The value at this JSON pointer (RFC 6901) is missing, unknown, of a wrong kind, or breaks a rule.
+    Record { path: Text },
+    /// Something that isn't supported, or that passes a limit, by its name.
+    LeftOut { what: Text },
+    /// What is said of this name in two places can't both hold.
+    MergeConflict { name: Text },
+}
+
+/// Why a reading step ended early.
+#[derive(Debug, Drop)]
+pub enum Failure {
+    Memory,
+    Refused(Refusal),
+}
+
+impl From<AllocError> for Failure {
+    ghost use Rattle.std.specs.Prelude.{◌≡◌};
+    ghost use Rattle.json_paths.specs.declared.fault.Failure.TheVariants.{Memory};
+
+    ghost from_gives = { λ _ e. e ≡ Memory };
+
+    fn from(_e: AllocError) -> Failure {
+        Failure::Memory
+    }
+}
+
+impl<T: Drop> From<AllocFailed<T>> for Failure {
+    ghost use Rattle.std.specs.Prelude.{◌≡◌};
+    ghost use Rattle.json_paths.specs.declared.fault.Failure.TheVariants.{Memory};
+
+    ghost from_gives = { λ _ e. e ≡ Memory };
+
+    fn from(_e: AllocFailed<T>) -> Failure {
+        Failure::Memory
+    }
+}

@@ -1,0 +1,95 @@
+//! What main's core imports and exports are for.
+
+ghost use Rattle.std.specs.Prelude.{◌≡◌, IfOk, IfErr, IsOk};
+ghost use Rattle.std.specs.List.{AllByRecursion};
+ghost use Rattle.wit_data.specs.Sound.{IsSound};
+ghost use Rattle.record_faults.specs.Faults.{Gives};
+ghost use Rattle.record_faults.specs.declared.fault.Failure.TheVariants as failures;
+ghost use Rattle.record_faults.specs.declared.fault.Refusal.{Refusal};
+ghost use Rattle.record_core_types.specs.Guarantees.{IsLifted, IsKept};
+ghost use Rattle.record_exports.specs.Causes.{ExportCause, RequiredCause};
+ghost use Rattle.plain_lower.specs.Preparing.{checked_roles, checked_exports};
+ghost use Rattle.plain_lower.specs.Guarantees.{world_id, AreChecked};
+ghost use Rattle.plain_lower.specs.Causes.{ExportsCause, RolesCause};
+
+use comp_lists::{Keyed, Seq, Text};
+use comp_roles::{Export, ImportMap};
+use comp_worlds::Part;
+use core_sections::CoreModule;
+use record_faults::Failure;
+use record_exports::{read_exports, require_all};
+use record_imports::read_imports;
+use record_merge::Bindgen;
+use record_resolve::Resolved;
+use std::alloc::Global;
+use wit_data::WorldKey;
+
+/// What main's core imports and exports are for, and the keys of the exports that it has to have.
+#[derive(Drop)]
+pub(crate) struct CheckedRoles {
+    pub imports: ImportMap,
+    pub exports: Keyed<Text, Export>,
+    pub required: Seq<WorldKey>,
+}
+
+/// The core exports and the keys of those that main has to have.
+type CheckedExports = (Keyed<Text, Export>, Seq<WorldKey>);
+
+#[tactic(auto, unfolding(crate::specs::Preparing::checked_exports))]
+fn check_exports(
+    alloc: Global,
+    resolved: &Resolved,
+    main: &Part<Bindgen>,
+    core: &CoreModule,
+) -> Result<CheckedExports, Failure>
+    requires { IsSound resolved.now.resolve }
+    ensures exact { Gives (λ m. m) result (checked_exports resolved.now main.now core.now) }
+    ensures lifted { IfOk result (λ m. AllByRecursion (λ e. IsLifted resolved.now.resolve world_id e.1) m.0) }
+    ensures kept { IfOk result (λ m. AllByRecursion (IsKept resolved.now.resolve world_id m.0) m.1) }
+    ensures cause { IfErr result (λ e. (f : Refusal) → e ≡ failures.Refused f → ExportsCause resolved.now main.now core.now f) }
+    ensures refused { IsOk result → (f : Refusal) → ¬ ExportsCause resolved.now main.now core.now f }
+{
+    let exports = read_exports(alloc, resolved, &main.own.roles.export_roles, core)?;
+    match require_all(alloc, resolved, &exports, main.required.as_slice()) {
+        Ok(required) => Ok((exports, required)),
+        Err(failure) => {
+            drop(exports);
+            Err(failure)
+        }
+    }
+}
+
+fn with_imports(imports: ImportMap, exports: CheckedExports) -> CheckedRoles
+    ensures { result ≡ record { imports = imports; exports = exports.0; required = exports.1 } }
+{
+    let (exports, required) = exports;
+    CheckedRoles {
+        imports,
+        exports,
+        required,
+    }
+}
+
+/// What the core imports and exports of a module are for, where its roles can be met.
+#[tactic(auto, unfolding(crate::specs::Preparing::checked_roles))]
+pub(crate) fn check_roles(
+    alloc: Global,
+    resolved: &Resolved,
+    main: &Part<Bindgen>,
+    core: &CoreModule,
+) -> Result<CheckedRoles, Failure>
+    requires { IsSound resolved.now.resolve }
+    ensures exact { Gives (λ m. m) result (checked_roles resolved.now main.now core.now) }
+    ensures all_present { IfOk result (AreChecked resolved.now) }
+    ensures cause { IfErr result (λ e. (f : Refusal) → e ≡ failures.Refused f → RolesCause resolved.now main.now core.now f) }
+    ensures refused { IsOk result → (f : Refusal) → ¬ RolesCause resolved.now main.now core.now f }
+{
+    let imports = read_imports(alloc, resolved, &main.own.roles.import_roles, core)?;
+    match check_exports(alloc, resolved, main, core) {
+        Ok(exports) => Ok(with_imports(imports, exports)),
+        Err(failure) => {
+            drop(imports);
+            Err(failure)
+        }
+    }
+}

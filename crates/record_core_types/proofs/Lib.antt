@@ -1,0 +1,3 @@
+mod Converting
+mod Apart
+pub mod Guarantees

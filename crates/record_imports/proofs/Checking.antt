@@ -1,0 +1,202 @@
+-- What holds of an import that was read: its steps passed, and the root function that it is for is the world's.
+use Rattle.std.proofs.Common.{◌≡◌, ℕ, Bool, true, false, List, Option, Some, None, Result, Ok, Err, refl, sym, subst, ap, ◌∙◌, true≢false}
+use Rattle.std.specs.Prelude.{⊤, ok_or, option_map, IfSome, IsSome, if◌then◌else◌}
+use Rattle.std.specs.Option.{option_and_then, option_map_or}
+use Rattle.core_sections.specs.declared.core_module.CoreModule.{CoreModule}
+use Rattle.core_sections.specs.declared.entries.CoreImport.{CoreImport}
+use Rattle.core_sections.specs.declared.entries.EntityType.{EntityType}
+use Rattle.core_sections.specs.declared.entries.FuncType.{FuncType}
+use Rattle.wit_data.specs.declared.functions.AbiVariant.{AbiVariant}
+use Rattle.wit_data.specs.declared.functions.Function.{Function}
+use Rattle.wit_data.specs.declared.ids.InterfaceId.{InterfaceId}
+use Rattle.wit_data.specs.declared.ids.WorldId.{WorldId}
+use Rattle.wit_data.specs.declared.resolve.Resolve.{Resolve}
+use Rattle.wit_data.specs.declared.worlds.WorldKey.{WorldKey}
+use Rattle.wit_data.specs.declared.worlds.WorldKey.TheVariants as keys
+use Rattle.comp_roles.specs.declared.imports.Import.{Import}
+use Rattle.comp_roles.specs.declared.imports.Import.TheVariants as imports
+use Rattle.comp_roles.specs.declared.offered.ExternType.{ExternType}
+use Rattle.comp_roles.specs.declared.payloads.PayloadInfo.{PayloadInfo}
+use Rattle.record_values.specs.declared.names.Owner.{Owner}
+use Rattle.record_values.specs.declared.names.Owner.TheVariants as owners
+use Rattle.record_values.specs.declared.roles.ImportRole.{ImportRole}
+use Rattle.record_values.specs.declared.roles.ImportRole.TheVariants as roles
+use Rattle.record_values.specs.declared.roles.Intrinsic.{Intrinsic}
+use Rattle.record_values.specs.declared.roles.Intrinsic.TheVariants as intrinsics
+use Rattle.record_values.specs.declared.roles.PayloadKind.{PayloadKind}
+use Rattle.record_values.specs.declared.roles.PayloadKind.TheVariants as payload_kinds
+use Rattle.record_values.specs.declared.roles.PayloadOperation.{PayloadOperation}
+use Rattle.record_values.specs.declared.roles.PayloadOperation.TheVariants as operations
+use Rattle.record_resolve.specs.declared.resolving.Resolved.{Resolved}
+use Rattle.record_role_targets.specs.declared.sides.Side.TheVariants as sides
+use Rattle.record_role_targets.specs.Sides.{interface_of}
+use Rattle.record_role_targets.specs.Keys.{interface_key}
+use Rattle.record_role_targets.specs.Positions.{at_root, in_interface, position_of, function_at, function_position, resource_of}
+use Rattle.record_role_targets.specs.Payloads.{resolved_payload, payload_import}
+use Rattle.record_role_targets.specs.Imports.{memory_type, function_type, called, imported_drop, exported_drop, exported_rep, exported_new, task_return, intrinsic, resolved_import}
+use Rattle.comp_worlds.specs.Mentions.{HasReturned}
+use Rattle.record_role_targets.specs.Named.{HasNamed}
+use Rattle.record_core_types.specs.Asked.{called as called_as, imported_function}
+use Rattle.record_core_types.specs.Fitting.{is_asked, function_type as type_of_function, fits_import}
+use Rattle.record_core_types.specs.Offered.{extern_type}
+use Rattle.record_core_types.specs.Guarantees.{IsCalled}
+use Rattle.record_faults.specs.declared.fault.Failure.{Failure}
+use Rattle.record_faults.specs.Faults.{◌>>=◌, Gives}
+use Rattle.record_faults.proofs.Chains.{bind_ok, got, passed}
+use Rattle.record_imports.specs.Meaning.{Roles, world_id, role_of, is_of_other, target, no_role, unfit, meaningless, fitting, kept, import_of}
+use Rattle.record_imports.specs.Guarantees.{IsChecked}
+
+-- ---- steps
+
+-- the function of a `task.return` stands in the resolve
+pub returned : (r : Resolve) (import : Import) → HasNamed r import → HasReturned r import
+returned r import h = h.returned
+
+-- a value, where the step beside it passed
+pub concluded : {A : Type 0} (step : Result ⊤ Failure) (value : A) (answer read : Result A Failure) → answer ≡ kept value step → Gives (λ u. value) step read → Gives (λ x. x) answer read
+concluded (Ok u) value answer read is h = subst (λ a. Gives (λ x. x) a read) (sym is) h
+concluded (Err e) value answer read is h = subst (λ a. Gives (λ x. x) a read) (sym is) h
+
+-- ---- an import that was read
+
+-- what means something, where roles of other modules mean nothing
+pub unless_other : (b : Bool) (o : Option Import) (x : Import) → (if b then None else o) ≡ Some x → (b ≡ false) × (o ≡ Some x)
+unless_other true o x e = absurd cc
+unless_other false o x e = (refl, e)
+
+pub record Passes (r : Resolved) (table : Roles) (core : CoreModule) (i : CoreImport) (import : Import) : Type 0 where
+  pub ty : ExternType
+  pub typed : extern_type core i.entity ≡ Some ty
+  pub role : ImportRole
+  pub has : role_of table i ≡ Some role
+  pub own : is_of_other role ≡ false
+  pub means : resolved_import r i.field role (Some ty) ≡ Some import
+  pub fits : fits_import r.resolve world_id core import i.entity ≡ true
+
+abbrev pub after_role : Resolved → CoreModule → CoreImport → ExternType → ImportRole → Result Import Failure
+after_role r core i ty role = ok_or (target r i role ty) (meaningless i role) >>= λ import. fitting r core i import
+
+abbrev pub after_type : Resolved → Roles → CoreModule → CoreImport → ExternType → Result Import Failure
+after_type r table core i ty = ok_or (role_of table i) (no_role i) >>= λ role. after_role r core i ty role
+
+pub import_passes : (r : Resolved) (table : Roles) (core : CoreModule) (i : CoreImport) (import : Import) → import_of r table core i ≡ Ok import → Passes r table core i import
+unfolding import_of
+import_passes r table core i import e =
+    let a = bind_ok (ok_or (extern_type core i.entity) (unfit i)) (after_type r table core i) import e in
+    let b = bind_ok (ok_or (role_of table i) (no_role i)) (after_role r core i a.0) import a.2 in
+    let c = bind_ok (ok_or (target r i b.0 a.0) (meaningless i b.0)) (fitting r core i) import b.2 in
+    let p = passed (fits_import r.resolve world_id core c.0 i.entity) c.0 import (unfit i) c.2 in
+    let m = unless_other (is_of_other b.0) (resolved_import r i.field b.0 (Some a.0)) c.0 (got (target r i b.0 a.0) (meaningless i b.0) c.0 c.1) in
+    record {
+      ty = a.0;
+      typed = got (extern_type core i.entity) (unfit i) a.0 a.1;
+      role = b.0;
+      has = got (role_of table i) (no_role i) b.0 b.1;
+      own = m.0;
+      means = m.1 ∙ ap Some p.1;
+      fits = ap (λ (x : Import). fits_import r.resolve world_id core x i.entity) (sym p.1) ∙ p.0;
+    }
+
+-- ---- root functions go by their own names
+
+abbrev IsOwn : Import → Type 0
+IsOwn (imports.WorldFunc (keys.Name text) function abi) = function ≡ text
+IsOwn import = Unit {0}
+
+mapped : {A : Type 0} (f : A → Import) (o : Option A) → ((x : A) → IsOwn (f x)) → IfSome (option_map f o) IsOwn
+mapped f None h = tt
+mapped f (Some x) h = h x
+
+root_own : (name : List ℕ) (abi : AbiVariant) (o : Option Function) → IfSome (option_map (called name abi) (option_map (λ f. at_root name) o)) IsOwn
+root_own name abi None = tt
+root_own name abi (Some f) = refl
+
+interface_own : (r : Resolved) (name : List ℕ) (abi : AbiVariant) (id : InterfaceId) (key : Option WorldKey)
+    → IfSome (option_map (called name abi) (option_and_then (λ p. option_map (λ f. p) (function_at sides.Imported r p name)) (option_map (in_interface id) key))) IsOwn
+interface_own r name abi id None = tt
+interface_own r name abi id (Some key) = by (function_at sides.Imported r (in_interface id key) name)
+  where
+    by : (o : Option Function) → IfSome (option_map (called name abi) (option_map (λ f. in_interface id key) o)) IsOwn
+    by None = tt
+    by (Some f) = tt
+
+named_own : (r : Resolved) (name : List ℕ) (abi : AbiVariant) (id : Option InterfaceId)
+    → IfSome (option_map (called name abi) (option_and_then (λ p. option_map (λ f. p) (function_at sides.Imported r p name)) (option_and_then (λ x. option_map (in_interface x) (interface_key sides.Imported r x)) id))) IsOwn
+named_own r name abi None = tt
+named_own r name abi (Some id) = interface_own r name abi id (interface_key sides.Imported r id)
+
+function_own : (r : Resolved) (owner : Owner) (name : List ℕ) (abi : AbiVariant) → IfSome (option_map (called name abi) (function_position sides.Imported r owner name)) IsOwn
+function_own r owners.World name abi = root_own name abi (function_at sides.Imported r (at_root name) name)
+function_own r (owners.Interface i) name abi = named_own r name abi (interface_of sides.Imported r i)
+
+chained : {A B : Type 0} (f : A → B → Import) (of : A → Option B) (o : Option A) → ((x : A) (y : B) → IsOwn (f x y)) → IfSome (option_and_then (λ x. option_map (f x) (of x)) o) IsOwn
+chained f of None h = tt
+chained f of (Some x) h = mapped (f x) (of x) (h x)
+
+payload_own : (kind : PayloadKind) (operation : PayloadOperation) (is_async : Bool) (p : PayloadInfo) → IsOwn (payload_import kind operation is_async p)
+payload_own payload_kinds.Stream operations.New a p = tt
+payload_own payload_kinds.Stream operations.Read a p = tt
+payload_own payload_kinds.Stream operations.Write a p = tt
+payload_own payload_kinds.Stream operations.CancelRead a p = tt
+payload_own payload_kinds.Stream operations.CancelWrite a p = tt
+payload_own payload_kinds.Stream operations.DropReadable a p = tt
+payload_own payload_kinds.Stream operations.DropWritable a p = tt
+payload_own payload_kinds.Future operations.New a p = tt
+payload_own payload_kinds.Future operations.Read a p = tt
+payload_own payload_kinds.Future operations.Write a p = tt
+payload_own payload_kinds.Future operations.CancelRead a p = tt
+payload_own payload_kinds.Future operations.CancelWrite a p = tt
+payload_own payload_kinds.Future operations.DropReadable a p = tt
+payload_own payload_kinds.Future operations.DropWritable a p = tt
+
+intrinsic_own : (i : Intrinsic) → IsOwn (intrinsic i)
+intrinsic_own intrinsics.TaskCancel = tt
+intrinsic_own intrinsics.BackpressureInc = tt
+intrinsic_own intrinsics.BackpressureDec = tt
+intrinsic_own intrinsics.WaitableSetNew = tt
+intrinsic_own intrinsics.WaitableSetWait = tt
+intrinsic_own intrinsics.WaitableSetPoll = tt
+intrinsic_own intrinsics.WaitableSetDrop = tt
+intrinsic_own intrinsics.WaitableJoin = tt
+intrinsic_own intrinsics.SubtaskDrop = tt
+intrinsic_own intrinsics.ErrorContextDrop = tt
+
+role_own : (r : Resolved) (field : List ℕ) (role : ImportRole) (ty : Option ExternType) → IfSome (resolved_import r field role ty) IsOwn
+role_own r field (roles.Function owner name abi) ty = function_own r owner name abi
+role_own r field (roles.ImportedDrop t) ty = mapped imported_drop (resource_of sides.Imported r t) (λ x. tt)
+role_own r field (roles.ExportedDrop t) ty = mapped exported_drop (resource_of sides.Exported r t) (λ x. tt)
+role_own r field (roles.ExportedRep t) ty = mapped exported_rep (resource_of sides.Exported r t) (λ x. tt)
+role_own r field (roles.ExportedNew t) ty = mapped exported_new (resource_of sides.Exported r t) (λ x. tt)
+role_own r field (roles.TaskReturn owner name) ty = chained task_return (λ p. function_at sides.Exported r p name) (position_of sides.Exported r owner name) (λ p f. tt)
+role_own r field (roles.Payload kind operation payload is_async) ty = mapped (payload_import kind operation is_async) (resolved_payload r field kind payload) (payload_own kind operation is_async)
+role_own r field roles.Memory ty = mapped imports.MainModuleMemory (memory_type ty) (λ x. tt)
+role_own r field (roles.MainExport name kind) ty = tt
+role_own r field (roles.AdapterExport adapter name) ty = mapped (imports.AdapterExport adapter name) (function_type ty) (λ x. tt)
+role_own r field (roles.Intrinsic i) ty = intrinsic_own i
+role_own r field (roles.SubtaskCancel is_async) ty = tt
+role_own r field (roles.ErrorContextNew encoding) ty = tt
+role_own r field (roles.ErrorContextDebugMessage encoding) ty = tt
+role_own r field (roles.ContextGet word slot) ty = tt
+role_own r field (roles.ContextSet word slot) ty = tt
+role_own r field (roles.TlsGet word) ty = tt
+role_own r field (roles.TlsSet word) ty = tt
+
+-- ---- and are the world's
+
+asked_there : (f : Function → FuncType) (o : Option Function) (ty : Option FuncType) → option_map_or (λ t. is_asked t (option_map f o)) ty false ≡ true → IsSome o
+asked_there f None None e = absurd (true≢false (sym e))
+asked_there f None (Some t) e = absurd (true≢false (sym e))
+asked_there f (Some x) ty e = refl
+
+is_called : (r : Resolve) (w : WorldId) (core : CoreModule) (import : Import) (entity : EntityType) → IsOwn import → fits_import r w core import entity ≡ true → IsCalled r w import
+is_called r w core (imports.WorldFunc (keys.Name text) function abi) entity own fits = (own, asked_there (called_as r abi) (imported_function r w (keys.Name text)) (type_of_function core entity) fits)
+is_called r w core import entity own fits = tt
+
+-- an import that was read is met
+pub is_checked : (r : Resolved) (table : Roles) (core : CoreModule) (i : CoreImport) (import : Import) → import_of r table core i ≡ Ok import → HasNamed r.resolve import → IsChecked r.resolve import
+is_checked r table core i import e named =
+    let p = import_passes r table core i import e in
+    record {
+      present = named.used;
+      called = is_called r.resolve world_id core import i.entity (subst (λ o. IfSome o IsOwn) p.means (role_own r i.field p.role (Some p.ty))) p.fits;
+    }

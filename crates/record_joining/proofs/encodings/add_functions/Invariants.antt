@@ -1,7 +1,0 @@
-use Rattle.std.proofs.Common.{◌≡◌, drop}
-use Rattle.record_joining.specs.Encodings.{with_functions}
-use Rattle.record_joining.proofs.encodings.add_functions.Given as goal
-
-abbrev pub invariant-loop-function : goal.invariant-loop-function
-invariant-loop-function l =
-    with_functions l.encoding l.key l.table (drop l.function-index l.functions) ≡ with_functions l.encoding l.key l.fn.table l.functions

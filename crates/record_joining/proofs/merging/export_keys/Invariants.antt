@@ -1,9 +1,0 @@
-use Rattle.std.proofs.Common.{◌≡◌, ◌++◌}
-use Rattle.record_joining.specs.Merging.{keys_of_exports}
-use Rattle.record_joining.proofs.merging.export_keys.Given as goal
-
-abbrev pub invariant-loop-key : goal.invariant-loop-key
-invariant-loop-key l =
-    (goal.iterator-loop-key).can_next l.key-iterator ×
-    (goal.iterator-loop-key).is_finite l.key-iterator ×
-    (l.keys ++ keys_of_exports l.key-iterator ≡ keys_of_exports l.exports)

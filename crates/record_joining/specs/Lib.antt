@@ -1,6 +1,0 @@
-pub mod Said
-pub mod Tables
-pub mod Merging
-pub mod Encodings
-pub mod Joining
-pub mod Causes

@@ -1,8 +1,0 @@
--- Reading the items of an array one after the other, as a loop does.
-use Rattle.std.proofs.Common.{List, ◌++◌, Result, Ok}
-use Rattle.record_json.specs.declared.fault.Failure.{Failure}
-use Rattle.record_json.specs.Faults.{◌>>=◌}
-
--- what was read before, and what is still read
-abbrev pub with_front : {A : Type 0} → List A → Result (List A) Failure → Result (List A) Failure
-with_front front read = read >>= λ xs. Ok (front ++ xs)

@@ -1,7 +1,0 @@
-use Rattle.std.proofs.Common.{◌≡◌, map, drop}
-use Rattle.std.specs.List.{list_any}
-use Rattle.std.specs.Str.{bytes_eq}
-use Rattle.record_json.proofs.members.is_one_of.Given as goal
-
-abbrev pub invariant-loop-other : goal.invariant-loop-other
-invariant-loop-other l = list_any (bytes_eq l.key) (map (λ k. k.now) (drop l.other-index l.keys)) ≡ list_any (bytes_eq l.key) (map (λ k. k.now) l.keys)

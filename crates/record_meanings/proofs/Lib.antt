@@ -1,4 +1,0 @@
-mod Walking
-mod Standing
-mod Naming
-mod Worked

@@ -1,0 +1,6 @@
+pub mod Said
+pub mod Tables
+pub mod Merging
+pub mod Encodings
+pub mod ModuleRecords
+pub mod Causes

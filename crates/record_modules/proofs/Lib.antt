@@ -1,3 +1,0 @@
-mod Converting
-mod Apart
-pub mod Standing

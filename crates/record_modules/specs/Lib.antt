@@ -1,5 +1,0 @@
-pub mod Offered
-pub mod Asked
-pub mod Shapes
-pub mod Fitting
-pub mod Standing

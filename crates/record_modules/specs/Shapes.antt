@@ -1,7 +1,0 @@
--- The type that a table of types has for a function.
-use Rattle.core_sections.specs.declared.entries.FuncType.{FuncType}
-use Rattle.record_modules.specs.declared.intrinsics.Shape.{Shape}
-use Rattle.record_modules.specs.Asked.{function}
-
-abbrev pub shape_type : Shape → FuncType
-shape_type s = function s.params.now s.results.now

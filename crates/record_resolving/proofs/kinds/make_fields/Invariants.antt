@@ -1,6 +1,0 @@
-use Rattle.std.proofs.Common.{◌≡◌, [], drop}
-use Rattle.record_resolving.specs.Kinds.{fields_from}
-use Rattle.record_resolving.proofs.kinds.make_fields.Given as goal
-
-abbrev pub invariant-loop-name : goal.invariant-loop-name
-invariant-loop-name l = fields_from l.fields (drop l.name-index l.names) l.rest ≡ fields_from [] l.names l.parts

@@ -1,7 +1,0 @@
-use Rattle.std.proofs.Common.{◌↔◌, drop}
-use Rattle.std.specs.List.{AllByRecursion}
-use Rattle.record_resolving.specs.Resolved.{AreNamed}
-use Rattle.record_resolving.proofs.resolving.are_named.Given as goal
-
-abbrev pub invariant-loop-world : goal.invariant-loop-world
-invariant-loop-world l = AllByRecursion AreNamed l.worlds ↔ AllByRecursion AreNamed (drop l.world-index l.worlds)

@@ -1,9 +1,0 @@
-use Rattle.std.proofs.Common.{◌≡◌}
-use Rattle.record_resolving.specs.Worlds.{copies_of}
-use Rattle.record_resolving.proofs.worlds.add_copies.Given as goal
-
-abbrev pub invariant-loop-name : goal.invariant-loop-name
-invariant-loop-name l =
-    (goal.iterator-loop-name).can_next l.name-iterator ×
-    (goal.iterator-loop-name).is_finite l.name-iterator ×
-    (copies_of l.all l.name-iterator (l.standing, l.making) ≡ copies_of l.all l.imported (l.fn.standing, l.fn.making))

@@ -1,0 +1,4 @@
+mod Walking
+mod Existence
+mod Naming
+mod Worked

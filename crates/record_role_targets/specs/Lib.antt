@@ -1,0 +1,9 @@
+pub mod Sides
+pub mod Keys
+pub mod Positions
+pub mod Imports
+pub mod Exports
+pub mod Metadata
+pub mod Payloads
+pub mod Walks
+pub mod Named

@@ -1,0 +1,168 @@
+//! The streams and futures that roles are for, and what is done to them.
+
+ghost use Rattle.std.specs.Prelude.{◌≡◌, IfOk, Some};
+ghost use Rattle.wit_data.specs.Sound.{IsSound};
+ghost use Rattle.record_role_targets.specs.Payloads.{unit_info, typed_info, side_of, type_met, payload_met, resolved_payload, stream_import, future_import, payload_import};
+
+use crate::positions::{Position, function_at, position_of};
+use crate::sides::Side;
+use crate::walks::nth_met;
+use comp_lists::Text;
+use comp_roles::{Import, PayloadInfo, PayloadType};
+use record_resolve::Resolved;
+use record_values::{Owner, Payload, PayloadKind, PayloadOperation};
+use std::alloc::{AllocError, Global};
+use wit_data::TypeId;
+
+/// One without values.
+fn unit_info(alloc: Global, field: &Text, kind: PayloadKind) -> Result<PayloadInfo, AllocError>
+    ensures { IfOk result (λ p. p ≡ unit_info field.now kind) }
+{
+    let name = field.clone(alloc)?;
+    let ty = match kind {
+        PayloadKind::Stream => PayloadType::UnitStream,
+        PayloadKind::Future => PayloadType::UnitFuture,
+    };
+    Ok(PayloadInfo {
+        name,
+        ty,
+        key: None,
+        interface: None,
+        imported: false,
+    })
+}
+
+/// A type that is met in a function.
+fn typed_info(
+    alloc: Global,
+    field: &Text,
+    imported: bool,
+    position: Position,
+    function: &Text,
+    id: TypeId,
+) -> Result<PayloadInfo, AllocError>
+    ensures { IfOk result (λ p. p ≡ typed_info field.now imported position function.now id) }
+{
+    let name = field.clone(alloc)?;
+    let function = function.clone(alloc)?;
+    Ok(PayloadInfo {
+        name,
+        ty: PayloadType::Typed { id, function },
+        key: Some(position.key),
+        interface: position.interface,
+        imported,
+    })
+}
+
+fn side_of(imported: bool) -> Side
+    ensures { result ≡ side_of imported }
+{
+    if imported {
+        Side::Imported
+    } else {
+        Side::Exported
+    }
+}
+
+/// The stream or future that is met at a number in the function of a name at a place.
+#[tactic(auto, using(crate::proofs::Existence::function_exists))]
+fn type_met(
+    resolved: &Resolved,
+    side: Side,
+    position: &Position,
+    function: &Text,
+    number: u32,
+) -> Option<TypeId>
+    requires { IsSound resolved.now.resolve }
+    ensures { result ≡ type_met resolved.now side position.now function.now number }
+{
+    let found = function_at(resolved, side, position, function)?;
+    nth_met(&resolved.resolve, found, number)
+}
+
+fn payload_met(
+    alloc: Global,
+    resolved: &Resolved,
+    field: &Text,
+    imported: bool,
+    owner: &Owner,
+    function: &Text,
+    number: u32,
+) -> Result<Option<PayloadInfo>, AllocError>
+    requires { IsSound resolved.now.resolve }
+    ensures { IfOk result (λ p. p ≡ payload_met resolved.now field.now imported owner.now function.now number) }
+{
+    let side = side_of(imported);
+    let Some(position) = position_of(alloc, resolved, side, owner, function)? else {
+        return Ok(None);
+    };
+    match type_met(resolved, side, &position, function, number) {
+        Some(id) => Ok(Some(typed_info(alloc, field, imported, position, function, id)?)),
+        None => Ok(None),
+    }
+}
+
+/// The payload of a role, for an import of this field.
+pub(crate) fn resolved_payload(
+    alloc: Global,
+    resolved: &Resolved,
+    field: &Text,
+    kind: PayloadKind,
+    payload: &Payload,
+) -> Result<Option<PayloadInfo>, AllocError>
+    requires { IsSound resolved.now.resolve }
+    ensures { IfOk result (λ p. p ≡ resolved_payload resolved.now field.now kind payload.now) }
+{
+    match payload {
+        Payload::Unit => Ok(Some(unit_info(alloc, field, kind)?)),
+        Payload::Met {
+            imported,
+            owner,
+            function,
+            index,
+        } => payload_met(alloc, resolved, field, *imported, owner, function, *index),
+    }
+}
+
+fn stream_import(operation: PayloadOperation, info: PayloadInfo, async_: bool) -> Import
+    ensures { result ≡ stream_import operation info async_ }
+{
+    match operation {
+        PayloadOperation::New => Import::StreamNew(info),
+        PayloadOperation::Read => Import::StreamRead { info, async_ },
+        PayloadOperation::Write => Import::StreamWrite { info, async_ },
+        PayloadOperation::CancelRead => Import::StreamCancelRead { info, async_ },
+        PayloadOperation::CancelWrite => Import::StreamCancelWrite { info, async_ },
+        PayloadOperation::DropReadable => Import::StreamDropReadable(info),
+        PayloadOperation::DropWritable => Import::StreamDropWritable(info),
+    }
+}
+
+fn future_import(operation: PayloadOperation, info: PayloadInfo, async_: bool) -> Import
+    ensures { result ≡ future_import operation info async_ }
+{
+    match operation {
+        PayloadOperation::New => Import::FutureNew(info),
+        PayloadOperation::Read => Import::FutureRead { info, async_ },
+        PayloadOperation::Write => Import::FutureWrite { info, async_ },
+        PayloadOperation::CancelRead => Import::FutureCancelRead { info, async_ },
+        PayloadOperation::CancelWrite => Import::FutureCancelWrite { info, async_ },
+        PayloadOperation::DropReadable => Import::FutureDropReadable(info),
+        PayloadOperation::DropWritable => Import::FutureDropWritable(info),
+    }
+}
+
+/// What is done to a stream or a future.
+pub(crate) fn payload_import(
+    kind: PayloadKind,
+    operation: PayloadOperation,
+    is_async: bool,
+    info: PayloadInfo,
+) -> Import
+    ensures { result ≡ payload_import kind operation is_async info }
+{
+    match kind {
+        PayloadKind::Stream => stream_import(operation, info, is_async),
+        PayloadKind::Future => future_import(operation, info, is_async),
+    }
+}

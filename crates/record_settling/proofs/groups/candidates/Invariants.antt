@@ -1,9 +1,0 @@
-use Rattle.std.proofs.Common.{◌≡◌, ◌++◌}
-use Rattle.record_settling.specs.Groups.{candidates}
-use Rattle.record_settling.proofs.groups.candidates.Given as goal
-
-abbrev pub invariant-loop-key : goal.invariant-loop-key
-invariant-loop-key l =
-    (goal.iterator-loop-key).can_next l._key-iterator ×
-    (goal.iterator-loop-key).is_finite l._key-iterator ×
-    (l.found ++ candidates l._key-iterator ≡ candidates l.imports)

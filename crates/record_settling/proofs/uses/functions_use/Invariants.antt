@@ -1,6 +1,0 @@
-use Rattle.std.proofs.Common.{◌≡◌, ◌++◌, drop}
-use Rattle.record_settling.specs.Uses.{of_functions}
-use Rattle.record_settling.proofs.uses.functions_use.Given as goal
-
-abbrev pub invariant-loop-function : goal.invariant-loop-function
-invariant-loop-function l = l.names ++ of_functions (drop l.function-index l.functions) ≡ of_functions l.functions

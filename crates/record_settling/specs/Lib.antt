@@ -1,9 +1,0 @@
-pub mod Compatible
-pub mod Groups
-pub mod Uses
-pub mod Standing
-pub mod Renamed
-pub mod Reach
-pub mod Order
-pub mod Taking
-pub mod Settled

@@ -1,0 +1,9 @@
+pub mod Compatible
+pub mod Groups
+pub mod Uses
+pub mod Containment
+pub mod Renamed
+pub mod Reach
+pub mod Order
+pub mod Taking
+pub mod MergedVersions

@@ -1,6 +1,0 @@
-use Rattle.std.proofs.Common.{◌≡◌, ◌++◌, drop}
-use Rattle.record_worlds.specs.Places.{placed_from}
-use Rattle.record_worlds.proofs.places.place_interfaces.Given as goal
-
-abbrev pub invariant-loop-index : goal.invariant-loop-index
-invariant-loop-index l = l.all ++ placed_from l.names l.imported l.exported l.index (drop l.index l.interfaces) ≡ placed_from l.names l.imported l.exported 0 l.interfaces

@@ -1,0 +1,5 @@
+mod Lists
+mod Reporting
+mod Valid
+mod Walking
+mod Worked

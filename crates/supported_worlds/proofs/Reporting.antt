@@ -1,0 +1,137 @@
+-- When a world is refused: something of it is told exactly where a cause holds.
+use Rattle.std.proofs.Common.{◌≡◌, ◌≢◌, ◌⊎◌, inl, inr, ℕ, List, [], ◌∷◌, ◌++◌, Option, Some, None, Ok, Err, refl, sym, ap, subst, ◌∙◌}
+use Rattle.std.specs.Prelude.{Contains, codes}
+use Rattle.std.specs.List.{AllByRecursion, flat_map}
+use Rattle.comp_lists.proofs.Lists.{AllByRecursion-contains, Contains-map}
+use Rattle.comp_roles.specs.CoreImports.{CoreImport, imports_from}
+use Rattle.comp_roles.specs.Lookups.{first_some}
+use Rattle.comp_roles.specs.declared.imports.Import.{Import}
+use Rattle.comp_roles.specs.declared.imports.ImportInstance.{ImportInstance}
+use Rattle.comp_roles.specs.declared.imports.ImportInstance.TheVariants as instances
+use Rattle.comp_worlds.specs.Worlds.{whole_of}
+use Rattle.comp_worlds.specs.declared.world.ComponentWorld.{ComponentWorld}
+use Rattle.comp_worlds.specs.declared.world.WorldAdapter.{WorldAdapter}
+use Rattle.comp_worlds.specs.declared.world.WorldParts.{WorldParts}
+use Rattle.record_faults.specs.declared.fault.Failure.{Failure}
+use Rattle.record_faults.specs.declared.fault.Failure.TheVariants as failures
+use Rattle.record_faults.specs.declared.fault.Refusal.{Refusal}
+use Rattle.record_faults.specs.declared.fault.Refusal.TheVariants as refusals
+use Rattle.supported_worlds.specs.LeftOut.{items_of, item_left_out, import_left_out, export_left_out, group_left_out, world_left_out, module_left_out, adapters_left_out, left_out, unless_left_out, encoded}
+use Rattle.supported_worlds.specs.Causes.{IsLeftOut, imported, exported, import_role, export_role, whole_module, adapter}
+use Rattle.supported_worlds.proofs.Lists.{nothing, at_front, not_there, in_flat_map, neither, one_of, none_picked, one_picked}
+
+-- ---- where nothing is told
+
+pub fields_pass : (name : List ℕ) (fields : List (List ℕ × Import)) → AllByRecursion (λ f. import_left_out f.1 ≡ None) fields → AllByRecursion (λ i. import_left_out i.role ≡ None) (imports_from (name, instances.Names fields))
+fields_pass name [] h = tt
+fields_pass name (f ∷ fields) h = (h.0, fields_pass name fields h.1)
+
+both : {X : Type 0} (P : X → Type 0) (xs ys : List X) → AllByRecursion P xs → AllByRecursion P ys → AllByRecursion P (xs ++ ys)
+both P [] ys h k = k
+both P (x ∷ xs) ys h k = (h.0, both P xs ys h.1 k)
+
+-- each import of the groups is encoded
+pub imports_pass : (groups : List (List ℕ × ImportInstance)) → AllByRecursion (λ g. group_left_out g ≡ None) groups → AllByRecursion (λ i. import_left_out i.role ≡ None) (flat_map imports_from groups)
+imports_pass [] h = tt
+imports_pass ((name, instances.Names fields) ∷ groups) h =
+    both (λ i. import_left_out i.role ≡ None) (imports_from (name, instances.Names fields)) (flat_map imports_from groups)
+    (fields_pass name fields (none_picked (λ f. import_left_out f.1) fields h.0)) (imports_pass groups h.1)
+imports_pass ((name, instances.Whole which) ∷ groups) h = nothing (codes "library") h.0
+
+pub no_adapters : (adapters : List (List ℕ × WorldAdapter)) → adapters_left_out adapters ≡ None → adapters ≡ []
+no_adapters [] h = refl
+no_adapters (a ∷ more) h = nothing (codes "adapter") h
+
+-- nothing of a world is left out
+pub record IsEncoded (p : WorldParts) : Type 0 where
+  pub imports : AllByRecursion (λ e. item_left_out e ≡ None) (items_of p).imports
+  pub exports : AllByRecursion (λ e. item_left_out e ≡ None) (items_of p).exports
+  pub groups : AllByRecursion (λ g. group_left_out g ≡ None) p.main.imports.modules
+  pub export_roles : AllByRecursion (λ e. export_left_out e.1 ≡ None) p.main.exports.exports
+  pub alone : p.adapters ≡ []
+
+pub all_encoded : (p : WorldParts) → left_out p ≡ None → IsEncoded p
+all_encoded p h =
+    let a = neither (world_left_out (items_of p)) _ h in
+    let w = neither (first_some item_left_out (items_of p).imports) _ a.0 in
+    let b = neither (module_left_out p.main) (adapters_left_out p.adapters) a.1 in
+    let m = neither (first_some group_left_out p.main.imports.modules) _ b.0 in
+    record {
+      imports = none_picked item_left_out (items_of p).imports w.0;
+      exports = none_picked item_left_out (items_of p).exports w.1;
+      groups = none_picked group_left_out p.main.imports.modules m.0;
+      export_roles = none_picked (λ e. export_left_out e.1) p.main.exports.exports m.1;
+      alone = no_adapters p.adapters b.1;
+    }
+
+-- it tells nothing and something
+none_of : {X : Type 0} (reported : X → Option (List ℕ)) (xs : List X) (x : X) (what : List ℕ) → AllByRecursion (λ y. reported y ≡ None) xs → Contains xs x → reported x ≡ Some what → ⊥
+none_of reported xs x what h m e = nothing what (sym e ∙ AllByRecursion-contains (λ y. reported y ≡ None) xs x h m)
+
+by_cases : (p : WorldParts) → IsEncoded p → (f : Refusal) → IsLeftOut p f → ⊥
+by_cases p h f (imported entry what m e) = none_of item_left_out (items_of p).imports entry what h.imports m e
+by_cases p h f (exported entry what m e) = none_of item_left_out (items_of p).exports entry what h.exports m e
+by_cases p h f (import_role import what m e) = none_of (λ i. import_left_out i.role) (flat_map imports_from p.main.imports.modules) import what (imports_pass p.main.imports.modules h.groups) m e
+by_cases p h f (export_role entry what m e) = none_of (λ x. export_left_out x.1) p.main.exports.exports entry what h.export_roles m e
+by_cases p h f (whole_module name which m) = none_of group_left_out p.main.imports.modules (name, instances.Whole which) (codes "library") h.groups m refl
+by_cases p h f (adapter entry m) = not_there entry (subst (λ (as_list : List (List ℕ × WorldAdapter)). Contains as_list entry) h.alone m)
+
+-- ---- where something is told
+
+module _ (p : WorldParts) (what : List ℕ) where
+  of_group : (group : List ℕ × ImportInstance) → Contains p.main.imports.modules group → group_left_out group ≡ Some what → IsLeftOut p (refusals.LeftOut what)
+  of_group (name, instances.Names fields) m e =
+      let t = one_picked (λ f. import_left_out f.1) fields what e in
+      let import : CoreImport = record { module_name = name; field = t.element.0; role = t.element.1 } in
+      let there = Contains-map (λ f. record { module_name = name; field = f.0; role = f.1 }) fields t.element t.there in
+      import_role import what (in_flat_map imports_from p.main.imports.modules (name, instances.Names fields) import m.0 m.1 m.2 there) t.picks
+  of_group (name, instances.Whole which) m e = subst (λ (w : List ℕ). IsLeftOut p (refusals.LeftOut w)) (cc (e)) (whole_module name which m)
+
+  of_adapters : (adapters : List (List ℕ × WorldAdapter)) → p.adapters ≡ adapters → adapters_left_out adapters ≡ Some what → IsLeftOut p (refusals.LeftOut what)
+  of_adapters [] is e = nothing what (sym e)
+  of_adapters (a ∷ more) is e =
+      subst (λ (w : List ℕ). IsLeftOut p (refusals.LeftOut w)) (cc (e)) (adapter a (subst (λ (xs : List (List ℕ × WorldAdapter)). Contains xs a) (sym is) (at_front a more)))
+
+  of_world : world_left_out (items_of p) ≡ Some what → IsLeftOut p (refusals.LeftOut what)
+  of_world e = elim (one_of (first_some item_left_out (items_of p).imports) (first_some item_left_out (items_of p).exports) what e) [
+    | inl a ↦ let t = one_picked item_left_out (items_of p).imports what a in imported t.element what t.there t.picks
+    | inr b ↦ let t = one_picked item_left_out (items_of p).exports what b in exported t.element what t.there t.picks
+  ]
+
+  of_module : module_left_out p.main ≡ Some what → IsLeftOut p (refusals.LeftOut what)
+  of_module e = elim (one_of (first_some group_left_out p.main.imports.modules) (first_some (λ x. export_left_out x.1) p.main.exports.exports) what e) [
+    | inl a ↦ let t = one_picked group_left_out p.main.imports.modules what a in of_group t.element t.there t.picks
+    | inr b ↦ let t = one_picked (λ x. export_left_out x.1) p.main.exports.exports what b in export_role t.element what t.there t.picks
+  ]
+
+  of_rest : (module_left_out p.main ≡ Some what) ⊎ (adapters_left_out p.adapters ≡ Some what) → IsLeftOut p (refusals.LeftOut what)
+  of_rest (inl a) = of_module a
+  of_rest (inr b) = of_adapters p.adapters refl b
+
+  reported : left_out p ≡ Some what → IsLeftOut p (refusals.LeftOut what)
+  reported e = elim (one_of (world_left_out (items_of p)) _ what e) [
+    | inl a ↦ of_world a
+    | inr b ↦ of_rest (one_of (module_left_out p.main) (adapters_left_out p.adapters) what b)
+  ]
+
+-- ---- the whole
+
+left_nothing : (p : WorldParts) (o : Option (List ℕ)) (w : ComponentWorld) → left_out p ≡ o → unless_left_out o (whole_of p) ≡ Ok w → left_out p ≡ None
+left_nothing p None w is e = is
+left_nothing p (Some what) w is e = absurd cc
+
+-- where the world is made, no cause holds
+pub no_cause : (p : WorldParts) (w : ComponentWorld) → encoded p ≡ Ok w → (f : Refusal) → IsLeftOut p f → ⊥
+unfolding encoded
+no_cause p w e = by_cases p (all_encoded p (left_nothing p (left_out p) w refl e))
+
+refused_by : (p : WorldParts) (o : Option (List ℕ)) → left_out p ≡ o → (f : Refusal) → unless_left_out o (whole_of p) ≡ Err (failures.Refused f) → IsLeftOut p f
+refused_by p None is f e = absurd cc
+refused_by p (Some what) is f e = subst (λ (x : Refusal). IsLeftOut p x) (cc (e)) (reported p what is)
+
+-- where it is refused, that has a cause
+pub has_cause : {p : WorldParts} {e : Failure} {f : Refusal} → e ≡ failures.Refused f → (e ≢ failures.Memory → encoded p ≡ Err e) → IsLeftOut p f
+unfolding encoded
+has_cause {p} {e} {f} same unless =
+    let is : encoded p ≡ Err e = unless (λ m. cc) in
+    refused_by p (left_out p) refl f (is ∙ ap Err same)

@@ -1,0 +1,233 @@
+-- A world of which nothing is left out keeps the invariant of worlds.
+use Rattle.std.proofs.Common.{arith, rules, ◌≡◌, ◌<◌, length, ℕ, zero, suc, Bool, true, false, cond, ◌&&◌, List, [], ◌∷◌, map, Option, Some, None, refl, sym, ap, subst, ◌∙◌, true≢false}
+use Rattle.std.specs.Prelude.{◌==◌, codes, is_some, slice_get, slice_index_or, Contains, IsSome, if◌then◌else◌}
+use Rattle.std.specs.List.{IsDistinct, AllByRecursion, flat_map}
+use Rattle.std.specs.Map.{lookup, keys_of}
+use Rattle.std.specs.Option.{option_and_then}
+use Rattle.std.specs.Str.{bytes_eq}
+use Rattle.std.proofs.lemmas.Option.{slice_get-get_or}
+use Rattle.std.proofs.lemmas.Slice.Eq.{bytes_eq-Decides}
+use Rattle.comp_lists.proofs.Lists.{AllByRecursion-front, AllByRecursion-back}
+use Rattle.wit_data.specs.Keys.{is_same_key}
+use Rattle.wit_data.specs.declared.functions.AbiVariant.TheVariants.{GuestImport, GuestExport, GuestImportAsync}
+use Rattle.wit_data.specs.declared.functions.Function.{Function}
+use Rattle.wit_data.specs.declared.functions.FunctionKind.{FunctionKind}
+use Rattle.wit_data.specs.declared.functions.FunctionKind.TheVariants.{Freestanding}
+use Rattle.wit_data.specs.declared.functions.Param.{Param}
+use Rattle.wit_data.specs.declared.ids.InterfaceId.{InterfaceId}
+use Rattle.wit_data.specs.declared.ids.TypeId.{TypeId}
+use Rattle.wit_data.specs.declared.types.Type.{«Type» as Ty}
+use Rattle.wit_data.specs.declared.worlds.World.{World}
+use Rattle.wit_data.specs.declared.worlds.WorldItem.{WorldItem}
+use Rattle.wit_data.specs.declared.worlds.WorldItem.TheVariants as items
+use Rattle.wit_data.specs.declared.worlds.WorldKey.{WorldKey}
+use Rattle.wit_data.specs.declared.worlds.WorldKey.TheVariants as keys
+use Rattle.comp_roles.specs.CoreImports.{imports_from}
+use Rattle.comp_roles.specs.declared.exports.Export.{Export}
+use Rattle.comp_roles.specs.declared.exports.Export.TheVariants as exports
+use Rattle.comp_roles.specs.declared.imports.Import.{Import}
+use Rattle.comp_roles.specs.declared.imports.Import.TheVariants as imports
+use Rattle.comp_roles.specs.declared.imports.ImportInstance.{ImportInstance}
+use Rattle.comp_roles.specs.declared.imports.ImportInstance.TheVariants as instances
+use Rattle.comp_worlds.specs.Mentions.{function_in, root_function_at}
+use Rattle.comp_worlds.specs.Worlds.{no_items, root_function, core_name_of, IsWorld, IsPlain, IsItem, IsImportRole, IsImportGroup, IsExportRole, IsRequired, whole_of}
+use Rattle.comp_worlds.specs.declared.world.ComponentWorld.{ComponentWorld}
+use Rattle.comp_worlds.specs.declared.world.WorldParts.{WorldParts}
+use Rattle.record_core_types.specs.Asked.{imported_function, exported_function}
+use Rattle.record_core_types.specs.Guarantees.{IsCalled, IsLifted, IsKept}
+use Rattle.record_resolve.specs.Resolved.{IsNamed}
+use Rattle.supported_worlds.specs.Apart.{FieldsApart, AreApart}
+use Rattle.supported_worlds.specs.LeftOut.{items_of, kind_left_out, function_left_out, item_left_out, import_left_out, export_left_out, group_left_out, left_out}
+use Rattle.supported_worlds.specs.Guarantees.{HasSoundParts}
+use Rattle.supported_worlds.proofs.Lists.{nothing, at_front, after, none_picked}
+use Rattle.supported_worlds.proofs.Reporting.{IsEncoded, all_encoded}
+
+abbrev Entries : Type 0
+Entries = List (WorldKey × WorldItem)
+
+-- ---- items
+
+some_params : (ps : List Param) → (suc (length ps) == 0) ≡ false
+some_params ps = Prim.search rules
+
+plain_parts : (params : List Param) (result : Option Ty) (kind : FunctionKind)
+    → (if length params == 0 then (if is_some result then Some (codes "result") else kind_left_out kind) else Some (codes "params")) ≡ None
+    → (params ≡ []) × (result ≡ None) × (kind ≡ Freestanding)
+plain_parts [] None Freestanding h = (refl, refl, refl)
+plain_parts [] None kind h = nothing _ h
+plain_parts [] (Some t) kind h = nothing _ h
+plain_parts (p ∷ ps) result kind h = nothing _ (ap (λ b. if b then (if is_some result then Some (codes "result") else kind_left_out kind) else Some (codes "params")) (sym (some_params ps)) ∙ h)
+
+plain : (f : Function) → function_left_out f ≡ None → IsPlain f
+plain f h = let are = plain_parts f.params f.result f.kind h in record { kind = are.2; params = are.0; result = are.1 }
+
+item : (e : WorldKey × WorldItem) → item_left_out e ≡ None → IsNamed e → IsItem e
+item (keys.Name text, items.Function f) h named = (sym named, plain f h)
+item (keys.Interface id, items.Function f) h named = nothing _ h
+item (key, items.Interface id) h named = nothing _ h
+item (key, items.NamedType id) h named = nothing _ h
+
+all_items : (es : Entries) → AllByRecursion (λ e. item_left_out e ≡ None) es → AllByRecursion IsNamed es → AllByRecursion IsItem es
+all_items [] h named = tt
+all_items (e ∷ es) h named = (item e h.0 named.0, all_items es h.1 named.1)
+
+-- no interface and no type is one
+no_interface : {P : Type 0} (key : WorldKey) (id : InterfaceId) → IsItem (key, items.Interface id) → P
+no_interface (keys.Name text) id h = absurd h
+no_interface (keys.Interface other) id h = absurd h
+
+no_type : {P : Type 0} (key : WorldKey) (id : TypeId) → IsItem (key, items.NamedType id) → P
+no_type (keys.Name text) id h = absurd h
+no_type (keys.Interface other) id h = absurd h
+
+-- ---- names
+
+left_false : (b : Bool) → (b && true) ≡ false → b ≡ false
+left_false true h = h
+left_false false h = h
+
+other_names : (n : List ℕ) (es : Entries) → AllByRecursion IsItem es → AllByRecursion (λ k. is_same_key (keys.Name n) k ≡ false) (keys_of es) → AllByRecursion (λ m. bytes_eq n m ≡ false) (flat_map root_function es)
+other_names n [] is h = tt
+other_names n ((keys.Name m, items.Function f) ∷ es) is h = (left_false (bytes_eq n m) h.0, other_names n es is.1 h.1)
+other_names n ((keys.Interface id, items.Function f) ∷ es) is h = absurd is.0
+other_names n ((key, items.Interface id) ∷ es) is h = no_interface key id is.0
+other_names n ((key, items.NamedType id) ∷ es) is h = no_type key id is.0
+
+names_apart : (es : Entries) → AllByRecursion IsItem es → IsDistinct is_same_key (keys_of es) → IsDistinct bytes_eq (flat_map root_function es)
+unfolding IsDistinct
+names_apart [] is h = tt
+names_apart ((keys.Name n, items.Function f) ∷ es) is h = (other_names n es is.1 h.0, names_apart es is.1 h.1)
+names_apart ((keys.Interface id, items.Function f) ∷ es) is h = absurd is.0
+names_apart ((key, items.Interface id) ∷ es) is h = no_interface key id is.0
+names_apart ((key, items.NamedType id) ∷ es) is h = no_type key id is.0
+
+-- ---- functions that are found
+
+-- a function that is found at a name is among the functions of the items
+name_there : (text : List ℕ) (es : Entries) → AllByRecursion IsItem es → IsSome (root_function_at es (keys.Name text)) → Contains (flat_map root_function es) text
+name_there text [] is h = absurd (true≢false (sym h))
+name_there text ((keys.Name m, items.Function f) ∷ es) is h = by (bytes_eq text m) refl h (name_there text es is.1)
+  where
+    by : (b : Bool) → bytes_eq text m ≡ b → IsSome (option_and_then function_in (cond (b && true) (Some (items.Function f)) (lookup (is_same_key (keys.Name text)) es)))
+        → (IsSome (root_function_at es (keys.Name text)) → Contains (flat_map root_function es) text) → Contains (m ∷ flat_map root_function es) text
+    by true same h more = subst (λ (t : List ℕ). Contains (t ∷ flat_map root_function es) text) ((bytes_eq-Decides text m).0 same) (at_front text (flat_map root_function es))
+    by false same h more = after m (flat_map root_function es) text (more h)
+name_there text ((keys.Interface id, items.Function f) ∷ es) is h = absurd is.0
+name_there text ((key, items.Interface id) ∷ es) is h = no_interface key id is.0
+name_there text ((key, items.NamedType id) ∷ es) is h = no_type key id is.0
+
+-- a key is a name, at which a function is found
+record IsRoot (es : Entries) (key : WorldKey) : Type 0 where
+  text : List ℕ
+  function : Function
+  is : key ≡ keys.Name text
+  there : root_function_at es (keys.Name text) ≡ Some function
+
+with_entry : (m : List ℕ) (f : Function) (es : Entries) (key : WorldKey) → IsRoot es key → IsRoot ((keys.Name m, items.Function f) ∷ es) key
+with_entry m f es key r = by (bytes_eq r.text m) refl
+  where
+    found_with : Bool → Option Function
+    found_with b = option_and_then function_in (cond (b && true) (Some (items.Function f)) (lookup (is_same_key (keys.Name r.text)) es))
+
+    by : (b : Bool) → bytes_eq r.text m ≡ b → IsRoot ((keys.Name m, items.Function f) ∷ es) key
+    by true same = record { text = r.text; function = f; is = r.is; there = ap found_with same }
+    by false same = record { text = r.text; function = r.function; is = r.is; there = ap found_with same ∙ r.there }
+
+root_at : (es : Entries) (k : ℕ) (key : WorldKey) → AllByRecursion IsItem es → k < length (map (λ e. e.0) es) → slice_index_or (map (λ e. e.0) es) k key ≡ key → IsRoot es key
+root_at [] k key is l e = absurd (omega arith)
+root_at ((keys.Name m, items.Function f) ∷ es) zero key is l e =
+    record { text = m; function = f; is = sym e; there = ap (λ b. option_and_then function_in (cond (b && true) (Some (items.Function f)) (lookup (is_same_key (keys.Name m)) es))) ((bytes_eq-Decides m m).1 refl) }
+root_at ((keys.Name m, items.Function f) ∷ es) (suc k) key is l e = with_entry m f es key (root_at es k key is.1 (omega arith) e)
+root_at ((keys.Interface id, items.Function f) ∷ es) k key is l e = absurd is.0
+root_at ((other, items.Interface id) ∷ es) k key is l e = no_interface other id is.0
+root_at ((other, items.NamedType id) ∷ es) k key is l e = no_type other id is.0
+
+-- ---- the world
+
+module _ (p : WorldParts) (present : HasSoundParts p) (encoded : IsEncoded p) (apart : AreApart p) where
+  imports_are : AllByRecursion IsItem (items_of p).imports
+  imports_are = all_items (items_of p).imports encoded.imports present.named.imports
+
+  exports_are : AllByRecursion IsItem (items_of p).exports
+  exports_are = all_items (items_of p).exports encoded.exports present.named.exports
+
+  the_world : slice_get p.resolve.worlds p.world.index ≡ Some (items_of p)
+  the_world = slice_get-get_or p.resolve.worlds p.world.index no_items present.present
+
+  -- the functions of the world are those of its items
+  imported_is : (key : WorldKey) → imported_function p.resolve p.world key ≡ root_function_at (items_of p).imports key
+  imported_is key = ap (λ (o : Option World). option_and_then (λ w. root_function_at w.imports key) o) the_world
+
+  exported_is : (key : WorldKey) → exported_function p.resolve p.world key ≡ root_function_at (items_of p).exports key
+  exported_is key = ap (λ (o : Option World). option_and_then (λ w. root_function_at w.exports key) o) the_world
+
+  import_role : (role : Import) → import_left_out role ≡ None → IsCalled p.resolve p.world role → IsImportRole (whole_of p) role
+  import_role (imports.WorldFunc (keys.Name text) name GuestImport) h called =
+      (name_there text (items_of p).imports imports_are (subst (λ (o : Option Function). IsSome o) (imported_is (keys.Name text)) called.1), called.0, refl)
+  import_role (imports.WorldFunc (keys.Interface id) name GuestImportAsync) h called = nothing _ h
+  import_role role h called = nothing _ h
+
+  field_roles : (name : List ℕ) (fields : List (List ℕ × Import)) → AllByRecursion (λ f. import_left_out f.1 ≡ None) fields
+      → AllByRecursion (λ i. IsCalled p.resolve p.world i.role) (imports_from (name, instances.Names fields)) → AllByRecursion (λ f. IsImportRole (whole_of p) f.1) fields
+  field_roles name [] h called = tt
+  field_roles name (f ∷ fields) h called = (import_role f.1 h.0 called.0, field_roles name fields h.1 called.1)
+
+  import_group : (group : List ℕ × ImportInstance) → group_left_out group ≡ None → FieldsApart group.1 → AllByRecursion (λ i. IsCalled p.resolve p.world i.role) (imports_from group)
+      → IsImportGroup (whole_of p) group
+  import_group (name, instances.Names fields) h alone called = (alone, field_roles name fields (none_picked (λ f. import_left_out f.1) fields h) called)
+  import_group (name, instances.Whole which) h alone called = nothing _ h
+
+  import_groups : (groups : List (List ℕ × ImportInstance)) → AllByRecursion (λ g. group_left_out g ≡ None) groups → AllByRecursion (λ g. FieldsApart g.1) groups
+      → AllByRecursion (λ i. IsCalled p.resolve p.world i.role) (flat_map imports_from groups) → AllByRecursion (IsImportGroup (whole_of p)) groups
+  import_groups [] h alone called = tt
+  import_groups (g ∷ groups) h alone called = (
+    import_group g h.0 alone.0 (AllByRecursion-front (λ i. IsCalled p.resolve p.world i.role) (imports_from g) (flat_map imports_from groups) called),
+    import_groups groups h.1 alone.1 (AllByRecursion-back (λ i. IsCalled p.resolve p.world i.role) (imports_from g) (flat_map imports_from groups) called),
+  )
+
+  export_role : (role : Export) → export_left_out role ≡ None → IsLifted p.resolve p.world role → IsExportRole (whole_of p) role
+  export_role (exports.WorldFunc (keys.Name text) name GuestExport) h lifted =
+      (name_there text (items_of p).exports exports_are (subst (λ (o : Option Function). IsSome o) (exported_is (keys.Name text)) lifted.1), lifted.0, refl)
+  export_role (exports.WorldFunc (keys.Interface id) name GuestExport) h lifted = nothing _ h
+  export_role role h lifted = nothing _ h
+
+  export_roles : (all : List (List ℕ × Export)) → AllByRecursion (λ e. export_left_out e.1 ≡ None) all → AllByRecursion (λ e. IsLifted p.resolve p.world e.1) all
+      → AllByRecursion (λ e. IsExportRole (whole_of p) e.1) all
+  export_roles [] h lifted = tt
+  export_roles (e ∷ all) h lifted = (export_role e.1 h.0 lifted.0, export_roles all h.1 lifted.1)
+
+  required : (key : WorldKey) → IsKept p.resolve p.world p.main.exports.exports key → IsRequired (whole_of p) key
+  required key kept =
+      let root = root_at (items_of p).exports kept.exported.0 key exports_are kept.exported.1 kept.exported.2 in
+      let is : exported_function p.resolve p.world key ≡ Some root.function = ap (exported_function p.resolve p.world) root.is ∙ (exported_is (keys.Name root.text) ∙ root.there) in
+      record {
+        exported = kept.exported;
+        present = subst (λ (k : WorldKey). IsSome (core_name_of (whole_of p) k)) (sym root.is) (kept.present root.text root.function root.is is);
+      }
+
+  all_required : (ks : List WorldKey) → AllByRecursion (IsKept p.resolve p.world p.main.exports.exports) ks → AllByRecursion (IsRequired (whole_of p)) ks
+  all_required [] h = tt
+  all_required (k ∷ ks) h = (required k h.0, all_required ks h.1)
+
+  whole_is_world : IsWorld (whole_of p)
+  whole_is_world = record {
+    sound = present.sound;
+    present = present.present;
+    core = present.core;
+    imports = imports_are;
+    exports = exports_are;
+    import_names_apart = names_apart (items_of p).imports imports_are apart.items.imports;
+    export_names_apart = names_apart (items_of p).exports exports_are apart.items.exports;
+    modules_apart = apart.groups.modules;
+    import_roles = import_groups p.main.imports.modules encoded.groups apart.groups.fields present.called;
+    export_roles = export_roles p.main.exports.exports encoded.export_roles present.lifted;
+    required = all_required p.main_exports present.kept;
+    alone = encoded.alone;
+    import_map = refl;
+    live_type_imports = refl;
+    exports_used = refl;
+  }
+
+-- the world of these parts is a world
+pub is_world : (p : WorldParts) (w : ComponentWorld) → HasSoundParts p → None ≡ left_out p → AreApart p → w ≡ whole_of p → IsWorld w
+is_world p w present none apart made = subst IsWorld (sym made) (whole_is_world p present (all_encoded p (sym none)) apart)

@@ -1,0 +1,23 @@
+-- A walk over groups of imports that sees of each that its fields are apart.
+use Rattle.std.proofs.Common.{ℕ, List, [], ◌∷◌}
+use Rattle.std.specs.List.{AllByRecursion, IsDistinct}
+use Rattle.std.specs.Map.{keys_of}
+use Rattle.std.specs.Str.{bytes_eq}
+use Rattle.comp_roles.specs.declared.imports.ImportInstance.{ImportInstance}
+use Rattle.supported_worlds.specs.Apart.{FieldsApart, GroupsApart}
+
+abbrev Groups : Type 0
+Groups = List (List ℕ × ImportInstance)
+
+-- all are, where those are that are left
+pub record StillApart (rest all : Groups) : Type 0 where
+  pub then : AllByRecursion (λ g. FieldsApart g.1) rest → AllByRecursion (λ g. FieldsApart g.1) all
+
+pub start : (all : Groups) → StillApart all all
+start all = record { then = λ h. h }
+
+pub step : (all rest : Groups) (group : List ℕ × ImportInstance) → StillApart (group ∷ rest) all → FieldsApart group.1 → StillApart rest all
+step all rest group h apart = record { then = λ k. h.then (apart, k) }
+
+pub end : (all : Groups) → StillApart [] all → IsDistinct bytes_eq (keys_of all) → GroupsApart all
+end all h modules = record { modules = modules; fields = h.then tt }

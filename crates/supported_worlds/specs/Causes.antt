@@ -1,0 +1,26 @@
+-- When the refusal of a world is right: something of it isn't encoded yet. (This project's own.)
+use Rattle.std.specs.Prelude.{◌≡◌, ℕ, List, codes, Some, Contains}
+use Rattle.std.specs.List.{flat_map}
+use Rattle.wit_data.specs.declared.worlds.WorldItem.{WorldItem}
+use Rattle.wit_data.specs.declared.worlds.WorldKey.{WorldKey}
+use Rattle.comp_roles.specs.CoreImports.{CoreImport, imports_from}
+use Rattle.comp_roles.specs.declared.exports.Export.{Export}
+use Rattle.comp_roles.specs.declared.imports.ImportInstance.TheVariants as instances
+use Rattle.comp_roles.specs.declared.libraries.MainOrAdapter.{MainOrAdapter}
+use Rattle.comp_worlds.specs.declared.world.WorldAdapter.{WorldAdapter}
+use Rattle.comp_worlds.specs.declared.world.WorldParts.{WorldParts}
+use Rattle.record_faults.specs.declared.fault.Refusal.{Refusal}
+use Rattle.record_faults.specs.declared.fault.Refusal.TheVariants as refusals
+use Rattle.supported_worlds.specs.LeftOut.{items_of, item_left_out, import_left_out, export_left_out}
+
+pub data IsLeftOut (p : WorldParts) : Refusal → Type 0 where
+  -- an import or an export of the world
+  imported : (entry : WorldKey × WorldItem) (what : List ℕ) → Contains (items_of p).imports entry → item_left_out entry ≡ Some what → IsLeftOut p (refusals.LeftOut what)
+  exported : (entry : WorldKey × WorldItem) (what : List ℕ) → Contains (items_of p).exports entry → item_left_out entry ≡ Some what → IsLeftOut p (refusals.LeftOut what)
+  -- what an import or an export of main is for
+  import_role : (import : CoreImport) (what : List ℕ) → Contains (flat_map imports_from p.main.imports.modules) import → import_left_out import.role ≡ Some what → IsLeftOut p (refusals.LeftOut what)
+  export_role : (entry : List ℕ × Export) (what : List ℕ) → Contains p.main.exports.exports entry → export_left_out entry.1 ≡ Some what → IsLeftOut p (refusals.LeftOut what)
+  -- a whole module meets what main imports from one
+  whole_module : (name : List ℕ) (which : MainOrAdapter) → Contains p.main.imports.modules (name, instances.Whole which) → IsLeftOut p (refusals.LeftOut (codes "library"))
+  -- an adapter
+  adapter : (entry : List ℕ × WorldAdapter) → Contains p.adapters entry → IsLeftOut p (refusals.LeftOut (codes "adapter"))

@@ -1,0 +1,109 @@
+-- What of a world is encoded yet: functions at its root that are synchronous and have no parameters and no result, and core
+-- imports and exports that are for one of them. All else is left out, and is told under the name of its kind. (The names are
+-- those of this project's record.)
+use Rattle.std.specs.Prelude.{ℕ, ◌==◌, List, [], ◌∷◌, length, codes, Option, Some, None, Result, Ok, Err, is_some, get_or, if◌then◌else◌}
+use Rattle.std.specs.Option.{option_or}
+use Rattle.wit_data.specs.declared.functions.AbiVariant.TheVariants.{GuestImport, GuestExport, GuestImportAsync}
+use Rattle.wit_data.specs.declared.functions.Function.{Function}
+use Rattle.wit_data.specs.declared.functions.FunctionKind.{FunctionKind}
+use Rattle.wit_data.specs.declared.functions.FunctionKind.TheVariants.{Freestanding, AsyncFreestanding}
+use Rattle.wit_data.specs.declared.worlds.World.{World}
+use Rattle.wit_data.specs.declared.worlds.WorldItem.{WorldItem}
+use Rattle.wit_data.specs.declared.worlds.WorldItem.TheVariants as items
+use Rattle.wit_data.specs.declared.worlds.WorldKey.{WorldKey}
+use Rattle.wit_data.specs.declared.worlds.WorldKey.TheVariants as keys
+use Rattle.comp_roles.specs.Lookups.{first_some}
+use Rattle.comp_roles.specs.declared.exports.Export.{Export}
+use Rattle.comp_roles.specs.declared.exports.Export.TheVariants as exports
+use Rattle.comp_roles.specs.declared.imports.Import.{Import}
+use Rattle.comp_roles.specs.declared.imports.Import.TheVariants as imports
+use Rattle.comp_roles.specs.declared.imports.ImportInstance.{ImportInstance}
+use Rattle.comp_roles.specs.declared.imports.ImportInstance.TheVariants as instances
+use Rattle.comp_worlds.specs.Worlds.{no_items, whole_of}
+use Rattle.comp_worlds.specs.declared.world.ComponentWorld.{ComponentWorld}
+use Rattle.comp_worlds.specs.declared.world.ValidatedModule.{ValidatedModule}
+use Rattle.comp_worlds.specs.declared.world.WorldAdapter.{WorldAdapter}
+use Rattle.comp_worlds.specs.declared.world.WorldParts.{WorldParts}
+use Rattle.record_faults.specs.declared.fault.Failure.{Failure}
+use Rattle.record_faults.specs.declared.fault.Failure.TheVariants as failures
+use Rattle.record_faults.specs.declared.fault.Refusal.TheVariants as refusals
+use Rattle.supported_worlds.specs.Kinds.{import_kind, export_kind}
+
+-- ---- items of a world
+
+-- a kind of function that is asynchronous, or that belongs to a resource
+abbrev pub kind_left_out : FunctionKind → Option (List ℕ)
+kind_left_out Freestanding = None
+kind_left_out AsyncFreestanding = Some (codes "async")
+kind_left_out kind = Some (codes "type")
+
+-- a function at the root that has parameters, or a result, or is of such a kind
+abbrev pub function_left_out : Function → Option (List ℕ)
+function_left_out f =
+    if length f.params == 0 then (if is_some f.result then Some (codes "result") else kind_left_out f.kind) else Some (codes "params")
+
+-- an import or an export of the world
+abbrev pub item_left_out : WorldKey × WorldItem → Option (List ℕ)
+item_left_out (keys.Name text, items.Function f) = function_left_out f
+item_left_out (keys.Interface id, items.Function f) = Some (codes "interface")
+item_left_out (key, items.Interface id) = Some (codes "interface")
+item_left_out (key, items.NamedType id) = Some (codes "type")
+
+-- ---- roles
+
+-- what main imports, unless it is a root function that is called and waited for
+abbrev pub import_left_out : Import → Option (List ℕ)
+import_left_out (imports.WorldFunc (keys.Name text) name GuestImport) = None
+import_left_out (imports.WorldFunc key name GuestImportAsync) = Some (codes "async")
+import_left_out role = Some (import_kind role)
+
+-- what main exports, unless it is a root function that is called and waited for
+abbrev pub export_left_out : Export → Option (List ℕ)
+export_left_out (exports.WorldFunc (keys.Name text) name GuestExport) = None
+export_left_out (exports.WorldFunc (keys.Interface id) name GuestExport) = Some (codes "world-func")
+export_left_out (exports.WorldFunc key name abi) = Some (codes "async")
+export_left_out role = Some (export_kind role)
+
+-- the imports from one module: the first that is left out, or all of them where a whole module meets them
+abbrev pub instance_left_out : ImportInstance → Option (List ℕ)
+instance_left_out (instances.Names fields) = first_some (λ f. import_left_out f.1) fields
+instance_left_out (instances.Whole which) = Some (codes "library")
+
+abbrev pub group_left_out : List ℕ × ImportInstance → Option (List ℕ)
+group_left_out group = instance_left_out group.1
+
+-- ---- the whole
+
+-- the imports and exports of the world
+abbrev pub items_of : WorldParts → World
+items_of p = get_or p.resolve.worlds p.world.index no_items
+
+-- the first of the imports that is left out, or else of the exports
+abbrev pub world_left_out : World → Option (List ℕ)
+world_left_out w = option_or (first_some item_left_out w.imports) (first_some item_left_out w.exports)
+
+-- the same of a module's
+abbrev pub module_left_out : ValidatedModule → Option (List ℕ)
+module_left_out m = option_or (first_some group_left_out m.imports.modules) (first_some (λ e. export_left_out e.1) m.exports.exports)
+
+-- an adapter, if there is one
+abbrev pub adapters_left_out : List (List ℕ × WorldAdapter) → Option (List ℕ)
+adapters_left_out [] = None
+adapters_left_out (a ∷ more) = Some (codes "adapter")
+
+-- what of a world isn't encoded yet: of its items first, then of main, then of the adapters
+abbrev pub left_out : WorldParts → Option (List ℕ)
+left_out p = option_or (world_left_out (items_of p)) (option_or (module_left_out p.main) (adapters_left_out p.adapters))
+
+-- the refusal of what is left out
+abbrev pub refused : List ℕ → Failure
+refused what = failures.Refused (refusals.LeftOut what)
+
+-- the world, unless something of it is left out
+abbrev pub unless_left_out : Option (List ℕ) → ComponentWorld → Result ComponentWorld Failure
+unless_left_out None w = Ok w
+unless_left_out (Some what) w = Err (refused what)
+
+-- the world of these parts, where all of it is encoded yet
+unfoldable pub encoded : WorldParts → Result ComponentWorld Failure
+encoded p = unless_left_out (left_out p) (whole_of p)

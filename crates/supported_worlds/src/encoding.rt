@@ -1,0 +1,93 @@
+//! The world of its parts, where all of it is encoded yet.
+
+ghost use Rattle.std.specs.Prelude.{◌≡◌, ◌≢◌, ◌<◌, length, IfOk, IfErr, IsOk, None};
+ghost use Rattle.std.specs.Option.{option_copied};
+ghost use Rattle.comp_worlds.specs.Worlds.{IsWorld};
+ghost use Rattle.record_faults.specs.Faults.{Gives};
+ghost use Rattle.record_faults.specs.declared.fault.Failure.TheVariants as failures;
+ghost use Rattle.record_faults.specs.declared.fault.Refusal.{Refusal as RefusalValue};
+ghost use Rattle.supported_worlds.specs.Apart.{AreApart};
+ghost use Rattle.supported_worlds.specs.Causes.{IsLeftOut};
+ghost use Rattle.supported_worlds.specs.LeftOut.{adapters_left_out, left_out, refused, encoded};
+ghost use Rattle.supported_worlds.specs.Guarantees.{HasSoundParts};
+
+use crate::items::world_left_out;
+use crate::roles::module_left_out;
+use comp_lists::{Keyed, Text};
+use comp_worlds::{ComponentWorld, WorldAdapter, WorldParts};
+use record_faults::{Failure, Refusal};
+use std::alloc::Global;
+
+/// The refusal of what isn't encoded yet.
+fn refused(alloc: Global, what: &str) -> Failure
+    ensures { result ≢ failures.Memory → result ≡ refused what.now }
+{
+    match Text::from_str(alloc, what) {
+        Ok(what) => Failure::Refused(Refusal::LeftOut { what }),
+        Err(_) => Failure::Memory,
+    }
+}
+
+/// No world with an adapter is encoded yet.
+fn adapters_left_out(adapters: &Keyed<Text, WorldAdapter>) -> Option<&'static str>
+    ensures { option_copied result ≡ adapters_left_out adapters.now }
+{
+    let mut entries = adapters.entries();
+    match entries.next() {
+        Some(_) => Some("adapter"),
+        None => None,
+    }
+}
+
+/// What of a world isn't encoded yet; where nothing is left out, what has names stands once.
+fn left_out(parts: &WorldParts) -> Option<&'static str>
+    requires { parts.now.world.index < length parts.now.resolve.worlds }
+    ensures reported { option_copied result ≡ left_out parts.now }
+    ensures apart { option_copied result ≡ None → AreApart parts.now }
+{
+    let world = &parts.resolve.worlds.as_slice()[parts.world.index];
+    if let Some(what) = world_left_out(world) {
+        return Some(what);
+    }
+    match module_left_out(&parts.main) {
+        Some(what) => Some(what),
+        None => adapters_left_out(&parts.adapters),
+    }
+}
+
+/// The world of these parts, unless something of it is left out.
+#[tactic(auto, unfolding(crate::specs::LeftOut::encoded), using(crate::proofs::Valid::is_world))]
+fn unless_left_out(alloc: Global, parts: WorldParts) -> Result<ComponentWorld, Failure>
+    requires { HasSoundParts parts }
+    ensures exact { Gives (λ w. w) result (encoded parts) }
+    ensures valid { IfOk result IsWorld }
+{
+    match left_out(&parts) {
+        Some(what) => {
+            drop(parts);
+            Err(refused(alloc, what))
+        }
+        None => {
+            let world = ComponentWorld::of_parts(alloc, parts)?;
+            Ok(world)
+        }
+    }
+}
+
+/// The world of these parts, where all of it is encoded yet.
+///
+/// It refuses with `LeftOut` and the kind of something of the world that isn't: `params`, `result`, `async`, `interface` or
+/// `type` of an item of the world, the kind of a role of main's imports or exports, `library`, or `adapter`. The only other
+/// refusal is want of memory. Beside what `ComponentWorld::of_parts` does it takes time by the number of items, of core
+/// imports and of core exports.
+#[tactic(auto, using(crate::proofs::Reporting::no_cause, crate::proofs::Reporting::has_cause))]
+pub fn encoded_world(alloc: Global, parts: WorldParts) -> Result<ComponentWorld, Failure>
+    requires { HasSoundParts parts }
+    ensures exact { Gives (λ w. w) result (encoded parts) }
+    ensures valid { IfOk result IsWorld }
+    ensures refused { IsOk result → (f : RefusalValue) → IsLeftOut parts f → ⊥ }
+    ensures cause { IfErr result (λ e. (f : RefusalValue) → e ≡ failures.Refused f → IsLeftOut parts f) }
+{
+    let world = unless_left_out(alloc, parts)?;
+    Ok(world)
+}

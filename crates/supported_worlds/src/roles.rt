@@ -1,0 +1,97 @@
+//! What of main's imports and exports isn't encoded yet.
+
+ghost use Rattle.std.specs.Prelude.{◌≡◌, None};
+ghost use Rattle.std.specs.List.{IsDistinct};
+ghost use Rattle.std.specs.Map.{keys_of};
+ghost use Rattle.std.specs.Option.{option_copied};
+ghost use Rattle.std.specs.Str.{bytes_eq};
+ghost use Rattle.comp_roles.specs.Lookups.{first_some};
+ghost use Rattle.supported_worlds.specs.Apart.{FieldsApart, GroupsApart};
+ghost use Rattle.supported_worlds.specs.LeftOut.{import_left_out, export_left_out, instance_left_out, group_left_out, module_left_out};
+
+use crate::kinds::{export_kind, import_kind};
+use comp_lists::{Keyed, Text};
+use comp_roles::{Export, Import, ImportInstance};
+use comp_worlds::ValidatedModule;
+use wit_data::{AbiVariant, WorldKey};
+
+fn import_left_out(role: &Import) -> Option<&'static str>
+    ensures { option_copied result ≡ import_left_out role.now }
+{
+    match role {
+        Import::WorldFunc(WorldKey::Name(_), _, AbiVariant::GuestImport) => None,
+        Import::WorldFunc(_, _, AbiVariant::GuestImportAsync) => Some("async"),
+        _ => Some(import_kind(role)),
+    }
+}
+
+fn export_left_out(role: &Export) -> Option<&'static str>
+    ensures { option_copied result ≡ export_left_out role.now }
+{
+    match role {
+        Export::WorldFunc(WorldKey::Name(_), _, AbiVariant::GuestExport) => None,
+        Export::WorldFunc(_, _, AbiVariant::GuestExport) => Some("world-func"),
+        Export::WorldFunc(..) => Some("async"),
+        _ => Some(export_kind(role)),
+    }
+}
+
+/// What of the fields that are imported from one module is left out.
+fn fields_left_out(fields: &Keyed<Text, Import>) -> Option<&'static str>
+    ensures reported { option_copied result ≡ first_some (λ f. import_left_out f.1) fields.now }
+    ensures apart { IsDistinct bytes_eq (keys_of fields.now) }
+{
+    for (_, role) in fields.entries() {
+        if let Some(what) = import_left_out(role) {
+            return Some(what);
+        }
+    }
+    None
+}
+
+/// What of the imports from one module is left out, and that its fields are apart.
+fn instance_left_out(instance: &ImportInstance) -> Option<&'static str>
+    ensures reported { option_copied result ≡ instance_left_out instance.now }
+    ensures apart { FieldsApart instance.now }
+{
+    match instance {
+        ImportInstance::Names(fields) => fields_left_out(fields),
+        ImportInstance::Whole(_) => Some("library"),
+    }
+}
+
+/// What of all imports is left out; where nothing is, no module and no field of one stands twice.
+#[tactic(auto, using(crate::proofs::Walking::start, crate::proofs::Walking::step, crate::proofs::Walking::end))]
+fn groups_left_out(groups: &Keyed<Text, ImportInstance>) -> Option<&'static str>
+    ensures reported { option_copied result ≡ first_some group_left_out groups.now }
+    ensures apart { option_copied result ≡ None → GroupsApart groups.now }
+{
+    for (_, instance) in groups.entries() {
+        if let Some(what) = instance_left_out(instance) {
+            return Some(what);
+        }
+    }
+    None
+}
+
+fn exports_left_out(exports: &Keyed<Text, Export>) -> Option<&'static str>
+    ensures { option_copied result ≡ first_some (λ e. export_left_out e.1) exports.now }
+{
+    for (_, role) in exports.entries() {
+        if let Some(what) = export_left_out(role) {
+            return Some(what);
+        }
+    }
+    None
+}
+
+/// What of a module's imports and exports is left out; where nothing is, its imports stand once.
+pub(crate) fn module_left_out(main: &ValidatedModule) -> Option<&'static str>
+    ensures reported { option_copied result ≡ module_left_out main.now }
+    ensures apart { option_copied result ≡ None → GroupsApart main.now.imports.modules }
+{
+    match groups_left_out(&main.imports.modules) {
+        Some(what) => Some(what),
+        None => exports_left_out(&main.exports.exports),
+    }
+}
