@@ -41,7 +41,7 @@ pub puts_first : (a b : Option (List ℕ)) (x y : List ℕ) → Puts a b x false
 puts_first a b x y h =
     record { front = h.front; rest = h.rest ++ y; split = ap (λ u. u ++ y) h.split ∙ append_assoc h.front h.rest y; appended = h.appended; ends = λ w. absurd (true≢false (sym w)) }
 
--- what is written to a writer is a printed text
+-- a text that was put, as a line that was said
 pub said : (a b : Option (List ℕ)) (text : List ℕ) (whole : Bool) (IsLine : List ℕ → Type 0) → Puts a b text whole → IsLine text → Says a b IsLine
 said a b text whole IsLine h is = record { line = text; is_line = is; front = h.front; rest = h.rest; split = h.split; appended = h.appended }
 

@@ -18,7 +18,7 @@ events_of_put name bytes (Ok x) = Put name bytes ∷ []
 events_of_put name bytes (Err Device) = NotPut name bytes ∷ []
 events_of_put name bytes (Err Memory) = []
 
--- these events more, where the events are known
+-- with these events added, where the events are known
 abbrev pub happen : Option (List Event) → List Event → Option (List Event)
 happen known es = option_map (λ before. before ++ es) known
 

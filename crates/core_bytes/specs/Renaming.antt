@@ -49,7 +49,7 @@ own_index ps = unwrap_or (position is_own ps) 0
 abbrev pub with_own : List ℕ → List Part → Encoding
 with_own name ps = raw (others (take (own_index ps) ps)) ⊕ with_id 0x00 (named name) ⊕ raw (others (drop (own_index ps) ps))
 
--- those parts
+-- the parts with this name, as a list
 abbrev pub other_parts : List Part → List Part
 other_parts ps = filter (λ p. not (is_own p)) ps
 

@@ -42,7 +42,7 @@ cell_alike None now k l h = refl
 cell_alike (Some (Kept t v)) now k l h = h v now
 cell_alike (Some (Foreign what t)) now k l h = given_alike t now.answers now k l h
 
--- what follows a read
+-- a read and its continuation
 if_then : (b : Bool) (x y z : Outcome) (k : List Value → Now → Outcome) → and_then x k ≡ y → and_then z k ≡ z → and_then (if b then x else z) k ≡ (if b then y else z)
 if_then true x y z k h g = h
 if_then false x y z k h g = g

@@ -38,7 +38,7 @@ table_shim_code n slot_index type = gets n ++ (I32Const slot_index ∷ CallIndir
 abbrev pub table_shim : ℕ → ℕ → ℕ → Body
 table_shim n slot_index type = plain (table_shim_code n (cast_signed w32 slot_index) type)
 
--- The bodies of shims from a slot on: each goes through its own slot.
+-- The bodies of shims from a slot on: each calls through its own slot.
 abbrev pub table_shims : ℕ → List Shim → List Body
 table_shims slot_index [] = []
 table_shims slot_index (s ∷ ss) = table_shim s.params slot_index s.type_index ∷ table_shims (slot_index + 1) ss

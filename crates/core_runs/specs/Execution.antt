@@ -1,6 +1,6 @@
 -- What generated code does: one instruction, a body, a call.
 -- Core standard, execution: instructions, function calls, with typed function references and tail calls. Calls of
--- functions that are known only by their names are events, and take an answer (this project's own).
+-- opaque functions, which are known only by a number, are events, and take an answer (this project's own).
 use Rattle.std.specs.Prelude.{ℕ, zero, suc, ◌+◌, ◌%◌, ◌^◌, Bool, true, false, if◌then◌else◌, List, [], ◌∷◌, ◌++◌, length, map, take, drop, reverse, Option, Some, None, slice_get, slice_set}
 use Rattle.core_types.specs.declared.types.ValType.{ValType}
 use Rattle.core_bytes.specs.declared.code.Instruction.{Instruction}

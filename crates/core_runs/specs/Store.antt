@@ -1,7 +1,7 @@
 -- What a run of generated code works on.
 -- Core standard, execution: store, addresses, module instances, function instances, table instances, global instances.
--- The store's lists only grow at their ends, so an address never changes its meaning. This project's own are: functions that are
--- known only by their names, the outside's answers to their calls, and the events that are seen from outside.
+-- The store's lists only grow at their ends, so an address never changes its meaning. This project's own are: opaque functions,
+-- which are known only by a number, the outside's answers to their calls, and the events that are seen from outside.
 use Rattle.std.specs.Prelude.{ℕ, List, Option}
 use Rattle.core_types.specs.declared.types.ValType.{ValType}
 use Rattle.core_types.specs.declared.types.FuncType.{FuncType}
@@ -18,7 +18,7 @@ pub record Frame : Type 0 where
   pub globals : List ℕ
   pub memories : List ℕ
 
--- funcinst: a function of a generated module, or one that is known only by its name
+-- funcinst: a function of a generated module, or an opaque one, known only by a number
 pub data Func : Type 0 where
   Generated : Frame → FuncType → List LocalRun → List Instruction → Func
   Opaque : ℕ → FuncType → Func

@@ -20,7 +20,7 @@ Reads Nothing results = Unit {0}
 Reads (Always moment) results = Unit {0}
 Reads ByStatus results = results ≡ I32 ∷ []
 
--- The frame's indices name a hook and a target, both known only by their names.
+-- The frame's indices name a hook and a target, both opaque: known only by their numbers.
 pub record NamesBoth (store : Store) (frame : Frame) (hook_index target_index hook : ℕ) (target : Known) : Type 0 where
   pub hook_what : ℕ
   pub target_what : ℕ

@@ -2,8 +2,8 @@
 //!
 //! The code of a module is [`core_bytes`]' values: lists of instructions. `specs/Execution.antt` says
 //! what they do, to be read next to the execution part of the core standard. A run works on a store of
-//! functions and tables that only grows; a function in it is one of a generated module, or one that is
-//! known only by its name, whose calls are events that the outside answers (`specs/Store.antt`).
+//! functions and tables that only grows; a function in it is one of a generated module, or an opaque one,
+//! known only by a number, whose calls are events that the outside answers (`specs/Store.antt`).
 //!
 //! The bodies are those of shims, which forward a call to the function in a slot of a table or in a global; of
 //! stubs; of wrappers, which call task hooks round a function ([`Bracket`]); of start functions

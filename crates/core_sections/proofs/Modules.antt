@@ -1,4 +1,4 @@
--- The same for whole modules.
+-- What is read is in the grammar, and the other way round: for whole modules.
 use Rattle.std.proofs.Common.{◌≡◌, ℕ, zero, suc, ◌+◌, ◌-◌, ◌≤◌, Bool, true, false, cond, List, [], ◌∷◌, ◌++◌, length, drop, Option, Some, None, Result, Ok, Err, refl, sym, ap, subst, ◌∙◌, arith, nat_eq}
 use Rattle.std.specs.Prelude.{ok_or, IfOk}
 use Rattle.std.specs.List.{flat_map, AllByRecursion, starts_with, list_any}

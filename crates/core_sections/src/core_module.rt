@@ -43,7 +43,7 @@ fn add_types(alloc: Global, so_far: CoreModule, contents: &[u8]) -> Result<CoreM
     })
 }
 
-/// What these imports are.
+/// The entity types of these imports.
 fn entities_of(alloc: Global, imports: &[CoreImport]) -> Result<Vec<EntityType>, AllocError>
     ensures { IfOk result (λ v. v.items ≡ map (λ i. i.entity) imports.now) }
 {
@@ -54,7 +54,7 @@ fn entities_of(alloc: Global, imports: &[CoreImport]) -> Result<Vec<EntityType>,
     Ok(entities)
 }
 
-/// Adds what these imports are, each of which names one of so many types, where it names one.
+/// Adds the entity types of these imports, each of which names one of so many types, where it names one.
 fn add_imported(
     alloc: Global,
     count: usize,

@@ -56,7 +56,7 @@ parts_long m types id = length-map (parts (kind_at types id)) (part_value m (val
 pub met_at : {A : Type 0} (m : Making A) (types : List TypeDef) (id n : ℕ) (b : A) (p : Option Ty) → n < length (parts (kind_at types id)) → b ≡ value m types p → p ≡ get_or (parts (kind_at types id)) n None → b ≡ get_or (part_values m types id) n m.absent
 met_at m types id n b p l c e = c ∙ (ap (λ q. value m types q) e ∙ sym (part_value_at m types id n l))
 
--- Of a type whose values have those of its parts in them, and of others.
+-- What is found in a type whose values contain those of its parts, and in other types.
 pub texts_entered : (types : List TypeDef) (id : ℕ) (k : TypeDefKind) (entered met : Bool) → RefersBack types → id < length types → k ≡ kind_at types id → entered ≡ is_entered k → entered ≡ true → met ≡ (false || list_any (λ b. b) (part_values finding_texts types id)) → met ≡ get_or (values finding_texts types) id false
 texts_entered types id k entered met s l e is is_inside found =
     let test : is_entered (kind_at types id) ≡ true = ap is_entered (sym e) ∙ (sym is ∙ is_inside) in
