@@ -49,7 +49,7 @@ own_index ps = unwrap_or (position is_own ps) 0
 abbrev pub with_own : List ℕ → List Part → Encoding
 with_own name ps = raw (others (take (own_index ps) ps)) ⊕ with_id 0x00 (named name) ⊕ raw (others (drop (own_index ps) ps))
 
--- the parts with this name, as a list
+-- the parts that aren't the name of the module
 abbrev pub other_parts : List Part → List Part
 other_parts ps = filter (λ p. not (is_own p)) ps
 
@@ -59,7 +59,7 @@ own_part name = record { id = 0; whole = (with_id 0x00 (named name)).bytes }
 abbrev pub named_parts : List ℕ → List Part → List Part
 named_parts name ps = other_parts (take (own_index ps) ps) ++ own_part name ∷ other_parts (drop (own_index ps) ps)
 
--- a section of names, which these parts were in
+-- a section of names with these parts and this name
 abbrev pub names_with : List ℕ → List Part → Encoding
 names_with name ps = with_id 0x00 (named name_section ⊕ with_own name ps)
 
