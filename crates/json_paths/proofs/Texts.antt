@@ -1,4 +1,4 @@
--- What bytes spell, as `from_slice` answers it.
+-- The value of JSON that bytes encode, as `from_slice` returns it.
 use Rattle.std.proofs.Common.{◌≡◌, ℕ, Bool, true, false, cond, List, Option, Some, None, Ok, Err, refl, ap, ◌∙◌}
 use Rattle.std.specs.Prelude.{ok_or}
 use Rattle.std.specs.Str.{IsUtf8, is_utf8}

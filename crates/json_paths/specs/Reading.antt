@@ -15,7 +15,7 @@ use Rattle.json_paths.specs.declared.fault.Refusal.TheVariants as refusals
 use Rattle.json_paths.specs.Faults.{◌>>=◌}
 use Rattle.json_paths.specs.Paths.{escaped}
 
--- a path goes through a part
+-- a failure below one part of a path: the part is put before the failure's path
 unfoldable pub under_refusal : List ℕ → Refusal → Refusal
 under_refusal part (refusals.Record path) = refusals.Record (47 ∷ escaped part ++ path)
 under_refusal part other = other
@@ -40,7 +40,7 @@ at_member key = failures.Refused (refusals.Record (47 ∷ escaped key ++ []))
 abbrev pub left_out : List ℕ → Failure
 left_out what = failures.Refused (refusals.LeftOut what)
 
--- a member that must be there
+-- a required member
 unfoldable pub required : List ℕ → Data → Result Data Failure
 required key d = ok_or (get key d) (at_member key)
 
@@ -58,7 +58,7 @@ only keys d = do
   ms ← ok_or (as_object d) here
   known keys ms
 
--- a text that is there
+-- a required text
 abbrev pub text_at : List ℕ → Data → Result (List ℕ) Failure
 text_at key d = do
   v ← required key d
@@ -118,6 +118,6 @@ list_if read key (Some v) = under key (list_of read v)
 abbrev pub list_at : {A : Type 0} → (Data → Result A Failure) → List ℕ → Data → Result (List A) Failure
 list_at read key d = list_if read key (get key d)
 
--- the value of JSON that bytes spell
+-- the value of JSON that bytes encode
 abbrev pub data_of : List ℕ → Result Data Failure
 data_of bytes = ok_or (if is_utf8 bytes then read bytes else None) (failures.Refused refusals.Json)

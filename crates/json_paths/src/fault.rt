@@ -1,9 +1,9 @@
-//! Why a value of JSON isn't what was asked for.
+//! Why a value of JSON isn't the one that is required.
 
 use comp_lists::Text;
 use std::alloc::{AllocError, AllocFailed};
 
-/// A refusal that isn't want of memory.
+/// A refusal other than out of memory.
 #[derive(Debug, Drop)]
 pub enum Refusal {
     /// The text is no JSON (RFC 8259).
@@ -12,7 +12,7 @@ pub enum Refusal {
     Record { path: Text },
     /// Something that isn't supported, or that passes a limit, by its name.
     LeftOut { what: Text },
-    /// What is said of this name in two places can't both hold.
+    /// What is said of this name at two positions contradicts itself.
     MergeConflict { name: Text },
 }
 

@@ -1,12 +1,12 @@
-//! Values of JSON as a record's reader wants them: members of objects and items of arrays, each with
-//! the path of the first value that is wrong.
+//! Values of JSON for a reader of records: members of objects and items of arrays, each with the path
+//! of the first value that is wrong.
 //!
 //! A fault has the JSON pointer (RFC 6901) of the offending value; a member that is missing or unknown
-//! has its own path. Upward each call promises exactly what its definition in `specs/Reading.antt` gives,
-//! unless memory runs out. Nothing here knows what a record says.
+//! has its own path. Each public call returns exactly what its definition in `specs/Reading.antt`
+//! gives, unless it runs out of memory. Nothing here knows the contents of a record.
 //!
 //! In reading order: `fault`, `paths` (JSON pointers), `members` (members of objects), `reading` (lists
-//! of anything), `text` (the value that a text spells).
+//! of anything), `text` (the JSON value of a text).
 #![tactic(auto)]
 
 mod fault;

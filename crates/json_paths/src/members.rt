@@ -31,7 +31,7 @@ pub fn fault_at(alloc: Global, key: &str) -> Failure
     fault_under(alloc, key, fault_here(alloc))
 }
 
-/// The fault with the path from the value above.
+/// The fault, its path seen from the value above.
 #[tactic(auto, unfolding(crate::specs::Reading::under_refusal))]
 pub fn fault_under(alloc: Global, part: &str, failure: Failure) -> Failure
     ensures { result ≢ Failure.Memory → result ≡ under_failure part.now failure }
@@ -65,7 +65,7 @@ pub fn under<T>(alloc: Global, part: &str, read: Result<T, Failure>) -> Result<T
     }
 }
 
-/// A member that must be there.
+/// A required member.
 #[tactic(auto, unfolding(crate::specs::Reading::required))]
 pub fn required<'v>(alloc: Global, value: &'v Value, key: &str) -> Result<&'v Value, Failure>
     ensures { Gives (λ v. view v.now) result (required key.now (view value.now)) }
@@ -114,7 +114,7 @@ pub fn check_members(alloc: Global, value: &Value, keys: &[&str]) -> Result<(), 
     Ok(())
 }
 
-/// A text that has to be there.
+/// A required text.
 pub fn text_member(alloc: Global, value: &Value, key: &str) -> Result<Text, Failure>
     ensures { Gives (λ t. t) result (text_at key.now (view value.now)) }
 {
@@ -129,7 +129,7 @@ pub fn read_bool(alloc: Global, value: &Value) -> Result<bool, Failure>
     value.as_bool().ok_or(fault_here(alloc))
 }
 
-/// A truth value, which is false where it isn't there.
+/// A truth value; false where the member is left out.
 pub fn bool_member(alloc: Global, value: &Value, key: &str) -> Result<bool, Failure>
     ensures { Gives (λ b. b) result (bool_if key.now (get key.now (view value.now))) }
 {

@@ -27,7 +27,7 @@ fn push_escaped(path: &mut String, part: &str) -> Result<(), AllocError>
     Ok(())
 }
 
-/// A path that begins with one part more.
+/// A path with one more part in front.
 pub(crate) fn under_part(alloc: Global, part: &str, path: &Text) -> Result<Text, AllocError>
     ensures { IfOk result (λ t. t ≡ 47 ∷ escaped part.now ++ path.now) }
 {

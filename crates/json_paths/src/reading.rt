@@ -12,7 +12,7 @@ use comp_lists::Seq;
 use serde_json::Value;
 use std::alloc::Global;
 
-/// A type that a value of JSON spells.
+/// A type that is read from a value of JSON.
 pub trait FromJson: Drop {
     ghost use Rattle.std.specs.Prelude.{Result};
     ghost use Rattle.serde_json.specs.Data.{Data};

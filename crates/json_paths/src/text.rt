@@ -1,4 +1,4 @@
-//! The value that a text spells.
+//! The JSON value of a text.
 
 ghost use Rattle.serde_json.specs.View.{view};
 ghost use Rattle.json_paths.specs.Faults.{Gives};
@@ -8,8 +8,8 @@ use crate::fault::{Failure, Refusal};
 use serde_json::{Category, Value};
 use std::alloc::Global;
 
-/// The value of JSON that bytes spell (RFC 8259). Of a member that stands twice, the last counts. The
-/// refusal is `Json`, also of bytes that are no UTF-8.
+/// The value of JSON that bytes encode (RFC 8259). Of a member that occurs twice, the last counts. The
+/// refusal is `Json`, also of bytes that are not UTF-8.
 pub fn read_value(alloc: Global, bytes: &[u8]) -> Result<Value, Failure>
     ensures { Gives view result (data_of bytes.now) }
 {

@@ -1,4 +1,4 @@
--- Roles that are met: what stands behind them, and why they can't be.
+-- Roles that were checked: what holds of them, and why they are refused.
 use Rattle.std.proofs.Common.{◌≡◌, ℕ, List, Result, Ok, Err, sym, subst}
 use Rattle.std.specs.Prelude.{IfErr, IsOk}
 use Rattle.std.specs.Result.{IsErrAnd}
@@ -27,7 +27,7 @@ use Rattle.plain_lower.specs.Preparing.{checked_roles, parts_of}
 use Rattle.plain_lower.specs.Guarantees.{IsUsable, AreChecked}
 use Rattle.plain_lower.specs.Causes.{ExportsCause, unfit, missing, RolesCause, of_imports, of_exports, CoreCause, unmet, not_yet}
 
--- the parts of main's world stand
+-- what holds of the parts of main's world
 pub present : (r : Resolved) (main : Part Bindgen) (core : CoreModule) (m : CheckedRoles) (p : WorldParts) → IsUsable r → IsCoreModule main.bytes → AreChecked r m → p ≡ parts_of r main core m → HasSoundParts p
 present r main core m p u bytes h is = subst (λ (x : WorldParts). HasSoundParts x) (sym is) (record {
   sound = u.sound;
@@ -40,7 +40,7 @@ present r main core m p u bytes h is = subst (λ (x : WorldParts). HasSoundParts
   kept = h.kept;
 })
 
--- what holds of the refusal holds of the one that a `?` hands out
+-- what holds of the refusal holds of the one that a `?` returns
 pub handed_out : {A : Type 0} (P : Refusal → Type 0) (r : Result A Failure) (d : Failure) → IsErrAnd r (λ e. e ≡ d) → ((f : Refusal) → d ≡ failures.Refused f → P f) → IfErr r (λ e. (f : Refusal) → e ≡ failures.Refused f → P f)
 handed_out P (Ok x) d is h = tt
 handed_out P (Err e) d is h = subst (λ (x : Failure). (f : Refusal) → x ≡ failures.Refused f → P f) (sym is) h
@@ -66,7 +66,7 @@ no_core_cause r main core m is met_all all_there f (unmet q c) = met_all f c
 no_core_cause r main core m is met_all all_there f (not_yet other q e c) =
     all_there f (subst (λ (x : CheckedRoles). IsLeftOut (parts_of r main core x) f) (same_ok (checked_roles r main core) other m e is) c)
 
--- ---- what the calls answer
+-- ---- what the calls return
 
 pub all_caused : (r : Resolved) (main : Part Bindgen) (core : CoreModule) (m : CheckedRoles) (answer : Result ComponentWorld Failure) → checked_roles r main core ≡ Ok m
     → IfErr answer (λ e. (f : Refusal) → e ≡ failures.Refused f → IsLeftOut (parts_of r main core m) f) → IfErr answer (λ e. (f : Refusal) → e ≡ failures.Refused f → CoreCause r main core f)

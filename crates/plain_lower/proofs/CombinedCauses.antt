@@ -1,4 +1,4 @@
--- When what all modules say can't be met.
+-- When the worlds of all modules can't be merged and resolved.
 use Rattle.std.proofs.Common.{arith, true≢false, ◌≡◌, Bool, List, [], ◌∷◌, ◌<◌, length, Result, Ok, Err, refl, sym, ap, subst, ◌∙◌}
 use Rattle.std.specs.Prelude.{◌≢◌, get_or, IfOk, IfErr, IsOk}
 use Rattle.std.specs.List.{AllByRecursion}
@@ -35,7 +35,7 @@ by_refusal merging w s (record_failures.Refused r) (Ok x) is made_is h other =
 pub resolving_caused : (merging : Bool) (w : Wit) (s : MergedVersions) (e : RecordFailure) → merged_versions merging w ≡ Ok s → (e ≢ record_failures.Memory → IsRefused (resolved s.wit) e) → of_record e ≢ failures.Memory → CombinedCause merging w (flat (of_record e))
 resolving_caused merging w s e is h other = by_refusal merging w s e (resolved s.wit) is refl (h (λ m. other (ap of_record m))) other
 
--- ---- what was met
+-- ---- what was resolved
 
 one_named : (ws : List World) → 0 < length ws → AllByRecursion AreNamed ws → AreNamed (get_or ws 0 no_items)
 one_named [] h all = absurd (omega (arith, h))
@@ -70,7 +70,7 @@ no_cause merging w s r is j f (not_whole t x e k bad) =
     let here : resolved s.wit ≡ Ok x = subst (λ (y : MergedVersions). resolved y.wit ≡ Ok x) same k in
     bad (subst (λ (y : Resolved). IsWhole y) (same_ok (resolved s.wit) j.plain x j.is_resolved here) j.is_whole)
 
--- ---- what the calls answer
+-- ---- what the calls return
 
 pub all_exact : (merging : Bool) (w : Wit) (s : MergedVersions) (r : Result Resolved Failure) → merged_versions merging w ≡ Ok s → IfOk r (IsCombined s) → IfOk r (λ x. combined merging w ≡ Ok x)
 all_exact merging w s (Ok x) is j = combined_is merging w s x is j

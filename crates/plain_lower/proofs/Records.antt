@@ -96,7 +96,7 @@ same_pieces bytes ps qs a b = let both : Ok ps ≡ Ok qs = sym (module_again byt
 
 -- ---- records
 
--- what is read of a first text and of the others
+-- what is read from a first text and from the others
 one_more : (x : Result Record RecordFailure) (rest : Result (List Record) RecordFailure) (rs : List Record) → (x >>+= λ r. rest >>+= λ more. Ok (r ∷ more)) ≡ Ok rs
     → (r : Record) × (more : List Record) × (x ≡ Ok r) × (rest ≡ Ok more) × (r ∷ more ≡ rs)
 one_more (Ok r) (Ok more) rs e = (r, more, refl, refl, cc (e))
@@ -143,7 +143,7 @@ stops (t ∷ texts) r e =
 
 -- ---- decoding
 
--- a failure to read or to join the module's records is a cause
+-- a failure to read or to merge the module's records is a cause
 pub said_caused : (bytes : List ℕ) (s : List ℕ × List (List ℕ)) (e : RecordFailure) → stripped bytes ≡ Ok s → SaidCause s.1 e → (e ≢ record_failures.Memory) → DecodeCause bytes (flat (of_record e))
 said_caused bytes s record_failures.Memory is c other = absurd (other refl)
 said_caused bytes s (record_failures.Refused r) is c other =
@@ -166,7 +166,7 @@ sections_caused bytes f h other = by (of_section f) refl
     by failures.Memory is = absurd (other is)
     by (failures.Refused r) is = section_caused bytes f r (h (λ m. other (ap of_section m))) is
 
--- what was read and joined has no cause of a refusal
+-- what was read and merged has no cause of a refusal
 pub no_cause : (bytes : List ℕ) (s : List ℕ × List (List ℕ)) (rs : List Record) → stripped bytes ≡ Ok s → records_in s.1 ≡ Ok rs → ((name : List ℕ) → RecordsConflict rs name → ⊥)
     → (f : PlainFault) → DecodeCause bytes f → ⊥
 no_cause bytes s rs is read_so apart f c = let t = taken bytes s is in by t.0 t.1 t.2 t.3 f c
@@ -187,7 +187,7 @@ no_cause bytes s rs is read_so apart f c = let t = taken bytes s is in by t.0 t.
         let same : records ≡ rs = same_lists (removed ps) records rs (subst (λ (qs : List Piece). AllZip IsRead (removed qs) records) (same_pieces bytes x.pieces ps x.whole m) x.read) all in
         apart name (subst (λ (qs : List Record). RecordsConflict qs name) same c)
 
--- ---- the steps, as calls answer them
+-- ---- the steps, as calls return them
 
 -- what holds of the failure holds of the one that a `?` makes of it
 pub handed_out : {A : Type 0} (P : Failure → Type 0) (r : Result A Failure) (d : Failure) → IsErrAnd r (λ e. e ≡ d) → (d ≢ failures.Memory → P d) → IfErr r (λ e. e ≢ failures.Memory → P e)
@@ -221,7 +221,7 @@ merge_caused a b (record_failures.Refused r) h other =
 pub merge_has_none : (a b : Bindgen) → ((name : List ℕ) → WorldConflict a.wit b.wit name → ⊥) → (f : PlainFault) → MergeCause a b f → ⊥
 merge_has_none a b h f (conflict_of_worlds name c) = h name c
 
--- ---- decoding, with the texts as the calls hand them on
+-- ---- decoding, with the texts as the calls pass them on
 
 pub decode_caused : (bytes kept : List ℕ) (texts held : List (List ℕ)) (e : RecordFailure) → stripped bytes ≡ Ok (kept, held) → texts ≡ held → (e ≢ record_failures.Memory → SaidCause texts e)
     → (of_record e ≢ failures.Memory) → DecodeCause bytes (flat (of_record e))

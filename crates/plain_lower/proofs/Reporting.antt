@@ -1,4 +1,4 @@
--- Faults that a `?` hands out.
+-- Faults that a `?` returns.
 use Rattle.std.proofs.Common.{◌≡◌, false, true≢false, Result, Ok, Err, sym, subst}
 use Rattle.std.specs.Prelude.{◌≢◌, IfErr}
 use Rattle.std.specs.Result.{IsErrAnd}
@@ -13,7 +13,7 @@ pub reported : {A : Type 0} (P : PlainFault → Type 0) (r : Result A PlainFault
 reported P (Ok x) d h k = tt
 reported P (Err e) d h k = subst (λ (f : PlainFault). is_memory f ≡ false → P f) (sym h) k
 
--- the same of a failure that has its cause unless it is want of memory
+-- the same of a failure that has its cause unless it is out of memory
 pub reported_unless_memory : {A : Type 0} (P : PlainFault → Type 0) (r : Result A PlainFault) (d : Failure) → IsErrAnd r (λ e. e ≡ flat d) → (d ≢ failures.Memory → P (flat d)) → IfErr r (λ f. is_memory f ≡ false → P f)
 reported_unless_memory P r d is h = reported P r d is (by d h)
   where

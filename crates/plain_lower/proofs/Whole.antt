@@ -76,7 +76,7 @@ no_cause g r t a j jn mn f (of_combined fault c) = jn f c
 no_cause g r t a j jn mn f (of_main other main fault is main_is c) =
     mn main main_is f (subst (λ (x : Resolved). MainCause x main f) (same_ok (combined g.options.merge_imports_based_on_semver g.combined.wit) other r is j) c)
 
--- ---- what the calls answer
+-- ---- what the calls return
 
 pub all_main_caused : (r : Resolved) (main : Part Bindgen) (core : CoreModule) (answer : Result ComponentWorld Failure) → module_of main.bytes ≡ Ok core
     → IfErr answer (λ e. (f : Refusal) → e ≡ failures.Refused f → CoreCause r main core f) → IfErr answer (λ e. e ≢ failures.Memory → MainCause r main (flat e))

@@ -1,4 +1,4 @@
--- What is known of names that were resolved, and of roles that were met with them.
+-- What is known of names that were resolved, and of roles that were checked against them.
 use Rattle.std.specs.Prelude.{◌≡◌, ◌<◌, length, get_or, Ok}
 use Rattle.std.specs.List.{flat_map, AllByRecursion}
 use Rattle.wit_data.specs.Sound.{IsSound}
@@ -22,14 +22,14 @@ pub record IsUsable (r : Resolved) : Type 0 where
   pub sound : IsSound r.resolve
   pub named : AreNamed (get_or r.resolve.worlds 0 no_items)
 
--- these are the names of a settled world, resolved and whole, and those that became others
+-- this is the resolve of a world with merged versions, which is whole, with the old names of the interfaces that became others
 pub record IsCombined (s : MergedVersions) (r : Resolved) : Type 0 where
   pub plain : Resolved
   pub is_resolved : resolved s.wit ≡ Ok plain
   pub is_whole : IsWhole plain
   pub is : r ≡ also_named s.renames plain
 
--- what main's roles name stands there, and what it has to export
+-- the world has what main's roles name, and what is required of its exports
 pub record AreChecked (r : Resolved) (m : CheckedRoles) : Type 0 where
   pub roles : AllByRecursion (λ i. HasRole r.resolve i.role) (flat_map imports_from m.imports.modules)
   pub called : AllByRecursion (λ i. IsCalled r.resolve world_id i.role) (flat_map imports_from m.imports.modules)

@@ -1,5 +1,5 @@
--- What the calls of this layer give where they are not refused, and the fault of memory. (The record is this
--- project's own.)
+-- The results of the calls of this layer where they are not refused, and the fault of memory. (The record is this project's
+-- own.)
 use Rattle.std.specs.Prelude.{ℕ, Bool, true, false, List, [], ◌∷◌}
 use Rattle.std.specs.Result.{result_unwrap_or}
 use Rattle.comp_worlds.specs.declared.gathered.Gathered.{Gathered}

@@ -13,7 +13,7 @@ use Rattle.record_faults.specs.declared.fault.Failure.{Failure}
 use Rattle.plain_lower.specs.Equalities.{tests, role_tests}
 use Rattle.record_faults.specs.Faults.{◌>>=◌, lifted, read}
 
--- the records that texts spell
+-- the records that texts encode
 abbrev pub records_in : List (List ℕ) → Result (List Record) RecordFailure
 records_in [] = Ok []
 records_in (text ∷ texts) = record_in text >>>= λ r. records_in texts >>>= λ rs. Ok (r ∷ rs)

@@ -1,8 +1,8 @@
 -- The validated world of what was gathered.
 --
--- Compatible versions of imported interfaces become one, where that is asked for; the names of what all modules say are
--- resolved; the roles of main's core imports and exports are met with them; and the world is made of these, as far as it is
--- encoded yet. (The record is this project's own.)
+-- Compatible versions of imported interfaces are merged, where merging is requested; the names in the world of all modules
+-- are resolved; the roles of main's core imports and exports are checked against the resolve; and the world is made of
+-- these, as far as it is encoded yet. (The record is this project's own.)
 use Rattle.std.specs.Prelude.{ℕ, ◌&&◌, Bool, List, [], ◌∷◌, Option, Some, None, Result, Ok, Err, is_some, not, codes, ⊤, if◌then◌else◌}
 use Rattle.std.specs.List.{list_any}
 use Rattle.wit_data.specs.declared.worlds.WorldKey.{WorldKey}
@@ -38,7 +38,7 @@ use Rattle.supported_worlds.specs.LeftOut.{encoded}
 
 -- ---- adapters
 
--- an adapter that is no library
+-- an adapter that is not a library
 abbrev pub is_plain : List ℕ × GatheredAdapter Bindgen → Bool
 is_plain a = not (is_some a.1.library_info)
 
@@ -57,9 +57,10 @@ none_there (a ∷ more) = Err (left_out (codes "adapter"))
 abbrev pub adapters_pass : Bool → Adapters → Result ⊤ Failure
 adapters_pass grows all = if grows && list_any is_plain all then Err (failures.Refused refusals.MemoryGrow) else none_there all
 
--- ---- what all modules say
+-- ---- the world of all modules
 
--- the names of what all modules say, once compatible versions are one; those that became others stay known
+-- the resolve of the world of all modules, once compatible versions are merged; the old names of those that became others
+-- are kept
 unfoldable pub combined : Bool → Wit → Result Resolved Failure
 combined merging w = do
   s ← read (merged_versions merging w)
@@ -72,7 +73,7 @@ combined merging w = do
 abbrev pub Offered : Type 0
 Offered = List (List ℕ × ExternType)
 
--- what main's core exports are for, and the keys of those that it has to have
+-- the roles of main's core exports, and the keys of those that are required of it
 unfoldable pub checked_exports : Resolved → Part Bindgen → CoreModule → Result (List (List ℕ × Export) × List WorldKey) Failure
 checked_exports r main core = do
   exported ← exports_of r main.own.roles.export_roles core
@@ -82,7 +83,7 @@ checked_exports r main core = do
 abbrev pub with_imports : List (List ℕ × ImportInstance) → List (List ℕ × Export) × List WorldKey → CheckedRoles
 with_imports imported exported = record { imports = record { modules = imported }; exports = exported.0; required = exported.1 }
 
--- these, and what its core imports are for
+-- these, and the roles of its core imports
 unfoldable pub checked_roles : Resolved → Part Bindgen → CoreModule → Result CheckedRoles Failure
 checked_roles r main core = do
   imported ← imports_of r main.own.roles.import_roles core
@@ -110,7 +111,7 @@ preparing_core r main core = checked_roles r main core >>= λ m. encoded (parts_
 unfoldable pub preparing_main : Resolved → Part Bindgen → Result ComponentWorld Failure
 preparing_main r main = lifted (module_of main.bytes) >>= λ core. preparing_core r main core
 
--- nothing at all is no module
+-- no bytes at all are not a module
 abbrev pub preparing_if : Resolved → Option (Part Bindgen) → Result ComponentWorld Failure
 preparing_if r None = Err (failures.Refused refusals.NotModule)
 preparing_if r (Some main) = preparing_main r main

@@ -12,7 +12,7 @@ use record_faults::{Failure, Refusal};
 use record_merge::Bindgen;
 use std::alloc::Global;
 
-/// The refusal of what isn't encoded yet.
+/// The refusal of what is not encoded yet.
 fn left_out<T>(alloc: Global, what: &str) -> Result<T, Failure>
     ensures { Gives (λ x. x) result (Err (left_out what.now)) }
 {
@@ -21,7 +21,7 @@ fn left_out<T>(alloc: Global, what: &str) -> Result<T, Failure>
     }))
 }
 
-/// Whether there is an adapter that is no library.
+/// Whether there is an adapter that is not a library.
 fn is_any_plain(adapters: &Keyed<Text, GatheredAdapter<Bindgen>>) -> bool
     ensures { result ≡ list_any is_plain adapters.now }
 {

@@ -1,4 +1,4 @@
-//! What main's core imports and exports are for.
+//! The roles of main's core imports and exports.
 
 ghost use Rattle.std.specs.Prelude.{◌≡◌, IfOk, IfErr, IsOk};
 ghost use Rattle.std.specs.List.{AllByRecursion};
@@ -24,7 +24,7 @@ use record_resolve::Resolved;
 use std::alloc::Global;
 use wit_data::WorldKey;
 
-/// What main's core imports and exports are for, and the keys of the exports that it has to have.
+/// The roles of main's core imports and exports, and the keys of the exports that are required of it.
 #[derive(Drop)]
 pub(crate) struct CheckedRoles {
     pub imports: ImportMap,
@@ -32,7 +32,7 @@ pub(crate) struct CheckedRoles {
     pub required: Seq<WorldKey>,
 }
 
-/// The core exports and the keys of those that main has to have.
+/// The core exports and the keys of those that are required of main.
 type CheckedExports = (Keyed<Text, Export>, Seq<WorldKey>);
 
 #[tactic(auto, unfolding(crate::specs::Preparing::checked_exports))]
@@ -70,7 +70,7 @@ fn with_imports(imports: ImportMap, exports: CheckedExports) -> CheckedRoles
     }
 }
 
-/// What the core imports and exports of a module are for, where its roles can be met.
+/// The roles of the core imports and exports of a module, where they resolve and fit its core types.
 #[tactic(auto, unfolding(crate::specs::Preparing::checked_roles))]
 pub(crate) fn check_roles(
     alloc: Global,

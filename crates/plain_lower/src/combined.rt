@@ -1,4 +1,4 @@
-//! What the names of all modules come to.
+//! The resolve of the world of all modules.
 
 ghost use Rattle.std.specs.Prelude.{◌≡◌, ◌≢◌, Bool, IfOk, IfErr, IsOk, Ok};
 ghost use Rattle.record_faults.specs.Faults.{flat};
@@ -18,7 +18,7 @@ use record_versions::{MergedVersions, merge_versions};
 use record_values::{InterfaceName, Wit};
 use std::alloc::{AllocError, Global};
 
-/// The same, in which interfaces that became others go by their old names too.
+/// The same resolve, in which interfaces that became others have their old names too.
 fn also_named(
     alloc: Global,
     resolved: Resolved,
@@ -36,7 +36,7 @@ fn also_named(
     }
 }
 
-/// What the names of a settled world come to.
+/// The resolve of a world with merged versions.
 fn resolve_merged(alloc: Global, merged_versions: &MergedVersions) -> Result<Resolved, Failure>
     ensures combined { IfOk result (IsCombined merged_versions.now) }
     ensures cause { IfErr result (λ e. e ≢ failures.Memory
@@ -46,8 +46,8 @@ fn resolve_merged(alloc: Global, merged_versions: &MergedVersions) -> Result<Res
     Ok(also_named(alloc, resolved, &merged_versions.renames)?)
 }
 
-/// What the names of all modules come to, once compatible versions of imported interfaces are one, where that is asked
-/// for.
+/// The resolve of the world of all modules, once compatible versions of imported interfaces are merged,
+/// where merging is requested.
 pub(crate) fn resolve_combined(alloc: Global, merging: bool, wit: &Wit) -> Result<Resolved, Failure>
     ensures exact { IfOk result (λ r. combined merging wit.now ≡ Ok r) }
     ensures usable { IfOk result IsUsable }

@@ -19,7 +19,7 @@ use record_roles::read_record;
 use record_values::Record;
 use std::alloc::Global;
 
-/// The records that texts spell.
+/// The records that texts encode.
 fn read_records(alloc: Global, texts: &[&[u8]]) -> Result<Seq<Record>, RecordFailure>
     ensures { GivesRecord (λ rs. rs) result (records_in (map (λ t. t.now) texts.now)) }
 {

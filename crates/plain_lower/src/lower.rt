@@ -10,7 +10,7 @@ use record_faults::PlainFault;
 use record_merge::{Bindgen, no_bindgen};
 use std::alloc::Global;
 
-/// A lower layer by records: what a module's component is to be stands as JSON in the custom sections
+/// A lower layer by records: the component of a module is described as JSON in the custom sections
 /// whose name begins `component-type`.
 #[derive(Clone, Copy, Debug, PartialEq, Eq)]
 pub struct PlainLower {}

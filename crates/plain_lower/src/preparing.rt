@@ -31,7 +31,7 @@ use record_resolve::Resolved;
 use std::alloc::{AllocError, Global};
 use wit_data::{Resolve, WorldId};
 
-/// What a module has beside what its imports and exports are for: its bytes, what it offers, and its encodings.
+/// What a module has besides its roles: its bytes, what it offers, and its string encodings.
 type Own = (Bytes, Keyed<Text, ExternType>, ModuleMetadata);
 
 fn own_of(
@@ -82,7 +82,7 @@ fn put_together(
     }
 }
 
-/// The parts of the world of main, whose roles are met.
+/// The parts of the world of main, whose roles were checked.
 fn parts_of(
     alloc: Global,
     resolved: Resolved,
@@ -97,7 +97,7 @@ fn parts_of(
     Ok(put_together(alloc, resolved.into_resolve(), own, checked_roles, slot_1))
 }
 
-/// The world of main, whose roles are met, where all of it is encoded yet.
+/// The world of main, whose roles were checked, where all of it is encoded yet.
 #[tactic(auto, using(crate::proofs::CheckingCauses::present))]
 fn world_of(
     alloc: Global,
@@ -168,7 +168,7 @@ fn prepare_main(
     }
 }
 
-/// The world of main, which is there.
+/// The world of main, which must be there.
 fn prepare_some(
     alloc: Global,
     resolved: Resolved,

@@ -41,7 +41,7 @@ unfolding IsDistinct
 distinct m [] h = tt
 distinct m (e ∷ es) h = distinct_one e.0 (item_type m e.1) (flat_map (offered_export m) es) (apart_all m e.0 es h.0) (distinct m es h.1)
 
--- an export that is offered isn't among what was offered before it
+-- an export that is offered is not among those that were offered before it
 pub not_yet : (m : CoreModule) (done : List (List ℕ × ExternType)) (iterator after : List (List ℕ × ExportedItem)) (name key : List ℕ) (item : ExportedItem) (t : ExternType)
     → key ≡ name → done ++ flat_map (offered_export m) iterator ≡ offered m → iterator ≡ (name, item) ∷ after → item_type m item ≡ Some t → IsDistinct bytes_eq (keys_of m.exports)
     → lookup (bytes_eq key) done ≡ None

@@ -4,7 +4,7 @@ use Rattle.std.specs.Prelude.{option_map}
 use Rattle.std.proofs.lemmas.List.{append_assoc}
 use Rattle.core_sections.specs.Reading.{◌>>=◌}
 
--- what was converted, and what comes of the rest
+-- what was converted, followed by the rest once it is converted
 abbrev pub after : {A : Type 0} → List A → Option (List A) → Option (List A)
 after done rest = option_map (λ more. done ++ more) rest
 

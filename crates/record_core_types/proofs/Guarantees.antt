@@ -1,4 +1,4 @@
--- The functions that are found in a sound resolve stand in it.
+-- The functions that are found in a sound resolve are functions of it.
 use Rattle.std.proofs.Common.{◌≡◌, ℕ, zero, suc, Bool, true, false, cond, List, [], ◌∷◌, Option, Some, None, sym, subst}
 use Rattle.std.specs.Prelude.{slice_get, option_map, map}
 use Rattle.std.specs.Option.{unwrap_or, option_and_then, option_to_list}
@@ -82,7 +82,7 @@ named_exists r id name answer is sound =
     subst (HasFound r) (sym is) (found_exists r (function_of r id name)
     (looked_up (HasFunction r) (bytes_eq name) (functions_of r id) (functions_exist r (slice_get r.interfaces id.index) (at_number (HasAll r) r.interfaces id.index sound.interfaces))))
 
--- a function whose one parameter is the result of one that stands there
+-- a function whose one parameter is the result of a function of the resolve
 pub returning_exists : (r : Resolve) (f returned : Function) → returned ≡ returning f → HasFunction r f → HasFound r (Some returned)
 returning_exists r f returned is h = record { present = subst (HasFunction r) (sym is) (record { resource = tt; params = one f.result h.result; result = tt }) }
   where

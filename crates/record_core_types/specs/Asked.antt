@@ -1,4 +1,4 @@
--- Which core type each role asks for (Canonical ABI: `flatten_functype`, `canon lift`, `canon lower`, and the built-in
+-- The core type that each role requires (Canonical ABI: `flatten_functype`, `canon lift`, `canon lower`, and the built-in
 -- functions; core standard, structure: external types).
 use Rattle.std.specs.Prelude.{ℕ, List, [], ◌∷◌, map, Option, Some, None, option_map}
 use Rattle.std.specs.List.{slice_get}
@@ -57,11 +57,11 @@ number numbers.I64 = I64
 number numbers.F32 = F32
 number numbers.F64 = F64
 
--- a function in one of the forms in which it is called
+-- the core type of a function in one of the forms in which it is called
 abbrev pub called : Resolve → AbiVariant → Function → FuncType
 called r abi f = function (map number (signature abi r.types f).params) (map number (signature abi r.types f).results)
 
--- what is called with the core results of a function once they were read
+-- the core type of a function that is called with the core results of another once they were read
 abbrev pub post_return : Resolve → Function → FuncType
 post_return r f = function (map number (signature GuestExport r.types f).results) []
 
@@ -83,7 +83,7 @@ setter ty = option_map (λ t. function (t ∷ []) []) (word ty)
 
 -- ---- imports
 
--- what is done to streams and futures: an end is a number, a buffer is an address and, of a stream, a length
+-- the built-in functions on streams and futures: an end is a number, a buffer is an address and, of a stream, a length
 abbrev pub payload_function : Import → Option FuncType
 payload_function (imports.StreamNew p) = Some (function [] (I64 ∷ []))
 payload_function (imports.StreamRead p is_async) = Some (function (I32 ∷ I32 ∷ I32 ∷ []) (I32 ∷ []))
@@ -101,7 +101,7 @@ payload_function (imports.FutureDropReadable p) = Some (function (I32 ∷ []) []
 payload_function (imports.FutureDropWritable p) = Some (function (I32 ∷ []) [])
 payload_function role = None
 
--- what is done to resources, tasks, waitables, error contexts and the slots of a task's context
+-- the built-in functions on resources, tasks, waitables, error contexts and the slots of a task's context
 abbrev pub built_in : Import → Option FuncType
 built_in (imports.ImportedResourceDrop key interface id) = Some (function (I32 ∷ []) [])
 built_in (imports.ExportedResourceDrop key id) = Some (function (I32 ∷ []) [])
@@ -126,12 +126,12 @@ built_in (imports.TlsBaseGet ty) = getter ty
 built_in (imports.TlsBaseSet ty) = setter ty
 built_in role = None
 
--- the built-in function that an import is for
+-- the built-in function of an import's role
 abbrev pub intrinsic : Import → Option FuncType
 intrinsic role = option_or (built_in role) (payload_function role)
 
--- The type of the function for which an import's role asks. It is none where the role names a function that isn't there,
--- where it asks for a memory, and where it stands for an export of another module: what that is, is the other's to say.
+-- The type of the function that an import's role requires. It is none where the role names a function that does not exist,
+-- where it requires a memory, and where it is an export of another module, whose type only that module gives.
 abbrev pub expected_import : Resolve → WorldId → Import → Option FuncType
 expected_import r w (imports.WorldFunc key name abi) = option_map (called r abi) (imported_function r w key)
 expected_import r w (imports.InterfaceFunc key id name abi) = option_map (called r abi) (function_of r id name)
@@ -147,7 +147,7 @@ callback = function (I32 ∷ I32 ∷ I32 ∷ []) (I32 ∷ [])
 abbrev pub realloc : FuncType
 realloc = function (I32 ∷ I32 ∷ I32 ∷ I32 ∷ []) (I32 ∷ [])
 
--- what has the same type in every world
+-- roles that have the same type in every world
 abbrev pub plain_export : Export → Option FuncType
 plain_export (exports.WorldFuncCallback key) = Some callback
 plain_export (exports.InterfaceFuncCallback key name) = Some callback
@@ -160,8 +160,8 @@ plain_export exports.Initialize = Some (function [] [])
 plain_export exports.WasmTaskHook = Some (function (I32 ∷ []) [])
 plain_export role = None
 
--- The type of the function for which an export's role asks. It is none where the role names a function that isn't there,
--- and where it asks for a memory.
+-- The type of the function that an export's role requires. It is none where the role names a function that does not exist,
+-- and where it requires a memory.
 abbrev pub expected_export : Resolve → WorldId → Export → Option FuncType
 expected_export r w (exports.WorldFunc key name abi) = option_map (called r abi) (exported_function r w key)
 expected_export r w (exports.InterfaceFunc key id name abi) = option_map (called r abi) (function_of r id name)

@@ -1,4 +1,4 @@
--- Whether the core type of an import or an export is that for which its role asks (component model, binary format:
+-- Whether the core type of an import or an export is the one that its role requires (component model, binary format:
 -- `canon`: core types are compared when a component is validated).
 use Rattle.std.specs.Prelude.{Bool, false, ◌&&◌, List, Option, Some, None}
 use Rattle.std.specs.Cmp.Lexicographic.{pointwise}
@@ -35,7 +35,7 @@ is_same f g = are_same f.params g.params && are_same f.results g.results
 abbrev pub is_asked : FuncType → Option FuncType → Bool
 is_asked f asked = option_map_or (is_same f) asked false
 
--- the type of what is a function
+-- the type of an entity that is a function
 abbrev pub function_type : CoreModule → EntityType → Option FuncType
 function_type m (entities.Function n) = slice_get m.types n
 function_type m e = None
@@ -43,7 +43,7 @@ function_type m e = None
 abbrev pub is_function : CoreModule → EntityType → Option FuncType → Bool
 is_function m e asked = option_map_or (λ f. is_asked f asked) (function_type m e) false
 
--- a memory of this type, which isn't shared and has addresses of 32 bits
+-- a memory of this type, which is not shared and has addresses of 32 bits
 abbrev pub is_memory : EntityType → MemoryType → Bool
 is_memory (entities.Memory l) ty = option_eq same_memory.eq-value.it (memory_type l) (Some ty)
 is_memory e ty = false
@@ -59,8 +59,8 @@ fits_export r w m role exported.Tag = false
 fits_export r w m (exports.Memory ty) (exported.Entity e) = is_memory e ty
 fits_export r w m role (exported.Entity e) = is_function m e (expected_export r w role)
 
--- ---- what stands in a resolve
+-- ---- functions of a resolve
 
--- a function stands there, if one was found
+-- a function is one of the resolve, if one was found
 pub record HasFound (r : Resolve) (found : Option Function) : Type 0 where
   pub present : IfSome found (HasFunction r)

@@ -1,5 +1,5 @@
--- What stands behind the roles of a main module: the function that a root function's role names is there, under the role's
--- key; and a root function that has to be exported has a core export.
+-- What holds of the roles of a main module: the world has the function that a root function's role names, under the role's
+-- key; and a root function that must be exported has a core export.
 use Rattle.std.specs.Prelude.{◌≡◌, ℕ, List, Some, Contains, IsSome, get_or, map}
 use Rattle.std.specs.List.{flat_map}
 use Rattle.comp_lists.specs.Found.{found}
@@ -15,17 +15,17 @@ use Rattle.comp_roles.specs.declared.imports.Import.TheVariants as imports
 use Rattle.comp_worlds.specs.Worlds.{no_items, root_export}
 use Rattle.record_core_types.specs.Asked.{imported_function, exported_function}
 
--- the world imports the root function that an import is for, under its own name
+-- the world imports the root function of an import's role, under its own name
 abbrev pub IsCalled : Resolve → WorldId → Import → Type 0
 IsCalled r w (imports.WorldFunc (keys.Name text) function abi) = (function ≡ text) × IsSome (imported_function r w (keys.Name text))
 IsCalled r w role = Unit {0}
 
--- the world exports the root function that an export is for, under its own name
+-- the world exports the root function of an export's role, under its own name
 abbrev pub IsLifted : Resolve → WorldId → Export → Type 0
 IsLifted r w (exports.WorldFunc (keys.Name text) function abi) = (function ≡ text) × IsSome (exported_function r w (keys.Name text))
 IsLifted r w role = Unit {0}
 
--- the world exports something at a key; where that is a root function, some core export is for it
+-- the world exports something at a key; where that is a root function, it is the role of some core export
 pub record IsKept (r : Resolve) (w : WorldId) (all : List (List ℕ × Export)) (key : WorldKey) : Type 0 where
   pub exported : Contains (map (λ e. e.0) (get_or r.worlds w.index no_items).exports) key
   pub present : (text : List ℕ) (f : Function) → key ≡ keys.Name text → exported_function r w key ≡ Some f → IsSome (found text (flat_map root_export all))

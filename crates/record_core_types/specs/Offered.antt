@@ -1,5 +1,5 @@
--- What a core module offers to others: its exports by name, as far as their types are made of the four number types and
--- references to any function, with addresses of 32 bits (core standard, structure: external types, limits).
+-- What a core module offers to others: its exports by name, if their types are made of the four number types and references
+-- to any function, with addresses of 32 bits (core standard, structure: external types, limits).
 use Rattle.std.specs.Prelude.{ℕ, ◌^◌, nat_lt, if◌then◌else◌, List, [], ◌∷◌, Option, Some, None, option_map}
 use Rattle.std.specs.List.{flat_map, slice_get}
 use Rattle.std.specs.Option.{option_to_list}
@@ -46,7 +46,7 @@ func_type f = do
   rs ← value_types f.results
   Some (record { params = ps; results = rs })
 
--- a size that 32 bits hold
+-- a size that fits in 32 bits
 abbrev pub size : ℕ → Option ℕ
 size n = if nat_lt n (2 ^ 32) then Some n else None
 
@@ -54,7 +54,7 @@ abbrev pub most : Option ℕ → Option (Option ℕ)
 most None = Some None
 most (Some n) = option_map Some (size n)
 
--- a memory that isn't shared and has addresses of 32 bits
+-- a memory that is not shared and has addresses of 32 bits
 abbrev pub memory_type : Limits → Option MemoryType
 memory_type l = if l.is_wide then None else do
   n ← size l.minimum
@@ -66,7 +66,7 @@ abbrev pub table_type : CoreVal → Limits → Option TableType
 table_type core.FuncRef l = option_map (λ m. record { element_type = FuncRef; minimum = m.minimum; maximum = m.maximum }) (memory_type l)
 table_type element l = None
 
--- what is imported or defined
+-- an import or a definition of the module
 abbrev pub extern_type : CoreModule → EntityType → Option ExternType
 extern_type m (entities.Function n) = slice_get m.types n >>= λ f. option_map externs.Func (func_type f)
 extern_type m (entities.Table element l) = option_map externs.Table (table_type element l)
@@ -74,7 +74,7 @@ extern_type m (entities.Memory l) = option_map externs.Memory (memory_type l)
 extern_type m (entities.Global v mutable) = option_map (λ t. externs.Global (record { val_type = t; mutable = mutable })) (value_type v)
 extern_type m (entities.Tag n) = None
 
--- what is exported
+-- an export of the module
 abbrev pub item_type : CoreModule → ExportedItem → Option ExternType
 item_type m (exported.Entity e) = extern_type m e
 item_type m exported.Tag = None
@@ -83,6 +83,6 @@ item_type m exported.Tag = None
 abbrev pub offered_export : CoreModule → List ℕ × ExportedItem → List (List ℕ × ExternType)
 offered_export m e = option_to_list (option_map (λ t. (e.0, t)) (item_type m e.1))
 
--- all that is offered, in the module's order
+-- all exports that are offered, in the module's order
 abbrev pub offered : CoreModule → List (List ℕ × ExternType)
 offered m = flat_map (offered_export m) m.exports

@@ -1,4 +1,4 @@
-//! Whether imports and exports have the core types for which their roles ask.
+//! Whether imports and exports have the core types that their roles require.
 
 ghost use Rattle.std.specs.Prelude.{◌≡◌, map, option_map, IfOk};
 ghost use Rattle.std.specs.Option.{option_copied};
@@ -47,7 +47,7 @@ fn are_numbers(values: &[ValType], types: &[WasmType]) -> bool
     true
 }
 
-/// Whether a function has the type that a table of types has for it.
+/// Whether a function has the type that a table of types gives for it.
 fn has_shape(ty: &FuncType, shape: Option<Shape>) -> bool
     ensures { result ≡ is_asked ty.now (option_map shape_type shape) }
 {
@@ -130,7 +130,7 @@ fn is_task_return(
     is_called(alloc, resolve, AbiVariant::GuestImport, Some(&returned), ty)
 }
 
-/// Whether a function has the type for which an import's role asks.
+/// Whether a function has the type that an import's role requires.
 #[tactic(auto, using(crate::proofs::Guarantees::imported_exists, crate::proofs::Guarantees::named_exists))]
 fn is_expected_import(
     alloc: Global,
@@ -157,7 +157,7 @@ fn is_expected_import(
     }
 }
 
-/// Whether a function has the type for which an export's role asks.
+/// Whether a function has the type that an export's role requires.
 #[tactic(auto, using(crate::proofs::Guarantees::exported_exists, crate::proofs::Guarantees::named_exists))]
 fn is_expected_export(
     alloc: Global,
@@ -193,7 +193,7 @@ fn is_expected_export(
     }
 }
 
-/// The type of what is a function.
+/// The type of an entity that is a function.
 fn function_type<'a>(core: &'a CoreModule, entity: &EntityType) -> Option<&'a FuncType>
     ensures { option_copied result ≡ function_type core.now entity.now }
 {
@@ -203,7 +203,7 @@ fn function_type<'a>(core: &'a CoreModule, entity: &EntityType) -> Option<&'a Fu
     }
 }
 
-/// Whether it is a memory of this type.
+/// Whether an entity is a memory of this type.
 fn is_memory(entity: &EntityType, ty: MemoryType) -> bool
     ensures { result ≡ is_memory entity.now ty }
 {
@@ -213,13 +213,13 @@ fn is_memory(entity: &EntityType, ty: MemoryType) -> bool
     }
 }
 
-/// Whether the core type of an import of a module is that for which its role asks: the core signature of a
-/// function of the world, the type of a built-in function, or a memory of the role's type. Shared memories
-/// and those with addresses of 64 bits never fit. What stands for an export of another module is not
-/// decided here: for it the answer is no.
+/// Whether the core type of an import of a module is the one that its role requires: the core signature
+/// of a function of the world, the type of a built-in function, or a memory of the role's type. Shared
+/// memories and those with addresses of 64 bits never fit. For an export of another module nothing is
+/// decided here: the result is no.
 ///
-/// Functions are looked up in the world by the role's key, and in its interface by the role's name; where
-/// there is none, nothing fits. The only refusal is want of memory.
+/// Functions are looked up in the world by the role's key, and in its interface by the role's name;
+/// where there is none, nothing fits. The only refusal is out of memory.
 pub fn fits_import(
     alloc: Global,
     resolve: &Resolve,
@@ -241,12 +241,12 @@ pub fn fits_import(
     }
 }
 
-/// Whether the core type of an export of a module is that for which its role asks: the core signature of a
-/// function of the world, a post-return with its core results, or the type that the role has in every
-/// world. Shared memories and those with addresses of 64 bits never fit.
+/// Whether the core type of an export of a module is the one that its role requires: the core signature
+/// of a function of the world, a post-return with its core results, or the type that the role has in
+/// every world. Shared memories and those with addresses of 64 bits never fit.
 ///
-/// Functions are looked up in the world by the role's key, and in its interface by the role's name; where
-/// there is none, nothing fits. The only refusal is want of memory.
+/// Functions are looked up in the world by the role's key, and in its interface by the role's name;
+/// where there is none, nothing fits. The only refusal is out of memory.
 pub fn fits_export(
     alloc: Global,
     resolve: &Resolve,

@@ -35,7 +35,7 @@ fn asks(params: &'static [ValType], results: &'static [ValType]) -> Option<Shape
     Some(Shape { params, results })
 }
 
-/// What answers a number of 32 or 64 bits of this type.
+/// The type of a function that returns a number of 32 or 64 bits of this type.
 fn getter(value: core_types::ValType) -> Option<Shape>
     ensures { option_map shape_type result ≡ getter value }
 {
@@ -46,7 +46,7 @@ fn getter(value: core_types::ValType) -> Option<Shape>
     }
 }
 
-/// What takes a number of 32 or 64 bits of this type.
+/// The type of a function that takes a number of 32 or 64 bits of this type.
 fn setter(value: core_types::ValType) -> Option<Shape>
     ensures { option_map shape_type result ≡ setter value }
 {
@@ -57,7 +57,7 @@ fn setter(value: core_types::ValType) -> Option<Shape>
     }
 }
 
-/// What is done to streams and futures.
+/// The built-in functions on streams and futures.
 fn payload_function(import: &Import) -> Option<Shape>
     ensures { option_map shape_type result ≡ payload_function import.now }
 {
@@ -77,7 +77,7 @@ fn payload_function(import: &Import) -> Option<Shape>
     }
 }
 
-/// What is done to resources, tasks, waitables, error contexts and the slots of a task's context.
+/// The built-in functions on resources, tasks, waitables, error contexts and the slots of a task's context.
 fn built_in(import: &Import) -> Option<Shape>
     ensures { option_map shape_type result ≡ built_in import.now }
 {
@@ -104,7 +104,7 @@ fn built_in(import: &Import) -> Option<Shape>
     }
 }
 
-/// The type of the built-in function that an import is for.
+/// The type of the built-in function of an import's role.
 pub(crate) fn intrinsic(import: &Import) -> Option<Shape>
     ensures { option_map shape_type result ≡ intrinsic import.now }
 {
@@ -114,7 +114,7 @@ pub(crate) fn intrinsic(import: &Import) -> Option<Shape>
     }
 }
 
-/// The type of what has the same type in every world.
+/// The type of a role that has the same type in every world.
 pub(crate) fn plain_export(export: &Export) -> Option<Shape>
     ensures { option_map shape_type result ≡ plain_export export.now }
 {

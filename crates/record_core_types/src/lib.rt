@@ -1,9 +1,9 @@
-//! What a core module has, beside what its record says of it.
+//! The core types of a module's imports and exports, which its record doesn't give.
 //!
-//! Upward it promises the types of what a module offers to others ([`offered`], with [`extern_type`], [`item_type`]
-//! and [`memory_type`] for one import or export), and whether an import or an export has the type for which
-//! its role asks ([`fits_import`], [`fits_export`]): `specs/Asked.antt` is the table of the roles. What
-//! stands for an export of another module is not decided here.
+//! It gives the types of the exports that a module offers to others ([`offered`], with [`extern_type`],
+//! [`item_type`] and [`memory_type`] for one import or export), and decides whether an import or an
+//! export has the type that its role requires ([`fits_import`], [`fits_export`]): `specs/Asked.antt` is
+//! the table of the roles. For the export of another module nothing is decided here.
 //!
 //! In reading order: `offering`; then `finding` (the functions that roles name), `intrinsics` (the types
 //! of built-in functions), `fitting`.

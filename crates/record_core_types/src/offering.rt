@@ -1,4 +1,4 @@
-//! The types of what a core module offers to others.
+//! The types of the exports that a core module offers to others.
 
 ghost use Rattle.std.specs.Prelude.{◌≡◌, option_map, IfOk};
 ghost use Rattle.core_sections.specs.declared.entries.EntityType.TheVariants as entities;
@@ -59,7 +59,7 @@ fn func_type(
     Ok(Some(FuncType { params, results }))
 }
 
-/// A size, where 32 bits hold it.
+/// A size, where it fits in 32 bits.
 fn size(number: u64) -> Option<u32>
     ensures { result ≡ size number }
 {
@@ -70,7 +70,7 @@ fn size(number: u64) -> Option<u32>
     }
 }
 
-/// A greatest size, if there is one, where 32 bits hold it.
+/// A maximum size, if there is one, where it fits in 32 bits.
 fn most(maximum: Option<u64>) -> Option<Option<u32>>
     ensures { result ≡ most maximum }
 {
@@ -80,8 +80,8 @@ fn most(maximum: Option<u64>) -> Option<Option<u32>>
     }
 }
 
-/// The type of a memory of these limits, in pages of 64 KiB, where it isn't shared, has addresses of 32
-/// bits, and 32 bits hold its limits.
+/// The type of a memory of these limits, in pages of 64 KiB, where it is not shared, has addresses of
+/// 32 bits, and its limits fit in 32 bits.
 pub fn memory_type(limits: Limits) -> Option<MemoryType>
     ensures { result ≡ memory_type limits }
 {
@@ -94,8 +94,8 @@ pub fn memory_type(limits: Limits) -> Option<MemoryType>
     })
 }
 
-/// The type of a table, where its elements are references to any function and its limits are as those of
-/// memories.
+/// The type of a table, where its elements are references to any function and its limits are like those
+/// of memories.
 fn table_type(element: core_sections::ValType, limits: Limits) -> Option<TableType>
     ensures { result ≡ table_type element limits }
 {
@@ -133,9 +133,9 @@ fn global_type(value: core_sections::ValType, mutable: bool) -> Option<ExternTyp
     Some(ExternType::Global(GlobalType { val_type, mutable }))
 }
 
-/// The type of what a module imports or defines, where it is made of the four number types and references
-/// to any function; tables and memories are neither shared nor have addresses of 64 bits, and 32 bits
-/// hold their limits. Tags have none. The only refusal is want of memory.
+/// The type of an import or a definition of a module, where it is made of the four number types and
+/// references to any function; tables and memories are not shared, have addresses of 32 bits, and their
+/// limits fit in 32 bits. Tags have none. The only refusal is out of memory.
 pub fn extern_type(
     alloc: Global,
     core: &CoreModule,
@@ -154,7 +154,7 @@ pub fn extern_type(
     }
 }
 
-/// The type of an export, as [`extern_type`] has it; a tag has none. The only refusal is want of memory.
+/// The type of an export, as [`extern_type`] gives it; a tag has none. The only refusal is out of memory.
 pub fn item_type(
     alloc: Global,
     core: &CoreModule,
@@ -168,9 +168,10 @@ pub fn item_type(
     }
 }
 
-/// What a module offers to others, by name, in its order: its exports whose types are made of the four
-/// number types and references to any function; tables and memories are neither shared nor have addresses
-/// of 64 bits, and 32 bits hold their limits. All others are left out. The only refusal is want of memory.
+/// The exports that a module offers to others, by name, in its order: those whose types are made of the
+/// four number types and references to any function; tables and memories are not shared, have addresses
+/// of 32 bits, and their limits fit in 32 bits. All others are left out. The only refusal is out of
+/// memory.
 pub fn offered(alloc: Global, core: &CoreModule) -> Result<Keyed<Text, ExternType>, AllocError>
     ensures { IfOk result (λ table. table ≡ offered core.now) }
 {

@@ -1,4 +1,4 @@
--- Tables that grow by the entries of one item after the other: they find what a list of all entries finds.
+-- Tables that grow by the entries of one item after the other: a look-up finds what it finds in a list of all entries.
 use Rattle.std.proofs.Common.{◌≡◌, ◌∙◌, ap, sym, refl, Bool, true, false, cond, List, [], ◌∷◌, ◌++◌, Some, is_some, if◌then◌else◌, append_assoc, append-nil, true≢false}
 use Rattle.std.specs.Cmp.{IsEquivalence}
 use Rattle.std.specs.List.{flat_map}
@@ -27,7 +27,7 @@ found_front {K} {X} test (e ∷ es) more h = by (test e.0) (found_front test es 
     by true rest h = refl
     by false rest h = rest h
 
--- an entry that isn't looked for is passed over
+-- an entry with another key is passed over
 found_skip : {K X : Type 0} (test : K → Bool) (k : K) (v : X) (table rest : List (K × X)) → test k ≡ false → lookup test (table ++ (k, v) ∷ rest) ≡ lookup test (table ++ rest)
 found_skip test k v [] rest apart = ap (λ b. cond b (Some v) (lookup test rest)) apart
 found_skip test k v (e ∷ es) rest apart = ap (λ o. cond (test e.0) (Some e.1) o) (found_skip test k v es rest apart)
@@ -37,7 +37,7 @@ same_test p q [] same = refl
 same_test p q (e ∷ es) same = ap (λ b. cond b (Some e.1) (lookup p es)) (same e.0) ∙ ap (λ o. cond (q e.0) (Some e.1) o) (same_test p q es same)
 
 module _ {K X : Type 0} (eq : K → K → Bool) (laws : IsEquivalence eq) where
-  -- an entry that is added unless its key is there finds what an entry at the end finds
+  -- adding an entry where its key is new: a look-up finds what it finds with the entry at the end of the list
   found_first : (q k : K) (v : X) (table rest : List (K × X)) → lookup (eq q) (with_first eq table k v ++ rest) ≡ lookup (eq q) (table ++ (k, v) ∷ rest)
   found_first q k v table rest = by (is_some (lookup (eq k) table)) refl
     where
@@ -55,6 +55,6 @@ module _ {K X : Type 0} (eq : K → K → Bool) (laws : IsEquivalence eq) where
   found_all table [] q = ap (lookup (eq q)) (sym (append-nil table))
   found_all table (e ∷ es) q = found_all (with_first eq table e.0 e.1) es q ∙ found_first q e.0 e.1 table es
 
-  -- a table that is made of entries finds what they find
+  -- in a table that is made of entries a look-up finds what it finds in the entries
   pub entered : (table es : List (K × X)) → table ≡ with_all eq [] es → (q : K) → lookup (eq q) table ≡ lookup (eq q) es
   entered table es made q = ap (lookup (eq q)) made ∙ found_all [] es q

@@ -1,4 +1,4 @@
--- A required export stands in the world; where it is a root function, some core export is for it.
+-- A required export is one of the world; where it is a root function, it is the role of some core export.
 use Rattle.std.proofs.Common.{◌≡◌, ◌∙◌, ap, sym, subst, refl, ℕ, suc, nat_eq, Bool, true, false, cond, ◌&&◌, List, [], ◌∷◌, ◌++◌, map, get_or, Option, Some, None, Ok, is_some, IsSome, Contains, true≢false, if◌then◌else◌, arith}
 use Rattle.std.proofs.Math.Dec.{eqb-zero-suc, eqb-suc-zero}
 use Rattle.std.specs.Prelude.{slice_get, ok_or, ⊤}
@@ -92,7 +92,7 @@ sufficient : (abi : Option AbiVariant) (called_back : Bool) → suffices abi cal
 sufficient None called_back e = absurd (true≢false (sym e))
 sufficient (Some abi) called_back e = refl
 
--- the first of several functions that are there is an export
+-- the first of several functions that exist is an export
 first_there : (k : Known) (key : WorldKey) (name : List ℕ) → all_there k key (name ∷ []) ≡ Ok tt → is_some (k.abi (function_key key name)) ≡ true
 first_there k key name e =
     let a = bind_ok (function_there k key name) (λ (_ : ⊤). all_there k key []) tt e in
@@ -140,9 +140,9 @@ names_of_function r (Some (items.Function g)) f e = let same : g ≡ f = cc (e) 
 names_of_function r (Some (items.Interface id)) f e = absurd cc
 names_of_function r (Some (items.NamedType t)) f e = absurd cc
 
--- ---- keys that were answered
+-- ---- keys that were returned
 
--- what a key that was answered has, by the steps to it
+-- what a key that was returned has, by the steps to it
 pub record Required (r : Resolved) (k : Known) (needed : ExportKey) (key : WorldKey) : Type 0 where
   pub target : resolved_export_key r needed ≡ Some key
   pub there : all_there k key (functions_at r key) ≡ Ok tt

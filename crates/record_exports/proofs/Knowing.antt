@@ -1,4 +1,4 @@
--- Tables of functions say what exports say, and so does what follows from either.
+-- Tables of functions say what exports say, and all that follows from either is the same.
 use Rattle.std.proofs.Common.{rules, ◌≡◌, ◌∙◌, ap, subst, refl, ℕ, Bool, true, ◌&&◌, List, [], ◌∷◌, ◌++◌, Option, Some, None, Result, Ok, Err, is_some, if◌then◌else◌}
 use Rattle.std.specs.Prelude.{⊤, ok_or}
 use Rattle.std.specs.Cmp.{IsEquivalence}
@@ -35,7 +35,7 @@ same_then : {A B : Type 0} (r : Result A Failure) (f g : A → Result B Failure)
 same_then (Ok x) f g same = same x
 same_then (Err e) f g same = refl
 
--- ---- what is taken
+-- ---- post-returns and callbacks
 
 same_takes : (takes : Option AbiVariant → Bool) (a b : FunctionKey → Option AbiVariant) → ((k : FunctionKey) → a k ≡ b k) → (o : Option FunctionKey)
     → option_map_or (λ f. takes (a f)) o true ≡ option_map_or (λ f. takes (b f)) o true

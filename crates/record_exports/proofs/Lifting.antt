@@ -1,4 +1,4 @@
--- A root function that an export is for stands in the world, under the name that the export has for it.
+-- A root function of an export's role is one of the world, under the name that the role has for it.
 use Rattle.std.proofs.Common.{true≢false, ◌≡◌, ◌∙◌, ap, sym, subst, refl, ℕ, Bool, true, false, List, [], ◌∷◌, ◌++◌, Option, Some, None, Ok, is_some, if◌then◌else◌}
 use Rattle.std.specs.Prelude.{slice_get, option_map, ok_or, IfSome, ⊤}
 use Rattle.std.specs.List.{AllByRecursion}
@@ -49,17 +49,17 @@ use Rattle.record_exports.specs.Exporting.{Roles, with_role, exports_after, expo
 use Rattle.record_exports.specs.Guarantees.{IsWithin, AreInWorld}
 use Rattle.record_exports.specs.Taking.{all_taken}
 
--- ---- what one role means
+-- ---- what one role resolves to
 
 same_item : (o : Option World) (key : WorldKey) → option_and_then (λ w. root_function_at w.exports key) o ≡ option_and_then function_in (lookup (is_same_key key) (option_map_or (λ w. w.exports) o []))
 same_item None key = refl
 same_item (Some w) key = refl
 
--- the function at the root, as this crate looks it up and as the one below does
+-- the function at the root, looked up as in this crate and as in the crate below
 pub root_item : (r : Resolved) (key : WorldKey) → exported_function r.resolve world_id key ≡ option_and_then function_in (item_at sides.Exported r key)
 root_item r key = same_item (slice_get r.resolve.worlds 0) key
 
--- an export that is lifted stands at the root under its name, or within its interface
+-- an export that is lifted is at the root under its name, or within its interface
 abbrev IsInWorld : Resolved → Export → Type 0
 IsInWorld r e = IsLifted r.resolve world_id e × IsWithin r.resolve world_id e
 
@@ -91,7 +91,7 @@ plain_in_world r plain.AdapterRealloc ty = (tt, tt)
 plain_in_world r plain.Initialize ty = (tt, tt)
 plain_in_world r plain.TaskHook ty = (tt, tt)
 
--- where an interface stands, no function does
+-- where the world has an interface at a key, it has no function there
 no_function : (id : InterfaceId) (item : WorldItem) → is_interface id item ≡ true → function_in item ≡ None
 no_function id (items.Interface other) e = refl
 no_function id (items.Function f) e = absurd (true≢false (sym e))
@@ -149,13 +149,13 @@ module _ (r : Resolved) where
   role_in_world (roles.Destructor t) ty = mapped (λ d. exports.ResourceDtor d.id) (IsInWorld r) (λ d. (tt, tt)) (resource_of sides.Exported r t)
   role_in_world (roles.Plain p) ty = plain_in_world r p ty
 
-  -- what a role that means this is
+  -- the properties of a role that resolves to this
   some_in_world : (role : ExportRole) (ty : Option ExternType) (export : Export) → resolved_export r role ty ≡ Some export → IsInWorld r export
   some_in_world role ty export e = subst (λ o. IfSome o (IsInWorld r)) e (role_in_world role ty)
 
--- ---- what all roles mean
+-- ---- what all roles resolve to
 
--- what an export that was answered is, by the steps to it
+-- what holds of an export that was returned, by the steps to it
 pub record Passes (r : Resolved) (core : CoreModule) (item : ExportedItem) (role : ExportRole) (export : Export) : Type 0 where
   pub target : resolved_export r role (item_type core item) ≡ Some export
   pub fits : fits_export r.resolve world_id core export item ≡ true
@@ -174,7 +174,7 @@ first_all P all name export h k = by (is_some (found name all))
     by true = h
     by false = AllByRecursion-push P all (name, export) h k
 
--- what holds of every export that a role means holds of all that were answered
+-- what holds of every resolved role holds of all exports that were returned
 module _ (r : Resolved) (core : CoreModule) (P : Export → Type 0) (each : (role : ExportRole) (ty : Option ExternType) (export : Export) → resolved_export r role ty ≡ Some export → P export) where
   one_more : (all more : Exports) (name : List ℕ) (item : ExportedItem) (role : Option ExportRole) → AllByRecursion (λ e. P e.1) all → with_role r core all name item role ≡ Ok more → AllByRecursion (λ e. P e.1) more
   one_more all more name item None h e = let same : all ≡ more = cc (e) in subst (λ (x : Exports). AllByRecursion (λ e. P e.1) x) same h
@@ -190,7 +190,7 @@ module _ (r : Resolved) (core : CoreModule) (P : Export → Type 0) (each : (rol
       let a = bind_ok (with_role r core all x.0 x.1 (found x.0 rs)) (λ more. exports_after r rs core more es) made e in
       all_more rs a.0 made es (one_more all a.0 x.0 x.1 (found x.0 rs) h a.1) a.2
 
--- what all exports are, by the steps to them
+-- what holds of all exports, by the steps to them
 pub record Steps (r : Resolved) (rs : Roles) (core : CoreModule) (all : Exports) : Type 0 where
   pub read : exports_after r rs core [] core.exports ≡ Ok all
   pub taken : all_taken all ≡ Ok tt

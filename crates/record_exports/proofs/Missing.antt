@@ -23,7 +23,7 @@ use Rattle.record_exports.proofs.Refusing.{middle, same_some}
 
 -- ---- one function
 
--- what a function lacks that isn't there
+-- why a function is missing, or its callback
 data Lacks (abi : Option AbiVariant) (called_back : Bool) : Type 0 where
   any_export : abi ≡ None → Lacks abi called_back
   its_callback : abi ≡ Some abis.GuestExportAsync → called_back ≡ false → Lacks abi called_back
@@ -46,7 +46,7 @@ module _ (r : Resolved) (all : Exports) (required : List ExportKey) where
       let n = failed (is_there (known all) (function_key key name)) tt (missing name) (failures.Refused f) e in
       reported name f n.1 (lacking key name is (lacks (abi_at all (function_key key name)) (has_callback all (function_key key name)) n.0))
 
-  -- functions of a key that is required
+  -- functions of a required key
   functions_refused : (needed : ExportKey) (key : WorldKey) (seen names : List (List ℕ)) (f : Refusal) → Contains required needed → resolved_export_key r needed ≡ Some key
       → functions_at r key ≡ seen ++ names → all_there (known all) key names ≡ refused f → RequiredCause r all required f
   functions_refused needed key seen [] f c target split e = absurd cc
@@ -78,7 +78,7 @@ module _ (r : Resolved) (all : Exports) (required : List ExportKey) where
         | inr a ↦ keys_refused (seen ++ w ∷ []) ws (done ++ a.0 ∷ []) f (split ∙ sym (append_assoc seen (w ∷ []) ws)) a.2
       ]
 
--- ---- where all were answered
+-- ---- where all were returned
 
 module _ (r : Resolved) (all : Exports) where
   abbrev IsRight : ExportKey → Type 0
@@ -97,7 +97,7 @@ module _ (r : Resolved) (all : Exports) where
       let p = passed (is_there (known all) (function_key key n)) tt a.0 (missing n) a.1 in
       (p.0, all_suffice key ns a.2)
 
-  -- each function of a required key is there
+  -- each function of a required key exists
   there_at : (required : List ExportKey) (ks : List WorldKey) (key : WorldKey) (name : List ℕ) → required_of r all required ≡ Ok ks → IsRequired r required key name → is_there (known all) (function_key key name) ≡ true
   there_at required ks key name e is =
       let p = AllByRecursion-contains IsRight required is.needed (keys_right [] ks required e) is.asked in
@@ -106,7 +106,7 @@ module _ (r : Resolved) (all : Exports) where
       let there : all_there (known all) key (functions_at r key) ≡ Ok tt = subst (λ (x : WorldKey). all_there (known all) x (functions_at r x) ≡ Ok tt) same q.there in
       AllByRecursion-contains (λ n. is_there (known all) (function_key key n) ≡ true) (functions_at r key) name (all_suffice key (functions_at r key) there) is.has
 
--- what is answered has no cause of a refusal
+-- what is returned has no cause of a refusal
 pub no_cause : (r : Resolved) (all : Exports) (required : List ExportKey) (ks : List WorldKey) → required_of r all required ≡ Ok ks → (f : Refusal) → RequiredCause r all required f → ⊥
 no_cause r all required ks e f (not_there needed c none) =
     let p = AllByRecursion-contains (IsRight r all) required needed (keys_right r all [] ks required e) c in

@@ -77,11 +77,11 @@ module _ (r : Resolved) (rs : Roles) (core : CoreModule) where
         | inr a ↦ roles_refused (seen ++ x ∷ []) es a.0 f (split ∙ sym (append_assoc seen (x ∷ []) es)) a.2
       ]
 
-  -- where all were answered, none with a role was wrong
+  -- where all were returned, none with a role was wrong
   abbrev IsRight : List ℕ × ExportedItem → Type 0
   IsRight x = (role : ExportRole) → found x.0 rs ≡ Some role → (export : Export) × Passes r core x.1 role export
 
--- ---- what is taken
+-- ---- post-returns and callbacks
 
 not_sync : (abi : AbiVariant) → takes_post_return (Some abi) ≡ false → abi ≢ abis.GuestExport
 not_sync abi e same = true≢false (sym (ap (λ (a : AbiVariant). takes_post_return (Some a)) same) ∙ e)
@@ -97,7 +97,7 @@ is_async : (abi : AbiVariant) → takes_callback (Some abi) ≡ true → abi ≡
 is_async abis.GuestExportAsync e = refl
 is_async abi e = absurd (true≢false (sym e))
 
--- an export of a function that doesn't take it, which is called like this
+-- an export that is the post-return or callback of a function that has none, which is called like this
 record InVain (takes : Option AbiVariant → Bool) (abi_of : FunctionKey → Option AbiVariant) (o : Option FunctionKey) : Type 0 where
   function : FunctionKey
   is : o ≡ Some function
@@ -194,7 +194,7 @@ taken_at r rs core made all name export e is =
     let all_are : taken (known all) all ≡ Ok tt = subst (λ (x : Exports). all_taken x ≡ Ok tt) same s.taken in
     AllByRecursion-contains (λ x. is_taken (known all) x.1 ≡ true) all (name, export) (each_taken r rs core all all all_are) is.among
 
--- what is answered has no cause of a refusal
+-- what is returned has no cause of a refusal
 pub no_cause : (r : Resolved) (rs : Roles) (core : CoreModule) (made : Exports) → exports_of r rs core ≡ Ok made → (f : Refusal) → ExportCause r rs core f → ⊥
 no_cause r rs core made e f (means_nothing name item role has none) =
     let p = right_at r rs core made name item role e has in

@@ -1,5 +1,5 @@
--- What is asked of the exports of a small module, worked. The world exports the functions f and g and the interface i, which
--- has a and b; none takes or answers anything.
+-- What the exports of a small module must have, worked. The world exports the functions f and g and the interface i, which
+-- has a and b; none has parameters or results.
 use Rattle.std.proofs.Common.{◌≡◌, ℕ, List, [], ◌∷◌, None, Ok, Err, refl}
 use Rattle.std.specs.Prelude.{codes}
 use Rattle.core_sections.specs.declared.core_module.CoreModule.{CoreModule}
@@ -56,13 +56,13 @@ small = record {
 abbrev within : List ℕ → AbiVariant → Export
 within name abi = exports.InterfaceFunc i (record { index = 0 }) name abi
 
--- ---- what is taken
+-- ---- post-returns and callbacks
 
 -- a synchronous function has no callback
 callback_of_sync : all_taken ((codes "f", exports.WorldFunc f (codes "f") GuestExport) ∷ (codes "c", exports.WorldFuncCallback f) ∷ []) ≡ Err (unfit (codes "c"))
 callback_of_sync = refl
 
--- an asynchronous one has no post-return, wherever it stands
+-- an asynchronous one has no post-return, at the root or in an interface
 return_of_async : all_taken ((codes "p", exports.InterfaceFuncPostReturn i (codes "a")) ∷ (codes "a", within (codes "a") GuestExportAsync) ∷ []) ≡ Err (unfit (codes "p"))
 return_of_async = refl
 
@@ -70,14 +70,14 @@ return_of_async = refl
 callback_of_stackful : all_taken ((codes "g", exports.WorldFunc g (codes "g") GuestExportAsyncStackful) ∷ (codes "c", exports.WorldFuncCallback g) ∷ []) ≡ Err (unfit (codes "c"))
 callback_of_stackful = refl
 
--- each has its own, and one of a function that no export is isn't looked at
+-- each has its own, and one of a function that no export has is not examined
 all_well : all_taken ((codes "f", exports.WorldFunc f (codes "f") GuestExport) ∷ (codes "p", exports.WorldFuncPostReturn f) ∷ (codes "a", within (codes "a") GuestExportAsync)
     ∷ (codes "c", exports.InterfaceFuncCallback i (codes "a")) ∷ (codes "d", exports.WorldFuncCallback g) ∷ []) ≡ Ok tt
 all_well = refl
 
--- ---- what is required
+-- ---- required exports
 
--- an asynchronous function lacks its callback
+-- an asynchronous function has no callback
 lacks_callback : required_of small ((codes "g", exports.WorldFunc g (codes "g") GuestExportAsync) ∷ []) (required.Name (codes "g") ∷ []) ≡ Err (missing (codes "g"))
 unfolding required_key
 lacks_callback = refl
@@ -102,9 +102,9 @@ both_there : required_of small ((codes "a", within (codes "a") GuestExport) ∷ 
 unfolding required_key
 both_there = refl
 
--- ---- what is read
+-- ---- reading exports
 
--- a module that exports a function x without parameters and results, and y, which takes and answers a number
+-- a module that exports a function x without parameters and results, and y, which takes and returns a number
 abbrev core : Items → CoreModule
 core own = record {
   types = record { params = []; results = [] } ∷ record { params = I32 ∷ []; results = I32 ∷ [] } ∷ [];
@@ -121,7 +121,7 @@ reads_f : (own : Items) → exports_of small (is_f GuestExport) (core own) ≡ O
 unfolding exports_of export_of values_from
 reads_f own = refl
 
--- an asynchronous function answers its status
+-- an asynchronous function returns its status
 not_async : (own : Items) → exports_of small (is_f GuestExportAsync) (core own) ≡ Err (unfit (codes "x"))
 unfolding exports_of export_of values_from
 not_async own = refl

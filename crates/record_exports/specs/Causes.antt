@@ -1,4 +1,4 @@
--- When each refusal is right: what of the core exports, or of those that the module has to have, is wrong.
+-- When each refusal is right: what is wrong with the core exports, or with those that the module must have.
 use Rattle.std.specs.Prelude.{◌≡◌, ◌≢◌, ℕ, false, List, [], Some, None, Ok, Contains}
 use Rattle.comp_lists.specs.Found.{found}
 use Rattle.core_sections.specs.declared.core_module.CoreModule.{CoreModule}
@@ -29,7 +29,7 @@ pub record HasRole (roles : Roles) (core : CoreModule) (name : List ℕ) (item :
   pub exported : Contains core.exports (name, item)
   pub said : found name roles ≡ Some role
 
--- these are the exports that are for something, and this is one of them
+-- these are the exports that have roles, and this is one of them
 pub record IsFor (r : Resolved) (roles : Roles) (core : CoreModule) (all : Exports) (name : List ℕ) (export : Export) : Type 0 where
   pub all_are : exports_after r roles core [] core.exports ≡ Ok all
   pub among : Contains all (name, export)
@@ -38,10 +38,10 @@ pub data ExportCause (r : Resolved) (roles : Roles) (core : CoreModule) : Refusa
   -- a role names something that the world doesn't export, or a memory where none is exported
   means_nothing : (name : List ℕ) (item : ExportedItem) (role : ExportRole) → HasRole roles core name item role
       → resolved_export r role (item_type core item) ≡ None → ExportCause r roles core (refusals.CoreType name)
-  -- the type of an export isn't that of its role
+  -- the type of an export is not that of its role
   unfit : (name : List ℕ) (item : ExportedItem) (role : ExportRole) (export : Export) → HasRole roles core name item role
       → resolved_export r role (item_type core item) ≡ Some export → fits_export r.resolve world_id core export item ≡ false → ExportCause r roles core (refusals.CoreType name)
-  -- a post-return of a function that isn't synchronous
+  -- a post-return of a function that is not synchronous
   returns_in_vain : (all : Exports) (name : List ℕ) (export : Export) (f : FunctionKey) (abi : AbiVariant) → IsFor r roles core all name export
       → post_return_function export ≡ Some f → abi_at all f ≡ Some abi → abi ≢ GuestExport → ExportCause r roles core (refusals.CoreType name)
   -- a callback of a function that has none
@@ -60,9 +60,9 @@ pub record IsRequired (r : Resolved) (required : List ExportKey) (key : WorldKey
 pub data RequiredCause (r : Resolved) (all : Exports) (required : List ExportKey) : Refusal → Type 0 where
   -- the world exports nothing at a required key
   not_there : (needed : ExportKey) → Contains required needed → resolved_export_key r needed ≡ None → RequiredCause r all required (refusals.ExportMissing (key_text needed))
-  -- no core export is a required function
+  -- no core export has a required function
   no_export : (key : WorldKey) (name : List ℕ) → IsRequired r required key name → abi_at all (function_key key name) ≡ None
       → RequiredCause r all required (refusals.ExportMissing name)
-  -- a required function lacks its callback
+  -- a required function has no callback
   no_callback : (key : WorldKey) (name : List ℕ) → IsRequired r required key name → abi_at all (function_key key name) ≡ Some GuestExportAsync
       → has_callback all (function_key key name) ≡ false → RequiredCause r all required (refusals.ExportMissing name)

@@ -1,5 +1,5 @@
--- The functions that core exports are, by the key of the world's export where they stand and their name there (Canonical ABI:
--- `canon lift`, with its options `post-return` and `callback`).
+-- The functions of core exports, by the key of the world's export that has them and their name there (Canonical ABI: `canon
+-- lift`, with its options `post-return` and `callback`).
 use Rattle.std.specs.Prelude.{◌≡◌, ℕ, Bool, List, [], ◌∷◌, Option, Some, None, is_some}
 use Rattle.std.specs.List.{flat_map}
 use Rattle.std.specs.Map.{lookup}
@@ -19,26 +19,26 @@ Exports = List (List ℕ × Export)
 abbrev pub function_key : WorldKey → List ℕ → FunctionKey
 function_key key name = record { key = key; function = name }
 
--- ---- what one export is to a function
+-- ---- the function of one export
 
--- the function that it is, with the form in which it is called
+-- the function that an export lifts, with the form in which it is called
 abbrev pub lifted_function : Export → List (FunctionKey × AbiVariant)
 lifted_function (exports.WorldFunc key name abi) = (function_key key name, abi) ∷ []
 lifted_function (exports.InterfaceFunc key id name abi) = (function_key key name, abi) ∷ []
 lifted_function role = []
 
--- the function of the world itself at a key: it is named as the key is
+-- the function of the world itself at a key: its name is the key's
 abbrev pub at_root : WorldKey → Option FunctionKey
 at_root (keys.Name text) = Some (function_key (keys.Name text) text)
 at_root (keys.Interface id) = None
 
--- the function whose post-return it is
+-- the function whose post-return an export is
 abbrev pub post_return_function : Export → Option FunctionKey
 post_return_function (exports.WorldFuncPostReturn key) = at_root key
 post_return_function (exports.InterfaceFuncPostReturn key name) = Some (function_key key name)
 post_return_function role = None
 
--- the function whose callback it is
+-- the function whose callback an export is
 abbrev pub callback_function : Export → Option FunctionKey
 callback_function (exports.WorldFuncCallback key) = at_root key
 callback_function (exports.InterfaceFuncCallback key name) = Some (function_key key name)
@@ -49,7 +49,7 @@ abbrev pub alone : Option FunctionKey → List (FunctionKey × Unit {0})
 alone None = []
 alone (Some k) = (k, tt) ∷ []
 
--- ---- what all exports are
+-- ---- the functions of all exports
 
 abbrev pub lifted_functions : Exports → List (FunctionKey × AbiVariant)
 lifted_functions all = flat_map (λ e. lifted_function e.1) all
@@ -57,7 +57,7 @@ lifted_functions all = flat_map (λ e. lifted_function e.1) all
 abbrev pub callbacks : Exports → List (FunctionKey × Unit {0})
 callbacks all = flat_map (λ e. alone (callback_function e.1)) all
 
--- how a function is called, as the first export of it says
+-- how a function is called, according to its first export
 abbrev pub abi_at : Exports → FunctionKey → Option AbiVariant
 abi_at all k = lookup (is_same_function k) (lifted_functions all)
 
@@ -70,15 +70,15 @@ pub record Known : Type 0 where
   pub abi : FunctionKey → Option AbiVariant
   pub called_back : FunctionKey → Bool
 
--- what a module's exports say of functions
+-- what is known of functions from a module's exports
 abbrev pub known : Exports → Known
 known all = record { abi = abi_at all; called_back = has_callback all }
 
--- what tables say of them
+-- what is known of functions from tables
 abbrev pub known_by : Functions → Known
 known_by f = record { abi = λ k. lookup (is_same_function k) f.abis; called_back = λ k. is_some (lookup (is_same_function k) f.callbacks) }
 
--- tables that say of every function what these exports say
+-- tables from which the same is known of every function as from these exports
 pub record IsOf (f : Functions) (all : Exports) : Type 0 where
   pub abi : (k : FunctionKey) → lookup (is_same_function k) f.abis ≡ abi_at all k
   pub called_back : (k : FunctionKey) → is_some (lookup (is_same_function k) f.callbacks) ≡ has_callback all k

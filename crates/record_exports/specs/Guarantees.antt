@@ -1,4 +1,4 @@
--- What stands in the world behind what exports are for.
+-- What holds of the roles of exports and of the world.
 use Rattle.std.specs.Prelude.{◌≡◌, None}
 use Rattle.std.specs.List.{AllByRecursion}
 use Rattle.wit_data.specs.declared.ids.WorldId.{WorldId}
@@ -12,7 +12,7 @@ use Rattle.record_core_types.specs.Guarantees.{IsLifted}
 use Rattle.record_exports.specs.Functions.{Exports}
 use Rattle.record_exports.specs.Meaning.{world_id}
 
--- where an interface's function has a plain name for a key, no root function stands there
+-- where an interface's function has a plain name for a key, the world exports no root function there
 abbrev pub IsWithin : Resolve → WorldId → Export → Type 0
 IsWithin r w (exports.InterfaceFunc (keys.Name text) id function abi) = exported_function r w (keys.Name text) ≡ None
 IsWithin r w role = Unit {0}

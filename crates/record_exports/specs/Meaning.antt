@@ -1,4 +1,4 @@
--- What one core export is for, and that it has the type for which its role asks (Canonical ABI: `canon lift` and its options).
+-- The role of one core export, which must have the type that its role requires (Canonical ABI: `canon lift` and its options).
 use Rattle.std.specs.Prelude.{ℕ, List, Result, Ok, Err, ok_or, if◌then◌else◌}
 use Rattle.core_sections.specs.declared.core_module.CoreModule.{CoreModule}
 use Rattle.core_sections.specs.declared.entries.ExportedItem.{ExportedItem}
@@ -18,15 +18,15 @@ use Rattle.record_faults.specs.Faults.{◌>>=◌}
 abbrev pub world_id : WorldId
 world_id = record { index = 0 }
 
--- the export of this name isn't of the type for which its role asks
+-- the export of this name is not of the type that its role requires
 abbrev pub unfit : List ℕ → Failure
 unfit name = failures.Refused (refusals.CoreType name)
 
--- what an export is for, if it has the type for that
+-- the resolved role of an export, if the export has the type that it requires
 abbrev pub fitting : Resolved → CoreModule → List ℕ → ExportedItem → Export → Result Export Failure
 fitting r core name item export = if fits_export r.resolve world_id core export item then Ok export else Err (unfit name)
 
--- what an export with this role is for; a role that means nothing there asks for nothing that a type could be
+-- the resolved role of an export with this role; no type fits a role that doesn't resolve
 unfoldable pub export_of : Resolved → CoreModule → List ℕ → ExportedItem → ExportRole → Result Export Failure
 export_of r core name item role = do
   export ← ok_or (resolved_export r role (item_type core item)) (unfit name)

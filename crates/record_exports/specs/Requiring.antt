@@ -1,5 +1,5 @@
--- Whether the exports that a module has to have are there: each function of a required key is a core export, and one that is
--- asynchronous with a callback has its callback (Canonical ABI: `canon lift`).
+-- Whether a module has the exports that are required of it: each function of a required key is a core export, and one that
+-- is asynchronous with a callback has its callback (Canonical ABI: `canon lift`).
 use Rattle.std.specs.Prelude.{ℕ, Bool, true, false, if◌then◌else◌, List, [], ◌∷◌, ◌++◌, map, Option, Some, None, Result, Ok, Err, ok_or, ⊤}
 use Rattle.wit_data.specs.declared.functions.AbiVariant.{AbiVariant}
 use Rattle.wit_data.specs.declared.functions.AbiVariant.TheVariants as abis
@@ -40,13 +40,13 @@ names_in r (Some (items.Function f)) = f.name ∷ []
 names_in r (Some (items.Interface id)) = function_names (functions_of r.resolve id)
 names_in r (Some (items.NamedType t)) = []
 
--- the names of the functions that the world exports at a key: of the one that stands there, or of an interface's, in order
+-- the names of the functions that the world exports at a key: that of the function itself, or those of an interface, in order
 abbrev pub functions_at : Resolved → WorldKey → List (List ℕ)
 functions_at r key = names_in r (item_at sides.Exported r key)
 
--- ---- what has to be there
+-- ---- the functions that must exist
 
--- some export is the function, and one with a callback has it
+-- some export has the function, and one with a callback has it
 abbrev pub suffices : Option AbiVariant → Bool → Bool
 suffices None called_back = false
 suffices (Some abis.GuestExportAsync) called_back = called_back
@@ -58,23 +58,23 @@ is_there k f = suffices (k.abi f) (k.called_back f)
 abbrev pub function_there : Known → WorldKey → List ℕ → Result ⊤ Failure
 function_there k key name = if is_there k (function_key key name) then Ok tt else Err (missing name)
 
--- all of them are; else the first that is not is told
+-- all of them exist; else the first that does not is reported
 abbrev pub all_there : Known → WorldKey → List (List ℕ) → Result ⊤ Failure
 all_there k key [] = Ok tt
 all_there k key (f ∷ fs) = function_there k key f >>= λ _. all_there k key fs
 
--- the key of a required export, where all of its functions are there
+-- the key of a required export, where all of its functions exist
 unfoldable pub required_key : Resolved → Known → ExportKey → Result WorldKey Failure
 required_key r k needed = do
   key ← ok_or (resolved_export_key r needed) (missing (key_text needed))
   _ ← all_there k key (functions_at r key)
   Ok key
 
--- those of several, behind others
+-- the keys of several, after others
 abbrev pub required_after : Resolved → Known → List WorldKey → List ExportKey → Result (List WorldKey) Failure
 required_after r k done [] = Ok done
 required_after r k done (needed ∷ more) = required_key r k needed >>= λ key. required_after r k (done ++ key ∷ []) more
 
--- the keys of the exports that a module has to have, where its exports are these
+-- the keys of the exports that are required of a module, where its exports are these
 abbrev pub required_of : Resolved → Exports → List ExportKey → Result (List WorldKey) Failure
 required_of r all needed = required_after r (known all) [] needed

@@ -1,5 +1,5 @@
--- Which functions take a post-return or a callback (Canonical ABI: `canon lift`: a synchronous function may have a `post-return`,
--- an asynchronous one a `callback`).
+-- Which functions can have a post-return or a callback (Canonical ABI: `canon lift`: a synchronous function may have a
+-- `post-return`, an asynchronous one a `callback`).
 use Rattle.std.specs.Prelude.{Bool, true, false, ◌&&◌, if◌then◌else◌, [], ◌∷◌, Option, Some, None, Result, Ok, Err, ⊤}
 use Rattle.std.specs.Option.{option_map_or}
 use Rattle.wit_data.specs.declared.functions.AbiVariant.{AbiVariant}
@@ -9,7 +9,7 @@ use Rattle.record_faults.specs.declared.fault.Failure.{Failure}
 use Rattle.record_exports.specs.Functions.{Exports, Known, known, post_return_function, callback_function}
 use Rattle.record_exports.specs.Meaning.{unfit}
 
--- a function that no export is takes nothing, and nothing is asked of it here
+-- a function that no export has may have both, since nothing is checked of it here
 abbrev pub takes_post_return : Option AbiVariant → Bool
 takes_post_return None = true
 takes_post_return (Some abis.GuestExport) = true
@@ -20,7 +20,7 @@ takes_callback None = true
 takes_callback (Some abis.GuestExportAsync) = true
 takes_callback (Some abi) = false
 
--- an export isn't the post-return or the callback of a function that has none
+-- an export is not the post-return or the callback of a function that can't have one
 abbrev pub is_taken : Known → Export → Bool
 is_taken k role =
     option_map_or (λ f. takes_post_return (k.abi f)) (post_return_function role) true

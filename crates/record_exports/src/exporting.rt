@@ -1,4 +1,4 @@
-//! What the core exports of a module are for.
+//! The roles of the core exports of a module.
 
 ghost use Rattle.std.specs.Prelude.{◌≡◌, [], IfOk, IfErr, IsOk};
 ghost use Rattle.std.specs.List.{AllByRecursion};
@@ -23,7 +23,7 @@ use record_resolve::Resolved;
 use record_values::ExportRole;
 use std::alloc::Global;
 
-/// Adds what an export is for, if it has a role.
+/// Adds the resolved role of an export, if it has a role.
 fn add_export(
     alloc: Global,
     resolved: &Resolved,
@@ -47,7 +47,7 @@ fn add_export(
     }
 }
 
-/// What the exports that have roles are for, each of the type for which its role asks.
+/// The roles of the exports that have one, each of the type that its role requires.
 fn exports_with_roles(
     alloc: Global,
     resolved: &Resolved,
@@ -65,7 +65,8 @@ fn exports_with_roles(
     Ok(all)
 }
 
-/// What all exports are for, none of which is a post-return or a callback of a function that takes none.
+/// The roles of all exports, none of which is a post-return or a callback of a function that can't have
+/// one.
 #[tactic(auto, using(crate::proofs::Lifting::all_in_world), unfolding(crate::specs::Exporting::exports_of))]
 fn exports_of(
     alloc: Global,
@@ -82,14 +83,16 @@ fn exports_of(
     Ok(all)
 }
 
-/// What the core exports of a module are for, by name, in their order: those that have a role, each of the type for which
-/// its role asks. No export of a synchronous function has a callback, and none of another has a post-return.
+/// The roles of the core exports of a module, by name, in their order: those that have a role, each of
+/// the type that its role requires. No export of a synchronous function has a callback, and none of
+/// another has a post-return.
 ///
 /// # Errors
 ///
-/// `CoreType` with the name of an export whose role names nothing that the world exports, or asks for another type
-/// (Canonical ABI: `flatten_functype`); or of a post-return of a function that isn't synchronous, or a callback of one that
-/// isn't asynchronous with a callback (Canonical ABI: `canon lift`). `Memory` where memory was refused.
+/// `CoreType` with the name of an export whose role names nothing that the world exports, or requires
+/// another type (Canonical ABI: `flatten_functype`); or of a post-return of a function that is not
+/// synchronous, or a callback of one that is not asynchronous with a callback (Canonical ABI: `canon
+/// lift`). `Memory` if memory runs out.
 #[tactic(auto, using(crate::proofs::Refusing::no_cause, crate::proofs::Refusing::has_cause))]
 pub fn read_exports(
     alloc: Global,

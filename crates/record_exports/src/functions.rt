@@ -1,4 +1,4 @@
-//! The functions that core exports are.
+//! The functions of core exports.
 
 ghost use Rattle.std.specs.Prelude.{◌≡◌, [], IfOk, OnOk};
 ghost use Rattle.comp_worlds.specs.Tables.{with_all};
@@ -10,7 +10,7 @@ use comp_roles::{Export, FunctionKey};
 use std::alloc::{AllocError, Global};
 use wit_data::{AbiVariant, WorldKey};
 
-/// The functions that core exports are, each with the form in which it is called, and those that have callbacks.
+/// The functions of core exports, each with the form in which it is called, and those that have callbacks.
 #[derive(Drop)]
 pub(crate) struct Functions {
     abis: Keyed<FunctionKey, AbiVariant>,
@@ -28,7 +28,7 @@ impl Functions {
         Ok(Functions { abis, callbacks })
     }
 
-    /// How a function is called, if some export is it.
+    /// How a function is called, if some export has it.
     pub(crate) fn abi(&self, function: &FunctionKey) -> Option<AbiVariant>
         ensures { result ≡ (known_by self.now).abi function.now }
     {
@@ -93,7 +93,7 @@ pub(crate) fn callback_function(
     }
 }
 
-/// Adds the function that an export is, if it is one.
+/// Adds the function that an export lifts, if it lifts one.
 fn add_lifted(
     alloc: Global,
     abis: &mut Keyed<FunctionKey, AbiVariant>,
@@ -126,7 +126,7 @@ fn add_callback(
     }
 }
 
-/// The functions that exports are, of which the first counts.
+/// The functions that exports lift, of which the first counts.
 #[tactic(auto, using(crate::proofs::Entering::after_item))]
 fn lifted_functions(
     alloc: Global,

@@ -1,4 +1,4 @@
-//! What one core export is for.
+//! The role of one core export.
 
 ghost use Rattle.std.specs.Prelude.{◌≡◌, ◌≢◌};
 ghost use Rattle.wit_data.specs.Sound.{IsSound};
@@ -17,7 +17,7 @@ use record_values::ExportRole;
 use std::alloc::Global;
 use wit_data::WorldId;
 
-/// The refusal of the export of this name, or want of memory.
+/// The refusal of the export of this name, or out of memory.
 pub(crate) fn unfit(alloc: Global, name: &Text) -> Failure
     ensures { result ≢ failures.Memory → result ≡ unfit name.now }
 {
@@ -27,7 +27,7 @@ pub(crate) fn unfit(alloc: Global, name: &Text) -> Failure
     }
 }
 
-/// What an export is for, if it has the type for that.
+/// The resolved role of an export, if the export has the type that it requires.
 fn fitting(
     alloc: Global,
     resolved: &Resolved,
@@ -48,7 +48,7 @@ fn fitting(
     }
 }
 
-/// What an export with this role is for.
+/// The resolved role of an export with this role.
 #[tactic(auto, unfolding(crate::specs::Meaning::export_of))]
 pub(crate) fn export_of(
     alloc: Global,

@@ -1,4 +1,4 @@
-//! The exports that a module has to have.
+//! The exports that are required of a module.
 
 ghost use Rattle.std.specs.Prelude.{◌≡◌, ◌≢◌, [], IfOk, IfErr, IsOk};
 ghost use Rattle.std.specs.List.{AllByRecursion};
@@ -27,7 +27,7 @@ use record_resolve::Resolved;
 use std::alloc::Global;
 use wit_data::{AbiVariant, Function, InterfaceId, WorldItem, WorldKey};
 
-/// The refusal that what has this name is missing, or want of memory.
+/// The refusal that the export of this name is missing, or out of memory.
 fn missing(alloc: Global, name: &Text) -> Failure
     ensures { result ≢ failures.Memory → result ≡ missing name.now }
 {
@@ -47,7 +47,7 @@ fn key_text(key: &ExportKey) -> &Text
     }
 }
 
-/// Whether a function that is called like this, if it is, has what it has to have.
+/// Whether a function that is called like this, if it is one, has what it must have.
 fn suffices(abi: Option<AbiVariant>, called_back: bool) -> bool
     ensures { result ≡ suffices abi called_back }
 {
@@ -58,14 +58,14 @@ fn suffices(abi: Option<AbiVariant>, called_back: bool) -> bool
     }
 }
 
-/// Whether some export is a function, and its callback is there where it goes on by one.
+/// Whether some export has a function, and its callback where it is called with one.
 fn is_there(functions: &Functions, function: &FunctionKey) -> bool
     ensures { result ≡ is_there (known_by functions.now) function.now }
 {
     suffices(functions.abi(function), functions.has_callback(function))
 }
 
-/// Refuses a function of a key that isn't there.
+/// Refuses a function of a key that does not exist.
 fn check_function(
     alloc: Global,
     functions: &Functions,
@@ -82,7 +82,7 @@ fn check_function(
     }
 }
 
-/// Refuses the first function of an interface that isn't there.
+/// Refuses the first function of an interface that does not exist.
 fn check_functions(
     alloc: Global,
     functions: &Functions,
@@ -120,7 +120,7 @@ fn exported_item<'a>(resolved: &'a Resolved, key: &WorldKey) -> Option<&'a World
     world.exports.get(key)
 }
 
-/// Refuses the first function at a key that isn't there.
+/// Refuses the first function at a key that does not exist.
 fn check_key(
     alloc: Global,
     resolved: &Resolved,
@@ -139,7 +139,7 @@ fn check_key(
     }
 }
 
-/// The key of a required export, where all of its functions are there.
+/// The key of a required export, where all of its functions exist.
 #[tactic(auto, unfolding(crate::specs::Requiring::required_key))]
 fn required_key(
     alloc: Global,
@@ -186,15 +186,16 @@ fn required_of(
     required_by(alloc, resolved, &functions, required)
 }
 
-/// The keys of the world at which the required exports stand, in their order. Each function there is a core export, and one
-/// that goes on by a callback has it. The exports are those that [`read_exports`](crate::read_exports) answered, or others
-/// of which none is a function of an interface at the key of a root function.
+/// The keys of the world that the required exports have, in their order. Each function there is a core
+/// export, and one that is called with a callback has it. The exports are those that
+/// [`read_exports`](crate::read_exports) returned, or others of which none is a function of an
+/// interface at the key of a root function.
 ///
 /// # Errors
 ///
-/// `ExportMissing` with the name or the id of a required export that the world doesn't export, or with the name of a
-/// function there that is no core export, or that is called as an asynchronous one with a callback and has none (Canonical
-/// ABI: `canon lift`). `Memory` where memory was refused.
+/// `ExportMissing` with the name or the id of a required export that the world doesn't export, or with
+/// the name of a function there that is no core export, or that is called as an asynchronous one with a
+/// callback and has none (Canonical ABI: `canon lift`). `Memory` if memory runs out.
 #[tactic(auto, using(crate::proofs::Keeping::all_kept, crate::proofs::Missing::no_cause, crate::proofs::Missing::has_cause))]
 pub fn require_all(
     alloc: Global,

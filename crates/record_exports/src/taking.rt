@@ -1,4 +1,4 @@
-//! Post-returns and callbacks, and the functions that take them.
+//! Post-returns and callbacks, and the functions that can have them.
 
 ghost use Rattle.std.specs.Prelude.{◌≡◌, true, IfOk};
 ghost use Rattle.std.specs.Option.{option_map_or};
@@ -14,7 +14,7 @@ use record_faults::Failure;
 use std::alloc::{AllocError, Global};
 use wit_data::AbiVariant;
 
-/// Whether a function that is called like this takes a post-return.
+/// Whether a function that is called like this can have a post-return.
 fn takes_post_return(abi: Option<AbiVariant>) -> bool
     ensures { result ≡ takes_post_return abi }
 {
@@ -25,7 +25,7 @@ fn takes_post_return(abi: Option<AbiVariant>) -> bool
     }
 }
 
-/// Whether a function that is called like this takes a callback.
+/// Whether a function that is called like this can have a callback.
 fn takes_callback(abi: Option<AbiVariant>) -> bool
     ensures { result ≡ takes_callback abi }
 {
@@ -36,7 +36,7 @@ fn takes_callback(abi: Option<AbiVariant>) -> bool
     }
 }
 
-/// Whether an export isn't a post-return of a function that takes none.
+/// Whether an export is not a post-return of a function that can't have one.
 fn returns_well(alloc: Global, functions: &Functions, export: &Export) -> Result<bool, AllocError>
     ensures { IfOk result (λ b. b ≡ option_map_or (λ f. takes_post_return ((known_by functions.now).abi f)) (post_return_function export.now) true) }
 {
@@ -46,7 +46,7 @@ fn returns_well(alloc: Global, functions: &Functions, export: &Export) -> Result
     }
 }
 
-/// Whether an export isn't a callback of a function that takes none.
+/// Whether an export is not a callback of a function that can't have one.
 fn calls_back_well(
     alloc: Global,
     functions: &Functions,
@@ -70,7 +70,7 @@ fn is_taken(alloc: Global, functions: &Functions, export: &Export) -> Result<boo
     }
 }
 
-/// Refuses the first export that is a post-return or a callback of a function that takes none.
+/// Refuses the first export that is a post-return or a callback of a function that can't have one.
 fn check_by(
     alloc: Global,
     functions: &Functions,
@@ -86,7 +86,7 @@ fn check_by(
     Ok(())
 }
 
-/// Refuses exports among which is a post-return or a callback of a function that takes none.
+/// Refuses exports among which is a post-return or a callback of a function that can't have one.
 #[tactic(auto, using(crate::proofs::Knowing::gives_taken))]
 pub(crate) fn check_taken(alloc: Global, exports: &Keyed<Text, Export>) -> Result<(), Failure>
     ensures { Gives (λ _. tt) result (all_taken exports.now) }

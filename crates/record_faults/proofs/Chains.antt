@@ -1,4 +1,4 @@
--- Chains of steps that may be refused, and tests that decide between an answer and a refusal.
+-- Chains of steps that may be refused, and tests that decide between a result and a refusal.
 use Rattle.std.proofs.Common.{◌≡◌, ◌⊎◌, inl, inr, Bool, true, false, Option, None, Some, Result, Ok, Err, refl}
 use Rattle.std.specs.Prelude.{ok_or, if◌then◌else◌}
 use Rattle.std.specs.Cmp.{IsEquivalence}

@@ -18,7 +18,7 @@ abbrev pub ◌>>=◌ : {A B : Type 0} → Result A Failure → (A → Result B F
 (Ok x) >>= f = f x
 (Err e) >>= f = Err e
 
--- What a function returned, seen by view, is what a definition gives, unless memory ran out.
+-- What a function returned, as its view, is what a definition gives, unless it ran out of memory.
 abbrev pub Gives : {X Y : Type 0} → (X → Y) → Result X Failure → Result Y Failure → Type 0
 Gives view (Ok x) read = read ≡ Ok (view x)
 Gives view (Err e) read = e ≢ failures.Memory → read ≡ Err e
@@ -29,7 +29,7 @@ of_section section_faults.NotModule = failures.Refused refusals.NotModule
 of_section (section_faults.Section place) = failures.Refused (refusals.Section place)
 of_section section_faults.PackageBinary = failures.Refused refusals.PackageBinary
 
--- what the layer below gave, with its fault as one of this layer
+-- the result of the layer below, with its fault as one of this layer
 abbrev pub lifted : {A : Type 0} → Result A SectionFault → Result A Failure
 lifted (Ok x) = Ok x
 lifted (Err e) = Err (of_section e)
@@ -44,7 +44,7 @@ abbrev pub of_record : RecordFailure → Failure
 of_record record_failures.Memory = failures.Memory
 of_record (record_failures.Refused r) = failures.Refused (of_record_refusal r)
 
--- what reading a record gave, with its failure as one of this layer
+-- the result of reading a record, with its failure as one of this layer
 abbrev pub read : {A : Type 0} → Result A RecordFailure → Result A Failure
 read (Ok x) = Ok x
 read (Err e) = Err (of_record e)

@@ -9,26 +9,27 @@ use thiserror::Error;
 /// Why a module, a record, a merge or a world is refused.
 #[derive(Debug, Drop, Error)]
 pub enum PlainFault {
-    /// Memory was refused.
+    /// Out of memory.
     #[error("P1 Memory")]
     Memory,
     /// The bytes don't begin with the preamble of a core module.
     #[error("P2 NotModule")]
     NotModule,
-    /// The section whose id byte stands at this place is cut short or malformed.
+    /// The section whose id byte is at this offset (in bytes from the start of the module) is cut short
+    /// or malformed.
     #[error("P3 Section place={place}")]
     Section { place: usize },
-    /// A section that describes a component holds a binary package in place of a record.
+    /// A section that describes a component holds a binary package instead of a record.
     #[error("P4 PackageBinary")]
     PackageBinary,
-    /// A record is no JSON.
+    /// A record is not JSON.
     #[error("P5 Json")]
     Json,
     /// The value at this JSON pointer of a record is missing, unknown, of a wrong kind, refers to
     /// nothing, or breaks a rule of records.
     #[error("P6 Record path={path}")]
     Record { path: Text },
-    /// What two records say of this name can't both hold.
+    /// What two records say of this name contradicts itself.
     #[error("P7 MergeConflict name={name}")]
     MergeConflict { name: Text },
     /// A member of a record, or a kind of role, that isn't supported yet.
@@ -37,7 +38,7 @@ pub enum PlainFault {
     /// A core import has no role.
     #[error("P9 RoleMissing module={module} field={field}")]
     RoleMissing { module: Text, field: Text },
-    /// No core export stands for a function that the module has to export.
+    /// The module must export a function, and no core export has it.
     #[error("P10 ExportMissing function={function}")]
     ExportMissing { function: Text },
     /// The core import or export of this name has a type that doesn't fit its role.
@@ -46,12 +47,12 @@ pub enum PlainFault {
     /// A core module imports this field of this module twice.
     #[error("P12 ImportTwice module={module} field={field}")]
     ImportTwice { module: Text, field: Text },
-    /// `realloc_via_memory_grow` with an adapter that is no library.
+    /// `realloc_via_memory_grow` with an adapter that is not a library.
     #[error("P13 MemoryGrow")]
     MemoryGrow,
 }
 
-/// A refusal that isn't want of memory.
+/// A refusal other than out of memory.
 #[derive(Debug, Drop)]
 pub enum Refusal {
     NotModule,

@@ -1,4 +1,4 @@
--- What holds of an import that was read: its steps passed, and the root function that it is for is the world's.
+-- What holds of an import that was read: its steps passed, and the root function of its role is the world's.
 use Rattle.std.proofs.Common.{◌≡◌, ℕ, Bool, true, false, List, Option, Some, None, Result, Ok, Err, refl, sym, subst, ap, ◌∙◌, true≢false}
 use Rattle.std.specs.Prelude.{⊤, ok_or, option_map, IfSome, IsSome, if◌then◌else◌}
 use Rattle.std.specs.Option.{option_and_then, option_map_or}
@@ -48,18 +48,18 @@ use Rattle.record_imports.specs.Guarantees.{IsChecked}
 
 -- ---- steps
 
--- the function of a `task.return` stands in the resolve
+-- the function of a `task.return` is one of the resolve
 pub returned : (r : Resolve) (import : Import) → HasNamed r import → HasReturned r import
 returned r import h = h.returned
 
--- a value, where the step beside it passed
+-- a value, where its check passed
 pub concluded : {A : Type 0} (step : Result ⊤ Failure) (value : A) (answer read : Result A Failure) → answer ≡ kept value step → Gives (λ u. value) step read → Gives (λ x. x) answer read
 concluded (Ok u) value answer read is h = subst (λ a. Gives (λ x. x) a read) (sym is) h
 concluded (Err e) value answer read is h = subst (λ a. Gives (λ x. x) a read) (sym is) h
 
 -- ---- an import that was read
 
--- what means something, where roles of other modules mean nothing
+-- a role that resolves, where roles of other modules resolve to nothing
 pub unless_other : (b : Bool) (o : Option Import) (x : Import) → (if b then None else o) ≡ Some x → (b ≡ false) × (o ≡ Some x)
 unless_other true o x e = absurd cc
 unless_other false o x e = (refl, e)
@@ -97,7 +97,7 @@ import_passes r table core i import e =
       fits = ap (λ (x : Import). fits_import r.resolve world_id core x i.entity) (sym p.1) ∙ p.0;
     }
 
--- ---- root functions go by their own names
+-- ---- root functions have their own names
 
 abbrev IsOwn : Import → Type 0
 IsOwn (imports.WorldFunc (keys.Name text) function abi) = function ≡ text
@@ -181,7 +181,7 @@ role_own r field (roles.ContextSet word slot) ty = tt
 role_own r field (roles.TlsGet word) ty = tt
 role_own r field (roles.TlsSet word) ty = tt
 
--- ---- and are the world's
+-- ---- root functions are the world's
 
 asked_there : (f : Function → FuncType) (o : Option Function) (ty : Option FuncType) → option_map_or (λ t. is_asked t (option_map f o)) ty false ≡ true → IsSome o
 asked_there f None None e = absurd (true≢false (sym e))
@@ -192,7 +192,7 @@ is_called : (r : Resolve) (w : WorldId) (core : CoreModule) (import : Import) (e
 is_called r w core (imports.WorldFunc (keys.Name text) function abi) entity own fits = (own, asked_there (called_as r abi) (imported_function r w (keys.Name text)) (type_of_function core entity) fits)
 is_called r w core import entity own fits = tt
 
--- an import that was read is met
+-- an import that was read is checked
 pub is_checked : (r : Resolved) (table : Roles) (core : CoreModule) (i : CoreImport) (import : Import) → import_of r table core i ≡ Ok import → HasNamed r.resolve import → IsChecked r.resolve import
 is_checked r table core i import e named =
     let p = import_passes r table core i import e in

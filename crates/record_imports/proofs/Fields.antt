@@ -1,4 +1,4 @@
--- Fields of groups: what adding one leaves, and what holds of all imports.
+-- Fields of groups: what adding one preserves, and what holds of all imports.
 use Rattle.std.proofs.Common.{◌≡◌, ◌⊎◌, inl, inr, ℕ, Bool, true, false, cond, ◌||◌, List, [], ◌∷◌, ◌++◌, map, Option, Some, None, refl, sym, ap, subst, ◌∙◌, true≢false}
 use Rattle.std.specs.Prelude.{is_some, if◌then◌else◌}
 use Rattle.std.specs.List.{AllByRecursion, IsDistinct, flat_map, list_any}
@@ -23,12 +23,12 @@ use Rattle.record_imports.specs.Meaning.{world_id}
 use Rattle.record_imports.specs.Grouping.{fields_in, with_field, instances_of}
 use Rattle.record_imports.specs.Guarantees.{IsChecked, IsGood, AreGood, AreChecked, HasDistinctFields}
 
--- ---- which fields are there
+-- ---- the fields of a module
 
 bytes_same : (x y : List ℕ) → bytes_eq x y ≡ true → x ≡ y
 bytes_same x y e = (bytes_eq-Decides x y).0 e
 
--- a field that is there after one was added was there, or is that one
+-- a field that exists after one was added existed before, or is that one
 pub with_field_cases : (gs : List Group) (m f m' f' : List ℕ) (import : Import) → is_some (found f (fields_in (with_field gs m' f' import) m)) ≡ true
     → (is_some (found f (fields_in gs m)) ≡ true) ⊎ ((m' ≡ m) × (f' ≡ f))
 with_field_cases [] m f m' f' import h = by (bytes_eq m m') refl h
@@ -63,7 +63,7 @@ with_field_cases (g ∷ gs) m f m' f' import h = by (bytes_eq m' g.name) refl h 
     by true e h more = grown (bytes_eq m g.name) refl e h
     by false e h more = passed_by (bytes_eq m g.name) h more
 
--- what was there stays
+-- the fields so far are kept
 pub with_field_keeps : (gs : List Group) (m f m' f' : List ℕ) (import : Import) → is_some (found f (fields_in gs m)) ≡ true → is_some (found f (fields_in (with_field gs m' f' import) m)) ≡ true
 with_field_keeps [] m f m' f' import h = absurd (true≢false (sym h))
 with_field_keeps (g ∷ gs) m f m' f' import h = by (bytes_eq m' g.name) (λ k. with_field_keeps gs m f m' f' import k)
@@ -82,7 +82,7 @@ with_field_keeps (g ∷ gs) m f m' f' import h = by (bytes_eq m' g.name) (λ k. 
     by true more = grown (bytes_eq m g.name) h
     by false more = passed_by (bytes_eq m g.name) h more
 
--- and the new one is there
+-- and the new one is added
 pub with_field_adds : (gs : List Group) (m f : List ℕ) (import : Import) → is_some (found f (fields_in (with_field gs m f import) m)) ≡ true
 with_field_adds [] m f import = rw ((bytes_eq-Decides m m).1 refl, (bytes_eq-Decides f f).1 refl) refl
 with_field_adds (g ∷ gs) m f import = by (bytes_eq m g.name) refl (with_field_adds gs m f import)
@@ -102,7 +102,7 @@ none_is f (e ∷ es) h = by (bytes_eq f e.0) h (none_is f es)
     by true h more = absurd (true≢false h)
     by false h more = more h
 
--- a group with one field more, which it lacked
+-- a group with one field more, which is new
 grown_is_good : (r : Resolve) (g : Group) (f : List ℕ) (import : Import) → IsGood r g → is_some (found f g.fields) ≡ false → IsChecked r import → IsGood r (record { name = g.name; fields = g.fields ++ (f, import) ∷ [] })
 grown_is_good r g f import h lacks is = record {
   apart = subst (λ (ks : List (List ℕ)). IsDistinct bytes_eq ks) (sym (map_push (λ e. e.0) g.fields (f, import))) (IsDistinct-push equivalence (keys_of g.fields) f h.apart (none_is f g.fields lacks));
@@ -120,7 +120,7 @@ with_field_good r (g ∷ gs) m f import h lacks is = by (bytes_eq m g.name) lack
     by true lacks more = (grown_is_good r g f import h.0 lacks is, h.1)
     by false lacks more = (h.0, more lacks)
 
--- what was good stays so with one field more, which wasn't there
+-- good groups remain good with one field more, which is new
 pub remains_good : (r : Resolve) (gs gs' : List Group) (m f m' f' : List ℕ) (import : Import) → AreGood r gs → is_some (found f (fields_in gs m)) ≡ false → IsChecked r import
     → m' ≡ m → f' ≡ f → gs' ≡ with_field gs m' f' import → AreGood r gs'
 remains_good r gs gs' m f m' f' import h lacks is module_is field_is made =

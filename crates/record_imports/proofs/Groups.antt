@@ -1,4 +1,4 @@
--- Groups of imports, and where the group of each module stands.
+-- Groups of imports, and the position of the group of each module.
 use Rattle.std.proofs.Common.{◌≡◌, ℕ, zero, suc, ◌+◌, ◌<◌, Bool, true, false, cond, List, [], ◌∷◌, ◌++◌, length, get_or, Some, None, Result, Ok, Err, refl, sym, ap, subst, ◌∙◌, arith}
 use Rattle.std.specs.Prelude.{slice_set, IfOk}
 use Rattle.std.specs.List.{slice_get, IsDistinct}
@@ -17,7 +17,7 @@ use Rattle.record_imports.specs.Grouping.{positions_of, fields_in, with_field, i
 abbrev pub with_fields : Group → List (List ℕ × Import) → Group
 with_fields g fs = record { name = g.name; fields = fs }
 
--- the group of a module stands at this place
+-- the group of a module is at this position
 pub record GroupAt (gs : List Group) (m : List ℕ) (k : ℕ) : Type 0 where
   pub below : k < length gs
   pub group : Group
@@ -57,7 +57,7 @@ at_from i (g ∷ gs) m k e = by (bytes_eq m g.name) refl e (λ later. at_from (i
         let t = more e in
         let n = t.1 in (suc t.0, omega arith, later_at g gs m t.0 h t.2)
 
--- where a module's place is known, its group stands there
+-- where a module's position is known, its group is there
 pub group_at : (gs : List Group) (m : List ℕ) (k : ℕ) → found m (positions_of 0 gs) ≡ Some k → GroupAt gs m k
 group_at gs m k e =
     let t = at_from 0 gs m k e in
@@ -65,7 +65,7 @@ group_at gs m k e =
     let same : t.0 ≡ k = omega arith in
     subst (λ (j : ℕ). GroupAt gs m j) same t.2
 
--- a module that has no place has no group
+-- a module that has no position has no group
 pub record NoGroup (gs : List Group) (m : List ℕ) : Type 0 where
   pub fields : fields_in gs m ≡ []
   pub put : (f : List ℕ) (import : Import) → with_field gs m f import ≡ gs ++ record { name = m; fields = (f, import) ∷ [] } ∷ []
@@ -93,11 +93,11 @@ positions_push i (h ∷ gs) g =
     let n : (i + 1) + length gs ≡ i + length (h ∷ gs) = omega arith in
     ap (λ (r : List (List ℕ × ℕ)). (h.name, i) ∷ r) (positions_push (i + 1) gs g ∙ ap (λ (n : ℕ). positions_of (i + 1) gs ++ (g.name, n) ∷ []) n)
 
--- a new group's place is the next
+-- a new group's position is the next
 pub new_position : (gs : List Group) (g : Group) → positions_of 0 (gs ++ g ∷ []) ≡ positions_of 0 gs ++ (g.name, length gs) ∷ []
 new_position gs g = let n : 0 + length gs ≡ length gs = omega arith in positions_push 0 gs g ∙ ap (λ (n : ℕ). positions_of 0 gs ++ (g.name, n) ∷ []) n
 
--- ---- what adding a field leaves
+-- ---- what adding a field preserves
 
 got_group : (gs : List Group) (k : ℕ) (x y : Group) → slice_get gs k ≡ Some x → slice_get gs k ≡ Some y → x ≡ y
 got_group gs k x y a b = cc
@@ -134,7 +134,7 @@ put_new (Ok x) positions gs m m' f f' role known indexed same same' kept set =
     let positions' : positions_of 0 x.groups.items ≡ positions_of 0 gs ++ (m', length gs) ∷ [] = ap (positions_of 0) set ∙ new_position gs (made m' f') in
     (put, kept ∙ ap (λ (p : List (List ℕ × ℕ)). p ++ (m', length gs) ∷ []) indexed ∙ sym positions')
 
--- the group at a known place lacks a field that its module lacks
+-- the group at a known position has no such field if its module has none
 pub lacks : (positions : List (List ℕ × ℕ)) (gs : List Group) (m f f' : List ℕ) (k : ℕ) → Some k ≡ found m positions → positions ≡ positions_of 0 gs → f' ≡ f
     → found f (fields_in gs m) ≡ None → (k < length gs) × ((g : Group) → slice_get gs k ≡ Some g → found f' g.fields ≡ None)
 lacks positions gs m f f' k known indexed same none =
@@ -178,7 +178,7 @@ pub groups_apart : (positions : List (List ℕ × ℕ)) (gs : List Group) → po
 groups_apart positions gs indexed apart =
     subst (λ (ks : List (List ℕ)). IsDistinct bytes_eq ks) (ap (λ (p : List (List ℕ × ℕ)). keys_of p) indexed ∙ keys-positions 0 gs) apart
 
--- a group's module isn't among those of the groups before it
+-- a group's module is not among those of the groups before it
 pub not_yet : (done : List (List ℕ × ImportInstance)) (left after gs : List Group) (g : Group) → done ++ instances_of left ≡ instances_of gs → left ≡ g ∷ after
     → IsDistinct bytes_eq (keys_of (instances_of gs)) → lookup (bytes_eq g.name) done ≡ None
 not_yet done left after gs g is taken apart =

@@ -47,7 +47,7 @@ same_ok o x y a b = cc
 
 -- ---- memories
 
--- a memory among the imports doesn't fit, and its field is told
+-- a memory among the imports doesn't fit, and its field is reported
 record Unfit (first : MemoryType) (is : List CoreUse) (f : Refusal) : Type 0 where
   i : CoreUse
   ty : MemoryType
@@ -149,7 +149,7 @@ module _ (r : Resolved) (table : Roles) (core : CoreModule) where
 
   -- ---- groups
 
-  -- what a group that was made says of its last import
+  -- what a group that was made has for its last import
   record Made (gs gs' : List Group) (i : CoreImport) : Type 0 where
     import : Import
     of : import_of r table core i ≡ Ok import
@@ -226,7 +226,7 @@ module _ (r : Resolved) (table : Roles) (core : CoreModule) where
             groups_refused (seen ++ i ∷ []) is a.0 f (split ∙ sym (append_assoc seen (i ∷ []) is)) (seen_more seen gs a.0 i made.import h made.are) a.2
       ]
 
-  -- where the groups are answered, each import passes, and none is there twice
+  -- where the groups are returned, each import passes, and none occurs twice
   record Passed (i : CoreImport) : Type 0 where
     import : Import
     passes : Passes r table core i import
@@ -308,7 +308,7 @@ module _ (r : Resolved) (table : Roles) (core : CoreModule) where
       let p = answered modules e in
       AllByRecursion-contains Passed core.imports i (each_passes [] p.groups core.imports p.grouped) c
 
-  -- what its role is, where it has this one
+  -- the role of an import, where it has this one
   same_role : (i : CoreImport) (import : Import) (p : Passes r table core i import) (role : ImportRole) → role_of table i ≡ Some role → p.role ≡ role
   same_role i import p role has = same_some (role_of table i) p.role role p.has has
 
@@ -316,7 +316,7 @@ module _ (r : Resolved) (table : Roles) (core : CoreModule) where
   means_at i import p role has =
       ap (λ (o : Option ExternType). resolved_import r i.field role o) p.typed ∙ ap (λ (x : ImportRole). resolved_import r i.field x (Some p.ty)) (sym (same_role i import p role has)) ∙ p.means
 
-  -- imports that were answered have no cause of a refusal
+  -- imports that were returned have no cause of a refusal
   pub no_cause : (modules : List (List ℕ × ImportInstance)) → imports_of r table core ≡ Ok modules → (f : Refusal) → ImportCause r table core f → ⊥
   no_cause modules e f (twice i j before between after whole module_is field_is) =
       let p = answered modules e in

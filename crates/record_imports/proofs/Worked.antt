@@ -1,4 +1,4 @@
--- What the imports of small modules are for, worked: a world that imports one function "f", with no parameter and no result.
+-- The roles of the imports of small modules, worked: a world that imports one function "f", with no parameter and no result.
 use Rattle.std.proofs.Common.{◌≡◌, ℕ, List, [], ◌∷◌, Option, Some, None, Result, Ok, refl, false}
 use Rattle.std.specs.Prelude.{codes}
 use Rattle.core_sections.specs.Entries.{no_entries}
@@ -44,14 +44,14 @@ small = record {
   exported_keys = [];
 }
 
--- what the imports of fields of one module are for
+-- the roles of the imports of fields of one module
 abbrev of : List ℕ → ImportRole → ImportName × ImportRole
 of field role = (record { «module» = codes "m"; field = field }, role)
 
 abbrev calls : List ℕ → ImportRole
 calls name = roles.Function owners.World name GuestImport
 
--- type 0 has nothing, type 1 has one parameter
+-- type 0 has no parameters and no results, type 1 has one parameter
 abbrev importing : List CoreImport → CoreModule
 importing is = record no_entries { types = record { params = []; results = [] } ∷ record { params = values.I32 ∷ []; results = [] } ∷ []; imports = is }
 

@@ -1,5 +1,5 @@
 -- When each refusal of core imports is right: what is wrong with the imports of the module, or with their roles. (The roles
--- are this project's own; what is asked of types is the core standard's and the Canonical ABI's.)
+-- are this project's own; what they require of types is from the core standard and the Canonical ABI.)
 use Rattle.std.specs.Prelude.{◌≡◌, ℕ, true, false, List, [], ◌∷◌, ◌++◌, Some, None, Ok, Contains}
 use Rattle.std.specs.List.{flat_map}
 use Rattle.core_types.specs.declared.types.MemoryType.{MemoryType}
@@ -23,7 +23,7 @@ use Rattle.record_imports.specs.Meaning.{Roles, world_id, role_of, is_of_other, 
 use Rattle.record_imports.specs.Grouping.{groups_after, instances_of}
 use Rattle.record_imports.specs.Memories.{fits_memory}
 
--- these are the imports of the module, group by group, with what each is for
+-- these are the imports of the module, group by group, each with its role
 pub record AreImports (r : Resolved) (table : Roles) (core : CoreModule) (modules : List (List ℕ × ImportInstance)) : Type 0 where
   pub groups : List Group
   pub grouped : groups_after r table core [] core.imports ≡ Ok groups
@@ -33,20 +33,20 @@ pub data ImportCause (r : Resolved) (table : Roles) (core : CoreModule) : Refusa
   -- two core imports have one module and field
   twice : (i j : CoreImport) (before between after : List CoreImport) → core.imports ≡ before ++ i ∷ between ++ j ∷ after
       → i.«module» ≡ j.«module» → i.field ≡ j.field → ImportCause r table core (refusals.ImportTwice j.«module» j.field)
-  -- the type of a core import isn't made of numbers and references to any function, or its limits are past 32 bits
+  -- the type of a core import is not made of numbers and references to any function, or its limits don't fit in 32 bits
   untyped : (i : CoreImport) → Contains core.imports i → extern_type core i.entity ≡ None → ImportCause r table core (refusals.CoreType i.field)
   -- a core import has no role
   no_role : (i : CoreImport) → Contains core.imports i → role_of table i ≡ None → ImportCause r table core (refusals.RoleMissing i.«module» i.field)
   -- its role is an export of another module
   of_other : (i : CoreImport) (role : ImportRole) → Contains core.imports i → role_of table i ≡ Some role → is_of_other role ≡ true
       → ImportCause r table core (refusals.RoleMissing i.«module» i.field)
-  -- what its role names isn't in the world
+  -- what its role names is not in the world
   nothing_there : (i : CoreImport) (role : ImportRole) → Contains core.imports i → role_of table i ≡ Some role → is_memory role ≡ false
       → resolved_import r i.field role (extern_type core i.entity) ≡ None → ImportCause r table core (refusals.RoleMissing i.«module» i.field)
-  -- its role is a memory, and it is none
+  -- its role is a memory, and the import is not
   no_memory : (i : CoreImport) → Contains core.imports i → role_of table i ≡ Some roles.Memory
       → resolved_import r i.field roles.Memory (extern_type core i.entity) ≡ None → ImportCause r table core (refusals.CoreType i.field)
-  -- its type isn't that of its role
+  -- its type is not that of its role
   unfit : (i : CoreImport) (role : ImportRole) (import : Import) → Contains core.imports i → role_of table i ≡ Some role → is_of_other role ≡ false
       → resolved_import r i.field role (extern_type core i.entity) ≡ Some import → fits_import r.resolve world_id core import i.entity ≡ false
       → ImportCause r table core (refusals.CoreType i.field)

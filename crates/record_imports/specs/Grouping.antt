@@ -1,4 +1,4 @@
--- Groups of core imports by module, and where the group of each module stands (core standard: imports go by a module's
+-- Groups of core imports by module, and the position of the group of each module (core standard: an import has a module's
 -- name and a field's).
 use Rattle.std.specs.Prelude.{ℕ, ◌+◌, List, [], ◌∷◌, ◌++◌, map, is_some, Result, Ok, Err, if◌then◌else◌}
 use Rattle.std.specs.Str.{bytes_eq}
@@ -26,7 +26,7 @@ abbrev pub fields_in : List Group → List ℕ → List (List ℕ × Import)
 fields_in [] m = []
 fields_in (g ∷ gs) m = if bytes_eq m g.name then g.fields else fields_in gs m
 
--- one field more: its module's group has it last, and a new module's group comes last
+-- one field more: it is the last of its module's group, and a new module's group comes last
 abbrev pub with_field : List Group → List ℕ → List ℕ → Import → List Group
 with_field [] m f import = record { name = m; fields = (f, import) ∷ [] } ∷ []
 with_field (g ∷ gs) m f import =
@@ -35,7 +35,7 @@ with_field (g ∷ gs) m f import =
 abbrev pub imported_twice : CoreImport → Failure
 imported_twice i = failures.Refused (refusals.ImportTwice i.«module» i.field)
 
--- the groups with one core import more, which isn't there yet
+-- the groups with one core import more, which is new
 unfoldable pub group_after : Resolved → Roles → CoreModule → List Group → CoreImport → Result (List Group) Failure
 group_after r table core groups i =
     if is_some (found i.field (fields_in groups i.«module»)) then Err (imported_twice i)

@@ -13,12 +13,12 @@ use Rattle.record_core_types.specs.Guarantees.{IsCalled}
 use Rattle.record_imports.specs.declared.grouping.Group.{Group}
 use Rattle.record_imports.specs.Meaning.{world_id}
 
--- what an import names stands in the resolve, and the root function that it is for is the world's
+-- what an import names exists in the resolve, and the root function of its role is the world's
 pub record IsChecked (r : Resolve) (import : Import) : Type 0 where
   pub present : HasRole r import
   pub called : IsCalled r world_id import
 
--- no field of a module is there twice, and each import is met
+-- no field of a module occurs twice, and each import is checked
 pub record IsGood (r : Resolve) (g : Group) : Type 0 where
   pub apart : IsDistinct bytes_eq (keys_of g.fields)
   pub checks : AllByRecursion (λ f. IsChecked r f.1) g.fields
@@ -26,7 +26,7 @@ pub record IsGood (r : Resolve) (g : Group) : Type 0 where
 pub record AreGood (r : Resolve) (gs : List Group) : Type 0 where
   pub each : AllByRecursion (IsGood r) gs
 
--- the fields of a module are told one by one, and none is there twice
+-- the fields of a module are listed one by one, and none occurs twice
 abbrev pub HasDistinctFields : List ℕ × ImportInstance → Type 0
 HasDistinctFields (name, instances.Names fields) = IsDistinct bytes_eq (map (λ f. f.0) fields)
 HasDistinctFields (name, instances.Whole which) = ⊥

@@ -1,4 +1,4 @@
--- What the core imports of a main module are for, by module and field.
+-- The roles of the core imports of a main module, by module and field.
 use Rattle.std.specs.Prelude.{ℕ, List, [], Result, Ok}
 use Rattle.core_sections.specs.declared.core_module.CoreModule.{CoreModule}
 use Rattle.comp_roles.specs.declared.imports.ImportInstance.{ImportInstance}

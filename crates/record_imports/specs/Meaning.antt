@@ -1,8 +1,8 @@
--- What one core import of a main module is for (the roles are this project's own; what they ask for is the Canonical ABI's:
--- `canon lower` and the built-in functions).
+-- The role of one core import of a main module (the roles are this project's own; what they require is from the Canonical
+-- ABI: `canon lower` and the built-in functions).
 --
--- An import has to have a role, the role has to mean something in the world, and the import has to have the type that this
--- asks for.
+-- An import must have a role, the role must resolve in the world, and the import must have the type that the resolved role
+-- requires.
 use Rattle.std.specs.Prelude.{Bool, true, false, List, Option, Some, None, ok_or, Result, Ok, Err, ⊤, if◌then◌else◌}
 use Rattle.std.specs.Map.{lookup}
 use Rattle.core_sections.specs.declared.core_module.CoreModule.{CoreModule}
@@ -36,7 +36,7 @@ world_id = record { index = 0 }
 abbrev pub role_of : Roles → CoreImport → Option ImportRole
 role_of table i = lookup (is_same_import (record { «module» = i.«module»; field = i.field })) table
 
--- an export of another module, which a main module alone has none of
+-- an export of another module; for a main module alone there is no other
 abbrev pub is_of_other : ImportRole → Bool
 is_of_other (roles.MainExport name kind) = true
 is_of_other (roles.AdapterExport adapter name) = true
@@ -46,7 +46,7 @@ abbrev pub is_memory : ImportRole → Bool
 is_memory roles.Memory = true
 is_memory role = false
 
--- what a role means for an import of this type
+-- what a role resolves to, for an import of this type
 abbrev pub target : Resolved → CoreImport → ImportRole → ExternType → Option Import
 target r i role ty = if is_of_other role then None else resolved_import r i.field role (Some ty)
 
@@ -58,22 +58,22 @@ no_role i = failures.Refused (refusals.RoleMissing i.«module» i.field)
 abbrev pub unfit : CoreImport → Failure
 unfit i = failures.Refused (refusals.CoreType i.field)
 
--- The role of a memory means nothing where the import is no memory, any other where what it names isn't there.
+-- The role of a memory doesn't resolve where the import is no memory, any other where what it names does not exist.
 abbrev pub meaningless : CoreImport → ImportRole → Failure
 meaningless i role = if is_memory role then unfit i else no_role i
 
 -- ---- the import
 
--- what an import is for, where it has the type that this asks for
+-- the resolved role of an import, where the import has the type that it requires
 abbrev pub fitting : Resolved → CoreModule → CoreImport → Import → Result Import Failure
 fitting r core i import = if fits_import r.resolve world_id core import i.entity then Ok import else Err (unfit i)
 
--- a value, unless the step beside it was refused
+-- a value, unless its check was refused
 abbrev pub kept : {A : Type 0} → A → Result ⊤ Failure → Result A Failure
 kept value (Ok u) = Ok value
 kept value (Err e) = Err e
 
--- What a core import is for. Its type is made of numbers and references to any function alone, with limits of 32 bits.
+-- The resolved role of a core import. Its type is made of numbers and references to any function only, with limits of 32 bits.
 unfoldable pub import_of : Resolved → Roles → CoreModule → CoreImport → Result Import Failure
 import_of r table core i = do
   ty ← ok_or (extern_type core i.entity) (unfit i)

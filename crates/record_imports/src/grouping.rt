@@ -20,22 +20,22 @@ use record_resolve::Resolved;
 use record_values::{ImportName, ImportRole};
 use std::alloc::{AllocError, Global};
 
-/// The fields that a module imports from one other.
+/// The fields of one module that are imported.
 #[derive(Drop)]
 pub(crate) struct Group {
     pub name: Text,
     pub fields: Keyed<Text, Import>,
 }
 
-/// Groups of imports, in the order in which their modules were first mentioned, and where the group
-/// of each module stands.
+/// Groups of imports, in the order in which their modules first occur, and the position of the group of
+/// each module.
 #[derive(Drop)]
 struct Grouping {
     positions: Keyed<Text, usize>,
     groups: Vec<Group>,
 }
 
-/// Where a module's group stands, if there is one.
+/// The position of a module's group, if there is one.
 fn position_of(grouping: &Grouping, name: &Text) -> Option<usize>
     ensures { result ≡ found name.now grouping.now.positions }
 {
@@ -54,7 +54,7 @@ fn has_field(grouping: &Grouping, name: &Text, field: &Text) -> bool
     }
 }
 
-/// Adds a field to the group at a place, which lacks it.
+/// Adds a field, which is new, to the group at a position.
 fn add_field(
     grouping: Grouping,
     position: usize,
@@ -81,7 +81,8 @@ fn group_of(alloc: Global, name: Text, field: Text, role: Import) -> Result<Grou
     Ok(Group { name, fields })
 }
 
-/// Adds a group, whose module is named apart from it and has none.
+/// Adds a group, whose module is given as a name of its own and has no group yet. Kept apart for the
+/// prover.
 fn push_group(grouping: Grouping, name: Text, group: Group) -> Result<Grouping, AllocError>
     requires { found name grouping.positions ≡ None }
     ensures positions { IfOk result (λ g. g.positions ≡ grouping.positions ++ (name, length grouping.groups.items) ∷ []) }
@@ -96,7 +97,7 @@ fn push_group(grouping: Grouping, name: Text, group: Group) -> Result<Grouping, 
     Ok(Grouping { positions, groups })
 }
 
-/// Adds a group of one field, of a module that has none.
+/// Adds a group of one field, of a module that has no group yet.
 fn add_group(
     alloc: Global,
     grouping: Grouping,
@@ -113,7 +114,7 @@ fn add_group(
     push_group(grouping, name, group)
 }
 
-/// Adds a field to its module's group, which lacks it.
+/// Adds a field, which is new, to its module's group.
 fn put_field(
     alloc: Global,
     grouping: Grouping,
@@ -190,14 +191,14 @@ fn group_imports(
     Ok(grouping)
 }
 
-/// No two places are of one module.
+/// The positions are those of different modules. Kept apart for the prover.
 fn positions_are_apart(positions: &Keyed<Text, usize>)
     ensures { IsDistinct bytes_eq (keys_of positions.now) }
 {
     let _entries = positions.entries();
 }
 
-/// The groups alone.
+/// The groups without the positions.
 #[tactic(auto, using(crate::proofs::Groups::groups_apart))]
 fn into_groups(grouping: Grouping) -> Vec<Group>
     requires { grouping.positions ≡ positions_of 0 grouping.groups.items }
@@ -208,7 +209,7 @@ fn into_groups(grouping: Grouping) -> Vec<Group>
     grouping.groups
 }
 
-/// What the core imports are for, in groups of one module each.
+/// The roles of the core imports, in groups of one module each.
 pub(crate) fn read_groups(
     alloc: Global,
     resolved: &Resolved,

@@ -1,4 +1,4 @@
-//! What the core imports of a module are for.
+//! The roles of the core imports of a module.
 
 ghost use Rattle.std.specs.Prelude.{◌≡◌, IfOk, IfErr, IsOk};
 ghost use Rattle.std.specs.List.{IsDistinct, AllByRecursion, flat_map};
@@ -27,7 +27,7 @@ use record_resolve::Resolved;
 use record_values::{ImportName, ImportRole};
 use std::alloc::{AllocError, Global};
 
-/// The groups, of which no two are of one module, as a table.
+/// The groups, no two of which are of one module, as a table.
 fn table_of(alloc: Global, groups: Vec<Group>) -> Result<Keyed<Text, ImportInstance>, AllocError>
     requires { IsDistinct bytes_eq (keys_of (instances_of groups.items)) }
     ensures { IfOk result (λ t. t ≡ instances_of groups.items) }
@@ -50,7 +50,7 @@ fn map_of(alloc: Global, resolved: &Resolved, groups: Vec<Group>) -> Result<Impo
     Ok(ImportMap { modules })
 }
 
-/// What the core imports are for, where all of them take the memory of the first.
+/// The roles of the core imports, where all imports of the memory accept that of the first.
 #[tactic(auto, unfolding(crate::specs::Importing::imports_of))]
 fn read_all(
     alloc: Global,
@@ -68,17 +68,17 @@ fn read_all(
     Ok(map)
 }
 
-/// What the core imports of a main module are for, by module and field, in the order in which the modules
-/// and their fields are first mentioned.
+/// The roles of the core imports of a main module, by module and field, in the order in which the
+/// modules and their fields first occur.
 ///
-/// An import that has no role, whose role names what the world lacks, or whose role is an export of
-/// another module is refused as one without a role (`RoleMissing`); one whose type isn't that of its role,
-/// or has anything but numbers, references to any function and limits of 32 bits, by its field
-/// (`CoreType`), and so is the import of a memory that the memory of the first such import doesn't fit
-/// (core standard, validation: matching of limits); a module and field that are imported twice by both
-/// names (`ImportTwice`). The only other refusal is want of memory.
+/// An import that has no role, whose role names what the world does not have, or whose role is an
+/// export of another module is refused as one without a role (`RoleMissing`). One whose type is not
+/// that of its role, or has anything but numbers, references to any function and limits of 32 bits, is
+/// refused by its field (`CoreType`), and so is the import of a memory that the memory of the first
+/// such import doesn't fit (core standard, validation: matching of limits). A module and field that are
+/// imported twice are refused by both names (`ImportTwice`). The only other refusal is out of memory.
 ///
-/// What the imports name stands in the resolve, and of each root function the world imports one of this
+/// What the imports name exists in the resolve, and the world imports each root function under its
 /// name.
 #[tactic(auto, using(crate::proofs::Refusing::no_cause, crate::proofs::Refusing::has_cause))]
 pub fn read_imports(

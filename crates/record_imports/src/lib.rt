@@ -1,16 +1,18 @@
-//! What the core imports of a main module are for.
+//! The roles of the core imports of a main module.
 //!
-//! A record gives each core import a role, by the import's module and field; the resolve that was made of
-//! the record's world says what functions, types and interfaces the roles name. [`read_imports`] puts the
-//! two together: each import has to have a role, the role has to mean something in that world, and the
-//! import has to have the core type that this asks for. No module and field may be imported twice, and
-//! where the memory is imported several times, the first import gives it, and the others have to take it.
+//! A record gives each core import a role, by the import's module and field; the resolve that was made
+//! of the record's world has the functions, types and interfaces that the roles name. [`read_imports`]
+//! combines the two: each import must have a role, the role must resolve in that world, and the import
+//! must have the core type that the resolved role requires. No module and field may be imported twice,
+//! and where the memory is imported several times, the first import gives it, and the others must
+//! accept it.
 //!
-//! Upward this crate promises exactly what `specs/Importing.antt` gives, unless memory runs out; that what
-//! the imports name stands in the resolve, and that no module and no field of one is there twice. Each
+//! [`read_imports`] returns exactly what `specs/Importing.antt` gives, unless it runs out of memory;
+//! what the imports name exists in the resolve, and no module and no field of one occurs twice. Each
 //! refusal has its cause, and where a cause holds the call does not succeed: `specs/Causes.antt` lists
-//! them, in words that don't follow the code. A role that is an export of another module is refused: a main
-//! module alone has no other. How imports are met is decided above.
+//! the causes, in words that don't follow the code. A role that is an export of another module is
+//! refused: for a main module alone there is no other. The callers of this crate decide how imports are
+//! satisfied.
 //!
 //! In reading order: `meaning` (one import), `grouping` (the imports of each module), `memories`,
 //! `importing`.

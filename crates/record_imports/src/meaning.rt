@@ -1,4 +1,4 @@
-//! What one core import is for.
+//! The role of one core import.
 
 ghost use Rattle.std.specs.Prelude.{◌≡◌, Err, ok_or, IfOk};
 ghost use Rattle.std.specs.Option.{IfSome};
@@ -20,7 +20,7 @@ use record_values::{ImportName, ImportRole};
 use std::alloc::{AllocError, Global};
 use wit_data::WorldId;
 
-/// The refusal of an import that has no role, or whose role names what isn't there.
+/// The refusal of an import that has no role, or whose role names what does not exist.
 fn no_role<T>(alloc: Global, import: &CoreImport) -> Result<T, Failure>
     ensures { Gives (λ x. x) result (Err (no_role import.now)) }
 {
@@ -30,7 +30,7 @@ fn no_role<T>(alloc: Global, import: &CoreImport) -> Result<T, Failure>
     }))
 }
 
-/// The refusal of an import whose type isn't that of its role.
+/// The refusal of an import whose type is not that of its role.
 fn unfit<T>(alloc: Global, import: &CoreImport) -> Result<T, Failure>
     ensures { Gives (λ x. x) result (Err (unfit import.now)) }
 {
@@ -39,7 +39,7 @@ fn unfit<T>(alloc: Global, import: &CoreImport) -> Result<T, Failure>
     }))
 }
 
-/// The refusal of an import whose role means nothing.
+/// The refusal of an import whose role doesn't resolve.
 fn meaningless<T>(alloc: Global, import: &CoreImport, role: &ImportRole) -> Result<T, Failure>
     ensures { Gives (λ x. x) result (Err (meaningless import.now role.now)) }
 {
@@ -80,7 +80,7 @@ fn is_of_other(role: &ImportRole) -> bool
     }
 }
 
-/// What a role means for an import of a type, if it means anything.
+/// What a role resolves to for an import of a type, if it resolves.
 fn target(
     alloc: Global,
     resolved: &Resolved,
@@ -98,7 +98,7 @@ fn target(
     resolved_import(alloc, resolved, &import.field, role, Some(ty))
 }
 
-/// What the role of an import means for it.
+/// What the role of an import resolves to.
 fn meaning_of(
     alloc: Global,
     resolved: &Resolved,
@@ -116,7 +116,7 @@ fn meaning_of(
     }
 }
 
-/// Refuses an import whose type isn't that for which its meaning asks.
+/// Refuses an import whose type is not the one that its resolved role requires.
 #[tactic(auto, using(crate::proofs::Checking::returned))]
 fn check_type(
     alloc: Global,
@@ -135,7 +135,7 @@ fn check_type(
     if fits { Ok(()) } else { unfit(alloc, import) }
 }
 
-/// A value, unless the step beside it was refused.
+/// A value, unless its check was refused.
 fn unless_refused<T: Drop>(value: T, step: Result<(), Failure>) -> Result<T, Failure>
     ensures { result ≡ kept value step }
 {
@@ -145,7 +145,7 @@ fn unless_refused<T: Drop>(value: T, step: Result<(), Failure>) -> Result<T, Fai
     }
 }
 
-/// What a core import is for; what it names stands in the resolve.
+/// The resolved role of a core import; what it names exists in the resolve.
 #[tactic(auto, unfolding(crate::specs::Meaning::import_of), using(crate::proofs::Checking::concluded))]
 fn read_import(
     alloc: Global,
@@ -168,9 +168,9 @@ fn read_import(
     unless_refused(meaning, checked)
 }
 
-/// What a core import is for.
+/// The resolved role of a core import.
 ///
-/// What it names stands in the resolve, and where it is a root function, the world imports it under its
+/// What it names exists in the resolve, and where it is a root function, the world imports it under its
 /// own name.
 #[tactic(auto, using(crate::proofs::Checking::is_checked))]
 pub(crate) fn import_of(

@@ -1,4 +1,4 @@
-//! Whether all imports of the memory take the one that is given to the first.
+//! Whether all imports of the memory accept the one that is given to the first.
 
 ghost use Rattle.std.specs.Prelude.{◌≡◌, map, Err};
 ghost use Rattle.comp_roles.specs.Lookups.{core_import, memory_of_import};
@@ -11,7 +11,7 @@ use core_types::MemoryType;
 use record_faults::{Failure, Refusal};
 use std::alloc::Global;
 
-/// Whether a greatest size can be given where this one is asked for.
+/// Whether a maximum size can be given where this one is required.
 fn fits_maximum(offered: Option<u32>, asked: Option<u32>) -> bool
     ensures { result ≡ fits_maximum offered asked }
 {
@@ -22,14 +22,14 @@ fn fits_maximum(offered: Option<u32>, asked: Option<u32>) -> bool
     }
 }
 
-/// Whether a memory of the first type can be given where the second is asked for.
+/// Whether a memory of the first type can be given where the second is required.
 fn fits_memory(offered: MemoryType, asked: MemoryType) -> bool
     ensures { result ≡ fits_memory offered asked }
 {
     asked.minimum <= offered.minimum && fits_maximum(offered.maximum, asked.maximum)
 }
 
-/// Whether the first memory can be given to an import; what is no memory doesn't ask for it.
+/// Whether the first memory can be given to an import; an import that is no memory doesn't require it.
 fn takes(first: MemoryType, role: &Import) -> bool
     ensures { result ≡ takes first (memory_of_import role.now) }
 {
@@ -60,7 +60,7 @@ fn all_take(alloc: Global, first: MemoryType, imports: &[NamedImport<'_>]) -> Re
     Ok(())
 }
 
-/// Whether all imports of the memory take that of the first. The refusal tells the field of an import
+/// Whether all imports of the memory accept that of the first. The refusal names the field of an import
 /// that doesn't.
 #[tactic(auto, unfolding(crate::specs::Memories::memories_fit))]
 pub(crate) fn check_memories(alloc: Global, map: &ImportMap) -> Result<(), Failure>

@@ -1,4 +1,4 @@
--- What could be joined has no conflict.
+-- What could be merged has no conflict.
 use Rattle.std.proofs.Common.{◌≡◌, ◌⊎◌, inl, inr, ℕ, Bool, true, false, List, [], ◌∷◌, ◌++◌, Option, None, Some, Result, Ok, Err, cond, if◌then◌else◌, refl, sym, ap, subst, ◌∙◌, true≢false, is_some, is_ok}
 use Rattle.std.specs.Cmp.{IsEquivalence}
 use Rattle.std.specs.Map.{lookup}
@@ -19,7 +19,7 @@ use Rattle.record_merge.proofs.Saying.{lookup_alike, interface_laws, item_laws}
 pub same_some : {X : Type 0} (x y : X) → Some x ≡ Some y → x ≡ y
 same_some x y e = cc
 
--- an entry stays, whatever comes behind it
+-- an entry is kept, whatever comes after it
 pub lookup_kept : {K X : Type 0} (eq : K → K → Bool) (k : K) (x : X) (es more : List (K × X)) → lookup (eq k) es ≡ Some x → lookup (eq k) (es ++ more) ≡ Some x
 lookup_kept eq k x [] more h = absurd cc
 lookup_kept eq k x (e ∷ es) more h = by (eq k e.0) h (λ later. lookup_kept eq k x es more later)
@@ -44,7 +44,7 @@ lookup_pushed eq k x (e ∷ es) same h = by (eq k e.0) h (λ later. lookup_pushe
     by true h more = absurd cc
     by false h more = more h
 
--- a table took an entry: it had it with the same value, or has it now
+-- a table took an entry: it had the entry with the same value, or has it now
 module _ {K X : Type 0} (eq : K → K → Bool) (same : X → X → Bool) (text : K → List ℕ) where
   pub entry_ok : (table more : List (K × X)) (k : K) (x : X) → with_entry eq same text table k x ≡ Ok more
       → ((y : X) × (lookup (eq k) table ≡ Some y) × (same y x ≡ true) × (more ≡ table)) ⊎ ((lookup (eq k) table ≡ None) × (more ≡ table ++ (k, x) ∷ []))
@@ -68,7 +68,7 @@ module _ {K X : Type 0} (eq : K → K → Bool) (same : X → X → Bool) (text 
       ]
 
   module _ (laws : IsEquivalence eq) (one : IsOne same) where
-    -- what both say of a key is one
+    -- the values that both have for a key are one
     pub entries_agree : (a b t : List (K × X)) → merged_entries eq same text a b ≡ Ok t → (k : K) (x y : X) → lookup (eq k) a ≡ Some x → lookup (eq k) b ≡ Some y → x ≡ y
     entries_agree a [] t is k x y first second = absurd cc
     entries_agree a (e ∷ es) t is k x y first second =
@@ -99,7 +99,7 @@ module _ {K X : Type 0} (eq : K → K → Bool) (laws : IsEquivalence eq) (repor
       by true none is again = true≢false (sym (ap is_ok is))
       by false none is again = split (eq k e.0) refl second none (again is)
 
--- the tables of a joint world
+-- the tables of a merged world
 pub record Combined (t : Tests) (a b w : Wit) : Type 0 where
   pub interfaces : merged_entries is_same_interface t.interface name_text a.interfaces b.interfaces ≡ Ok w.interfaces
   pub imports : merged_entries is_same_item t.item key_text a.imports b.imports ≡ Ok w.imports
@@ -122,7 +122,7 @@ merged_is t a b w e =
 abbrev pub world_tests : Tests
 world_tests = record { interface = interfaces.eq-value.it; item = items.eq-value.it }
 
--- worlds that could be joined have no conflict
+-- worlds that could be merged have no conflict
 pub no_conflict : (a b w : Wit) → merged_wit world_tests a b ≡ Ok w → (name : List ℕ) → WorldConflict a b name → ⊥
 no_conflict a b w e name (interface_differs c) = c.unequal (entries_agree is_same_interface interfaces.eq-value.it name_text interface_laws one_interface a.interfaces b.interfaces w.interfaces (merged_is world_tests a b w e).interfaces c.key c.one c.other c.first c.second)
 no_conflict a b w e name (import_differs c) = c.unequal (entries_agree is_same_item items.eq-value.it key_text item_laws one_item a.imports b.imports w.imports (merged_is world_tests a b w e).imports c.key c.one c.other c.first c.second)

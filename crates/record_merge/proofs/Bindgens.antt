@@ -1,4 +1,4 @@
--- Why the records of one module can't hold together: worlds or roles.
+-- Why the records of one module contradict each other: worlds or roles.
 use Rattle.std.proofs.Common.{◌≡◌, ℕ, List, [], Result, Ok, Err, refl, sym, ap, subst, inl, inr, true≢false, is_ok}
 use Rattle.std.specs.Prelude.{◌≢◌, IfErr, IsErrAnd}
 use Rattle.std.specs.List.{list_any}
@@ -38,7 +38,7 @@ merged_import_roles all = roles_after is_same_import import_eq.eq-value.it (λ n
 abbrev merged_export_roles : List (Assigned (List ℕ) ExportRole) → Result (List (List ℕ × ExportRole)) Failure
 merged_export_roles all = roles_after bytes_eq export_eq.eq-value.it (λ f. f) [] all
 
--- what roles that hold together were joined to
+-- what roles without a conflict were merged to
 record AreMerged (imports : List (Assigned ImportName ImportRole)) (exports : List (Assigned (List ℕ) ExportRole)) : Type 0 where
   is : List (ImportName × ImportRole)
   es : List (List ℕ × ExportRole)

@@ -1,4 +1,4 @@
--- Why tables can't be joined.
+-- Why tables can't be merged.
 use Rattle.std.proofs.Common.{◌≡◌, ℕ, Bool, true, false, List, [], ◌∷◌, ◌++◌, Option, None, Some, Ok, Err, cond, if◌then◌else◌, refl, sym, ap, subst, ◌∙◌, true≢false, is_some}
 use Rattle.std.specs.Prelude.{◌≢◌, Result, IfErr}
 use Rattle.std.specs.Cmp.{IsEquivalence}
@@ -24,7 +24,7 @@ module _ {K X : Type 0} (eq : K → K → Bool) (laws : IsEquivalence eq) where
   none_of j [] h = refl
   none_of j (e ∷ es) h = ap (λ b. cond b (Some e.1) (lookup (eq j) es)) h.0 ∙ none_of j es h.1
 
-  -- a key that stands later isn't that of the entry
+  -- a key that occurs later is not that of the entry
   apart_from : (k : K) (e : K × X) (es : List (K × X)) → IsDistinct eq (keys_of (e ∷ es)) → is_some (lookup (eq k) es) ≡ true → eq k e.0 ≡ false
   apart_from k e es d there = by (eq k e.0) refl
     where
@@ -32,7 +32,7 @@ module _ {K X : Type 0} (eq : K → K → Bool) (laws : IsEquivalence eq) where
       by false h = refl
       by true h = absurd (true≢false (sym there ∙ ap is_some (lookup_alike eq laws k e.0 h es ∙ none_of e.0 es (IsDistinct-head eq e.0 (keys_of es) d))))
 
-  -- so a look-up passes over it, behind or before
+  -- so a look-up passes over the entry, whether the key is after it or before
   passes_last : (k : K) (a : List (K × X)) (e : K × X) → eq k e.0 ≡ false → lookup (eq k) (a ++ e ∷ []) ≡ lookup (eq k) a
   passes_last k a e h = sym (none_or (lookup (eq k) (a ++ e ∷ []))) ∙ lookup_last eq laws k a e None ∙ ap (λ b. or_else (lookup (eq k) a) (cond b (Some e.1) None)) h ∙ none_or (lookup (eq k) a)
 
@@ -93,7 +93,7 @@ module _ {K X : Type 0} (eq : K → K → Bool) (laws : IsEquivalence eq) where
       differs_here : (y x : X) → same y x ≡ false → y ≢ x
       differs_here y x h e = true≢false (sym (sames.refl x) ∙ ap (λ z. same z x) (sym e) ∙ h)
 
-      -- where tables can't be joined, a key is in both with different values
+      -- where tables can't be merged, a key is in both with different values
       pub entries_refused : (a b : List (K × X)) (f : Failure) → IsDistinct eq (keys_of b) → merged_entries eq same text a b ≡ Err f → Named (Differs eq text a b) f
       entries_refused a [] f d e = absurd cc
       entries_refused a (x ∷ es) f d e = by (lookup (eq x.0) a) refl e (λ more later. entries_refused more es f (IsDistinct-tail eq x.0 (keys_of es) d) later)
@@ -112,7 +112,7 @@ module _ {K X : Type 0} (eq : K → K → Bool) (laws : IsEquivalence eq) where
       entries_cause a b failures.Memory d h = memory refl
       entries_cause a b (failures.Refused r) d h = caused (entries_refused a b (failures.Refused r) d (h (λ m. cc)))
 
--- what is wrong with a table is wrong with its world
+-- a conflict of tables is one of their worlds
 pub of_interfaces : (a b : Wit) (f : Failure) → Unless (Named (Differs is_same_interface name_text a.interfaces b.interfaces)) f → Unless (Named (WorldConflict a b)) f
 of_interfaces a b f (memory e) = memory e
 of_interfaces a b f (caused c) = caused (record { name = c.name; is = c.is; why = interface_differs c.why })
@@ -128,11 +128,11 @@ of_exports a b f (caused c) = caused (record { name = c.name; is = c.is; why = e
 pub by_memory : (a b : Wit) → Unless (Named (WorldConflict a b)) failures.Memory
 by_memory a b = memory refl
 
--- a cause for a copy is one for what it was copied of
+-- a cause for a copy is one for the original
 pub of_copy : (a b copied : Wit) (r : Result Wit Failure) → IfErr r (Unless (Named (WorldConflict copied b))) → copied ≡ a → IfErr r (Unless (Named (WorldConflict a b)))
 of_copy a b copied r c is = subst (λ (w : Wit). IfErr r (Unless (Named (WorldConflict w b)))) is c
 
--- where memory isn't lacking, the cause is there
+-- where memory didn't run out, the cause holds
 pub reported : (cause : List ℕ → Type 0) (f : Failure) → Unless (Named cause) f → f ≢ failures.Memory → (name : List ℕ) × (f ≡ conflict name) × cause name
 reported cause f (memory e) h = absurd (h e)
 reported cause f (caused c) h = (c.name, c.is, c.why)

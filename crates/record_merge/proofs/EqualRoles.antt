@@ -50,7 +50,7 @@ one_operation x y e = search rules
 one_plain : IsOne plain_eq.eq-value.it
 one_plain x y e = search rules
 
--- an owner and a name behind it
+-- an owner and a name after it
 one_owned : (o p : Owner) (n m : List ℕ) → (is_same_owner o p && bytes_eq n m) ≡ true → (o ≡ p) × (n ≡ m)
 one_owned o p n m e = let b = both (is_same_owner o p) (bytes_eq n m) e in (one_owner o p b.0, one_text n m b.1)
 
@@ -102,7 +102,7 @@ one_export_role (exports.Destructor a) (exports.Destructor b) e = ap exports.Des
 one_export_role (exports.Plain a) (exports.Plain b) e = ap exports.Plain (one_plain a b e)
 one_export_role x y e = absurd (true≢false (sym e))
 
--- ---- and a role equals itself
+-- ---- a role equals itself
 
 abbrev EqualsItself : {X : Type 0} → (X → X → Bool) → Type 0
 EqualsItself {X} eq = (x : X) → eq x x ≡ true

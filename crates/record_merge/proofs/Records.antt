@@ -1,4 +1,4 @@
--- Why records can't hold together.
+-- Why records contradict each other.
 use Rattle.std.proofs.Common.{◌≡◌, ◌⊎◌, inl, inr, ℕ, true, List, [], ◌∷◌, ◌++◌, Option, None, Some, Result, Ok, refl, sym, ap, subst, ◌∙◌, append_assoc, true≢false, is_some, take, drop, length, get_or, ◌+◌, ◌<◌}
 use Rattle.std.proofs.lemmas.List.{take_more, take-append-drop, drop_more}
 use Rattle.std.specs.Map.{lookup}
@@ -51,7 +51,7 @@ has_more P seen r h = record {
 has_now : (P : Wit → Type 0) (seen : List Record) (r : Record) → P r.wit → HasWorld P (seen ++ r ∷ [])
 has_now P seen r h = record { before = seen; one = r; after = []; is = refl; has = h }
 
--- what a joint world says, one of the records says
+-- what a merged world says, one of the records says
 pub record WorldsFrom (seen : List Record) (w : Wit) : Type 0 where
   interfaces : (k : InterfaceName) (x : Interface) → lookup (is_same_interface k) w.interfaces ≡ Some x → HasWorld (λ v. lookup (is_same_interface k) v.interfaces ≡ Some x) seen
   imports : (k : ItemKey) (x : Item) → lookup (is_same_item k) w.imports ≡ Some x → HasWorld (λ v. lookup (is_same_item k) v.imports ≡ Some x) seen
@@ -78,7 +78,7 @@ step seen w v r from e =
       ];
     }
 
--- a conflict with the joint world is one with a record's
+-- a conflict with the merged world is one with a record's
 two_worlds : (all seen more : List Record) (r : Record) (w : Wit) (name : List ℕ) → WorldsFrom seen w → all ≡ seen ++ r ∷ more → WorldConflict w r.wit name → TwoWorlds all name
 two_worlds all seen more r w name from whole (interface_differs c) =
     let h = from.interfaces c.key c.one c.first in
@@ -118,9 +118,9 @@ pub worlds_caused : (all seen more : List Record) (r : Record) (w : Wit) (f : Fa
 worlds_caused all seen more r w f from whole (memory e) = memory e
 worlds_caused all seen more r w f from whole (caused c) = caused (record { name = c.name; is = c.is; why = two_worlds all seen more r w c.name from whole c.why })
 
--- ---- and the other way
+-- ---- the converse
 
--- a joint world says what this one says
+-- a merged world says what this one says
 record Holds (w a : Wit) : Type 0 where
   interfaces : (k : InterfaceName) (x : Interface) → lookup (is_same_interface k) a.interfaces ≡ Some x → lookup (is_same_interface k) w.interfaces ≡ Some x
   imports : (k : ItemKey) (x : Item) → lookup (is_same_item k) a.imports ≡ Some x → lookup (is_same_item k) w.imports ≡ Some x

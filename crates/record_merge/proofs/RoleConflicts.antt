@@ -1,4 +1,4 @@
--- Why roles can't hold together.
+-- Why roles contradict each other.
 use Rattle.std.proofs.Common.{◌≡◌, ◌⊎◌, inl, inr, ℕ, Bool, true, false, List, [], ◌∷◌, ◌++◌, Option, None, Some, Ok, Err, cond, if◌then◌else◌, map, refl, sym, ap, ◌∙◌, append_assoc, true≢false, is_some, is_ok, rules}
 use Rattle.std.specs.Cmp.{IsEquivalence}
 use Rattle.std.specs.Cmp.Lexicographic.{lists_equiv}
@@ -54,7 +54,7 @@ entry_err {K} {X} eq same text table k x f e = by (lookup (eq k) table) refl e
     by None there e = absurd (true≢false (ap is_ok e))
     by (Some y) there e = choose y (same y x) refl there e
 
--- a role of the table was said of this name
+-- a role of the table was given to this name
 pub record RoleFrom {K R : Type 0} (eq : K → K → Bool) (seen : List (Assigned K R)) (k : K) (r : R) : Type 0 where
   before : List (Assigned K R)
   a : Assigned K R
@@ -89,7 +89,7 @@ from_more {K} {R} eq same field seen table more a from e k r there =
     }
 
 module _ {K R : Type 0} (eq : K → K → Bool) (same : R → R → Bool) (field : K → List ℕ) where
-  -- where roles can't be joined, a name has two
+  -- where roles can't be merged, a name has two
   pub roles_refused : (reflexive : (r : R) → same r r ≡ true) (all seen more : List (Assigned K R)) (table : List (K × R)) (f : Failure) → From eq seen table → all ≡ seen ++ more
       → roles_after eq same field table more ≡ Err f → Named (TwoRoles eq field all) f
   roles_refused reflexive all seen [] table f from whole e = absurd (true≢false (ap is_ok e))
@@ -114,7 +114,7 @@ module _ {K R : Type 0} (eq : K → K → Bool) (same : R → R → Bool) (field
       ]
 
   module _ (laws : IsEquivalence eq) (one : IsOne same) where
-    -- once a role stands in the table, no other one of the name is taken
+    -- once a role is in the table, no other one of the name is taken
     none_other : (table merged_entries : List (K × R)) (between after : List (Assigned K R)) (second : Assigned K R) (k : K) (r : R) → lookup (eq k) table ≡ Some r → eq second.key k ≡ true
         → roles_after eq same field table (between ++ second ∷ after) ≡ Ok merged_entries → r ≡ second.role
     none_other table merged_entries [] after second k r there alike e =
@@ -128,7 +128,7 @@ module _ {K R : Type 0} (eq : K → K → Bool) (same : R → R → Bool) (field
         let t = bind_ok (with_entry eq same field table b.key b.role) (λ x. roles_after eq same field x (between ++ second ∷ after)) merged_entries e in
         none_other t.0 merged_entries between after second k r (entry_keeps eq same field table t.0 b.key b.role k r t.1 there) alike t.2
 
-    -- roles of one name that were joined are one
+    -- roles of one name that were merged are one
     roles_agree : (table merged_entries : List (K × R)) (before between after : List (Assigned K R)) (first second : Assigned K R) → eq second.key first.key ≡ true
         → roles_after eq same field table (before ++ (first ∷ (between ++ second ∷ after))) ≡ Ok merged_entries → first.role ≡ second.role
     roles_agree table merged_entries [] between after first second alike e =

@@ -1,4 +1,4 @@
--- What joint tables say, and joint worlds.
+-- What merged tables say, and merged worlds.
 use Rattle.std.proofs.Common.{◌≡◌, ℕ, Bool, true, false, List, [], ◌∷◌, ◌++◌, Option, None, Some, Result, Ok, Err, cond, if◌then◌else◌, refl, sym, ap, subst, ◌∙◌, true≢false, is_some, is_ok, rules}
 use Rattle.std.specs.Cmp.{IsEquivalence}
 use Rattle.std.specs.Cmp.Rules.{comparing}
@@ -45,7 +45,7 @@ module _ {K X : Type 0} (eq : K → K → Bool) (laws : IsEquivalence eq) where
       by false h = refl
 
   module _ (same : X → X → Bool) (text : K → List ℕ) where
-    -- what a joint table says of a key is what the first says, or else what the second says
+    -- a merged table has for a key what the first has, or else what the second has
     pub entries_say : (a b t : List (K × X)) → merged_entries eq same text a b ≡ Ok t → (k : K) → lookup (eq k) t ≡ or_else (lookup (eq k) a) (lookup (eq k) b)
     entries_say a [] t is k = subst (λ u. lookup (eq k) u ≡ or_else (lookup (eq k) a) None) (ap (given a) is) (no_more (lookup (eq k) a))
     entries_say a (e ∷ es) t is k = by (lookup (eq e.0) a) refl is (λ more p. entries_say more es t p k)
@@ -73,7 +73,7 @@ interface_laws = Prim.search (comparing, rules)
 pub item_laws : IsEquivalence is_same_item
 item_laws = Prim.search (comparing, rules)
 
--- what a joint world says of each name and key
+-- what a merged world has for each name and key
 pub merged_says : (t : Tests) (a b w : Wit) → merged_wit t a b ≡ Ok w → Says a b w
 unfolding merged_wit
 merged_says t a b w e =

@@ -1,4 +1,4 @@
--- When merging is refused: what is said of a name in two places, and differs.
+-- When merging is refused: two of the merged things say different things of a name.
 use Rattle.std.specs.Prelude.{◌≡◌, ◌≢◌, ℕ, Bool, true, List, [], ◌∷◌, ◌++◌, Some, is_some}
 use Rattle.std.specs.List.{flat_map}
 use Rattle.std.specs.Map.{lookup}
@@ -16,7 +16,7 @@ use Rattle.record_values.specs.Names.{is_same_interface, is_same_item, is_same_i
 use Rattle.record_merge.specs.Tables.{conflict}
 use Rattle.record_merge.specs.ModuleRecords.{without_abi}
 
--- a key of this text stands in both tables, with different values
+-- a key of this text is in both tables, with different values
 pub record Differs {K X : Type 0} (eq : K → K → Bool) (text : K → List ℕ) (a b : List (K × X)) (name : List ℕ) : Type 0 where
   pub key : K
   pub one : X
@@ -26,14 +26,14 @@ pub record Differs {K X : Type 0} (eq : K → K → Bool) (text : K → List ℕ
   pub unequal : one ≢ other
   pub reported : text key ≡ name
 
--- a key of this text stands in both tables
+-- a key of this text is in both tables
 pub record IsInBoth {K X : Type 0} (eq : K → K → Bool) (text : K → List ℕ) (a b : List (K × X)) (name : List ℕ) : Type 0 where
   pub key : K
   pub first : is_some (lookup (eq key) a) ≡ true
   pub second : is_some (lookup (eq key) b) ≡ true
   pub reported : text key ≡ name
 
--- why two worlds can't be joined
+-- why two worlds can't be merged
 pub data WorldConflict (a b : Wit) (name : List ℕ) : Type 0 where
   -- both have an interface of this name, and they differ
   interface_differs : Differs is_same_interface name_text a.interfaces b.interfaces name → WorldConflict a b name
@@ -48,12 +48,12 @@ pub record Named (cause : List ℕ → Type 0) (failure : Failure) : Type 0 wher
   pub is : failure ≡ conflict name
   pub why : cause name
 
--- what may be told of a step that can also lack memory
+-- the causes of a step that can also run out of memory
 pub data Unless (cause : Failure → Type 0) (failure : Failure) : Type 0 where
   memory : failure ≡ failures.Memory → Unless cause failure
   caused : cause failure → Unless cause failure
 
--- the worlds of two of these records can't be joined
+-- the worlds of two of these records can't be merged
 pub record TwoWorlds (records : List Record) (name : List ℕ) : Type 0 where
   pub before : List Record
   pub first : Record
@@ -79,11 +79,11 @@ abbrev pub with_first_roles : List (List ℕ × ExportRole) → List (Assigned (
 with_first_roles table [] = table
 with_first_roles table (a ∷ more) = with_first_roles (with_first bytes_eq table a.key a.role) more
 
--- the fields in the order in which they are first named, each with its first role
+-- the fields in the order in which they first occur, each with its first role
 abbrev pub first_roles : List (Assigned (List ℕ) ExportRole) → List (List ℕ × ExportRole)
 first_roles all = with_first_roles [] all
 
--- two of these fields have one role, its form of calls apart; this is the later one
+-- two of these fields have the same role, except for the form of calls; this is the later one
 pub record TwoFields (fields : List (List ℕ × ExportRole)) (name : List ℕ) : Type 0 where
   pub before : List (List ℕ × ExportRole)
   pub first : List ℕ × ExportRole
@@ -100,7 +100,7 @@ all_import_roles records = flat_map (λ r. r.import_roles) records
 abbrev pub all_export_roles : List Record → List (Assigned (List ℕ) ExportRole)
 all_export_roles records = flat_map (λ r. r.export_roles) records
 
--- why the records of one module can't hold together
+-- why the records of one module contradict each other
 pub data RecordsConflict (records : List Record) (name : List ℕ) : Type 0 where
   worlds : TwoWorlds records name → RecordsConflict records name
   -- a core import, or a field, has two roles

@@ -1,4 +1,4 @@
--- How functions spell texts: as the first record says that names them.
+-- The string encodings of functions: those of the first record that names them.
 use Rattle.std.specs.Prelude.{List, [], ◌∷◌, Option, None, Some}
 use Rattle.std.specs.Map.{lookup}
 use Rattle.comp_lists.specs.Tables.{with_first}
@@ -15,11 +15,11 @@ use Rattle.record_values.specs.Names.{is_same_interface}
 use Rattle.record_merge.specs.declared.bindgen.FunctionOf.{FunctionOf}
 use Rattle.record_merge.specs.Said.{is_same_function}
 
--- functions beside their encodings
+-- functions with their encodings
 abbrev pub Encodings : Type 0
 Encodings = List (FunctionOf × StringEncoding)
 
--- a table with functions of an import or export that it lacks
+-- a table with functions of an import or export that it does not have
 abbrev pub with_functions : StringEncoding → ItemKey → Encodings → List Func → Encodings
 with_functions encoding key table [] = table
 with_functions encoding key table (f ∷ fs) =
@@ -29,7 +29,7 @@ abbrev pub with_functions_of : StringEncoding → ItemKey → Encodings → Opti
 with_functions_of encoding key table None = table
 with_functions_of encoding key table (Some i) = with_functions encoding key table i.functions
 
--- an import or export names itself where it is a function, and the functions of its interface
+-- the functions of an import or export: itself where it is a function, and those of its interface
 abbrev pub with_item : List (InterfaceName × Interface) → StringEncoding → Encodings → ItemKey → Item → Encodings
 with_item interfaces encoding table key (items.Interface name) = with_functions_of encoding key table (lookup (is_same_interface name) interfaces)
 with_item interfaces encoding table key (items.Function f) = with_functions encoding key table (f ∷ [])

@@ -1,7 +1,7 @@
--- What two say of their world together.
+-- What two modules, or two records, say of their world together.
 --
--- Interfaces of one name must be equal. Imports are joined by key, in order, and equal keys must be equal items. No export may
--- be in both.
+-- Interfaces of one name must be equal. Imports are merged by key, in order, and equal keys must be equal items. No export
+-- may be in both.
 use Rattle.std.specs.Prelude.{◌≡◌, Bool, List, Result, Ok, map}
 use Rattle.std.specs.Map.{lookup}
 use Rattle.comp_worlds.specs.declared.gathered.ExportKey.{ExportKey}
@@ -35,7 +35,7 @@ merged_wit t a b = do
   exports ← exports_apart a.exports b.exports
   Ok (record { interfaces = interfaces; imports = imports; exports = exports })
 
--- what a joint world says of each name and key is what the first says, or else what the second says
+-- a merged world has for each name and key what the first has, or else what the second has
 pub record Says (a b combined : Wit) : Type 0 where
   pub interfaces : (k : InterfaceName) → lookup (is_same_interface k) combined.interfaces ≡ or_else (lookup (is_same_interface k) a.interfaces) (lookup (is_same_interface k) b.interfaces)
   pub imports : (k : ItemKey) → lookup (is_same_item k) combined.imports ≡ or_else (lookup (is_same_item k) a.imports) (lookup (is_same_item k) b.imports)

@@ -1,7 +1,7 @@
 -- What the records of one module say together.
 --
--- Their worlds are joined as those of modules. What a core import or export is for may be said more than once, but not in two
--- ways, and an export role, its form of calls apart, is that of one field.
+-- Their worlds are merged like those of modules. The role of a core import or export may be given several times, but not
+-- two different ones, and an export role, except for its form of calls, is that of one field.
 use Rattle.std.specs.Prelude.{ℕ, Bool, List, [], ◌∷◌, Result, Ok, map}
 use Rattle.std.specs.List.{flat_map, list_any}
 use Rattle.std.specs.Str.{bytes_eq}
@@ -33,17 +33,17 @@ pub record RoleTests : Type 0 where
   pub import_role : ImportRole → ImportRole → Bool
   pub export_role : ExportRole → ExportRole → Bool
 
--- a table with more roles: a name that has one has to have the same
+-- a table with more roles: a name that has one must have the same
 abbrev pub roles_after : {K R : Type 0} → (K → K → Bool) → (R → R → Bool) → (K → List ℕ) → List (K × R) → List (Assigned K R) → Result (List (K × R)) Failure
 roles_after eq same field table [] = Ok table
 roles_after eq same field table (a ∷ more) = with_entry eq same field table a.key a.role >>= λ t. roles_after eq same field t more
 
--- a role, its form of calls apart
+-- a role, except for its form of calls
 abbrev pub without_abi : ExportRole → ExportRole
 without_abi (roles.Function owner name abi) = roles.Function owner name abis.GuestExport
 without_abi role = role
 
--- each role is that of one field, its form of calls apart
+-- each role is that of one field, except for its form of calls
 abbrev pub one_field_each : (ExportRole → ExportRole → Bool) → List (List ℕ × ExportRole) → Result (List (ExportRole × List ℕ)) Failure
 one_field_each same es = apart same (λ e. e.1) [] (map (λ e. (without_abi e.1, e.0)) es)
 

@@ -1,4 +1,4 @@
--- What is said of a world and of a module's core imports and exports, and what it is where nothing is said.
+-- What is said of a world and of a module's core imports and exports, and the values where nothing is said.
 use Rattle.std.specs.Prelude.{Bool, false, []}
 use Rattle.std.specs.Ordering.{on, eq_of_both}
 use Rattle.std.specs.Str.{bytes_eq}
@@ -8,7 +8,7 @@ use Rattle.record_merge.specs.declared.bindgen.FunctionOf.{FunctionOf}
 use Rattle.record_merge.specs.declared.bindgen.Roles.{Roles}
 use Rattle.record_merge.specs.declared.bindgen.Bindgen.{Bindgen}
 
--- functions of one import or export and of one name are the same
+-- functions are the same if they have one name and are of one import or export
 abbrev pub is_same_function : FunctionOf → FunctionOf → Bool
 is_same_function = eq_of_both (on (λ f. f.key) is_same_item) (on (λ f. f.function) bytes_eq)
 

@@ -1,4 +1,4 @@
--- What two tables say together.
+-- Two tables merged.
 use Rattle.std.specs.Prelude.{ℕ, Bool, List, [], ◌∷◌, ◌++◌, Result, Ok, Err, if◌then◌else◌, Option, None, Some, is_some}
 use Rattle.std.specs.Option.{option_map_or}
 use Rattle.std.specs.Map.{lookup}
@@ -7,7 +7,7 @@ use Rattle.json_paths.specs.declared.fault.Failure.TheVariants as failures
 use Rattle.json_paths.specs.declared.fault.Refusal.TheVariants as refusals
 use Rattle.json_paths.specs.Faults.{◌>>=◌}
 
--- what is said of this name can't all hold
+-- what is said of this name contradicts itself
 abbrev pub conflict : List ℕ → Failure
 conflict name = failures.Refused (refusals.MergeConflict name)
 
@@ -16,20 +16,20 @@ or_else (Some x) y = Some x
 or_else None y = y
 
 module _ {K X : Type 0} (eq : K → K → Bool) (same : X → X → Bool) (text : K → List ℕ) where
-  -- a table with one entry more: of a key that is there the same must be said, and a new one goes last
+  -- a table with one entry more: a key that the table has must have the same value, and a new one goes last
   abbrev pub with_entry : List (K × X) → K → X → Result (List (K × X)) Failure
   with_entry table k x = option_map_or
       (λ y. if same y x then Ok table else Err (conflict (text k)))
       (lookup (eq k) table)
       (Ok (table ++ (k, x) ∷ []))
 
-  -- a table with the entries of another: of a key that both have both must say the same
+  -- a table with the entries of another: a key that both have must have the same value in both
   abbrev pub merged_entries : List (K × X) → List (K × X) → Result (List (K × X)) Failure
   merged_entries table [] = Ok table
   merged_entries table (e ∷ es) = with_entry table e.0 e.1 >>= λ t. merged_entries t es
 
 module _ {K X : Type 0} (eq : K → K → Bool) (reported : K × X → List ℕ) where
-  -- a table with the entries of another, where no key may stand twice
+  -- a table with the entries of another, where no key may occur twice
   abbrev pub apart : List (K × X) → List (K × X) → Result (List (K × X)) Failure
   apart table [] = Ok table
   apart table (e ∷ es) = if is_some (lookup (eq e.0) table) then Err (conflict (reported e)) else apart (table ++ e ∷ []) es

@@ -1,4 +1,4 @@
-//! What core imports and core exports are for, as the records of one module say together.
+//! The roles of core imports and core exports, from all records of one module.
 
 ghost use Rattle.std.specs.Prelude.{◌≡◌, [], ◌∷◌, ◌++◌, IfOk, OnOk};
 ghost use Rattle.std.specs.List.{flat_map};
@@ -13,14 +13,14 @@ use record_values::{Assigned, ExportRole, ImportName, ImportRole, Record};
 use std::alloc::{AllocError, Global};
 use wit_data::AbiVariant;
 
-/// The roles of several records, one after the other.
+/// The roles of several records, in order.
 #[derive(Drop)]
 pub(crate) struct AssignedRoles {
     pub(crate) imports: Seq<Assigned<ImportName, ImportRole>>,
     pub(crate) exports: Seq<Assigned<Text, ExportRole>>,
 }
 
-/// What each core import and each field is for.
+/// The role of each core import and of each field.
 #[derive(Drop)]
 pub(crate) struct RoleTables {
     pub(crate) imports: Keyed<ImportName, ImportRole>,
@@ -59,7 +59,7 @@ pub(crate) fn take_roles(alloc: Global, records: Seq<Record>) -> Result<Assigned
     Ok(assigned)
 }
 
-/// Adds a role, unless its name has it.
+/// Adds a role; a name that has one must have the same.
 fn add_role<K: Key, R: PartialEq + Drop>(
     alloc: Global,
     table: &mut Keyed<K, R>,
@@ -84,7 +84,7 @@ fn add_role<K: Key, R: PartialEq + Drop>(
     }))
 }
 
-/// What each name is for.
+/// The role of each name.
 fn merge_roles<K: Key, R: PartialEq + Drop>(
     alloc: Global,
     assigned: Seq<Assigned<K, R>>,
@@ -98,7 +98,7 @@ fn merge_roles<K: Key, R: PartialEq + Drop>(
     Ok(table)
 }
 
-/// A copy of a role, its form of calls apart.
+/// A copy of a role, except for its form of calls.
 fn copy_without_abi(alloc: Global, role: &ExportRole) -> Result<ExportRole, AllocError>
     ensures { IfOk result (λ r. r ≡ without_abi role.now) }
 {
@@ -121,7 +121,7 @@ fn copy_without_abi(alloc: Global, role: &ExportRole) -> Result<ExportRole, Allo
     }
 }
 
-/// Adds the field of a role, which has to be new.
+/// Adds the field of a role, which must be new.
 fn put_field(
     fields: &mut Keyed<ExportRole, Text>,
     role: ExportRole,
@@ -135,7 +135,7 @@ fn put_field(
     Ok(fields.add(role, field)?)
 }
 
-/// Adds the field of a role, its form of calls apart.
+/// Adds the field of a role, except for the role's form of calls.
 fn add_field(
     alloc: Global,
     fields: &mut Keyed<ExportRole, Text>,
@@ -149,7 +149,7 @@ fn add_field(
     put_field(fields, role, field)
 }
 
-/// Each role is that of one field, its form of calls apart. The answer is the field of each.
+/// Checks that each role, except for its form of calls, is that of one field. Returns the field of each.
 #[tactic(auto, using(crate::proofs::Apart::continues, crate::proofs::Apart::stops))]
 fn check_fields(
     alloc: Global,
@@ -164,7 +164,7 @@ fn check_fields(
     Ok(fields)
 }
 
-/// What each core import and each field is for; each role is that of one field.
+/// The role of each core import and of each field; each role is that of one field.
 #[tactic(auto, unfolding(crate::specs::ModuleRecords::role_tables))]
 pub(crate) fn merge_tables(alloc: Global, assigned: AssignedRoles) -> Result<RoleTables, Failure>
     ensures { Gives (λ r. r) result (role_tables (record {

@@ -16,8 +16,8 @@ pub struct FunctionOf {
     pub function: Text,
 }
 
-/// What a module's core imports and exports are for, how its functions spell texts, and whether the
-/// task's second slot of storage is free. Several modules together have none of it.
+/// The roles of a module's core imports and exports, the string encodings of its functions, and whether
+/// the task's second slot of storage is free. The value for several modules has none of these.
 pub struct Roles {
     pub import_roles: Keyed<ImportName, ImportRole>,
     /// By field.
@@ -89,7 +89,7 @@ impl Hash for FunctionOf {
     }
 }
 
-/// A world without anything.
+/// An empty world.
 pub(crate) fn empty_wit(alloc: Global) -> Wit
     ensures { result ≡ no_wit }
 {
@@ -113,7 +113,7 @@ pub(crate) fn empty_roles(alloc: Global) -> Roles
     }
 }
 
-/// Nothing said.
+/// A value that says nothing.
 pub fn no_bindgen(alloc: Global) -> Bindgen
     ensures { result ≡ nothing_said }
 {

@@ -1,4 +1,4 @@
-//! How functions spell texts.
+//! The string encodings of functions.
 
 ghost use Rattle.std.specs.Prelude.{◌≡◌, [], IfOk, OnOk};
 ghost use Rattle.record_merge.specs.Encodings.{with_functions, with_item, with_items, encodings_after};
@@ -9,7 +9,7 @@ use record_values::{Func, Interface, InterfaceName, Item, ItemKey, Record};
 use standard_kinds::StringEncoding;
 use std::alloc::{AllocError, Global};
 
-/// Functions beside their encodings.
+/// Functions with their encodings.
 type Encodings = Keyed<FunctionOf, StringEncoding>;
 
 /// The encodings of imported and of exported functions.
@@ -19,7 +19,7 @@ pub(crate) struct BothEncodings {
     pub(crate) exports: Encodings,
 }
 
-/// Adds functions of an import or export that the table lacks.
+/// Adds functions of an import or export that the table does not have.
 fn add_functions(
     alloc: Global,
     table: &mut Encodings,
@@ -39,7 +39,7 @@ fn add_functions(
     Ok(())
 }
 
-/// Adds the functions that an import or export is or has.
+/// Adds the functions of an import or export: itself where it is one, and those of its interface.
 fn add_item(
     alloc: Global,
     table: &mut Encodings,

@@ -1,14 +1,15 @@
 //! What several records of one module say together, and what several modules say of their world.
 //!
-//! Worlds are joined by name and key: what both say of an interface or an import has to be the same, and
-//! no export may be in both. The roles of the records of one module are joined by core import and by
+//! Worlds are merged by name and key: what both say of an interface or an import must be the same, and
+//! no export may be in both. The roles of the records of one module are merged by core import and by
 //! field; a function has the encoding of the first record that names it.
 //!
-//! Upward each call promises exactly what its definition in `specs/` gives, unless memory runs out
-//! (`specs/Merging.antt`, `specs/ModuleRecords.antt`), and of a joint world also what its tables say of each
-//! key. `specs/Causes.antt` says when merging is refused. Nothing here knows how a record is spelled.
+//! Each public call returns exactly what its definition in `specs/` gives, unless it runs out of memory
+//! (`specs/Merging.antt`, `specs/ModuleRecords.antt`); of a merged world it also shows what its tables have
+//! for each key. `specs/Causes.antt` says when merging is refused. Nothing here knows the JSON of a
+//! record.
 //!
-//! In reading order: `bindgen` (what is said), `tables` (joining two tables), `merging` (worlds),
+//! In reading order: `bindgen` (what is said), `tables` (two tables merged), `merging` (worlds),
 //! `assigning` (roles), `encodings`, `module_records` (the records of one module).
 #![tactic(auto)]
 

@@ -29,7 +29,7 @@ fn add_to(alloc: Global, wit: &mut Wit, more: &Wit) -> Result<(), Failure>
     add_apart(alloc, &mut wit.exports, &more.exports)
 }
 
-/// What two say of their world together; the first is taken over.
+/// What two say of their world together; the first is consumed.
 pub(crate) fn add_wit(alloc: Global, first: Wit, second: &Wit) -> Result<Wit, Failure>
     ensures exact { Gives (λ w. w) result (merged_wit (record {
       interface = ⟦<Interface as PartialEq>⟧.eq;
@@ -93,7 +93,7 @@ fn to_export_key(alloc: Global, key: &ItemKey) -> Result<ExportKey, AllocError>
     }
 }
 
-/// Adds the key of an export.
+/// Appends the key of an export.
 fn push_key(alloc: Global, keys: &mut Seq<ExportKey>, key: &ItemKey) -> Result<(), AllocError>
     ensures { OnOk result (keys.new ≡ keys.old ++ export_key key.now ∷ []) }
 {

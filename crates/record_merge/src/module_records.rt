@@ -19,7 +19,7 @@ use json_paths::Failure;
 use record_values::{ExportRole, ImportRole, Interface, Item, Record, Wit};
 use std::alloc::Global;
 
-/// What the records' worlds say together.
+/// The worlds of the records, merged.
 #[tactic(auto, using(crate::proofs::Records::start, crate::proofs::Records::step, crate::proofs::Records::worlds_caused))]
 fn merge_worlds(alloc: Global, records: &[Record]) -> Result<Wit, Failure>
     ensures exact { Gives (λ w. w) result (worlds_after (record {
@@ -47,7 +47,7 @@ fn has_slot(records: &[Record]) -> bool
     false
 }
 
-/// What the core imports and fields of these records are for.
+/// The roles of the core imports and fields of these records.
 fn merge_all_roles(alloc: Global, records: Seq<Record>) -> Result<RoleTables, Failure>
     ensures { Gives (λ t. t) result (role_tables (record {
       import_role = ⟦<ImportRole as PartialEq>⟧.eq;
@@ -58,7 +58,7 @@ fn merge_all_roles(alloc: Global, records: Seq<Record>) -> Result<RoleTables, Fa
     merge_tables(alloc, assigned)
 }
 
-/// What the records say beside their worlds.
+/// What the records say besides their worlds.
 #[tactic(auto, unfolding(crate::specs::ModuleRecords::roles_of))]
 fn bind_roles(alloc: Global, records: Seq<Record>) -> Result<Roles, Failure>
     ensures { Gives (λ r. r) result (roles_of (record {
@@ -78,10 +78,10 @@ fn bind_roles(alloc: Global, records: Seq<Record>) -> Result<Roles, Failure>
     })
 }
 
-/// What the records of one module say together, in order. Their worlds are joined as
-/// [`merge_wit`](crate::merge_wit) joins two. A core import, or a field, that has two roles, and a role
-/// that two fields have, its form of calls apart, are `MergeConflict` with the field, of two that which
-/// comes later.
+/// What the records of one module say together, in order. Their worlds are merged as
+/// [`merge_wit`](crate::merge_wit) merges two. The refusal is `MergeConflict` with the field of the
+/// later one of two: of a core import, or a field, that has two roles, or of two fields that have the
+/// same role, except for the form of calls.
 #[tactic(auto, unfolding(crate::specs::ModuleRecords::bindgen_of), using(crate::proofs::Bindgens::of_worlds))]
 pub fn bindgen_of(alloc: Global, records: Seq<Record>) -> Result<Bindgen, Failure>
     ensures exact { Gives (λ b. b) result (bindgen_of

@@ -1,4 +1,4 @@
-//! Joining two tables.
+//! Merging two tables.
 
 ghost use Rattle.std.specs.Prelude.{◌≡◌, [], ◌∷◌, ◌++◌, None, IfOk, IfErr, OnOk};
 ghost use Rattle.std.specs.Map.{lookup};
@@ -18,7 +18,7 @@ pub(crate) trait Key: Eq + Hash + Drop {
 
     ghost name: { Self → List ℕ };
 
-    /// The name. The only refusal is want of memory.
+    /// The name. The only refusal is out of memory.
     fn to_text(&self, alloc: Global) -> Result<Text, AllocError>
         ensures { IfOk result (λ t. t ≡ name self.now) };
 }
@@ -74,7 +74,7 @@ fn add_copy<K: TryClone + Eq + Hash + Drop, X: TryClone>(
     table.add(key, value)
 }
 
-/// Adds what an entry says.
+/// Adds an entry; a key that the table has must have the same value.
 fn put<K: Key + TryClone, X: TryClone + PartialEq>(
     alloc: Global,
     table: &mut Keyed<K, X>,
@@ -97,7 +97,7 @@ fn put<K: Key + TryClone, X: TryClone + PartialEq>(
     }
 }
 
-/// Adds what another table says.
+/// Adds the entries of another table; a key that both have must have the same value in both.
 #[tactic(auto, using(crate::proofs::Conflicts::entries_cause))]
 pub(crate) fn add_all<K: Key + TryClone, X: TryClone + Eq>(
     alloc: Global,
@@ -113,7 +113,7 @@ pub(crate) fn add_all<K: Key + TryClone, X: TryClone + Eq>(
     Ok(())
 }
 
-/// Adds the entries of a table that has no key of the other.
+/// Adds the entries of a table that has no key of this one.
 #[tactic(auto, using(crate::proofs::Conflicts::apart_cause))]
 pub(crate) fn add_apart<K: Key + TryClone, X: TryClone>(
     alloc: Global,

@@ -1,4 +1,4 @@
--- What is exported, behind what is imported.
+-- What is exported, made after what is imported.
 use Rattle.std.proofs.Common.{◌≡◌, Result, Ok, Err, ap, sym, rules}
 use Rattle.json_paths.specs.declared.fault.Failure.{Failure}
 use Rattle.json_paths.specs.Faults.{◌>>=◌, Gives}

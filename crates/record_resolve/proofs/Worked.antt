@@ -1,4 +1,4 @@
--- What small records come to, worked.
+-- The resolves of small records, worked.
 use Rattle.std.proofs.Common.{◌≡◌, ℕ, List, [], ◌∷◌, Option, Some, None, Result, Ok, Err, refl, false}
 use Rattle.std.specs.Prelude.{codes, map}
 use Rattle.standard_kinds.specs.declared.kinds.Primitive.TheVariants as prims
@@ -98,7 +98,7 @@ uses_the_imported : named_kinds (resolved (world imports_i exports_j)) ≡ Ok ((
 unfolding resolved resolved_among resolved_after imports_of exports_of exported_of with_item with_named with_interface items_of with_type_of with_function_of new_type kind_before type_of step after_compound shared function_of with_param some_result function_kind interface_item
 uses_the_imported = refl
 
--- i on both sides: its copy stands apart, is made before j, and j names a type of the copy
+-- i on both sides: its copy is apart, is made before j, and j names a type of the copy
 uses_the_copy : named_kinds (resolved (world imports_i both)) ≡ Ok ((Some (codes "r"), kinds.Resource) ∷ (Some (codes "l"), list_of_texts) ∷ (None, list_of_texts) ∷ (None, kinds.Own (type_id 0)) ∷ (Some (codes "r"), kinds.Resource) ∷ (Some (codes "l"), list_of_texts) ∷ (None, list_of_texts) ∷ (None, kinds.Own (type_id 4)) ∷ (Some (codes "u"), kinds.Alias (types.Id (type_id 5))) ∷ (None, list_of_texts) ∷ (Some (codes "o"), kinds.«Option» (types.Id (type_id 9))) ∷ [])
 unfolding resolved resolved_among resolved_after imports_of exports_of exported_of with_item with_named with_interface items_of with_type_of with_function_of new_type kind_before type_of step after_compound shared function_of with_param some_result function_kind interface_item
 uses_the_copy = refl
@@ -108,12 +108,12 @@ methods : forms_of (resolved (world imports_i both)) ≡ Ok ((forms.Freestanding
 unfolding resolved resolved_among resolved_after imports_of exports_of exported_of with_item with_named with_interface items_of with_type_of with_function_of new_type kind_before type_of step after_compound shared function_of with_param some_result function_kind interface_item
 methods = refl
 
--- j alone names a type of an interface that isn't there
+-- j alone names a type of an interface that does not exist
 nothing_there : named_kinds (resolved (world [] exports_j)) ≡ Err nowhere
 unfolding resolved resolved_among resolved_after imports_of exports_of exported_of with_item with_named with_interface items_of with_type_of with_function_of new_type kind_before type_of step after_compound shared function_of with_param some_result function_kind interface_item
 nothing_there = refl
 
--- j before i, where both are exported only: the name of a type that is made later stands for nothing
+-- j before i, where both are exported only: the name of a type that is made later refers to nothing
 too_early : named_kinds (resolved (world [] both)) ≡ Err nowhere
 unfolding resolved resolved_among resolved_after imports_of exports_of exported_of with_item with_named with_interface items_of with_type_of with_function_of new_type kind_before type_of step after_compound shared function_of with_param some_result function_kind interface_item
 too_early = refl
@@ -123,7 +123,7 @@ an_id : id_parts (codes "a:b/c") ≡ Ok (id_name (codes "a") (codes "b") (codes 
 unfolding id_parts
 an_id = refl
 
--- an id without a slash is none
+-- an id without a slash is not an id
 no_id : id_parts (codes "a:b") ≡ Err nowhere
 unfolding id_parts
 no_id = refl

@@ -1,5 +1,5 @@
--- Functions (component model, WIT: `func`): their kinds, which stand in their names, and the types of their parameters
--- and results.
+-- Functions (component model, WIT: `func`): their kinds, which are written in their names, and the types of their
+-- parameters and results.
 use Rattle.std.specs.Prelude.{ℕ, List, [], ◌∷◌, ◌++◌, codes, Bool, Option, None, Some, Result, Ok, Err, if◌then◌else◌}
 use Rattle.std.specs.Str.{bytes_eq}
 use Rattle.json_paths.specs.declared.fault.Failure.{Failure}
@@ -41,7 +41,7 @@ abbrev pub of_member : Making → Side → Owner → Bool → (TypeId → Functi
 of_member m side owner is_async make None = Ok (plain is_async)
 of_member m side owner is_async make (Some p) = of_type m side owner make p.0
 
--- a constructor isn't asynchronous
+-- a constructor is not asynchronous
 abbrev pub constructor_of : Making → Side → Owner → Bool → List ℕ → Result FunctionKind Failure
 constructor_of m side owner is_async name = if is_async then Err nowhere else of_type m side owner kinds.Constructor name
 
@@ -53,14 +53,14 @@ kind_by_tag m side owner is_async (Some p) =
     else if bytes_eq p.0 (codes "[constructor") then constructor_of m side owner is_async p.1
     else Ok (plain is_async)
 
--- `[method]r.f`, `[static]r.f` and `[constructor]r` belong to the type r; other functions stand free
+-- `[method]r.f`, `[static]r.f` and `[constructor]r` belong to the type r; other functions are freestanding
 unfoldable pub function_kind : Making → Side → Owner → Bool → List ℕ → Result FunctionKind Failure
 function_kind m side owner is_async name = kind_by_tag m side owner is_async (cut_at 93 name)
 
 abbrev pub param : List ℕ → Ty → Param
 param name t = record { name = name; ty = t }
 
--- one parameter behind these
+-- one parameter after these
 unfoldable pub with_param : Side → Typed → List Param × Making → Result (List Param × Making) Failure
 with_param side p so_far = do
   made ← type_of side p.nodes so_far.1

@@ -1,5 +1,5 @@
--- What the id of an interface is made of (component model, explainer: `interfacename`): a namespace, a package, a name,
--- and a version behind an at sign, if any.
+-- The parts of an interface's id (component model, explainer: `interfacename`): a namespace, a package, a name, and a
+-- version after an at sign, if any.
 use Rattle.std.specs.Prelude.{ℕ, List, Option, None, Some, ok_or, Result, Ok, Err}
 use Rattle.semver.specs.Parse.{Parts, version_parts}
 use Rattle.semver.specs.declared.error.Error.{Error}

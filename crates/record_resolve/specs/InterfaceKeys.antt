@@ -1,4 +1,4 @@
--- The first key at which each interface stands on a side of a world.
+-- The first key of each interface on a side of a world.
 use Rattle.std.specs.Prelude.{List, [], ◌∷◌}
 use Rattle.comp_lists.specs.Tables.{with_first}
 use Rattle.wit_data.specs.declared.ids.InterfaceId.{InterfaceId}

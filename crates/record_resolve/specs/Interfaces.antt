@@ -1,4 +1,4 @@
--- An interface that is made: its types in order, then its functions in order. It is a scope of its own.
+-- An interface that is made: its types in order, then its functions in order. It is a scope for unnamed types.
 use Rattle.std.specs.Prelude.{ℕ, length, List, [], ◌∷◌, ◌++◌, Option, ok_or, Result, Ok}
 use Rattle.std.specs.Map.{lookup}
 use Rattle.std.specs.Str.{bytes_eq}

@@ -1,4 +1,4 @@
--- What a node makes of the types that are its parts (component model, WIT: `ty`).
+-- The kind of type that a node makes of the types that are its parts (component model, WIT: `ty`).
 use Rattle.std.specs.Prelude.{ℕ, ◌+◌, length, List, [], ◌∷◌, ◌++◌, Bool, true, false, Option, None, Some, ok_or, Result, Ok, Err, if◌then◌else◌}
 use Rattle.json_paths.specs.declared.fault.Failure.{Failure}
 use Rattle.json_paths.specs.Faults.{◌>>=◌}
@@ -42,7 +42,7 @@ arity (nodes.Future has_item) = count has_item
 arity (nodes.Named t) = 0
 arity nodes.Resource = 0
 
--- the next part, where there is one, and those behind it
+-- the next part, where there is one, and those after it
 abbrev pub next : Bool → List Ty → Option Ty × List Ty
 next true [] = (None, [])
 next true (t ∷ ts) = (Some t, ts)
@@ -51,7 +51,7 @@ next false ts = (None, ts)
 abbrev pub field : List ℕ → Ty → Field
 field name t = record { name = name; ty = t }
 
--- fields behind these, one a name
+-- fields after these, one for each name
 abbrev pub fields_from : List Field → List (List ℕ) → List Ty → Result (List Field) Failure
 fields_from done [] ts = Ok done
 fields_from done (name ∷ names) ts = do
@@ -83,7 +83,7 @@ naming make name = do
   id ← name
   Ok (make id)
 
--- what a node makes of its parts. A primitive type or a named one, as the whole of a type, is another name for it
+-- the kind that a node makes of its parts. A primitive type or a named one, as the whole of a type, is another name for it
 abbrev pub kind : Making → Side → Node → List Ty → Result TypeDefKind Failure
 kind m side (nodes.Primitive p) ts = Ok (kinds.Alias (types.Primitive p))
 kind m side nodes.«List» ts = holding kinds.«List» (next true ts).0

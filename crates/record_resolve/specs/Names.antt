@@ -1,5 +1,5 @@
--- Which types names stand for. An exported interface has a copy of its own: within exported copies, and in exported
--- functions, its types are those of the copy. Everywhere else a name stands for the imported type.
+-- The types to which names refer. An exported interface has a copy of its own: within exported copies, and in exported
+-- functions, its types are those of the copy. Everywhere else a name refers to the imported type.
 use Rattle.std.specs.Prelude.{Bool, false, List, is_some, ok_or, Result, Ok, if◌then◌else◌}
 use Rattle.std.specs.Map.{lookup}
 use Rattle.json_paths.specs.declared.fault.Failure.{Failure}
@@ -18,7 +18,7 @@ abbrev pub has_copy : Making → Owner → Bool
 has_copy m owners.World = false
 has_copy m (owners.Interface name) = is_some (lookup (is_same_interface name) m.exported)
 
--- the side on which the types of an owner are meant, on this side
+-- the side on which the types of an owner are looked up, from this side
 abbrev pub side_of : Making → Side → Owner → Side
 side_of m sides.Imported owner = sides.Imported
 side_of m sides.Exported owner = if has_copy m owner then sides.Exported else sides.Imported
@@ -27,7 +27,7 @@ abbrev pub table_of : Making → Side → List (TypeName × TypeId)
 table_of m sides.Imported = m.imported_types
 table_of m sides.Exported = m.exported_types
 
--- the type that a name stands for; it is made earlier, else the name refers to nothing
+-- the type to which a name refers; it is made earlier, else the name refers to nothing
 abbrev pub found : Making → Side → TypeName → Result TypeId Failure
 found m side t = ok_or (lookup (is_same_type t) (table_of m (side_of m side t.owner))) nowhere
 

@@ -1,4 +1,5 @@
--- Interfaces that became others go by their old names too, so that roles which name them mean what they became.
+-- Interfaces that became others keep their old names too, so that roles which use an old name refer to what the interface
+-- became.
 use Rattle.std.specs.Prelude.{[], ◌∷◌}
 use Rattle.std.specs.Map.{lookup}
 use Rattle.std.specs.Option.{option_map_or}
@@ -9,7 +10,7 @@ use Rattle.record_values.specs.Renaming.{Renames}
 use Rattle.record_resolve.specs.declared.resolving.Resolved.{Resolved}
 use Rattle.record_resolve.specs.Worlds.{Ids}
 
--- an old name beside a new one, if that is there
+-- an old name, added where the new one exists
 abbrev pub with_other_name : Ids → InterfaceName → InterfaceName → Ids
 with_other_name ids old new = option_map_or (λ id. with_first is_same_interface ids old id) (lookup (is_same_interface new) ids) ids
 

@@ -1,4 +1,4 @@
--- From what records say by names to a resolve with one world. Types are made in this order:
+-- From the names in records to a resolve with one world. Types are made in this order:
 --
 -- 1. those of the imported interfaces, in the order of the imports; of each its types in order, then its functions;
 -- 2. those of the world's own imported types and functions, in the order of the imports;
@@ -6,7 +6,7 @@
 --    of the imports, then of the others, in the order in which the record has its interfaces;
 -- 4. those of the exported functions, in the order of the exports.
 --
--- So the names of a sound record stand for types that are made earlier; any other name refers to nothing.
+-- So the names of a sound record refer to types that are made earlier; any other name refers to nothing.
 use Rattle.std.specs.Prelude.{◌≡◌, ◌≢◌, ◌<◌, length, [], ◌∷◌, Result, Ok, Err}
 use Rattle.std.specs.List.{AllByRecursion}
 use Rattle.json_paths.specs.declared.fault.Failure.{Failure}
@@ -35,7 +35,7 @@ nothing_made exported = record { exported = exported; imported_types = []; expor
 abbrev pub resolve_of : Items → Items → MadeInterfaces → Making → Resolve
 resolve_of imports exports made m = record { interfaces = made.interfaces; types = m.types; worlds = record { imports = imports; exports = exports } ∷ [] }
 
--- a resolve with one world, its interfaces by name, and the first keys at which they stand
+-- a resolve with one world, its interfaces by name, and their first keys
 abbrev pub whole_of : Items → Items → MadeInterfaces → Making → Ids → Resolved
 whole_of imports exports made m imported =
     record { resolve = resolve_of imports exports made m; imported = imported; exported = made.ids; imported_keys = keys_after [] imports; exported_keys = keys_after [] exports }
@@ -54,11 +54,11 @@ exports_of imported w so_far = do
   items ← items_from sides.Exported made.0.ids w.exports ([], made.1)
   Ok (items.0, made.0, items.1)
 
--- what a step answers, beside a value
+-- what a step returns, paired with a value
 abbrev pub paired : {A B : Type 0} → A → Result B Failure → Result (A × B) Failure
 paired value step = step >>= λ x. Ok (value, x)
 
--- what is exported, behind what is imported
+-- what is exported, after what is imported
 unfoldable pub resolved_after : Interfaces → Wit → Items → MadeInterfaces → Making → Result Resolved Failure
 resolved_after imported w imports made m = do
   outs ← exports_of imported w (record { interfaces = made.interfaces; ids = [] }, m)
@@ -69,7 +69,7 @@ resolved_among imported exported w = do
   ins ← imports_of imported w (record { interfaces = []; ids = [] }, nothing_made exported)
   resolved_after imported w ins.0 ins.1 ins.2
 
--- what the names of a record come to
+-- the resolve of a record
 unfoldable pub resolved : Wit → Result Resolved Failure
 resolved w = resolved_among (interfaces_after [] w.imports) (interfaces_after [] w.exports) w
 
@@ -92,12 +92,12 @@ pub record IsWhole (r : Resolved) : Type 0 where
   pub exported : AllByRecursion (λ i. HasInterface r.resolve i.1) r.exported
   pub named : AllByRecursion AreNamed r.resolve.worlds
 
--- what was refused, or what came out is not whole
+-- what was refused, or the result is not whole
 abbrev pub IsRefused : Result Resolved Failure → Failure → Type 0
 IsRefused (Err f) e = e ≡ f
 IsRefused (Ok r) e = (e ≡ nowhere) × (IsWhole r → ⊥)
 
--- What a call returned: what the names come to, which is whole, or the refusal, unless memory ran out.
+-- What a call returned: the resolve, which is whole, or the refusal, unless memory ran out.
 abbrev pub GivesWhole : Result Resolved Failure → Result Resolved Failure → Type 0
 GivesWhole (Ok r) made = (made ≡ Ok r) × IsWhole r
 GivesWhole (Err e) made = e ≢ failures.Memory → IsRefused made e

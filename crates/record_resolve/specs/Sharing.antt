@@ -11,7 +11,7 @@ use Rattle.record_resolve.specs.declared.making.Making.{Making}
 abbrev pub type_id : ℕ → TypeId
 type_id n = record { index = n }
 
--- the unnamed types of a scope by what they are
+-- the unnamed types of a scope by their kinds
 abbrev pub Unnamed : Type 0
 Unnamed = List (TypeDefKind × TypeId)
 
@@ -25,7 +25,7 @@ shared_by kind m (Some id) = (id, m)
 shared_by kind m None =
     (type_id (length m.types), with_type None kind type_owners.«None» (m.unnamed ++ (kind, type_id (length m.types)) ∷ []) m)
 
--- the unnamed type of this kind in the scope, which is made where it isn't there
+-- the unnamed type of this kind in the scope, which is made where it does not exist
 unfoldable pub shared : TypeDefKind → Making → TypeId × Making
 shared kind m = shared_by kind m (lookup (kinds_eq.eq-value.it kind) m.unnamed)
 

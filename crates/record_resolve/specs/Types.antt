@@ -18,11 +18,11 @@ use Rattle.record_resolve.specs.Names.{found, with_name}
 use Rattle.record_resolve.specs.Kinds.{arity, kind}
 use Rattle.record_resolve.specs.Sharing.{type_id, with_type, shared}
 
--- where the last so many begin
+-- the position in a stack at which the last so many begin
 abbrev pub top_of : ℕ → List Ty → Result ℕ Failure
 top_of n stack = if nat_lt (length stack) n then Err nowhere else Ok (length stack - n)
 
--- a node that is a type of its own takes its parts, and the type stands in their place
+-- a node that is a type of its own takes its parts from the stack, and the type replaces them
 unfoldable pub after_compound : Side → Node → List Ty → Making → Result (List Ty × Making) Failure
 after_compound side node stack m = do
   at ← top_of (arity node) stack
@@ -32,7 +32,7 @@ after_compound side node stack m = do
 abbrev pub after_name : TypeId → List Ty → Making → Result (List Ty × Making) Failure
 after_name id stack m = Ok (stack ++ types.Id id ∷ [], m)
 
--- the stack behind a node. A resource has a name, so it is no part of a type
+-- the stack after a node. A resource has a name, so it is no part of a type
 abbrev pub after_node : Side → Node → List Ty → Making → Result (List Ty × Making) Failure
 after_node side (nodes.Primitive p) stack m = Ok (stack ++ types.Primitive p ∷ [], m)
 after_node side (nodes.Named t) stack m = found m side t >>= λ id. after_name id stack m
@@ -59,7 +59,7 @@ type_of side ns m = do
   t ← only made.0
   Ok (t, made.1)
 
--- what the last node makes of the whole stack
+-- the type that the last node makes of the whole stack
 abbrev pub last_kind : Side → Node → List Ty → Making → Result TypeDefKind Failure
 last_kind side node stack m = if nat_eq (length stack) (arity node) then kind m side node stack else Err nowhere
 

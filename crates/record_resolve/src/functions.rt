@@ -109,7 +109,7 @@ fn constructor_kind(
     Ok(FunctionKind::Constructor(id))
 }
 
-/// What a function is to a type of its owner, by its name.
+/// The relation of a function to a type of its owner, by its name.
 #[tactic(auto, unfolding(crate::specs::Functions::function_kind))]
 fn function_kind(
     alloc: Global,
@@ -132,7 +132,7 @@ fn function_kind(
     }
 }
 
-/// One parameter behind these.
+/// One parameter after these.
 #[tactic(auto, unfolding(crate::specs::Functions::with_param))]
 fn push_param(
     alloc: Global,

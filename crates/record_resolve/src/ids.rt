@@ -1,4 +1,4 @@
-//! What the ids of interfaces are made of.
+//! The parts of the ids of interfaces.
 
 ghost use Rattle.std.specs.Prelude.{◌≡◌, true};
 ghost use Rattle.json_paths.specs.Faults.{Gives};

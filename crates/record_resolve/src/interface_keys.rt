@@ -1,4 +1,4 @@
-//! The keys at which interfaces stand.
+//! The keys of interfaces.
 
 ghost use Rattle.std.specs.Prelude.{◌≡◌, [], IfOk, OnOk};
 ghost use Rattle.record_resolve.specs.InterfaceKeys.{with_key, keys_after};
@@ -11,7 +11,7 @@ use wit_data::{InterfaceId, World, WorldItem, WorldKey};
 /// Keys by interface.
 pub(crate) type InterfaceKeys = Keyed<InterfaceId, WorldKey>;
 
-/// The first key at which each interface stands, among the imports and among the exports.
+/// The first key of each interface, among the imports and among the exports.
 #[derive(Drop)]
 pub(crate) struct WorldKeys {
     pub imported: InterfaceKeys,
@@ -33,7 +33,7 @@ fn add_key(
     }
 }
 
-/// The first key at which each interface stands on a side. The only refusal is want of memory.
+/// The first key of each interface on a side. The only refusal is out of memory.
 fn first_keys(alloc: Global, items: &Items) -> Result<InterfaceKeys, AllocError>
     ensures { IfOk result (λ ks. ks ≡ keys_after [] items.now) }
 {
@@ -44,7 +44,7 @@ fn first_keys(alloc: Global, items: &Items) -> Result<InterfaceKeys, AllocError>
     Ok(keys)
 }
 
-/// The first key at which each interface stands, on both sides. The only refusal is want of memory.
+/// The first key of each interface, on both sides. The only refusal is out of memory.
 pub(crate) fn keys_of_world(alloc: Global, world: &World) -> Result<WorldKeys, AllocError>
     ensures { IfOk result (λ ks. ks ≡ record { imported = keys_after [] world.now.imports; exported = keys_after [] world.now.exports }) }
 {

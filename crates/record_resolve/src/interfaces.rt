@@ -139,7 +139,7 @@ fn make_numbered(
     make_items(alloc, making, side, &owner, type_owner, interface)
 }
 
-/// Adds an interface that is made, behind the others.
+/// Adds an interface that is made, after the others.
 fn push_made(
     made_interfaces: &mut MadeInterfaces,
     id: Option<IdName>,
@@ -158,7 +158,7 @@ fn push_made(
     )
 }
 
-/// Adds an interface that is made, behind the others and by name.
+/// Adds an interface that is made, after the others and by name.
 fn put_made(
     alloc: Global,
     made_interfaces: &mut MadeInterfaces,

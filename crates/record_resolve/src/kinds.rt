@@ -1,4 +1,4 @@
-//! What a node makes of the types that are its parts.
+//! The kind of type that a node makes of the types that are its parts.
 
 ghost use Rattle.std.specs.Prelude.{◌≡◌, ◌≤◌, [], Ok, IfOk};
 ghost use Rattle.json_paths.specs.Faults.{Gives};
@@ -53,7 +53,7 @@ pub(crate) fn arity(node: &Node) -> usize
     }
 }
 
-/// The next part, where there is one, and those behind it.
+/// The next part, where there is one, and those after it.
 fn next(is_there: bool, parts: &[Type]) -> (Option<Type>, &[Type])
     ensures { (result.0, result.1.now) ≡ next is_there parts.now }
 {
@@ -66,7 +66,7 @@ fn next(is_there: bool, parts: &[Type]) -> (Option<Type>, &[Type])
     }
 }
 
-/// Fields, one a name.
+/// Fields, one for each name.
 fn make_fields(alloc: Global, names: &[Text], parts: &[Type]) -> Result<Seq<Field>, Failure>
     ensures { Gives (λ fs. fs) result (fields_from [] names.now parts.now) }
 {
@@ -146,7 +146,7 @@ fn make_result(has_ok: bool, has_err: bool, parts: &[Type]) -> TypeDefKind
     TypeDefKind::Result(ResultType { ok, err })
 }
 
-/// What a node makes of its parts.
+/// The kind that a node makes of its parts.
 pub(crate) fn make_kind(
     alloc: Global,
     making: &Making,

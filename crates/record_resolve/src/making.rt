@@ -1,4 +1,4 @@
-//! What is made so far, and which types names stand for.
+//! What is made so far, and the types to which names refer.
 
 ghost use Rattle.std.specs.Prelude.{◌≡◌, OnOk};
 ghost use Rattle.json_paths.specs.Faults.{Gives};
@@ -30,11 +30,11 @@ pub(crate) struct Making {
     /// The types of the copies of exported interfaces by name.
     pub exported_types: Keyed<TypeName, TypeId>,
     pub types: Seq<TypeDef>,
-    /// The unnamed types of the scope in which types are made, by what they are.
+    /// The unnamed types of the scope in which types are made, by their kinds.
     pub unnamed: Unnamed,
 }
 
-/// Adds an entry whose key the table lacks.
+/// Adds an entry whose key is new.
 pub(crate) fn put_new<K: Eq + Hash + Drop, V: Drop>(
     alloc: Global,
     table: &mut Keyed<K, V>,
@@ -84,7 +84,7 @@ impl Making {
         }
     }
 
-    /// The type that a name stands for, which is made already.
+    /// The type to which a name refers, which is made already.
     pub(crate) fn find(
         &self,
         alloc: Global,

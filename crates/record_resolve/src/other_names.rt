@@ -37,8 +37,9 @@ fn add_other_names(
 }
 
 impl Resolved {
-    /// Gives the imported interfaces that became others their old names too, beside those that they
-    /// became. What became one that isn't imported gets none. The only refusal is want of memory.
+    /// Adds the old names of the imported interfaces that became others, each with the interface that
+    /// it became. If that one is not imported, the old name is not added. The only refusal is out of
+    /// memory.
     pub fn add_other_names(
         &mut self,
         alloc: Global,

@@ -1,4 +1,4 @@
-//! From what records say by names to a resolve.
+//! From the names in records to a resolve.
 
 ghost use Rattle.std.specs.Prelude.{◌≡◌, ◌↔◌, ◌<◌, ◌∷◌, [], IsTrue, Ok, length};
 ghost use Rattle.std.specs.List.{AllByRecursion};
@@ -19,8 +19,8 @@ use record_values::{InterfaceName, Interfaces, Wit, interfaces_among};
 use std::alloc::Global;
 use wit_data::{InterfaceId, Resolve, World, WorldItem, WorldKey};
 
-/// A resolve with one world, and the numbers of the interfaces that the world imports and of those
-/// that it exports, by name. Of each interface of a side, the first key at which it stands there.
+/// A resolve with one world, the numbers of the interfaces that the world imports and of those that it
+/// exports, by name, and the first key of each interface on either side.
 pub struct Resolved {
     pub resolve: Resolve,
     pub imported: Keyed<InterfaceName, InterfaceId>,
@@ -106,7 +106,7 @@ fn nothing_made(alloc: Global, exported: Interfaces) -> Making
     }
 }
 
-/// What a step answered, beside a value; or its refusal.
+/// What a step returned, paired with a value, or its refusal. Kept apart for the prover.
 fn paired<T: Drop, X>(value: T, step: Result<X, Failure>) -> Result<(T, X), Failure>
     ensures { result ≡ paired value step }
 {
@@ -116,7 +116,7 @@ fn paired<T: Drop, X>(value: T, step: Result<X, Failure>) -> Result<(T, X), Fail
     }
 }
 
-/// What is made, and the interfaces that are imported.
+/// What is made, and the interfaces that are imported. Kept apart for the prover.
 #[derive(Drop)]
 pub(crate) struct Kept {
     pub making: Making,
@@ -124,7 +124,7 @@ pub(crate) struct Kept {
     pub imported: Keyed<InterfaceName, InterfaceId>,
 }
 
-/// The same, with the items that are imported.
+/// The same, with the items that are imported. Kept apart for the prover.
 #[derive(Drop)]
 pub(crate) struct Inward {
     pub kept: Kept,
@@ -158,7 +158,7 @@ fn keys_and_worlds(alloc: Global, world: World) -> Result<(WorldKeys, Seq<World>
     paired(keys, worlds)
 }
 
-/// What was made, as one.
+/// The resolve and its tables, from what was made.
 fn whole(kept: Kept, keys: WorldKeys, worlds: Seq<World>) -> Resolved
     ensures { result ≡ record { resolve = record { interfaces = kept.made_interfaces.interfaces; types = kept.making.types; worlds = worlds }; imported = kept.imported; exported = kept.made_interfaces.ids; imported_keys = keys.imported; exported_keys = keys.exported } }
 {
@@ -194,7 +194,7 @@ fn put_together(
     Ok(whole(kept, keys, worlds))
 }
 
-/// What is exported, behind what is imported.
+/// What is exported, after what is imported.
 #[tactic(auto, unfolding(crate::specs::Resolved::resolved_after))]
 fn resolve_after(
     alloc: Global,
@@ -247,7 +247,7 @@ fn resolve_among(
     resolve_after(alloc, imported, wit, imports, made_interfaces, making)
 }
 
-/// What the names come to.
+/// The resolve of a record, not yet checked.
 #[tactic(auto, unfolding(crate::specs::Resolved::resolved))]
 fn resolve_names(alloc: Global, wit: &Wit) -> Result<Resolved, Failure>
     ensures { Gives (λ r. r) result (resolved wit.now) }
@@ -318,11 +318,12 @@ impl Resolved {
     }
 }
 
-/// From what records say by names to a resolve with one world, in which every number names something.
+/// From the names in records to a resolve with one world, in which every number names something.
 ///
-/// Exported interfaces are copies of their own. Refused, as a value of the record without a place, is a
-/// name that stands for nothing made earlier, a type that is malformed, an id that is none, a name that
-/// stands twice in an interface, what isn't sound, and a function at the root whose name isn't its key's.
+/// Exported interfaces are copies of their own. The refusal is `Record` with the empty path, since no
+/// position in the record is known: for a name that refers to nothing made earlier, a malformed type, a
+/// malformed id, a name that occurs twice in an interface, a resolve that is not sound, and a function
+/// at the root whose name is not its key.
 pub fn resolve(alloc: Global, wit: &Wit) -> Result<Resolved, Failure>
     ensures { GivesWhole result (resolved wit.now) }
 {

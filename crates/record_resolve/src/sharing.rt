@@ -11,7 +11,7 @@ use std::alloc::{AllocError, Global};
 use std::mem;
 use wit_data::{TypeDef, TypeDefKind, TypeId, TypeOwner};
 
-/// The unnamed types of a scope by what they are.
+/// The unnamed types of a scope by their kinds.
 pub(crate) type Unnamed = Keyed<TypeDefKind, TypeId>;
 
 impl Making {
@@ -32,7 +32,7 @@ impl Making {
         Ok(id)
     }
 
-    /// The unnamed type of this kind, which is made where the scope lacks it.
+    /// The unnamed type of this kind, which is made where the scope does not have it.
     #[tactic(auto, unfolding(crate::specs::Sharing::shared))]
     pub(crate) fn share(&mut self, alloc: Global, kind: TypeDefKind) -> Result<TypeId, AllocError>
         ensures { IfOk result (λ id. (id, self.new) ≡ shared kind self.old) }
@@ -43,7 +43,7 @@ impl Making {
         }
     }
 
-    /// A new unnamed type, of a kind that the scope lacks.
+    /// A new unnamed type, of a kind that the scope does not have.
     fn add_unnamed(&mut self, alloc: Global, kind: TypeDefKind) -> Result<TypeId, AllocError>
         requires { lookup (kinds_eq.eq-value.it kind) self.old.unnamed ≡ None }
         ensures { IfOk result (λ id. (id, self.new) ≡ shared_by kind self.old None) }
@@ -54,7 +54,7 @@ impl Making {
         Ok(id)
     }
 
-    /// Goes on in a scope with these unnamed types, and answers those of the scope before.
+    /// Continues in a scope with these unnamed types, and returns those of the scope before.
     pub(crate) fn change_scope(&mut self, unnamed: Unnamed) -> Unnamed
         ensures before { result ≡ self.old.unnamed }
         ensures scope { self.new ≡ scoped unnamed self.old }

@@ -14,7 +14,7 @@ use record_values::{Node, Owner, TypeName};
 use std::alloc::{AllocError, Global};
 use wit_data::{Type, TypeDefKind, TypeId, TypeOwner};
 
-/// Where the last so many begin.
+/// The position in a stack at which the last so many begin.
 fn top_of(alloc: Global, count: usize, stack: &[Type]) -> Result<usize, Failure>
     ensures { Gives (λ n. n) result (top_of count stack.now) }
 {
@@ -41,7 +41,7 @@ fn kind_at(
     }
 }
 
-/// The type of a node stands where its parts stood.
+/// Replaces the parts of a node on the stack by the type of the node.
 #[tactic(auto, unfolding(crate::specs::Types::after_compound))]
 fn push_compound(
     alloc: Global,
@@ -60,7 +60,7 @@ fn push_compound(
     Ok(())
 }
 
-/// The stack behind a node.
+/// The stack after a node.
 #[tactic(auto, unfolding(crate::specs::Types::step))]
 fn push_node(
     alloc: Global,

@@ -1,4 +1,4 @@
--- A function that is found in a sound resolve stands in it.
+-- A function that is found in a sound resolve is one of the resolve.
 use Rattle.std.proofs.Common.{◌≡◌, ℕ, zero, suc, Bool, true, false, cond, List, [], ◌∷◌, Option, Some, None, sym, subst}
 use Rattle.std.specs.Prelude.{slice_get, option_map}
 use Rattle.std.specs.Option.{unwrap_or, option_and_then, option_map_or}

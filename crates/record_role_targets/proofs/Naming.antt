@@ -1,4 +1,4 @@
--- What an import names stands in the resolve, where that is sound.
+-- What an import names exists in the resolve, where that is sound.
 use Rattle.std.proofs.Common.{◌≡◌, ℕ, zero, suc, ◌+◌, ◌<◌, Bool, true, false, cond, List, [], ◌∷◌, ◌++◌, length, map, get_or, sym, subst, arith, Option, Some, None}
 use Rattle.std.specs.Prelude.{slice_get, option_map}
 use Rattle.std.specs.Option.{IfSome, unwrap_or, option_and_then}
@@ -51,7 +51,7 @@ use Rattle.record_role_targets.specs.Imports.{called_there, called, imported_dro
 use Rattle.record_role_targets.specs.Named.{HasNamed}
 use Rattle.record_role_targets.proofs.Existence.{IfThere, at_number, looked_up, item_exists, position_exists}
 
--- ---- types that are found
+-- ---- types that are looked up
 
 root_type : (r : Resolve) (o : Option WorldItem) → IfThere (HasItem r) o → IfThere (HasTypeId r) (option_and_then type_in o)
 root_type r None h = tt
@@ -79,7 +79,7 @@ resource_there : (r : Resolved) (side : Side) (name : List ℕ) (o : Option Posi
 resource_there r side name None sound = tt
 resource_there r side name (Some p) sound = with_position r.resolve p (type_at side r p name) (type_exists r side p.key p.interface name sound)
 
--- ---- types that are met
+-- ---- types that occur in a function
 
 abbrev AreBelow : ℕ → List TypeId → Type 0
 AreBelow n ids = AllByRecursion (λ i. i.index < n) ids
@@ -221,7 +221,7 @@ returns_name : (r : Resolved) (name : List ℕ) (o : Option Position) → IsSoun
 returns_name r name None sound = tt
 returns_name r name (Some p) sound = return_names r.resolve p (function_at sides.Exported r p name) (position_exists r sides.Exported p.key p.interface name sound)
 
--- ---- what names nothing in the world
+-- ---- roles that name nothing in the world
 
 intrinsic_names : (r : Resolve) (i : Intrinsic) → HasNamed r (intrinsic i)
 intrinsic_names r intrinsics.TaskCancel = record { used = tt; payload = tt; returned = tt }

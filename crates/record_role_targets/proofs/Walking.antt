@@ -31,7 +31,7 @@ onward_nothing : (w : Walk) → onward w [] ≡ w
 onward_nothing (walks.Found t) = refl
 onward_nothing (walks.Left n) = refl
 
--- What a walk over the first so many lists came to.
+-- The result of a walk over the first so many lists.
 pub record WalkedSoFar (left : ℕ) (walk : Walk) (n : ℕ) (found : List (List TypeId)) : Type 0 where
   pub so_far : onward walk (flat_map (λ f. f) (drop n found)) ≡ passing left (flat_map (λ f. f) found)
 
@@ -50,14 +50,14 @@ walk_step_at types id left still walk next n p l is e is_at s =
     let met : met_in types p ≡ get_or (part_values meeting types id) n [] = met_at meeting types id n (met_in types p) p l refl is_at in
     walk_step left still walk next n (part_values meeting types id) within is (e ∙ ap (λ ts. passing still ts) met) s
 
--- A walk that has found what it looks for is at its end.
+-- A walk that has found its type is at its end.
 pub walk_stop : (left : ℕ) (walk : Walk) (t : TypeId) (n : ℕ) (found : List (List TypeId)) → walk ≡ walks.Found t → WalkedSoFar left walk n found → walks.Found t ≡ passing left (flat_map (λ f. f) found)
 walk_stop left walk t n found is s = sym (ap (λ w. onward w (flat_map (λ f. f) (drop n found))) is) ∙ s.so_far
 
 pub walk_end : (left : ℕ) (walk : Walk) (n : ℕ) (found : List (List TypeId)) → n ≡ length found → WalkedSoFar left walk n found → walk ≡ passing left (flat_map (λ f. f) found)
 walk_end left walk n found e s = sym (onward_nothing walk) ∙ (sym (ap (λ fs. onward walk (flat_map (λ f. f) fs)) (drop_all found n e)) ∙ s.so_far)
 
--- A type: its parts and then itself, but a handle.
+-- A type: its parts and then itself, unless it is a handle.
 pub type_walked : (types : List TypeDef) (id left : ℕ) (k : TypeDefKind) (handle : Bool) (inside walk : Walk) → RefersBack types → id < length types → k ≡ kind_at types id → handle ≡ is_handle k → handle ≡ false → inside ≡ passing left (flat_map (λ f. f) (part_values meeting types id)) → walk ≡ onward inside (itself id k)
     → walk ≡ passing left (get_or (values meeting types) id [])
 type_walked types id left k handle inside walk b l e is entered came went =
@@ -71,7 +71,7 @@ handle_walked types id left k handle b l e is closed =
     let test : is_handle (kind_at types id) ≡ true = ap is_handle (sym e) ∙ (sym is ∙ closed) in
     sym (ap (λ ts. passing left ts) (made_whole meeting types id b l) ∙ ap (λ h. passing left (cond h [] (flat_map (λ f. f) (part_values meeting types id) ++ itself id (kind_at types id)))) test)
 
--- What a walk over the first so many parameters came to.
+-- The result of a walk over the first so many parameters.
 pub record ParamsSoFar (types : List TypeDef) (left : ℕ) (walk : Walk) (n : ℕ) (params : List Param) : Type 0 where
   pub so_far : onward walk (flat_map (λ p. met_in types (Some p.ty)) (drop n params)) ≡ passing left (flat_map (λ p. met_in types (Some p.ty)) params)
 

@@ -1,5 +1,5 @@
--- What roles and keys of a small world mean, worked: an interface that is imported as "i" and exported as "j", where it is a
--- copy of its own.
+-- What roles and keys of a small world resolve to, worked: an interface that is imported as "i" and exported as "j", where
+-- it is a copy of its own.
 use Rattle.std.proofs.Common.{◌≡◌, ℕ, ◌+◌, List, [], ◌∷◌, ◌++◌, Some, None, refl, true, false}
 use Rattle.std.specs.Prelude.{codes}
 use Rattle.standard_kinds.specs.declared.kinds.Primitive.TheVariants as prims
@@ -57,7 +57,7 @@ copy_from n interface =
     ∷ record { name = Some (codes "t"); kind = kinds.Tuple (types.Id (type_id (n + 3)) ∷ types.Id (type_id (n + 1)) ∷ []); owner = positions.Interface (interface_id interface) }
     ∷ []
 
--- a function that takes a t and an owned r, and answers a stream of bytes
+-- a function that takes a t and an owned r, and returns a stream of bytes
 abbrev f_from : ℕ → Function
 f_from n = record {
   name = codes "f";
@@ -94,7 +94,7 @@ of_i = owners.Interface i
 abbrev r_of_i : TypeName
 r_of_i = record { owner = of_i; name = codes "r" }
 
--- the stream in the future, the future, the stream again, nothing of the handle, and the stream of the result
+-- the stream in the future, the future, the stream again, nothing for the handle, and the stream of the result
 counted : met_in_function small.resolve.types (f_from 0) ≡ type_id 1 ∷ type_id 3 ∷ type_id 1 ∷ type_id 1 ∷ []
 unfolding values_from
 counted = refl
@@ -105,7 +105,7 @@ a_read : resolved_import small (codes "x") (import_roles.Payload payload_kinds.F
 unfolding values_from
 a_read = refl
 
--- the last stream of the exported copy, and none behind it
+-- the last stream of the exported copy, and none after it
 the_last : resolved_import small (codes "x") (import_roles.Payload payload_kinds.Stream operations.New (payloads.Met false of_i (codes "f") 3) false) None
     ≡ Some (imports.StreamNew (record { name = codes "x"; ty = types_of.Typed (type_id 6) (codes "f"); key = Some (keys.Name (codes "j")); interface = Some (interface_id 1); imported = false }))
 unfolding values_from
@@ -122,7 +122,7 @@ imported_drops = refl
 exported_reps : resolved_import small (codes "x") (import_roles.ExportedRep r_of_i) None ≡ Some (imports.ExportedResourceRep (keys.Name (codes "j")) (type_id 5))
 exported_reps = refl
 
--- a function that the interface lacks
+-- a function that the interface does not have
 lacks_g : resolved_import small (codes "x") (import_roles.Function of_i (codes "g") abis.GuestImport) None ≡ None
 lacks_g = refl
 
@@ -130,7 +130,7 @@ lacks_g = refl
 exports_f : resolved_export small (export_roles.Function of_i (codes "f") abis.GuestExport) None ≡ Some (exports.InterfaceFunc (keys.Name (codes "j")) (interface_id 1) (codes "f") abis.GuestExport)
 exports_f = refl
 
--- keys stand on one side
+-- a key exists on one side
 has_j : resolved_key sides.Exported small (item_keys.Name (codes "j")) ≡ Some (keys.Name (codes "j"))
 has_j = refl
 

@@ -1,5 +1,5 @@
--- What the role of a core export means, where functions, types and interfaces go by number (Canonical ABI: `canon lift`
--- and its options).
+-- What the role of a core export resolves to, where functions, types and interfaces have numbers (Canonical ABI: `canon
+-- lift` and its options).
 use Rattle.std.specs.Prelude.{ℕ, List, Option, Some, None, option_map}
 use Rattle.wit_data.specs.declared.functions.AbiVariant.{AbiVariant}
 use Rattle.wit_data.specs.declared.ids.InterfaceId.{InterfaceId}
@@ -42,7 +42,7 @@ callback name position = callback_there position.key position.interface name
 
 -- ---- roles
 
--- what means the same in every world; a memory has the export's own type
+-- roles that are the same in every world; a memory has the export's own type
 abbrev pub plain_export : PlainExport → Option ExternType → Option Export
 plain_export plain.Memory ty = option_map exports.Memory (memory_type ty)
 plain_export plain.Realloc ty = Some exports.GeneralPurposeRealloc
@@ -52,7 +52,7 @@ plain_export plain.AdapterRealloc ty = Some exports.ReallocForAdapter
 plain_export plain.Initialize ty = Some exports.Initialize
 plain_export plain.TaskHook ty = Some exports.WasmTaskHook
 
--- What an export of this type is for. All functions and resources are those that the world exports.
+-- The resolved role of an export of this type. All functions and resources are those that the world exports.
 abbrev pub resolved_export : Resolved → ExportRole → Option ExternType → Option Export
 resolved_export r (roles.Function owner name abi) ty = option_map (lifted name abi) (function_position sides.Exported r owner name)
 resolved_export r (roles.PostReturn owner name) ty = option_map (post_return name) (function_position sides.Exported r owner name)

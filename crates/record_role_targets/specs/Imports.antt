@@ -1,5 +1,5 @@
--- What the role of a core import means, where functions, types and interfaces go by number (Canonical ABI: `canon lower`
--- and the built-in functions).
+-- What the role of a core import resolves to, where functions, types and interfaces have numbers (Canonical ABI: `canon
+-- lower` and the built-in functions).
 use Rattle.std.specs.Prelude.{ℕ, List, Option, Some, None, option_map}
 use Rattle.std.specs.Option.{option_and_then}
 use Rattle.core_types.specs.declared.types.FuncType.{FuncType}
@@ -24,7 +24,7 @@ use Rattle.record_role_targets.specs.declared.positions.Resource.{Resource}
 use Rattle.record_role_targets.specs.Positions.{position_of, function_at, function_position, resource_of}
 use Rattle.record_role_targets.specs.Payloads.{resolved_payload, payload_import}
 
--- ---- what the core import is, by its type
+-- ---- imports by their core type
 
 abbrev pub memory_type : Option ExternType → Option MemoryType
 memory_type (Some (externs.Memory ty)) = Some ty
@@ -63,7 +63,7 @@ task_return position f = imports.ExportedTaskReturn position.key position.interf
 abbrev pub task_return_of : Resolved → Owner → List ℕ → Option Import
 task_return_of r owner name = option_and_then (λ p. option_map (task_return p) (function_at sides.Exported r p name)) (position_of sides.Exported r owner name)
 
--- ---- built-in functions that name nothing
+-- ---- built-in functions without a name in the world
 
 abbrev pub intrinsic : Intrinsic → Import
 intrinsic intrinsics.TaskCancel = imports.ExportedTaskCancel
@@ -90,8 +90,8 @@ built_in role = None
 
 -- ---- roles
 
--- What an import of this field and this type is for. Functions and resources whose roles say so are the world's imports,
--- the others its exports; a memory and an adapter's export have the import's own type.
+-- The resolved role of an import of this field and this type. Functions and resources are looked up on the side that the
+-- role gives: the world's imports or its exports; a memory and an adapter's export have the import's own type.
 abbrev pub resolved_import : Resolved → List ℕ → ImportRole → Option ExternType → Option Import
 resolved_import r field (roles.Function owner name abi) ty = option_map (called name abi) (function_position sides.Imported r owner name)
 resolved_import r field (roles.ImportedDrop t) ty = option_map imported_drop (resource_of sides.Imported r t)

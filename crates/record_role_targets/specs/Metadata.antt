@@ -1,5 +1,5 @@
--- How functions spell texts (Canonical ABI: `string-encoding`), where the interfaces that have them go by number. What
--- names a function that isn't there is left out; where two come to one function, the first stays.
+-- The string encodings of functions (Canonical ABI: `string-encoding`), where the interfaces that have them have numbers. A
+-- name of a function that does not exist is left out; where two names resolve to one function, the first is kept.
 use Rattle.std.specs.Prelude.{ℕ, List, [], ◌∷◌, Option, Some, None}
 use Rattle.comp_lists.specs.Tables.{with_first}
 use Rattle.comp_roles.specs.Functions.{is_same_function}
@@ -14,11 +14,11 @@ use Rattle.record_role_targets.specs.declared.sides.Side.{Side}
 use Rattle.record_role_targets.specs.declared.sides.Side.TheVariants as sides
 use Rattle.record_role_targets.specs.Keys.{resolved_key}
 
--- functions beside their encodings
+-- functions with their encodings
 abbrev pub Encodings : Type 0
 Encodings = List (FunctionKey × StringEncoding)
 
--- one function more, if its key means something
+-- one function more, if its key resolves
 abbrev pub with_encoding : Encodings → Option WorldKey → List ℕ → StringEncoding → Encodings
 with_encoding all None function encoding = all
 with_encoding all (Some key) function encoding = with_first is_same_function all (record { key = key; function = function }) encoding

@@ -1,4 +1,4 @@
--- What an import names stands in the resolve: a resource that is dropped, a stream or future, and the function of a
+-- What an import names exists in the resolve: a resource that is dropped, a stream or future, and the function of a
 -- `task.return`.
 use Rattle.std.specs.Prelude.{Option, Some, None}
 use Rattle.wit_data.specs.Sound.{HasType}
@@ -8,7 +8,7 @@ use Rattle.comp_worlds.specs.Mentions.{HasRole, HasReturned, payload_in, payload
 use Rattle.comp_roles.specs.declared.imports.Import.{Import}
 use Rattle.comp_roles.specs.declared.payloads.PayloadInfo.{PayloadInfo}
 
--- the type of a stream or future, whatever side of the world it is on
+-- the type of a stream or future, on either side of the world
 abbrev pub type_of_payload : Option PayloadInfo → Option Ty
 type_of_payload None = None
 type_of_payload (Some p) = payload_type p.ty

@@ -1,6 +1,6 @@
--- The streams and futures that are met in a function (component model, WIT: `stream`, `future`): those of its parameters in
--- order, then those of its result, each behind the ones inside it. Types that have a name are entered, handles aren't, and
--- one that is met twice counts twice.
+-- The streams and futures that occur in a function (component model, WIT: `stream`, `future`): those of its parameters in
+-- order, then those of its result, each after the ones inside it. Types that have a name are entered, handles are not, and
+-- one that occurs twice counts twice.
 use Rattle.std.specs.Prelude.{ℕ, Bool, true, false, List, [], ◌∷◌, ◌++◌, Option, Some, None, option_map, if◌then◌else◌}
 use Rattle.std.specs.List.{flat_map, slice_get}
 use Rattle.std.specs.Option.{option_and_then}
@@ -29,7 +29,7 @@ use Rattle.record_role_targets.specs.declared.sides.Side.TheVariants as sides
 use Rattle.record_role_targets.specs.declared.positions.Position.{Position}
 use Rattle.record_role_targets.specs.Positions.{position_of, function_at}
 
--- ---- what is met
+-- ---- the streams and futures in a function
 
 -- the type of this number itself, if it is a stream or a future
 abbrev pub itself : ℕ → TypeDefKind → List TypeId
@@ -42,7 +42,7 @@ is_handle (kinds.Own id) = true
 is_handle (kinds.Borrow id) = true
 is_handle kind = false
 
--- what is met in a type, of what is met in its parts
+-- the streams and futures in a type, from those in its parts
 abbrev pub met_of : ℕ → TypeDefKind → List (List TypeId) → List TypeId
 met_of n kind found = if is_handle kind then [] else (flat_map (λ f. f) found ++ itself n kind)
 
@@ -55,7 +55,7 @@ met_in types part = value meeting types part
 abbrev pub met_in_function : List TypeDef → Function → List TypeId
 met_in_function types f = flat_map (λ p. met_in types (Some p.ty)) f.params ++ met_in types f.result
 
--- ---- which stream or future a role is for
+-- ---- the stream or future of a role
 
 abbrev pub unit_type : PayloadKind → PayloadType
 unit_type payload_kinds.Stream = types_of.UnitStream
@@ -65,7 +65,7 @@ unit_type payload_kinds.Future = types_of.UnitFuture
 abbrev pub unit_info : List ℕ → PayloadKind → PayloadInfo
 unit_info field kind = record { name = field; ty = unit_type kind; key = None; interface = None; imported = false }
 
--- a type that is met in a function of this name
+-- a type that occurs in a function of this name
 abbrev pub typed_info : List ℕ → Bool → Position → List ℕ → TypeId → PayloadInfo
 typed_info field imported position function id =
     record { name = field; ty = types_of.Typed id function; key = Some position.key; interface = position.interface; imported = imported }
@@ -73,7 +73,7 @@ typed_info field imported position function id =
 abbrev pub side_of : Bool → Side
 side_of imported = if imported then sides.Imported else sides.Exported
 
--- the stream or future that is met at this number, from 0, in the function of this name at a place
+-- the stream or future with this number, from 0, in the function of this name at a position
 abbrev pub type_met : Resolved → Side → Position → List ℕ → ℕ → Option TypeId
 type_met r side position function n = option_and_then (λ f. slice_get (met_in_function r.resolve.types f) n) (function_at side r position function)
 
@@ -86,7 +86,7 @@ abbrev pub resolved_payload : Resolved → List ℕ → PayloadKind → Payload 
 resolved_payload r field kind payloads.Unit = Some (unit_info field kind)
 resolved_payload r field kind (payloads.Met imported owner function n) = payload_met r field imported owner function n
 
--- ---- what is done to it
+-- ---- the built-in functions on streams and futures
 
 abbrev pub stream_import : PayloadOperation → PayloadInfo → Bool → Import
 stream_import operations.New info is_async = imports.StreamNew info

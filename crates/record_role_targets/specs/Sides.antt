@@ -23,7 +23,7 @@ ids_of sides.Exported r = r.exported
 abbrev pub interface_of : Side → Resolved → InterfaceName → Option InterfaceId
 interface_of side r name = lookup (is_same_interface name) (ids_of side r)
 
--- the first key at which an interface stands, by the table of a side
+-- the first key of an interface, by the table of a side
 abbrev pub interface_keys : Side → Resolved → List (InterfaceId × WorldKey)
 interface_keys sides.Imported r = r.imported_keys
 interface_keys sides.Exported r = r.exported_keys

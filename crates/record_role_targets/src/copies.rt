@@ -19,7 +19,7 @@ fn copy_params(alloc: Global, params: &[Param]) -> Result<Seq<Param>, AllocError
     Ok(copied)
 }
 
-/// An equal function, memory allowing.
+/// An equal function, unless memory runs out.
 pub(crate) fn copy_function(alloc: Global, function: &Function) -> Result<Function, AllocError>
     ensures { IfOk result (λ f. f ≡ function.now) }
 {

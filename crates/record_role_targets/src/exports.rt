@@ -1,4 +1,4 @@
-//! What the roles of core exports mean.
+//! What the roles of core exports resolve to.
 
 ghost use Rattle.std.specs.Prelude.{◌≡◌, option_map, IfOk};
 ghost use Rattle.std.specs.Option.{option_copied};
@@ -18,7 +18,7 @@ use record_values::{ExportRole, Owner, PlainExport, TypeName};
 use std::alloc::{AllocError, Global};
 use wit_data::AbiVariant;
 
-/// A function that is lifted at its place.
+/// A function that is lifted at its position.
 fn lifted(position: Position, name: Text, abi: AbiVariant) -> Export
     ensures { result ≡ lifted name abi position }
 {
@@ -128,10 +128,11 @@ fn resolve_plain(plain: PlainExport, ty: Option<&ExternType>) -> Option<Export>
     }
 }
 
-/// What a core export with this role and this type is for, where functions, types and interfaces go by number.
+/// The resolved role of a core export with this role and this type, where functions, types and
+/// interfaces have numbers.
 ///
-/// It is none where the role names something that the world doesn't export (an interface, a function or a type), or where
-/// an export for a memory isn't one. The only refusal is want of memory.
+/// It is none where the role names something that the world doesn't export (an interface, a function or
+/// a type), or where the role is a memory and the export is not. The only refusal is out of memory.
 pub fn resolved_export(
     alloc: Global,
     resolved: &Resolved,

@@ -1,4 +1,4 @@
-//! What the roles of core imports mean.
+//! What the roles of core imports resolve to.
 
 ghost use Rattle.std.specs.Prelude.{◌≡◌, Some, option_map, IfOk};
 ghost use Rattle.std.specs.Option.{option_copied, IfSome};
@@ -46,7 +46,7 @@ fn function_type(ty: Option<&ExternType>) -> Option<&FuncType>
     }
 }
 
-/// A function that is called at its place.
+/// A function that is called at its position.
 fn called(position: Position, name: Text, abi: AbiVariant) -> Import
     ensures { result ≡ called name abi position }
 {
@@ -207,7 +207,7 @@ fn payload_role(
     }
 }
 
-/// A built-in function that names nothing in the world.
+/// A built-in function without a name in the world.
 fn built_in(role: &ImportRole) -> Option<Import>
     ensures { result ≡ built_in role.now }
 {
@@ -270,7 +270,7 @@ fn resolve_adapter_export(
     }
 }
 
-/// What the role of a core import means.
+/// What the role of a core import resolves to.
 fn resolve_role(
     alloc: Global,
     resolved: &Resolved,
@@ -316,16 +316,17 @@ fn resolve_role(
     }
 }
 
-/// What a core import with this field, this role and this type is for, where functions, types and
-/// interfaces go by number.
+/// The resolved role of a core import with this field, this role and this type, where functions, types
+/// and interfaces have numbers.
 ///
-/// Functions and resources of imports are looked up on the world's imported side, those of exports on its exported
-/// side. An import for a memory has the memory's type, one for an adapter's export the function's.
+/// Functions and resources of imports are looked up on the world's imported side, those of exports on
+/// its exported side. A memory has the import's type, an adapter's export the import's function type.
 ///
-/// It is none where the role names something that this side lacks (an interface, a function, a type, or a stream or
-/// future by its number), or where such an import is no memory or no function. The only refusal is want of memory.
+/// It is none where the role names something that this side does not have (an interface, a function, a
+/// type, or a stream or future by its number), or where the import is not a memory or function as the
+/// role requires. The only refusal is out of memory.
 ///
-/// What the answer names stands in the resolve.
+/// What the result names exists in the resolve.
 #[tactic(auto, using(crate::proofs::Naming::target_names))]
 pub fn resolved_import(
     alloc: Global,

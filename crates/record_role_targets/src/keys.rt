@@ -53,8 +53,9 @@ fn resolve_id(
     }
 }
 
-/// What the key of a record means on a side of the resolved world: a plain name is itself, an id stands for its interface.
-/// It is none where nothing stands there. The only refusal is want of memory.
+/// What the key of a record resolves to on a side of the resolved world: a plain name is itself, an id
+/// is resolved to its interface. It is none where the side has no item there. The only refusal is out
+/// of memory.
 pub fn resolved_key(
     alloc: Global,
     resolved: &Resolved,
@@ -69,8 +70,8 @@ pub fn resolved_key(
     }
 }
 
-/// What the key of a required export means. It is none where the world doesn't export it. The only refusal is want of
-/// memory.
+/// What the key of a required export resolves to. It is none where the world doesn't export it. The
+/// only refusal is out of memory.
 pub fn resolved_export_key(
     alloc: Global,
     resolved: &Resolved,
@@ -94,7 +95,7 @@ fn is_interface(id: InterfaceId, item: &WorldItem) -> bool
     }
 }
 
-/// Whether an interface stands at a key of a side.
+/// Whether a side has an interface at a key.
 fn is_interface_at(resolved: &Resolved, side: Side, key: &WorldKey, id: InterfaceId) -> bool
     ensures { result ≡ option_map_or (is_interface id) (item_at side resolved.now key.now) false }
 {

@@ -1,4 +1,4 @@
-//! How functions spell texts, where the interfaces that have them go by number.
+//! The string encodings of functions, where the interfaces that have them have numbers.
 
 ghost use Rattle.std.specs.Prelude.{◌≡◌, [], IfOk, OnOk};
 ghost use Rattle.record_role_targets.specs.Keys as meanings;
@@ -13,10 +13,10 @@ use record_resolve::Resolved;
 use standard_kinds::StringEncoding;
 use std::alloc::{AllocError, Global};
 
-/// Functions beside their encodings.
+/// Functions with their encodings.
 type Encodings = Keyed<FunctionKey, StringEncoding>;
 
-/// Adds the encoding of a function, if its key means something and the table lacks it.
+/// Adds the encoding of a function, if its key resolves and the function is new.
 fn add_encoding(
     alloc: Global,
     resolved: &Resolved,
@@ -52,8 +52,8 @@ fn resolve_encodings(
     Ok(all)
 }
 
-/// The encodings with which a module calls and is called, where interfaces go by number. A function whose key means
-/// nothing is left out. The only refusal is want of memory.
+/// The string encodings of the functions that a module imports and exports, where interfaces have
+/// numbers. A function whose key does not resolve is left out. The only refusal is out of memory.
 pub fn resolved_metadata(
     alloc: Global,
     resolved: &Resolved,

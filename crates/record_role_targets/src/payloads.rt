@@ -1,4 +1,4 @@
-//! The streams and futures that roles are for, and what is done to them.
+//! The streams and futures of roles, and the built-in functions on them.
 
 ghost use Rattle.std.specs.Prelude.{◌≡◌, IfOk, Some};
 ghost use Rattle.wit_data.specs.Sound.{IsSound};
@@ -32,7 +32,7 @@ fn unit_info(alloc: Global, field: &Text, kind: PayloadKind) -> Result<PayloadIn
     })
 }
 
-/// A type that is met in a function.
+/// A type that occurs in a function.
 fn typed_info(
     alloc: Global,
     field: &Text,
@@ -64,7 +64,7 @@ fn side_of(imported: bool) -> Side
     }
 }
 
-/// The stream or future that is met at a number in the function of a name at a place.
+/// The stream or future with a number in the function of a name at a position.
 #[tactic(auto, using(crate::proofs::Existence::function_exists))]
 fn type_met(
     resolved: &Resolved,
@@ -152,7 +152,7 @@ fn future_import(operation: PayloadOperation, info: PayloadInfo, async_: bool) -
     }
 }
 
-/// What is done to a stream or a future.
+/// The built-in function on a stream or a future.
 pub(crate) fn payload_import(
     kind: PayloadKind,
     operation: PayloadOperation,

@@ -1,4 +1,4 @@
-//! Where functions and types of a record stand in the resolve.
+//! The positions of a record's functions and types in the resolve.
 
 ghost use Rattle.std.specs.Prelude.{◌≡◌, IfOk, Some, option_map};
 ghost use Rattle.std.specs.Option.{option_copied, option_and_then};
@@ -18,14 +18,14 @@ use record_values::{InterfaceName, Owner, TypeName};
 use std::alloc::{AllocError, Global};
 use wit_data::{Function, InterfaceId, TypeId, WorldItem, WorldKey};
 
-/// A place on a side of the world: its key, and the interface there, or none at the root.
+/// A position on a side of the world: its key, and the interface there, or none at the root.
 #[derive(Debug, Drop)]
 pub(crate) struct Position {
     pub key: WorldKey,
     pub interface: Option<InterfaceId>,
 }
 
-/// A resource and its place.
+/// A resource and its position.
 #[derive(Debug, Drop)]
 pub(crate) struct Resource {
     pub position: Position,
@@ -41,7 +41,7 @@ fn root_position(alloc: Global, name: &Text) -> Result<Position, AllocError>
     })
 }
 
-/// The place of an interface.
+/// The position of an interface.
 fn interface_position(
     alloc: Global,
     resolved: &Resolved,
@@ -62,7 +62,7 @@ fn interface_position(
     }
 }
 
-/// The place of what an owner has under a name.
+/// The position of an owner's item of a name.
 pub(crate) fn position_of(
     alloc: Global,
     resolved: &Resolved,
@@ -116,7 +116,7 @@ fn interface_type(resolved: &Resolved, id: InterfaceId, name: &Text) -> Option<T
     interface.types.get(name).copied()
 }
 
-/// The function of a name at a place.
+/// The function of a name at a position.
 pub(crate) fn function_at<'a>(
     resolved: &'a Resolved,
     side: Side,
@@ -140,7 +140,7 @@ fn type_at(resolved: &Resolved, side: Side, position: &Position, name: &Text) ->
     }
 }
 
-/// The place at which an owner has a function of a name.
+/// The position at which an owner has a function of a name.
 pub(crate) fn function_position(
     alloc: Global,
     resolved: &Resolved,
@@ -160,7 +160,7 @@ pub(crate) fn function_position(
     }
 }
 
-/// The resource of a name, with its place.
+/// The resource of a name, with its position.
 pub(crate) fn resource_of(
     alloc: Global,
     resolved: &Resolved,

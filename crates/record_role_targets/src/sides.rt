@@ -9,7 +9,7 @@ use record_resolve::Resolved;
 use record_values::InterfaceName;
 use wit_data::{InterfaceId, World, WorldItem, WorldKey};
 
-/// A side of a world: what it imports, or what it exports.
+/// A side of a world: its imports, or its exports.
 #[derive(Clone, Copy, Debug, PartialEq, Eq)]
 pub enum Side {
     Imported,

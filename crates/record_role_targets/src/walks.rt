@@ -1,7 +1,7 @@
-//! Streams and futures that are met in functions.
+//! Streams and futures that occur in functions.
 //!
-//! A walk passes what it meets, an inner type before the outer one, until it meets the one that is looked for. A type is
-//! entered each time that it is met, which is cheap since types are small.
+//! A walk counts the streams and futures, an inner type before the outer one, until it is at the one
+//! that it looks for. A type is entered each time that it occurs, which is cheap since types are small.
 
 ghost use Rattle.std.specs.Prelude.{◌≡◌, ◌<◌, [], ◌∷◌, Some, length, get_or, slice_get};
 ghost use Rattle.std.specs.List.{AllByRecursion, flat_map};
@@ -15,7 +15,7 @@ use wit_data::{
     Function, Param, Resolve, Type, TypeDef, TypeDefKind, TypeId, kind_of, part_count_of, part_of,
 };
 
-/// How far a walk came: to the type that is looked for, or not, and so many are still to be passed before it.
+/// The state of a walk: it found its type, or so many are still to be passed before it.
 #[derive(Clone, Copy, Debug, PartialEq, Eq)]
 pub(crate) enum Walk {
     Found(TypeId),
@@ -32,7 +32,7 @@ fn is_handle(kind: &TypeDefKind) -> bool
     }
 }
 
-/// A walk that meets one type.
+/// A walk over one stream or future.
 fn meet(left: usize, id: usize) -> Walk
     ensures { result ≡ passing left (record { index = id } ∷ []) }
 {
@@ -43,7 +43,7 @@ fn meet(left: usize, id: usize) -> Walk
     }
 }
 
-/// A walk that meets the type of a number itself, behind its parts.
+/// A walk over the type of a number itself, after its parts.
 fn walk_itself(kind: &TypeDefKind, id: usize, walk: Walk) -> Walk
     ensures { result ≡ onward walk (itself id kind.now) }
 {
@@ -143,7 +143,7 @@ fn found_by(walk: Walk) -> Option<TypeId>
     }
 }
 
-/// The stream or the future that is met at a number, from 0, in the parameters and then the result of a function.
+/// The stream or the future with a number, from 0, in the parameters and then the result of a function.
 #[tactic(auto, using(crate::proofs::Walking::found_at))]
 pub(crate) fn nth_met(resolve: &Resolve, function: &Function, number: u32) -> Option<TypeId>
     requires sound { IsSound resolve.now }

@@ -1,4 +1,4 @@
--- The arguments of a role, which stand behind its kind in one array, and the values that many kinds take.
+-- The arguments of a role, which follow its kind in one array, and the values that many kinds take.
 use Rattle.std.specs.Prelude.{ℕ, ◌==◌, List, codes, Bool, Option, Some, None, ok_or, option_and_then, Result, Ok, Err, if◌then◌else◌}
 use Rattle.std.specs.Str.{bytes_eq}
 use Rattle.serde_json.specs.Data.{Data, Items, no_items, item}
@@ -15,7 +15,7 @@ use Rattle.json_paths.specs.declared.fault.Failure.{Failure}
 use Rattle.json_paths.specs.Faults.{◌>>=◌}
 use Rattle.json_paths.specs.Reading.{here, text_of, number_of}
 
--- ---- how many there are
+-- ---- their number
 
 abbrev pub none_of : Items → Option Data
 none_of no_items = None
@@ -60,9 +60,9 @@ two_arguments d = ok_or (option_and_then two_of (as_array d)) here
 unfoldable pub three_arguments : Data → Result (Data × Data × Data) Failure
 three_arguments d = ok_or (option_and_then three_of (as_array d)) here
 
--- ---- what they say
+-- ---- their values
 
--- 1 is asynchronous, 0 isn't
+-- 1 is asynchronous, 0 is not
 unfoldable pub flag_of : Data → Result Bool Failure
 flag_of d = do
   n ← number_of 2 d

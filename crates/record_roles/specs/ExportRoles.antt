@@ -1,4 +1,4 @@
--- What a core export is for: which value of JSON is which role, and what must stand in the world for it.
+-- The role of a core export: which value of JSON is which role, and what the world must have for it.
 use Rattle.std.specs.Prelude.{ℕ, List, codes, Option, Some, None, ok_or, option_and_then, Result, Ok, Err}
 use Rattle.serde_json.specs.Data.{Data}
 use Rattle.serde_json.specs.Find.{as_array}
@@ -91,7 +91,7 @@ abbrev pub some_export_role : RecordWorld → Data → Option ExportRoleKind →
 some_export_role w d None = Err (at_member (codes "0"))
 some_export_role w d (Some kind) = export_role_of_kind w d kind
 
--- the kind, and what stands behind it
+-- the kind, and the arguments after it
 unfoldable pub export_role_of : RecordWorld → Data → Result ExportRole Failure
 export_role_of w d = do
   first ← ok_or (option_and_then first_of (as_array d)) here

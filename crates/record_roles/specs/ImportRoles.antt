@@ -1,4 +1,4 @@
--- What a core import is for: which value of JSON is which role, and what must stand in the world for it.
+-- The role of a core import: which value of JSON is which role, and what the world must have for it.
 use Rattle.std.specs.Prelude.{ℕ, ◌^◌, List, [], ◌∷◌, codes, Bool, true, false, Option, Some, None, ok_or, option_and_then, Result, Ok, Err, is_some, if◌then◌else◌}
 use Rattle.std.specs.Option.{option_map_or}
 use Rattle.std.specs.List.{slice_get}
@@ -93,7 +93,7 @@ is_kind payload_kinds.Future payload_kinds.Future = true
 is_kind payload_kinds.Stream payload_kinds.Future = false
 is_kind payload_kinds.Future payload_kinds.Stream = false
 
--- what is met there in the function is of this kind
+-- what occurs at this index in the function is of this kind
 abbrev pub is_met : RecordWorld → Met → PayloadKind → Side → Option ℕ → List ℕ → ℕ → Bool
 is_met w met kind side owner_index function index = option_map_or
     (λ f. option_map_or (is_kind kind) (slice_get (met_in_function met f) index) false)
@@ -265,7 +265,7 @@ abbrev pub some_import_role : RecordWorld → Met → Data → Option ImportKind
 some_import_role w met d None = Err (at_member (codes "0"))
 some_import_role w met d (Some kind) = import_role_of_kind w met d kind
 
--- the kind, and what stands behind it
+-- the kind, and the arguments after it
 unfoldable pub import_role_of : RecordWorld → Met → Data → Result ImportRole Failure
 import_role_of w met d = do
   first ← ok_or (option_and_then first_of (as_array d)) here

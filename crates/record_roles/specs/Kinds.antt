@@ -73,7 +73,7 @@ other_from name =
     else if bytes_eq name (codes "adapter-export") then Some kinds.AdapterExport
     else None
 
--- the first that is there
+-- the first that exists
 abbrev pub or_else : {A : Type 0} → Option A → Option A → Option A
 or_else (Some x) other = Some x
 or_else None other = other
@@ -81,7 +81,7 @@ or_else None other = other
 abbrev pub import_from : List ℕ → Option ImportKind
 import_from name = or_else (other_from name) (or_else (option_map kinds.Intrinsic (intrinsic_from name)) (or_else (builtin_from name) (payload_from name)))
 
--- exports with a meaning of their own
+-- exports with a role of their own
 abbrev pub plain_from : List ℕ → Option PlainExport
 plain_from name =
     if bytes_eq name (codes "memory") then Some plain.Memory

@@ -1,5 +1,5 @@
--- The streams and futures that are met in a function: those of its parameters in order, then those of its
--- result, each behind the ones inside it. Types that have a name are entered, handles aren't.
+-- The streams and futures that occur in a function: those of its parameters in order, then those of its result, each after
+-- the ones inside it. Types that have a name are entered, handles are not.
 use Rattle.std.specs.Prelude.{List, [], ◌∷◌, ◌++◌}
 use Rattle.std.specs.Option.{option_map_or, unwrap_or}
 use Rattle.std.specs.List.{flat_map}
@@ -21,7 +21,7 @@ use Rattle.record_values.specs.declared.world.Wit.{Wit}
 use Rattle.record_values.specs.Names.{is_same_type, key_text}
 use Rattle.comp_lists.specs.Tables.{with_first}
 
--- what is met in each named type
+-- what occurs in each named type
 abbrev pub Met : Type 0
 Met = List (TypeName × List PayloadKind)
 
@@ -37,7 +37,7 @@ met_in met ns = flat_map (met_at met) ns
 abbrev pub met_in_function : Met → Func → List PayloadKind
 met_in_function met f = flat_map (λ p. met_in met p.nodes) f.params ++ option_map_or (met_in met) f.result []
 
--- one named type more, which names earlier ones alone
+-- one named type more, which names only earlier ones
 abbrev pub with_type : Met → TypeName → List Node → Met
 with_type met name ns = with_first is_same_type met name (met_in met ns)
 

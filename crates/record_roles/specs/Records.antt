@@ -1,9 +1,9 @@
--- The record, version 1: which text says what of a core module and its component.
+-- The record, version 1: what a text says of a core module and its component.
 --
--- An object with the members `version` (1), `encoding` (how all functions spell texts: "utf8", "utf16" or "compact",
--- and "utf8" where nothing is said), `context-slot-1` (whether the task's second slot of storage is free),
--- `interfaces`, `imports` and `exports` (the world), `core-imports` (a list of {"module", "field", "role"}) and
--- `core-exports` (a list of {"field", "role"}). All but `version` may be left out.
+-- An object with the members `version` (1), `encoding` (the string encoding of all functions: "utf8", "utf16" or "compact",
+-- and "utf8" where it is left out), `context-slot-1` (whether the task's second slot of storage is free), `interfaces`,
+-- `imports` and `exports` (the world), `core-imports` (a list of {"module", "field", "role"}) and `core-exports` (a list of
+-- {"field", "role"}). All but `version` may be left out.
 use Rattle.std.specs.Prelude.{⊤, ℕ, ◌==◌, List, [], ◌∷◌, codes, Bool, Option, Some, None, ok_or, option_and_then, Result, Ok, Err, if◌then◌else◌}
 use Rattle.serde_json.specs.Data.{Data}
 use Rattle.serde_json.specs.Find.{get, as_array, as_number, as_u64}
@@ -72,7 +72,7 @@ core_exports_if w (Some v) = under (codes "core-exports") (core_exports_of w v)
 
 -- ---- the record
 
--- the one version
+-- the one version that is supported
 abbrev pub version_from : Option ℕ → Result ⊤ Failure
 version_from None = Err (at_member (codes "version"))
 version_from (Some n) = if n == 1 then Ok tt else Err (at_member (codes "version"))
@@ -89,7 +89,7 @@ unfoldable pub only_known : Data → Result ⊤ Failure
 only_known d =
     only (codes "version" ∷ codes "encoding" ∷ codes "context-slot-1" ∷ codes "interfaces" ∷ codes "imports" ∷ codes "exports" ∷ codes "core-imports" ∷ codes "core-exports" ∷ []) d
 
--- what the record says beside its world
+-- what the record says besides its world
 unfoldable pub with_world : StringEncoding → Bool → Data → RecordWorld → Result Record Failure
 with_world e slot d w = do
   is ← core_imports_if w (all_met w.wit) (get (codes "core-imports") d)
@@ -105,7 +105,7 @@ record_of d = do
   w ← world_of same_interface d
   with_world e slot d w
 
--- the record that bytes spell
+-- the record that bytes encode
 unfoldable pub record_in : List ℕ → Result Record Failure
 record_in bytes = do
   d ← data_of bytes

@@ -1,5 +1,5 @@
--- What a role may be for: an interface that stands on a side of the world, and a function or a resource that it,
--- or the world itself, has.
+-- What a role may name: an interface that a side of the world has, and a function or a resource of that interface or of the
+-- world itself.
 use Rattle.std.specs.Prelude.{ℕ, ◌^◌, List, [], ◌∷◌, Bool, true, false, Option, Some, None, option_and_then, Result, Ok, Err, is_some, if◌then◌else◌}
 use Rattle.std.specs.Option.{option_map_or, unwrap_or}
 use Rattle.std.specs.List.{slice_get}
@@ -29,7 +29,7 @@ abbrev pub items_of : RecordWorld → Side → List (ItemKey × Item)
 items_of w sides.Import = w.wit.imports
 items_of w sides.Export = w.wit.exports
 
--- ---- owners, by the places of interfaces in the record
+-- ---- owners, by the indices of interfaces in the record
 
 abbrev pub is_on_side : Side → IndexedInterface → Bool
 is_on_side sides.Import i = i.is_imported

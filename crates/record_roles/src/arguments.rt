@@ -94,7 +94,7 @@ pub(crate) fn three_arguments(
     three(value).ok_or(fault_here(alloc))
 }
 
-/// Whether it is asynchronous.
+/// Whether a role is asynchronous.
 #[tactic(auto, unfolding(crate::specs::Arguments::flag_of))]
 pub(crate) fn read_flag(alloc: Global, value: &Value) -> Result<bool, Failure>
     ensures { Gives (λ b. b) result (flag_of (view value.now)) }

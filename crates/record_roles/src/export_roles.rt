@@ -1,4 +1,4 @@
-//! What the exports of a core module are for.
+//! The roles of the exports of a core module.
 
 ghost use Rattle.std.specs.Prelude.{◌≡◌};
 ghost use Rattle.serde_json.specs.View.{view};
@@ -150,7 +150,7 @@ fn read_export_kind(
     }
 }
 
-/// What a core export is for.
+/// The role of a core export.
 #[tactic(auto, unfolding(crate::specs::ExportRoles::export_role_of))]
 pub(crate) fn read_export_role(
     alloc: Global,

@@ -1,4 +1,4 @@
-//! What the imports of a core module are for, but for streams and futures.
+//! The roles of the imports of a core module, except for streams and futures.
 
 ghost use Rattle.std.specs.Prelude.{◌≡◌};
 ghost use Rattle.serde_json.specs.View.{view};
@@ -280,7 +280,7 @@ fn read_import_kind(
     }
 }
 
-/// What a core import is for.
+/// The role of a core import.
 #[tactic(auto, unfolding(crate::specs::ImportRoles::import_role_of))]
 pub(crate) fn read_import_role(
     alloc: Global,

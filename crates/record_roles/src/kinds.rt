@@ -5,7 +5,7 @@ ghost use Rattle.record_roles.specs.Kinds.{intrinsic_from, payload_from, builtin
 
 use record_values::{Intrinsic, PayloadKind, PayloadOperation, PlainExport};
 
-/// A kind of import role. The arguments stand behind it.
+/// A kind of import role. The arguments follow it.
 #[derive(Clone, Copy, Debug, PartialEq, Eq)]
 pub(crate) enum ImportKind {
     WorldFunc,
@@ -60,7 +60,7 @@ fn intrinsic(name: &str) -> Option<Intrinsic>
     }
 }
 
-/// A kind that needs a stream or a future.
+/// A kind with a stream or a future.
 fn payload(name: &str) -> Option<ImportKind>
     ensures { result ≡ payload_from name.now }
 {

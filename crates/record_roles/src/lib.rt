@@ -1,10 +1,10 @@
-//! Records: the JSON that says what a core module's imports and exports are for.
+//! Records: the JSON that gives the roles of a core module's imports and exports.
 //!
-//! Upward this crate promises one call: [`read_record`] answers the record that bytes spell, or the fault of
-//! the first value that is wrong, with its JSON pointer (`specs/Records.antt`, and below it one file a topic). A
-//! role is for something that stands in the record's own world, on the side that it speaks of.
+//! There is one public call: [`read_record`] returns the record that bytes encode, or the fault of the
+//! first value that is wrong, with its JSON pointer (`specs/Records.antt`, and below it one file a
+//! topic). A role names something in the record's own world, on the side that the role is of.
 //!
-//! In reading order: `arguments` (what stands behind a role's kind), `sides` (functions and resources of a
+//! In reading order: `arguments` (what follows a role's kind), `sides` (functions and resources of a
 //! side of the world), `payloads` (streams and futures that functions have), `kinds` (names of kinds),
 //! `payload_roles`, `import_roles`, `export_roles`, `record`.
 #![tactic(auto)]

@@ -1,4 +1,4 @@
-//! What is done to streams and futures.
+//! Roles on streams and futures.
 
 ghost use Rattle.std.specs.Prelude.{◌≡◌, ◌<◌, ◌^◌, IfOk, codes};
 ghost use Rattle.serde_json.specs.View.{view};
@@ -55,7 +55,7 @@ fn is_kind(kind: PayloadKind, other: PayloadKind) -> bool
     }
 }
 
-/// Whether what is met at an index in a function is of this kind.
+/// Whether what occurs at an index in a function is of this kind.
 fn is_met(
     alloc: Global,
     world: &RecordWorld,
@@ -145,7 +145,7 @@ fn met_payload(
     })
 }
 
-/// A stream or a future that is met in a function.
+/// A stream or a future that occurs in a function.
 #[tactic(auto, unfolding(crate::specs::ImportRoles::met_of))]
 fn read_met(
     alloc: Global,

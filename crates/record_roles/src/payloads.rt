@@ -1,4 +1,4 @@
-//! Streams and futures that are met in functions.
+//! Streams and futures that occur in functions.
 
 ghost use Rattle.std.specs.Prelude.{◌≡◌, ◌++◌, IfOk, OnOk};
 ghost use Rattle.std.specs.List.{flat_map};
@@ -10,7 +10,7 @@ use record_values::{
 };
 use std::alloc::{AllocError, Global};
 
-/// What is met in each named type.
+/// The streams and futures that occur in each named type.
 pub(crate) type Met = Keyed<TypeName, Seq<PayloadKind>>;
 
 /// Appends all of a list.
@@ -46,7 +46,7 @@ fn push_met_in(met: &Met, nodes: &[Node], out: &mut Seq<PayloadKind>) -> Result<
     Ok(())
 }
 
-/// What is met in a function.
+/// The streams and futures that occur in a function.
 pub(crate) fn met_in_function(
     alloc: Global,
     met: &Met,
@@ -130,7 +130,7 @@ fn add_items(alloc: Global, met: &mut Met, items: &Keyed<ItemKey, Item>) -> Resu
     Ok(())
 }
 
-/// What is met in each named type of a world.
+/// The streams and futures that occur in each named type of a world.
 #[tactic(auto, unfolding(crate::specs::Payloads::all_met))]
 pub(crate) fn all_met(alloc: Global, wit: &Wit) -> Result<Met, AllocError>
     ensures { IfOk result (λ m. m ≡ all_met wit.now) }

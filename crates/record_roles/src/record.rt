@@ -94,7 +94,7 @@ fn import_at(
     under_index(alloc, index, import)
 }
 
-/// What these core imports are for, each refusal under its index.
+/// The roles of these core imports; a refusal has the import's index in its path.
 fn read_imports(
     alloc: Global,
     world: &RecordWorld,
@@ -139,7 +139,7 @@ fn export_at(
     under_index(alloc, index, export)
 }
 
-/// What these core exports are for, each refusal under its index.
+/// The roles of these core exports; a refusal has the export's index in its path.
 fn read_exports(
     alloc: Global,
     world: &RecordWorld,
@@ -203,7 +203,7 @@ fn core_exports_member(
     }
 }
 
-/// An object with known members alone.
+/// An object that has only known members.
 #[tactic(auto, unfolding(crate::specs::Records::only_known))]
 fn check_known(alloc: Global, value: &Value) -> Result<(), Failure>
     ensures { Gives (λ x. x) result (only_known (view value.now)) }
@@ -242,7 +242,7 @@ fn encoding_member(alloc: Global, value: &Value) -> Result<StringEncoding, Failu
     }
 }
 
-/// What each core import is for.
+/// The role of each core import.
 fn import_roles_of(
     alloc: Global,
     world: &RecordWorld,
@@ -273,7 +273,7 @@ fn with_roles(
     }
 }
 
-/// What a record says, of which the world was read.
+/// What a record says, after its world was read.
 #[tactic(auto, unfolding(crate::specs::Records::with_world))]
 fn add_world(
     alloc: Global,
@@ -301,7 +301,7 @@ fn record_of(alloc: Global, value: &Value) -> Result<Record, Failure>
     add_world(alloc, encoding, context_slot_1, value, world)
 }
 
-/// The record that a text of JSON spells.
+/// The record of a text of JSON.
 #[tactic(auto, unfolding(crate::specs::Records::record_in))]
 pub fn read_record(alloc: Global, bytes: &[u8]) -> Result<Record, Failure>
     ensures { Gives (λ r. r) result (record_in bytes.now) }

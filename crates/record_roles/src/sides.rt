@@ -1,4 +1,4 @@
-//! What roles are for: functions and resources that a side of the world has.
+//! What roles name: functions and resources that a side of the world has.
 
 ghost use Rattle.std.specs.Prelude.{◌≡◌, option_map, option_and_then, IfOk, is_some};
 ghost use Rattle.std.specs.Option.{option_copied};
@@ -38,7 +38,7 @@ fn is_on_side(interface: &IndexedInterface, side: Side) -> bool
     }
 }
 
-/// Whether the interface of this place stands on a side.
+/// Whether a side has the interface at this index.
 fn is_present(world: &RecordWorld, side: Side, index: usize) -> bool
     ensures { result ≡ is_present world.now side index }
 {
@@ -48,7 +48,7 @@ fn is_present(world: &RecordWorld, side: Side, index: usize) -> bool
     }
 }
 
-/// The place of an interface that stands on a side.
+/// The index of an interface that a side has.
 #[tactic(auto, unfolding(crate::specs::Sides::interface_of))]
 pub(crate) fn read_interface(
     alloc: Global,
@@ -66,7 +66,7 @@ pub(crate) fn read_interface(
     }
 }
 
-/// The place of an interface that stands on a side, or none for the world itself.
+/// The index of an interface that a side has, or none for the world itself.
 #[tactic(auto, unfolding(crate::specs::Sides::owner_of))]
 pub(crate) fn read_owner(
     alloc: Global,
@@ -83,7 +83,7 @@ pub(crate) fn read_owner(
     Ok(Some(index))
 }
 
-/// The owner at a place.
+/// The owner at an index.
 pub(crate) fn owner_at(
     alloc: Global,
     world: &RecordWorld,
@@ -138,7 +138,7 @@ fn interface_function<'w>(
     found.functions.as_slice().get(index)
 }
 
-/// The function of this name that the owner at a place has.
+/// The function of this name that the owner at an index has.
 pub(crate) fn function_at<'w>(
     alloc: Global,
     world: &'w RecordWorld,
@@ -193,7 +193,7 @@ fn interface_resource(interface: &IndexedInterface, name: &Text) -> bool
     }
 }
 
-/// Whether the owner at a place has a resource of this name.
+/// Whether the owner at an index has a resource of this name.
 fn resource_at(
     alloc: Global,
     world: &RecordWorld,
@@ -212,7 +212,7 @@ fn resource_at(
     }
 }
 
-/// The name of a function that the owner at a place has.
+/// The name of a function that the owner at an index has.
 #[tactic(auto, unfolding(crate::specs::Sides::function_of))]
 pub(crate) fn read_function_name(
     alloc: Global,
@@ -232,7 +232,7 @@ pub(crate) fn read_function_name(
     }
 }
 
-/// The name of a resource that the owner at a place has.
+/// The name of a resource that the owner at an index has.
 #[tactic(auto, unfolding(crate::specs::Sides::resource_of))]
 pub(crate) fn read_resource_name(
     alloc: Global,

@@ -1,4 +1,4 @@
--- What `split_once` answers.
+-- What `split_once` returns.
 use Rattle.std.proofs.Common.{◌≡◌, ℕ, ◌<◌, List, length, Option, Some, None, Bor, refl, arith, eqb}
 use Rattle.std.specs.Prelude.{option_map}
 use Rattle.std.specs.List.{position_or_len}

@@ -49,7 +49,7 @@ result_if k (Some d) = under (codes "result") (result_of k d)
 abbrev pub is_constructor : List ℕ → Bool
 is_constructor name = starts_with nat_eq name (codes "[constructor]")
 
--- a constructor isn't asynchronous
+-- a constructor is not asynchronous
 unfoldable pub async_of : List ℕ → Data → Result Bool Failure
 async_of name d = do
   is_async ← bool_if (codes "async") (get (codes "async") d)

@@ -1,5 +1,5 @@
--- Ids of interfaces: three texts, joined by a colon and a slash, and after an at sign a version, if any
--- (component model, explainer: `interfacename`).
+-- Ids of interfaces: three texts with a colon and a slash between them, and after an at sign a version, if any (component
+-- model, explainer: `interfacename`).
 use Rattle.std.specs.Prelude.{ℕ, ◌==◌, ◌&&◌, ◌||◌, not, nat_lt, length, List, Bool, false, Option, Some, None, is_some, is_ok, Result, Ok, Err, if◌then◌else◌}
 use Rattle.std.specs.List.{list_any, before_first, after_first, position_or_len}
 use Rattle.semver.specs.Parse.{version_parts}
@@ -9,7 +9,7 @@ use Rattle.json_paths.specs.declared.fault.Failure.{Failure}
 use Rattle.json_paths.specs.Faults.{◌>>=◌}
 use Rattle.json_paths.specs.Reading.{here, text_of}
 
--- what stands before and after the first such character
+-- what is before and after the first such character
 abbrev pub cut_at : ℕ → List ℕ → Option (List ℕ × List ℕ)
 cut_at mark text =
     if nat_lt (position_or_len (λ b. b == mark) text) (length text)

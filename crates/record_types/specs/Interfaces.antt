@@ -20,7 +20,7 @@ use Rattle.record_types.specs.Named.{named_type_of}
 use Rattle.record_types.specs.Functions.{function_of}
 use Rattle.record_types.specs.Ids.{id_of}
 
--- What became of a state, unless memory ran out.
+-- What a state became, unless memory ran out.
 abbrev pub Becomes : {S : Type 0} → Result ⊤ Failure → S → Result S Failure → Type 0
 Becomes (Ok x) s read = read ≡ Ok s
 Becomes (Err e) s read = e ≢ failures.Memory → read ≡ Err e
@@ -29,7 +29,7 @@ Becomes (Err e) s read = e ≢ failures.Memory → read ≡ Err e
 abbrev pub inside : List ReadInterface → Table → Names
 inside done known = record { done = done; current = known; is_world = false }
 
--- what is known of a name, beside what was known
+-- a name and what is known of it, added to the known names
 unfoldable pub with_known : Table → List ℕ → TypeFacts → Table
 with_known known name facts = with_first bytes_eq known name facts
 
@@ -37,13 +37,13 @@ with_known known name facts = with_first bytes_eq known name facts
 abbrev pub Types : Type 0
 Types = List Typed × Table
 
--- the type at an index, behind these
+-- the type at an index, after these
 unfoldable pub next_type : List ReadInterface → ℕ → Data → Types → Result Types Failure
 next_type done i d so_far = do
   t ← under (decimal i) (named_type_of (inside done so_far.1) d)
   Ok (so_far.0 ++ t.0 ∷ [], with_known so_far.1 t.0.name t.1)
 
--- types behind these; the first of them is at this index
+-- types after these; the first of them is at this index
 abbrev pub types_from : List ReadInterface → ℕ → Items → Types → Result Types Failure
 types_from done i no_items so_far = Ok so_far
 types_from done i (item d ds) so_far = do
@@ -59,7 +59,7 @@ types_of done d = do
 abbrev pub Seen : Type 0
 Seen = List (List ℕ × ⊤)
 
--- a name, beside those that were seen
+-- a name, added to the names so far
 unfoldable pub with_name : Seen → List ℕ → Seen
 with_name seen name = with_first bytes_eq seen name tt
 
@@ -73,13 +73,13 @@ new_function k seen d = do
 abbrev pub Functions : Type 0
 Functions = List Func × Seen
 
--- the function at an index, behind these
+-- the function at an index, after these
 unfoldable pub next_function : Names → ℕ → Data → Functions → Result Functions Failure
 next_function k i d so_far = do
   f ← under (decimal i) (new_function k so_far.1 d)
   Ok (so_far.0 ++ f ∷ [], with_name so_far.1 f.name)
 
--- functions behind these; the first of them is at this index
+-- functions after these; the first of them is at this index
 abbrev pub functions_from : Names → ℕ → Items → Functions → Result (List Func) Failure
 functions_from k i no_items so_far = Ok so_far.0
 functions_from k i (item d ds) so_far = do
@@ -103,7 +103,7 @@ members_of d = do
 abbrev pub interface : Option (List ℕ) → List Typed → List Func → Table → ReadInterface
 interface id types functions known = record { id = id; types = types; functions = functions; known = known }
 
--- an interface behind these
+-- an interface after these
 unfoldable pub interface_of : List ReadInterface → Data → Result ReadInterface Failure
 interface_of done d = do
   m ← members_of d
@@ -112,7 +112,7 @@ interface_of done d = do
   fs ← under (codes "functions") (functions_of (inside done ts.1) m.2)
   Ok (interface id ts.0 fs ts.1)
 
--- interfaces behind these; the first of them is at this index
+-- interfaces after these; the first of them is at this index
 abbrev pub interfaces_from : ℕ → Items → List ReadInterface → Result (List ReadInterface) Failure
 interfaces_from i no_items done = Ok done
 interfaces_from i (item d ds) done = do

@@ -1,5 +1,4 @@
--- Named types: objects with a name and what it stands for, which is a type, another name for a type, or a new
--- resource.
+-- Named types: objects with a name and its type, which is an unnamed type, another name for a type, or a new resource.
 use Rattle.std.specs.Prelude.{ℕ, List, [], ◌∷◌, codes, Bool, true, false, Option, Some, None, is_some, ok_or, Result, Ok, Err, if◌then◌else◌}
 use Rattle.std.specs.Map.{lookup}
 use Rattle.std.specs.Str.{bytes_eq}
@@ -19,11 +18,11 @@ use Rattle.record_types.specs.References.{reference_of}
 use Rattle.record_types.specs.Primitives.{primitive_of}
 use Rattle.record_types.specs.Types.{type_of}
 
--- nodes, and what is known of the name that stands for them
+-- nodes, and what is known of the name of the type that they make
 abbrev pub Meaning : Type 0
 Meaning = List Node × TypeFacts
 
--- no resource, and no name for one
+-- neither a resource nor a name for one
 abbrev pub value_facts : Size → TypeFacts
 value_facts size = record { size = size; is_resource = false; ends_at_resource = false }
 
@@ -67,7 +66,7 @@ abbrev pub meaning_by : Names → Data → Option (List ℕ) → Result Meaning 
 meaning_by k d (Some s) = primitive_name s
 meaning_by k d None = meaning_by_member k d (single d)
 
--- what a name stands for
+-- the type of a name
 unfoldable pub meaning_of : Names → Data → Result Meaning Failure
 meaning_of k d = meaning_by k d (as_str d)
 

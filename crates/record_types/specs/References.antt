@@ -1,4 +1,4 @@
--- References to named types: arrays of the place of an interface, or null for the world, and a name.
+-- References to named types: arrays of the index of an interface, or null for the world, and a name.
 use Rattle.std.specs.Prelude.{ℕ, ◌==◌, ◌&&◌, ◌^◌, nat_lt, length, List, codes, not, Option, Some, None, is_some, slice_get, ok_or, option_and_then, Result, Ok, Err, if◌then◌else◌}
 use Rattle.std.specs.Map.{lookup}
 use Rattle.std.specs.Str.{bytes_eq}
@@ -19,7 +19,7 @@ abbrev pub table_by : Names → ℕ → Option ReadInterface → Option Table
 table_by k index (Some i) = Some i.known
 table_by k index None = if (index == length k.done) && not k.is_world then Some k.current else None
 
--- the named types of the interface at a place; the one that is being read stands behind those before
+-- the named types of the interface at an index; the one that is being read comes after those before
 abbrev pub table_at : Names → ℕ → Option Table
 table_at k index = table_by k index (slice_get k.done index)
 

@@ -1,4 +1,4 @@
--- The types that may be named at a place.
+-- The types that may be named in an interface or in the world.
 use Rattle.std.specs.Prelude.{ℕ, List, Bool}
 use Rattle.record_types.specs.declared.known.TypeFacts.{TypeFacts}
 use Rattle.record_types.specs.declared.known.ReadInterface.{ReadInterface}

@@ -1,6 +1,5 @@
--- How large types are: how many types stand below one another in a type, and how many nodes its tree has.
--- A part that isn't there is a node too, but no level. (The component model sets no limit; these are this
--- project's own.)
+-- Sizes of types: how many types are nested in a type, and how many nodes its tree has. An absent part is a node too, but
+-- no level. (The component model sets no limit; these are this project's own.)
 use Rattle.std.specs.Prelude.{◌+◌, min, max, nat_le, codes, Result, Ok, Err, if◌then◌else◌}
 use Rattle.json_paths.specs.declared.fault.Failure.{Failure}
 use Rattle.json_paths.specs.Reading.{left_out}
@@ -9,7 +8,7 @@ use Rattle.record_types.specs.declared.known.Size.{Size}
 abbrev pub nothing : Size
 nothing = record { levels = 0; nodes = 0 }
 
--- a part that isn't there
+-- an absent part
 abbrev pub absent : Size
 absent = record { levels = 0; nodes = 1 }
 
@@ -17,11 +16,11 @@ absent = record { levels = 0; nodes = 1 }
 abbrev pub simple : Size
 simple = record { levels = 1; nodes = 1 }
 
--- of parts together: the levels of the deepest, and the nodes of all, up to 10,000
+-- of parts together: the levels of the deepest, and the sum of all nodes, up to 10,000
 abbrev pub combined : Size → Size → Size
 combined a b = record { levels = max a.levels b.levels; nodes = min (a.nodes + b.nodes) 10000 }
 
--- a type with parts that have this size together; it has at most 100 levels and 10,000 nodes
+-- a type whose parts have this size together; it has at most 100 levels and 10,000 nodes
 unfoldable pub above : Size → Result Size Failure
 above parts =
     if nat_le 100 parts.levels then Err (left_out (codes "type depth"))

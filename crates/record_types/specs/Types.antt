@@ -1,5 +1,5 @@
--- Which type a value of JSON is: the name of a primitive type, or an object with one member, which says what
--- the type is made of. Its nodes go behind those that are there, each behind its parts.
+-- Which type a value of JSON is: the name of a primitive type, or an object with one member, which says what the type is
+-- made of. Its nodes are appended to those so far, each node after its parts.
 use Rattle.std.specs.Prelude.{◌≡◌, ◌≢◌, ℕ, zero, suc, nat_lt, length, List, [], ◌∷◌, ◌++◌, codes, Bool, not, Option, Some, None, is_some, ok_or, option_and_then, Result, Ok, Err, if◌then◌else◌}
 use Rattle.std.specs.Fmt.{decimal}
 use Rattle.std.specs.Str.{bytes_eq}
@@ -19,7 +19,7 @@ use Rattle.record_types.specs.Sizes.{nothing, absent, simple, combined, above}
 use Rattle.record_types.specs.References.{reference_of}
 use Rattle.record_types.specs.Primitives.{primitive_of}
 
--- What a function returned beside a state, unless memory ran out.
+-- What a function returned together with a state, unless memory ran out.
 abbrev pub GivesWith : {X S : Type 0} → Result X Failure → S → Result (X × S) Failure → Type 0
 GivesWith (Ok x) s read = read ≡ Ok (x, s)
 GivesWith (Err e) s read = e ≢ failures.Memory → read ≡ Err e
@@ -31,7 +31,7 @@ With A = Result (A × List Node) Failure
 abbrev pub Reader : Type 0
 Reader = Data → List Node → With Size
 
--- a node behind its parts, which have this size together
+-- a node after its parts, which have this size together
 abbrev pub after_parts : Node → Size → List Node → With Size
 after_parts node parts ns = do
   size ← above parts
@@ -62,7 +62,7 @@ abbrev pub item_count : Items → ℕ
 item_count no_items = 0
 item_count (item d ds) = suc (item_count ds)
 
--- a type with one part, beside which these are
+-- a type with one part, where its other parts have this size
 abbrev pub holding_of : Node → Size → Reader → Reader
 holding_of node others read d ns = do
   part ← read d ns
@@ -81,7 +81,7 @@ result_of read d ns = do
   bad ← under (codes "1") (part_of read p.1 good.1)
   after_parts (nodes.«Result» (is_part p.0) (is_part p.1)) (combined good.0 bad.0) bad.1
 
--- the parts of a tuple, behind parts that have this size together; the first of them at this index
+-- the parts of a tuple, after parts that have this size together; the first of them at this index
 abbrev pub tuple_from : Reader → ℕ → Items → Size → List Node → With Size
 tuple_from read i no_items size ns = Ok (size, ns)
 tuple_from read i (item d ds) size ns = do
@@ -102,7 +102,7 @@ field_of read d ns = do
   part ← under (codes "1") (read p.1 ns)
   Ok ((name, part.0), part.1)
 
--- a record with fields behind these
+-- a record with fields after these
 abbrev pub fields_from : Reader → ℕ → Items → List (List ℕ) → Size → List Node → With Size
 fields_from read i no_items names size ns = after_parts (nodes.Record names) size ns
 fields_from read i (item d ds) names size ns = do
@@ -125,7 +125,7 @@ case_of read d ns = do
   part ← under (codes "1") (part_of read p.1 ns)
   Ok ((new_case name (is_part p.1), part.0), part.1)
 
--- a variant with cases behind these
+-- a variant with cases after these
 abbrev pub cases_from : Reader → ℕ → Items → List Case → Size → List Node → With Size
 cases_from read i no_items cases size ns = after_parts (nodes.Variant cases) size ns
 cases_from read i (item d ds) cases size ns = do
@@ -176,7 +176,7 @@ ref_of k d ns = do
   r ← reference_of k d
   Ok (r.1.size, ns ++ nodes.Named r.0 ∷ [])
 
--- a type that is made of no others in place
+-- a type without inner types that are written in it
 abbrev pub plain_of : Names → List ℕ → Reader
 plain_of k key d ns =
     if bytes_eq key (codes "enum") then enum_of d ns
@@ -186,7 +186,7 @@ plain_of k key d ns =
     else if bytes_eq key (codes "ref") then ref_of k d ns
     else Err here
 
--- a type by the name and the value of the one member; the none of an option is a part too
+-- a type by the name and the value of its one member; the none of an option is a part too
 abbrev pub kind_of : Names → Reader → List ℕ → Reader
 kind_of k read key d ns =
     if bytes_eq key (codes "list") then holding_of nodes.«List» nothing read d ns
@@ -204,7 +204,7 @@ primitive_type s ns = do
   p ← ok_or (primitive_of s) here
   alone (nodes.Primitive p) ns
 
--- the name of the member is a part of paths
+-- the name of the member is one part of the path
 unfoldable pub member_of : Names → Reader → List ℕ → Reader
 member_of k read key d ns = under key (kind_of k read key d ns)
 
@@ -216,7 +216,7 @@ abbrev pub type_by : Names → Reader → Option (List ℕ) → Reader
 type_by k read (Some s) d ns = primitive_type s ns
 type_by k read None d ns = compound_of k read (single d) ns
 
--- the type, of at most so many levels
+-- the type, of at most this many levels
 unfoldable pub type_of : ℕ → Names → Reader
 type_of zero k d ns = Err (left_out (codes "type depth"))
 type_of (suc n) k d ns = type_by k (type_of n k) (as_str d) d ns

@@ -13,7 +13,7 @@ use semver::{Error, Version};
 use serde_json::Value;
 use std::alloc::{AllocError, Global};
 
-/// What stands before and after the first such character.
+/// What is before and after the first such character.
 #[tactic(auto, using(crate::proofs::Cuts::cut_is))]
 fn cut(text: &str, mark: char) -> Option<(&str, &str)>
     requires { mark < 128 }

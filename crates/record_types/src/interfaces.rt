@@ -34,7 +34,7 @@ fn read_next_type(
     read_named_type(alloc, &scope, value)
 }
 
-/// What is known of a name, beside what was known.
+/// Adds a name and what is known of it.
 #[tactic(auto, unfolding(crate::specs::Interfaces::with_known))]
 fn add_known(
     alloc: Global,
@@ -48,7 +48,7 @@ fn add_known(
     Ok(())
 }
 
-/// A name, beside those that were seen.
+/// Adds a name to those so far.
 #[tactic(auto, unfolding(crate::specs::Interfaces::with_name))]
 fn add_name(alloc: Global, seen: &mut Keyed<Text, ()>, name: &Text) -> Result<(), AllocError>
     ensures { OnOk result (seen.new ≡ with_name seen.old name.now) }
@@ -57,7 +57,7 @@ fn add_name(alloc: Global, seen: &mut Keyed<Text, ()>, name: &Text) -> Result<()
     Ok(())
 }
 
-/// The type at an index, behind these.
+/// The type at an index, after these.
 #[tactic(auto, unfolding(crate::specs::Interfaces::next_type))]
 fn push_type(
     alloc: Global,
@@ -113,7 +113,7 @@ fn read_new_function(
     Ok(function)
 }
 
-/// The function at an index, behind these.
+/// The function at an index, after these.
 #[tactic(auto, unfolding(crate::specs::Interfaces::next_function))]
 fn push_function(
     alloc: Global,
@@ -179,7 +179,7 @@ fn members_of<'v>(
     Ok((id, types, functions))
 }
 
-/// An interface behind these.
+/// An interface after these.
 #[tactic(auto, unfolding(crate::specs::Interfaces::interface_of))]
 fn read_interface(
     alloc: Global,

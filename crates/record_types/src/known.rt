@@ -3,8 +3,8 @@
 use comp_lists::{Keyed, Seq, Text};
 use record_values::{Func, Typed};
 
-/// How large a type is: how many types stand below one another in it, and how many nodes its tree has,
-/// counted as `wit_data` counts them.
+/// The size of a type: how many types are nested in it, and how many nodes its tree has, counted as
+/// `wit_data` counts them.
 #[derive(Clone, Copy, Debug, PartialEq, Eq)]
 pub struct Size {
     pub levels: usize,
@@ -22,7 +22,8 @@ pub struct TypeFacts {
 }
 
 /// An interface as it was read: its id, its types and functions in order, and what is known of its
-/// types. Its types and those of others are named by the places of interfaces in the record.
+/// types. Interfaces in the references to its types and to those of others are given by their indices
+/// in the record.
 pub struct ReadInterface {
     pub id: Option<Text>,
     pub types: Seq<Typed>,
@@ -41,7 +42,7 @@ impl Drop for ReadInterface {
     }
 }
 
-/// The types that may be named at a place: those of the interfaces before, and those of the interface
+/// The types that may be named in an item: those of the interfaces before, and those of the interface
 /// that is being read, or of the world.
 #[derive(Drop)]
 pub struct Scope<'a> {

@@ -1,16 +1,17 @@
 //! Types, functions and interfaces, from values of JSON.
 //!
-//! A type is read into the list of its nodes, each behind its parts, with its size; a reference to a type
-//! goes by the place of an interface until the world's names are known. Upward each call promises exactly
-//! what its definition in `specs/` gives, unless memory ran out. Nothing here knows what a world has.
+//! A type is read into the list of its nodes, each after its parts, with its size; a reference to a
+//! type has the index of an interface until the world's names are known. Each public call returns
+//! exactly what its definition in `specs/` gives, unless it runs out of memory. Nothing here knows the
+//! contents of a world.
 //!
-//! In reading order, each file upon those before it: `known` (what is known of named types), `sizes` (how
-//! large types are, and the limits), `primitives` (names of primitive types), `references` (named types by
-//! place and name), `plain` (types that no other type stands in), `types` (all types), `named` (names, and
-//! what they stand for), `functions`, `ids` (ids of interfaces), `interfaces` (all of it).
+//! In reading order, each file upon those before it: `known` (what is known of named types), `sizes`
+//! (sizes of types, and the limits), `primitives` (names of primitive types), `references` (named types
+//! by index and name), `plain` (types without inner types), `types` (all types), `named` (names and
+//! their types), `functions`, `ids` (ids of interfaces), `interfaces` (all of it).
 //!
-//! The definitions stand in `specs/` under the same names; `Types` has those of `plain` and of `types`, and
-//! `Scopes` says which types may be named at a place.
+//! The definitions are in `specs/` under the same names; `Types` has those of `plain` and of `types`,
+//! and `Scopes` says which types may be named.
 #![tactic(auto)]
 
 mod functions;

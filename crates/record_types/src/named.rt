@@ -106,7 +106,7 @@ fn read_new_type(
     Ok((nodes, value_facts(size)))
 }
 
-/// What a name stands for.
+/// The type of a name.
 #[tactic(auto, unfolding(crate::specs::Named::meaning_of))]
 fn read_meaning(
     alloc: Global,

@@ -1,4 +1,4 @@
-//! Types that no other type stands in.
+//! Types without inner types.
 
 ghost use Rattle.std.specs.Prelude.{◌≡◌, [], length};
 ghost use Rattle.serde_json.specs.View.{view, items_view};
@@ -17,7 +17,7 @@ use record_values::{Node, TypeName};
 use serde_json::Value;
 use std::alloc::Global;
 
-/// Writes a node behind its parts, which have this size together.
+/// Writes a node after its parts, which have this size together.
 pub(crate) fn push_after(
     alloc: Global,
     node: Node,
@@ -153,7 +153,7 @@ fn read_ref(
     Ok(facts.size)
 }
 
-/// A type that is made of no others in place, by the name and the value of its one member.
+/// A type without inner types that are written in it, by the name and the value of its one member.
 pub(crate) fn read_plain(
     alloc: Global,
     scope: &Scope<'_>,

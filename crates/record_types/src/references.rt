@@ -13,7 +13,7 @@ use record_values::{InterfaceName, Owner, TypeName};
 use serde_json::Value;
 use std::alloc::Global;
 
-/// The named types of the interface at a place.
+/// The named types of the interface at an index.
 fn table_at<'s>(scope: &'s Scope<'_>, index: u32) -> Option<&'s Keyed<Text, TypeFacts>>
     ensures { option_map (λ t. t.now) result ≡ table_at (names_in scope.now) index }
 {
@@ -42,7 +42,7 @@ fn read_interface_at<'s>(
     }
 }
 
-/// Whose types a reference speaks of, and these types.
+/// The owner of the types that a reference names, and these types.
 #[tactic(auto, unfolding(crate::specs::References::owner_of))]
 fn read_owner<'s>(
     alloc: Global,
@@ -66,7 +66,7 @@ fn read_owner<'s>(
     Err(fault_here(alloc))
 }
 
-/// A named type: an array of the place of its interface, or null for the world, and its name.
+/// A named type: an array of the index of its interface, or null for the world, and its name.
 #[tactic(auto, unfolding(crate::specs::References::reference_of))]
 pub(crate) fn read_reference(
     alloc: Global,

@@ -1,4 +1,4 @@
-//! How large types are, and the limits.
+//! Sizes of types, and the limits.
 
 ghost use Rattle.std.specs.Prelude.{◌≡◌, ◌+◌, min};
 ghost use Rattle.json_paths.specs.Faults.{Gives};
@@ -17,7 +17,7 @@ pub(crate) fn nothing() -> Size
     }
 }
 
-/// A part that isn't there.
+/// An absent part.
 pub(crate) fn absent() -> Size
     ensures { result ≡ absent }
 {

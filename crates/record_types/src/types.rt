@@ -20,7 +20,7 @@ use record_values::{Case, Node};
 use serde_json::Value;
 use std::alloc::Global;
 
-/// A type of at most so many levels, and its size. Its nodes go behind those that are there.
+/// A type of at most this many levels, and its size. Its nodes are appended to those so far.
 #[cycle(types)]
 #[tactic(auto, unfolding(crate::specs::Types::type_of))]
 pub(crate) fn read_type(
@@ -58,7 +58,7 @@ fn read_compound(
     read_member(alloc, levels, scope, key, member, nodes)
 }
 
-/// A type by its one member, whose name is a part of paths.
+/// A type by its one member, whose name is one part of the path.
 #[cycle(types)]
 #[tactic(auto, unfolding(crate::specs::Types::member_of))]
 fn read_member(
@@ -122,7 +122,7 @@ fn future(value: &Value) -> Node
     }
 }
 
-/// A type with one part, beside which these are.
+/// A type with one part, where its other parts have this size.
 #[cycle(types)]
 fn read_holding(
     alloc: Global,
@@ -195,7 +195,7 @@ fn read_result(
     push_after(alloc, node, combined(good, bad), nodes)
 }
 
-/// A tuple of so many.
+/// A tuple with this number of items.
 #[tactic(auto, using(crate::proofs::Counts::counted))]
 fn tuple(values: &[Value]) -> Node
     ensures { result ≡ variants.Tuple (item_count (items_view values.now)) }

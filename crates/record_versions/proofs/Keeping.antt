@@ -1,4 +1,4 @@
--- What each step of a pass over waiting interfaces keeps.
+-- What each step of a pass over waiting interfaces preserves.
 use Rattle.std.proofs.Common.{◌≡◌, ℕ, zero, suc, ◌+◌, ◌<◌, ◌≤◌, ◌⊎◌, inl, inr, Bool, true, false, not, ◌&&◌, ◌||◌, cond, if◌then◌else◌, List, [], ◌∷◌, ◌++◌, length, get_or, set, take, drop, add-one, Option, Some, None, is_some, refl, sym, ap, ◌∙◌, subst, arith, true≢false}
 use Rattle.std.specs.Prelude.{nat_eq, nat_lt, replicate}
 use Rattle.std.specs.Ordering.{nat_cmp, is_gt}
@@ -102,7 +102,7 @@ remain_taken taken w own (n ∷ ns) h =
     head true e = refl
     head false e = remains_taken taken w n e
 
--- one more use that is at hand
+-- one more use that is the interface itself or taken
 pub more_taken : (taken : Taken) (own : InterfaceName) (ns : List InterfaceName) (i : ℕ) (n : InterfaceName) → i < length ns → n ≡ get_or ns i n →
     (is_same_interface n own || is_taken taken n) ≡ true → all_taken taken own (take i ns) ≡ true → all_taken taken own (take (i + 1) ns) ≡ true
 more_taken taken own ns i n l is here h = rw (take_more ns i n l, ← is) (at_end (take i ns) h)
@@ -179,7 +179,7 @@ parks wait mid new name key m q position ps positions before after copied pushed
     by true e h = listed_more q position ps ∙ ap (λ x. nat_eq q position || x) (listed ∙ ap (λ x. wait x q) (one_name name m e))
     by false e h = h
 
--- ---- what each step keeps
+-- ---- what each step preserves
 
 le_of : (x y : ℕ) → is_gt (nat_cmp x y) ≡ false → x ≤ y
 le_of x y h = grind arith
@@ -192,7 +192,7 @@ position_below [] position w at = absurd (none-some w at)
 position_below (v ∷ vs) zero w at = omega arith
 position_below (v ∷ vs) (suc position) w at = let l = position_below vs position w at in omega (arith, l)
 
--- what holds of the one at a place holds of any that is there
+-- a property of the interface at a position holds of every interface that is found there
 pub at_one : (P : Waiting → Type 0) (all : List Waiting) (position : ℕ) (w : Waiting) → slice_get all position ≡ Some w → P w → (v : Waiting) → slice_get all position ≡ Some v → P v
 at_one P all position w at here v is = subst P (same_Some w v (sym at ∙ is)) here
 

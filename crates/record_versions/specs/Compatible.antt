@@ -8,7 +8,7 @@ use Rattle.record_values.specs.declared.names.InterfaceName.{InterfaceName}
 use Rattle.record_values.specs.declared.names.InterfaceName.TheVariants as names
 use Rattle.record_versions.specs.declared.compatible.Compatible.{Compatible}
 
--- an id with the part of the version that compatible versions share, where that isn't the whole
+-- an id with the part of the version that compatible versions share, where that is not the whole
 abbrev pub by_parts : List ℕ → Parts → Option Compatible
 by_parts path p =
     option_map (λ suffix. record { canonical = path ++ 64 ∷ (canonical_version p).version; major = p.0; minor = p.1; patch = p.2 }) (canonical_version p).suffix

@@ -1,5 +1,5 @@
--- What goes with an interface that becomes another must stand in that one: each of its types and functions by name, equal
--- where all references follow.
+-- An interface that becomes another must be contained in that one: each of its types and functions by name, equal once all
+-- references name the interfaces that theirs became.
 use Rattle.std.specs.Prelude.{⊤, ℕ, Bool, true, false, ◌&&◌, List, [], ◌∷◌, Option, Some, None, Result, Ok, Err, if◌then◌else◌}
 use Rattle.std.specs.Map.{lookup}
 use Rattle.std.specs.Option.{option_map_or}
@@ -15,7 +15,7 @@ use Rattle.record_values.specs.contracts.types.FuncPartialEq.TheImpl as function
 use Rattle.record_values.specs.Names.{is_same_interface, name_text}
 use Rattle.record_values.specs.Renaming.{Renames, renamed_interface}
 
--- what is said of this name can't all hold
+-- what is said of this name contradicts itself
 abbrev pub conflict : List ℕ → Failure
 conflict name = failures.Refused (refusals.MergeConflict name)
 
@@ -32,7 +32,7 @@ module _ {X : Type 0} (name : X → List ℕ) (same : X → X → Bool) where
   has_all_equal table [] = true
   has_all_equal table (x ∷ xs) = has_equal table x && has_all_equal table xs
 
-  -- each of the second stands among the first
+  -- each of the second is among the first
   abbrev pub are_among : List X → List X → Bool
   are_among xs ys = has_all_equal (by_name_after name [] xs) ys
 
@@ -41,7 +41,7 @@ is_contained_in greatest lesser =
     are_among (λ t. t.name) types.eq-value.it greatest.types lesser.types &&
     are_among (λ f. f.name) functions.eq-value.it greatest.functions lesser.functions
 
--- an interface that isn't there has nothing that could stand, and nothing stands in it
+-- an interface that does not exist has nothing to be contained, and contains nothing
 abbrev pub is_contained : Renames → Option Interface → Option Interface → Bool
 is_contained rs None greatest = true
 is_contained rs (Some lesser) None = false
@@ -50,7 +50,7 @@ is_contained rs (Some lesser) (Some greatest) = is_contained_in (renamed_interfa
 abbrev pub rename_is_valid : Renames → List (InterfaceName × Interface) → InterfaceName → InterfaceName → Bool
 rename_is_valid rs is lesser greatest = is_contained rs (lookup (is_same_interface lesser) is) (lookup (is_same_interface greatest) is)
 
--- each that becomes another stands in it
+-- each interface that becomes another is contained in it
 abbrev pub renames_are_valid : Renames → List (InterfaceName × Interface) → Renames → Result ⊤ Failure
 renames_are_valid rs is [] = Ok tt
 renames_are_valid rs is (r ∷ more) = if rename_is_valid rs is r.0 r.1 then renames_are_valid rs is more else Err (conflict (name_text r.0))

@@ -1,5 +1,5 @@
--- Which imported interface becomes which: of those of one canonical id each becomes the one of greatest version. One
--- that is also exported stays.
+-- Which imported interface becomes which: of those of one canonical id each becomes the one of greatest version. One that
+-- is also exported is kept.
 use Rattle.std.specs.Prelude.{ℕ, Bool, true, ◌||◌, List, [], ◌∷◌, ◌++◌, Option, Some, None, if◌then◌else◌}
 use Rattle.std.specs.Map.{lookup}
 use Rattle.std.specs.Str.{bytes_eq}
@@ -49,7 +49,7 @@ abbrev pub greatest_after : Greatest → List Candidate → Greatest
 greatest_after table [] = table
 greatest_after table (c ∷ cs) = greatest_after (with_candidate table c) cs
 
--- an interface beside what it becomes, unless it stays
+-- an interface with the one that it becomes, unless it is kept
 abbrev pub with_rename : Interfaces → Renames → InterfaceName → Option Candidate → Renames
 with_rename exported renames name None = renames
 with_rename exported renames name (Some g) =
@@ -65,6 +65,6 @@ renames_after exported table renames (c ∷ cs) =
 abbrev pub renames_of : Interfaces → List Candidate → Renames
 renames_of exported cs = renames_after exported (greatest_after [] cs) [] cs
 
--- what becomes of the imported interfaces, in their order
+-- the imported interfaces that become others, in their order, with those that they become
 unfoldable pub renames : Wit → Renames
 renames w = renames_of (interfaces_after [] w.exports) (candidates w.imports)

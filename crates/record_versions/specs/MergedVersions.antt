@@ -1,4 +1,4 @@
--- A world in which compatible versions of imported interfaces are one, where that is asked for.
+-- A world in which compatible versions of imported interfaces are merged, where merging is requested.
 use Rattle.std.specs.Prelude.{Bool, [], Result, Ok, if◌then◌else◌}
 use Rattle.json_paths.specs.declared.fault.Failure.{Failure}
 use Rattle.json_paths.specs.Faults.{◌>>=◌}
@@ -14,8 +14,8 @@ use Rattle.record_versions.specs.Reach.{no_reach}
 abbrev pub renames_where : Bool → Wit → Renames
 renames_where merging w = if merging then renames w else []
 
--- each interface that becomes another stands in it, the imports are in an order that lets each use those before it, and no
--- exported interface reaches an exported one through one that is only imported
+-- each interface that becomes another is contained in it, the imports are in an order in which each uses only those before
+-- it, and no exported interface reaches an exported one through one that is only imported
 unfoldable pub merged_by : Renames → Wit → Result Wit Failure
 merged_by rs w = do
   _ ← renames_are_valid rs w.interfaces rs

@@ -1,5 +1,5 @@
--- Imported interfaces taken anew: each time the first, in the old order, whose used interfaces are itself or taken. The
--- other imports follow in their order.
+-- The imported interfaces in a new order: each time the first, in the old order, whose used interfaces are itself or taken.
+-- The other imports follow in their order.
 use Rattle.std.specs.Prelude.{Bool, true, not, ◌&&◌, ◌||◌, List, [], ◌∷◌, ◌++◌, Option, Some, None, is_some, Result, Ok, Err, if◌then◌else◌}
 use Rattle.std.specs.Option.{option_map_or}
 use Rattle.std.specs.Map.{lookup}
@@ -27,7 +27,7 @@ abbrev pub waiting : List (InterfaceName × Interface) → List (ItemKey × Item
 waiting is [] = []
 waiting is (e ∷ es) = waiting_item is e.0 e.1 ++ waiting is es
 
--- interfaces that are taken, beside their keys
+-- interfaces that are taken, with their keys
 abbrev pub Taken : Type 0
 Taken = List (InterfaceName × ItemKey)
 
@@ -49,7 +49,7 @@ first_ready taken (w ∷ ws) = if is_ready taken w then Some w else first_ready 
 abbrev pub with_taken : Taken → Waiting → Taken
 with_taken taken w = with_first is_same_interface taken w.name w.key
 
--- as many more as the list has, each time the first that may be taken
+-- at most as many more as the list has, each time the first that may be taken
 abbrev pub taken_anew : List Waiting → Taken → List Waiting → Option Taken
 taken_anew [] taken all = Some taken
 taken_anew (_ ∷ more) taken all = option_map_or (λ w. taken_anew more (with_taken taken w) all) (first_ready taken all) None
@@ -74,7 +74,7 @@ ordered_by imports (Some taken) = Some (others_after (interfaces_taken [] taken)
 abbrev pub ordered_among : List Waiting → List (ItemKey × Item) → Option (List (ItemKey × Item))
 ordered_among ws imports = ordered_by imports (taken_anew ws [] ws)
 
--- imports taken anew, where they can be
+-- imports in the new order, where there is one
 unfoldable pub ordered : List (InterfaceName × Interface) → List (ItemKey × Item) → Option (List (ItemKey × Item))
 ordered is imports = ordered_among (waiting is imports) imports
 
@@ -86,7 +86,7 @@ abbrev pub first_lesser : Renames → Option InterfaceName
 first_lesser [] = None
 first_lesser (r ∷ rs) = Some r.0
 
--- a world whose imports are taken anew where an interface became another, the first of which is this
+-- a world whose imports are in the new order where an interface became another; this is the first that did
 abbrev pub in_order : Option InterfaceName → Wit → Result Wit Failure
 in_order None w = Ok w
 in_order (Some lesser) w = in_order_by lesser w (ordered w.interfaces w.imports)

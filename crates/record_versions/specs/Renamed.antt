@@ -1,4 +1,4 @@
--- A world without the interfaces that became others, in which all references follow.
+-- A world without the interfaces that became others, in which all references name those that they became.
 use Rattle.std.specs.Prelude.{Bool, false, List, [], ◌∷◌, is_some, if◌then◌else◌}
 use Rattle.std.specs.Map.{lookup}
 use Rattle.comp_lists.specs.Tables.{with_first}
@@ -31,7 +31,7 @@ items_left rs table [] = table
 items_left rs table (e ∷ es) =
     items_left rs (if item_is_removed rs e.1 then table else with_first is_same_item table e.0 (renamed_item rs e.1)) es
 
--- an interface that goes is exported nowhere
+-- an interface that is removed is exported nowhere
 unfoldable pub renamed_wit : Renames → Wit → Wit
 renamed_wit rs w = record {
   interfaces = interfaces_left rs [] w.interfaces;

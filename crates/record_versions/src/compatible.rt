@@ -14,7 +14,7 @@ use semver::{Error, Version};
 use std::alloc::{AllocError, Global};
 use wit_data::canonical_version;
 
-/// What compatible versions of an interface share, and the numbers of one.
+/// The part of the id that compatible versions of an interface share, and the numbers of its version.
 #[derive(Debug)]
 pub struct Compatible {
     /// The id with the part of its version that compatible versions share, as `a:b/c@1`.
@@ -96,8 +96,8 @@ fn compatible_id(alloc: Global, text: &str) -> Result<Option<Compatible>, Failur
     }
 }
 
-/// What compatible versions of an interface share, where it has such an id. The only refusal is want
-/// of memory.
+/// The part of the id that compatible versions of an interface share, where it has such an id. The only
+/// refusal is out of memory.
 pub(crate) fn compatible_of(
     alloc: Global,
     name: &InterfaceName,
@@ -113,7 +113,7 @@ pub(crate) fn compatible_of(
 }
 
 impl Compatible {
-    /// Whether its version is greater.
+    /// Whether the version of the first is greater.
     pub(crate) fn is_newer(&self, other: &Compatible) -> bool
         ensures { result ≡ is_newer self.now other.now }
     {

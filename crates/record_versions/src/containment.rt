@@ -1,4 +1,4 @@
-//! Whether what goes stands in what it becomes.
+//! Whether an interface that becomes another is contained in it.
 
 ghost use Rattle.std.specs.Prelude.{◌≡◌, ◌≢◌, [], IfOk, OnOk};
 ghost use Rattle.std.specs.Option.{option_copied};
@@ -144,7 +144,7 @@ fn rename_is_valid(
     )
 }
 
-/// The refusal that what is said of this interface can't all hold, or want of memory.
+/// The refusal that what is said of this interface contradicts itself, or out of memory.
 pub(crate) fn conflict_of(alloc: Global, name: &InterfaceName) -> Failure
     ensures { result ≢ failures.Memory → result ≡ conflict (name_text name.now) }
 {
@@ -154,7 +154,7 @@ pub(crate) fn conflict_of(alloc: Global, name: &InterfaceName) -> Failure
     }
 }
 
-/// Refuses an interface that becomes another without standing in it.
+/// Refuses an interface that becomes another without being contained in it.
 pub(crate) fn check_renames(
     alloc: Global,
     renames: &Renames,

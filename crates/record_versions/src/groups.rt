@@ -18,7 +18,7 @@ use record_values::{InterfaceName, Interfaces, Item, ItemKey, Wit, interfaces_am
 use std::alloc::{AllocError, Global};
 use std::marker::Model;
 
-/// Interfaces beside those that they become.
+/// Interfaces with those that they become.
 pub(crate) type Renames = Keyed<InterfaceName, InterfaceName>;
 
 /// An imported interface that has a canonical id.
@@ -200,7 +200,7 @@ fn renames_after(
     Ok(renames)
 }
 
-/// What becomes of these interfaces, in their order.
+/// What these interfaces become, in their order.
 fn renames_among(
     alloc: Global,
     exported: &Interfaces,
@@ -212,7 +212,7 @@ fn renames_among(
     renames_after(alloc, exported, &greatest, candidates)
 }
 
-/// What becomes of the imported interfaces, where these are exported.
+/// What the imported interfaces become, where these are exported.
 fn renames_except(
     alloc: Global,
     exported: &Interfaces,
@@ -224,9 +224,8 @@ fn renames_except(
     Ok(renames_among(alloc, exported, candidates.as_slice())?)
 }
 
-/// What becomes of the imported interfaces, in their order: of those of one canonical id each becomes
-/// the one of greatest version, and one that is also exported stays. The only refusal is want of
-/// memory.
+/// What the imported interfaces become, in their order: of those of one canonical id each becomes the
+/// one of greatest version, and one that is also exported is kept. The only refusal is out of memory.
 #[tactic(auto, unfolding(crate::specs::Groups::renames))]
 pub fn renames(alloc: Global, wit: &Wit) -> Result<Keyed<InterfaceName, InterfaceName>, Failure>
     ensures { Gives (λ rs. rs) result (Ok (renames wit.now)) }

@@ -1,13 +1,13 @@
-//! Worlds in which compatible versions of imported interfaces are one.
+//! Worlds in which compatible versions of imported interfaces are merged.
 //!
-//! Upward each call promises exactly what its definition in `specs/` gives, unless memory runs out.
-//! Nothing here knows how a record is spelled.
+//! Each public call returns exactly what its definition in `specs/` gives, unless it runs out of
+//! memory. Nothing here knows the JSON of a record.
 //!
 //! In reading order: `compatible` (canonical ids), `groups` (which interface becomes which), `uses`
-//! (which interfaces one names), `containment` (what goes stands in what it becomes), `renamed` (the world
-//! without what goes), `taking` (interfaces taken anew, each time the first whose uses are taken),
-//! `order` (imports in that order), `reach` (exported interfaces that reach exported ones), `versions`
-//! (the whole).
+//! (which interfaces one names), `containment` (each interface that becomes another is contained in it),
+//! `renamed` (the world without those interfaces), `taking` (the new order: each time the first whose
+//! uses are taken), `order` (imports in that order), `reach` (exported interfaces that reach exported
+//! ones), `versions` (the whole).
 #![tactic(auto)]
 
 mod compatible;

@@ -1,4 +1,4 @@
-//! Imports in the order in which their interfaces are taken anew.
+//! Imports in the new order of their interfaces.
 
 ghost use Rattle.std.specs.Prelude.{◌≡◌, [], IfOk, OnOk};
 ghost use Rattle.comp_lists.specs.Tables.{with_first};
@@ -24,7 +24,7 @@ pub(crate) struct Waiting {
     pub uses: Seq<InterfaceName>,
 }
 
-/// Interfaces that are taken, beside their keys.
+/// Interfaces that are taken, with their keys.
 pub(crate) type Taken = Keyed<InterfaceName, ItemKey>;
 
 fn waiting_item(
@@ -141,7 +141,7 @@ fn order_by(
     }
 }
 
-/// Imports taken anew, where they can be. The only refusal is want of memory.
+/// Imports in the new order, where there is one. The only refusal is out of memory.
 #[tactic(auto, unfolding(crate::specs::Order::ordered))]
 fn order(
     alloc: Global,
@@ -155,7 +155,7 @@ fn order(
     order_by(alloc, imports, &taken)
 }
 
-/// A world whose imports are taken anew; this interface is named where they can't be.
+/// A world whose imports are in the new order; the refusal names this interface where there is none.
 fn put_in_order(alloc: Global, lesser: &InterfaceName, wit: Wit) -> Result<Wit, Failure>
     ensures { Gives (λ w. w) result (in_order_by lesser.now wit (ordered wit.interfaces wit.imports)) }
 {
@@ -178,7 +178,7 @@ fn first_lesser(alloc: Global, renames: &Renames) -> Result<Option<InterfaceName
     Ok(None)
 }
 
-/// A world whose imports are taken anew where an interface became another.
+/// A world whose imports are in the new order where an interface became another.
 pub(crate) fn in_order(alloc: Global, renames: &Renames, wit: Wit) -> Result<Wit, Failure>
     ensures { Gives (λ w. w) result (in_order (first_lesser renames.now) wit) }
 {

@@ -81,8 +81,8 @@ fn items_left(
     Ok(table)
 }
 
-/// A world without the interfaces that became others, in which all references follow. The only
-/// refusal is want of memory.
+/// A world without the interfaces that became others, in which all references name those that they
+/// became. The only refusal is out of memory.
 #[tactic(auto, unfolding(crate::specs::Renamed::renamed_wit))]
 pub(crate) fn rename_wit(alloc: Global, renames: &Renames, wit: &Wit) -> Result<Wit, AllocError>
     ensures { IfOk result (λ w. w ≡ renamed_wit renames.now wit.now) }

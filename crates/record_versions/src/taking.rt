@@ -1,7 +1,8 @@
-//! Interfaces taken anew: each time the first, in the old order, whose uses are itself or taken.
+//! The new order: each time the first interface, in the old order, whose uses are itself or taken.
 //!
-//! One that uses an interface that isn't taken waits for that one, and is tried again, from that use on,
-//! once it is taken. So all together take the time of the interfaces and their uses, up to a logarithm.
+//! One that uses an interface that is not taken waits for that one, and is tried again, from that use
+//! on, once it is taken. So the time is linear in the number of interfaces and their uses, up to a
+//! logarithm.
 
 ghost use Rattle.std.specs.Prelude.{◌≡◌, true, false, ◌||◌, ◌&&◌, ℕ, ◌<◌, List, take, length, replicate, [], nat_eq, nat_lt, IfOk, OnOk, if◌then◌else◌, MatchBool, Some, None};
 ghost use Rattle.std.specs.BTreeSet.{contains};
@@ -20,15 +21,15 @@ use record_values::InterfaceName;
 use std::alloc::{AllocError, Global};
 use std::collections::{BTreeSet, HashMap};
 
-/// The places of interfaces that wait, by the name of one that they use and that isn't taken.
+/// The positions of interfaces that wait, by the name of one that they use and that is not taken.
 type Parked = HashMap<InterfaceName, Seq<usize>>;
 
-/// Which interfaces are to be tried, and which wait until another one is taken, by their places.
+/// Which interfaces are to be tried, and which wait until another one is taken, by their positions.
 #[derive(Drop)]
 struct Trials {
     to_try: BTreeSet<usize>,
     parked: Parked,
-    /// Of each how many of its uses, from the first on, are known to be itself or taken.
+    /// For each, how many of its uses, from the first on, are known to be itself or taken.
     checked: Vec<usize>,
 }
 
@@ -39,7 +40,7 @@ fn is_at_hand(taken: &Taken, own: &InterfaceName, name: &InterfaceName) -> bool
     *name == *own || taken.contains(name)
 }
 
-/// The place of the first use, from this one on, that is neither the interface itself nor taken.
+/// The position of the first use, from this one on, that is neither the interface itself nor taken.
 fn first_lacking(taken: &Taken, waiting: &Waiting, from: usize) -> usize
     requires { all_taken taken.now waiting.now.name (take from waiting.now.uses) ≡ true }
     ensures known { all_taken taken.now waiting.now.name (take result waiting.now.uses) ≡ true }
@@ -54,7 +55,7 @@ fn first_lacking(taken: &Taken, waiting: &Waiting, from: usize) -> usize
     uses.len()
 }
 
-/// Removes the places of those that wait for this one.
+/// Removes the positions of those that wait for this one.
 fn unpark(alloc: Global, parked: &mut Parked, name: &InterfaceName) -> Seq<usize>
     ensures positions { (q : ℕ) → list_any (nat_eq q) result ≡ waits parked.old name.now q }
     ensures waits { (m : InterfaceName) (q : ℕ) → waits parked.new m q ≡ (if is_same_interface name.now m then false else waits parked.old m q) }
@@ -65,7 +66,7 @@ fn unpark(alloc: Global, parked: &mut Parked, name: &InterfaceName) -> Seq<usize
     }
 }
 
-/// Adds the place of one that waits for this one.
+/// Adds the position of one that waits for this one.
 fn park(
     alloc: Global,
     parked: &mut Parked,
@@ -81,7 +82,7 @@ fn park(
     Ok(())
 }
 
-/// These are to be tried, too.
+/// Adds these to the ones to be tried.
 fn try_all(to_try: &mut BTreeSet<usize>, positions: &[usize]) -> Result<(), AllocError>
     ensures { OnOk result ((q : ℕ) → contains nat_cmp to_try.new q ≡ (contains nat_cmp to_try.old q || list_any (nat_eq q) positions.now)) }
 {
@@ -91,7 +92,7 @@ fn try_all(to_try: &mut BTreeSet<usize>, positions: &[usize]) -> Result<(), Allo
     Ok(())
 }
 
-/// Those that wait for this one are to be tried again.
+/// Adds those that wait for this one to the ones to be tried.
 fn wake(
     alloc: Global,
     to_try: &mut BTreeSet<usize>,
@@ -123,7 +124,7 @@ impl Trials {
         })
     }
 
-    /// Whether one is ready. If it uses an interface that isn't taken, it waits for that.
+    /// Whether an interface is ready. If it uses an interface that is not taken, it waits for that.
     fn try_at(
         &mut self,
         alloc: Global,
@@ -152,7 +153,7 @@ impl Trials {
         }
     }
 
-    /// The first that is ready. It stays among those that are to be tried until it is taken.
+    /// The first that is ready. It is kept among those to be tried until it is taken.
     fn first_ready<'w>(
         &mut self,
         alloc: Global,
@@ -191,7 +192,7 @@ impl Trials {
     }
 }
 
-/// Takes all, each time the first whose uses are itself or taken. Whether they could be taken.
+/// Takes all, each time the first whose uses are itself or taken. Returns whether all could be taken.
 fn take_each(
     alloc: Global,
     all: &[Waiting],
@@ -210,7 +211,7 @@ fn take_each(
     Ok(true)
 }
 
-/// All taken, where they can be. The only refusal is want of memory.
+/// All taken, where that is possible. The only refusal is out of memory.
 pub(crate) fn take_anew(alloc: Global, all: &[Waiting]) -> Result<Option<Taken>, AllocError>
     ensures { IfOk result (λ t. t ≡ taken_anew all.now [] all.now) }
 {

@@ -88,7 +88,7 @@ fn interface_uses(alloc: Global, interface: &Interface) -> Result<Names, AllocEr
     Ok(names)
 }
 
-/// What the interface of this name names. The only refusal is want of memory.
+/// What the interface of this name names. The only refusal is out of memory.
 pub(crate) fn uses(
     alloc: Global,
     interfaces: &Keyed<InterfaceName, Interface>,

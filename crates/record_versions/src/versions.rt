@@ -1,4 +1,4 @@
-//! Worlds in which compatible versions of imported interfaces are one.
+//! Worlds in which compatible versions of imported interfaces are merged.
 
 ghost use Rattle.std.specs.Prelude.{◌≡◌, Ok};
 ghost use Rattle.json_paths.specs.Faults.{Gives};
@@ -42,12 +42,12 @@ fn merge_by(alloc: Global, renames: &Renames, wit: &Wit) -> Result<Wit, Failure>
     Ok(ordered)
 }
 
-/// A world in which compatible versions of imported interfaces are one, where merging is asked for.
+/// A world in which compatible versions of imported interfaces are merged, where merging is requested.
 ///
-/// Of the imported interfaces of one canonical id each becomes the one of greatest version, unless it is
-/// also exported; its types and functions must stand equal there. The imported interfaces are then taken
-/// anew. With and without merging, no exported interface may reach an exported one through one that is
-/// only imported.
+/// Of the imported interfaces of one canonical id each becomes the one of greatest version, unless it
+/// is also exported; the one of greatest version must have equal types and functions. The imported
+/// interfaces are then put in an order in which each uses only those before it. With and without
+/// merging, no exported interface may reach an exported one through one that is only imported.
 #[tactic(auto, unfolding(crate::specs::MergedVersions::merged_versions))]
 pub fn merge_versions(alloc: Global, merging: bool, wit: &Wit) -> Result<MergedVersions, Failure>
     ensures { Gives (λ s. s) result (merged_versions merging wit.now) }

@@ -1,5 +1,5 @@
--- The interfaces of a record by their places: the name, the sides of the world where the interface stands, and what
--- it has by name.
+-- The interfaces of a record by index: the name, the sides of the world that have the interface, and its types and
+-- functions by name.
 use Rattle.std.specs.Prelude.{ℕ, suc, Bool, List, [], ◌∷◌, is_some}
 use Rattle.std.specs.Str.{bytes_eq}
 use Rattle.std.specs.Map.{lookup}
@@ -21,7 +21,7 @@ types_after table (e ∷ es) = types_after (with_first bytes_eq table e.0 e.1.is
 abbrev pub types_of : List (List ℕ × TypeFacts) → List (List ℕ × Bool)
 types_of known = types_after [] known
 
--- functions by name, after these, each with its place, which of the first is this
+-- functions by name, after these, each with its index; the first of them has this one
 abbrev pub functions_from : List (List ℕ × ℕ) → ℕ → List Func → List (List ℕ × ℕ)
 functions_from table i [] = table
 functions_from table i (f ∷ fs) = functions_from (with_first bytes_eq table f.name i) (suc i) fs
@@ -29,7 +29,7 @@ functions_from table i (f ∷ fs) = functions_from (with_first bytes_eq table f.
 abbrev pub functions_of : List Func → List (List ℕ × ℕ)
 functions_of fs = functions_from [] 0 fs
 
--- the interface at a place, where these are imported and these exported
+-- the interface at an index, where these are imported and these exported
 abbrev pub indexed : Renames → InterfaceSet → InterfaceSet → ℕ → ReadInterface → IndexedInterface
 indexed ns ims exs i x = record {
   name = renamed ns (index_name i);

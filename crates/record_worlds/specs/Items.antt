@@ -1,6 +1,6 @@
--- The items of a world in a record: `imports` and `exports`, lists of {"func": F}, of {"type": {"name", "type"}}
--- (imports only), of {"interface": i} for an interface with an id, and of {"name", "interface": i} for one without,
--- where i is a place in the record's `interfaces`.
+-- The items of a world in a record: `imports` and `exports`, lists of {"func": F}, of {"type": {"name", "type"}} (imports
+-- only), of {"interface": i} for an interface with an id, and of {"name", "interface": i} for one without, where i is an
+-- index in the record's `interfaces`.
 use Rattle.std.specs.Prelude.{ℕ, suc, nat_eq, Bool, true, List, [], ◌∷◌, ◌++◌, codes, Option, Some, None, is_some, ok_or, option_and_then, Result, Ok, Err, if◌then◌else◌}
 use Rattle.std.specs.List.{list_any, slice_get}
 use Rattle.std.specs.Fmt.{decimal}
@@ -34,7 +34,7 @@ use Rattle.record_worlds.specs.declared.items.WorldItems.{WorldItems}
 abbrev pub Types : Type 0
 Types = List (List ℕ × TypeFacts)
 
--- a function and a type of the world, in whose scope are these interfaces, and these types of the world
+-- a function and a type of the world, which may name the types of these interfaces, and these types of the world
 abbrev pub in_world : List ReadInterface → Types → Names
 in_world is ts = record { done = is; current = ts; is_world = true }
 
@@ -58,14 +58,14 @@ type_item is ts d = do
   t ← under (codes "type") (world_type is ts v)
   Ok (record { key = keys.Name t.0.name; item = items.Type t.0.nodes; facts = Some t.1 })
 
--- the place of an interface is a whole number below 2^32
+-- the index of an interface is a whole number below 2^32
 unfoldable pub index_of : Data → Result ℕ Failure
 index_of d = below 4294967296 (option_and_then as_u64 (as_number d))
 
 abbrev pub holds_colon : List ℕ → Bool
 holds_colon bytes = list_any (nat_eq 58) bytes
 
--- a name that isn't an id
+-- a name that is not an id
 unfoldable pub plain_name_of : Data → Result (List ℕ) Failure
 plain_name_of d = do
   name ← text_of d
@@ -110,7 +110,7 @@ other_item sides.Import is ts d = if is_some (get (codes "type") d) then type_it
 abbrev pub item_of : Side → List ReadInterface → Types → Data → Result ReadItem Failure
 item_of side is ts d = if is_some (get (codes "func") d) then function_item is ts d else other_item side is ts d
 
--- the types of the world once an item was read
+-- the types of the world after an item was read
 abbrev pub with_facts : Types → ItemKey → Option TypeFacts → Types
 with_facts ts key None = ts
 with_facts ts key (Some facts) = with_first bytes_eq ts (key_text key) facts
@@ -124,7 +124,7 @@ with_read side is i read d = do
   x ← under (decimal i) (item_of side is read.types d)
   Ok (record { items = read.items ++ x ∷ []; types = with_type read.types x })
 
--- items, after these; the first stands at this index
+-- items, after these; the first is at this index
 abbrev pub items_from : Side → List ReadInterface → ℕ → ReadItems → Items → Result ReadItems Failure
 items_from side is i read no_items = Ok read
 items_from side is i read (item d ds) = do

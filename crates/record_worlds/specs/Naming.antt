@@ -17,7 +17,7 @@ use Rattle.record_worlds.specs.declared.items.ReadItem.{ReadItem}
 use Rattle.record_worlds.specs.declared.items.WorldItems.{WorldItems}
 use Rattle.record_worlds.specs.declared.naming.Entry.{Entry}
 
--- an interface by its place in the record, which is a number of 32 bits
+-- an interface by its index in the record, which is a number of 32 bits
 abbrev pub index_name : ℕ → InterfaceName
 index_name i = names.Unused (i % 4294967296)
 
@@ -29,7 +29,7 @@ abbrev pub with_id : Renames → ℕ → Option (List ℕ) → Renames
 with_id ns i None = ns
 with_id ns i (Some id) = with_first is_same_interface ns (index_name i) (names.Id id)
 
--- the names of those that have an id; the first interface stands at this place
+-- the names of those that have an id; the first interface is at this index
 abbrev pub ids_from : Renames → ℕ → List ReadInterface → Renames
 ids_from ns i [] = ns
 ids_from ns i (x ∷ xs) = ids_from (with_id ns i x.id) (suc i) xs
@@ -38,7 +38,7 @@ abbrev pub with_key : Side → Renames → InterfaceName → ItemKey → Renames
 with_key side ns name (keys.Name text) = with_first is_same_interface ns name (given_name side text)
 with_key side ns name (keys.Interface id) = ns
 
--- an interface without id has the name that its item has, unless it has a name already
+-- an interface without id gets the name of its item, unless it has a name already
 abbrev pub with_given : Side → Renames → ItemKey → Item → Renames
 with_given side ns key (items.Interface name) = with_key side ns name key
 with_given side ns key (items.Function f) = ns
@@ -48,7 +48,7 @@ abbrev pub with_all_given : Side → Renames → List ReadItem → Renames
 with_all_given side ns [] = ns
 with_all_given side ns (x ∷ xs) = with_all_given side (with_given side ns x.key x.item) xs
 
--- imports name before exports
+-- names of imports take precedence over names of exports
 abbrev pub names_of : WorldItems → Renames
 names_of w = with_all_given sides.Export (with_all_given sides.Import (ids_from [] 0 w.interfaces) w.imports) w.exports
 

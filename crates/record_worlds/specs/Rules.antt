@@ -1,5 +1,5 @@
--- Which interfaces the items of a world may name: an imported interface itself and those imported before it; an
--- exported interface those that stand in the world; the other items those that are imported.
+-- Which interfaces the items of a world may name: an imported interface itself and those imported before it; an exported
+-- interface those that are in the world; the other items those that are imported.
 use Rattle.std.specs.Prelude.{⊤, ℕ, suc, Bool, true, ◌&&◌, ◌||◌, List, [], ◌∷◌, codes, Option, Some, None, is_some, Result, Ok, Err, if◌then◌else◌}
 use Rattle.std.specs.List.{list_all}
 use Rattle.std.specs.Map.{lookup}
@@ -21,7 +21,7 @@ use Rattle.record_values.specs.Names.{is_same_interface}
 use Rattle.record_worlds.specs.declared.naming.Entry.{Entry}
 use Rattle.record_worlds.specs.Tables.{Interfaces, InterfaceSet, with_seen}
 
--- the world, or an interface that stands in one of these
+-- the world, or an interface in one of these sets
 abbrev pub owner_in_scope : InterfaceSet → InterfaceSet → Owner → Bool
 owner_in_scope ss ts owners.World = true
 owner_in_scope ss ts (owners.Interface name) = is_some (lookup (is_same_interface name) ss) || is_some (lookup (is_same_interface name) ts)
@@ -55,17 +55,17 @@ abbrev pub found_in_scope : InterfaceSet → InterfaceSet → Option Interface �
 found_in_scope ss ts None = true
 found_in_scope ss ts (Some x) = content_in_scope ss ts x
 
--- the interface of this name names only those in these
+-- the interface of this name names only interfaces in these sets
 abbrev pub named_in_scope : Interfaces → InterfaceSet → InterfaceSet → InterfaceName → Bool
 named_in_scope is ss ts name = found_in_scope ss ts (lookup (is_same_interface name) is)
 
--- an import names what it may: the first are imported up to it and with it, the second are imported at all
+-- an import names what it may: the first set is imported up to it and with it, the second is all imports
 abbrev pub import_in_scope : Interfaces → InterfaceSet → InterfaceSet → Item → Bool
 import_in_scope is before imported (items.Interface name) = named_in_scope is before before name
 import_in_scope is before imported (items.Function f) = function_in_scope imported imported f
 import_in_scope is before imported (items.Type ns) = nodes_in_scope imported imported ns
 
--- imports, after these interfaces; the first stands at this index
+-- imports, after these interfaces; the first is at this index
 abbrev pub imports_in_scope : Interfaces → InterfaceSet → ℕ → InterfaceSet → List Entry → Result ⊤ Failure
 imports_in_scope is imported i before [] = Ok tt
 imports_in_scope is imported i before (e ∷ es) =

@@ -1,5 +1,5 @@
--- Interfaces and items of a world by name: interfaces of one id are equal, and no key and no interface stands twice
--- on a side.
+-- Interfaces and items of a world by name: interfaces of one id are equal, and no key and no interface occurs twice on a
+-- side.
 use Rattle.std.specs.Prelude.{⊤, ℕ, suc, Bool, false, List, [], ◌∷◌, ◌++◌, codes, Option, Some, None, is_some, Result, Ok, Err, if◌then◌else◌}
 use Rattle.std.specs.Map.{lookup}
 use Rattle.std.specs.Fmt.{decimal}
@@ -45,18 +45,18 @@ abbrev pub unless_other : Test → Interfaces → List ℕ → Interface → Opt
 unless_other same table id x None = Ok (table ++ (names.Id id, x) ∷ [])
 unless_other same table id x (Some y) = if same y x then Ok table else Err (failures.Refused (refusals.MergeConflict id))
 
--- an interface that has an id stands once: another of the same id must be equal
+-- an interface that has an id occurs once: another of the same id must be equal
 abbrev pub with_same : Test → Interfaces → List ℕ → Interface → Result Interfaces Failure
 with_same same table id x = unless_other same table id x (lookup (is_same_interface (names.Id id)) table)
 
--- an interface that has no id and that the world hasn't is left out
+-- an interface without id that is not in the world is left out
 abbrev pub with_interface : Test → Interfaces → InterfaceName → Interface → Result Interfaces Failure
 with_interface same table (names.Id id) x = with_same same table id x
 with_interface same table (names.Imported name) x = Ok (with_first is_same_interface table (names.Imported name) x)
 with_interface same table (names.Exported name) x = Ok (with_first is_same_interface table (names.Exported name) x)
 with_interface same table (names.Unused i) x = Ok table
 
--- interfaces in their order, after these; the first stands at this place
+-- interfaces in their order, after these; the first is at this index
 abbrev pub interfaces_from : Test → Renames → ℕ → Interfaces → List ReadInterface → Result Interfaces Failure
 interfaces_from same ns i table [] = Ok table
 interfaces_from same ns i table (x ∷ xs) = do
@@ -80,7 +80,7 @@ with_item i t e =
     else if is_seen t.interfaces e.item then Err (under_failure (decimal i) here)
     else Ok (record { items = t.items ++ (e.key, e.item) ∷ []; interfaces = with_seen t.interfaces e.item })
 
--- items by key, after these; the first stands at this index
+-- items by key, after these; the first is at this index
 abbrev pub side_from : ℕ → SideTable → List Entry → Result SideTable Failure
 side_from i t [] = Ok t
 side_from i t (e ∷ es) = do

@@ -22,7 +22,7 @@ sides_of ims exs = do
   es ← side_at sides.Export exs
   Ok (record { imports = is; exports = es })
 
--- a value, if a check has found no fault
+-- a value, if a check found no fault
 abbrev pub once_checked : {A : Type 0} → Result ⊤ Failure → A → Result A Failure
 once_checked (Ok x) value = Ok value
 once_checked (Err e) value = Err e
@@ -33,7 +33,7 @@ checked_sides table ims exs = do
   s ← sides_of ims exs
   once_checked (rules_hold table s.imports.interfaces s.exports.interfaces ims exs) s
 
--- what is known of the world, from the items of its sides
+-- the world, from the items of its sides
 abbrev pub built_world : Renames → List ReadInterface → Interfaces → Result Sides Failure → Result RecordWorld Failure
 built_world ns xs table (Err e) = Err e
 built_world ns xs table (Ok s) = Ok (record {

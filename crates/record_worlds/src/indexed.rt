@@ -3,15 +3,15 @@
 use comp_lists::{Keyed, Seq, Text};
 use record_values::{InterfaceName, Wit};
 
-/// An interface of a record, by its place there: its name, on which sides of the world it stands, and
-/// what it has by name.
+/// An interface of a record, by its index there: its name, the sides of the world that have it, and its
+/// types and functions by name.
 pub struct IndexedInterface {
     pub name: InterfaceName,
     pub is_imported: bool,
     pub is_exported: bool,
     /// Its named types, and of each whether it is a resource itself.
     pub types: Keyed<Text, bool>,
-    /// Its functions, and of each its place among them.
+    /// Its functions, and of each its index among them.
     pub functions: Keyed<Text, usize>,
 }
 
@@ -27,7 +27,7 @@ impl Drop for IndexedInterface {
     }
 }
 
-/// What a record says of the world, and its interfaces by their places in the record.
+/// What a record says of the world, and its interfaces by their indices in the record.
 #[derive(Drop)]
 pub struct RecordWorld {
     pub wit: Wit,

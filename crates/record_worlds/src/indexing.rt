@@ -1,4 +1,4 @@
-//! The interfaces of a record by their places.
+//! The interfaces of a record by index.
 
 ghost use Rattle.std.specs.Prelude.{◌≡◌, [], IfOk};
 ghost use Rattle.record_worlds.specs.Indexing.{types_of, functions_of, indexed, indexed_from};
@@ -22,7 +22,7 @@ fn types_of(alloc: Global, known: &Keyed<Text, TypeFacts>) -> Result<Keyed<Text,
     Ok(types)
 }
 
-/// Functions by name, with their places.
+/// Functions by name, with their indices.
 fn functions_of(alloc: Global, functions: &[Func]) -> Result<Keyed<Text, usize>, AllocError>
     ensures { IfOk result (λ t. t ≡ functions_of functions.now) }
 {
@@ -33,7 +33,7 @@ fn functions_of(alloc: Global, functions: &[Func]) -> Result<Keyed<Text, usize>,
     Ok(table)
 }
 
-/// The interface at a place.
+/// The interface at an index.
 fn index_interface(
     alloc: Global,
     names: &Names,
@@ -58,7 +58,7 @@ fn index_interface(
     })
 }
 
-/// The interfaces of a record by their places.
+/// The interfaces of a record by index.
 pub(crate) fn index_interfaces(
     alloc: Global,
     names: &Names,

@@ -1,4 +1,4 @@
-//! The items of a world, as they stand in a record.
+//! The items of a world, as they are written in a record.
 
 ghost use Rattle.std.specs.Prelude.{◌≡◌, [], OnOk, codes};
 ghost use Rattle.std.specs.List.{list_any};
@@ -18,15 +18,15 @@ use record_values::{Func, InterfaceName, Item, ItemKey, Typed};
 use serde_json::Value;
 use std::alloc::{AllocError, Global};
 
-/// What a world takes, and what it gives.
+/// The imports or the exports of a world.
 #[derive(Clone, Copy, Debug, PartialEq, Eq)]
 pub(crate) enum Side {
     Import,
     Export,
 }
 
-/// An item of a world as it stands in a record, with its key. An interface is named by its place in the
-/// record; of a type it says what is known.
+/// An item of a world as it is written in a record, with its key. An interface is named by its index in
+/// the record; of a type it has what is known.
 #[derive(Drop)]
 pub(crate) struct ReadItem {
     pub key: ItemKey,
@@ -124,7 +124,7 @@ fn read_type_item(
     })
 }
 
-/// The place of an interface.
+/// The index of an interface.
 #[tactic(auto, unfolding(crate::specs::Items::index_of))]
 fn read_index(alloc: Global, value: &Value) -> Result<u32, Failure>
     ensures { Gives (λ n. n) result (index_of (view value.now)) }
@@ -152,7 +152,7 @@ fn has_colon(bytes: &[u8]) -> bool
     false
 }
 
-/// A name that isn't an id.
+/// A name that is not an id.
 #[tactic(auto, unfolding(crate::specs::Items::plain_name_of))]
 fn read_plain_name(alloc: Global, value: &Value) -> Result<Text, Failure>
     ensures { Gives (λ n. n) result (plain_name_of (view value.now)) }
@@ -196,7 +196,7 @@ fn read_key(alloc: Global, id: &Option<Text>, value: &Value) -> Result<ItemKey, 
     }
 }
 
-/// The interface at a place.
+/// The interface at an index.
 fn find_interface<'v>(
     alloc: Global,
     interfaces: &'v [ReadInterface],
@@ -230,7 +230,7 @@ fn read_interface_item(
     })
 }
 
-/// An item that isn't a function.
+/// An item other than a function.
 fn read_other_item(
     alloc: Global,
     side: Side,
@@ -283,7 +283,7 @@ fn note_type(
     }
 }
 
-/// Reads the item at an index behind those that were read.
+/// Reads the item at an index, after those that were read.
 #[tactic(auto, unfolding(crate::specs::Items::with_read))]
 fn add_value(
     alloc: Global,

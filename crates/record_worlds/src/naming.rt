@@ -9,7 +9,7 @@ use record_types::ReadInterface;
 use record_values::{InterfaceName, Item, ItemKey, rename_item};
 use std::alloc::{AllocError, Global};
 
-/// The interfaces of a record by their places, beside their names.
+/// The interfaces of a record by index, with their names.
 pub(crate) type Names = Keyed<InterfaceName, InterfaceName>;
 
 /// An item of a world, with its key.
@@ -19,14 +19,14 @@ pub(crate) struct Entry {
     pub item: Item,
 }
 
-/// The name of an interface before it is known how the world names it.
+/// The name of an interface while its name in the world is not known.
 pub(crate) fn index_name(index: usize) -> InterfaceName
     ensures { result ≡ index_name index }
 {
     InterfaceName::Unused((index % 4294967296) as u32)
 }
 
-/// The name of an interface without id that stands on a side under this name.
+/// The name of an interface without id that a side has under this name.
 fn given_name(alloc: Global, side: Side, name: &Text) -> Result<InterfaceName, AllocError>
     ensures { IfOk result (λ n. n ≡ given_name side name.now) }
 {
@@ -61,7 +61,7 @@ fn id_names(alloc: Global, interfaces: &[ReadInterface]) -> Result<Names, AllocE
     Ok(names)
 }
 
-/// Adds what a key says of an interface, unless the interface has a name by now.
+/// Adds the name that a key gives to an interface, unless the interface has a name already.
 fn add_key(
     alloc: Global,
     side: Side,
@@ -112,7 +112,7 @@ fn add_all_given(
     Ok(names)
 }
 
-/// The names of all interfaces that have an id or stand in the world.
+/// The names of all interfaces that have an id or are in the world.
 pub(crate) fn names_of(alloc: Global, read: &WorldItems) -> Result<Names, AllocError>
     ensures { IfOk result (λ n. n ≡ names_of read.now) }
 {
@@ -130,7 +130,7 @@ fn rename_entry(alloc: Global, names: &Names, read: &ReadItem) -> Result<Entry, 
     })
 }
 
-/// The items of a side, in which interfaces go by their names.
+/// The items of a side, in which interfaces have their names.
 pub(crate) fn rename_entries(
     alloc: Global,
     names: &Names,

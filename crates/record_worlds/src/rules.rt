@@ -31,7 +31,7 @@ fn node_in_scope(scope: &InterfaceSet, more: &InterfaceSet, node: &Node) -> bool
     }
 }
 
-/// Whether all interfaces that a type names stand in one of these.
+/// Whether all interfaces that a type names are in one of these sets.
 fn nodes_in_scope(scope: &InterfaceSet, more: &InterfaceSet, nodes: &[Node]) -> bool
     ensures { result ≡ nodes_in_scope scope.now more.now nodes.now }
 {
@@ -88,7 +88,7 @@ fn content_in_scope(scope: &InterfaceSet, more: &InterfaceSet, interface: &Inter
         && functions_in_scope(scope, more, interface.functions.as_slice())
 }
 
-/// Whether all interfaces that the interface of this name names stand in one of these.
+/// Whether all interfaces that the interface of this name names are in one of these sets.
 fn named_in_scope(
     interfaces: &Interfaces,
     scope: &InterfaceSet,

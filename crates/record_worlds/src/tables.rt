@@ -29,7 +29,7 @@ pub(crate) struct SideTable {
     pub interfaces: InterfaceSet,
 }
 
-/// What an interface has, where interfaces go by their names.
+/// The contents of an interface, where interfaces have their names.
 fn rename_content(
     alloc: Global,
     names: &Names,
@@ -71,7 +71,7 @@ fn add_same(
     }
 }
 
-/// Adds an interface, unless the world hasn't it.
+/// Adds an interface, unless it is not in the world.
 fn add_interface(
     alloc: Global,
     table: &mut Interfaces,
@@ -87,7 +87,7 @@ fn add_interface(
     }
 }
 
-/// Adds the interface at a place of a record, unless the world hasn't it.
+/// Adds the interface at an index of a record, unless it is not in the world.
 fn add_read(
     alloc: Global,
     names: &Names,
@@ -102,7 +102,7 @@ fn add_read(
     add_interface(alloc, table, name, interface)
 }
 
-/// The interfaces of a record that have an id or stand in the world.
+/// The interfaces of a record that have an id or are in the world.
 pub(crate) fn table_interfaces(
     alloc: Global,
     names: &Names,
@@ -117,7 +117,7 @@ pub(crate) fn table_interfaces(
     Ok(table)
 }
 
-/// Whether an item is an interface that is there.
+/// Whether an item is an interface that is in the set.
 fn is_seen(interfaces: &InterfaceSet, item: &Item) -> bool
     ensures { result ≡ is_seen interfaces.now item.now }
 {
@@ -128,7 +128,7 @@ fn is_seen(interfaces: &InterfaceSet, item: &Item) -> bool
     }
 }
 
-/// Adds an item to the interfaces that are there, where it is one.
+/// Adds an item to the set of interfaces, where it is one.
 pub(crate) fn note_seen(
     alloc: Global,
     interfaces: &mut InterfaceSet,
@@ -156,7 +156,7 @@ fn put_entry(alloc: Global, table: &mut SideTable, entry: &Entry) -> Result<(), 
     table.items.insert_if_absent(key, item)
 }
 
-/// Adds the entry at an index: its key and its interface have to be new.
+/// Adds the entry at an index: its key and its interface must be new.
 fn add_entry(
     alloc: Global,
     table: &mut SideTable,
@@ -174,7 +174,7 @@ fn add_entry(
     Ok(put_entry(alloc, table, entry)?)
 }
 
-/// The items of a side by key, with faults told from its list.
+/// The items of a side by key; faults are reported below its list.
 fn table_entries(alloc: Global, entries: &[Entry]) -> Result<SideTable, Failure>
     ensures { Gives (λ t. t) result (side_from 0 (record { items = []; interfaces = [] }) entries.now) }
 {
@@ -188,7 +188,7 @@ fn table_entries(alloc: Global, entries: &[Entry]) -> Result<SideTable, Failure>
     Ok(table)
 }
 
-/// The items of a side by key: no key and no interface stands twice.
+/// The items of a side by key: no key and no interface occurs twice.
 pub(crate) fn table_side(alloc: Global, side: Side, entries: &[Entry]) -> Result<SideTable, Failure>
     ensures { Gives (λ t. t) result (side_at side entries.now) }
 {

@@ -35,7 +35,7 @@ fn table_sides(alloc: Global, imports: &[Entry], exports: &[Entry]) -> Result<Si
     Ok(Sides { imports, exports })
 }
 
-/// The value, if a check has found no fault.
+/// The value, if a check found no fault.
 fn checked<T: Drop>(check: Result<(), Failure>, value: T) -> Result<T, Failure>
     ensures { result ≡ once_checked check value }
 {
@@ -45,7 +45,7 @@ fn checked<T: Drop>(check: Result<(), Failure>, value: T) -> Result<T, Failure>
     }
 }
 
-/// The items of both sides by key, of which each names only what it may.
+/// The items of both sides by key; each names only what it may.
 #[tactic(auto, unfolding(crate::specs::Worlds::checked_sides))]
 fn check_sides(
     alloc: Global,
@@ -62,7 +62,7 @@ fn check_sides(
     checked(check, sides)
 }
 
-/// The interfaces of a record by their places, where the world has these sides.
+/// The interfaces of a record by index, where the world has these sides.
 fn index_sides(
     alloc: Global,
     names: &Names,
@@ -94,7 +94,7 @@ fn world_with(interfaces: Interfaces, sides: Sides, indexed: Seq<IndexedInterfac
     }
 }
 
-/// What is known of the world, from the items of its sides.
+/// The world, from the items of its sides.
 fn build_world(
     alloc: Global,
     names: &Names,
@@ -126,8 +126,8 @@ fn named_world(alloc: Global, names: &Names, read: &WorldItems) -> Result<Record
     build_world(alloc, names, all, table, sides)
 }
 
-/// The world of a record, from the whole object: its members `interfaces`, `imports` and `exports`, each of
-/// which may be left out. The other members are passed over.
+/// The world of a record, from the whole object: its members `interfaces`, `imports` and `exports`,
+/// each of which may be left out. The other members are ignored.
 #[tactic(auto, unfolding(crate::specs::Worlds::world_of))]
 pub fn read_world(alloc: Global, value: &Value) -> Result<RecordWorld, Failure>
     ensures { Gives (λ w. w) result (world_of ⟦<Interface as PartialEq>⟧.eq (view value.now)) }

@@ -1,4 +1,4 @@
--- What a list tells, and what stands in a list.
+-- The first result that a function has over the elements of a list, and membership in lists.
 use Rattle.std.proofs.Common.{arith, ◌≡◌, ◌⊎◌, inl, inr, ℕ, zero, suc, ◌<◌, length, List, [], ◌∷◌, Option, Some, None, refl, sym, subst}
 use Rattle.std.specs.Prelude.{Contains, slice_index_or}
 use Rattle.std.specs.List.{AllByRecursion, flat_map}
@@ -21,20 +21,20 @@ after y xs x m = let l = m.1 in (suc m.0, omega (arith, l), m.2)
 pub not_there : {X : Type 0} {P : Type 0} (x : X) → Contains [] x → P
 not_there x m = let l = m.1 in absurd (omega (arith, l))
 
--- what comes of an element comes of the list
+-- an element of the list of an element is one of the flattened list
 pub in_flat_map : {A B : Type 0} (f : A → List B) (xs : List A) (x : A) (y : B) (k : ℕ) → k < length xs → slice_index_or xs k x ≡ x → Contains (f x) y → Contains (flat_map f xs) y
 in_flat_map f [] x y k l e n = absurd (omega arith)
 in_flat_map f (z ∷ xs) x y zero l e n = Contains-append_left (f z) (flat_map f xs) y (subst (λ (v : _). Contains (f v) y) (sym e) n)
 in_flat_map f (z ∷ xs) x y (suc k) l e n = Contains-append_right (f z) (flat_map f xs) y (in_flat_map f xs x y k (omega arith) e n)
 
--- ---- tellings
+-- ---- the first of several results
 
--- neither of two tells anything
+-- neither of two is there
 pub neither : {A : Type 0} (a b : Option A) → option_or a b ≡ None → (a ≡ None) × (b ≡ None)
 neither None b h = (refl, h)
 neither (Some x) b h = nothing x h
 
--- one of two tells it
+-- one of two is the result
 pub one_of : {A : Type 0} (a b : Option A) (x : A) → option_or a b ≡ Some x → (a ≡ Some x) ⊎ (b ≡ Some x)
 one_of None b x h = inr h
 one_of (Some y) b x h = inl h
@@ -43,7 +43,7 @@ pub none_picked : {A B : Type 0} (pick : A → Option B) (xs : List A) → first
 none_picked pick [] h = tt
 none_picked pick (x ∷ xs) h = let b = neither (pick x) (first_some pick xs) h in (b.0, none_picked pick xs b.1)
 
--- an element that tells this
+-- an element for which the function has this result
 pub record Picks {A B : Type 0} (pick : A → Option B) (xs : List A) (answer : B) : Type 0 where
   pub element : A
   pub there : Contains xs element

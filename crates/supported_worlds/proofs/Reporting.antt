@@ -1,4 +1,4 @@
--- When a world is refused: something of it is told exactly where a cause holds.
+-- When a world is refused: something of it is reported exactly where a cause holds.
 use Rattle.std.proofs.Common.{◌≡◌, ◌≢◌, ◌⊎◌, inl, inr, ℕ, List, [], ◌∷◌, ◌++◌, Option, Some, None, Ok, Err, refl, sym, ap, subst, ◌∙◌}
 use Rattle.std.specs.Prelude.{Contains, codes}
 use Rattle.std.specs.List.{AllByRecursion, flat_map}
@@ -20,7 +20,7 @@ use Rattle.supported_worlds.specs.LeftOut.{items_of, item_left_out, import_left_
 use Rattle.supported_worlds.specs.Causes.{IsLeftOut, imported, exported, import_role, export_role, whole_module, adapter}
 use Rattle.supported_worlds.proofs.Lists.{nothing, at_front, not_there, in_flat_map, neither, one_of, none_picked, one_picked}
 
--- ---- where nothing is told
+-- ---- where nothing is reported
 
 pub fields_pass : (name : List ℕ) (fields : List (List ℕ × Import)) → AllByRecursion (λ f. import_left_out f.1 ≡ None) fields → AllByRecursion (λ i. import_left_out i.role ≡ None) (imports_from (name, instances.Names fields))
 fields_pass name [] h = tt
@@ -64,7 +64,7 @@ all_encoded p h =
       alone = no_adapters p.adapters b.1;
     }
 
--- it tells nothing and something
+-- a function with no result for all elements has none for this one
 none_of : {X : Type 0} (reported : X → Option (List ℕ)) (xs : List X) (x : X) (what : List ℕ) → AllByRecursion (λ y. reported y ≡ None) xs → Contains xs x → reported x ≡ Some what → ⊥
 none_of reported xs x what h m e = nothing what (sym e ∙ AllByRecursion-contains (λ y. reported y ≡ None) xs x h m)
 
@@ -76,7 +76,7 @@ by_cases p h f (export_role entry what m e) = none_of (λ x. export_left_out x.1
 by_cases p h f (whole_module name which m) = none_of group_left_out p.main.imports.modules (name, instances.Whole which) (codes "library") h.groups m refl
 by_cases p h f (adapter entry m) = not_there entry (subst (λ (as_list : List (List ℕ × WorldAdapter)). Contains as_list entry) h.alone m)
 
--- ---- where something is told
+-- ---- where something is reported
 
 module _ (p : WorldParts) (what : List ℕ) where
   of_group : (group : List ℕ × ImportInstance) → Contains p.main.imports.modules group → group_left_out group ≡ Some what → IsLeftOut p (refusals.LeftOut what)

@@ -103,7 +103,7 @@ names_apart ((key, items.NamedType id) ∷ es) is h = no_type key id is.0
 
 -- ---- functions that are found
 
--- a function that is found at a name is among the functions of the items
+-- a function that is looked up by a name is one of the functions of the items
 name_there : (text : List ℕ) (es : Entries) → AllByRecursion IsItem es → IsSome (root_function_at es (keys.Name text)) → Contains (flat_map root_function es) text
 name_there text [] is h = absurd (true≢false (sym h))
 name_there text ((keys.Name m, items.Function f) ∷ es) is h = by (bytes_eq text m) refl h (name_there text es is.1)
@@ -116,7 +116,7 @@ name_there text ((keys.Interface id, items.Function f) ∷ es) is h = absurd is.
 name_there text ((key, items.Interface id) ∷ es) is h = no_interface key id is.0
 name_there text ((key, items.NamedType id) ∷ es) is h = no_type key id is.0
 
--- a key is a name, at which a function is found
+-- the key of a function is a name, at which the function is found
 record IsRoot (es : Entries) (key : WorldKey) : Type 0 where
   text : List ℕ
   function : Function

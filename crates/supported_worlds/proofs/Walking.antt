@@ -1,4 +1,4 @@
--- A walk over groups of imports that sees of each that its fields are apart.
+-- A walk over groups of imports, which checks that the fields of each are apart.
 use Rattle.std.proofs.Common.{ℕ, List, [], ◌∷◌}
 use Rattle.std.specs.List.{AllByRecursion, IsDistinct}
 use Rattle.std.specs.Map.{keys_of}
@@ -9,7 +9,7 @@ use Rattle.supported_worlds.specs.Apart.{FieldsApart, GroupsApart}
 abbrev Groups : Type 0
 Groups = List (List ℕ × ImportInstance)
 
--- all are, where those are that are left
+-- all groups are apart, if the remaining ones are
 pub record StillApart (rest all : Groups) : Type 0 where
   pub then : AllByRecursion (λ g. FieldsApart g.1) rest → AllByRecursion (λ g. FieldsApart g.1) all
 

@@ -54,7 +54,7 @@ async_is_reported = refl
 method_is_of_a_type : function_left_out (function (Method a_type) [] None) ≡ Some (codes "type")
 method_is_of_a_type = refl
 
--- the exports are looked at once all imports pass, and the first that is left out is told
+-- exports are checked only once all imports pass, and the first that is left out is reported
 first_is_reported : world_left_out (record {
   imports = (f, items.Function (function Freestanding [] None)) ∷ [];
   exports = (f, items.Function (function Freestanding [] None)) ∷ (keys.Name (codes "t"), items.NamedType a_type) ∷ (keys.Interface an_interface, items.Interface an_interface) ∷ [];
@@ -78,13 +78,13 @@ async_lift_is_reported = refl
 realloc_is_reported : export_left_out exports.GeneralPurposeRealloc ≡ Some (codes "realloc")
 realloc_is_reported = refl
 
--- of the imports from one module the first that is left out is told
+-- of the imports from one module the first that is left out is reported
 first_field_is_reported : group_left_out (codes "$root", instances.Names ((codes "f", imports.WorldFunc f (codes "f") GuestImport) ∷ (codes "s", imports.WaitableSetNew) ∷ (codes "i", imports.BackpressureInc) ∷ [])) ≡ Some (codes "waitable-set-new")
 first_field_is_reported = refl
 
 whole_is_a_library : group_left_out (codes "m", instances.Whole modules.Main) ≡ Some (codes "library")
 whole_is_a_library = refl
 
--- an export of another module is under no other kind
+-- an export of another module has its own kind and no other
 item_is_of_a_library : (item : Item) → import_kind (imports.Item item) ≡ codes "library"
 item_is_of_a_library item = refl

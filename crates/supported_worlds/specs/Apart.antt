@@ -1,4 +1,4 @@
--- No key stands twice in a table (component model: names of imports and exports).
+-- No key occurs twice in a table (component model: names of imports and exports).
 use Rattle.std.specs.Prelude.{ℕ, List}
 use Rattle.std.specs.List.{IsDistinct, AllByRecursion}
 use Rattle.std.specs.Map.{keys_of}
@@ -15,7 +15,7 @@ pub record ItemsApart (w : World) : Type 0 where
   pub imports : IsDistinct is_same_key (keys_of w.imports)
   pub exports : IsDistinct is_same_key (keys_of w.exports)
 
--- the fields that are imported from one module, where they are told one by one
+-- the fields that are imported from one module, where they are listed one by one
 abbrev pub FieldsApart : ImportInstance → Type 0
 FieldsApart (instances.Names fields) = IsDistinct bytes_eq (keys_of fields)
 FieldsApart (instances.Whole which) = Unit {0}

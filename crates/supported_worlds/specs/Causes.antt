@@ -1,4 +1,4 @@
--- When the refusal of a world is right: something of it isn't encoded yet. (This project's own.)
+-- When the refusal of a world is right: something of it is not encoded yet. (This project's own.)
 use Rattle.std.specs.Prelude.{◌≡◌, ℕ, List, codes, Some, Contains}
 use Rattle.std.specs.List.{flat_map}
 use Rattle.wit_data.specs.declared.worlds.WorldItem.{WorldItem}
@@ -17,10 +17,10 @@ pub data IsLeftOut (p : WorldParts) : Refusal → Type 0 where
   -- an import or an export of the world
   imported : (entry : WorldKey × WorldItem) (what : List ℕ) → Contains (items_of p).imports entry → item_left_out entry ≡ Some what → IsLeftOut p (refusals.LeftOut what)
   exported : (entry : WorldKey × WorldItem) (what : List ℕ) → Contains (items_of p).exports entry → item_left_out entry ≡ Some what → IsLeftOut p (refusals.LeftOut what)
-  -- what an import or an export of main is for
+  -- the role of an import or an export of main
   import_role : (import : CoreImport) (what : List ℕ) → Contains (flat_map imports_from p.main.imports.modules) import → import_left_out import.role ≡ Some what → IsLeftOut p (refusals.LeftOut what)
   export_role : (entry : List ℕ × Export) (what : List ℕ) → Contains p.main.exports.exports entry → export_left_out entry.1 ≡ Some what → IsLeftOut p (refusals.LeftOut what)
-  -- a whole module meets what main imports from one
+  -- a whole module provides what main imports from one
   whole_module : (name : List ℕ) (which : MainOrAdapter) → Contains p.main.imports.modules (name, instances.Whole which) → IsLeftOut p (refusals.LeftOut (codes "library"))
   -- an adapter
   adapter : (entry : List ℕ × WorldAdapter) → Contains p.adapters entry → IsLeftOut p (refusals.LeftOut (codes "adapter"))

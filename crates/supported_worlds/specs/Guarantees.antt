@@ -1,4 +1,4 @@
--- What who prepares a world knows of its parts.
+-- What is known of the parts when a world is prepared.
 use Rattle.std.specs.Prelude.{◌<◌, length}
 use Rattle.std.specs.List.{flat_map, AllByRecursion}
 use Rattle.core_types.specs.Core.{IsCoreModule}
@@ -11,8 +11,8 @@ use Rattle.record_core_types.specs.Guarantees.{IsCalled, IsLifted, IsKept}
 use Rattle.record_resolve.specs.Resolved.{AreNamed}
 use Rattle.supported_worlds.specs.LeftOut.{items_of}
 
--- The resolve is sound and has the world, whose functions have the names of their keys; main is a core module, what its roles
--- name stands in the world, and so does what it has to export.
+-- The resolve is sound and has the world, whose functions have the names of their keys; main is a core module, and the
+-- world has what its roles name and what it must export.
 pub record HasSoundParts (p : WorldParts) : Type 0 where
   pub sound : IsSound p.resolve
   pub present : p.world.index < length p.resolve.worlds

@@ -6,7 +6,7 @@ use Rattle.comp_roles.specs.declared.exports.Export.TheVariants as exports
 use Rattle.comp_roles.specs.declared.imports.Import.{Import}
 use Rattle.comp_roles.specs.declared.imports.Import.TheVariants as imports
 
--- what is done to streams
+-- the built-in functions on streams
 abbrev pub stream_kind : Import → Option (List ℕ)
 stream_kind (imports.StreamNew p) = Some (codes "stream-new")
 stream_kind (imports.StreamRead p is_async) = Some (codes "stream-read")
@@ -17,7 +17,7 @@ stream_kind (imports.StreamDropReadable p) = Some (codes "stream-drop-readable")
 stream_kind (imports.StreamDropWritable p) = Some (codes "stream-drop-writable")
 stream_kind role = None
 
--- what is done to futures
+-- the built-in functions on futures
 abbrev pub future_kind : Import → Option (List ℕ)
 future_kind (imports.FutureNew p) = Some (codes "future-new")
 future_kind (imports.FutureRead p is_async) = Some (codes "future-read")
@@ -28,7 +28,7 @@ future_kind (imports.FutureDropReadable p) = Some (codes "future-drop-readable")
 future_kind (imports.FutureDropWritable p) = Some (codes "future-drop-writable")
 future_kind role = None
 
--- what is done to tasks, waitables and subtasks
+-- the built-in functions on tasks, waitables and subtasks
 abbrev pub task_kind : Import → Option (List ℕ)
 task_kind (imports.ExportedTaskReturn key interface f) = Some (codes "task-return")
 task_kind imports.ExportedTaskCancel = Some (codes "task-cancel")
@@ -43,7 +43,7 @@ task_kind imports.SubtaskDrop = Some (codes "subtask-drop")
 task_kind (imports.SubtaskCancel is_async) = Some (codes "subtask-cancel")
 task_kind role = None
 
--- what is done to resources, error contexts and the slots of a task's context
+-- the built-in functions on resources, error contexts and the slots of a task's context
 abbrev pub value_kind : Import → Option (List ℕ)
 value_kind (imports.ImportedResourceDrop key interface id) = Some (codes "imported-drop")
 value_kind (imports.ExportedResourceDrop key id) = Some (codes "exported-drop")
@@ -58,7 +58,7 @@ value_kind (imports.TlsBaseGet ty) = Some (codes "tls-get")
 value_kind (imports.TlsBaseSet ty) = Some (codes "tls-set")
 value_kind role = None
 
--- functions of the world, and what main and adapters have
+-- functions of the world, and the exports of main and of adapters
 abbrev pub linked_kind : Import → Option (List ℕ)
 linked_kind (imports.WorldFunc key name abi) = Some (codes "world-func")
 linked_kind (imports.InterfaceFunc key id name abi) = Some (codes "interface-func")
@@ -67,7 +67,8 @@ linked_kind (imports.MainModuleExport name kind) = Some (codes "main-export")
 linked_kind (imports.AdapterExport adapter f ty) = Some (codes "adapter-export")
 linked_kind role = None
 
--- The kind of an import. What none of the tables has is an export of another module, by the arguments of a library.
+-- The kind of an import. What is in none of the tables is an export of another module, which an instance of a library gets
+-- as an argument.
 abbrev pub import_kind : Import → List ℕ
 import_kind role =
     unwrap_or (option_or (linked_kind role) (option_or (value_kind role) (option_or (task_kind role) (option_or (stream_kind role) (future_kind role))))) (codes "library")

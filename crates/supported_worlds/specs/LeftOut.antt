@@ -1,6 +1,6 @@
--- What of a world is encoded yet: functions at its root that are synchronous and have no parameters and no result, and core
--- imports and exports that are for one of them. All else is left out, and is told under the name of its kind. (The names are
--- those of this project's record.)
+-- Which parts of a world are encoded yet: functions at its root that are synchronous and have no parameters and no result,
+-- and core imports and exports with the role of such a function. All else is left out, and reported by the name of its
+-- kind. (The names are those of this project's record.)
 use Rattle.std.specs.Prelude.{ℕ, ◌==◌, List, [], ◌∷◌, length, codes, Option, Some, None, Result, Ok, Err, is_some, get_or, if◌then◌else◌}
 use Rattle.std.specs.Option.{option_or}
 use Rattle.wit_data.specs.declared.functions.AbiVariant.TheVariants.{GuestImport, GuestExport, GuestImportAsync}
@@ -51,20 +51,20 @@ item_left_out (key, items.NamedType id) = Some (codes "type")
 
 -- ---- roles
 
--- what main imports, unless it is a root function that is called and waited for
+-- an import of main, unless it is a root function that is called synchronously
 abbrev pub import_left_out : Import → Option (List ℕ)
 import_left_out (imports.WorldFunc (keys.Name text) name GuestImport) = None
 import_left_out (imports.WorldFunc key name GuestImportAsync) = Some (codes "async")
 import_left_out role = Some (import_kind role)
 
--- what main exports, unless it is a root function that is called and waited for
+-- an export of main, unless it is a root function that is called synchronously
 abbrev pub export_left_out : Export → Option (List ℕ)
 export_left_out (exports.WorldFunc (keys.Name text) name GuestExport) = None
 export_left_out (exports.WorldFunc (keys.Interface id) name GuestExport) = Some (codes "world-func")
 export_left_out (exports.WorldFunc key name abi) = Some (codes "async")
 export_left_out role = Some (export_kind role)
 
--- the imports from one module: the first that is left out, or all of them where a whole module meets them
+-- the imports from one module: the first that is left out, or all of them where a whole module provides them
 abbrev pub instance_left_out : ImportInstance → Option (List ℕ)
 instance_left_out (instances.Names fields) = first_some (λ f. import_left_out f.1) fields
 instance_left_out (instances.Whole which) = Some (codes "library")
@@ -82,7 +82,7 @@ items_of p = get_or p.resolve.worlds p.world.index no_items
 abbrev pub world_left_out : World → Option (List ℕ)
 world_left_out w = option_or (first_some item_left_out w.imports) (first_some item_left_out w.exports)
 
--- the same of a module's
+-- the first import or export of a module that is left out
 abbrev pub module_left_out : ValidatedModule → Option (List ℕ)
 module_left_out m = option_or (first_some group_left_out m.imports.modules) (first_some (λ e. export_left_out e.1) m.exports.exports)
 
@@ -91,7 +91,7 @@ abbrev pub adapters_left_out : List (List ℕ × WorldAdapter) → Option (List 
 adapters_left_out [] = None
 adapters_left_out (a ∷ more) = Some (codes "adapter")
 
--- what of a world isn't encoded yet: of its items first, then of main, then of the adapters
+-- what of a world is not encoded yet: of its items first, then of main, then of the adapters
 abbrev pub left_out : WorldParts → Option (List ℕ)
 left_out p = option_or (world_left_out (items_of p)) (option_or (module_left_out p.main) (adapters_left_out p.adapters))
 

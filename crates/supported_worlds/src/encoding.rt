@@ -1,4 +1,4 @@
-//! The world of its parts, where all of it is encoded yet.
+//! A world made of its parts, where all of it is encoded yet.
 
 ghost use Rattle.std.specs.Prelude.{◌≡◌, ◌≢◌, ◌<◌, length, IfOk, IfErr, IsOk, None};
 ghost use Rattle.std.specs.Option.{option_copied};
@@ -18,7 +18,7 @@ use comp_worlds::{ComponentWorld, WorldAdapter, WorldParts};
 use record_faults::{Failure, Refusal};
 use std::alloc::Global;
 
-/// The refusal of what isn't encoded yet.
+/// The refusal of what is not encoded yet.
 fn refused(alloc: Global, what: &str) -> Failure
     ensures { result ≢ failures.Memory → result ≡ refused what.now }
 {
@@ -39,7 +39,7 @@ fn adapters_left_out(adapters: &Keyed<Text, WorldAdapter>) -> Option<&'static st
     }
 }
 
-/// What of a world isn't encoded yet; where nothing is left out, what has names stands once.
+/// What of a world is not encoded yet; where nothing is left out, no key occurs twice.
 fn left_out(parts: &WorldParts) -> Option<&'static str>
     requires { parts.now.world.index < length parts.now.resolve.worlds }
     ensures reported { option_copied result ≡ left_out parts.now }
@@ -76,10 +76,11 @@ fn unless_left_out(alloc: Global, parts: WorldParts) -> Result<ComponentWorld, F
 
 /// The world of these parts, where all of it is encoded yet.
 ///
-/// It refuses with `LeftOut` and the kind of something of the world that isn't: `params`, `result`, `async`, `interface` or
-/// `type` of an item of the world, the kind of a role of main's imports or exports, `library`, or `adapter`. The only other
-/// refusal is want of memory. Beside what `ComponentWorld::of_parts` does it takes time by the number of items, of core
-/// imports and of core exports.
+/// It refuses with `LeftOut` and the kind of something of the world that is not encoded yet: `params`,
+/// `result`, `async`, `interface` or `type` of an item of the world, the kind of a role of main's
+/// imports or exports, `library`, or `adapter`. The only other refusal is out of memory. On top of
+/// `ComponentWorld::of_parts` it takes time linear in the number of items, of core imports and of core
+/// exports.
 #[tactic(auto, using(crate::proofs::Reporting::no_cause, crate::proofs::Reporting::has_cause))]
 pub fn encoded_world(alloc: Global, parts: WorldParts) -> Result<ComponentWorld, Failure>
     requires { HasSoundParts parts }

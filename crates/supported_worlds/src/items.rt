@@ -1,4 +1,4 @@
-//! What of a world's imports and exports isn't encoded yet.
+//! What of a world's imports and exports is not encoded yet.
 
 ghost use Rattle.std.specs.Prelude.{◌≡◌};
 ghost use Rattle.std.specs.List.{IsDistinct};
@@ -45,7 +45,7 @@ fn item_left_out(key: &WorldKey, item: &WorldItem) -> Option<&'static str>
     }
 }
 
-/// What of one side of a world is left out, and that its keys are apart.
+/// What of one side of a world is left out; its keys are apart.
 fn items_left_out(items: &Keyed<WorldKey, WorldItem>) -> Option<&'static str>
     ensures reported { option_copied result ≡ first_some item_left_out items.now }
     ensures apart { IsDistinct is_same_key (keys_of items.now) }
@@ -58,7 +58,7 @@ fn items_left_out(items: &Keyed<WorldKey, WorldItem>) -> Option<&'static str>
     None
 }
 
-/// What of a world's imports and exports is left out, and that its keys are apart.
+/// What of a world's imports and exports is left out; its keys are apart.
 pub(crate) fn world_left_out(world: &World) -> Option<&'static str>
     ensures reported { option_copied result ≡ world_left_out world.now }
     ensures apart { ItemsApart world.now }

@@ -6,7 +6,7 @@ ghost use Rattle.supported_worlds.specs.Kinds.{stream_kind, future_kind, task_ki
 
 use comp_roles::{Export, Import};
 
-/// What is done to streams.
+/// The built-in functions on streams.
 fn stream_kind(role: &Import) -> Option<&'static str>
     ensures { option_copied result ≡ stream_kind role.now }
 {
@@ -22,7 +22,7 @@ fn stream_kind(role: &Import) -> Option<&'static str>
     }
 }
 
-/// What is done to futures.
+/// The built-in functions on futures.
 fn future_kind(role: &Import) -> Option<&'static str>
     ensures { option_copied result ≡ future_kind role.now }
 {
@@ -38,7 +38,7 @@ fn future_kind(role: &Import) -> Option<&'static str>
     }
 }
 
-/// What is done to tasks, waitables and subtasks.
+/// The built-in functions on tasks, waitables and subtasks.
 fn task_kind(role: &Import) -> Option<&'static str>
     ensures { option_copied result ≡ task_kind role.now }
 {
@@ -58,7 +58,7 @@ fn task_kind(role: &Import) -> Option<&'static str>
     }
 }
 
-/// What is done to resources, error contexts and the slots of a task's context.
+/// The built-in functions on resources, error contexts and the slots of a task's context.
 fn value_kind(role: &Import) -> Option<&'static str>
     ensures { option_copied result ≡ value_kind role.now }
 {
@@ -78,7 +78,7 @@ fn value_kind(role: &Import) -> Option<&'static str>
     }
 }
 
-/// Functions of the world, and what main and adapters have.
+/// Functions of the world, and the exports of main and of adapters.
 fn linked_kind(role: &Import) -> Option<&'static str>
     ensures { option_copied result ≡ linked_kind role.now }
 {
@@ -92,14 +92,14 @@ fn linked_kind(role: &Import) -> Option<&'static str>
     }
 }
 
-/// What is done to tasks, streams and futures.
+/// The built-in functions on tasks, streams and futures.
 fn waiting_kind(role: &Import) -> Option<&'static str>
     ensures { option_copied result ≡ option_or (task_kind role.now) (option_or (stream_kind role.now) (future_kind role.now)) }
 {
     task_kind(role).or(stream_kind(role).or(future_kind(role)))
 }
 
-/// The kind of what an import is for.
+/// The kind of an import's role.
 pub(crate) fn import_kind(role: &Import) -> &'static str
     ensures { result.now ≡ import_kind role.now }
 {
@@ -109,7 +109,7 @@ pub(crate) fn import_kind(role: &Import) -> &'static str
     }
 }
 
-/// The kind of what an export is for.
+/// The kind of an export's role.
 pub(crate) fn export_kind(role: &Export) -> &'static str
     ensures { result.now ≡ export_kind role.now }
 {

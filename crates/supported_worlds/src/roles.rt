@@ -1,4 +1,4 @@
-//! What of main's imports and exports isn't encoded yet.
+//! What of main's imports and exports is not encoded yet.
 
 ghost use Rattle.std.specs.Prelude.{◌≡◌, None};
 ghost use Rattle.std.specs.List.{IsDistinct};
@@ -49,7 +49,7 @@ fn fields_left_out(fields: &Keyed<Text, Import>) -> Option<&'static str>
     None
 }
 
-/// What of the imports from one module is left out, and that its fields are apart.
+/// What of the imports from one module is left out; its fields are apart.
 fn instance_left_out(instance: &ImportInstance) -> Option<&'static str>
     ensures reported { option_copied result ≡ instance_left_out instance.now }
     ensures apart { FieldsApart instance.now }
@@ -60,7 +60,7 @@ fn instance_left_out(instance: &ImportInstance) -> Option<&'static str>
     }
 }
 
-/// What of all imports is left out; where nothing is, no module and no field of one stands twice.
+/// What of all imports is left out; where nothing is, no module and no field of one occurs twice.
 #[tactic(auto, using(crate::proofs::Walking::start, crate::proofs::Walking::step, crate::proofs::Walking::end))]
 fn groups_left_out(groups: &Keyed<Text, ImportInstance>) -> Option<&'static str>
     ensures reported { option_copied result ≡ first_some group_left_out groups.now }
@@ -85,7 +85,7 @@ fn exports_left_out(exports: &Keyed<Text, Export>) -> Option<&'static str>
     None
 }
 
-/// What of a module's imports and exports is left out; where nothing is, its imports stand once.
+/// What of a module's imports and exports is left out; where nothing is, no import occurs twice.
 pub(crate) fn module_left_out(main: &ValidatedModule) -> Option<&'static str>
     ensures reported { option_copied result ≡ module_left_out main.now }
     ensures apart { option_copied result ≡ None → GroupsApart main.now.imports.modules }
