@@ -1,4 +1,4 @@
--- What a builder of a component holds, and what its calls answer: definitions count their items up in each index
+-- The model of a component builder, and the results of its calls: definitions count their items up in each index
 -- space. Component model, binary format: index spaces.
 use Rattle.std.specs.Prelude.{ℕ, ◌≡◌, ◌+◌, ◌≤◌, ◌^◌, List, [], ◌∷◌, ◌++◌, Option, Some, None, Result, Ok, Err, get_or, option_to_list}
 use Rattle.comp_bytes.specs.Spaces.{ordinal, items_in}
@@ -16,7 +16,7 @@ pub record Built : Type 0 where
 abbrev pub nothing_built : Built
 nothing_built = record { defs = []; names = [] }
 
--- the debug name of an item, where it gets one
+-- the debug name of an item, if it gets one
 abbrev pub name_of : Space → ℕ → Option (List ℕ) → List Name
 name_of s index None = []
 name_of s index (Some text) = record { space = s; index = index; text = text } ∷ []
@@ -25,17 +25,17 @@ name_of s index (Some text) = record { space = s; index = index; text = text } �
 abbrev pub and_then : Built → Space → Def → Option (List ℕ) → Built
 and_then b s d debug = record { defs = b.defs ++ d ∷ []; names = b.names ++ name_of s (items_in s b.defs) debug }
 
--- want of memory, or this count, which is more than a space can have
+-- out of memory, or this count, which is more than a space can have
 abbrev pub Passes : ℕ → BuildFault → Type 0
 Passes count Memory = Unit {0}
 Passes count (TooMany n) = (2 ^ 32 ≤ n) × (n ≡ count)
 
--- the count behind the item with this index, and its debug name
+-- the count after the item with this index, and its debug name
 abbrev pub IsNext : Space → ℕ → Option (List ℕ) → Result (ℕ × Option Name) BuildFault → Type 0
 IsNext s index debug (Ok (count, name)) = (count ≡ index + 1) × (option_to_list name ≡ name_of s index debug)
 IsNext s index debug (Err e) = Passes (index + 1) e
 
--- Two lists that grow by an item and its name, if a step before has found these. An error changes nothing.
+-- Two lists to which an item and its name are added, if an earlier step found these. An error changes nothing.
 abbrev pub Pushes : {A N : Type 0} → List A → List A → List N → List N → A → Result (ℕ × Option N) BuildFault → Result ℕ BuildFault → Type 0
 Pushes old new names added item (Ok (count, name)) (Ok answer) = (answer ≡ count) × (new ≡ old ++ item ∷ []) × (added ≡ names ++ option_to_list name)
 Pushes old new names added item (Ok (count, name)) (Err e) = (e ≡ Memory) × (new ≡ old) × (added ≡ names)
@@ -45,12 +45,12 @@ Pushes old new names added item (Err fault) result = (result ≡ Err fault) × (
 abbrev pub Counts : List ℕ → List Def → Type 0
 Counts counts ds = (s : Space) → get_or counts (ordinal s) 0 ≡ items_in s ds
 
--- the space had all the items that it can have
+-- the space already has all the items that it can have
 abbrev pub Full : Space → List Def → BuildFault → Type 0
 Full s ds Memory = Unit {0}
 Full s ds (TooMany n) = (2 ^ 32 ≤ n) × (n ≡ items_in s ds + 1)
 
--- What a builder's call answers: the count of the space before it, and one definition more. An error changes nothing.
+-- The result of a builder's call: the count of the space before it, and one more definition. An error changes nothing.
 abbrev pub Adds : Built → Built → Result ℕ BuildFault → Space → Def → Option (List ℕ) → Type 0
 Adds old new (Ok index) s d debug = (index ≡ items_in s old.defs) × (new ≡ and_then old s d debug)
 Adds old new (Err e) s d debug = (new ≡ old) × Full s old.defs e

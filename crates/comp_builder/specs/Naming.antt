@@ -1,4 +1,4 @@
--- The custom section with the debug names, behind the definitions of a component that is being built.
+-- The custom section with the debug names, after the definitions of a component that is being built.
 -- Component model, binary format: name section.
 use Rattle.std.specs.Prelude.{◌≡◌, ◌==◌, [], ◌∷◌, ◌++◌, Result, Ok, Err, codes, length, if◌then◌else◌}
 use Rattle.byte_encoding.specs.Encoding.{Fits}
@@ -13,11 +13,11 @@ use Rattle.comp_builder.specs.Built.{Built}
 abbrev pub names_section : Built → Def
 names_section b = defs.Item (items.Custom (codes "component-name") (names_text b.names).bytes)
 
--- without any name nothing is added
+-- without any name no section is added
 abbrev pub with_names : Built → Built
 with_names b = if length b.names == 0 then b else record { defs = b.defs ++ names_section b ∷ []; names = b.names }
 
--- What the call that appends the section answers. A refusal changes nothing.
+-- The result of the call that appends the section. An error changes nothing.
 abbrev pub AddsNames : Built → Built → Result Unit BuildFault → Type 0
 AddsNames old new (Ok u) = (new ≡ with_names old) × Fits (names_text old.names).counts
 AddsNames old new (Err e) = (new ≡ old) × Refused (names_text old.names).counts e

@@ -18,9 +18,9 @@ use std::marker::Model;
 
 /// A component that is being built, definition by definition.
 ///
-/// Each call that adds a definition answers the index of the item that it makes: the number of items
-/// of its space before it. A refusal leaves the builder as it was. Whether an index that a definition
-/// names is one of an item at hand is for the caller to see to: definitions are added as they stand.
+/// Each call that adds a definition returns the index of the item that it makes: the number of items
+/// of its space before it. An error leaves the builder unchanged. The caller has to make sure that an index
+/// in a definition names an earlier item: definitions are added without a check.
 #[derive(Drop)]
 pub struct ComponentBuilder {
     defs: Defs,
@@ -38,7 +38,7 @@ impl Model for ComponentBuilder {
     ghost invariant = { λ b. Counts b.counts b.defs };
 }
 
-/// Adds to both lists, or to none.
+/// Adds to both lists, or to neither.
 fn push_both<T: Drop, N: Drop>(
     items: &mut Seq<T>,
     names: &mut Vec<N>,
@@ -64,7 +64,7 @@ fn push_both<T: Drop, N: Drop>(
     }
 }
 
-/// The debug name of an item, where it gets one.
+/// The debug name of an item, if it gets one.
 fn named_item(
     alloc: Global,
     space: Space,
@@ -83,7 +83,7 @@ fn named_item(
     }
 }
 
-/// The count of a space behind the item with this index, and the item's debug name.
+/// The count of a space after the item with this index, and the item's debug name.
 fn next_item(
     alloc: Global,
     space: Space,
@@ -97,7 +97,7 @@ fn next_item(
     Ok((count, name))
 }
 
-/// Adds an item and its name, once their place is known, and answers the count behind it.
+/// Adds an item and its name, once their count is known, and returns the count after it.
 fn push_next<T: Drop, N: Drop>(
     items: &mut Seq<T>,
     names: &mut Vec<N>,
@@ -111,8 +111,8 @@ fn push_next<T: Drop, N: Drop>(
     Ok(count)
 }
 
-/// Adds a definition that makes the item of a space with this index, with its debug name, and answers
-/// the count behind it.
+/// Adds a definition that makes the item of a space with this index, with its debug name, and returns
+/// the count after it.
 fn push_item(
     defs: &mut Defs,
     names: &mut Vec<Name>,
@@ -131,7 +131,7 @@ fn push_item(
 }
 
 impl ComponentBuilder {
-    /// A component with no definition. It takes no memory.
+    /// A component with no definition. It allocates nothing.
     pub fn new(alloc: Global) -> ComponentBuilder
         ensures { result ≡ nothing_built }
     {
@@ -171,10 +171,10 @@ impl ComponentBuilder {
         &self.defs
     }
 
-    /// Appends the custom section `component-name` with the debug names, where there are any: for each
-    /// space with names, in the order of the bytes of their sorts, the names by index. It refuses with
+    /// Appends the custom section `component-name` with the debug names, if there are any: for each
+    /// space with names, in the order of the bytes of their sorts, the names by index. It fails with
     /// [`BuildFault::TooMany`] only where a count or a size in that section would pass 2^32 - 1; then
-    /// the builder is as it was.
+    /// the builder is unchanged.
     pub fn append_names(&mut self) -> Result<(), BuildFault>
         ensures { AddsNames self.old self.new result }
     {
@@ -188,9 +188,9 @@ impl ComponentBuilder {
         Ok(())
     }
 
-    /// The bytes of the component: its preamble and its sections. It refuses with
+    /// The bytes of the component: its preamble and its sections. It fails with
     /// [`BuildFault::TooMany`] only where a count or a size that would be written passes 2^32 - 1, and
-    /// tells that one.
+    /// reports that one.
     pub fn finish(self) -> Result<Vec<u8>, BuildFault>
         ensures ok { IfOk result (λ v. Encodes v.items self.defs) }
         ensures err { IfErr result (Refused (encoding_of self.defs).counts) }

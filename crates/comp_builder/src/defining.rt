@@ -1,9 +1,9 @@
-//! The calls of [`ComponentBuilder`] that add a definition, one a form of definition of the component
-//! model's binary format, whose words stand in parentheses.
+//! The calls of [`ComponentBuilder`] that add a definition, one for each form of definition of the component
+//! model's binary format, whose words are in parentheses.
 //!
-//! Each answers the index of the item that it makes, and refuses with [`BuildFault::TooMany`] exactly
-//! where that item's space would have more than 2^32 - 1 items, and with [`BuildFault::Memory`] where
-//! a growth was refused; then the builder is as it was. `debug` is the item's debug name.
+//! Each returns the index of the item that it makes, and fails with [`BuildFault::TooMany`] exactly
+//! where that item's space would have more than 2^32 - 1 items, and with [`BuildFault::Memory`] when
+//! out of memory; then the builder is unchanged. `debug` is the item's debug name.
 
 ghost use Rattle.std.specs.Prelude.{◌≡◌, IfOk, None};
 ghost use Rattle.comp_bytes.specs.Spaces.{kind_space, export_space, sort_space, description_space};
@@ -58,7 +58,7 @@ impl ComponentBuilder {
         )
     }
 
-    /// A core instance that is made of core items at hand, each under a name (`core:instance`, `01`).
+    /// An inline core instance of earlier core items, each under a name (`core:instance`, `01`).
     pub fn core_instantiate_exports(
         &mut self,
         debug: Option<&str>,
@@ -187,7 +187,7 @@ impl ComponentBuilder {
         )
     }
 
-    /// An import, which is an item of what it is said to be (`import`).
+    /// An import, which makes an item as described (`import`).
     pub fn import(&mut self, name: ExternName, description: Description) -> Result<u32, BuildFault>
         ensures adds { Adds self.old self.new result (description_space description) (Def.Item (Item.Import name description)) None }
         ensures at { IfOk result (λ answer. IsAt self.new.defs (description_space description) answer (Def.Item (Item.Import name description))) }
@@ -199,8 +199,8 @@ impl ComponentBuilder {
         )
     }
 
-    /// An export of the item with this sort and index. It is an item of its own too, of what it is said
-    /// to be, or of the type of what it exports (`export`).
+    /// An export of the item with this sort and index. It makes an item too, as described, or of the type of
+    /// what it exports (`export`).
     pub fn export(
         &mut self,
         name: ExternName,
@@ -258,7 +258,7 @@ impl ComponentBuilder {
         )
     }
 
-    /// A core function that the runtime has (`canon`, all other forms).
+    /// A core function of the runtime (`canon`, all other forms).
     pub fn intrinsic(&mut self, intrinsic: Intrinsic) -> Result<u32, BuildFault>
         ensures adds { Adds self.old self.new result Space.CoreFunc (Def.Item (Item.Intrinsic intrinsic)) None }
         ensures at { IfOk result (λ answer. IsAt self.new.defs Space.CoreFunc answer (Def.Item (Item.Intrinsic intrinsic))) }

@@ -1,4 +1,4 @@
--- What stands one after the other, and the scope that it makes.
+-- A prefix of a list that was checked, and the scope that it makes.
 use Rattle.std.proofs.Common.{◌≡◌, ℕ, zero, suc, ◌+◌, ◌<◌, ◌≤◌, Bool, true, false, cond, List, [], ◌∷◌, ◌++◌, length, get_or, take, drop, Option, Some, None, ◌⊎◌, inl, inr, refl, sym, ap, subst, ◌∙◌, append_assoc, append-nil, arith}
 use Rattle.std.specs.Prelude.{map, slice_get, nat_lt}
 use Rattle.std.specs.List.{AllByRecursion, sum_by}
@@ -70,7 +70,7 @@ all_there scopes (r ∷ rs) e =
       | inr w ↦ (there scopes r.outward r w, all_there scopes rs (rest scopes r rs w e))
     ]
 
--- what is missing is named
+-- the missing item is named by a reference
 pub one_missing : (scopes : List Counts) (rs : List Reference) (lack : Lack) → lacking scopes rs ≡ Some lack → ReferenceFault (map counted scopes) rs lack.space lack.index
 unfolding lacking
 one_missing scopes [] lack e = absurd (some_none lack (sym e))
@@ -80,9 +80,9 @@ one_missing scopes (r ∷ rs) lack e =
       | inr w ↦ record { reference = r; named = (0, omega arith, refl); missing = not_there scopes r.outward r lack w }
     ]
 
--- ---- one more
+-- ---- one item more
 
--- the scope of one more
+-- the scope after one item more
 pub scope_of-push : {A : Type 0} (made : A → Option Space) (xs : List A) (x : A) → scope_of made (xs ++ x ∷ []) ≡ and_made (scope_of made xs) (made x)
 scope_of-push made xs x = fun_ext (λ space. sum_by_push (λ y. cond (is_space space (made y)) 1 0) xs x)
 
@@ -92,9 +92,9 @@ EachIn-push {A} made Rule before [] x h r = (subst (λ (all : List A). Rule (sco
 EachIn-push {A} made Rule before (y ∷ ys) x h r =
     (h.0, EachIn-push made Rule (before ++ y ∷ []) ys x h.1 (subst (λ (all : List A). Rule (scope_of made all) x) (sym (append_assoc before (y ∷ []) ys)) r))
 
--- ---- a loop over what stands in a scope
+-- ---- a loop over the items of a scope
 
--- the first of them keep the rule, and make this scope
+-- the first `i` of them keep the rule, and make this scope
 pub record CheckedPrefix {A : Type 0} (made : A → Option Space) (Rule : Scope → A → Type 0) (own : Counts) (xs : List A) (i : ℕ) : Type 0 where
   pub makes : counted own ≡ scope_of made (take i xs)
   pub keep : EachIn made Rule [] (take i xs)
@@ -123,7 +123,7 @@ prefix_fault {A} made Rule Fault own xs i x h lt is f = record {
   fault = subst (λ (s : Scope). Fault s x) h.makes f;
 }
 
--- no count passes the number of what stands
+-- no count is more than the number of checked items
 pub prefix_small : {A : Type 0} (made : A → Option Space) (Rule : Scope → A → Type 0) (own : Counts) (xs : List A) (i : ℕ) → CheckedPrefix made Rule own xs i → (space : Space) → counted own space ≤ i
 prefix_small {A} made Rule own xs i h space =
     let e : counted own space ≡ scope_of made (take i xs) space = ap (λ (s : Scope). s space) h.makes in
@@ -132,6 +132,6 @@ prefix_small {A} made Rule own xs i h space =
 pub taken : {A : Type 0} (xs : List A) (i : ℕ) → i < length xs → length (take i xs) ≡ i
 taken xs i lt = omega (arith, length-take i xs)
 
--- a sum of one more
+-- a sum of one element more
 pub sum_more : {A : Type 0} (f : A → ℕ) (xs : List A) (i : ℕ) (x : A) → i < length xs → x ≡ get_or xs i x → sum_by f (take (i + 1) xs) ≡ sum_by f (take i xs) + f x
 sum_more {A} f xs i x lt is = ap (sum_by f) (take_more xs i x lt ∙ ap (λ (y : A). take i xs ++ y ∷ []) (sym is)) ∙ sum_by_push f (take i xs) x

@@ -1,4 +1,4 @@
--- A fault is shown where it stands, and where there is one, not every index names an earlier item.
+-- A fault is reported at its definition, and where there is one, not every index names an earlier item.
 use Rattle.std.proofs.Common.{◌≡◌, ℕ, zero, suc, ◌+◌, ◌<◌, List, [], ◌∷◌, ◌++◌, length, get_or, take, Option, inl, inr, refl, sym, ap, subst, ◌∙◌, append_assoc, append-nil, arith}
 use Rattle.std.specs.Prelude.{slice_get, Result, Ok, Err, IfErr}
 use Rattle.std.specs.List.{AllByRecursion, sum_by}
@@ -58,7 +58,7 @@ pub refuses : (ds : List Def) (r : Result (Unit {0}) IndexFault) → IfErr r (λ
 refuses ds (Ok x) h = tt
 refuses ds (Err e) h = λ all. fault_no ds e.definition e.space e.index h all
 
--- ---- where a fault stands
+-- ---- the position of a fault
 
 pub on_own_line : (line : ℕ) (scope : Scope) (i : Item) (r : Result (Unit {0}) IndexFault) → IfErr r (λ e. AroundFault (scope ∷ []) i e.space e.index × (e.definition ≡ line)) → IfErr r (λ e. FaultFrom line scope (defs.Item i) e)
 on_own_line line scope i (Ok x) h = tt

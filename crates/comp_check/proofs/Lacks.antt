@@ -12,7 +12,7 @@ or_none : (a b : Option Lack) → or_else a b ≡ None → (a ≡ None) × (b �
 or_none None b e = (refl, e)
 or_none (Some x) b e = absurd cc
 
--- the first in two lists is that of the first list, or else that of the second
+-- the first missing item of two lists is that of the first list, or else that of the second
 pub lacking_append : (scopes : List Counts) (rs more : List Reference) → lacking scopes rs ≡ None → lacking scopes (rs ++ more) ≡ lacking scopes more
 unfolding lacking
 lacking_append scopes [] more e = refl
@@ -30,7 +30,7 @@ lacking_found scopes [] more lack e = absurd cc
 lacking_found scopes (r ∷ rs) more lack e =
     found_first (lack_in (slice_get scopes r.outward) r) (lacking scopes rs) (lacking scopes (rs ++ more)) lack e (λ f. lacking_found scopes rs more lack f)
 
--- ---- a loop over what refers
+-- ---- a loop over values with references
 
 pub continues : {X : Type 0} (scopes : List Counts) (f : X → List Reference) (xs : List X) (i : ℕ) (x d : X) → i < length xs → x ≡ get_or xs i d → lacking scopes (f x) ≡ None →
     lacking scopes (flat_map f (drop i xs)) ≡ lacking scopes (flat_map f (drop (i + 1) xs))
@@ -42,7 +42,7 @@ pub ends : {X : Type 0} (scopes : List Counts) (f : X → List Reference) (xs : 
 ends {X} scopes f xs i x d lack lt is found =
     at_drop_more (λ (w : List X). lacking scopes (flat_map f w)) xs i d lt ∙ ap (λ (y : X). lacking scopes (f y ++ flat_map f (drop (i + 1) xs))) (sym is) ∙ lacking_found scopes (f x) (flat_map f (drop (i + 1) xs)) lack found
 
--- ---- a reference, and more behind it
+-- ---- a reference, and more after it
 
 pub lacking_cons : (scopes : List Counts) (r : Reference) (more : List Reference) → lacking scopes (r ∷ []) ≡ None → lacking scopes (r ∷ more) ≡ lacking scopes more
 lacking_cons scopes r more e = lacking_append scopes (r ∷ []) more e

@@ -18,7 +18,7 @@ a_type = defs.Item (items.Type (types.Resource None))
 outward : ℕ → ℕ → Item
 outward count index = items.Alias (aliases.Outer count index)
 
--- Behind a nested component of one item, on line 3, an alias names type 1: the only type is 0.
+-- After a nested component of one item, on line 3, an alias names type 1: the only type is 0.
 after_component : IsIndexFault (a_type ∷ defs.Component (outward 1 0 ∷ []) ∷ defs.Item (outward 0 1) ∷ []) 3 spaces.Type 1
 unfolding a_type outward
 after_component = record {
@@ -34,7 +34,7 @@ after_component = record {
   line_is = refl;
 }
 
--- In that component, on line 2, an alias counts two scopes outward: only the component around it is there.
+-- In that component, on line 2, an alias counts two scopes outward: only the component around it exists.
 no_scope : IsIndexFault (a_type ∷ defs.Component (outward 2 0 ∷ []) ∷ []) 2 spaces.Component 2
 unfolding a_type outward
 no_scope = record {

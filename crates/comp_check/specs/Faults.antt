@@ -1,4 +1,4 @@
--- The faults of a check, and what each of them says. Component model, binary format; explainer: names.
+-- The faults of a check, and the cause of each. Component model, binary format; explainer: names.
 use Rattle.std.specs.Prelude.{ℕ, List}
 use Rattle.comp_bytes.specs.Scopes.{Scoped}
 use Rattle.comp_bytes.specs.declared.def.Def.{Def}
@@ -32,12 +32,12 @@ IsUnread bytes checks.Memory = Unit {0}
 IsUnread bytes (checks.Grammar place) = IsRefusal bytes (reads.Grammar place)
 IsUnread bytes _ = ⊥
 
--- What definitions must keep to be a component's: each index names an earlier item of its space, names are apart in
--- their lists, and those of imports and exports have their form.
+-- The conditions for definitions of a component: each index names an earlier item of its space, names are distinct
+-- in their lists, and those of imports and exports are well formed.
 abbrev pub IsRight : List Def → Type 0
 IsRight ds = Scoped ds × NamesOk ds
 
--- Why definitions are not accepted. Want of memory is always allowed.
+-- Why definitions are not accepted. Out of memory is always allowed.
 abbrev pub IsUnchecked : List Def → CheckFault → Type 0
 IsUnchecked ds checks.Memory = Unit {0}
 IsUnchecked ds (checks.Index definition space index) = IsIndexFault ds definition space index

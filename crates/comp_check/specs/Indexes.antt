@@ -1,5 +1,5 @@
--- What a refused index shows: the definition that names it, and that no item before it has it. It stands beside
--- `Scoped` line by line. Component model, binary format: index spaces.
+-- What a refused index shows: the definition that names it, and that no earlier item has it. It follows `Scoped`
+-- line by line. Component model, binary format: index spaces.
 use Rattle.std.specs.Prelude.{ℕ, ◌≡◌, ◌+◌, ◌≤◌, List, [], ◌∷◌, ◌++◌, length, Option, Some, None, Contains, slice_get, ◌⊎◌}
 use Rattle.std.specs.List.{sum_by}
 use Rattle.comp_bytes.specs.Spaces.{member_space, item_space, space_of}
@@ -13,13 +13,13 @@ use Rattle.comp_bytes.specs.declared.def.Item.TheVariants as items
 use Rattle.comp_bytes.specs.declared.def.Def.{Def}
 use Rattle.comp_bytes.specs.declared.def.Def.TheVariants as defs
 
--- In the scope that is named, where it is there, the space has no item of the index. A scope that isn't there is
--- told as a component, with the number of scopes outward.
+-- In the scope that is named, if it exists, the space has no item of the index. A missing scope is reported
+-- as a component, with the number of scopes outward.
 abbrev pub MissingIn : Option Scope → Reference → Space → ℕ → Type 0
 MissingIn None r space index = (space ≡ spaces.Component) × (index ≡ r.outward)
 MissingIn (Some scope) r space index = (space ≡ r.space) × (index ≡ r.index) × (scope r.space ≤ r.index)
 
--- Scopes stand innermost first.
+-- The innermost scope is first.
 abbrev pub Missing : List Scope → Reference → Space → ℕ → Type 0
 Missing scopes r space index = MissingIn (slice_get scopes r.outward) r space index
 
@@ -29,7 +29,7 @@ pub record ReferenceFault (scopes : List Scope) (references : List Reference) (s
   pub named : Contains references reference
   pub missing : Missing scopes reference space index
 
--- What stands behind these has a fault in the scope that they make, `made` being the space in which each makes an item.
+-- The item after these has a fault in the scope that they make, where `made` is the space in which each makes an item.
 pub record FaultAfter {A : Type 0} (made : A → Option Space) (Fault : Scope → A → Type 0) (all before : List A) : Type 0 where
   pub faulty : A
   pub after : List A
@@ -39,7 +39,7 @@ pub record FaultAfter {A : Type 0} (made : A → Option Space) (Fault : Scope �
 abbrev pub MemberFault : List Scope → Space → ℕ → Scope → Member → Type 0
 MemberFault outer space index scope m = ReferenceFault (scope ∷ outer) (member_references m) space index
 
--- a fault of what stands inside an item, which these scopes are around
+-- a fault of what is nested in an item, in these scopes
 abbrev pub InsideFault : List Scope → Space → ℕ → Item → Type 0
 InsideFault outer space index (items.InstanceType t) = (before : List Member) × FaultAfter member_space (MemberFault outer space index) t.members before
 InsideFault outer space index _ = ⊥
@@ -47,7 +47,7 @@ InsideFault outer space index _ = ⊥
 abbrev pub ItemFault : List Scope → Space → ℕ → Scope → Item → Type 0
 ItemFault outer space index scope i = ReferenceFault (scope ∷ outer) (item_references i) space index ⊎ InsideFault (scope ∷ outer) space index i
 
--- a fault on a line of a definition: the first line is its own, and each item of a nested component has one behind it
+-- a fault on a line of a definition: the first line is its own, and each item of a nested component has one after it
 abbrev pub DefFault : ℕ → Space → ℕ → Scope → Def → Type 0
 DefFault line space index scope (defs.Item i) = (line ≡ 0) × ItemFault [] space index scope i
 DefFault line space index scope (defs.Component inner) =

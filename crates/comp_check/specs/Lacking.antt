@@ -1,4 +1,4 @@
--- What the functions that check references look for: the first item that is missing. Component model, binary format:
+-- The function that the checks of references compute: the first missing item. Component model, binary format:
 -- index spaces.
 use Rattle.std.specs.Prelude.{ℕ, ◌≡◌, ◌+◌, nat_lt, List, [], ◌∷◌, Option, Some, None, Result, Ok, Err, cond, if◌then◌else◌, slice_get, get_or, length, ◌⊎◌}
 use Rattle.comp_bytes.specs.Spaces.{ordinal, is_space, member_space, item_space}
@@ -14,11 +14,11 @@ use Rattle.comp_check.specs.declared.scope.Counts.{Counts}
 use Rattle.comp_check.specs.declared.scope.Lack.{Lack}
 use Rattle.comp_check.specs.Indexes.{FaultAfter, MemberFault, ReferenceFault, InsideFault, ItemFault, DefFault}
 
--- the scope that counters hold
+-- the scope of these counters
 abbrev pub counted : Counts → Scope
 counted c space = get_or c.counts (ordinal space) 0
 
--- a scope with one item more, in the space where one is made
+-- a scope with one item more, in the space in which one is made
 abbrev pub and_made : Scope → Option Space → Scope
 and_made scope made space = scope space + cond (is_space space made) 1 0
 
@@ -30,21 +30,21 @@ abbrev pub or_else : Option Lack → Option Lack → Option Lack
 or_else None other = other
 or_else (Some lack) other = Some lack
 
--- the first that is missing
+-- the first missing item
 unfoldable pub lacking : List Counts → List Reference → Option Lack
 lacking scopes [] = None
 lacking scopes (r ∷ rs) = or_else (lack_in (slice_get scopes r.outward) r) (lacking scopes rs)
 
--- what a function answers that looks for it
+-- the result of a function that looks for it
 abbrev pub Finds : Result (Unit {0}) Lack → Option Lack → Type 0
 Finds (Ok _) found = found ≡ None
 Finds (Err lack) found = found ≡ Some lack
 
--- a fault of members, which these scopes are around
+-- a fault of members, in these scopes
 abbrev pub MembersFault : List Scope → List Member → Lack → Type 0
 MembersFault outer members lack = (before : List Member) × FaultAfter member_space (MemberFault outer lack.space lack.index) members before
 
--- a fault of an item, which these scopes are around
+-- a fault of an item, in these scopes
 abbrev pub AroundFault : List Scope → Item → Space → ℕ → Type 0
 AroundFault scopes item space index = ReferenceFault scopes (item_references item) space index ⊎ InsideFault scopes space index item
 

@@ -28,7 +28,7 @@ fn check_type_and_options(scopes: &Scopes, ty: u32, options: &[CanonicalOption])
     check_each(scopes, options)
 }
 
-/// Whether the items are there that an intrinsic names.
+/// Whether the items that an intrinsic names exist.
 #[tactic(auto, unfolding(crate::specs::Lacking::lacking))]
 pub(crate) fn check_intrinsic(scopes: &Scopes, intrinsic: &Intrinsic) -> Result<(), Lack>
     ensures { Finds result (lacking scopes.now (intrinsic_references intrinsic.now)) }

@@ -1,4 +1,4 @@
-//! Definitions that a component may have.
+//! The check of the definitions of a component.
 
 ghost use Rattle.std.specs.Prelude.{◌≡◌, IfOk, IfErr};
 ghost use Rattle.comp_check.specs.declared.fault.CheckFault.TheVariants as checks;
@@ -10,16 +10,16 @@ use comp_bytes::Defs;
 use comp_names::check_names;
 use std::alloc::Global;
 
-/// Whether these definitions may be a component's: each index names an item that stands before it in its
-/// scope, no name stands twice in its list, and the names of imports and exports have their form.
+/// Whether these definitions may be a component's: each index names an earlier item of its
+/// scope, no name occurs twice in its list, and the names of imports and exports are well formed.
 ///
 /// Component model, binary format: index spaces; explainer: names of imports and exports.
 ///
 /// # Errors
 ///
 /// [`CheckFault::Index`] with an index that names no earlier item, [`CheckFault::NameTwice`] and
-/// [`CheckFault::NameForm`] with a name that is wrong; [`CheckFault::Memory`] where a growth is refused.
-/// Indices are looked at first.
+/// [`CheckFault::NameForm`] with a name that is wrong; [`CheckFault::Memory`] when out of memory.
+/// Indices are checked first.
 pub fn check(alloc: Global, definitions: &Defs) -> Result<(), CheckFault>
     ensures ok { IfOk result (λ _. IsRight definitions.now) }
     ensures cause { IfErr result (λ e. IsUnchecked definitions.now e) }

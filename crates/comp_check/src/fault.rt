@@ -9,7 +9,7 @@ use comp_names::NameFault;
 use comp_read::ReadFault;
 use thiserror::Error;
 
-/// An index that names no item which stands before the definition that names it.
+/// An index that names no item before the definition that names it.
 ///
 /// `definition` is that definition's number, from 0, where a nested component counts one and then one
 /// for each of its items, before what follows it; a member of an instance type counts as the definition
@@ -25,28 +25,28 @@ pub struct IndexFault {
 /// Why a component is not accepted.
 #[derive(Debug, Drop, Error)]
 pub enum CheckFault {
-    /// A growth was refused.
+    /// An allocation failed.
     #[error("C1 Memory")]
     Memory,
-    /// Where the first section begins that cannot be read, of the innermost component: an offset in the
-    /// whole input. It is 0 where the input does not begin as a component does.
+    /// The offset, in bytes in the whole input, of the first section that cannot be read, of the innermost
+    /// component. It is 0 where the input does not begin with the preamble of a component.
     #[error("C2 Grammar place={place}")]
     Grammar {
         place: usize,
     },
-    /// An index names no item that stands before its definition: see [`IndexFault`].
+    /// An index names no earlier item: see [`IndexFault`].
     #[error("C3 Index definition={definition} space={space} index={index}")]
     Index {
         definition: u128,
         space: Space,
         index: u32,
     },
-    /// A name stands twice in a list of names that are to be apart.
+    /// A name occurs twice in a list of names that have to be distinct.
     #[error("C4 NameTwice name={name}")]
     NameTwice {
         name: Text,
     },
-    /// A name of an import or an export has no form of such a name.
+    /// A name of an import or an export is not well formed.
     #[error("C5 NameForm name={name}")]
     NameForm {
         name: Text,

@@ -1,7 +1,7 @@
-//! Whether each index of a component names an item that stands before it.
+//! Whether each index of a component names an earlier item.
 //!
-//! Component model, binary format: index spaces. Each scope counts its items in turn; what is checked
-//! names what was counted before it.
+//! Component model, binary format: index spaces. Each scope counts its items in turn; a reference
+//! has to name an item that was counted before.
 
 ghost use Rattle.std.specs.Prelude.{◌≡◌, ◌∷◌, ◌+◌, ◌<◌, ◌≤◌, ◌^◌, [], List, ℕ, map, length, IfOk, IfErr};
 ghost use Rattle.std.specs.List.{AllByRecursion};
@@ -17,7 +17,7 @@ use crate::scope::{Counts, Lack, Scopes};
 use crate::{items, types};
 use comp_bytes::{Def, Defs, Item, Member};
 
-/// The members of an instance type, which these scopes are around.
+/// The members of an instance type, in these scopes.
 fn check_members(outer: &[Counts], members: &[Member]) -> Result<(), Lack>
     ensures ok { IfOk result (λ _. EachIn member_space (MemberScoped (map counted outer.now)) [] members.now) }
     ensures cause { IfErr result (λ e. MembersFault (map counted outer.now) members.now e) }
@@ -30,7 +30,7 @@ fn check_members(outer: &[Counts], members: &[Member]) -> Result<(), Lack>
     Ok(())
 }
 
-/// The members of an instance type, which these scopes are around: they stand in a scope of their own.
+/// The members of an instance type, in these scopes: they have a scope of their own.
 fn check_instance_type(scopes: &Scopes, inner: &[Member]) -> Result<(), Lack>
     requires { length scopes.now ≤ 2 }
     ensures ok { IfOk result (λ _. EachIn member_space (MemberScoped (map counted scopes.now)) [] inner.now) }
@@ -43,7 +43,7 @@ fn check_instance_type(scopes: &Scopes, inner: &[Member]) -> Result<(), Lack>
     }
 }
 
-/// What stands inside an item, which these scopes are around.
+/// What is nested in an item, in these scopes.
 fn check_inside(scopes: &Scopes, item: &Item) -> Result<(), Lack>
     requires { length scopes.now ≤ 2 }
     ensures ok { IfOk result (λ _. InsideScoped (map counted scopes.now) item.now) }
@@ -66,7 +66,7 @@ fn check_inside(scopes: &Scopes, item: &Item) -> Result<(), Lack>
     }
 }
 
-/// An item, with what stands inside it.
+/// An item, with what is nested in it.
 #[tactic(auto, using(crate::proofs::CheckedPrefix::all_there, crate::proofs::CheckedPrefix::one_missing))]
 fn check_item(scopes: &Scopes, item: &Item) -> Result<(), Lack>
     requires { length scopes.now ≤ 2 }
@@ -78,7 +78,7 @@ fn check_item(scopes: &Scopes, item: &Item) -> Result<(), Lack>
     check_inside(scopes, item)
 }
 
-/// An item on a line, which these scopes are around.
+/// An item on a line, in these scopes.
 fn check_item_on(line: u128, scopes: &Scopes, item: &Item) -> Result<(), IndexFault>
     requires { length scopes.now ≤ 2 }
     ensures named { IfOk result (λ _. AllByRecursion (InScope (map counted scopes.now)) (item_references item.now)) }
@@ -95,7 +95,7 @@ fn check_item_on(line: u128, scopes: &Scopes, item: &Item) -> Result<(), IndexFa
     }
 }
 
-/// The items of a component nested on a line; each has a line behind it.
+/// The items of a component nested on a line; each has a line after that one.
 fn check_component(line: u128, top: &Counts, inner: &[Item]) -> Result<(), IndexFault>
     requires { line + 2 ^ 64 < 2 ^ 128 }
     ensures ok { IfOk result (λ _. EachIn item_space (ItemScoped (counted top.now ∷ [])) [] inner.now) }
@@ -134,7 +134,7 @@ fn lines(def: &Def) -> u128
     }
 }
 
-/// Whether each index names an item that stands before it, in the scope that it is in. It takes no memory.
+/// Whether each index names an earlier item of its scope. It allocates nothing.
 ///
 /// Component model, binary format: index spaces.
 ///

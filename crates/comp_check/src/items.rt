@@ -111,7 +111,7 @@ fn check_export(
     check_optional(scopes, description)
 }
 
-/// Whether the items are there that an item names; what stands in an instance type is not looked at.
+/// Whether the items that an item names exist; the members of an instance type are not checked here.
 #[tactic(auto, unfolding(crate::specs::Lacking::lacking))]
 pub(crate) fn check_named(scopes: &Scopes, item: &Item) -> Result<(), Lack>
     ensures { Finds result (lacking scopes.now (item_references item.now)) }

@@ -1,15 +1,14 @@
-//! Components checked: each index names an item that stands before it, and names are apart and have their
-//! form.
+//! The check of components: each index names an earlier item, and names are distinct and well formed.
 //!
-//! [`check`] takes definitions of `comp_bytes`, and answers yes exactly where they are right (`IsRight` of
-//! `specs/Faults.antt`): each index names an earlier item of its space in the scope that it is in
+//! [`check`] takes definitions of `comp_bytes`, and accepts exactly those that are right (`IsRight` of
+//! `specs/Faults.antt`): each index names an earlier item of its space in its scope
 //! (`Scoped` of `comp_bytes`), and the names are right (`NamesOk` of `comp_names`, which this crate calls).
-//! Else it shows what is wrong, want of memory aside. [`check_indexes`] is the part that looks at indices,
-//! and takes no memory; what a refused index shows is `specs/Indexes.antt`, beside `Scoped` line by line.
-//! [`read_component`] reads definitions from their bytes, with the faults of this crate; what it reads is
-//! the one list that the bytes spell.
+//! Else it reports what is wrong, or that it is out of memory. [`check_indexes`] is the part that checks indices,
+//! and allocates nothing; what a refused index shows is `specs/Indexes.antt`, which follows `Scoped` line by line.
+//! [`read_component`] reads definitions from their bytes, with the faults of this crate; its result is
+//! the one list that the bytes encode.
 //!
-//! A scope is counted by one counter a space, and each reference is looked up as it is met, so a check takes
+//! A scope has one counter for each space, and each reference is looked up once, so a check takes
 //! time linear in the definitions.
 //!
 //! In reading order: `fault` (what is wrong), `scope` (counters, and an index in a scope), `refers` (what

@@ -9,15 +9,15 @@ use crate::fault::CheckFault;
 use comp_bytes::Defs;
 use std::alloc::Global;
 
-/// The definitions of a component, read from its binary format. Reading asks nothing of indices and
+/// The definitions of a component, read from its binary format. Reading does not check indices and
 /// names: [`check`](crate::check) does.
 ///
 /// Component model, binary format: `component`.
 ///
 /// # Errors
 ///
-/// [`CheckFault::Grammar`] with the place of the section that can't be read; [`CheckFault::Memory`] where a
-/// growth is refused.
+/// [`CheckFault::Grammar`] with the offset of the section that can't be read; [`CheckFault::Memory`] when out
+/// of memory.
 pub fn read_component(alloc: Global, bytes: &[u8]) -> Result<Defs, CheckFault>
     ensures ok { IfOk result (λ defs. Encodes bytes.now defs) }
     ensures same { IfOk result (λ defs. (ds : List Def) → Encodes bytes.now ds → ds ≡ defs) }

@@ -1,4 +1,4 @@
-//! What names items by index, one kind of value after the other.
+//! References to items by index, one kind of value after the other.
 
 ghost use Rattle.std.specs.Prelude.{◌≡◌, ◌∷◌, [], List};
 ghost use Rattle.std.specs.List.{flat_map};
@@ -13,16 +13,16 @@ use comp_bytes::{
     Field, Space, space_of_kind,
 };
 
-/// What names items by index.
+/// A value that names items by index.
 pub(crate) trait Refers {
     ghost references: { Self → List Reference };
 
-    /// Whether the items are there that it names.
+    /// Whether the items that it names exist.
     fn check(&self, scopes: &Scopes) -> Result<(), Lack>
         ensures { Finds result (lacking scopes.now (references self.now)) };
 }
 
-/// Whether the items are there that each of these names.
+/// Whether the items that each of these names exist.
 pub(crate) fn check_each<T: Refers>(scopes: &Scopes, items: &[T]) -> Result<(), Lack>
     ensures { Finds result (lacking scopes.now (flat_map T.references items.now)) }
 {

@@ -1,4 +1,4 @@
-//! Scopes: how many items each index space has, and whether an item is there.
+//! Scopes: how many items each index space has, and whether an item exists.
 //!
 //! Component model, binary format: index spaces. A component and an instance type open a scope each.
 
@@ -11,7 +11,7 @@ ghost use Rattle.comp_check.specs.Lacking.{counted, and_made, lack_in, lacking, 
 use comp_bytes::Space;
 use std::marker::Model;
 
-/// How many items each space of a scope has, by its place in the order of spaces.
+/// How many items each space of a scope has, by its index in the order of spaces.
 #[derive(Clone, Copy)]
 pub(crate) struct Counts {
     counts: [usize; 10],
@@ -32,7 +32,7 @@ impl Counts {
         self.counts[space.ordinal()]
     }
 
-    /// Counts the item that is made, where one is.
+    /// Counts the item that is made, if one is.
     pub(crate) fn count(&mut self, made: Option<Space>)
         requires { (space : Space) → counted self.old space + 1 < 2 ^ 64 }
         ensures { counted self.new ≡ and_made (counted self.old) made }
@@ -43,14 +43,14 @@ impl Counts {
     }
 }
 
-/// An item that is missing: a space, and an index in it that no item has.
+/// A missing item: a space, and an index in it that no item has.
 #[derive(Clone, Copy, Debug, PartialEq, Eq)]
 pub(crate) struct Lack {
     pub(crate) space: Space,
     pub(crate) index: u32,
 }
 
-/// The scopes around a definition: its own, and those outward of it, the innermost first.
+/// The scopes around a definition: its own, and the outer ones, the innermost first.
 #[derive(Drop)]
 pub(crate) struct Scopes<'a> {
     own: &'a Counts,
@@ -73,7 +73,7 @@ impl<'a> Scopes<'a> {
         Scopes { own, outer }
     }
 
-    /// The own scope, and those outward of it.
+    /// The own scope, and the outer ones.
     pub(crate) fn parts(&self) -> (&Counts, &[Counts])
         ensures { self.now ≡ result.0.now ∷ result.1.now }
     {

@@ -70,7 +70,7 @@ pub(crate) fn check_alias(scopes: &Scopes, alias: &Alias) -> Result<(), Lack>
     }
 }
 
-/// Whether the items are there that a member of an instance type names.
+/// Whether the items that a member of an instance type names exist.
 pub(crate) fn check_member(scopes: &Scopes, member: &Member) -> Result<(), Lack>
     ensures { Finds result (lacking scopes.now (member_references member.now)) }
 {

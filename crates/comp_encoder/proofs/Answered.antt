@@ -1,4 +1,4 @@
--- What was built of a world is its component.
+-- The bytes that were built for a world are its component.
 use Rattle.std.proofs.Common.{ℕ, Bool, List, subst, IsTrue}
 use Rattle.comp_bytes.specs.Grammar.{Encodes}
 use Rattle.comp_bytes.specs.Scopes.{Scoped}

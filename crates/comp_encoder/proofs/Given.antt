@@ -1,4 +1,4 @@
--- What the definitions so far have put into the store, and what main's imports find among the arguments.
+-- What the definitions so far have added to the store, and what main's imports find among the arguments.
 use Rattle.std.proofs.Common.{◌≡◌, ◌∙◌, ℕ, ◌<◌, true, true≢false, List, [], ◌∷◌, length, map, filter, refl, sym, ap, subst, Option, Some, None, is_some, arith}
 use Rattle.std.proofs.lemmas.List.Sums.{length-filter}
 use Rattle.std.proofs.lemmas.Option.{same_Some}
@@ -49,18 +49,18 @@ makes-space space d e = by (space_of d) e
     by None e = cc
     by (Some t) e = refl
 
--- the item of the argument serves this field
+-- the item of the export satisfies this field
 pub record IsFieldExport (s : Store) (e : Export) (field : List ℕ × Import) : Type 0 where
   pub named : e.name ≡ field.0
   pub space : e.space ≡ spaces.CoreFunc
   pub serves : IsServedAs s e.address (imported_name field.1)
 
--- the argument has what the fields of this module are to be given
+-- the argument has an export for each field of this module, as planned
 pub record IsOffered (s : Store) (a : List ℕ × List Export) (group : List ℕ × ImportInstance) : Type 0 where
   pub named : a.0 ≡ group.0
   pub each : AllZip (IsFieldExport s) a.1 (fields_of group.1)
 
--- an import is of a function
+-- an import role of a function has the kind of a function
 function_import : (s : Store) (address : ℕ) (i : Import) → IsServedAs s address (imported_name i) → import_kind i ≡ kinds.Func
 function_import s address (imports.WorldFunc (keys.Name text) function abi) h = refl
 function_import s address i h = absurd h
@@ -80,14 +80,14 @@ module _ {w : ComponentWorld} {earlier : List Def} {c : Scope} {s : Store} (a : 
       subst (λ ds. AllZip (Means w c.items s) ds (filter (is_of space) c.items)) (in_space-made space)
       (AllZip-filter (Means w c.items s) (λ d. is_space space (space_of d)) (is_of space) (same_space space) (filter makes earlier) c.items a.means)
 
-  -- the item of a definition is there
+  -- the item that a definition made has an address
   pub thing_there : {space : Space} {index : ℕ} {d : Def} → IsAt earlier space index d → (x : ℕ) × (address_at space index c.items ≡ Some x) × DefIs w c.items s d x
   thing_there {space} {index} {d} h =
       let z : (t : Thing) × (slice_get (filter (is_of space) c.items) index ≡ Some t) × Means w c.items s d t =
       AllZip-at (Means w c.items s) (in_space space earlier) (filter (is_of space) c.items) index d (in_space-along space) h.made in
       (z.0.address, ap (option_map (λ (t : Thing). t.address)) z.1, z.2.is)
 
-  -- an index below the count names an item
+  -- an index below the count of its space names an item
   pub address_there : (space : Space) (index : ℕ) → index < items_in space earlier → (x : ℕ) × (address_at space index c.items ≡ Some x)
   address_there space index l =
       let same : length (in_space space earlier) ≡ length (filter (is_of space) c.items) = length-AllZip (Means w c.items s) (in_space space earlier) (filter (is_of space) c.items) (in_space-along space) in
@@ -143,13 +143,13 @@ module _ {w : ComponentWorld} {earlier : List Def} {c : Scope} {s : Store} (a : 
       let same : f.0 ≡ l.2.of = same_Some f.0 l.2.of (sym f.1 ∙ l.2.at) in
       (l.0, l.1, record { core = l.2.of; is = l.2.is; of = subst (λ n. IsMainExport s n h.name) same f.2 })
 
-  -- what the link table names is there
+  -- the core item that the link table names has an address
   item_there : (kind : ExportKind) (index : ℕ) (role : Import) → IsCoreItemFor earlier kind index (link_of w Main role) →
       (kind ≡ kinds.Func) × (x : ℕ) × (address_at spaces.CoreFunc index c.items ≡ Some x) × IsServedAs s x (imported_name role)
   item_there kinds.Func index (imports.WorldFunc (keys.Name text) function abi) h = let l = lowered_there h in (refl, l.0, l.1, l.2)
   item_there kind index role h = absurd h
 
-  -- the entries of a bag, as they were put there
+  -- the entries of an inline instance, as they were put into the store
   fields_there : (es : List CoreInlineExport) (xs : List Export) (fs : List (List ℕ × Import)) → AllZip (IsEntryFor w earlier) es fs → AllZip (IsNamedEntry c.items) es xs → AllZip (IsFieldExport s) xs fs
   fields_there [] [] [] h n = tt
   fields_there (e ∷ es) (x ∷ xs) (f ∷ fs) h n =

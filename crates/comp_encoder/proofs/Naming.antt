@@ -1,5 +1,5 @@
--- The names in a component that was built for a world: those of its imports and exports are the stated ones, and all
--- others differ in their lists.
+-- The names in a component that was built for a world: those of its imports and exports are the stated ones, and
+-- all other names are distinct in their lists.
 use Rattle.std.proofs.Common.{◌≡◌, ℕ, Bool, IsTrue, List, [], ◌∷◌, ◌++◌, refl, sym, ap₂, subst, map, inl, inr, ◌⊎◌}
 use Rattle.std.specs.Prelude.{Contains}
 use Rattle.std.specs.List.{AllByRecursion, AllZip, IsDistinct, flat_map}
@@ -83,7 +83,7 @@ module _ (w : ComponentWorld) where
   def_externs earlier (defs.Item (items.Custom name contents)) h = refl
   def_externs earlier (defs.Component inner) h = absurd h
 
-  -- a name of an import or an export is one of the imports' names, or of the exports'
+  -- a name of an import or an export is one of the stated imports or exports
   pub externs_stated : (earlier ds : List Def) → RightAfter w earlier ds → (name : List ℕ) → Contains (extern_names ds) name →
       Contains (flat_map def_import ds) name ⊎ Contains (flat_map def_export ds) name
   externs_stated earlier [] h name c = inl c
@@ -99,7 +99,7 @@ module _ (w : ComponentWorld) where
         ]
       ]
 
-  -- and each of them is one
+  -- and each stated name is a name of an import or an export
   pub stated_externs : (earlier ds : List Def) → RightAfter w earlier ds → (name : List ℕ) → Contains (flat_map def_import ds) name ⊎ Contains (flat_map def_export ds) name →
       Contains (extern_names ds) name
   stated_externs earlier [] h name (inl c) = c
@@ -125,7 +125,7 @@ never_twice : (name : List ℕ) (list : Names) → IsDistinct bytes_eq list → 
 never_twice name list apart twice = not_distinct name twice.before twice.between twice.after (subst (λ (ns : Names). IsDistinct bytes_eq ns) twice.parts apart)
 
 module _ (w : ComponentWorld) (ds : List Def) (valid : IsWorld w) (built : IsBuilt w ds) (composed : IsComposed w ds) where
-  -- what stands twice in a list of names is one of the stated ones
+  -- a name that occurs twice in a list of names is a stated one
   twice_stated : (name : List ℕ) (list : Names) → Contains (names ds) list → OccursTwice name list → OccursTwice name (stated_imports w) ⊎ OccursTwice name (stated_exports w)
   twice_stated name list there twice =
       let P : Names → Type 0 = λ l. OccursTwice name l → OccursTwice name (stated_imports w) ⊎ OccursTwice name (stated_exports w) in

@@ -1,4 +1,4 @@
--- Refusals of the encoding state as refusals of the encoder.
+-- Refusals of the encoding state, as refusals of the encoder.
 use Rattle.std.proofs.Common.{◌≡◌, subst, sym, Result, Ok, Err}
 use Rattle.std.specs.Prelude.{IfErr}
 use Rattle.std.specs.Result.{IsErrAnd}

@@ -1,4 +1,4 @@
--- A list of right definitions runs, and is linked where it is done.
+-- A list of right definitions runs, and the final state is linked.
 use Rattle.std.proofs.Common.{◌≡◌, ◌∙◌, ℕ, true, List, [], ◌∷◌, ◌++◌, map, filter, refl, sym, ap, subst, append-nil, append_assoc, Some, None, IsSome}
 use Rattle.std.proofs.lemmas.List.{map-append}
 use Rattle.std.proofs.lemmas.Grind.{flat_map-append}
@@ -58,7 +58,7 @@ module _ {w : ComponentWorld} {earlier : List Def} {c : Scope} {s : Store} (a : 
   step ok (defs.Item (items.Custom name contents)) h = step_custom a name contents
   step ok _ h = absurd h
 
--- the questions of a list, in order
+-- the calls of the outside that a list makes, in order, by their result types
 abbrev asked_by : List Def → List (List ValType)
 asked_by ds = flat_map asks ds
 
@@ -73,7 +73,7 @@ resolves w ok earlier (d ∷ ds) c s a h =
     let all : Resolves w (earlier ++ d ∷ []) ds one.0 one.1 = resolves w ok (earlier ++ d ∷ []) ds one.0 one.1 one.3 h.1 in
     (all.0, all.1, λ now. one.2.continues all.0 all.1 (asked_by ds) ds all.2 now, subst (λ l. Agrees w l all.0 all.1) (append_assoc earlier (d ∷ []) ds) all.3)
 
--- the answers of a run to the end
+-- such a list has one entry for each instantiation
 asked-each : (ds : List Def) → asked_by ds ≡ map (λ (n : ℕ). []) (flat_map def_instantiates ds)
 asked-each [] = refl
 asked-each (d ∷ ds) = rw (asked-each ds) (sym (map-append (λ (n : ℕ). []) (def_instantiates d) (flat_map def_instantiates ds)))
@@ -198,7 +198,7 @@ module _ (w : ComponentWorld) (ds : List Def) (built : IsBuilt w ds) where
       read_marks def_export export_mark export_is
       ∙ rw (none_of export_mark ImportNamed (λ t. refl) (used_functions w), all_of export_mark (λ key. ExportNamed (name_of_key key)) name_of_key (λ key. refl) w.main_exports) refl
 
-  -- what was built is composed of what the world says
+  -- what was built is composed as the world says
   pub composed : IsComposed w ds
   composed = record {
     generated = [];
@@ -238,11 +238,11 @@ main_export w s address name h = record {
   };
 }
 
--- an export by its parts
+-- an export is equal to the record of its parts
 by_parts : (e : Export) (space : Space) (name : List ℕ) → e.space ≡ space → e.name ≡ name → e ≡ record { space = space; name = name; address = e.address }
 by_parts e space name same_space same_name = rw (← same_space, ← same_name) refl
 
--- a key that a core export stands for is a name
+-- a key that has a core export is a name
 named_key : (w : ComponentWorld) (key : WorldKey) → IsSome (core_name_of w key) → key ≡ keys.Name (name_of_key key)
 named_key w (keys.Name text) h = refl
 named_key w (keys.Interface id) h = cc
@@ -269,7 +269,7 @@ module _ (w : ComponentWorld) (m : Machine) (names : map (λ (e : Export). e.nam
   provided_each [] r h = tt
   provided_each (key ∷ required) r h = (let one = r.0 in provided key one.present h.0, provided_each required r.1 h.1)
 
--- what a run leads to is linked
+-- the end of a run is linked
 linked_at_end : (w : ComponentWorld) (ds : List Def) (m : Machine) → IsWorld w → IsBuilt w ds → Agrees w ds m.scope m.store → IsLinked w m
 linked_at_end w ds m ok built a = record {
   instances = a.instances ∙ root_instances w ds built;
@@ -293,7 +293,7 @@ module _ (e : Scope) (t : Store) (questions : List (List ValType)) (answers : Li
   done_with : (o : Outcome) (m : Machine) → IsGood e t questions answers o → o ≡ Done m → (m.scope ≡ e) × (m.store ≡ t)
   done_with o m h same = subst (IsGood e t questions answers) same h
 
--- what was built links, whatever the outside answers
+-- what was built links, whatever the outside returns
 pub links : (w : ComponentWorld) (ds : List Def) → IsWorld w → IsBuilt w ds → Links w ds
 links w ds ok built =
     let all : Resolves w [] ds (fresh_machine []).scope (fresh_machine []).store = resolves w ok [] ds (fresh_machine []).scope (fresh_machine []).store (start w) built.right in

@@ -56,26 +56,26 @@ use Rattle.comp_encoder.proofs.Zips.{all_some-self, found-each, found-listed, sl
 use Rattle.comp_encoder.proofs.Stores.{IsUserExport, IsUserInstance, IsNamedEntry, Means, makes, IsPlanned, IsPlannedUser, IsLiftedFrom, IsLiftedExport, IsPlainFunction, NumberedFrom, Agrees, Keeps, address_at-append, Means-kept, IsPlannedUser-kept, IsLiftedExport-kept}
 use Rattle.comp_encoder.proofs.Given.{IsOffered, address_there, function_there, main_there, lift_there, thing_there, arguments_there, given_there}
 
--- the machine of a scope, a store, and what changes
+-- the machine of a scope, a store, and the changing state
 abbrev pub machine : Scope → Store → Now → Machine
 machine c s now = record { scope = c; store = s; now = now }
 
--- with nothing seen yet, and no answer to come
+-- no event so far, and no answer left
 abbrev pub no_answers : Now
 no_answers = record { globals = []; answers = []; events = []; moments = [] }
 
--- a run ends with this scope and this store, or by an answer that doesn't let it
+-- a run ends with this scope and this store, or with an answer that doesn't let it go to its end
 abbrev pub IsGood : Scope → Store → List (List ValType) → List Answer → Outcome → Type 0
 IsGood c s questions answers (Done m) = (m.scope ≡ c) × (m.store ≡ s)
 IsGood c s questions answers (Trapped m) = LetsRun questions answers → ⊥
 IsGood c s questions answers (Open m) = LetsRun questions answers → ⊥
 IsGood c s questions answers Stuck = ⊥
 
--- what a definition asks the outside for
+-- the calls of the outside that a definition makes, by their result types
 abbrev pub asks : Def → List (List ValType)
 asks d = map (λ n. []) (def_instantiates d)
 
--- one question more
+-- one call more
 one_more : (c : Scope) (s : Store) (questions : List (List ValType)) (cell : ℕ) (answers : List Answer) (o : Outcome) → IsGood c s questions answers o → IsGood c s ([] ∷ questions) (Gives [] cell ∷ answers) o
 one_more c s questions cell answers (Done m) h = h
 one_more c s questions cell answers (Trapped m) h = λ l. h l.1
@@ -93,7 +93,7 @@ good_answered c s questions (Gives (v ∷ values) number ∷ answers) now m next
     no : IsTrue false → ⊥
     no e = cc
 
--- a definition runs, and then the rest does from this scope and this store
+-- a definition runs, and the rest is run from this scope and this store
 pub record Runs (w : ComponentWorld) (d : Def) (c : Scope) (s : Store) (c' : Scope) (s' : Store) : Type 0 where
   pub continues : (e : Scope) (t : Store) (questions : List (List ValType)) (rest : List Def) → ((now : Now) → IsGood e t questions now.answers (run (module_meanings w) rest (machine c' s' now))) →
       (now : Now) → IsGood e t (asks d ++ questions) now.answers (run (module_meanings w) (d ∷ rest) (machine c s now))
@@ -111,7 +111,7 @@ made-push earlier d space e = filter-push makes true earlier d (ap is_some e)
 flat-push : {X A : Type 0} (f : X → List A) (xs : List X) (x : X) → flat_map f (xs ++ x ∷ []) ≡ flat_map f xs ++ f x
 flat-push f xs x = rw (flat_map-append f xs (x ∷ [])) (ap (λ l. flat_map f xs ++ l) (append-nil (f x)))
 
--- one item more of a scope
+-- a scope with one item more
 abbrev pub with_thing : Scope → Thing → Scope
 with_thing c t = record c { items = c.items ++ t ∷ [] }
 
@@ -119,7 +119,7 @@ numbered-push : (k : ℕ) (ts : List Thing) (n : ℕ) (t : Thing) → NumberedFr
 numbered-push k [] n t h e = (e ∙ sym h, ap suc h)
 numbered-push k (x ∷ ts) n t h e = (h.0, numbered-push (suc k) ts n t h.1 e)
 
--- an opaque function stands where it was put, and is what is known of it
+-- an opaque function is at the address at which it was added, and its known item is the one given
 opaque_there : (item : CoreItem) (signature : FuncType) (s : Store) → IsOpaque (with_opaque item signature s) (length s.code.functions) item
 opaque_there item signature s =
     record { what = length s.known; signature = signature; present = slice_get-end s.code.functions (Opaque (length s.known) signature); known = slice_get-end s.known item }
@@ -128,7 +128,7 @@ opaque_there item signature s =
 plain_lowered : (m : Machine) (x : ℕ) → IsPlainFunction m.store x → lowered_signature m x [] ≡ Some (function_type [] [])
 plain_lowered m x h = ap (option_and_then (λ f. core_signature (type_of_function f) [])) h.present ∙ ap (λ t. core_signature t []) h.plain
 
--- what main exports: functions, by the places of what is known of them, and by their addresses
+-- what main exports: functions, by the indexes of their known items, and by their addresses
 abbrev opaques : ℕ → List (List ℕ × WorldExport) → List Func
 opaques k [] = []
 opaques k (e ∷ es) = Opaque k (function_type [] []) ∷ opaques (suc k) es
@@ -176,7 +176,7 @@ exported_at w user ((name, exports.WorldFunc (keys.Name text) function abi) ∷ 
     ∙ ap (λ n. exports_from n es) (longer s.code.functions (Opaque (length s.known) (function_type [] [])))))
 exported_at w user ((name, role) ∷ es) roles c s now = absurd roles.0
 
--- what a user instance exports stands at the addresses that it was given
+-- the exports of a user instance are at the addresses that it was given
 user_exports : (s : Store) (user : ℕ) (fs : List Func) (ks : List CoreItem) (es : List (List ℕ × WorldExport)) → s.code.functions ≡ fs ++ opaques (length ks) es → s.known ≡ ks ++ of_user user es →
     AllByRecursion (IsUserExport s user) (exports_from (length fs) es)
 user_exports s user fs ks [] functions known = tt
@@ -200,7 +200,7 @@ or_true : (b c : Bool) → c ≡ true → (b || c) ≡ true
 or_true true c e = refl
 or_true false c e = e
 
--- what is found among the root functions is an export
+-- a root function that is found among the root exports is an export
 root_named : (text name : List ℕ) (es : List (List ℕ × WorldExport)) → found text (flat_map root_export es) ≡ Some name → list_any (bytes_eq name) (map (λ e. e.0) es) ≡ true
 root_named text name [] h = cc
 root_named text name ((n, exports.WorldFunc (keys.Name t) function abi) ∷ es) h = by (bytes_eq text t) h (root_named text name es)
@@ -215,12 +215,12 @@ core_named : (w : ComponentWorld) (key : WorldKey) (name : List ℕ) → core_na
 core_named w (keys.Name text) name h = root_named text name w.main.exports.exports h
 core_named w (keys.Interface id) name h = cc
 
--- what is lifted for a key is lifted for its name
+-- the lift of a key is the lift of its name
 said_by_name : (w : ComponentWorld) (key : WorldKey) (target : Target) → lift_of w Main key ≡ Some target → lift_of w Main (keys.Name (name_of_key key)) ≡ Some target
 said_by_name w (keys.Name text) target h = h
 said_by_name w (keys.Interface id) target h = cc
 
--- the fields of each module differ
+-- the fields of each module have distinct names
 fields_apart : (w : ComponentWorld) (gs : List (List ℕ × ImportInstance)) → AllByRecursion (IsImportGroup w) gs → AllByRecursion (λ g. IsDistinct bytes_eq (map (λ f. f.0) (fields_of g.1))) gs
 fields_apart w [] h = tt
 fields_apart w ((name, instances.Names fields) ∷ gs) h = (h.0.0, fields_apart w gs h.1)
@@ -231,7 +231,7 @@ export_names k [] = refl
 export_names k (e ∷ es) = ap (λ l. e.0 ∷ l) (export_names (suc k) es)
 
 module _ {w : ComponentWorld} {earlier : List Def} {c : Scope} {s : Store} (a : Agrees w earlier c s) where
-  -- a definition that makes an item
+  -- the step of a definition that makes an item
   agrees_with : (d : Def) (c' : Scope) (s' : Store) (t : Thing) → c'.items ≡ c.items ++ t ∷ [] → Keeps c.items c'.items s s' → Means w c'.items s' d t →
       NumberedFrom 0 (filter (is_of spaces.CoreModule) c'.items) (length s'.core_modules) → map (λ (u : UserInstance). u.module_number) s'.users ≡ map (λ (u : UserInstance). u.module_number) s.users ++ def_instantiates d →
       AllByRecursion (IsPlannedUser w s') s'.users → map (λ (e : Export). e.name) c'.exports ≡ map (λ (e : Export). e.name) c.exports ++ def_export d → AllByRecursion (IsLiftedExport w s') c'.exports →
@@ -248,7 +248,7 @@ module _ {w : ComponentWorld} {earlier : List Def} {c : Scope} {s : Store} (a : 
         lifted = lifted;
       }
 
-  -- one that is no module, no instantiation and no export
+  -- the step of a definition that is no module, no instantiation and no export
   agrees_plain : (d : Def) (s' : Store) (t : Thing) → Keeps c.items (c.items ++ t ∷ []) s s' → Means w (c.items ++ t ∷ []) s' d t → is_of spaces.CoreModule t ≡ false →
       s'.core_modules ≡ s.core_modules → s'.users ≡ s.users → def_instantiates d ≡ [] → def_export d ≡ [] → Agrees w (earlier ++ d ∷ []) (with_thing c t) s'
   agrees_plain d s' t keeps means other modules users none no_export =
@@ -278,7 +278,7 @@ module _ {w : ComponentWorld} {earlier : List Def} {c : Scope} {s : Store} (a : 
         agrees_plain (defs.Item (items.Type (types.Func plain_function))) s' t k (record { space = refl; is = slice_get-end s.types (FunctionType plain_function) }) refl refl refl refl refl,
       )
 
-  -- the type of this index is one of functions
+  -- the type of this index is a function type
   type_there : {index : ℕ} → IsFunctionType earlier index → (x : ℕ) × (address_at spaces.Type index c.items ≡ Some x) × (slice_get s.types x ≡ Some (FunctionType plain_function))
   type_there h = thing_there a h.made
 

@@ -1,4 +1,4 @@
--- What the items of a run are, beside the definitions that made them.
+-- What the items of a run are, next to the definitions that made them.
 use Rattle.std.proofs.Common.{Option, None, ◌≡◌, ℕ, suc, Bool, List, [], ◌∷◌, ◌++◌, length, map, filter, ap, Some, is_some}
 use Rattle.std.proofs.lemmas.List.Elements.{filter-append}
 use Rattle.std.specs.List.{slice_get, flat_map, AllZip, AllByRecursion}
@@ -35,7 +35,7 @@ use Rattle.comp_encoder.proofs.Zips.{mapped_some}
 abbrev pub IsUserExport : Store → ℕ → Export → Type 0
 IsUserExport s user e = (e.space ≡ spaces.CoreFunc) × IsOpaque s e.address (OfUser user e.name)
 
--- the user instance of this number is one of this module
+-- the user instance of this number is an instance of this module
 pub record IsInstanceOf (s : Store) (user number : ℕ) : Type 0 where
   pub instance : UserInstance
   pub present : slice_get s.users user ≡ Some instance
@@ -86,7 +86,7 @@ pub record IsPlainFunction (s : Store) (address : ℕ) : Type 0 where
   pub present : slice_get s.functions address ≡ Some function
   pub plain : type_of_function function ≡ plain_function
 
--- what stands at the address of a definition's item
+-- what is at the address of a definition's item
 abbrev pub ItemIs : ComponentWorld → List Thing → Store → Item → ℕ → Type 0
 ItemIs w things s (items.CoreModule bytes) a = Unit {0}
 ItemIs w things s (items.CoreInstantiate number arguments) a = IsUserInstance w s 0 a
@@ -108,7 +108,7 @@ pub record Means (w : ComponentWorld) (things : List Thing) (s : Store) (d : Def
   pub space : space_of d ≡ Some t.space
   pub is : DefIs w things s d t.address
 
--- what makes an item
+-- whether a definition makes an item
 abbrev pub makes : Def → Bool
 makes d = is_some (space_of d)
 
@@ -141,14 +141,14 @@ pub record IsLiftedFrom (s : Store) (address : ℕ) (name : List ℕ) : Type 0 w
   pub is : slice_get s.functions address ≡ Some (Lifting core [] plain_function)
   pub of : IsMainExport s core name
 
--- the export is a lift of the core export that is for it
+-- the export is a lift of the core export that has its role
 pub record IsLiftedExport (w : ComponentWorld) (s : Store) (e : Export) : Type 0 where
   pub name : List ℕ
   pub space : e.space ≡ spaces.Func
   pub said : option_map (λ name. Lifted (record { of = Main; name = name }) []) (core_name_of w (keys.Name e.name)) ≡ Some (Lifted (record { of = Main; name = name }) [])
   pub is : IsLiftedFrom s e.address name
 
--- addresses from a number on, as many as are left to another
+-- the items of this kind have consecutive addresses from this number on
 abbrev pub NumberedFrom : ℕ → List Thing → ℕ → Type 0
 NumberedFrom k [] n = k ≡ n
 NumberedFrom k (t ∷ ts) n = (t.address ≡ k) × NumberedFrom (suc k) ts n
@@ -162,7 +162,7 @@ pub record Agrees (w : ComponentWorld) (earlier : List Def) (c : Scope) (s : Sto
   pub exports : map (λ (e : Export). e.name) c.exports ≡ flat_map def_export earlier
   pub lifted : AllByRecursion (IsLiftedExport w s) c.exports
 
--- what stood stands
+-- every entry of the old scope and store is unchanged in the new ones
 pub record Keeps (a b : List Thing) (s t : Store) : Type 0 where
   pub things : (space : Space) (i x : ℕ) → address_at space i a ≡ Some x → address_at space i b ≡ Some x
   pub code : (i : ℕ) (x : Func) → slice_get s.code.functions i ≡ Some x → slice_get t.code.functions i ≡ Some x

@@ -89,7 +89,7 @@ root_world bytes imported exported groups core_exports = whole_of (record {
   can_use_context_slot_1 = false;
 })
 
--- how a run ended: the core functions, what is known of them, the functions, what each user instance was given, the exports, the events
+-- how a run ended: the core functions, their known items, the functions, what each user instance was given, the exports, the events
 pub record Ended : Type 0 where
   pub code : List Func
   pub known : List CoreItem
@@ -102,7 +102,7 @@ abbrev ended : Outcome → Option Ended
 ended (Done m) = Some (record { code = m.store.code.functions; known = m.store.known; functions = m.store.functions; users = m.store.users; exported = m.scope.exports; events = m.now.events })
 ended _ = None
 
--- opaque functions of the plain core type, by the places of what is known of them
+-- opaque functions of the plain core type, by the indexes of their known items
 abbrev plain_type : FuncType
 plain_type = function_type [] []
 
@@ -137,7 +137,7 @@ abbrev then_calls : ℕ → Outcome → Outcome
 then_calls function (Done m) = resumed (acts m.store.code function [] m.now) m (λ results after. Done after)
 then_calls function o = o
 
--- where the outside traps, has no answer left, or answers with a value, the run isn't done
+-- where the outside traps, has no answer left, or returns a value, the run isn't done
 abbrev is_trapped : Outcome → Option ℕ
 is_trapped (Trapped m) = Some 0
 is_trapped (Open m) = Some 1
@@ -153,7 +153,7 @@ one_each_open = refl
 pub one_each_of_wrong_types : is_trapped (outcome one_each one_import_one_export (Gives (I32Value 0 ∷ []) 0 ∷ [])) ≡ Some 1
 one_each_of_wrong_types = refl
 
--- once it is done, a call of what main's import was given is seen, and nothing else
+-- after the run, a call of what main's import was given is the only event
 pub one_each_called : ended (then_calls 0 (outcome one_each one_import_one_export (Gives [] 0 ∷ Gives [] 0 ∷ []))) ≡ Some (record {
   code = opaque_from 0 2;
   known = Lowering 0 [] ∷ OfUser 0 g ∷ [];
@@ -254,7 +254,7 @@ pub two_twice_ends : ended (outcome two_twice (two_twice_defs 0 1) made) ≡ Som
 })
 two_twice_ends = refl
 
--- a user instance with exports of each kind: each item stands at an address of its own, behind one that was there
+-- a user instance with exports of each kind: each item has an address of its own, after one that was added before
 abbrev export_of_type : List ℕ → ExternType → ExportType
 export_of_type name type = record { name = name; type = type }
 
@@ -308,7 +308,7 @@ abbrev what_of : Func → ℕ
 what_of (Opaque what signature) = what
 what_of _ = 0
 
--- a lowering of h is none of f
+-- a lowering of h is not one of f
 another_function : (s : Store) → slice_get s.code.functions 0 ≡ Some (Opaque 0 plain_type) → slice_get s.known 0 ≡ Some (Lowering 1 []) → slice_get s.functions 1 ≡ Some (Imported (h ∷ []) plain_function) →
     CoreFunctionMeets two_twice s 0 (Lowered (OfRoot f) []) → ⊥
 another_function s code known functions m =
@@ -318,7 +318,7 @@ another_function s code known functions m =
     let path : Imported (h ∷ []) plain_function ≡ Imported (f ∷ []) meets.0.type = same_Some (Imported (h ∷ []) plain_function) (Imported (f ∷ []) meets.0.type) (sym functions ∙ meets.0.is) in
     absurd (true≢false (ap is_h path))
 
--- where the two are crossed, the run ends, but it isn't linked
+-- where the two are swapped, the run ends, but it isn't linked
 pub crossed_is_not_linked : linked_if_done two_twice (machine_of (outcome two_twice (two_twice_defs 1 0) made)) → ⊥
 crossed_is_not_linked l = another_function _ refl refl refl l.imports.0.0
 

@@ -1,4 +1,4 @@
--- Lists that go along with each other, and look-ups in them.
+-- Lists that are related elementwise, and look-ups in them.
 use Rattle.std.proofs.Common.{◌≡◌, ◌∙◌, ℕ, zero, suc, Bool, true, false, true≢false, List, [], ◌∷◌, ◌++◌, length, map, filter, refl, sym, ap, subst, Option, Some, None, cond, if◌then◌else◌, ◌||◌, append_assoc}
 use Rattle.std.proofs.lemmas.Option.{same_Some, none-some}
 use Rattle.std.proofs.lemmas.Bool.{false_from_ne_true}
@@ -10,7 +10,7 @@ use Rattle.std.specs.Option.{option_map}
 use Rattle.comp_lists.specs.Found.{found}
 use Rattle.comp_encoder.specs.Machine.{all_some}
 
--- tests that agree on both lists keep what goes along
+-- tests that agree on both lists keep the relation
 pub AllZip-filter : {A B : Type 0} (R : A → B → Type 0) (p : A → Bool) (q : B → Bool) → ((x : A) (y : B) → R x y → p x ≡ q y) → (xs : List A) (ys : List B) → AllZip R xs ys →
     AllZip R (filter p xs) (filter q ys)
 AllZip-filter R p q same [] [] h = tt
@@ -24,7 +24,7 @@ AllZip-filter {A} {B} R p q same (x ∷ xs) (y ∷ ys) h = by (AllZip-filter R p
     by rest true false e = absurd (true≢false e)
     by rest false true e = absurd (true≢false (sym e))
 
--- what passes one test and another passes the other
+-- filtering by a test, and by one that it implies, is filtering by the first
 pub filter-both : {A : Type 0} (p q : A → Bool) → ((x : A) → p x ≡ true → q x ≡ true) → (xs : List A) → filter p (filter q xs) ≡ filter p xs
 filter-both p q within [] = refl
 filter-both p q within (x ∷ xs) = by (filter-both p q within xs) (p x) refl (q x) refl
@@ -62,7 +62,7 @@ pub map-map : {A B C : Type 0} (f : B → C) (g : A → B) (xs : List A) → map
 map-map f g [] = refl
 map-map f g (x ∷ xs) = ap (λ l. f (g x) ∷ l) (map-map f g xs)
 
--- where each is there, all are, and each goes along with its own
+-- where each is found, all are, and each is related to its own
 pub all_some-each : {A B C : Type 0} (R : C → B → Type 0) (f : A → Option C) (g : B → A) (xs : List B) →
     AllByRecursion (λ x. (y : C) × (f (g x) ≡ Some y) × R y x) xs → (ys : List C) × (all_some (map f (map g xs)) ≡ Some ys) × AllZip R ys xs
 all_some-each R f g [] h = ([], refl, tt)
@@ -92,7 +92,7 @@ apart : (k l : List ℕ) → bytes_eq k l ≡ false → bytes_eq l k ≡ false
 apart k l e = false_from_ne_true (bytes_eq l k) (λ t. let same : l ≡ k = (bytes_eq-Decides l k).0 t in let yes : bytes_eq k l ≡ true = (bytes_eq-Decides k l).1 (sym same) in cc)
 
 module _ {X Y : Type 0} (key : Y → List ℕ) (R : List ℕ × X → Y → Type 0) where
-  -- what an entry finds
+  -- what the look-up of an entry finds
   abbrev pub FindsIn : List (List ℕ × X) → Y → Type 0
   FindsIn table y = (e : List ℕ × X) × (found (key y) table ≡ Some e.1) × R e y
 
@@ -101,7 +101,7 @@ module _ {X Y : Type 0} (key : Y → List ℕ) (R : List ℕ × X → Y → Type
   not_first k e table named [] d h = tt
   not_first k e table named (y ∷ ys) d h = ((h.0.0, rw (named, apart k (key y) d.0) h.0.1, h.0.2), not_first k e table named ys d.1 h.1)
 
-  -- where keys are distinct, each finds the entry that goes along with it
+  -- where keys are distinct, each look-up finds the related entry
   pub found-along : ((e : List ℕ × X) (y : Y) → R e y → e.0 ≡ key y) → (es : List (List ℕ × X)) (ys : List Y) → AllZip R es ys → IsDistinct bytes_eq (map key ys) →
       AllByRecursion (FindsIn es) ys
   found-along named [] [] h d = tt
@@ -114,7 +114,7 @@ module _ {X Y : Type 0} (key : Y → List ℕ) (R : List ℕ × X → Y → Type
   found-along named (e ∷ es) [] h d = absurd h
 
 module _ {E : Type 0} (name_of : E → List ℕ) where
-  -- what is found has its name, and what holds of each
+  -- an entry that is found has its name, and the property that each has
   pub found-each : (P : E → Type 0) (name : List ℕ) (es : List E) (e : E) → AllByRecursion P es → found name (map (λ e. (name_of e, e)) es) ≡ Some e → (name_of e ≡ name) × P e
   found-each P name [] e h f = absurd (none-some e f)
   found-each P name (x ∷ es) e h f = by (λ g. found-each P name es e h.1 g) (bytes_eq name (name_of x)) refl f
@@ -123,7 +123,7 @@ module _ {E : Type 0} (name_of : E → List ℕ) where
       by rest true t g = let same : x ≡ e = same_Some x e g in (sym (ap name_of same) ∙ sym ((bytes_eq-Decides name (name_of x)).0 t), subst P same h.0)
       by rest false t g = rest g
 
-  -- a name that one has is found
+  -- a name that an entry has is found
   pub found-listed : (name : List ℕ) (es : List E) → list_any (bytes_eq name) (map name_of es) ≡ true → (e : E) × (found name (map (λ e. (name_of e, e)) es) ≡ Some e)
   found-listed name [] h = cc
   found-listed name (x ∷ es) h = by (λ k. found-listed name es k) (bytes_eq name (name_of x)) h
@@ -154,7 +154,7 @@ pub AllByRecursion-join : {X : Type 0} (P : X → Type 0) (xs ys : List X) → A
 AllByRecursion-join P [] ys h k = k
 AllByRecursion-join P (x ∷ xs) ys h k = (h.0, AllByRecursion-join P xs ys h.1 k)
 
--- what is read off marks is what is read off the list, where each element has the mark that says it
+-- what is read from the landmarks is what is read from the list, where each element has its landmark
 pub flat_map-marked : {X M A : Type 0} (f : X → List A) (mark : X → Option M) (g : M → List A) → ((x : X) → f x ≡ flat_map g (filter_map mark (x ∷ []))) → (xs : List X) → flat_map f xs ≡ flat_map g (filter_map mark xs)
 flat_map-marked f mark g same [] = refl
 flat_map-marked {X} {M} {A} f mark g same (x ∷ xs) = by (flat_map-marked f mark g same xs) (mark x) (same x)

@@ -1,4 +1,4 @@
--- What the bytes that `encode` answers are (component model, binary format; explainer: component definitions).
+-- What the bytes that `encode` returns are (component model, binary format; explainer: component definitions).
 use Rattle.std.specs.Prelude.{ℕ, Bool, List, IsTrue}
 use Rattle.comp_bytes.specs.Grammar.{Encodes}
 use Rattle.comp_bytes.specs.Scopes.{Scoped}
@@ -9,9 +9,9 @@ use Rattle.comp_worlds.specs.declared.lower.Lower as lower
 use Rattle.comp_encoder.specs.Encoder.{Encoder}
 use Rattle.comp_encoder.specs.Linking.{IsComposed, Links}
 
--- These bytes are the component of a validated world: they spell a list of definitions, in which each
--- index names an earlier item, which is composed of what the world says, and which links when it is run. Where
--- `validate` is on, no name in it stands twice in its list, and those of imports and exports have their form.
+-- These bytes are the component of a validated world: they encode a list of definitions, in which each index
+-- names an earlier item, which is composed as the world says, and which links when it is run. Where `validate` is
+-- on, no name occurs twice in its list, and names of imports and exports are well formed.
 pub record IsComponentOf (w : ComponentWorld) (validate : Bool) (bytes : List ℕ) : Type 0 where
   pub defs : List Def
   pub encodes : Encodes bytes defs
@@ -21,6 +21,6 @@ pub record IsComponentOf (w : ComponentWorld) (validate : Bool) (bytes : List �
   pub named : IsTrue validate → NamesOk defs
 
 module _ {L B F : Type 0} (l : lower.Ghosts L B F) where
-  -- these bytes are the component of the world that the lower layer prepares of what was gathered
+  -- these bytes are the component of the world that the lower layer prepares from what was gathered
   abbrev pub IsEncoding : Encoder L B → List ℕ → Type 0
   IsEncoding e bytes = IsComponentOf (l.prepared e.lower e.gathered) e.gathered.options.validate bytes

@@ -1,5 +1,5 @@
--- What an encoder holds, how it begins, and what an accepted module makes of it. The rules are this
--- project's own: the component model's standard speaks of components, not of how they are made.
+-- What an encoder holds, its initial state, and its state after an accepted module. The rules are this project's
+-- own: the component model's standard defines components, and not how they are made.
 use Rattle.std.specs.Prelude.{Bool, ◌≡◌, ℕ, List, [], ◌++◌, Option, Some, None, true, false}
 use Rattle.comp_worlds.specs.declared.gathered.Gathered.{Gathered}
 use Rattle.comp_worlds.specs.declared.gathered.Part.{Part}
@@ -14,7 +14,7 @@ pub record Encoder (L B : Type 0) : Type 0 where
   pub lower : L
   pub gathered : Gathered B
 
--- the options of an encoder that was told of none
+-- the options of an encoder for which none was set
 abbrev pub default_options : EncoderOptions
 default_options = record {
   validate = false;
@@ -37,12 +37,12 @@ required_of None = []
 required_of (Some part) = part.required
 
 module _ {L B F : Type 0} (l : lower.Ghosts L B F) where
-  -- an encoder that was given nothing
+  -- an encoder without a module
   abbrev pub fresh : L → Encoder L B
   fresh layer = record { lower = layer; gathered = record { main = None; adapters = []; combined = l.empty_is layer; options = default_options } }
 
-  -- What an accepted module leaves: it is main, its keys are required beside those of the modules
-  -- that were accepted before it, and what it says is joined to what they said.
+  -- The state after an accepted module: it is main, its keys are required together with those of the modules that
+  -- were accepted before it, and its metadata is merged with theirs.
   abbrev pub after_module : Encoder L B → List ℕ → Encoder L B
   after_module e bytes =
       let decoded : List ℕ × B = l.decoded e.lower bytes in
@@ -62,7 +62,7 @@ module _ {L B F : Type 0} (l : lower.Ghosts L B F) where
   abbrev pub merging_versions : Encoder L B → Bool → Encoder L B
   merging_versions e on = record e { gathered = record e.gathered { options = record e.gathered.options { merge_imports_based_on_semver = on } } }
 
-  -- the encoder with the refusal of names in an older mangling on or off
+  -- the encoder with the rejection of names in an older mangling on or off
   abbrev pub rejecting_legacy_names : Encoder L B → Bool → Encoder L B
   rejecting_legacy_names e on = record e { gathered = record e.gathered { options = record e.gathered.options { reject_legacy_names = on } } }
 

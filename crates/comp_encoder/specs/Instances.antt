@@ -52,7 +52,7 @@ of_kind kind e = if export_in (kind_space kind) e then Some (record { space = e.
 abbrev pub given_to : Arguments → ImportType → Option Thing
 given_to arguments i = option_and_then (of_kind i.kind) (option_and_then (export_named i.field) (found i.module_name arguments))
 
--- the space of an item of a type, and the address of the next one
+-- the index space of an item of a type, and the address of the next one
 abbrev pub type_space : ExternType → Space
 type_space (externs.Func type) = spaces.CoreFunc
 type_space (externs.Table type) = spaces.CoreTable
@@ -65,7 +65,7 @@ next_address (externs.Table type) m = length m.store.code.tables
 next_address (externs.Memory type) m = length m.store.code.memories
 next_address (externs.Global type) m = length m.now.globals
 
--- One export of a user instance more. What a user's table holds is not modelled: no generated code calls through it.
+-- One more export of a user instance. What a user's table holds is not modelled: no generated code calls through it.
 abbrev pub with_export : CoreItem → ExternType → Machine → Machine
 with_export item (externs.Func type) m = record m { store = with_opaque item type m.store }
 with_export item (externs.Table type) m =
@@ -77,7 +77,7 @@ with_export item (externs.Global type) m =
       now = record m.now { globals = m.now.globals ++ Foreign (length m.store.known) type.val_type ∷ [] };
     }
 
--- what a user instance exports, each at an address of its own, and the machine with it
+-- the exports of a user instance, each at an address of its own, and the machine with them
 abbrev pub exported_by : ℕ → List ExportType → Machine → List Export
 exported_by user [] m = []
 exported_by user (e ∷ es) m =
@@ -96,7 +96,7 @@ new_user number exports given m =
     let user = length m.store.users in
     new_core_instance (exported_by user exports m) (with_user number given (with_exports user exports m))
 
--- a user module is instantiated by the outside, which answers with no value
+-- a user module is instantiated by the outside, which returns no value
 abbrev pub instantiate_module : ModuleMeaning → ℕ → Arguments → Machine → Next → Outcome
 instantiate_module (OfType imports exports) number arguments m next =
     with_some (all_some (map (given_to arguments) imports))
@@ -132,14 +132,14 @@ abbrev pub held_function : Machine → FuncTypeDef → Option FuncTypeDef
 held_function m f =
     option_and_then (λ params. option_map (λ result. record { async_ = f.async_; params = params; result = result }) (held_result m f.result)) (all_some (map (held_field m) f.params))
 
--- what a type is to a run
+-- the type as a run holds it
 abbrev pub type_item : TypeDef → Machine → Option TypeItem
 type_item (types.Func f) m = option_map (λ t. FunctionType t) (held_function m f)
 type_item (types.Resource None) m = Some (OwnResource None)
 type_item (types.Resource (Some index)) m = option_map (λ (a : ℕ). OwnResource (Some a)) (address_at spaces.CoreFunc index m.scope.items)
 type_item (types.Defined t) m = Some ValueType
 
--- where the type of this index is one of functions
+-- continues with the function type, if the type item is one
 abbrev pub continue_with_type_item : Option TypeItem → (FuncTypeDef → Outcome) → Outcome
 continue_with_type_item (Some (FunctionType f)) next = next f
 continue_with_type_item type next = Stuck
@@ -150,12 +150,12 @@ type_at index m = option_and_then (slice_get m.store.types) (address_at spaces.T
 abbrev pub with_function_type : ℕ → Machine → (FuncTypeDef → Outcome) → Outcome
 with_function_type index m next = continue_with_type_item (type_at index m) next
 
--- one export more
+-- one more export
 abbrev pub announced : Space → List ℕ → ℕ → Machine → Machine
 announced space name address m = record m { scope = record m.scope { exports = m.scope.exports ++ record { space = space; name = name; address = address } ∷ [] } }
 
--- An item that is described and not defined: an import, or an export of an instance type, by the names that
--- lead to it. A type that equals one is that one; a resource type is one of its own.
+-- An item that is described and not defined: an import, or an export of an instance type, by the path of names
+-- that leads to it. A type that equals one is that one; a resource type is a new one.
 module _ (instance_of : List (List ℕ) → TypeItem → Machine → (ℕ → Next) → Outcome) where
   abbrev pub described : List (List ℕ) → Description → Machine → (ℕ → Next) → Outcome
   described path (descriptions.Func index) m next = with_function_type index m (λ f. next (length m.store.functions) (new_function (Imported path f) m))
@@ -163,7 +163,7 @@ module _ (instance_of : List (List ℕ) → TypeItem → Machine → (ℕ → Ne
   described path descriptions.SubResource m next = next (length m.store.types) (new_type (ImportedResource path) m)
   described path (descriptions.Instance index) m next = with_some (type_at index m) (λ t. instance_of path t m next)
 
--- an instance type holds no instance
+-- an instance type exports no instance
 abbrev pub no_instance : List (List ℕ) → TypeItem → Machine → (ℕ → Next) → Outcome
 no_instance path type m next = Stuck
 
@@ -175,7 +175,7 @@ each_member path (members.Alias a ∷ rest) m next = with_some (aliased a m) (λ
 each_member path (members.Export name description ∷ rest) m next =
     described no_instance (path ++ name.name ∷ []) description m (λ address after. each_member path rest (announced (description_space description) name.name address after) next)
 
--- an instance of a type that stands elsewhere: it has what the type says, each a thing of its own
+-- an instance of an instance type of an outer scope: it has the exports of the type, each a new item
 abbrev pub instance_of_type : List (List ℕ) → TypeItem → Machine → (ℕ → Next) → Outcome
 instance_of_type path (InstanceTypeOf all around) m next =
     each_member path all (record m { scope = record { items = []; around = around; exports = [] } })

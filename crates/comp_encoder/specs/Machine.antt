@@ -23,15 +23,15 @@ pub record Machine : Type 0 where
   pub store : Store
   pub now : Now
 
--- A run is done; or was ended by an answer that is a trap; or is open, past the answers; or is stuck: a
--- name, a kind or a core type isn't there, or generated code traps.
+-- A run is done; or was ended by an answer that is a trap; or is open, as no answer is left; or is stuck: a
+-- name, a kind or a core type is missing, or generated code traps.
 pub data Outcome : Type 0 where
   Done : (machine : Machine) → Outcome
   Trapped : (machine : Machine) → Outcome
   Open : (machine : Machine) → Outcome
   Stuck : Outcome
 
--- how a run goes on
+-- the rest of a run
 abbrev pub Next : Type 0
 Next = Machine → Outcome
 
@@ -39,7 +39,7 @@ abbrev pub with_some : {A : Type 0} → Option A → (A → Outcome) → Outcome
 with_some None next = Stuck
 with_some (Some x) next = next x
 
--- all of them, where each is there
+-- all of them, if each is `Some`
 abbrev pub all_some : {A : Type 0} → List (Option A) → Option (List A)
 all_some [] = Some []
 all_some (None ∷ options) = None
@@ -62,11 +62,11 @@ export_in space e = is_space space (Some e.space)
 abbrev pub export_of : Space → List ℕ → List Export → Option Export
 export_of space name exports = export_named name (filter (export_in space) exports)
 
--- one item more
+-- one more item
 abbrev pub with_item : Space → ℕ → Machine → Machine
 with_item space address m = record m { scope = record m.scope { items = m.scope.items ++ record { space = space; address = address } ∷ [] } }
 
--- one item more, of what is made for it
+-- one more item, with the entry of the store that is made for it
 abbrev pub new_core_module : List ℕ → Machine → Machine
 new_core_module bytes m = with_item spaces.CoreModule (length m.store.core_modules) (record m { store = record m.store { core_modules = m.store.core_modules ++ bytes ∷ [] } })
 
@@ -74,7 +74,7 @@ abbrev pub new_core_instance : List Export → Machine → Machine
 new_core_instance exports m =
     with_item spaces.CoreInstance (length m.store.core_instances) (record m { store = record m.store { core_instances = m.store.core_instances ++ exports ∷ [] } })
 
--- an opaque function more; and a core function that is one
+-- one more opaque function; and a core function that is one
 abbrev pub with_opaque : CoreItem → FuncType → Store → Store
 with_opaque item signature s = record s { code = record s.code { functions = s.code.functions ++ Opaque (length s.known) signature ∷ [] }; known = s.known ++ item ∷ [] }
 
@@ -94,7 +94,7 @@ new_component component m =
 abbrev pub new_instance : List Export → Machine → Machine
 new_instance exports m = with_item spaces.Instance (length m.store.instances) (record m { store = record m.store { instances = m.store.instances ++ exports ∷ [] } })
 
--- How the run goes on where core code, or the outside, has ended like this. Code that traps by itself makes the
+-- How the run continues after core code, or the outside, has ended like this. Generated code that traps makes the
 -- run stuck.
 abbrev pub resumed : core.Outcome → Machine → (List Value → Next) → Outcome
 resumed (core.Returned values now) m next = next values (record m { now = now })

@@ -1,5 +1,5 @@
 -- What it means that an item meets a target (Canonical ABI: a lowering is a core function that calls a
--- function; a lift is a function that calls a core function). What a target names is found in the store.
+-- function; a lift is a function that calls a core function). What a target names is looked up in the store.
 use Rattle.std.specs.Prelude.{◌≡◌, ℕ, List, [], ◌∷◌, Some, slice_get}
 use Rattle.std.specs.List.{AllZip}
 use Rattle.comp_bytes.specs.declared.space.Space.{Space}
@@ -12,12 +12,12 @@ use Rattle.comp_shims.specs.Targets.{WorldFunction, OfRoot, OfInterface, ExportR
 use Rattle.comp_shims.specs.Store.{Thing, HeldOption, HeldEncoding, HeldRealloc, HeldPostReturn, HeldAsync, HeldCallback, CoreItem, Lowering, OfUser, Function, Imported, Lifting, UserInstance, Store}
 use Rattle.comp_state.specs.Modules.{WorldModule, user_modules}
 
--- the names that lead to a function of the world
+-- the path of names that leads to a function of the world
 abbrev pub path_of : WorldFunction → List (List ℕ)
 path_of (OfRoot name) = name ∷ []
 path_of (OfInterface interface name) = interface ∷ name ∷ []
 
--- the user instance of this number is one of this module, and this is the name
+-- the user instance of this number is an instance of that module, and this is the export's name
 pub record IsExportOf (w : ComponentWorld) (s : Store) (user : ℕ) (name : List ℕ) (export_ref : ExportRef) : Type 0 where
   pub instance : UserInstance
   pub world_module : WorldModule
@@ -40,7 +40,7 @@ pub record IsCoreExport (w : ComponentWorld) (s : Store) (address : ℕ) (export
   pub is : IsOpaque s address (OfUser user name)
   pub of : IsExportOf w s user name export_ref
 
--- an option is the same one, and a function that it names is the export that it should be
+-- an option is the same one, and a function that it names is the export of the target
 abbrev pub MeetsOption : ComponentWorld → Store → HeldOption → TargetOption → Type 0
 MeetsOption w s (HeldEncoding e) (Encoding e') = e ≡ e'
 MeetsOption w s HeldAsync Async = Unit {0}
@@ -49,11 +49,11 @@ MeetsOption w s (HeldPostReturn function) (PostReturn export_ref) = IsCoreExport
 MeetsOption w s (HeldCallback function) (Callback export_ref) = IsCoreExport w s function export_ref
 MeetsOption w s _ _ = ⊥
 
--- options are lists: as many, in one order
+-- options are lists: as many, in the same order
 abbrev pub MeetOptions : ComponentWorld → Store → List HeldOption → List TargetOption → Type 0
 MeetOptions w s held options = AllZip (MeetsOption w s) held options
 
--- the function at this address is imported by these names
+-- the function at this address is imported by this path of names
 pub record IsImport (s : Store) (function : ℕ) (path : List (List ℕ)) : Type 0 where
   pub type : FuncTypeDef
   pub is : slice_get s.functions function ≡ Some (Imported path type)
@@ -64,7 +64,7 @@ CoreMeets w s (Lowering function held) (Lowered of options) = IsImport s functio
 CoreMeets w s (OfUser user name) (ExportOf export_ref) = IsExportOf w s user name export_ref
 CoreMeets w s _ _ = ⊥
 
--- a function meets a target: it lifts the core function that it should
+-- a function meets a target: it lifts the core function of the target
 abbrev pub FunctionMeets : ComponentWorld → Store → Function → Target → Type 0
 FunctionMeets w s (Lifting core held type) (Lifted entry options) = IsCoreExport w s core entry × MeetOptions w s held options
 FunctionMeets w s _ _ = ⊥

@@ -1,4 +1,4 @@
--- When the component of a world is not put out. The form of names is the component model's (explainer: import and
+-- When no component of a world is returned. The form of names is the component model's (explainer: import and
 -- export definitions); the string encoding that a function needs is the Canonical ABI's `string-encoding`.
 use Rattle.std.specs.Prelude.{ℕ, Bool, List, ◌++◌, ⊤, ◌⊎◌, IsTrue, Contains}
 use Rattle.comp_check.specs.declared.fault.CheckFault.{CheckFault}
@@ -11,19 +11,19 @@ use Rattle.comp_encoder.specs.Linking.{stated_imports, stated_exports}
 use Rattle.comp_encoder.specs.declared.output.OutputFault.{OutputFault}
 use Rattle.comp_encoder.specs.declared.output.OutputFault.TheVariants as outputs
 
--- what is wrong with the names of the stated imports and exports: one stands twice, or lacks its form
+-- what is wrong with the names of the stated imports and exports: one occurs twice, or is not well formed
 abbrev pub IsNameCause : ComponentWorld → CheckFault → Type 0
 IsNameCause w (checks.NameTwice name) = OccursTwice name (stated_imports w) ⊎ OccursTwice name (stated_exports w)
 IsNameCause w (checks.NameForm name) = Contains (stated_imports w ++ stated_exports w) name × (IsFormed name → ⊥)
 IsNameCause w _ = ⊥
 
--- a refusal is memory, or has its cause; names are looked at where `validate` is on
+-- a refusal is out of memory, or has its cause; names are checked where `validate` is on
 abbrev pub IsOutputRefusal : ComponentWorld → Bool → OutputFault → Type 0
 IsOutputRefusal w validate (outputs.State fault) = IsCause w fault
 IsOutputRefusal w validate (outputs.Check checks.Memory) = ⊤
 IsOutputRefusal w validate (outputs.Check fault) = IsTrue validate × IsNameCause w fault
 
--- no cause of a refusal holds, memory and sizes aside
+-- no cause of a refusal holds, apart from memory and sizes
 pub record NoOutputCause (w : ComponentWorld) (validate : Bool) : Type 0 where
   pub encodings : (place : List ℕ) → LacksEncoding w place → ⊥
   pub names : IsTrue validate → (fault : CheckFault) → IsNameCause w fault → ⊥

@@ -26,11 +26,11 @@ of_output (outputs.Check checks.Memory) = Memory
 of_output (outputs.Check fault) = Output fault
 
 module _ {L B F : Type 0} (l : lower.Ghosts L B F) where
-  -- why the lower layer refuses a module: its bytes, or what they say beside what was said before
+  -- why the lower layer refuses a module: for its bytes, or for its metadata together with the earlier modules'
   abbrev pub ModuleCause : Encoder L B → List ℕ → F → Type 0
   ModuleCause e bytes f = l.decode_cause e.lower bytes f ⊎ l.merge_cause e.lower e.gathered.combined (l.decoded e.lower bytes).1 f
 
-  -- a refusal of a module is memory, or has its cause
+  -- a refusal of a module is out of memory, or has its cause
   abbrev pub IsModuleRefusal : Encoder L B → List ℕ → EncodeFault F → Type 0
   IsModuleRefusal e bytes Memory = ⊤
   IsModuleRefusal e bytes (Lower f) = (l.memory_fault e.lower f ≡ false) × ModuleCause e bytes f
@@ -39,7 +39,7 @@ module _ {L B F : Type 0} (l : lower.Ghosts L B F) where
   IsModuleRefusal e bytes (Output fault) = ⊥
   IsModuleRefusal e bytes (TooMany excess) = ⊥
 
-  -- a refusal of `encode` is memory, or has its cause
+  -- a refusal of `encode` is out of memory, or has its cause
   abbrev pub IsEncodeRefusal : Encoder L B → EncodeFault F → Type 0
   IsEncodeRefusal e Memory = ⊤
   IsEncodeRefusal e NoModule = main_bytes e.gathered.main ≡ []
@@ -48,12 +48,12 @@ module _ {L B F : Type 0} (l : lower.Ghosts L B F) where
   IsEncodeRefusal e (Output fault) = IsTrue e.gathered.options.validate × IsNameCause (l.prepared e.lower e.gathered) fault
   IsEncodeRefusal e (TooMany excess) = 2 ^ 32 ≤ excess
 
-  -- nothing stands against the world of what was gathered
+  -- no cause of a refusal holds for the world of what was gathered
   pub record NoWorldCause (e : Encoder L B) : Type 0 where
     pub has_main : main_bytes e.gathered.main ≢ []
     pub can_prepare : (f : F) → ¬ l.prepare_cause e.lower e.gathered f
 
-  -- no cause of a refusal of `encode` holds, memory aside
+  -- no cause of a refusal of `encode` holds, apart from memory
   pub record NoEncodeCause (e : Encoder L B) : Type 0 where
     pub world : NoWorldCause e
     pub output : NoOutputCause (l.prepared e.lower e.gathered) e.gathered.options.validate

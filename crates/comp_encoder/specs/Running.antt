@@ -24,7 +24,7 @@ use Rattle.comp_encoder.specs.Machine.{Machine, Outcome, Done, Stuck, Next, with
 use Rattle.comp_encoder.specs.Instances.{ModuleMeaning, instantiate_module, aliased, type_item, with_function_type, announced, described, instance_of_type}
 use Rattle.comp_encoder.specs.Signatures.{core_signature, intrinsic_signature}
 
--- an argument of a core instantiation, and an entry of a core instance that is made of items at hand
+-- an argument of a core instantiation, and an entry of an inline core instance
 abbrev pub core_argument : Machine → CoreArgument → Option (List ℕ × List Export)
 core_argument m a = option_map (λ (es : List Export). (a.name, es)) (option_and_then (slice_get m.store.core_instances) (address_at spaces.CoreInstance a.instance m.scope.items))
 
@@ -61,7 +61,7 @@ abbrev pub named : Machine → Reference → Option Thing
 named m r = option_map (λ (a : ℕ). record { space = r.space; address = a }) (address_at r.space r.index m.scope.items)
 
 module _ (modules : List ModuleMeaning) (met : List ℕ → Description → Machine → Next → Outcome) (made : ComponentItem → List Export → Machine → Next → Outcome) where
-  -- what an item does, where `met` says how imports are met and `made` how components are instantiated
+  -- the effect of an item, where `met` says how imports are resolved and `made` how components are instantiated
   abbrev pub item_effect : Item → Machine → Next → Outcome
   item_effect (items.CoreModule bytes) m next = next (new_core_module bytes m)
   item_effect (items.CoreInstantiate index args) m next =
@@ -102,27 +102,27 @@ met_by_argument arguments name description m next =
 abbrev pub made_by_none : ComponentItem → List Export → Machine → Next → Outcome
 made_by_none component arguments m next = Stuck
 
--- a nested component is run in a scope of its own, and is an instance of what it exported
+-- a nested component is run in a scope of its own; its instance has what it exported
 abbrev pub instantiate_component : List ModuleMeaning → ComponentItem → List Export → Machine → Next → Outcome
 instantiate_component modules component arguments m next =
     items_run modules (met_by_argument arguments) made_by_none component.definitions (record m { scope = record { items = []; around = component.around; exports = [] } })
     (λ inner. next (new_instance inner.scope.exports (record inner { scope = m.scope })))
 
--- an import of the whole component stands for itself
+-- an import of the whole component is a new item of its own
 abbrev pub met_by_itself : List ℕ → Description → Machine → Next → Outcome
 met_by_itself name description m next = described instance_of_type (name ∷ []) description m (λ address after. next after)
 
--- what a definition of the whole component does
+-- the effect of a definition of the whole component
 abbrev pub effect : List ModuleMeaning → Def → Machine → Next → Outcome
 effect modules (defs.Item i) m next = item_effect modules met_by_itself (instantiate_component modules) i m next
 effect modules (defs.Component inner) m next = next (new_component (record { definitions = inner; around = m.scope.items ∷ m.scope.around }) m)
 
--- one definition after the other; user modules are the first core modules, and mean what `modules` says
+-- one definition after the other; user modules are the first core modules, and `modules` says what they are
 abbrev pub run : List ModuleMeaning → List Def → Next
 run modules [] m = Done m
 run modules (d ∷ ds) m = effect modules d m (run modules ds)
 
--- nothing is there yet, and these answers are to come
+-- the empty machine, with these answers of the outside to come
 abbrev pub fresh_machine : List Answer → Machine
 fresh_machine answers = record {
   scope = record { items = []; around = []; exports = [] };

@@ -1,6 +1,6 @@
 -- The core types of canonical functions, and of what user modules export for the world (Canonical ABI:
--- flattening, `canon` built-ins). So far they are those of functions with no parameter and no result, for
--- which nobody waits; they grow with the types that are encoded.
+-- flattening, `canon` built-ins). So far they are those of synchronous functions with no parameter and no result;
+-- they grow with the types that are encoded.
 use Rattle.std.specs.Prelude.{Bool, true, false, ◌||◌, List, [], ◌∷◌, Option, Some, None}
 use Rattle.std.specs.List.{list_any}
 use Rattle.comp_bytes.specs.declared.types.ComponentValType.{ComponentValType}
@@ -24,7 +24,7 @@ use Rattle.comp_shims.specs.Store.{HeldOption, HeldAsync}
 abbrev pub function_type : List ValType → List ValType → FuncType
 function_type params results = record { params = params; results = results }
 
--- whether a lowering with this option doesn't wait for the function
+-- whether a lowering with this option is asynchronous
 abbrev pub is_async : HeldOption → Bool
 is_async HeldAsync = true
 is_async option = false
@@ -47,8 +47,8 @@ abbrev pub task_return_signature : Option ComponentValType → Option FuncType
 task_return_signature None = Some (function_type [] [])
 task_return_signature (Some result) = None
 
--- The core type of an intrinsic, as far as it is known. Handles, pointers, lengths and codes are numbers of 32
--- bits; both ends of a stream or a future come in one of 64.
+-- The core type of an intrinsic, as far as it is known. Handles, pointers, lengths and codes are `i32`; both ends of
+-- a new stream or future are packed in one `i64`.
 abbrev pub intrinsic_signature : Intrinsic → Option FuncType
 intrinsic_signature (intrinsics.ResourceNew type) = Some (function_type (I32 ∷ []) (I32 ∷ []))
 intrinsic_signature (intrinsics.ResourceDrop type) = Some (function_type (I32 ∷ []) [])
@@ -84,20 +84,20 @@ intrinsic_signature intrinsics.WaitableJoin = Some (function_type (I32 ∷ I32 �
 intrinsic_signature intrinsics.BackpressureInc = Some (function_type [] [])
 intrinsic_signature intrinsics.BackpressureDec = Some (function_type [] [])
 
--- the core type of an export that is called in this form; an asynchronous one with a callback gives its status
+-- the core type of an export that is called in this form; an asynchronous one with a callback returns its status
 abbrev pub entry_type : AbiVariant → FuncType
 entry_type abis.GuestExportAsync = function_type [] (I32 ∷ [])
 entry_type abi = function_type [] []
 
--- of what goes on with an asynchronous function, and of a realloc
+-- the core type of a callback of an asynchronous function, and of a realloc
 abbrev pub callback_type : FuncType
 callback_type = function_type (I32 ∷ I32 ∷ I32 ∷ []) (I32 ∷ [])
 
 abbrev pub realloc_type : FuncType
 realloc_type = function_type (I32 ∷ I32 ∷ I32 ∷ I32 ∷ []) (I32 ∷ [])
 
--- The type of an export of a user module, by what it is for: functions of the world have no parameter and no
--- result so far.
+-- The type of an export of a user module, by its role: functions of the world have no parameter and no result
+-- so far.
 abbrev pub type_of_export : Export → ExternType
 type_of_export (exports.WorldFunc key function abi) = externs.Func (entry_type abi)
 type_of_export (exports.InterfaceFunc key interface function abi) = externs.Func (entry_type abi)

@@ -14,10 +14,10 @@ use comp_worlds::{ComponentWorld, EncoderOptions, Gathered, Lower, Part};
 use std::alloc::Global;
 use std::marker::Model;
 
-/// What was gathered so far, and the lower layer that understands it.
+/// What was gathered so far, and the lower layer that reads it.
 ///
-/// An encoder makes a component of a main module. `module` gives it the module, `encode` answers the
-/// component's bytes, and no call changes an encoder when it refuses.
+/// An encoder makes a component of a main module. `module` gives it the module, `encode` returns the
+/// component's bytes, and a call that refuses leaves the encoder unchanged.
 pub struct ComponentEncoder<L: Lower> {
     alloc: Global,
     lower: L,
@@ -42,7 +42,7 @@ impl<L: Lower> Model for ComponentEncoder<L> {
     ghost view = { λ e. record { lower = e.lower; gathered = e.gathered } };
 }
 
-/// A fault of the lower layer as one of the encoder: want of memory is told as such.
+/// A fault of the lower layer as one of the encoder: out of memory is reported as `Memory`.
 fn fault_of<L: Lower>(lower: &L, fault: L::Fault) -> EncodeFault<L::Fault>
     ensures { result ≡ (if L.memory_fault lower.now fault then EncodeFault.Memory else EncodeFault.Lower fault) }
 {
@@ -54,8 +54,7 @@ fn fault_of<L: Lower>(lower: &L, fault: L::Fault) -> EncodeFault<L::Fault>
 }
 
 impl<L: Lower> ComponentEncoder<L> {
-    /// An encoder that was given nothing. All options are off but for the merging of imports whose
-    /// versions agree.
+    /// An encoder without a module. All options are off except for the merging of imports of compatible versions.
     pub fn new(alloc: Global, lower: L) -> ComponentEncoder<L>
         ensures { result ≡ fresh L.Lower lower }
     {
@@ -80,8 +79,8 @@ impl<L: Lower> ComponentEncoder<L> {
         }
     }
 
-    /// Whether `encode` checks the names of what it made: that none stands twice in its list, and that those
-    /// of imports and exports have the form that the component model gives them. It is off at first.
+    /// Whether `encode` checks the names of its output: that none occurs twice in its list, and that those
+    /// of imports and exports are well formed by the component model. It is off at first.
     pub fn validate(&mut self, on: bool) -> &mut Self
         ensures same_reference { result.ghost_name ≡ self.entry.ghost_name }
         ensures set { result.now ≡ validating L.Lower self.old on }
@@ -90,7 +89,7 @@ impl<L: Lower> ComponentEncoder<L> {
         self
     }
 
-    /// Whether imported interfaces whose versions are compatible become one, that of the greatest version. It
+    /// Whether imported interfaces of compatible versions are merged into one, that of the greatest version. It
     /// is on at first.
     pub fn merge_imports_based_on_semver(&mut self, on: bool) -> &mut Self
         ensures same_reference { result.ghost_name ≡ self.entry.ghost_name }
@@ -100,8 +99,8 @@ impl<L: Lower> ComponentEncoder<L> {
         self
     }
 
-    /// Whether the lower layer refuses names of core imports and exports in an older mangling. It is off at
-    /// first, and changes nothing where, as in records, roles have no mangling.
+    /// Whether the lower layer rejects names of core imports and exports in an older mangling. It is off at
+    /// first, and has no effect where roles don't come from mangled names, as in records.
     pub fn reject_legacy_names(&mut self, on: bool) -> &mut Self
         ensures same_reference { result.ghost_name ≡ self.entry.ghost_name }
         ensures set { result.now ≡ rejecting_legacy_names L.Lower self.old on }
@@ -110,11 +109,11 @@ impl<L: Lower> ComponentEncoder<L> {
         self
     }
 
-    /// Takes the main module: a core module with what the lower layer reads from it. One that was
-    /// given before is replaced, but what it has to export is still required.
+    /// Takes the main module: a core module with the metadata that the lower layer reads from it. It replaces one
+    /// that was given before, but the exports that one required are still required.
     ///
-    /// It refuses for want of memory, and where the lower layer refuses the bytes, or what they say
-    /// beside what was said before. A refusal leaves the encoder as it was.
+    /// It refuses when out of memory, and where the lower layer refuses the bytes, or their metadata
+    /// together with the earlier modules'. A refusal leaves the encoder unchanged.
     pub fn add_module(&mut self, bytes: &[u8]) -> Result<(), EncodeFault<L::Fault>>
         ensures ok { OnOk result (self.new ≡ after_module L.Lower self.old bytes.now) }
         ensures err { OnErr result (self.new ≡ self.old) }
@@ -147,8 +146,8 @@ impl<L: Lower> ComponentEncoder<L> {
         Ok(())
     }
 
-    /// [`add_module`](ComponentEncoder::add_module), answering the encoder, so that calls can be
-    /// chained. What a refusal leaves is said by that call's contract.
+    /// [`add_module`](ComponentEncoder::add_module), returning the encoder, so that calls can be
+    /// chained. The state after a refusal is in that call's contract.
     pub fn module(&mut self, bytes: &[u8]) -> Result<&mut Self, EncodeFault<L::Fault>>
         ensures same_reference { IfOk result (λ r. r.ghost_name ≡ self.entry.ghost_name) }
         ensures ok { IfOk result (λ r. r.now ≡ after_module L.Lower self.old bytes.now) }
@@ -159,7 +158,7 @@ impl<L: Lower> ComponentEncoder<L> {
         Ok(self)
     }
 
-    /// Whether there is a main module that has bytes.
+    /// Whether there is a main module whose bytes are not empty.
     fn has_main(&self) -> bool
         ensures { MatchBool result (main_bytes self.now.gathered.main ≢ []) (main_bytes self.now.gathered.main ≡ []) }
     {
@@ -184,7 +183,7 @@ impl<L: Lower> ComponentEncoder<L> {
         }
     }
 
-    /// The component of the world, checked where that is asked for.
+    /// The component of the world, checked where `validate` is on.
     fn output(&self, world: &ComponentWorld) -> Result<Vec<u8>, OutputFault>
         requires { IsWorld world.now }
         ensures ok { IfOk result (λ bytes. IsComponentOf world.now self.now.gathered.options.validate bytes.items) }
@@ -196,10 +195,10 @@ impl<L: Lower> ComponentEncoder<L> {
 
     /// The component of what was gathered, in the component model's binary format.
     ///
-    /// It refuses for want of memory, where there is no main module or its bytes are empty, where
+    /// It refuses when out of memory, where there is no main module or its bytes are empty, where
     /// the lower layer can't prepare the world, where the world has no string encoding for a
     /// function, where a count or a size passes 2^32 - 1, and, with `validate` on, where a name of an
-    /// import or an export stands twice or has not its form.
+    /// import or an export occurs twice or is not well formed.
     pub fn encode(&self) -> Result<Vec<u8>, EncodeFault<L::Fault>>
         ensures ok { IfOk result (λ bytes. IsEncoding L.Lower self.now bytes.items) }
         ensures refused { IsOk result → NoEncodeCause L.Lower self.now }

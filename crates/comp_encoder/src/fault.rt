@@ -12,26 +12,26 @@ use std::alloc::{AllocError, AllocFailed};
 use std::fmt::Display;
 use thiserror::Error;
 
-/// Why a call of the encoder refuses; `F` are the faults of its lower layer.
+/// Why a call of the encoder refuses; `F` is the fault type of its lower layer.
 #[derive(Debug, Drop, Error)]
 #[error_bound(F: Display)]
 pub enum EncodeFault<F> {
-    /// A growth was refused.
+    /// An allocation failed.
     #[error("E1 Memory")]
     Memory,
     /// No module was given, or its bytes are empty.
     #[error("E2 NoModule")]
     NoModule,
-    /// The lower layer refuses, and its cause holds: of a module's bytes, of what it says beside
-    /// what those before it said, or of all that was gathered.
+    /// The lower layer refuses, and its cause holds: of a module's bytes, of its metadata together with the
+    /// earlier modules', or of all that was gathered.
     #[error("E3 Lower: {0}")]
     Lower(F),
-    /// The world has no string encoding for a function. The place is `module::field` for a core
+    /// The world has no string encoding for a function. `place` is `module::field` for a core
     /// import, and the function's name for an export (Canonical ABI, `string-encoding`).
     #[error("E9 NoEncoding place={place}")]
     NoEncoding { place: Text },
-    /// `validate` is on, and a name of an import or an export stands twice, or has not the form of such a
-    /// name. The fault is that of `comp_check`, and tells the name.
+    /// `validate` is on, and a name of an import or an export occurs twice, or is not well formed. The fault
+    /// is that of `comp_check`, and reports the name.
     #[error("E15 Output: {0}")]
     Output(CheckFault),
     /// A count, or the size of a section, a module or a component, would pass 2^32 - 1.

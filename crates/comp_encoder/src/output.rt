@@ -1,4 +1,4 @@
-//! The component of a world as bytes, checked where that is asked for.
+//! The component of a world as bytes, checked where `validate` is on.
 
 ghost use Rattle.std.specs.Prelude.{◌≡◌, IfOk, IfErr, IsOk, IsTrue};
 ghost use Rattle.comp_bytes.specs.Scopes.{Scoped};
@@ -16,12 +16,12 @@ use comp_state::{StateFault, encode_world};
 use comp_worlds::ComponentWorld;
 use std::alloc::Global;
 
-/// Why the component of a world is not put out.
+/// Why no component of a world is returned.
 #[derive(Debug, Drop)]
 pub(crate) enum OutputFault {
     /// It could not be made.
     State(StateFault),
-    /// It was made, and is no component.
+    /// It was made, and the check refuses it.
     Check(CheckFault),
 }
 
@@ -55,7 +55,7 @@ impl From<CheckFault> for OutputFault {
     }
 }
 
-/// Checks what was built, where `validate` asks for it.
+/// Checks what was built, where `validate` is on.
 fn check_if(alloc: Global, validate: bool, component: &ComponentBuilder) -> Result<(), CheckFault>
     ensures ok { IfOk result (λ _. IsTrue validate → NamesOk component.now.defs) }
     ensures cause { IfErr result (λ e. IsTrue validate × IsUnchecked component.now.defs e) }

@@ -1,4 +1,4 @@
--- A call that gives a refusal on.
+-- A call that passes an error on.
 use Rattle.std.proofs.Common.{◌≡◌, ℕ, List, subst, sym, Result, Ok, Err}
 use Rattle.std.specs.Result.{IsErrAnd, IfErr}
 use Rattle.byte_encoding.specs.Written.{Refused}

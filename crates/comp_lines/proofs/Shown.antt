@@ -1,4 +1,4 @@
--- What is shown of definitions that some bytes spell: none of its counts and sizes passes 32 bits.
+-- Definitions that some bytes encode: none of the counts and sizes that are shown passes 32 bits.
 use Rattle.std.proofs.Common.{◌≡◌, ℕ, List, [], ◌∷◌, ◌++◌, Bool, true, false, map, refl, sym, ap, subst, Result, Ok, Err, arith}
 use Rattle.std.specs.Prelude.{IfErr, ◌<◌, ◌^◌}
 use Rattle.std.specs.List.{flat_map}
@@ -80,7 +80,7 @@ definition_fits (defs.Component inner) h = flat_fits (λ i. (item i).text.counts
 pub encoded_fits : (bytes : List ℕ) (ds : List Def) → Encodes bytes ds → Fits (flat_map shown_counts ds)
 encoded_fits bytes ds h = flat_fits (λ d. (definition d).text.counts) shown_counts definition_fits ds (component_fits definition ds h.0)
 
--- a refusal of what is spelled is want of memory
+-- the only error of definitions that some bytes encode is out of memory
 pub only_memory : {A : Type 0} (ds : List Def) (r : Result A BuildFault) → IfErr r (Refused (flat_map shown_counts ds)) → IfErr r (λ e. (bytes : List ℕ) → Encodes bytes ds → e ≡ Memory)
 only_memory ds (Ok x) h = tt
 only_memory ds (Err Memory) h = λ bytes s. refl

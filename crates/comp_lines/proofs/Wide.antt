@@ -1,4 +1,4 @@
--- Characters past ASCII are written in bytes that stand as they are.
+-- The UTF-8 bytes of characters past ASCII are written without escapes.
 use Rattle.std.proofs.Common.{◌≡◌, ℕ, ◌≤◌, ◌<◌, List, [], ◌∷◌, ◌++◌, arith, append-nil}
 use Rattle.std.specs.List.{flat_map}
 use Rattle.std.proofs.lemmas.Str.{encode_ascii}

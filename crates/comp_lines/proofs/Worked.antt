@@ -23,7 +23,7 @@ use Rattle.comp_bytes.proofs.Worked.{one_import_one_export, plain, function}
 use Rattle.comp_lines.specs.Texts.{quoted}
 use Rattle.comp_lines.specs.Lines.{lines, item_line, made}
 
--- the index on the left is that which the builder of components answers
+-- the index on the left is the one that the component builder returns
 pub counted : (s : Space) (ds : List Def) → made space_of (Some s) ds ≡ items_in s ds
 counted s ds = refl
 

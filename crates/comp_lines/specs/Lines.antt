@@ -1,5 +1,5 @@
--- Definitions as lines of text, a form a clause: `SPACE INDEX = ` and of what the item is made. The forms are those of
--- the component model's binary format; the lines are this project's own.
+-- Definitions as lines of text, with a clause for each form: `SPACE INDEX = ` and what the item is made of. The forms
+-- are those of the component model's binary format; the lines are this project's own.
 use Rattle.std.specs.Prelude.{ℕ, List, [], ◌∷◌, ◌++◌, length, codes, Option, Some, None, count_by}
 use Rattle.std.specs.List.{flat_map}
 use Rattle.std.specs.Fmt.{decimal}
@@ -38,7 +38,7 @@ space_word spaces.Type = codes "type"
 space_word spaces.Component = codes "component"
 space_word spaces.Instance = codes "instance"
 
--- a kind of core item, among core items
+-- the word for a kind of core item, among core items
 abbrev pub kind_word : ExportKind → List ℕ
 kind_word kinds.Func = codes "func"
 kind_word kinds.Table = codes "table"
@@ -64,18 +64,18 @@ option (canonical.PostReturn index) = codes " post-return=" ++ decimal index
 option canonical.Async = codes " async"
 option (canonical.Callback index) = codes " callback=" ++ decimal index
 
--- a name, and behind it its version suffix
+-- a name, and after it its version suffix
 abbrev pub extern : ExternName → List ℕ
 extern n = quoted n.name ++ elim n.version_suffix [ None ↦ [] | Some suffix ↦ codes " suffix " ++ quoted suffix ]
 
--- ---- right of the sign: of what an item is made
+-- ---- the right side: what an item is made of
 
 abbrev pub alias : Alias → List ℕ
 alias (aliases.Export kind instance name) = codes "alias " ++ decimal instance ++ codes " " ++ quoted name
 alias (aliases.CoreExport kind instance name) = codes "alias " ++ decimal instance ++ codes " " ++ quoted name
 alias (aliases.Outer count index) = codes "outer " ++ decimal count ++ codes " " ++ decimal index
 
--- the bytes that are shown as they stand in the definition's section
+-- the bytes that are shown, as they occur in the definition's section
 abbrev pub shown : Item → Encoding
 shown (items.Type t) = type_def t
 shown (items.InstanceType t) = instance_type t
@@ -100,7 +100,7 @@ made_of (items.Custom name contents) = codes "custom " ++ quoted name ++ codes "
 
 -- ---- lines
 
--- left of what an item is made of: its space and its index there; of a definition that makes no item nothing
+-- the left side: the space and the index of an item; nothing for a definition that makes none
 abbrev pub left : Option Space → ℕ → List ℕ
 left None index = []
 left (Some s) index = space_word s ++ codes " " ++ decimal index ++ codes " = "
@@ -113,13 +113,13 @@ abbrev pub made : {D : Type 0} → (D → Option Space) → Option Space → Lis
 made space None ds = 0
 made space (Some s) ds = count_by (λ d. is_space s (space d)) ds
 
--- The lines of a scope's definitions, the index of each of whose items is the number of items of its space before it;
--- here these are behind the definitions done.
+-- The lines of a scope's definitions, where the index of each item is the number of items of its space before it;
+-- here the definitions `done` are before these.
 abbrev pub scope_lines : {D : Type 0} → (D → Option Space) → (ℕ → D → List (List ℕ)) → List D → List D → List (List ℕ)
 scope_lines space lines_of done [] = []
 scope_lines space lines_of done (d ∷ ds) = lines_of (made space (space d) done) d ++ scope_lines space lines_of (done ++ d ∷ []) ds
 
--- a nested component's definitions stand two spaces further in
+-- a nested component's definitions are indented by two spaces
 abbrev pub nested_lines : ℕ → Item → List (List ℕ)
 nested_lines index i = (codes "  " ++ item_line index i) ∷ []
 

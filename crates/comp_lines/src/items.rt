@@ -1,4 +1,4 @@
-//! Of what an item is made, form by form.
+//! What an item is made of, form by form.
 
 ghost use Rattle.std.specs.Prelude.{◌≡◌, [], ◌++◌, ◌∷◌, string_bytes, codes, Some};
 ghost use Rattle.std.specs.List.{flat_map};
@@ -43,7 +43,7 @@ fn put_with_each<T: Printable>(
     Ok(())
 }
 
-/// Writes what is instantiated, and what it is given.
+/// Writes what is instantiated, and its arguments.
 fn put_instantiate<T: Printable>(out: &mut String, made: u32, args: &Seq<T>) -> Result<(), BuildFault>
     ensures { Puts (string_bytes out.old) (string_bytes out.new) result (codes "instantiate " ++ decimal made ++ flat_map T.text args.now) [] }
 {
@@ -58,7 +58,7 @@ fn put_exports(out: &mut String, exports: &[CoreInlineExport]) -> Result<(), Bui
     Ok(())
 }
 
-/// Writes what is aliased in an instance.
+/// Writes which export of an instance is aliased.
 fn put_alias_of(out: &mut String, instance: u32, name: &Text) -> Result<(), BuildFault>
     ensures { Puts (string_bytes out.old) (string_bytes out.new) result (codes "alias " ++ decimal instance ++ codes " " ++ quoted name.now) [] }
 {
@@ -100,7 +100,7 @@ fn put_lift(
     Ok(())
 }
 
-/// Writes the bytes that spell a value.
+/// Writes the bytes that encode a value.
 fn put_encoded<T: Encode>(alloc: Global, out: &mut String, value: &T) -> Result<(), BuildFault>
     ensures { Puts (string_bytes out.old) (string_bytes out.new) result (hex (T.encoding value.now).bytes) (T.encoding value.now).counts }
 {
@@ -152,7 +152,7 @@ fn put_custom(out: &mut String, name: &Text, bytes: usize) -> Result<(), BuildFa
     Ok(())
 }
 
-/// Writes of what an item is made.
+/// Writes what an item is made of.
 fn put_made_of(alloc: Global, out: &mut String, item: &Item) -> Result<(), BuildFault>
     ensures { Puts (string_bytes out.old) (string_bytes out.new) result (made_of item.now) (shown item.now).counts }
 {
@@ -209,7 +209,7 @@ pub(crate) fn space_of_item(item: &Item) -> Option<Space>
     }
 }
 
-/// Writes what stands left of what an item is made of.
+/// Writes the left side of a line: the item's space and index.
 pub(crate) fn put_left(out: &mut String, space: Option<Space>, index: u64) -> Result<(), BuildFault>
     ensures { Puts (string_bytes out.old) (string_bytes out.new) result (left space index) [] }
 {

@@ -1,16 +1,16 @@
-//! Components as text: a line a definition.
+//! Components as text: a line for each definition.
 //!
-//! [`describe`] gives of each definition of `comp_bytes` a line that says in which index space and at
-//! which index it makes an item, and of what; what has no words of its own is shown as the bytes that
-//! spell it. It checks nothing: an index may name no item, and a list need never have been spelled.
+//! [`describe`] returns for each definition of `comp_bytes` a line that says in which index space and at
+//! which index it makes an item, and what that is made of; what has no words of its own is shown as the bytes
+//! that encode it. It checks nothing: an index may name no item, and a list may have no encoding.
 //!
-//! The lines are one function of the list, `specs/Lines.antt`, with a clause a form; how bytes and
-//! names stand in them is in `specs/Texts.antt`. [`describe`] answers these lines and no others, and
-//! refuses for another reason than want of memory only where a count or a size in the bytes that are
-//! shown passes 2^32 - 1 (`Refused` of `comp_bytes`). Worked examples stand in `proofs/Worked.antt`.
+//! The lines are one function of the list, `specs/Lines.antt`, with a clause for each form; how bytes and
+//! names are printed is in `specs/Texts.antt`. [`describe`] returns exactly these lines, and its only error
+//! except out of memory is a count or a size in the bytes that are shown that passes 2^32 - 1 (`Refused` of
+//! `comp_bytes`). Worked examples are in `proofs/Worked.antt`.
 //!
 //! In reading order: `texts` (numbers, bytes, names), `parts` (words, options, arguments), `items`
-//! (of what an item is made, and its line), `listing` (the lines of a scope).
+//! (what an item is made of, and its line), `listing` (the lines of a scope).
 #![tactic(auto)]
 
 mod items;

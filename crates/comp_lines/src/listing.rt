@@ -18,14 +18,14 @@ use std::alloc::Global;
 /// How many items each space has, in the order of [`Space`].
 type Counters = [u64; 10];
 
-/// The place of a space in that order.
+/// The index of a space in that order.
 fn space_index(space: Space) -> usize
     ensures { result ≡ ordinal space }
 {
     space as usize
 }
 
-/// The count of a space, which is then one more; 0 for none.
+/// The count of a space, which is then incremented; 0 for none.
 fn count(counters: &mut Counters, space: Option<Space>) -> u64
     requires { (s : Space) → get_or counters.old (ordinal s) 0 < 2 ^ 64 - 1 }
     ensures result { result ≡ elim space [ None ↦ 0 | Some s ↦ get_or counters.old (ordinal s) 0 ] }
@@ -41,7 +41,7 @@ fn count(counters: &mut Counters, space: Option<Space>) -> u64
     }
 }
 
-/// A definition of a scope, which is told in one line or more.
+/// A definition of a scope, which is printed as one line or more.
 trait Listed {
     ghost space: { Self → Option Space };
 
@@ -74,7 +74,7 @@ fn put_scope<T: Listed>(alloc: Global, items: &[T], out: &mut Vec<String>) -> Re
     Ok(())
 }
 
-/// Adds the line of an item, so far in.
+/// Adds the line of an item, with this indentation.
 fn put_line(
     alloc: Global,
     margin: &str,
@@ -157,21 +157,21 @@ impl Listed for Def {
     }
 }
 
-/// The lines of a component's definitions: one a definition, and those of a nested component's
-/// definitions behind its own, two spaces further in.
+/// The lines of a component's definitions: one for each definition, and those of a nested component's
+/// definitions after its own, indented by two spaces.
 ///
-/// A line is `SPACE INDEX = ` and of what the item is made; the index is the number of items that the
+/// A line is `SPACE INDEX = ` and what the item is made of; the index is the number of items that the
 /// scope's definitions before it make in that space. A custom section makes none, and its line has
-/// no such beginning. Names stand in quotes; types, descriptions and intrinsics are the hexadecimal
+/// no such beginning. Names are in quotes; types, descriptions and intrinsics are the hexadecimal
 /// digits of their bytes (component model, binary format: `deftype`, `externdesc`, `canon`).
 ///
 /// Nothing is checked: an index may name no item.
 ///
 /// # Errors
 ///
-/// [`BuildFault::Memory`] where a growth was refused. [`BuildFault::TooMany`] exactly where memory
-/// suffices and a count or a size in the bytes that are shown passes 2^32 - 1; it tells such a one.
-/// Definitions that some bytes spell, as those that were read, are refused for want of memory alone.
+/// [`BuildFault::Memory`] when out of memory. [`BuildFault::TooMany`] exactly where memory
+/// suffices and a count or a size in the bytes that are shown passes 2^32 - 1; it reports such a one.
+/// The only error of definitions that some bytes encode, as those that were read, is out of memory.
 pub fn describe(alloc: Global, definitions: &Defs) -> Result<Vec<String>, BuildFault>
     ensures ok { IfOk result (λ found. map string_bytes found.items ≡ lines definitions.now) }
     ensures fits { OnOk result (Fits (flat_map shown_counts definitions.now)) }

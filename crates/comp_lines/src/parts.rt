@@ -42,7 +42,7 @@ fn word_of_kind(kind: ExportKind) -> &'static str
     }
 }
 
-/// Writes a word, and a number behind it.
+/// Writes a word, and a number after it.
 pub(crate) fn put_numbered(out: &mut String, word: &str, number: u32) -> Result<(), AllocError>
     ensures { OnOk result (string_bytes out.new ≡ string_bytes out.old ++ (word.now ++ decimal number)) }
 {
@@ -61,7 +61,7 @@ pub(crate) fn put_item(out: &mut String, space: Space, index: u64) -> Result<(),
     Ok(())
 }
 
-/// Writes a space, a name in quotes and the sign behind it.
+/// Writes a space, a name in quotes and the sign after it.
 fn put_given(out: &mut String, name: &Text) -> Result<(), AllocError>
     ensures { OnOk result (string_bytes out.new ≡ string_bytes out.old ++ (codes " " ++ quoted name.now ++ codes "=")) }
 {
@@ -83,7 +83,7 @@ pub(crate) fn put_extern(out: &mut String, name: &ExternName) -> Result<(), Allo
     Ok(())
 }
 
-/// A value that stands one way in a line.
+/// A value that has one printed form in a line.
 pub(crate) trait Printable {
     ghost text: { Self → List ℕ };
 

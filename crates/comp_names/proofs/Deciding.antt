@@ -1,4 +1,4 @@
--- What a test answers, where what it tests is two things.
+-- The result of a test of a conjunction, and of one part after the other.
 use Rattle.std.proofs.Common.{◌≡◌, Bool, true, false, sym, ◌∙◌, true≢false}
 use Rattle.std.specs.Prelude.{◌↔◌, IsTrue, ◌⊎◌, Result, Ok, Err, IfOk}
 use Rattle.std.proofs.Common.{inl, inr}
@@ -28,7 +28,7 @@ pub ok_both : {E P A B : Type 0} {a : Bool} (r : Result Bool E) → P ↔ (A × 
 ok_both (Ok b) is t first second = both is t first second
 ok_both (Err e) is t first second = tt
 
--- what is left, where the others are not
+-- the last of three alternatives, where the others fail
 pub ok_last : {E P Q : Type 0} (R : Type 0) {a b : Bool} (r : Result Bool E) → a ≡ false → IsTrue a ↔ P → b ≡ false → IsTrue b ↔ Q → IfOk r (λ c. IsTrue c ↔ R) → IfOk r (λ c. IsTrue c ↔ (P ⊎ (Q ⊎ R)))
 ok_last R (Ok c) f p g q h = (
   λ t. inr (inr (h.0 t)),

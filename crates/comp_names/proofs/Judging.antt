@@ -1,4 +1,4 @@
--- What is found of parts is found of the whole.
+-- Verdicts on parts make a verdict on the whole.
 use Rattle.std.proofs.Common.{ℕ, ◌≡◌, ◌+◌, ◌<◌, Bool, true, false, true≢false, List, [], ◌∷◌, ◌++◌, length, take, get_or, refl, sym, subst, arith, Result, Ok, Err}
 use Rattle.std.specs.Prelude.{◌↔◌, IsTrue, Contains}
 use Rattle.std.specs.List.{flat_map, IsDistinct, AllByRecursion}
@@ -55,7 +55,7 @@ pub each_fault : {T : Type 0} (lists : T → List Names) (externs : T → Names)
     i < length xs → x ≡ get_or xs i x → IsFaultOf (lists x) (externs x) fault → IsFaultOf (flat_map lists xs) (flat_map externs xs) fault
 each_fault lists externs xs i x fault l e h = wider (lists x) (flat_map lists xs) (externs x) (flat_map externs xs) fault (in_flat_map lists xs i x l e) (in_flat_map externs xs i x l e) h
 
--- ---- a list, and what follows it
+-- ---- a list, and the lists after it
 
 pub first_fault : (list : Names) (lists : List Names) (externs : Names) (fault : NameFault) → IsFaultOf (list ∷ []) [] fault → IsFaultOf (list ∷ lists) externs fault
 first_fault list lists externs fault h = wider (list ∷ []) (list ∷ lists) [] externs fault (λ l c. Contains-append_left (list ∷ []) lists l c) (λ n c. of_nothing externs n c) h
@@ -67,12 +67,12 @@ pub and_rest : {A : Type 0} (list : Names) (lists : List Names) (externs : Names
 and_rest list lists externs (Ok d) h k = record { apart = (h.apart.0, k.apart); formed = k.formed }
 and_rest list lists externs (Err e) h k = later_fault list lists externs e k
 
--- lists that hold no list
+-- elements that have no list of names
 pub no_lists : {T : Type 0} (xs : List T) → flat_map {A = Names} (λ x. []) xs ≡ []
 no_lists [] = refl
 no_lists (x ∷ xs) = no_lists xs
 
--- the names of all entries, of which each has one
+-- the names of all entries, each of which has one
 pub entries_judged : {T A : Type 0} (f : T → List ℕ) (xs slice : List T) (r : Result A NameFault) → slice ≡ xs → Judges (flat_map (λ x. f x ∷ []) slice ∷ []) [] r → Judges (map f xs ∷ []) [] r
 entries_judged f xs slice r e h = subst (λ l. Judges (l ∷ []) [] r) (flat_map_single f slice ∙ ap (map f) e) h
 
@@ -82,7 +82,7 @@ type_judged members slice r e h k =
     let exports = and_rest (flat_map member_export slice) [] (flat_map member_export slice) r h (subst (λ ls. Judges ls (flat_map member_export slice) r) (no_lists slice) k) in
     subst (λ ms. Judges (flat_map member_export ms ∷ []) (flat_map member_export ms) r) e exports
 
--- ---- a fault excludes that all is right
+-- ---- where there is a fault, not all names are right
 
 not_apart : (name : List ℕ) (between after : Names) → AllByRecursion (λ y. bytes_eq name y ≡ false) (between ++ name ∷ after) → ⊥
 not_apart name [] after h = true≢false (sym ((bytes_eq-Decides name name).1 refl) ∙ h.0)

@@ -1,4 +1,4 @@
--- Labels as their words, and the marks that they lack.
+-- Labels as their words, and the separators that they lack.
 use Rattle.std.proofs.Common.{ℕ, ◌≡◌, ◌==◌, ◌<◌, Bool, true, false, List, [], ◌∷◌, ◌++◌, length, refl, sym, ap, subst, ◌∙◌, true≢false, arith, append-nil}
 use Rattle.std.specs.Prelude.{◌↔◌, ◌||◌, ◌&&◌, IsTrue, slice_index}
 use Rattle.std.specs.List.{AllByRecursion, list_all, slice_split, flat_map}
@@ -60,7 +60,7 @@ label_bytes {label} l =
     subst (AllByRecursion (λ b. IsTrue (in_label b))) (sym l.parts)
     (all-append (λ b. IsTrue (in_label b)) l.first (flat_map (λ word. hyphen ∷ word) l.more) (wider l.first (word_bytes l.first_is)) (more_bytes l.more l.more_are))
 
--- ---- the marks that parts lack
+-- ---- the separators that parts lack
 
 mark_apart : (m : ℕ) → IsTrue (is_mark m) → in_label m ≡ false
 mark_apart m h = elim (cases_Bool (m == dot)) [
@@ -110,7 +110,7 @@ words_one (b ∷ bs) h = rw (h.0, words_one bs h.1) refl
 word_lacks : (word : List ℕ) → IsWord word → Lacks hyphen word
 word_lacks word w = lacks-passing in_word hyphen refl word (word_bytes w)
 
--- the words that are left behind a word
+-- the words that are left after a word
 pub next_word : {text word rest : List ℕ} → IsCut hyphen text word rest → AllByRecursion IsWord (words text) ↔ (IsWord word × AllByRecursion IsWord (words rest))
 next_word {text} {word} {rest} at =
     let e = ap words at.parts ∙ words_cut word rest at.first in

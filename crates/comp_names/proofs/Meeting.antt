@@ -1,4 +1,4 @@
--- Names that were met: what a look-up tells, and where a name stands twice.
+-- Names that were met: the result of a look-up, and where a name occurs twice.
 use Rattle.std.proofs.Common.{ℕ, ◌≡◌, ◌+◌, ◌<◌, Bool, true, false, List, [], ◌∷◌, ◌++◌, length, take, get_or, zero, suc, refl, sym, ap, subst, ◌∙◌, true≢false, map, is_some, Bor, append_assoc, append-nil, arith, inl, inr}
 use Rattle.std.specs.Prelude.{◌||◌}
 use Rattle.std.specs.List.{list_any, flat_map, IsDistinct}
@@ -36,7 +36,7 @@ front_and_rest f (y ∷ ys) (suc i) x l e =
     let p = front_and_rest f ys i x (omega arith) e in
     (p.0, ap (λ t. f y ++ t) p.1 ∙ sym (append_assoc (f y) (flat_map f (take i ys)) (f x ++ p.0)))
 
--- the names of one entry more
+-- the names of the entries, with one entry more
 pub one_more : {T A : Type 0} (f : T → List A) (xs : List T) (i : ℕ) (x : T) → i < length xs → x ≡ get_or xs i x → flat_map f (take (i + 1) xs) ≡ flat_map f (take i xs) ++ f x
 one_more f xs i x l e =
     rw (take_more xs i x l, ← e) (flat_map-append f (take i xs) (x ∷ []) ∙ ap (λ t. flat_map f (take i xs) ++ t) (append-nil (f x)))

@@ -1,4 +1,4 @@
--- Texts cut at a mark that the part before it lacks: there is one way to cut them.
+-- Texts that are split at a separator that the part before it lacks: there is one way to split them.
 use Rattle.std.proofs.Common.{ℕ, ◌≡◌, ◌==◌, ◌<◌, Bool, false, List, [], ◌∷◌, ◌++◌, length, get_or, suc, refl, sym, ap, subst, ◌∙◌, true≢false, arith, Option, Some, None, Bor}
 use Rattle.std.specs.Prelude.{◌↔◌, ◌≢◌, IsTrue, IfSome, IfNone}
 use Rattle.std.proofs.lemmas.Str.Pattern.{IsSplitOnceResult, split_parts}
@@ -13,7 +13,7 @@ pub all-append : {X : Type 0} (P : X → Type 0) (xs ys : List X) → AllByRecur
 all-append P [] ys h k = k
 all-append P (x ∷ xs) ys h k = (h.0, all-append P xs ys h.1 k)
 
--- what passes a test lacks what does not
+-- a text whose characters pass a test lacks one that fails it
 pub lacks-passing : (test : ℕ → Bool) (mark : ℕ) → test mark ≡ false → (text : List ℕ) → AllByRecursion (λ b. IsTrue (test b)) text → Lacks mark text
 lacks-passing test mark f [] h = tt
 lacks-passing test mark f (b ∷ bs) h = (apart, lacks-passing test mark f bs h.1)
@@ -21,7 +21,7 @@ lacks-passing test mark f (b ∷ bs) h = (apart, lacks-passing test mark f bs h.
     apart : (b == mark) ≡ false
     apart = elim (cases_Bool (b == mark)) [ inl e ↦ absurd (true≢false (sym h.0 ∙ ap test (eqb-true b mark e) ∙ f)) | inr n ↦ n ]
 
--- what no place has
+-- a text lacks a character that is at none of its indexes
 pub lacks-everywhere : (mark : ℕ) (text : List ℕ) → ((i : ℕ) → i < length text → get_or text i 0 ≢ mark) → Lacks mark text
 lacks-everywhere mark [] h = tt
 lacks-everywhere mark (b ∷ bs) h = (apart, lacks-everywhere mark bs (λ i l. h (suc i) (omega arith)))

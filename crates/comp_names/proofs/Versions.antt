@@ -1,4 +1,4 @@
--- What semver reads is a version, and what it doesn't read is none.
+-- A text is a version exactly if the semver parser accepts it.
 use Rattle.std.proofs.Common.{ℕ, ◌≡◌, List, Ok, Err, sym, ◌∙◌, ap}
 use Rattle.semver.specs.Parse.{Parts, version_parts}
 use Rattle.semver.specs.declared.error.Error.{Error}

@@ -1,4 +1,4 @@
--- What is found of lists of names, and of names that are to have the form. (No standard speaks of it.)
+-- The verdict on lists of names, and on names that have to be well formed. (No standard defines it.)
 use Rattle.std.specs.Prelude.{ℕ, ◌≡◌, true, List, Result, Ok, Err, ⊤}
 use Rattle.std.specs.List.{AllByRecursion, IsDistinct, list_any}
 use Rattle.std.specs.Str.{bytes_eq}

@@ -1,4 +1,4 @@
--- The form of the names of imports and exports.
+-- The grammar of the names of imports and exports.
 -- Component model, explainer: plain names and interface names, with their labels and versions. Where the
 -- standard narrows further (the words of a namespace, canonical versions), this grammar does not.
 use Rattle.std.specs.Prelude.{ℕ, ◌<◌, ◌≡◌, Bool, ◌||◌, IsTrue, List, ◌∷◌, ◌++◌, length, slice_index, codes, ◌⊎◌}
@@ -10,7 +10,7 @@ use Rattle.semver.specs.Parse.{Parts}
 
 -- ---- parts
 
--- a part, a character and a part
+-- a part, a separator and a part
 pub record Joined (Left : List ℕ → Type 0) (mark : ℕ) (Right : List ℕ → Type 0) (text : List ℕ) : Type 0 where
   pub left : List ℕ
   pub right : List ℕ
@@ -18,7 +18,7 @@ pub record Joined (Left : List ℕ → Type 0) (mark : ℕ) (Right : List ℕ �
   pub left_is : Left left
   pub right_is : Right right
 
--- a part behind a fixed beginning
+-- a part after a fixed prefix
 pub record Prefixed (beginning : List ℕ) (Rest : List ℕ → Type 0) (text : List ℕ) : Type 0 where
   pub rest : List ℕ
   pub parts : text ≡ beginning ++ rest
@@ -26,7 +26,7 @@ pub record Prefixed (beginning : List ℕ) (Rest : List ℕ → Type 0) (text : 
 
 -- ---- characters
 
--- those between the parts of a name
+-- the separators of the parts of a name
 abbrev pub hyphen : ℕ
 hyphen = 45
 
@@ -42,7 +42,7 @@ colon = 58
 abbrev pub at_sign : ℕ
 at_sign = 64
 
--- those of words
+-- the characters of words
 abbrev pub in_lower_word : ℕ → Bool
 in_lower_word byte = is_ascii_lowercase byte || is_ascii_digit byte
 
@@ -51,7 +51,7 @@ in_upper_word byte = is_ascii_uppercase byte || is_ascii_digit byte
 
 -- ---- labels
 
--- letters of one case and digits
+-- a word: letters of one case, and digits
 pub record IsWord (word : List ℕ) : Type 0 where
   pub some : 0 < length word
   pub one_case : IsTrue (list_all in_lower_word word || list_all in_upper_word word)
@@ -85,12 +85,12 @@ pub record IsVersion (version : List ℕ) : Type 0 where
   pub text : version ≡ parts_text parts
   pub valid : IsValid parts
 
--- one digit or more
+-- a number: one digit or more
 pub record IsNumber (number : List ℕ) : Type 0 where
   pub some : 0 < length number
   pub digits : IsTrue (list_all is_ascii_digit number)
 
--- what may follow the @ of a name: a whole version, or one that is cut behind its first or second number
+-- the text after the @ of a name: a whole version, or one that ends after its first or second number
 abbrev pub IsVersionText : List ℕ → Type 0
 IsVersionText version = IsVersion version ⊎ IsNumber version ⊎ Joined IsNumber dot IsNumber version
 
@@ -103,6 +103,6 @@ IsUnversioned name = Joined IsLabel colon (Joined IsLabel slash IsLabel) name
 abbrev pub IsInterfaceName : List ℕ → Type 0
 IsInterfaceName name = IsUnversioned name ⊎ Joined IsUnversioned at_sign IsVersionText name
 
--- What an import or an export may be called.
+-- The names that an import or an export may have.
 abbrev pub IsFormed : List ℕ → Type 0
 IsFormed name = IsPlainName name ⊎ IsInterfaceName name

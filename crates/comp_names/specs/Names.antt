@@ -1,6 +1,6 @@
--- Which names of a component are right, and what each fault says of them.
+-- Which names of a component are right, and the cause of each fault.
 -- Component model, explainer: names of imports, of exports, of arguments and of entries are distinct in
--- their list (`ScopeNames` of `comp_bytes`), and those of imports and exports have their form.
+-- their list (`ScopeNames` of `comp_bytes`), and those of imports and exports are well formed.
 use Rattle.std.specs.Prelude.{ℕ, ◌≡◌, List, [], ◌∷◌, ◌++◌, Contains, ⊤}
 use Rattle.std.specs.List.{flat_map, AllByRecursion}
 use Rattle.comp_bytes.specs.ScopeNames.{Names, NamesApart, names, member_export}
@@ -27,7 +27,7 @@ def_extern_names (defs.Component inner) = flat_map item_extern_names inner
 abbrev pub extern_names : List Def → Names
 extern_names definitions = flat_map def_extern_names definitions
 
--- No name stands twice in its list, and those of imports and exports have their form.
+-- No name occurs twice in its list, and those of imports and exports are well formed.
 abbrev pub NamesOk : List Def → Type 0
 NamesOk definitions = NamesApart definitions × AllByRecursion IsFormed (extern_names definitions)
 
@@ -39,7 +39,7 @@ pub record OccursTwice (name : List ℕ) (list : Names) : Type 0 where
   pub after : Names
   pub parts : list ≡ before ++ name ∷ between ++ name ∷ after
 
--- what a fault says of lists of names, and of names that are to have the form
+-- the cause of a fault, in these lists of names and these names that have to be well formed
 abbrev pub IsFaultOf : List Names → Names → NameFault → Type 0
 IsFaultOf lists externs faults.Memory = ⊤
 IsFaultOf lists externs (faults.Twice name) = (list : Names) × Contains lists list × OccursTwice name list

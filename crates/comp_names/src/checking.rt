@@ -15,8 +15,8 @@ use comp_bytes::{
 };
 use std::alloc::Global;
 
-/// What has names: lists in which each stands once, and names of imports and exports, which are to have
-/// their form.
+/// A definition with names: lists in which each name has to be distinct, and names of imports and exports,
+/// which have to be well formed.
 pub(crate) trait Named {
     ghost lists: { Self → List (List (List ℕ)) };
 
@@ -36,7 +36,7 @@ pub(crate) fn each<T: Named>(alloc: Global, entries: &[T]) -> Result<(), NameFau
     Ok(())
 }
 
-/// Whether the name of an import or an export has its form.
+/// Whether the name of an import or an export is well formed.
 fn form(alloc: Global, name: &ExternName) -> Result<(), NameFault>
     ensures { Judges [] (name.now.name ∷ []) result }
 {

@@ -1,9 +1,9 @@
-//! Texts cut at a character.
+//! Texts split at a character.
 
 ghost use Rattle.std.specs.Prelude.{◌≡◌, ◌<◌, ◌++◌, IfSome, IfNone};
 ghost use Rattle.comp_names.specs.Cuts.{IsCut, Lacks, BeginsElse};
 
-/// What stands before the first such character, and what stands behind it.
+/// The text before the first such character, and the text after it.
 pub(crate) fn cut(text: &str, mark: char) -> Option<(&str, &str)>
     requires { mark < 128 }
     ensures some { IfSome result (λ sides. IsCut mark text.now sides.0.now sides.1.now) }
@@ -12,7 +12,7 @@ pub(crate) fn cut(text: &str, mark: char) -> Option<(&str, &str)>
     text.split_once(mark)
 }
 
-/// What stands behind a beginning.
+/// The text after a prefix, if it has that prefix.
 pub(crate) fn after_prefix<'a>(text: &'a str, beginning: &str) -> Option<&'a str>
     ensures some { IfSome result (λ rest. text.now ≡ beginning.now ++ rest.now) }
     ensures none { IfNone result (BeginsElse beginning.now text.now) }

@@ -10,13 +10,13 @@ use thiserror::Error;
 /// What is wrong with the names of a component.
 #[derive(Debug, Drop, Error)]
 pub enum NameFault {
-    /// A growth was refused.
+    /// An allocation failed.
     #[error("C1 Memory")]
     Memory,
-    /// The name stands twice in its list.
+    /// The name occurs twice in its list.
     #[error("C4 NameTwice name={name}")]
     Twice { name: Text },
-    /// The name of an import or an export has not the form of one.
+    /// The name of an import or an export is not well formed.
     #[error("C5 NameForm name={name}")]
     Form { name: Text },
 }

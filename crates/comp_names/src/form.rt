@@ -61,8 +61,8 @@ fn is_versioned(alloc: Global, name: &str) -> Result<bool, AllocError>
     }
 }
 
-/// Whether an import or an export may have this name. The only refusal is want of memory, which a
-/// version with more than numbers takes.
+/// Whether an import or an export may have this name. The only error is out of memory: a version
+/// with more than numbers needs an allocation.
 pub fn is_formed(alloc: Global, name: &str) -> Result<bool, AllocError>
     ensures { IfOk result (λ holds. IsTrue holds ↔ IsFormed name.now) }
 {

@@ -42,7 +42,7 @@ fn begins_with_letter(text: &str) -> bool
     }
 }
 
-/// Whether what stands between hyphens is words.
+/// Whether the parts between hyphens are words.
 fn are_words(text: &str) -> bool
     ensures { IsTrue result ↔ AllByRecursion IsWord (slice_split (λ byte. byte == hyphen) text.now) }
 {

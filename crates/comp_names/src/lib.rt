@@ -1,11 +1,11 @@
-//! The names of a component's definitions: none stands twice in its list, and those of imports and
-//! exports have the form that the component model gives.
+//! The names of a component's definitions: none occurs twice in its list, and those of imports and
+//! exports are well formed by the component model.
 //!
-//! [`check_names`] answers yes exactly where both hold (`NamesOk` of `specs/Names.antt`), want of memory
-//! aside, and tells a name that is wrong else. [`is_formed`] decides the form of a name, whose grammar is
+//! [`check_names`] accepts exactly where both hold (`NamesOk` of `specs/Names.antt`), unless it is out of
+//! memory, and reports a name that is wrong else. [`is_formed`] decides the form of a name, whose grammar is
 //! `specs/NameForm.antt`.
 //!
-//! In reading order: `fault` (what is wrong), `cut` (texts cut at a character), `label`, `version`, `form`
+//! In reading order: `fault` (what is wrong), `cut` (texts split at a character), `label`, `version`, `form`
 //! (the form of names), `met`, `listing` (one list of names), `lists` (which lists there are), `checking`
 //! (the definitions in turn), `names` (a whole component).
 #![tactic(auto)]

@@ -9,7 +9,7 @@ use crate::met::Met;
 use comp_lists::Text;
 use std::alloc::Global;
 
-/// Which name an entry has in a list of names, where it has one.
+/// The name of an entry in a list of names, if it has one.
 pub(crate) trait Listing<T> {
     ghost listed: { T → List (List ℕ) };
 
@@ -18,7 +18,7 @@ pub(crate) trait Listing<T> {
         ensures none { IfNone result (listed entry.now ≡ []) };
 }
 
-/// Whether no name stands twice among those of the entries. What was met is kept in a table, so that the
+/// Whether no name of the entries occurs twice. The names so far are in a table, so that the
 /// cost is linear.
 pub(crate) fn apart<T, L: Listing<T>>(alloc: Global, entries: &[T]) -> Result<(), NameFault>
     ensures { Judges (flat_map L.listed entries.now ∷ []) [] result }

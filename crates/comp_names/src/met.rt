@@ -25,7 +25,7 @@ impl<'a> Model for Met<'a> {
 }
 
 impl<'a> Met<'a> {
-    /// None. It takes no memory.
+    /// No name. It allocates nothing.
     pub(crate) fn new(alloc: Global) -> Met<'a>
         ensures { result ≡ [] }
     {
@@ -34,7 +34,7 @@ impl<'a> Met<'a> {
         }
     }
 
-    /// Notes a name. One that was met before is refused.
+    /// Adds a name. One that was met before is refused.
     pub(crate) fn note(&mut self, alloc: Global, name: &'a Text) -> Result<(), NameFault>
         ensures ok { OnOk result (self.new ≡ self.old ++ name.now ∷ []) }
         ensures other { OnOk result (list_any (bytes_eq name.now) self.old ≡ false) }

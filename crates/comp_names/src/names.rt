@@ -21,14 +21,14 @@ fn component(alloc: Global, definitions: &[Def]) -> Result<(), NameFault>
     each::<Def>(alloc, definitions)
 }
 
-/// Whether no name of a component stands twice in its list, and those of imports and exports have their
-/// form; of nested components and instance types too.
+/// Whether no name of a component occurs twice in its list, and those of imports and exports are well
+/// formed; of nested components and instance types too.
 ///
 /// Component model, explainer: names are distinct in their list; `plainname`, `interfacename`.
 ///
-/// Refused are [`NameFault::Twice`], with a name that stands twice in a list, and [`NameFault::Form`],
-/// with the name of an import or an export that has not the form of one; want of memory is
-/// [`NameFault::Memory`]. The cost is linear.
+/// The errors are [`NameFault::Twice`], with a name that occurs twice in a list, [`NameFault::Form`],
+/// with the name of an import or an export that is not well formed, and [`NameFault::Memory`] when out of
+/// memory. The cost is linear.
 pub fn check_names(alloc: Global, definitions: &Defs) -> Result<(), NameFault>
     ensures ok { IfOk result (λ done. NamesOk definitions.now) }
     ensures cause { IfErr result (IsNameFault definitions.now) }

@@ -41,7 +41,7 @@ fn is_memory(fault: Error) -> bool
     fault == Error::from(AllocError)
 }
 
-/// Whether a text is a version of three numbers, with or without more. The only refusal is want of
+/// Whether a text is a version of three numbers, with or without more. The only error is out of
 /// memory.
 fn is_version(alloc: Global, text: &str) -> Result<bool, AllocError>
     ensures { IfOk result (λ holds. IsTrue holds ↔ IsVersion text.now) }
@@ -58,7 +58,7 @@ fn is_version(alloc: Global, text: &str) -> Result<bool, AllocError>
     }
 }
 
-/// Whether a text is what may stand behind the `@` of a name. The only refusal is want of memory.
+/// Whether a text may follow the `@` of a name. The only error is out of memory.
 pub(crate) fn is_version_text(alloc: Global, text: &str) -> Result<bool, AllocError>
     ensures { IfOk result (λ holds. IsTrue holds ↔ IsVersionText text.now) }
 {

@@ -19,7 +19,7 @@ lower_bits none = 0
 lower_bits memory = 3
 lower_bits text = 7
 
--- the next, by whether there is a text, and whether memory is needed
+-- the next set, by whether there is a text, and whether memory is needed
 abbrev next : Bool → Bool → Reached → Reached
 next true m r = text
 next false true none = memory

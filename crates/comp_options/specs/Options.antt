@@ -29,11 +29,11 @@ use Rattle.comp_roles.specs.declared.payloads.PayloadFuncKind.TheVariants as end
 
 -- ---- sets
 
--- the set has the bit
+-- whether the set has the bit
 abbrev pub needs : ℕ → ℕ → Bool
 needs set bit = bit_and set bit == bit
 
--- with these bits, where the test holds
+-- the set with these bits added, if the test holds
 abbrev pub with_if : Bool → ℕ → ℕ → ℕ
 with_if true bits set = bit_or set bits
 with_if false bits set = set
@@ -73,12 +73,12 @@ is_async_export abis.GuestExportAsync = true
 is_async_export abis.GuestExportAsyncStackful = true
 is_async_export _ = false
 
--- a call of an imported function lifts its parameters and lowers its result
+-- the options of a call of an imported function: it lifts its parameters and lowers its result
 abbrev pub import_set : AbiVariant → List TypeDef → Function → ℕ
 import_set abi types f =
     with_if (is_async_import abi) 8 (with_if (passes_memory abi types f) 1 (lowered (contents_bits types f.result) (pass_all ways.Lift (param_contents types f.params) 0)))
 
--- without the realloc
+-- a set without the realloc
 abbrev pub without_realloc : ℕ → ℕ
 without_realloc set = bit_and set 13
 
@@ -93,30 +93,30 @@ export_set abi types f =
 
 -- ---- of a stream or a future
 
--- what it carries
+-- the type of its elements
 abbrev pub carried : List TypeDef → PayloadType → Option Ty
 carried types (payloads.Typed id function) = carried_by (kind_at types id.index)
 carried types _ = None
 
--- what is written is lifted, what is read is lowered
+-- written elements are lifted, read elements are lowered
 abbrev pub way_of : PayloadFuncKind → Direction
 way_of ends.FutureWrite = ways.Lift
 way_of ends.StreamWrite = ways.Lift
 way_of ends.FutureRead = ways.Lower
 way_of ends.StreamRead = ways.Lower
 
--- both in memory
+-- elements are passed in memory
 abbrev pub payload_set : List TypeDef → PayloadType → PayloadFuncKind → Bool → ℕ
 payload_set types payload kind is_async = with_if is_async 8 (bit_or (passed (way_of kind) (contents_bits types (carried types payload)) 0) 1)
 
--- its type stands in the resolve
+-- its type exists in the resolve
 abbrev pub HasPayload : Resolve → PayloadType → Type 0
 HasPayload r (payloads.Typed id function) = HasTypeId r id
 HasPayload r _ = Unit {0}
 
--- ---- as they are written
+-- ---- as a list
 
--- a value that is there as one option
+-- a value, if there is one, as one option
 abbrev pub one_if : {A : Type 0} → (A → CanonicalOption) → Option A → List CanonicalOption
 one_if f (Some x) = f x ∷ []
 one_if f None = []
@@ -130,20 +130,20 @@ encoding_option encodings.UTF8 = canonical.Utf8
 encoding_option encodings.UTF16 = canonical.Utf16
 encoding_option encodings.CompactUTF16 = canonical.CompactUtf16
 
--- the options of four places, in order
+-- the four options, in order
 abbrev pub in_order : Option ℕ → Option ℕ → Option StringEncoding → Bool → List CanonicalOption
 in_order memory realloc encoding is_async = one_if canonical.Memory memory ++ (one_if canonical.Realloc realloc ++ (one_if encoding_option encoding ++ async_if is_async))
 
--- a place where the set asks for it
+-- a value, if the set needs it
 abbrev pub when : {A : Type 0} → Bool → Option A → Option A
 when true x = x
 when false x = None
 
--- memory, realloc, encoding, asynchronous: each where it stands in the set
+-- memory, realloc, encoding, asynchronous: each if it is in the set
 abbrev pub options_of : ℕ → StringEncoding → Option ℕ → Option ℕ → List CanonicalOption
 options_of set encoding memory realloc = in_order (when (needs set 1) memory) (when (needs set 2) realloc) (when (needs set 4) (Some encoding)) (needs set 8)
 
--- what is needed and missing
+-- an option that is needed and missing
 abbrev pub lacks_memory : ℕ → Option ℕ → Bool
 lacks_memory set memory = needs set 1 && not (is_some memory)
 

@@ -12,7 +12,7 @@ pub fn lowering_adds_realloc()
     ensures { LoweringAddsRealloc }
 {}
 
-/// Whether as many options come as were told. They do.
+/// Whether the iterator yields as many options as its length. It does.
 pub fn count_equals_len(options: Options) -> bool
     ensures { IsTrue result }
 {

@@ -1,12 +1,12 @@
-//! Which options a canonical function needs.
+//! The options that a canonical function needs.
 //!
-//! The sets follow from a function's types and from the form in which it is called, or from what a stream or
-//! a future carries. Nothing here knows a world or its core modules. Upward this crate promises that the sets
-//! are those of `specs/Options.antt`, and that they are written in order, each option where it is needed; it
-//! refuses only where a memory or a realloc is needed and there is none.
+//! The sets follow from a function's types and from the form in which it is called, or from the element type of
+//! a stream or a future. Nothing here depends on a world or its core modules. The guarantees: the sets are those
+//! of `specs/Options.antt`, and they are listed in order, each option where it is needed; it refuses only where
+//! a memory or a realloc is needed and missing.
 //!
-//! In reading order: `required` (which options a canonical function needs, and the options as they are
-//! written), `laws` (laws of those).
+//! In reading order: `required` (which options a canonical function needs, and the list of the options), `laws`
+//! (laws of those).
 #![tactic(auto)]
 
 mod laws;

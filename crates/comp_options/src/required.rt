@@ -1,4 +1,4 @@
-//! Which options a canonical function needs, and the options as they are written.
+//! Which options a canonical function needs, and the list of the options.
 //!
 //! Component model, binary format: `canonopt`; Canonical ABI: lifting and lowering, `realloc`,
 //! `string-encoding`.
@@ -55,19 +55,19 @@ impl Flags for RequiredOptions {
     }
 }
 
-/// Why options can't be written.
+/// Why options can't be listed.
 #[derive(Clone, Copy, Debug, PartialEq, Eq, Error)]
 pub enum OptionFault {
-    /// A memory is needed, and there is none.
+    /// A memory is needed and missing.
     #[error("O1 NoMemory")]
     NoMemory,
-    /// A realloc is needed, and there is none.
+    /// A realloc is needed and missing.
     #[error("O2 NoRealloc")]
     NoRealloc,
 }
 
 impl RequiredOptions {
-    /// Adds what it needs to lift a value of these contents out of memory.
+    /// Adds the options for lifting a value of these contents from memory.
     pub fn add_lift(&mut self, contents: TypeContents)
         ensures { self.new.0 ≡ lifted contents.0 self.old.0 }
     {
@@ -80,7 +80,7 @@ impl RequiredOptions {
         }
     }
 
-    /// Adds what it needs to lower a value of these contents into memory.
+    /// Adds the options for lowering a value of these contents into memory.
     pub fn add_lower(&mut self, contents: TypeContents)
         ensures { self.new.0 ≡ lowered contents.0 self.old.0 }
     {
@@ -92,7 +92,7 @@ impl RequiredOptions {
         }
     }
 
-    /// What a call of an imported function needs. It takes no memory.
+    /// The options of a call of an imported function. It allocates nothing.
     pub fn for_import(resolve: &Resolve, function: &Function, abi: AbiVariant) -> RequiredOptions
         requires sound { IsSound resolve.now }
         requires present { HasFunction resolve.now function.now }
@@ -109,8 +109,8 @@ impl RequiredOptions {
         set
     }
 
-    /// What a call of an exported function needs, with what its `task.return` needs where it is
-    /// asynchronous. It takes no memory.
+    /// The options of a call of an exported function, with those of its `task.return` where it is
+    /// asynchronous. It allocates nothing.
     pub fn for_export(resolve: &Resolve, function: &Function, abi: AbiVariant) -> RequiredOptions
         requires sound { IsSound resolve.now }
         requires present { HasFunction resolve.now function.now }
@@ -131,7 +131,7 @@ impl RequiredOptions {
         set
     }
 
-    /// What `task.return` of a function needs. It takes no memory.
+    /// The options of `task.return` of a function. It allocates nothing.
     pub fn for_task_return(resolve: &Resolve, function: &Function) -> RequiredOptions
         requires sound { IsSound resolve.now }
         requires present { HasFunction resolve.now function.now }
@@ -141,7 +141,7 @@ impl RequiredOptions {
         RequiredOptions(set.0 & 13)
     }
 
-    /// What reading from a stream or a future needs, or writing to it. It takes no memory.
+    /// The options of reading from a stream or a future, or of writing to it. It allocates nothing.
     pub fn for_payload(
         resolve: &Resolve,
         info: &PayloadInfo,
@@ -164,8 +164,8 @@ impl RequiredOptions {
 
     /// The options in the order memory, realloc, encoding, asynchronous, each where it is needed.
     ///
-    /// `NoMemory` where a memory is needed and there is none; `NoRealloc` where memory is no fault, a
-    /// realloc is needed and there is none.
+    /// `NoMemory` where a memory is needed and missing; `NoRealloc` where no memory is missing, and a
+    /// realloc is needed and missing.
     pub fn into_iter(
         self,
         encoding: StringEncoding,
@@ -209,14 +209,14 @@ impl RequiredOptions {
     }
 }
 
-/// Which way a value is passed: out of memory, or into it.
+/// The direction in which a value is passed: from memory, or into it.
 #[derive(Clone, Copy, Debug, PartialEq, Eq)]
 enum Direction {
     Lift,
     Lower,
 }
 
-/// What is needed to pass parameters one way.
+/// The options for passing parameters in one direction.
 fn pass_params(resolve: &Resolve, params: &[Param], way: Direction) -> RequiredOptions
     requires sound { IsSound resolve.now }
     requires all_present { AllByRecursion (λ p. HasType resolve.now (Some p.ty)) params.now }
@@ -255,7 +255,7 @@ fn direction_of(kind: PayloadFuncKind) -> Direction
     }
 }
 
-/// What a stream or a future carries contains.
+/// The contents of the element type of a stream or a future.
 fn payload_contents(resolve: &Resolve, payload: &PayloadType) -> TypeContents
     requires sound { IsSound resolve.now }
     requires present { HasPayload resolve.now payload.now }

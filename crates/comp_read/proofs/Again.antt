@@ -1,4 +1,4 @@
--- What is spelled by a component is read again.
+-- What a component encodes is read again.
 use Rattle.std.proofs.Common.{◌≡◌, ℕ, zero, suc, ◌+◌, ◌-◌, ◌<◌, ◌≤◌, ◌^◌, Bool, true, false, eqb, List, [], ◌∷◌, ◌++◌, length, take, map, Option, Some, refl, sym, ap, ap₂, subst, ◌∙◌, arith, ◌&&◌}
 use Rattle.std.specs.Prelude.{Ok, if◌then◌else◌}
 use Rattle.std.specs.List.{flat_map, AllByRecursion}
@@ -24,9 +24,9 @@ use Rattle.comp_read.proofs.ItemLaws.{item_exact, Inside}
 use Rattle.comp_read.proofs.SectionLoop.{one_step, at_end}
 use Rattle.comp_read.proofs.SectionLaws.{Apart, wrap, wrapped_contents, wrapped_length}
 
--- ---- neighbours
+-- ---- neighbouring sections
 
--- no section is one with the section before it
+-- no two neighbouring sections should be one section
 abbrev pub Links : List Section → Type 0
 Links [] = Unit {0}
 Links (s ∷ ss) = Apart s.id ss × Links ss
@@ -153,7 +153,7 @@ component_again {A} f W at reads offset start xs w fits =
     let read = groups_again f W at reads g.groups (length body) (start + 8) 0 g.good (first_apart (map (group_section f) g.groups)) link all fit (omega (arith, ap length same)) in
     ap (sections_at at (length body) (start + 8) 0) same ∙ read ∙ ap (λ (ys : List A). Ok ys) g.join
 
--- ---- what is in a section of items
+-- ---- the contents of a section of items
 
 not_nested : (x : Item) → (item x).id ≡ 4 → ⊥
 not_nested (items.CoreModule bytes) p = omega (arith, p)
@@ -224,7 +224,7 @@ contents_again id inner xs h w = contents_by id inner xs h w (eqb id 0) (eqb id 
 pub items_again_in : ReadsAgain item IsItem item_contents_at
 items_again_in = record { again = λ id offset start inner xs h w. ap (ok_or_at offset) (contents_again id inner xs h w) }
 
--- ---- what is in a section of definitions
+-- ---- the contents of a section of definitions
 
 -- definitions that are items
 record Unwrapped (xs : List Def) : Type 0 where

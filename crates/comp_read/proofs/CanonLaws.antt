@@ -99,7 +99,7 @@ context_again contexts.I64 rest = refl
 context_exact : IsExact (λ c. octet (context_byte c)) Always context_at
 context_exact = record { takes = context_takes; fine = λ bytes x rest e. tt; again = λ x rest w fits. context_again x rest }
 
--- ---- what several intrinsics have
+-- ---- what intrinsics have in common
 
 pub indexed_options : IsExact (λ (p : ℕ × List CanonicalOption). number p.0 ⊕ listed option_bytes p.1) (λ p. IsIndex p.0 × AreOptions p.1) index_and_options_at
 unfolding index_and_options_at

@@ -1,4 +1,4 @@
--- Readers that take exactly what is spelled: what they take spells the value, and what is spelled is read again.
+-- Exact readers: the bytes that they take are the encoding of the value, and each encoding is read again.
 use Rattle.std.proofs.Common.{◌≡◌, ℕ, zero, suc, ◌+◌, ◌-◌, ◌*◌, ◌/◌, ◌%◌, ◌^◌, ◌<◌, ◌≤◌, Bool, true, false, cond, ltb, eqb, List, [], ◌∷◌, ◌++◌, length, take, drop, Option, Some, None, refl, sym, ap, subst, ◌∙◌, append_assoc, arith, inl, inr, ◌⊎◌, ◌&&◌, ◌||◌}
 use Rattle.std.specs.Prelude.{not}
 use Rattle.std.specs.List.{AllByRecursion}
@@ -38,9 +38,9 @@ guarded_not true r y e = absurd cc
 pub same_cons : (a b : ℕ) (xs ys : List ℕ) → a ≡ b → xs ≡ ys → a ∷ xs ≡ b ∷ ys
 same_cons a b xs ys p q = cc
 
--- ---- what was taken
+-- ---- the bytes that were taken
 
--- what was taken from the front spells so
+-- the bytes taken from the front are this encoding
 pub record Took (s : Encoding) (bytes rest : List ℕ) : Type 0 where
   pub parts : bytes ≡ s.bytes ++ rest
   pub fits : Fits s.counts
@@ -65,14 +65,14 @@ pub record IsExact {A : Type 0} (f : A → Encoding) (W : A → Type 0) (at : Re
   pub fine : (bytes : List ℕ) (x : A) (rest : List ℕ) → at bytes ≡ Some (x, rest) → W x
   pub again : (x : A) (rest : List ℕ) → W x → Fits (f x).counts → at ((f x).bytes ++ rest) ≡ Some (x, rest)
 
--- a step, and what is read after it
+-- a step, and the reading of the rest after it
 pub step : {A B : Type 0} {f : A → Encoding} {W : A → Type 0} {at : Reader A} → IsExact f W at → (bytes : List ℕ) (go : A × List ℕ → Option B) (y : B) → (at bytes >>= go) ≡ Some y
     → (x : A × List ℕ) × Took (f x.0) bytes x.1 × (go x ≡ Some y)
 step {at} exact bytes go y e =
     let b = bind_some (at bytes) go y e in
     (b.0, exact.takes bytes b.0.0 b.0.1 b.1, b.2)
 
--- by another name for what is writable
+-- the same for another predicate of the writable values
 pub fewer : {A : Type 0} {f : A → Encoding} {V : A → Type 0} {at : Reader A} → IsExact f V at → (W : A → Type 0) → ((x : A) → W x → V x) → ((x : A) → V x → W x) → IsExact f W at
 fewer exact W less more = record {
   takes = exact.takes;
@@ -95,7 +95,7 @@ made_takes {A} {B} {f} {W} {at} exact g make same bytes y rest e =
 pub made_again : {A B : Type 0} {f : A → Encoding} {W : A → Type 0} {at : Reader A} → IsExact f W at → (make : A → B) (a : A) (rest : List ℕ) → W a → Fits (f a).counts → made_at make at ((f a).bytes ++ rest) ≡ Some (make a, rest)
 made_again exact make a rest w fits = rw (exact.again a rest w fits) refl
 
--- what holds of a value that is made of what is read
+-- a property of a value that is made of what is read
 pub bind_fine : {A B : Type 0} {at : Reader A} (F : A → Type 0) (G : B → Type 0) (make : A → B) → ((bytes : List ℕ) (a : A) (rest : List ℕ) → at bytes ≡ Some (a, rest) → F a) → ((a : A) → F a → G (make a)) → (bytes : List ℕ) (y : B) (rest : List ℕ) → made_at make at bytes ≡ Some (y, rest) → G y
 bind_fine {A} {B} {at} F G make one keeps bytes y rest e =
     let a = bind_some (at bytes) (λ x. let p : Read B = Some (make x.0, x.1) in p) (y, rest) e in
@@ -105,7 +105,7 @@ bind_fine {A} {B} {at} F G make one keeps bytes y rest e =
 pub made_fine : {A B : Type 0} {f : A → Encoding} {W : A → Type 0} {at : Reader A} → IsExact f W at → (G : B → Type 0) (make : A → B) → ((a : A) → W a → G (make a)) → (bytes : List ℕ) (y : B) (rest : List ℕ) → made_at make at bytes ≡ Some (y, rest) → G y
 made_fine {W = W} exact G make keeps bytes y rest e = bind_fine W G make exact.fine keeps bytes y rest e
 
--- a record by its parts
+-- a record from its parts
 pub made_exact : {A B : Type 0} {f : A → Encoding} {W : A → Type 0} {at : Reader A} → IsExact f W at → (make : A → B) (back : B → A) → ((b : B) → make (back b) ≡ b) → ((a : A) → back (make a) ≡ a) → IsExact (λ b. f (back b)) (λ b. W (back b)) (made_at make at)
 made_exact {A} {B} {f} {W} {at} exact make back there here = record {
   takes = made_takes exact (λ b. f (back b)) make (λ a. ap f (here a));
@@ -170,7 +170,7 @@ before_exact {A} {f} {W} {at} exact byte = record {
       ∙ rw (exact.again x (byte ∷ rest) w (fits_left (f x).counts [] fits), expect_again byte rest) refl;
 }
 
--- ---- a first byte, and what it says comes next
+-- ---- a first byte, and the reader that it selects
 
 -- this byte, and then what a reader takes
 pub case : {A E : Type 0} {g : A → Encoding} {W : A → Type 0} {at : Reader A} → IsExact g W at → (f : E → Encoding) (make : A → E) (b t : ℕ) (bytes : List ℕ) (others : Read E) (x : E) (rest : List ℕ) → ((a : A) → f (make a) ≡ octet t ⊕ g a)
@@ -196,7 +196,7 @@ lone {E} f c b t bytes others x rest encoded e there =
       | inr w ↦ there w.1
     ]
 
--- this byte, and what another reader takes of the rest
+-- this byte selects one reader, and any other byte the other readers
 pub other : {E : Type 0} (f : E → Encoding) (b t : ℕ) (bytes : List ℕ) (read others : Read E) (x : E) (rest : List ℕ)
     → cond (eqb b t) read others ≡ Some (x, rest) → (b ≡ t → read ≡ Some (x, rest) → Took (f x) (b ∷ bytes) rest) → (others ≡ Some (x, rest) → Took (f x) (b ∷ bytes) rest) → Took (f x) (b ∷ bytes) rest
 other f b t bytes read others x rest e here there =
@@ -206,7 +206,7 @@ pub tag_case : {A : Type 0} {P : Type 0} (b t : ℕ) (made others : Option A) (y
 tag_case b t made others y e here there =
     elim (chosen (eqb b t) made others (Some y) e) [ inl w ↦ here (eqb-true _ _ w.0) w.1 | inr w ↦ there w.1 ]
 
--- the same, for what holds of the value
+-- the same, for a property of the value
 pub fine_case : {A E : Type 0} {g : A → Encoding} {W : A → Type 0} {at : Reader A} → IsExact g W at → (F : E → Type 0) (make : A → E) (b t : ℕ) (bytes : List ℕ) (others : Read E) (x : E) (rest : List ℕ) → ((a : A) → W a → F (make a))
     → cond (eqb b t) (made_at make at bytes) others ≡ Some (x, rest) → (others ≡ Some (x, rest) → F x) → F x
 fine_case exact F make b t bytes others x rest keeps e there =
@@ -220,7 +220,7 @@ fine_lone {E} F c b t bytes others x rest holds e there =
 pub took_byte : (b t : ℕ) (bytes : List ℕ) → b ≡ t → Took (octet t) (b ∷ bytes) bytes
 took_byte b t bytes is = record { parts = same_cons b t bytes bytes is refl; fits = tt }
 
--- a value of what stands behind something that was taken
+-- a value that follows something that was taken
 pub after_takes : {A E : Type 0} {g : A → Encoding} {W : A → Type 0} {at : Reader A} → IsExact g W at → (f : E → Encoding) (make : A → E) (s : Encoding) (all bytes : List ℕ) → Took s all bytes → ((a : A) → f (make a) ≡ s ⊕ g a) → (x : E) (rest : List ℕ) → made_at make at bytes ≡ Some (x, rest) → Took (f x) all rest
 after_takes {A} {E} {g} {W} {at} exact f make s all bytes front encoded x rest e =
     let a = step exact bytes (λ y. let p : Read E = Some (make y.0, y.1) in p) (x, rest) e in
@@ -231,7 +231,7 @@ pub just_took : {E : Type 0} (f : E → Encoding) (c : E) (s : Encoding) (all by
 just_took {E} f c s all bytes front encoded x rest e =
     subst (λ (p : E × List ℕ). Took (f p.0) all p.1) (some_is (c, bytes) (x, rest) e) (subst (λ (t : Encoding). Took t all bytes) (sym encoded) front)
 
--- what a first byte that is not t says is not what t says
+-- the first byte, and the value of the reader that it selects; a byte whose reader fails is another one
 pub record First {E : Type 0} (after : ℕ → Reader E) (bytes : List ℕ) (y : E × List ℕ) : Type 0 where
   pub byte : ℕ
   pub rest : List ℕ
@@ -410,7 +410,7 @@ items_again {A} {f} {W} {at} exact (x ∷ xs) rest w fits =
     ap (items_at at (suc (length xs))) (append_assoc (f x).bytes more rest)
     ∙ rw (exact.again x (more ++ rest) w.0 (fits_left (f x).counts (each f xs).counts fits), items_again exact xs rest w.1 (fits_right (f x).counts (each f xs).counts fits)) refl
 
--- what holds of each that is read holds of all
+-- a property of each item that is read is one of all
 pub each_read : {A : Type 0} {at : Reader A} (P : A → Type 0) → ((bytes : List ℕ) (x : A) (rest : List ℕ) → at bytes ≡ Some (x, rest) → P x) → (n : ℕ) (bytes : List ℕ) (xs : List A) (rest : List ℕ) → items_at at n bytes ≡ Some (xs, rest) → AllByRecursion P xs
 unfolding items_at
 each_read {A} {at} P one zero bytes xs rest e = subst (λ (y : List A × List ℕ). AllByRecursion P y.0) (some_is ([], bytes) (xs, rest) e) tt

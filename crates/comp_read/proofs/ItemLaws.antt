@@ -70,7 +70,7 @@ record TookItem (id : ℕ) (x : Item) (bytes rest : List ℕ) : Type 0 where
   is : (item x).id ≡ id
   fine : IsItem x
 
--- a definition of what stands behind something that was taken
+-- a definition that follows something that was taken
 item_of : {A : Type 0} {g : A → Encoding} {W : A → Type 0} {at : Reader A} → IsExact g W at → (make : A → Item) (id n : ℕ) (s : Encoding) (all bytes : List ℕ) → Took s all bytes → ((a : A) → (item (make a)).text ≡ s ⊕ g a) → ((a : A) → (item (make a)).id ≡ n) → ((a : A) → W a → IsItem (make a)) → id ≡ n → (x : Item) (rest : List ℕ) → made_at make at bytes ≡ Some (x, rest) → TookItem id x all rest
 item_of {A} {g} {W} {at} exact make id n s all bytes front encoded numbered keeps id-is x rest e =
     let a = step exact bytes (λ y. let p : Read Item = Some (make y.0, y.1) in p) (x, rest) e in
@@ -164,9 +164,9 @@ item_again id s x rest w fits =
 pub item_exact : (id : ℕ) → shares id ≡ true → IsExact (λ x. (item x).text) (IsOf id) (item_at id)
 item_exact id s = record { takes = λ bytes x rest e. (item_takes id bytes x rest e).took; fine = λ bytes x rest e. let t = item_takes id bytes x rest e in (t.is, t.fine); again = item_again id s }
 
--- ---- what is in a section
+-- ---- the contents of a section
 
--- The bytes in a section of this id spell these definitions.
+-- The contents of a section of this id encode these definitions.
 pub record Inside {A : Type 0} (f : A → Entry) (id : ℕ) (inner : List ℕ) (xs : List A) : Type 0 where
   pub each_of : AllByRecursion (λ x. (f x).id ≡ id) xs
   pub some : 0 < length xs
@@ -224,7 +224,7 @@ module_takes inner xs e =
     let g = guarded (is_core_module inner) made xs e in
     subst (λ (v : List Item). Inside item 1 inner v) g.1 text
 
--- what is read in a section is writable
+-- the contents of a section that are read are writable
 counted_fine : (id : ℕ) (inner : List ℕ) (xs : List Item) → counted_at id inner ≡ Some xs → AllByRecursion IsItem xs
 unfolding counted_at
 counted_fine id inner xs e =

@@ -5,7 +5,7 @@ use Rattle.comp_read.specs.declared.fault.PartFault.{PartFault}
 use Rattle.comp_read.specs.declared.fault.PartFault.TheVariants as faults
 use Rattle.comp_read.specs.Reading.{◌>>=◌, Read, Reader, Fails, items_at}
 
--- what was read before, and what is still read
+-- the items that were read before, and the reading of the rest
 abbrev pub with_front : {A : Type 0} → List A → Read (List A) → Read (List A)
 with_front front read = read >>= λ x. Some (front ++ x.0, x.1)
 

@@ -1,4 +1,4 @@
--- What is read as sections is spelled so.
+-- The bytes of sections that are read are their encoding.
 use Rattle.std.proofs.Common.{◌≡◌, ℕ, zero, suc, ◌+◌, ◌-◌, Bool, true, false, eqb, List, [], ◌∷◌, ◌++◌, length, drop, map, Some, refl, sym, ap, ap₂, subst, ◌∙◌, arith, inl, inr, ◌&&◌, nat_eq}
 use Rattle.std.specs.Prelude.{Ok, Err}
 use Rattle.std.specs.List.{starts_with, AllByRecursion}
@@ -22,7 +22,7 @@ use Rattle.comp_read.proofs.ItemLaws.{Inside, contents_takes, contents_fine}
 
 -- ---- sections of definitions, one after another
 
--- the first section is not one with a section of this id before it
+-- the first section and one of this id before it need not be one section
 abbrev pub Apart : ℕ → List Section → Type 0
 Apart id [] = Unit {0}
 Apart id (s ∷ ss) = repeats id s.id ≡ false
@@ -61,26 +61,26 @@ join_by f id x y ys more ids apart true s alone ih =
     ap (before (f x)) (ih s)
     ∙ merged (f x) (section_of (map f (y ∷ ys))) (sections (map f more)) (both_true (shares (f x).id) (eqb (f x).id (f y).id) (ap shares ids.0 ∙ s) (eq-eqb _ _ (ids.0 ∙ sym ids.1.0)))
 
--- definitions of one section before others
+-- definitions of one section, before others
 pub join : {A : Type 0} (f : A → Entry) (id : ℕ) (x : A) (xs more : List A) → AllByRecursion (λ y. (f y).id ≡ id) (x ∷ xs) → (shares id ≡ false → xs ≡ []) → Apart id (sections (map f more)) → sections (map f ((x ∷ xs) ++ more)) ≡ section_of (map f (x ∷ xs)) ∷ sections (map f more)
 join f id x [] more ids alone apart =
     alone_before (f x) (sections (map f more)) (subst (λ (n : ℕ). Apart n (sections (map f more))) (sym ids.0) apart)
 join f id x (y ∷ ys) more ids alone apart =
     join_by f id x y ys more ids apart (shares id) refl alone (λ s. join f id y ys more ids.1 (λ h. absurd (true_not_false (sym s ∙ h))) apart)
 
--- ---- what is in sections
+-- ---- the contents of sections
 
 pub record ReadsInside {A : Type 0} (f : A → Entry) (W : A → Type 0) (at : Contents A) : Type 0 where
   pub fine : (id offset start : ℕ) (inner : List ℕ) (xs : List A) → at id offset start inner ≡ Ok xs → AllByRecursion W xs
   pub inside : (id offset start : ℕ) (inner : List ℕ) (xs : List A) → at id offset start inner ≡ Ok xs → Inside f id inner xs
 
--- a section of what is in it
+-- a section, from its contents
 sized_took : (id : ℕ) (c : Encoding) (inner bytes rest : List ℕ) → inner ≡ c.bytes → Fits c.counts → Took (octet id ⊕ named inner) bytes rest → Took (octet id ⊕ sized c) bytes rest
 sized_took id c inner bytes rest is fits t =
     let u = subst (λ (w : List ℕ). Took (octet id ⊕ named w) bytes rest) is t in
     record { parts = u.parts; fits = (u.fits.0, fits) }
 
--- what was read of some sections
+-- what was read from some sections
 pub record EncodedAs {A : Type 0} (f : A → Entry) (W : A → Type 0) (last : ℕ) (bytes left : List ℕ) (xs : List A) : Type 0 where
   pub took : Took (each section (sections (map f xs))) bytes left
   pub fine : AllByRecursion W xs
@@ -144,7 +144,7 @@ sections_take {A} f W at reads (suc most) offset last bytes xs e =
 pub preamble_parts : (bytes : List ℕ) → starts_with nat_eq bytes preamble ≡ true → bytes ≡ preamble ++ drop 8 bytes
 preamble_parts bytes e = (starts_is Decides-eqb bytes preamble true (sym e)).0 refl
 
--- what a component says of the bytes
+-- what a component says of its bytes
 pub record Whole {A : Type 0} (f : A → Entry) (W : A → Type 0) (bytes : List ℕ) (xs : List A) : Type 0 where
   pub took : Took (component (map f xs)) bytes []
   pub fine : AllByRecursion W xs
@@ -166,7 +166,7 @@ items_inside = record {
   inside = λ id offset start inner xs e. contents_takes id inner xs (ok_or_is_ok offset _ xs e);
 }
 
--- items are definitions
+-- items as definitions
 abbrev pub wrap : List Item → List Def
 wrap xs = map (λ i. defs.Item i) xs
 
@@ -235,7 +235,7 @@ definitions_inside = record {
   inside = λ id offset start inner xs e. (both_read id offset start inner xs e).inside;
 }
 
--- what is read is spelled
+-- the bytes that are read encode the result
 pub encoded : (bytes : List ℕ) (xs : List Def) → component_at definition_contents_at 0 0 bytes ≡ Ok xs → Encodes bytes xs
 encoded bytes xs e =
     let t = component_takes definition IsDefinition definition_contents_at definitions_inside 0 0 bytes xs e in

@@ -57,7 +57,7 @@ section_shorter {D} at offset last bytes id found rest e =
 
 -- ---- the loop
 
--- what was read before, and what is still read
+-- the definitions that were read before, and the reading of the rest
 abbrev pub with_found : {D : Type 0} → List D → ReadResult (List D) → ReadResult (List D)
 with_found front read = read >>> λ more. Ok (front ++ more)
 

@@ -28,7 +28,7 @@ only_err : {A B : Type 0} (r : ReadResult A) (make : A → B) (p : ℕ) → (r >
 only_err (Ok x) make p e = absurd cc
 only_err (Err q) make p e = ap (λ (n : ℕ). Err n) (err_is q p e)
 
--- groups of definitions that stand at the front of bytes
+-- groups of definitions that are encoded at the front of the bytes
 record Fronts {A : Type 0} (f : A → Entry) (W : A → Type 0) (last : ℕ) (bytes : List ℕ) (gs : List (List A)) (after : List ℕ) : Type 0 where
   good : AllByRecursion (IsGroup f) gs
   apart : Apart last (map (group_section f) gs)
@@ -37,7 +37,7 @@ record Fronts {A : Type 0} (f : A → Entry) (W : A → Type 0) (last : ℕ) (by
   fits : Fits (groups_text f gs).counts
   text : bytes ≡ (groups_text f gs).bytes ++ after
 
--- the first of them is read, and the others stand behind it
+-- the first of them is read, and the others follow it
 record Front {A : Type 0} (f : A → Entry) (W : A → Type 0) (at : Contents A) (offset last : ℕ) (bytes : List ℕ) (x : A) (xs : List A) (gs : List (List A)) (after : List ℕ) : Type 0 where
   rest : List ℕ
   read : section_at at offset last bytes ≡ Ok ((f x).id, x ∷ xs, rest)
@@ -68,7 +68,7 @@ front_read {A} f W at reads offset last bytes x xs gs after h =
       size = ap length text ∙ length-append one rest;
     }
 
--- Sections were read up to a place, and none there.
+-- Sections were read up to an offset, and none at that offset.
 record Stops {A : Type 0} (f : A → Entry) (W : A → Type 0) (at : Contents A) (offset last : ℕ) (bytes : List ℕ) (p : ℕ) : Type 0 where
   found : List A
   rest : List ℕ
@@ -148,7 +148,7 @@ stops {A} f W at inside reads (suc most) offset last bytes p enough e =
 drop_preamble : (body : List ℕ) → drop 8 (preamble ++ body) ≡ body
 drop_preamble body = refl
 
--- where a component stops, and what stands there
+-- where reading a component stops, and the bytes there
 pub record Stuck {A : Type 0} (f : A → Entry) (W : A → Type 0) (at : Contents A) (start : ℕ) (bytes : List ℕ) (p : ℕ) : Type 0 where
   pub end : ℕ
   pub longest : Longest f W bytes end
@@ -197,7 +197,7 @@ component_stops {A} f W at inside reads start bytes p begins e =
       stuck = ap (λ (q : ℕ). section_at at q s.next s.rest) (sym at_end) ∙ s.stuck;
     }
 
--- ---- what stands where reading stops
+-- ---- the bytes where reading stops
 
 nested_header : (next : ℕ) (bytes inner : List ℕ) (n : Nested bytes inner) → header_at next bytes ≡ Some (4, inner, n.more)
 nested_header next bytes inner n = ap (header_at next) n.text ∙ header_again next 4 inner n.more (and_false (eqb next 4)) n.small
@@ -212,7 +212,7 @@ item_offset_by q p (Some h) start e =
     let make : List Item → ℕ × List Item × List ℕ = λ found. (h.0, found, h.2) in
     ok_or_is_err q (contents_at h.0 h.1) make p e
 
--- a section of items is told where it stands
+-- the fault of a section of items has the section's own offset
 item_offset : (q next : ℕ) (bytes : List ℕ) (p : ℕ) → section_at item_contents_at q next bytes ≡ Err p → p ≡ q
 unfolding section_at
 item_offset q next bytes p e = item_offset_by q p (header_at next bytes) (λ h. q + (length bytes - length h.2 - length h.1)) e
@@ -227,7 +227,7 @@ by_else : {A : Type 0} (b : Bool) (x y z : A) → b ≡ false → cond b x y ≡
 by_else true x y z h e = absurd (true_false h)
 by_else false x y z h e = e
 
--- what stands in the section at the front, where it has a component
+-- the bytes of the section at the front, if it has a component
 in_component : (end start next : ℕ) (bytes : List ℕ) (p : ℕ) (inner more : List ℕ) → header_at next bytes ≡ Some (4, inner, more) → start ≡ end + (length bytes - length more - length inner) → component_at item_contents_at end start inner ≡ Err p → Innermost bytes end p
 unfolding component_at
 in_component end start next bytes p inner more is start-is e =

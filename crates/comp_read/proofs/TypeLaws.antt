@@ -127,7 +127,7 @@ from_func is_async b t bytes x rest is b-is (Some f) h e =
     let made : TypeDef × List ℕ = (types.Func f.0, f.1) in
     subst (λ (y : TypeDef × List ℕ). Took (type_def y.0) (b ∷ bytes) y.1) (some_is made (x, rest) e) (func_takes is_async bytes f.0 f.1 h (b ∷ bytes) t is (took_byte b t bytes b-is))
 
--- a function type behind its byte
+-- a function type after its byte
 func_case : (is_async : Bool) (b t : ℕ) (bytes : List ℕ) (x : TypeDef) (rest : List ℕ) → t ≡ (if is_async then 0x43 else 0x40) → b ≡ t → made_at (λ f. types.Func f) (func_type_at is_async) bytes ≡ Some (x, rest) → Took (type_def x) (b ∷ bytes) rest
 func_case is_async b t bytes x rest is b-is e =
     from_func is_async b t bytes x rest is b-is (func_type_at is_async bytes) refl e
@@ -223,7 +223,7 @@ member_fine (b ∷ bytes) x rest e =
 pub member_exact : IsExact member IsMember member_at
 member_exact = record { takes = member_takes; fine = member_fine; again = member_again }
 
--- an instance type, behind its byte
+-- an instance type, after its byte
 pub instance_type_exact : IsExact (λ (t : InstanceType). listed member t.members) IsInstanceType instance_type_at
 unfolding instance_type_at
 instance_type_exact =

@@ -1,4 +1,4 @@
--- What the reader answers.
+-- The result of the reader.
 use Rattle.std.proofs.Common.{ℕ, List, sym, ◌∙◌}
 use Rattle.std.specs.Prelude.{Result, Ok, Err, IfOk, IfErr}
 use Rattle.comp_bytes.specs.Grammar.{Encodes}

@@ -1,4 +1,4 @@
--- Why bytes are refused: no list that a program can hold is spelled by them. Component model, binary format.
+-- Why bytes are refused: they encode no list that a program can hold. Component model, binary format.
 use Rattle.std.specs.Prelude.{ℕ, List}
 use Rattle.comp_bytes.specs.Grammar.{Encodes}
 use Rattle.comp_bytes.specs.declared.def.Def.{Def}
@@ -10,7 +10,7 @@ use Rattle.comp_read.specs.declared.fault.ReadFault.TheVariants as reads
 abbrev pub EncodesNone : List ℕ → Type 0
 EncodesNone bytes = (ds : List Def) → IsWritable ds → Encodes bytes ds → ⊥
 
--- Want of memory is always allowed. Else the place is that of the innermost section that can't be read.
+-- Out of memory is always allowed. Else the fault has the offset of the innermost section that can't be read.
 abbrev pub IsRefusal : List ℕ → ReadFault → Type 0
 IsRefusal bytes reads.Memory = Unit {0}
 IsRefusal bytes (reads.Grammar offset) = EncodesNone bytes × IsFaultOffset bytes offset

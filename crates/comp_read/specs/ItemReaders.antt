@@ -60,7 +60,7 @@ import_at bytes = made_at (λ p. items.Import p.0 p.1) (then_at extern_name_at d
 unfoldable pub export_at : Reader Item
 export_at bytes = made_at (λ p. items.Export p.0.0.0 p.0.0.1 p.0.1 p.1) (then_at (then_at (then_at extern_name_at sort_at) number_at) (option_at description_at)) bytes
 
--- a definition of a section that definitions share
+-- a definition of a section that several definitions share
 unfoldable pub item_at : ℕ → Reader Item
 item_at id bytes =
     if id == 2 then core_instance_at bytes
@@ -72,7 +72,7 @@ item_at id bytes =
     else (if id == 11 then export_at bytes
     else None))))))
 
--- all that is in such a section: a count that is not 0, the definitions, and nothing behind them
+-- the contents of such a section: a count that is not 0, the definitions, and nothing after them
 unfoldable pub counted_at : ℕ → List ℕ → Option (List Item)
 counted_at id bytes =
     number_at bytes >>= λ n.
@@ -81,11 +81,11 @@ counted_at id bytes =
 unfoldable pub custom_at : List ℕ → Option (List Item)
 custom_at bytes = name_at bytes >>= λ name. Some (items.Custom name.0 name.1 ∷ [])
 
--- a core module, which begins as one does
+-- a core module, which begins with the core preamble
 unfoldable pub module_at : List ℕ → Option (List Item)
 module_at bytes = if is_core_module bytes then Some (items.CoreModule bytes ∷ []) else None
 
--- all that is in a section of an id
+-- the contents of a section of an id
 unfoldable pub contents_at : ℕ → List ℕ → Option (List Item)
 contents_at id bytes =
     if id == 0 then custom_at bytes

@@ -82,7 +82,7 @@ primitive_of b =
 unfoldable pub primitive_after : ℕ → Reader Primitive
 primitive_after b bytes = primitive_of b >>= λ p. Some (p, bytes)
 
--- a type index stands where no primitive type does
+-- a type index, if there is no primitive type
 abbrev pub primitive_or : Read Primitive → Read ℕ → Read ComponentValType
 primitive_or (Some p) index = Some (values.Primitive p.0, p.1)
 primitive_or None index = index >>= λ n. Some (values.Defined n.0, n.1)
@@ -171,7 +171,7 @@ description_after b bytes =
 unfoldable pub description_at : Reader Description
 description_at bytes = tagged description_after bytes
 
--- an alias of a core export, behind the byte of core sorts
+-- an alias of a core export, after the byte of core sorts
 unfoldable pub core_alias_at : Reader Alias
 core_alias_at bytes = made_at (λ p. aliases.CoreExport p.0.0 p.0.1 p.1) (then_at (then_at (before_byte kind_at 0x01) number_at) name_at) bytes
 
@@ -181,7 +181,7 @@ export_alias_at kind bytes = made_at (λ p. aliases.Export kind p.0 p.1) (then_a
 unfoldable pub outer_alias_at : Reader Alias
 outer_alias_at bytes = made_at (λ p. aliases.Outer p.0 p.1) (then_at number_at number_at) bytes
 
--- an alias of a type, which is an export or stands further out
+-- an alias of a type, which is an export or one of an outer scope
 abbrev pub type_alias_after : ℕ → Reader Alias
 type_alias_after b bytes =
     if b == 0x00 then export_alias_at exports.Type bytes
@@ -213,7 +213,7 @@ member_after b bytes =
 unfoldable pub member_at : Reader Member
 member_at bytes = tagged member_after bytes
 
--- an instance type, behind its byte
+-- an instance type, after its byte
 unfoldable pub instance_type_at : Reader InstanceType
 instance_type_at bytes = made_at (λ m. record { members = m }) (list_at member_at) bytes
 

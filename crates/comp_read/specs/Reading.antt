@@ -17,7 +17,7 @@ Read A = Option (A × List ℕ)
 abbrev pub Reader : Type 0 → Type 0
 Reader A = List ℕ → Read A
 
--- What a function returned, seen by view, is what reading gives, unless memory ran out.
+-- The result of a function, as a view, is that of the reader, unless it is out of memory.
 abbrev pub Fails : {Y : Type 0} → PartFault → Option Y → Type 0
 Fails faults.Memory read = Unit {0}
 Fails faults.Malformed read = read ≡ None
@@ -43,21 +43,21 @@ byte_at (b ∷ rest) = Some (b, rest)
 unfoldable pub expect : ℕ → List ℕ → Option (List ℕ)
 expect byte bytes = byte_at bytes >>= λ b. if b.0 == byte then Some b.1 else None
 
--- behind this byte
+-- a reader after this byte
 abbrev pub after_byte : {A : Type 0} → ℕ → Reader A → Reader A
 after_byte byte at bytes = expect byte bytes >>= λ rest. at rest
 
--- before this byte
+-- a reader before this byte
 abbrev pub before_byte : {A : Type 0} → Reader A → ℕ → Reader A
 before_byte at byte bytes = at bytes >>= λ x. expect byte x.1 >>= λ rest. Some (x.0, rest)
 
--- the first byte says what follows
+-- the first byte selects the reader of the rest
 abbrev pub tagged : {A : Type 0} → (ℕ → Reader A) → Reader A
 tagged after bytes = byte_at bytes >>= λ b. after b.0 b.1
 
 -- ---- numbers
 
--- A number below 2 ^ 32 in at most this many groups of seven bits, as few as can be. The last is below `end`.
+-- A number below 2 ^ 32 in at most this many groups of seven bits, as few as possible. The last is below `end`.
 unfoldable pub digits_at : ℕ → ℕ → Reader ℕ
 digits_at end zero bytes = None
 digits_at end (suc more) bytes =
@@ -70,13 +70,13 @@ digits_at end (suc more) bytes =
 unfoldable pub number_at : Reader ℕ
 number_at bytes = digits_at 128 5 bytes
 
--- a type index where a primitive type could stand
+-- a type index where a primitive type is possible too
 unfoldable pub type_index_at : Reader ℕ
 type_index_at bytes = digits_at 64 5 bytes
 
 -- ---- names, lists and options
 
--- what has its size in front
+-- bytes with their size in front
 unfoldable pub sized_at : Reader (List ℕ)
 sized_at bytes = number_at bytes >>= λ n. if nat_lt (length n.1) n.0 then None else Some (take n.0 n.1, drop n.0 n.1)
 

@@ -1,5 +1,5 @@
--- What every value of the program has, and a list of mere numbers may lack: its texts are UTF-8, and its indices are
--- numbers of 32 bits; and its core modules begin as such. Core standard, binary format: values (integers, names), modules.
+-- What every value of the program has, and a list of mere numbers may lack: its texts are UTF-8, its indices are
+-- below 2 ^ 32, and its core modules have their preamble. Core standard, binary format: values (integers, names), modules.
 use Rattle.std.specs.Prelude.{ℕ, ◌<◌, ◌^◌, List, Option, Some, None}
 use Rattle.std.specs.List.{AllByRecursion}
 use Rattle.std.specs.Str.{IsUtf8}
@@ -36,7 +36,7 @@ use Rattle.comp_bytes.specs.declared.def.Def.TheVariants as defs
 abbrev pub IsIndex : ℕ → Type 0
 IsIndex n = n < 2 ^ 32
 
--- what holds of the value that is there
+-- a property of the value, if there is one
 abbrev pub Optionally : {A : Type 0} → (A → Type 0) → Option A → Type 0
 Optionally W None = Unit {0}
 Optionally W (Some x) = W x

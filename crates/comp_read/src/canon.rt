@@ -118,7 +118,7 @@ fn memory_of(bytes: &[u8]) -> Result<(u32, &[u8]), PartFault>
     number(rest)
 }
 
-/// An intrinsic of errors, waiting or back pressure, behind its first byte.
+/// An intrinsic of errors, waiting or back pressure, after its first byte.
 #[tactic(auto, unfolding(crate::specs::PartReaders::waiting_after))]
 fn waiting(alloc: Global, tag: u8, bytes: &[u8]) -> Result<(Intrinsic, &[u8]), PartFault>
     ensures { Gives (λ x. (x.0, x.1.now)) result (waiting_after tag bytes.now) }
@@ -150,7 +150,7 @@ fn waiting(alloc: Global, tag: u8, bytes: &[u8]) -> Result<(Intrinsic, &[u8]), P
     }
 }
 
-/// An intrinsic of futures or of what follows them, behind its first byte.
+/// An intrinsic of futures or of a later group, after its first byte.
 #[tactic(auto, unfolding(crate::specs::PartReaders::future_after))]
 fn future(alloc: Global, tag: u8, bytes: &[u8]) -> Result<(Intrinsic, &[u8]), PartFault>
     ensures { Gives (λ x. (x.0, x.1.now)) result (future_after tag bytes.now) }
@@ -188,7 +188,7 @@ fn future(alloc: Global, tag: u8, bytes: &[u8]) -> Result<(Intrinsic, &[u8]), Pa
     }
 }
 
-/// An intrinsic of streams or of what follows them, behind its first byte.
+/// An intrinsic of streams or of a later group, after its first byte.
 #[tactic(auto, unfolding(crate::specs::PartReaders::stream_after))]
 fn stream(alloc: Global, tag: u8, bytes: &[u8]) -> Result<(Intrinsic, &[u8]), PartFault>
     ensures { Gives (λ x. (x.0, x.1.now)) result (stream_after tag bytes.now) }
@@ -226,7 +226,7 @@ fn stream(alloc: Global, tag: u8, bytes: &[u8]) -> Result<(Intrinsic, &[u8]), Pa
     }
 }
 
-/// An intrinsic of tasks or of what follows them, behind its first byte.
+/// An intrinsic of tasks or of a later group, after its first byte.
 #[tactic(auto, unfolding(crate::specs::PartReaders::task_after))]
 fn task(alloc: Global, tag: u8, bytes: &[u8]) -> Result<(Intrinsic, &[u8]), PartFault>
     ensures { Gives (λ x. (x.0, x.1.now)) result (task_after tag bytes.now) }
@@ -255,7 +255,7 @@ fn task(alloc: Global, tag: u8, bytes: &[u8]) -> Result<(Intrinsic, &[u8]), Part
     }
 }
 
-/// An intrinsic, behind its first byte.
+/// An intrinsic, after its first byte.
 #[tactic(auto, unfolding(crate::specs::PartReaders::intrinsic_after))]
 pub(crate) fn intrinsic(
     alloc: Global,

@@ -33,11 +33,11 @@ impl<T: Drop> From<AllocFailed<T>> for PartFault {
 /// Why bytes are not read as a component.
 #[derive(Debug, Drop, Error)]
 pub enum ReadFault {
-    /// A growth was refused.
+    /// An allocation failed.
     #[error("C1 Memory")]
     Memory,
-    /// Where the first section begins that cannot be read, of the innermost component: an offset in the
-    /// whole input. It is 0 where the input does not begin as a component does.
+    /// The offset, in bytes in the whole input, of the first section that cannot be read, of the innermost
+    /// component. It is 0 where the input does not begin with the preamble of a component.
     #[error("C2 Grammar place={place}")]
     Grammar { place: usize },
 }

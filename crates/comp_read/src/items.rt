@@ -93,7 +93,7 @@ fn type_item(alloc: Global, bytes: &[u8]) -> Result<(Item, &[u8]), PartFault>
     Ok((Item::Type(ty), rest))
 }
 
-/// A function for a core function, behind its first byte.
+/// A lift of a core function, after its first byte.
 #[tactic(auto, unfolding(crate::specs::ItemReaders::lift_at))]
 fn lift(alloc: Global, bytes: &[u8]) -> Result<(Item, &[u8]), PartFault>
     ensures { Gives (λ x. (x.0, x.1.now)) result (lift_at bytes.now) }
@@ -104,7 +104,7 @@ fn lift(alloc: Global, bytes: &[u8]) -> Result<(Item, &[u8]), PartFault>
     Ok((Item::Lift { func, options, ty }, rest))
 }
 
-/// A core function for a function, behind its first byte.
+/// A lowering of a function, after its first byte.
 #[tactic(auto, unfolding(crate::specs::ItemReaders::lower_at))]
 fn lower(alloc: Global, bytes: &[u8]) -> Result<(Item, &[u8]), PartFault>
     ensures { Gives (λ x. (x.0, x.1.now)) result (lower_at bytes.now) }
@@ -157,7 +157,7 @@ fn export(alloc: Global, bytes: &[u8]) -> Result<(Item, &[u8]), PartFault>
     ))
 }
 
-/// A definition of a section that definitions share.
+/// A definition of a section that several definitions share.
 #[tactic(auto, unfolding(crate::specs::ItemReaders::item_at))]
 fn item(alloc: Global, id: u8, bytes: &[u8]) -> Result<(Item, &[u8]), PartFault>
     ensures { Gives (λ x. (x.0, x.1.now)) result (item_at id bytes.now) }
@@ -177,7 +177,7 @@ fn item(alloc: Global, id: u8, bytes: &[u8]) -> Result<(Item, &[u8]), PartFault>
     }
 }
 
-/// Definitions one after another. Nothing is reserved by their count.
+/// Definitions one after another. Nothing is allocated by their count.
 #[tactic(auto, unfolding(crate::specs::Reading::items_at))]
 fn items(alloc: Global, id: u8, count: u32, bytes: &[u8]) -> Result<(Seq<Item>, &[u8]), PartFault>
     ensures { Gives (λ x. (x.0, x.1.now)) result (items_at (item_at id) count bytes.now) }
@@ -192,7 +192,7 @@ fn items(alloc: Global, id: u8, count: u32, bytes: &[u8]) -> Result<(Seq<Item>, 
     Ok((items, rest))
 }
 
-/// All that is in a section that definitions share.
+/// The contents of a section that several definitions share.
 #[tactic(auto, unfolding(crate::specs::ItemReaders::counted_at))]
 fn counted(alloc: Global, id: u8, bytes: &[u8]) -> Result<Seq<Item>, PartFault>
     ensures { Gives (λ x. x) result (counted_at id bytes.now) }
@@ -231,7 +231,7 @@ fn custom(alloc: Global, bytes: &[u8]) -> Result<Seq<Item>, PartFault>
     one(alloc, Item::Custom { name, contents })
 }
 
-/// All that is in a section.
+/// The contents of a section.
 #[tactic(auto, unfolding(crate::specs::ItemReaders::module_at))]
 fn module(alloc: Global, bytes: &[u8]) -> Result<Seq<Item>, PartFault>
     ensures { Gives (λ x. x) result (module_at bytes.now) }

@@ -29,7 +29,7 @@ pub(crate) fn expect_byte(expected: u8, bytes: &[u8]) -> Result<&[u8], PartFault
     Ok(rest)
 }
 
-/// A number in at most `groups` groups of seven bits, as few as can be. The last is below `end`.
+/// A number in at most `groups` groups of seven bits, as few as possible. The last is below `end`.
 #[tactic(auto, unfolding(crate::specs::Reading::digits_at))]
 fn digits(end: u8, groups: u8, bytes: &[u8]) -> Result<(u32, &[u8]), PartFault>
     ensures { Gives (λ x. (x.0, x.1.now)) result (digits_at end groups bytes.now) }
@@ -62,7 +62,7 @@ pub(crate) fn number(bytes: &[u8]) -> Result<(u32, &[u8]), PartFault>
     digits(128, 5, bytes)
 }
 
-/// A type index where a primitive type, which is a negative number, could stand.
+/// A type index where a primitive type, which is a negative number, is possible too.
 #[tactic(auto, unfolding(crate::specs::Reading::type_index_at))]
 pub(crate) fn type_index(bytes: &[u8]) -> Result<(u32, &[u8]), PartFault>
     ensures { Gives (λ x. (x.0, x.1.now)) result (type_index_at bytes.now) }
@@ -70,7 +70,7 @@ pub(crate) fn type_index(bytes: &[u8]) -> Result<(u32, &[u8]), PartFault>
     digits(64, 5, bytes)
 }
 
-/// What has its size in front.
+/// Bytes with their size in front.
 #[tactic(auto, unfolding(crate::specs::Reading::sized_at))]
 pub(crate) fn sized(bytes: &[u8]) -> Result<(&[u8], &[u8]), PartFault>
     ensures { Gives (λ x. (x.0.now, x.1.now)) result (sized_at bytes.now) }
@@ -94,7 +94,7 @@ pub(crate) fn name(alloc: Global, bytes: &[u8]) -> Result<(Text, &[u8]), PartFau
     Ok((Text::from_str(alloc, name)?, rest))
 }
 
-/// What can be read from the front of bytes.
+/// A value that can be read from the front of bytes.
 pub(crate) trait Decode: Sized {
     ghost at: { List ℕ → Read Self };
 
@@ -102,7 +102,7 @@ pub(crate) trait Decode: Sized {
         ensures { Gives (λ x. (x.0, x.1.now)) result (at bytes.now) };
 }
 
-/// Items one after another. Nothing is reserved by their count.
+/// Items one after another. Nothing is allocated by their count.
 #[tactic(auto, unfolding(crate::specs::Reading::items_at))]
 fn items<T: Decode + Drop>(
     alloc: Global,

@@ -14,11 +14,11 @@ use std::alloc::Global;
 
 const PREAMBLE: [u8; 8] = [0x00, 0x61, 0x73, 0x6d, 0x0d, 0x00, 0x01, 0x00];
 
-/// What stands in the sections of a component.
+/// What the sections of a component define.
 pub(crate) trait SectionItem: Sized + Drop {
     ghost contents_at: { Contents Self };
 
-    /// The definitions of a section of this id, which stands at `place`. What is in it stands at `start`.
+    /// The definitions of a section of this id at the offset `place`. Its contents are at the offset `start`.
     fn contents(
         alloc: Global,
         place: usize,
@@ -36,8 +36,8 @@ fn is_shared(id: u8) -> bool
     !(id == 0 || id == 1 || id == 4)
 }
 
-/// The id of the section at the front, what is in it, and what follows it. It stands behind a section
-/// of the id `last`.
+/// The id of the section at the front, which follows a section of the id `last`; its contents; and the rest
+/// of the bytes.
 #[tactic(auto, unfolding(crate::specs::SectionReaders::header_at))]
 fn header(last: u8, bytes: &[u8]) -> Result<(u8, &[u8], &[u8]), PartFault>
     ensures { Gives (λ x. (x.0, x.1.now, x.2.now)) result (header_at last bytes.now) }
@@ -50,7 +50,7 @@ fn header(last: u8, bytes: &[u8]) -> Result<(u8, &[u8], &[u8]), PartFault>
     Ok((id, inner, rest))
 }
 
-/// The section at the front, which stands at `place`, behind a section of the id `last`.
+/// The section at the front, at the offset `place`, after a section of the id `last`.
 #[tactic(auto, unfolding(crate::specs::SectionReaders::section_at))]
 fn section<D: SectionItem>(
     alloc: Global,
@@ -71,7 +71,7 @@ fn section<D: SectionItem>(
     Ok((id, found, rest))
 }
 
-/// Sections, all of the bytes, which stand at `start`.
+/// Sections, which are all of the bytes, from the offset `start` on.
 fn sections<D: SectionItem>(alloc: Global, start: usize, bytes: &[u8]) -> Result<Seq<D>, ReadFault>
     requires { start + length bytes.now < 2 ^ 64 }
     ensures { GivesAt (λ x. x) result (sections_at D.contents_at (length bytes.now) start 0 bytes.now) }
@@ -89,7 +89,7 @@ fn sections<D: SectionItem>(alloc: Global, start: usize, bytes: &[u8]) -> Result
     Ok(defs)
 }
 
-/// A component, which stands at `start`. A wrong beginning is told at `place`.
+/// A component at the offset `start`. A wrong preamble is reported at `place`.
 #[tactic(auto, unfolding(crate::specs::SectionReaders::component_at))]
 pub(crate) fn component<D: SectionItem>(
     alloc: Global,

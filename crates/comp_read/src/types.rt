@@ -14,7 +14,7 @@ use comp_bytes::{
 };
 use std::alloc::Global;
 
-/// A type of values that is no list of fields, cases, types or names, behind its first byte.
+/// A type of values other than one of fields, cases, types or names, after its first byte.
 #[tactic(auto, unfolding(crate::specs::PartReaders::small_type_after, crate::specs::PartReaders::primitive_after))]
 fn small_type(alloc: Global, tag: u8, bytes: &[u8]) -> Result<(DefinedType, &[u8]), PartFault>
     ensures { Gives (λ x. (x.0, x.1.now)) result (small_type_after tag bytes.now) }
@@ -61,7 +61,7 @@ fn result_type(alloc: Global, bytes: &[u8]) -> Result<(DefinedType, &[u8]), Part
     Ok((DefinedType::Result { ok, err }, rest))
 }
 
-/// A type of values, behind its first byte.
+/// A type of values, after its first byte.
 #[tactic(auto, unfolding(crate::specs::PartReaders::defined_after))]
 fn defined(alloc: Global, tag: u8, bytes: &[u8]) -> Result<(DefinedType, &[u8]), PartFault>
     ensures { Gives (λ x. (x.0, x.1.now)) result (defined_after tag bytes.now) }
@@ -91,7 +91,7 @@ fn defined(alloc: Global, tag: u8, bytes: &[u8]) -> Result<(DefinedType, &[u8]),
     }
 }
 
-/// A type of functions, behind its first byte.
+/// A type of functions, after its first byte.
 #[tactic(auto, unfolding(crate::specs::PartReaders::func_type_at))]
 fn func_type(alloc: Global, async_: bool, bytes: &[u8]) -> Result<(FuncTypeDef, &[u8]), PartFault>
     ensures { Gives (λ x. (x.0, x.1.now)) result (func_type_at async_ bytes.now) }
@@ -108,7 +108,7 @@ fn func_type(alloc: Global, async_: bool, bytes: &[u8]) -> Result<(FuncTypeDef, 
     ))
 }
 
-/// A type that is no instance type, behind its first byte.
+/// A type other than an instance type, after its first byte.
 #[tactic(auto, unfolding(crate::specs::PartReaders::type_def_after))]
 pub(crate) fn type_def(alloc: Global, tag: u8, bytes: &[u8]) -> Result<(TypeDef, &[u8]), PartFault>
     ensures { Gives (λ x. (x.0, x.1.now)) result (type_def_after tag bytes.now) }
@@ -160,7 +160,7 @@ impl Decode for Member {
     }
 }
 
-/// An instance type, behind its first byte.
+/// An instance type, after its first byte.
 #[tactic(auto, unfolding(crate::specs::PartReaders::instance_type_at))]
 pub(crate) fn instance_type(alloc: Global, bytes: &[u8]) -> Result<(InstanceType, &[u8]), PartFault>
     ensures { Gives (λ x. (x.0, x.1.now)) result (instance_type_at bytes.now) }

@@ -106,7 +106,7 @@ impl Decode for Case {
     }
 }
 
-/// What a function gives: `00` and a value type, or `01 00` for nothing.
+/// The result of a function: `00` and a value type, or `01 00` for none.
 #[tactic(auto, unfolding(crate::specs::PartReaders::result_at))]
 pub(crate) fn result_of(
     alloc: Global,
@@ -241,7 +241,7 @@ fn outer_alias(bytes: &[u8]) -> Result<(Alias, &[u8]), PartFault>
     Ok((Alias::Outer { count, index }, rest))
 }
 
-/// An alias of a type, which is an export or stands further out.
+/// An alias of a type, which is an export or one of an outer scope.
 #[tactic(auto, unfolding(crate::specs::PartReaders::type_alias_at))]
 fn type_alias(alloc: Global, bytes: &[u8]) -> Result<(Alias, &[u8]), PartFault>
     ensures { Gives (λ x. (x.0, x.1.now)) result (type_alias_at bytes.now) }

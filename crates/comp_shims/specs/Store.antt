@@ -1,6 +1,6 @@
 -- What a run has made so far (core standard, execution: store, addresses; component model, explainer:
--- index spaces of component instances). Lists only grow, so an address stays what it is; an item of an
--- index space is an address. Nothing holds itself: what refers to an item holds its address.
+-- index spaces of component instances). Lists only grow, so an address never changes its meaning; an item of an
+-- index space is an address. No entry contains another: a reference to an item is its address.
 use Rattle.std.specs.Prelude.{ℕ, List, Option}
 use Rattle.comp_bytes.specs.declared.space.Space.{Space}
 use Rattle.comp_bytes.specs.declared.types.FuncTypeDef.{FuncTypeDef}
@@ -10,7 +10,7 @@ use Rattle.comp_bytes.specs.declared.def.Item.{Item}
 use Rattle.standard_kinds.specs.declared.kinds.StringEncoding.{StringEncoding}
 use Rattle.core_runs.specs.Store.{Store as CodeStore}
 
--- an item of an index space, by the address of what it is
+-- an item of an index space: the address of its entry in the store
 pub record Thing : Type 0 where
   pub space : Space
   pub address : ℕ
@@ -30,21 +30,21 @@ pub data HeldOption : Type 0 where
   HeldAsync : HeldOption
   HeldCallback : (function : ℕ) → HeldOption
 
--- a core item that is opaque, by what it is: a lowering of a function, an intrinsic with what it names, or
+-- an opaque core item, by what it is: a lowering of a function, an intrinsic with what it names, or
 -- what a user instance exports under a name
 pub data CoreItem : Type 0 where
   Lowering : (function : ℕ) (options : List HeldOption) → CoreItem
   IntrinsicOf : (intrinsic : Intrinsic) (names : List Thing) → CoreItem
   OfUser : (user : ℕ) (name : List ℕ) → CoreItem
 
--- A function, by what it is: one that is imported, by the names that lead to it, or a lift. Its type names
+-- A function, by what it is: an import, by the path of names that leads to it, or a lift. Its type names
 -- others by their addresses.
 pub data Function : Type 0 where
   Imported : (path : List (List ℕ)) (type : FuncTypeDef) → Function
   Lifting : (core : ℕ) (options : List HeldOption) (type : FuncTypeDef) → Function
 
--- A type, as far as a run needs it: a function type names others by their addresses, resource types are told
--- apart by their own, and an instance type says what an import of it has.
+-- A type, as far as a run needs it: a function type names others by their addresses, resource types are
+-- distinguished by their own addresses, and an instance type says what an import of it exports.
 pub data TypeItem : Type 0 where
   FunctionType : (type : FuncTypeDef) → TypeItem
   ValueType : TypeItem
@@ -62,8 +62,8 @@ pub record UserInstance : Type 0 where
   pub module_number : ℕ
   pub given : List Thing
 
--- What stays what it is. Core functions, tables and memories stand in `code`, globals in what a run changes.
--- What an opaque function is, or a global of a user's module, stands in `known`, at the place that it has. A
+-- The part of the state that only grows. Core functions, tables and memories are in `code`, globals in the part
+-- that a run changes. What an opaque function or a global of a user module is, is in `known`, at its index. A
 -- core instance is a map from names to items, an instance one from sorts and names.
 pub record Store : Type 0 where
   pub core_modules : List (List ℕ)

@@ -28,11 +28,11 @@ pub data TargetOption : Type 0 where
   PostReturn : (export_ref : ExportRef) → TargetOption
   Callback : (export_ref : ExportRef) → TargetOption
 
--- what stands behind an import of a core module, or behind an export of the component
+-- what an import of a core module is linked to, or what an export of the component is
 pub data Target : Type 0 where
   Lowered : (function : WorldFunction) (options : List TargetOption) → Target
   ExportOf : (export_ref : ExportRef) → Target
   MainMemory : Target
   Lifted : (entry : ExportRef) (options : List TargetOption) → Target
-  -- of a role that no world has so far: nothing is it
+  -- of a role that no world has so far: no item meets it
   Unlinked : Target

@@ -17,7 +17,7 @@ use Rattle.comp_state.specs.Roles.{import_encoding, export_encoding}
 use Rattle.comp_state.specs.Rules.{Grows, RightAfter, Landmark, ModuleIs, InstanceOf, landmarks, imports_marked, exports_marked, expected, IsBuilt}
 use Rattle.comp_state.proofs.Growth.{Grows-none, Grows-by, Grows-then}
 
--- a list that grew from nothing
+-- a list that grew from the empty one
 pub built_from : (w : ComponentWorld) (old new : List Def) → old ≡ [] → Grows w old new (expected w) → IsBuilt w new
 built_from w old new empty g =
     let same : new ≡ g.more = g.extended ∙ ap (λ l. l ++ g.more) empty in
@@ -28,18 +28,18 @@ pub built_by_steps : (w : ComponentWorld) (a b c d e : List Def) → a ≡ [] �
     Grows w d e (exports_marked w) → IsBuilt w e
 built_by_steps w a b c d e empty imports main instance exports = built_from w a e empty (Grows-then imports (Grows-then main (Grows-then instance exports)))
 
--- the landmarks of what grew from nothing
+-- the landmarks of a list that grew from the empty one
 pub marked_from : (w : ComponentWorld) (old new : List Def) (m : List Landmark) → old ≡ [] → Grows w old new m → landmarks new ≡ m
 marked_from w old new m empty g = ap landmarks (g.extended ∙ ap (λ l. l ++ g.more) empty) ∙ g.marked
 
--- a whole component stays one when what follows has no landmark
+-- a whole component is still one when what is appended has no landmark
 pub built_more : (w : ComponentWorld) (old new : List Def) → IsBuilt w old → Grows w old new [] → IsBuilt w new
 built_more w old new h g =
     let first : Grows w [] old (expected w) = record { more = old; extended = refl; right = h.right; marked = h.marked } in
     let both : Grows w [] new (expected w ++ []) = Grows-then first g in
     built_from w [] new refl (subst (λ m. Grows w [] new m) (append-nil (expected w)) both)
 
--- the names of the items have no landmark
+-- the definition with the names of the items has no landmark
 pub names_grow : (w : ComponentWorld) (old new : Built) → new ≡ with_names old → Grows w old.defs new.defs []
 names_grow w old new same = subst (λ (b : Built). Grows w old.defs b.defs []) (sym same) (named (length old.names == 0) (names_text old.names).bytes)
   where

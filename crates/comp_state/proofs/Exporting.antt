@@ -111,7 +111,7 @@ exports_step old mid new keys i key h l is same extends grows encoded =
 pub exports_done : (old new : Encoding) (keys : List WorldKey) (i : ℕ) → length keys ≡ i → ExportsSoFar old new (take i keys) → ExportsSoFar old new keys
 exports_done old new keys i e h = subst (λ ks. ExportsSoFar old new ks) (take_all i keys (omega (arith, e))) h
 
--- a required key stands in main
+-- a required key has a core export in main
 pub key_has_core_name : (w : ComponentWorld) (keys : List WorldKey) → IsWorld w → keys ≡ w.main_exports → (i : ℕ) (key : WorldKey) → i < length keys → key ≡ get_or keys i key → IsSome (core_name_of w key)
 key_has_core_name w keys valid same i key l is =
     let all : AllByRecursion (IsRequired w) keys = subst (λ ks. AllByRecursion (IsRequired w) ks) (sym same) valid.required in

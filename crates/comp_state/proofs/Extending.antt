@@ -21,7 +21,7 @@ extends_then a b c g h = record {
   names = h.names ∙ (ap (λ l. l ++ h.more_names) g.names ∙ append_assoc a.names g.more_names h.more_names);
 }
 
--- also where it was refused
+-- also where the step was refused
 pub extends_adds : (old new : Built) (result : Result ℕ BuildFault) (s : Space) (d : Def) (debug : Option (List ℕ)) → Adds old new result s d debug → Extends old new
 extends_adds old new (Ok index) s d debug h = record {
   more_defs = d ∷ [];

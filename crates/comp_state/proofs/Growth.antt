@@ -1,4 +1,4 @@
--- A list of definitions that grows at its end: what stands stays, and rules and landmarks add up.
+-- A list of definitions that grows at its end: earlier items are unchanged, and rules and landmarks add up.
 use Rattle.std.proofs.Common.{◌≡◌, ◌∙◌, ◌<◌, ℕ, List, [], ◌∷◌, ◌++◌, refl, sym, ap, subst, append_assoc, append-nil, Option, Some, inl, inr}
 use Rattle.std.proofs.lemmas.List.Elements.{filter_map-append}
 use Rattle.std.proofs.lemmas.Option.{same_Some}
@@ -48,7 +48,7 @@ Grows-then {w} {a} {b} {c} {m} {n} g h = record {
   marked = filter_map-append landmark g.more h.more ∙ (ap (λ l. l ++ landmarks h.more) g.marked ∙ ap (λ l. m ++ l) h.marked);
 }
 
--- what stands stays
+-- earlier definitions keep their indexes
 pub kept : {w : ComponentWorld} {old new : List Def} {m : List Landmark} → Grows w old new m →
     {space : Space} {i : ℕ} {d : Def} → IsAt old space i d → IsAt new space i d
 kept {w} {old} {new} {m} g {space} {i} {d} h = subst (λ l. IsAt l space i d) (sym g.extended) (IsAt-append g.more h)
@@ -94,7 +94,7 @@ module _ {w : ComponentWorld} {old new : List Def} {m : List Landmark} (g : Grow
     encoded = h.encoded;
   }
 
-  -- the look-ups of a state still find what they say
+  -- the look-ups of a state still find the items that they name
   pub IsEncoding-kept : {function_type : Option ℕ} {functions aliases : List (List ℕ × ℕ)} {core_names : List (List ℕ × List ℕ)} {main : Option ℕ} →
       IsEncoding w old function_type functions aliases core_names main → IsEncoding w new function_type functions aliases core_names main
   IsEncoding-kept h = record {
@@ -106,7 +106,7 @@ module _ {w : ComponentWorld} {old new : List Def} {m : List Landmark} (g : Grow
     made = λ i e. IsMain-kept (h.made i e);
   }
 
--- the entries of a bag are core functions
+-- the entries of an inline instance are core functions
 pub entries_in_range : (w : ComponentWorld) (ds : List Def) (es : List CoreInlineExport) (fs : List (List ℕ × Import)) → AllZip (IsEntryFor w ds) es fs → AllByRecursion (IsEntry ds) es
 entries_in_range w ds [] [] h = tt
 entries_in_range w ds (e ∷ es) (f ∷ fs) h = (one e (link_of w Main f.1) h.0.serves, entries_in_range w ds es fs h.1)
@@ -120,11 +120,11 @@ entries_in_range w ds (e ∷ es) (f ∷ fs) h = (one e (link_of w Main f.1) h.0.
 entries_in_range w ds [] (f ∷ fs) h = absurd h
 entries_in_range w ds (e ∷ es) [] h = absurd h
 
--- an entry that is added unless its name is there finds what an entry at the end finds
+-- an entry that is added only where its name has none is found as if it were appended
 pub found_first : (t k : List ℕ) (v : ℕ) (names : List (List ℕ × ℕ)) → found t (with_first bytes_eq names k v) ≡ found t (names ++ (k, v) ∷ [])
 found_first t k v names = ap (found t) (sym (append-nil (with_first bytes_eq names k v))) ∙ found-with_first t k v names []
 
--- what is found where an entry was added that had no other
+-- what is found where an entry of a new name was added
 pub found_added : (P : List ℕ → ℕ → Type 0) (names new : List (List ℕ × ℕ)) (k : List ℕ) (v : ℕ) →
     new ≡ with_first bytes_eq names k v → ((t : List ℕ) (i : ℕ) → found t names ≡ Some i → P t i) → P k v → (t : List ℕ) (i : ℕ) → found t new ≡ Some i → P t i
 found_added P names new k v pushed h here t i e =
@@ -135,7 +135,7 @@ found_added P names new k v pushed h here t i e =
 
 module _ {w : ComponentWorld} {ds : List Def} {function_type : Option ℕ} {functions aliases : List (List ℕ × ℕ)} {core_names : List (List ℕ × List ℕ)} {main : Option ℕ}
     (h : IsEncoding w ds function_type functions aliases core_names main) where
-  -- with the type of functions
+  -- the invariant of a state, with the type of functions added
   pub IsEncoding-typed : (index : ℕ) → IsFunctionType ds index → IsEncoding w ds (Some index) functions aliases core_names main
   IsEncoding-typed index t = record {
     valid = h.valid;
@@ -146,7 +146,7 @@ module _ {w : ComponentWorld} {ds : List Def} {function_type : Option ℕ} {func
     made = h.made;
   }
 
-  -- with a function that was imported
+  -- with an imported function added
   pub IsEncoding-imported : (new : List (List ℕ × ℕ)) (text : List ℕ) (index : ℕ) → new ≡ with_first bytes_eq functions text index → IsImported ds index text → IsEncoding w ds function_type new aliases core_names main
   IsEncoding-imported new text index pushed i = record {
     valid = h.valid;
@@ -157,7 +157,7 @@ module _ {w : ComponentWorld} {ds : List Def} {function_type : Option ℕ} {func
     made = h.made;
   }
 
-  -- with an export of main that was aliased
+  -- with an alias of an export of main added
   pub IsEncoding-aliased : (new : List (List ℕ × ℕ)) (name : List ℕ) (index : ℕ) → new ≡ with_first bytes_eq aliases name index → IsAliased ds index name → IsEncoding w ds function_type functions new core_names main
   IsEncoding-aliased new name index pushed a = record {
     valid = h.valid;
@@ -168,7 +168,7 @@ module _ {w : ComponentWorld} {ds : List Def} {function_type : Option ℕ} {func
     made = h.made;
   }
 
-  -- with main's instance
+  -- with main's instance added
   pub IsEncoding-made : (index : ℕ) → IsMain ds index → IsEncoding w ds function_type functions aliases core_names (Some index)
   IsEncoding-made index m = record {
     valid = h.valid;

@@ -1,4 +1,4 @@
--- The root functions that imports of main are: all of them are imported, in the order of the world.
+-- The root functions that imports of main use: all of them are imported, in the order of the world.
 use Rattle.std.proofs.Common.{if◌then◌else◌, ◌≡◌, ◌∙◌, ℕ, Bool, true, false, ◌||◌, List, [], ◌∷◌, ◌++◌, refl, sym, ap, subst, append_assoc, append-nil, map, filter, IsTrue, IsSome, Contains}
 use Rattle.std.proofs.lemmas.Slice.Eq.{bytes_eq-Decides}
 use Rattle.std.specs.Str.{bytes_eq}
@@ -59,11 +59,11 @@ groups_are_imported w text (g ∷ gs) h e = by (uses_from text g) refl e (groups
     by true here u rest = instance_is_imported w text g h.0 here
     by false apart u rest = rest u
 
--- a root function that an import of main is, is one that the world imports
+-- a root function that an import of main uses is one that the world imports
 pub used_is_imported : (w : ComponentWorld) → IsWorld w → (text : List ℕ) → IsTrue (is_used w text) → IsWorldImport w text
 used_is_imported w valid text u = groups_are_imported w text w.main.imports.modules valid.import_roles u
 
--- the keys that were looked at so far, and what was made for them
+-- the items of the world that were passed so far, and what was made for them
 pub record ImportsSoFar (old new : Encoding) (rest : List (WorldKey × WorldItem)) : Type 0 where
   pub done : List (WorldKey × WorldItem)
   pub split : done ++ rest ≡ (items_of old.world).imports
@@ -103,7 +103,7 @@ finds_push : (done : List (WorldKey × WorldItem)) (e : WorldKey × WorldItem) (
     AllByRecursion P (flat_map root_function done) → AllByRecursion P (root_function e) → AllByRecursion P (flat_map root_function (done ++ e ∷ []))
 finds_push done e P h k = subst (λ ns. AllByRecursion P ns) (sym (functions_push done e)) (AllByRecursion-join P (flat_map root_function done) (root_function e) h k)
 
--- one item more, whose function was imported where it is used
+-- one more item, whose function was imported where it is used
 pub imports_step : (old mid new : Encoding) (e : WorldKey × WorldItem) (rest : List (WorldKey × WorldItem)) → ImportsSoFar old mid (e ∷ rest) →
     new ≡ record mid { built = new.built; functions = new.functions } → Extends mid.built new.built →
     Grows mid.world mid.built.defs new.built.defs (names_marked mid.world (root_function e)) → FindsMore mid.functions new.functions →
@@ -124,7 +124,7 @@ imports_step old mid new e rest h same extends grows more here =
           (subst (λ w. AllByRecursion (λ t. IsTrue (is_used w t) → IsSome (found t new.functions)) (root_function e)) world here);
     }
 
--- no key is left
+-- no item is left
 pub imports_marks : (old new : Encoding) → ImportsSoFar old new [] → Grows old.world old.built.defs new.built.defs (imports_marked old.world)
 imports_marks old new h =
     let all : h.done ≡ (items_of old.world).imports = sym (append-nil h.done) ∙ h.split in

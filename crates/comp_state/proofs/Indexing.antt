@@ -13,18 +13,18 @@ some_or_later : {X : Type 0} (b : Bool) (v : X) (o p : Option X) (more later : B
 some_or_later true v o p more later h = refl
 some_or_later false v o p more later h = h
 
--- what is found with an entry at the end
+-- whether a name is found with an entry at the end
 found_last : {X : Type 0} (name k : List ℕ) (v : X) (table : List (List ℕ × X)) (more : Bool) → (is_some (found name (table ++ (k, v) ∷ [])) || more) ≡ (is_some (found name table) || (bytes_eq name k || more))
 found_last name k v [] more = some_or (bytes_eq name k) v more
 found_last name k v (e ∷ es) more = some_or_later (bytes_eq name e.0) e.1 (found name es) (found name (es ++ (k, v) ∷ [])) more (bytes_eq name k || more) (found_last name k v es more)
 
--- a function is used by the imports that were read, this one among them, or by those that follow
+-- a function is used by the imports that were read, with this one, or by the following ones
 pub used_step : {X : Type 0} (name k : List ℕ) (v : X) (table : List (List ℕ × X)) (more : Bool) → (is_some (found name (with_first bytes_eq table k v)) || more) ≡ (is_some (found name table) || (bytes_eq name k || more))
 used_step name k v table more =
     ap (λ t. is_some (found name t) || more) (sym (append-nil (with_first bytes_eq table k v)))
     ∙ ap (λ o. is_some o || more) (found-with_first name k v table [])
     ∙ found_last name k v table more
 
--- a name that is kept unless one is there finds what follows as if it stood at the end
+-- an entry that is added only where its name has none is found as if it were appended
 pub names_step : {X : Type 0} (name k : List ℕ) (v : X) (table rest : List (List ℕ × X)) → found name (with_first bytes_eq table k v ++ rest) ≡ found name (table ++ (k, v) ∷ rest)
 names_step name k v table rest = found-with_first name k v table rest

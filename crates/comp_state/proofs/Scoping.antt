@@ -1,4 +1,4 @@
--- A list that keeps the rules names items that stand before, each by its index and space.
+-- A list that keeps the rules names earlier items, each by its index and space.
 use Rattle.std.proofs.Common.{◌≡◌, ℕ, ◌<◌, List, [], ◌∷◌, ◌++◌, sym, subst, Some, None}
 use Rattle.std.specs.List.{AllByRecursion, AllZip, flat_map}
 use Rattle.comp_bytes.specs.Spaces.{items_in, space_of, kind_space}

@@ -1,4 +1,4 @@
--- The imports of main: each is given what its role asks for, in order.
+-- The imports of main: each is given what its role needs, in order.
 use Rattle.std.proofs.Common.{Bool, true, false, ◌||◌, Some, Result, Ok, Err, inl, ◌≡◌, ◌∙◌, ℕ, List, [], ◌∷◌, ◌++◌, refl, sym, ap, ap₂, subst, append_assoc, append-nil, map, length, IsSome, Contains}
 use Rattle.std.specs.List.{AllByRecursion, AllZip, IsDistinct, list_any, flat_map}
 use Rattle.comp_lists.specs.Found.{found}
@@ -44,7 +44,7 @@ use Rattle.comp_state.specs.Rules.{Grows, ImportNamed, landmarks}
 use Rattle.comp_state.proofs.Extending.{extends_none, extends_then}
 use Rattle.comp_state.proofs.Growth.{Grows-none, Grows-by, Grows-then, IsEntryFor-kept, IsArgumentFor-kept, entries_in_range}
 
--- the fields that were served so far, in order, and those that are left
+-- the fields that have an entry so far, in order, and those that are left
 pub record FieldsSoFar (old new : Encoding) (entries : List CoreInlineExport) (all rest : List (List ℕ × Import)) : Type 0 where
   pub done : List (List ℕ × Import)
   pub split : done ++ rest ≡ all
@@ -84,14 +84,14 @@ fields_step old mid new before after entry all rest f h same extends grows serve
       finds = h.finds.1;
     }
 
--- entries have the names of the fields that they serve
+-- entries have the names of their fields
 entry_names : (w : ComponentWorld) (ds : List Def) (es : List CoreInlineExport) (fs : List (List ℕ × Import)) → AllZip (IsEntryFor w ds) es fs → map (λ e. e.name) es ≡ map (λ f. f.0) fs
 entry_names w ds [] [] h = refl
 entry_names w ds (e ∷ es) (f ∷ fs) h = ap₂ (λ n ns. n ∷ ns) h.0.named (entry_names w ds es fs h.1)
 entry_names w ds [] (f ∷ fs) h = absurd h
 entry_names w ds (e ∷ es) [] h = absurd h
 
--- when all fields are served, the names of the entries differ as those of the fields do
+-- when all fields have an entry, the names of the entries are distinct as those of the fields are
 pub entries_apart : (old new : Encoding) (entries : List CoreInlineExport) (all rest : List (List ℕ × Import)) → FieldsSoFar old new entries all rest → rest ≡ [] →
     IsDistinct bytes_eq (map (λ f. f.0) all) → IsDistinct bytes_eq (map (λ e. e.name) entries)
 entries_apart old new entries all rest h ended apart =
@@ -99,7 +99,7 @@ entries_apart old new entries all rest h ended apart =
     let names : map (λ e. e.name) entries ≡ map (λ f. f.0) all = entry_names old.world new.built.defs entries h.done h.serves ∙ ap (λ fs. map (λ f. f.0) fs) done in
     subst (λ (ns : List (List ℕ)). IsDistinct bytes_eq ns) (sym names) apart
 
--- the modules whose imports were served so far, in order, and those that are left
+-- the modules whose imports have an argument so far, in order, and those that are left
 pub record GroupsSoFar (old new : Encoding) (arguments : List CoreArgument) (all rest : List (List ℕ × ImportInstance)) : Type 0 where
   pub done : List (List ℕ × ImportInstance)
   pub split : done ++ rest ≡ all
@@ -139,7 +139,7 @@ groups_step old mid new before after argument all rest g h same extends grows se
       finds = h.finds.1;
     }
 
--- a bag for the imports from one module
+-- an inline instance for the imports from one module
 pub record ServesGroup (w : ComponentWorld) (mid new : List Def) (argument : CoreArgument) (group : List ℕ × ImportInstance) : Type 0 where
   pub grows : Grows w mid new []
   pub serves : IsArgumentFor w new argument group
@@ -155,7 +155,7 @@ serve_group w mid new index entries name group each apart appended at named =
       serves = record { named = named; serves = record { entries = entries; made = at; each = AllZip-weaker (λ x y. IsEntryFor-kept g) entries (fields_of group.1) each } };
     }
 
--- what a world's import is for has a name
+-- the role of an import of the world has a name
 role_named : (w : ComponentWorld) (functions : List (List ℕ × ℕ)) (role : Import) → IsImportRole w role → ((t : List ℕ) → is_named t (imported_name role) ≡ true → IsSome (found t functions)) → FindsRole functions role
 role_named w functions (imports.WorldFunc (keys.Name name) function abi) h k = k name ((bytes_eq-Decides name name).1 refl)
 role_named w functions role h k = absurd h
@@ -194,7 +194,7 @@ finds_all w functions (g ∷ gs) valid h = (finds_group w functions g valid.0 (�
 pub finds_groups : (w : ComponentWorld) (functions : List (List ℕ × ℕ)) → IsWorld w → FindsUsed w functions → AllByRecursion (λ g. FindsGroup functions g.1) w.main.imports.modules
 finds_groups w functions valid h = finds_all w functions w.main.imports.modules valid.import_roles h.each
 
--- what is known of an error that is handed on
+-- a property of an error that is passed on
 pub handed_on : {T E : Type 0} (r : Result T E) (e : E) (Q : E → Type 0) → IsErrAnd r (λ y. y ≡ e) → Q e → IfErr r Q
 handed_on (Ok x) e Q h q = tt
 handed_on (Err y) e Q h q = subst Q (sym h) q
@@ -276,7 +276,7 @@ pub AllByRecursion-join : {X : Type 0} (P : X → Type 0) (xs ys : List X) → A
 AllByRecursion-join P [] ys h k = k
 AllByRecursion-join P (x ∷ xs) ys h k = (h.0, AllByRecursion-join P xs ys h.1 k)
 
--- where each import is served, each has an encoding
+-- where each import is given its item, each has an encoding
 pub groups_encoded : (w : ComponentWorld) (ds : List Def) (as' : List CoreArgument) (gs : List (List ℕ × ImportInstance)) → AllZip (IsArgumentFor w ds) as' gs →
     AllByRecursion (λ (i : CoreImport). IsSome (import_encoding w i.role)) (flat_map imports_from gs)
 groups_encoded w ds [] [] h = tt

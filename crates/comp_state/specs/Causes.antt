@@ -1,4 +1,4 @@
--- When the encoding of a world is refused: where memory is, where a function has no string encoding
+-- When the encoding of a world is refused: out of memory, where a function has no string encoding
 -- (Canonical ABI: `string-encoding`), and where a count passes 32 bits (core standard, binary format: vectors).
 use Rattle.std.specs.Prelude.{◌≡◌, ◌≤◌, ◌^◌, ◌⊎◌, ℕ, List, None, Contains, IsSome}
 use Rattle.std.specs.List.{AllByRecursion}
@@ -14,12 +14,12 @@ use Rattle.comp_state.specs.declared.fault.StateFault.{StateFault}
 use Rattle.comp_state.specs.declared.fault.StateFault.TheVariants as faults
 use Rattle.comp_state.specs.Roles.{import_encoding, export_encoding, field_path}
 
--- what a refusal of the builder comes up as
+-- a fault of the builder, as one of the state
 abbrev pub of_build : BuildFault → StateFault
 of_build build.Memory = faults.Memory
 of_build (build.TooMany excess) = faults.TooMany excess
 
--- a core import at this place has no string encoding
+-- a core import of this module and field has no string encoding
 pub record LacksImportEncoding (w : ComponentWorld) (place : List ℕ) : Type 0 where
   pub given : CoreImport
   pub present : Contains (core_imports w) given
@@ -36,18 +36,18 @@ pub record LacksExportEncoding (w : ComponentWorld) (place : List ℕ) : Type 0 
 abbrev pub LacksEncoding : ComponentWorld → List ℕ → Type 0
 LacksEncoding w place = LacksImportEncoding w place ⊎ LacksExportEncoding w place
 
--- what makes a refusal right
+-- the cause of a fault
 abbrev pub IsCause : ComponentWorld → StateFault → Type 0
 IsCause w faults.Memory = Unit {0}
 IsCause w (faults.NoEncoding place) = LacksEncoding w place
 IsCause w (faults.TooMany excess) = 2 ^ 32 ≤ excess
 
--- what makes a refusal of the builder right
+-- the cause of a fault of the builder
 abbrev pub IsBuildRefusal : BuildFault → Type 0
 IsBuildRefusal build.Memory = Unit {0}
 IsBuildRefusal (build.TooMany excess) = 2 ^ 32 ≤ excess
 
--- what makes the refusal of one import right
+-- the cause of a fault at one import
 abbrev pub IsImportRefusal : ComponentWorld → List ℕ → List ℕ → Import → StateFault → Type 0
 IsImportRefusal w module_name field role faults.Memory = Unit {0}
 IsImportRefusal w module_name field role (faults.NoEncoding place) = (place ≡ field_path module_name field) × (import_encoding w role ≡ None)
@@ -60,13 +60,13 @@ pub record LacksFieldEncoding (w : ComponentWorld) (module_name : List ℕ) (fie
   pub none : import_encoding w field.1 ≡ None
   pub at : place ≡ field_path module_name field.0
 
--- what makes the refusal of the imports from one module right
+-- the cause of a fault at the imports from one module
 abbrev pub IsFieldsRefusal : ComponentWorld → List ℕ → List (List ℕ × Import) → StateFault → Type 0
 IsFieldsRefusal w module_name fields faults.Memory = Unit {0}
 IsFieldsRefusal w module_name fields (faults.NoEncoding place) = LacksFieldEncoding w module_name fields place
 IsFieldsRefusal w module_name fields (faults.TooMany excess) = 2 ^ 32 ≤ excess
 
--- what makes the refusal of one required export right
+-- the cause of a fault at one required export
 abbrev pub IsExportRefusal : ComponentWorld → WorldKey → StateFault → Type 0
 IsExportRefusal w key faults.Memory = Unit {0}
 IsExportRefusal w key (faults.NoEncoding place) = (place ≡ name_of_key key) × (export_encoding w key ≡ None)

@@ -1,5 +1,5 @@
--- What contracts see of a state of encoding. (The rules are this project's own: the standard speaks of
--- components, not of how they are made.)
+-- The model of an encoding state, as contracts see it. (The rules are this project's own: the standard defines
+-- components, and not how they are made.)
 use Rattle.std.specs.Prelude.{◌≡◌, ◌++◌, ℕ, List, Option, Some, None, IsSome, IsTrue}
 use Rattle.std.specs.List.{AllByRecursion}
 use Rattle.comp_lists.specs.Found.{found}
@@ -23,7 +23,7 @@ pub record Encoding : Type 0 where
   pub functions : List (List ℕ × ℕ)
   pub main : Option ℕ
 
--- the world is a valid one, what is found is what it says, and main's instance is one
+-- the world is a valid one, each look-up finds the item that it names, and main's instance is one
 pub record IsEncoding (w : ComponentWorld) (ds : List Def) (function_type : Option ℕ) (functions aliases : List (List ℕ × ℕ)) (core_names : List (List ℕ × List ℕ)) (main : Option ℕ) : Type 0 where
   pub valid : IsWorld w
   pub typed : (index : ℕ) → function_type ≡ Some index → IsFunctionType ds index
@@ -43,7 +43,7 @@ pub record Extends (old new : Built) : Type 0 where
 pub record FindsMore (old new : List (List ℕ × ℕ)) : Type 0 where
   pub each : (text : List ℕ) → IsSome (found text old) → IsSome (found text new)
 
--- each root function that a core import is was imported
+-- each root function that a core import uses was imported
 pub record FindsUsed (w : ComponentWorld) (functions : List (List ℕ × ℕ)) : Type 0 where
   pub each : (text : List ℕ) → IsTrue (is_used w text) → IsSome (found text functions)
 
@@ -63,7 +63,7 @@ abbrev pub FindsGroup : List (List ℕ × ℕ) → ImportInstance → Type 0
 FindsGroup functions (instances.Names fields) = FindsFields functions fields
 FindsGroup functions (instances.Whole which) = ⊥
 
--- some root function is the core export of this name
+-- the core export of this name implements some root function
 pub record IsOffered (w : ComponentWorld) (name : List ℕ) : Type 0 where
   pub function : WorldKey
   pub role : core_name_of w function ≡ Some name

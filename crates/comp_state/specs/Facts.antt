@@ -54,19 +54,19 @@ abbrev pub IsCoreItemFor : List Def → ExportKind → ℕ → Target → Type 0
 IsCoreItemFor ds kinds.Func index (Lowered (OfRoot name) []) = IsLowered ds index name
 IsCoreItemFor ds kind index target = ⊥
 
--- the entry of a bag serves the import of this field
+-- the entry of an inline instance is what the import of this field is given
 pub record IsEntryFor (w : ComponentWorld) (ds : List Def) (e : CoreInlineExport) (field : List ℕ × Import) : Type 0 where
   pub named : e.name ≡ field.0
   pub serves : IsCoreItemFor ds e.kind e.index (link_of w Main field.1)
   pub encoded : IsSome (import_encoding w field.1)
 
--- the core instance is a bag with an entry for each field, in order
+-- the core instance is an inline instance with an entry for each field, in order
 pub record IsInlineInstanceFor (w : ComponentWorld) (ds : List Def) (index : ℕ) (fields : List (List ℕ × Import)) : Type 0 where
   pub entries : List CoreInlineExport
   pub made : IsAt ds spaces.CoreInstance index (defs.Item (items.CoreExports entries))
   pub each : AllZip (IsEntryFor w ds) entries fields
 
--- the argument serves the imports from this module
+-- the argument has what the imports from this module are given
 pub record IsArgumentFor (w : ComponentWorld) (ds : List Def) (a : CoreArgument) (group : List ℕ × ImportInstance) : Type 0 where
   pub named : a.name ≡ group.0
   pub serves : IsInlineInstanceFor w ds a.instance (fields_of group.1)

@@ -1,6 +1,6 @@
 -- The link table of a world: what each import of a user module is to be given, and what each required
--- export is to be lifted from (Canonical ABI: `canon lower`, `canon lift`). It reads what an import or an
--- export is for, and nothing else.
+-- export is to be lifted from (Canonical ABI: `canon lower`, `canon lift`). It depends on the role of an import or
+-- an export, and on nothing else.
 use Rattle.std.specs.Prelude.{List, [], Option, None}
 use Rattle.std.specs.Option.{option_map}
 use Rattle.comp_worlds.specs.Worlds.{core_name_of}
@@ -24,7 +24,7 @@ abbrev pub link_of : ComponentWorld → UserModule → Import → Target
 link_of w m (imports.WorldFunc (keys.Name text) function abi) = Lowered (OfRoot text) (lower_options w m (keys.Name text))
 link_of w m role = Unlinked
 
--- what the root function of this key is to be lifted from: the core export that is for it
+-- what the root function of this key is to be lifted from: the core export that has this role
 abbrev pub lift_of : ComponentWorld → UserModule → WorldKey → Option Target
 lift_of w Main key = option_map (λ name. Lifted (record { of = Main; name = name }) (lift_options w Main key)) (core_name_of w key)
 lift_of w (Adapter name) key = None

@@ -21,13 +21,13 @@ pub record WorldModule : Type 0 where
 abbrev pub user_modules : ComponentWorld → List WorldModule
 user_modules w = record { of = Main; bytes = w.main.bytes; imports = core_imports w; exports = w.main.exports.exports } ∷ []
 
--- the kind of an import, by what it is for
+-- the kind of an import, by its role
 abbrev pub import_kind : Import → ExportKind
 import_kind (imports.MainModuleMemory type) = kinds.Memory
 import_kind (imports.MainModuleExport name kind) = kind
 import_kind (imports.Item item) = item.kind
 import_kind role = kinds.Func
 
--- what has to be exported, by module
+-- the required exports, by module
 abbrev pub required_exports : ComponentWorld → List (UserModule × WorldKey)
 required_exports w = map (λ key. (Main, key)) w.main_exports

@@ -1,6 +1,6 @@
--- Rules that each definition keeps where it stands, and the landmarks of the whole list (component model,
--- explainer: component definitions). They are what the steps promise to the run of the list; no rule is
--- part of a public promise.
+-- Rules that each definition keeps at its index, and the landmarks of the whole list (component model,
+-- explainer: component definitions). They are what the steps guarantee to the proof that the list runs; no rule is
+-- part of a public guarantee.
 use Rattle.std.specs.Prelude.{◌≡◌, ◌<◌, ℕ, List, [], ◌∷◌, ◌++◌, Option, Some, None, map, filter}
 use Rattle.std.specs.List.{AllByRecursion, AllZip, IsDistinct, filter_map}
 use Rattle.std.specs.Str.{bytes_eq}
@@ -34,7 +34,7 @@ pub record InstantiatesMain (w : ComponentWorld) (earlier : List Def) (number : 
   pub scoped : number < items_in spaces.CoreModule earlier
   pub each : AllZip (IsArgumentFor w earlier) arguments w.main.imports.modules
 
--- an export of a core instance: a core export of main that some root function is
+-- an alias of a core export: one of main that implements some root function
 pub record AliasesMain (w : ComponentWorld) (earlier : List Def) (instance : ℕ) (name : List ℕ) : Type 0 where
   pub of : IsMain earlier instance
   pub key : WorldKey
@@ -46,12 +46,12 @@ pub record ExportsRequired (w : ComponentWorld) (earlier : List Def) (name : Ext
   pub named : name ≡ plain_name (name_of_key key)
   pub lifted : IsLiftFor w earlier index key
 
--- an entry of a bag is a core function
+-- an entry of an inline instance is a core function
 pub record IsEntry (earlier : List Def) (e : CoreInlineExport) : Type 0 where
   pub kind : e.kind ≡ kinds.Func
   pub scoped : e.index < items_in spaces.CoreFunc earlier
 
--- the entries of a bag are core functions, under names that differ
+-- the entries of an inline instance are core functions, under distinct names
 pub record AreEntries (earlier : List Def) (entries : List CoreInlineExport) : Type 0 where
   pub each : AllByRecursion (IsEntry earlier) entries
   pub apart : IsDistinct bytes_eq (map (λ e. e.name) entries)
@@ -68,7 +68,7 @@ abbrev pub IsExportRight : ComponentWorld → List Def → ExternName → Sort �
 IsExportRight w earlier name sorts.Func index None = ExportsRequired w earlier name index
 IsExportRight w earlier name _ index _ = ⊥
 
--- what an item has to keep, after the earlier definitions; kinds that are not written have no right place
+-- the rule of an item, after the earlier definitions; kinds that are never written have no rule that holds
 abbrev pub IsItemRight : ComponentWorld → List Def → Item → Type 0
 IsItemRight w earlier (items.CoreModule bytes) = Unit {0}
 IsItemRight w earlier (items.CoreInstantiate number arguments) = InstantiatesMain w earlier number arguments
@@ -93,7 +93,7 @@ abbrev pub RightAfter : ComponentWorld → List Def → List Def → Type 0
 RightAfter w earlier [] = Unit {0}
 RightAfter w earlier (d ∷ ds) = IsRight w earlier d × RightAfter w (earlier ++ d ∷ []) ds
 
--- what the reader of a component looks for
+-- a definition that is visible in the list of all
 pub data Landmark : Type 0 where
   ImportNamed : (text : List ℕ) → Landmark
   ModuleIs : (bytes : List ℕ) → Landmark
@@ -114,7 +114,7 @@ landmark (defs.Component inner) = None
 abbrev pub landmarks : List Def → List Landmark
 landmarks ds = filter_map landmark ds
 
--- new definitions stand at the end, each keeps its rule, and these are their landmarks
+-- new definitions are appended, each keeps its rule, and these are their landmarks
 pub record Grows (w : ComponentWorld) (old new : List Def) (marks : List Landmark) : Type 0 where
   pub more : List Def
   pub extended : new ≡ old ++ more

@@ -35,7 +35,7 @@ impl EncodingState<'_> {
         Ok(component)
     }
 
-    /// All steps before the end, from nothing.
+    /// All steps before the end, from the empty component.
     fn encode_all(&mut self) -> Result<(), StateFault>
         requires { self.old.built.defs ≡ [] }
         ensures world { self.new.world ≡ self.old.world }
@@ -53,8 +53,8 @@ impl EncodingState<'_> {
 
 /// The component of a validated world, definition by definition, with the names of its items.
 ///
-/// Refused where memory is refused, where a function that is imported or exported has no string
-/// encoding (`E9`, with its place), and where a space would have more than 2^32 - 1 items, or a count or a
+/// Refused when out of memory, where a function that is imported or exported has no string
+/// encoding (`E9`, with the function), and where a space would have more than 2^32 - 1 items, or a count or a
 /// size among the names would pass that (`E16`).
 pub fn encode_world(alloc: Global, world: &ComponentWorld) -> Result<ComponentBuilder, StateFault>
     requires { IsWorld world.now }

@@ -1,4 +1,4 @@
-//! The required exports: each is lifted from the core export that is it, and exported.
+//! The required exports: each is lifted from the core export with its role, and exported.
 #![tactic(auto, using(crate::proofs::Extending::extending))]
 
 ghost use Rattle.std.specs.Prelude.{◌≡◌, [], ◌∷◌, List, ℕ, IfOk, IfErr, OnOk, IsSome, Some, None};
@@ -33,7 +33,7 @@ impl EncodingState<'_> {
         }
     }
 
-    /// The name of the core export that is a root function.
+    /// The name of the core export that implements a root function.
     fn core_name(&self, key: &WorldKey) -> Result<Text, AllocError>
         requires { IsSome (core_name_of self.now.world key.now) }
         ensures { IfOk result (λ name. core_name_of self.now.world key.now ≡ Some name) }
@@ -64,7 +64,7 @@ impl EncodingState<'_> {
         Ok(index)
     }
 
-    /// An alias of an export of main's instance: the one that there is, or a new one.
+    /// An alias of an export of main's instance: the existing one, or a new one.
     fn alias_export(&mut self, name: &Text) -> Result<u32, BuildFault>
         requires made { IsSome self.old.main }
         requires offered { IsOffered self.old.world name.now }
@@ -80,7 +80,7 @@ impl EncodingState<'_> {
         }
     }
 
-    /// Asks for the string encoding of a root function that is lifted.
+    /// Checks that a root function that is lifted has a string encoding.
     fn check_export_encoding(&self, key: &WorldKey) -> Result<(), StateFault>
         requires { IsSome (core_name_of self.now.world key.now) }
         ensures ok { OnOk result (IsSome (export_encoding self.now.world key.now)) }
@@ -97,7 +97,7 @@ impl EncodingState<'_> {
         Ok(())
     }
 
-    /// Lifts a root function from the core export that is it.
+    /// Lifts a root function from the core export that implements it.
     fn lift_function(&mut self, key: &WorldKey) -> Result<u32, BuildFault>
         requires made { IsSome self.old.main }
         requires present { IsSome (core_name_of self.old.world key.now) }
@@ -153,7 +153,7 @@ impl EncodingState<'_> {
         Ok(())
     }
 
-    /// Lifts and exports what main has to export, in order.
+    /// Lifts and exports the required exports of main, in order.
     pub fn encode_exports(&mut self) -> Result<(), StateFault>
         requires { IsSome self.old.main }
         ensures same { self.new ≡ record self.old { built = self.new.built } }

@@ -12,11 +12,11 @@ use thiserror::Error;
 /// Why a step of the encoding is refused.
 #[derive(Debug, Drop, Error)]
 pub enum StateFault {
-    /// A growth was refused.
+    /// An allocation failed.
     #[error("E1 Memory")]
     Memory,
-    /// The world has no string encoding for the function that stands at this place: `module::field` of
-    /// a core import, or the name of a function that is lifted.
+    /// The world has no string encoding for a function. `place` is `module::field` of a core import, or the
+    /// name of a function that is lifted.
     #[error("E9 NoEncoding place={place}")]
     NoEncoding { place: Text },
     /// A count or a size would pass 2^32 - 1.

@@ -39,7 +39,7 @@ impl EncodingState<'_> {
         Ok(index)
     }
 
-    /// The type of functions with no parameter and no result: the one that there is, or a new one.
+    /// The type of functions with no parameter and no result: the existing one, or a new one.
     pub(crate) fn encode_function_type(&mut self) -> Result<u32, BuildFault>
         ensures same { self.new ≡ record self.old { built = self.new.built } }
         ensures extends { Extends self.old.built self.new.built }
@@ -70,7 +70,7 @@ impl EncodingState<'_> {
         Ok(index)
     }
 
-    /// Imports a root function, unless no import of main is it.
+    /// Imports a root function, if an import of main uses it.
     fn import_used(&mut self, used: &Keyed<Text, ()>, name: &Text) -> Result<(), StateFault>
         requires used { (text : List ℕ) → is_some (found text used.now) ≡ is_used self.old.world text }
         ensures same { self.new ≡ record self.old { built = self.new.built; functions = self.new.functions } }
@@ -89,7 +89,7 @@ impl EncodingState<'_> {
         Ok(())
     }
 
-    /// Imports an item of the world, where it is a root function that an import of main is.
+    /// Imports an item of the world, if it is a root function that an import of main uses.
     fn import_item(
         &mut self,
         used: &Keyed<Text, ()>,
@@ -110,7 +110,7 @@ impl EncodingState<'_> {
         }
     }
 
-    /// Imports the root functions that imports of main are, in the order of the world.
+    /// Imports the root functions that imports of main use, in the order of the world.
     pub fn encode_imports(&mut self) -> Result<(), StateFault>
         ensures same { self.new ≡ record self.old { built = self.new.built; functions = self.new.functions } }
         ensures extends { Extends self.old.built self.new.built }

@@ -11,7 +11,7 @@ use comp_worlds::{ComponentWorld, Export, Import, ImportInstance};
 use std::alloc::{AllocError, Global};
 use wit_data::WorldKey;
 
-/// Adds the functions that these imports are.
+/// Adds the root functions that these imports use.
 #[tactic(auto, using(crate::proofs::Indexing::used_step))]
 fn add_used(
     alloc: Global,
@@ -31,7 +31,7 @@ fn add_used(
     Ok(())
 }
 
-/// The root functions that imports of main are.
+/// The root functions that imports of main use.
 pub(crate) fn used_functions(
     alloc: Global,
     world: &ComponentWorld,
@@ -47,7 +47,7 @@ pub(crate) fn used_functions(
     Ok(used)
 }
 
-/// The names of main's exports that are root functions, by the function.
+/// The names of main's exports that implement root functions, by the function.
 #[tactic(auto, using(crate::proofs::Indexing::names_step))]
 pub(crate) fn core_names(
     alloc: Global,

@@ -1,4 +1,4 @@
-//! Main's core module, and its instance, each import of which is given what its role asks for.
+//! Main's core module, and its instance, each import of which is given what its role needs.
 #![tactic(auto, using(crate::proofs::Extending::extending))]
 
 ghost use Rattle.std.specs.Prelude.{◌≡◌, [], ◌∷◌, ◌++◌, List, ℕ, IfOk, IfErr, OnOk, IsSome, Some, IsTrue, ◌↔◌, is_some, map};
@@ -47,7 +47,7 @@ pub(crate) fn is_encoded(
     Ok(encodings.contains(&wanted))
 }
 
-/// The place of a core import: its module and its field.
+/// The text that names a core import in faults: `module::field`.
 fn path_of_import(alloc: Global, module: &Text, field: &Text) -> Result<Text, AllocError>
     ensures { IfOk result (λ place. place ≡ field_path «module».now field.now) }
 {
@@ -77,7 +77,7 @@ impl EncodingState<'_> {
 
     /// What an import of main is given: the kind and the index of a core item.
     ///
-    /// `E9` where the function that the import is has no string encoding.
+    /// `E9` where the function of the import has no string encoding.
     pub fn materialize_import(
         &mut self,
         module: &Text,
@@ -106,7 +106,7 @@ impl EncodingState<'_> {
         }
     }
 
-    /// What the import of a field is given, as an entry of a bag.
+    /// What the import of a field is given, as an entry of an inline instance.
     fn encode_field(
         &mut self,
         module: &Text,
@@ -147,7 +147,7 @@ impl EncodingState<'_> {
         Ok(entries)
     }
 
-    /// Makes the instance that serves these imports from one module.
+    /// Makes the inline instance for these imports from one module.
     fn encode_inline_instance(
         &mut self,
         module: &Text,
@@ -169,7 +169,7 @@ impl EncodingState<'_> {
         Ok(CoreArgument { name, instance })
     }
 
-    /// Makes the instance that serves the imports from one module.
+    /// Makes the inline instance for the imports from one module.
     fn encode_argument(
         &mut self,
         module: &Text,
@@ -188,7 +188,7 @@ impl EncodingState<'_> {
         }
     }
 
-    /// Makes an instance for each module that main imports from, in order.
+    /// Makes an inline instance for each module that main imports from, in order.
     fn encode_arguments(&mut self) -> Result<Seq<CoreArgument>, StateFault>
         requires { FindsUsed self.old.world self.old.functions }
         ensures same { self.new ≡ record self.old { built = self.new.built } }

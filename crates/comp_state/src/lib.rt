@@ -1,14 +1,14 @@
-//! The state of an encoding: each step appends the definitions that the world asks for.
+//! The state of an encoding: each step appends the definitions that the world needs.
 //!
-//! [`EncodingState`] holds a component under construction and what was made so far; [`encode_world`]
-//! takes the steps in their order. The link table of a world stands in `specs/Links.antt`, over its
-//! user modules in `specs/Modules.antt`. What a step promises upward stands in `specs/Rules.antt`: the
+//! [`EncodingState`] holds a component under construction and the items made so far; [`encode_world`]
+//! runs the steps in their order. The link table of a world is in `specs/Links.antt`, over its
+//! user modules in `specs/Modules.antt`. What a step guarantees is in `specs/Rules.antt`: the
 //! list of definitions only grows (`Grows`), each new definition keeps the rule of its kind, the
-//! landmarks of the list are those of the world, and `specs/Facts.antt` says what an answered index is:
-//! what the link table names. Nothing here knows what running a component does; look-ups are the
-//! state's own affair.
+//! landmarks of the list are those of the world, and `specs/Facts.antt` says what a returned index is:
+//! the item that the link table names. Nothing here depends on how a component runs; the look-ups are
+//! private to the state.
 //!
-//! In reading order: `fault`, `indexes` (look-ups by the name of a function), `state` (what is held),
+//! In reading order: `fault`, `indexes` (look-ups by the name of a function), `state` (the fields),
 //! `functions` (types and imports of functions), `instances` (main's module and its instance),
 //! `exports` (lifts and exports), `encode` (the steps in order).
 #![tactic(auto)]

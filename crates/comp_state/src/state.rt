@@ -1,4 +1,4 @@
-//! What is held while a world is encoded.
+//! The state while a world is encoded.
 
 ghost use Rattle.std.specs.Prelude.{◌≡◌, [], IfOk, None};
 ghost use Rattle.comp_builder.specs.Built.{nothing_built};
@@ -11,7 +11,7 @@ use comp_worlds::ComponentWorld;
 use std::alloc::{AllocError, Global};
 use std::marker::Model;
 
-/// A world that is being encoded: the component under construction, and what was made so far.
+/// A world that is being encoded: the component under construction, and the items made so far.
 ///
 /// After a refused step the component has only grown at its end, and is to be dropped.
 pub struct EncodingState<'a> {
@@ -24,7 +24,7 @@ pub struct EncodingState<'a> {
     pub(crate) functions: Keyed<Text, u32>,
     /// The exports of main's instance that were aliased.
     pub(crate) aliases: Keyed<Text, u32>,
-    /// The names of main's exports that are root functions, by the function.
+    /// The names of main's exports that implement root functions, by the function.
     pub(crate) core_names: Keyed<Text, Text>,
     /// Main's instance.
     pub(crate) main: Option<u32>,
@@ -75,7 +75,7 @@ impl<'a> Model for EncodingState<'a> {
 }
 
 impl<'a> EncodingState<'a> {
-    /// Nothing is made yet.
+    /// The state before the first step: no item is made yet.
     pub fn new(alloc: Global, world: &'a ComponentWorld) -> Result<EncodingState<'a>, AllocError>
         requires { IsWorld world.now }
         ensures { IfOk result (λ s. s ≡ record { world = world.entry.now; built = nothing_built; functions = []; main = None }) }

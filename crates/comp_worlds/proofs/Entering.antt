@@ -1,4 +1,4 @@
--- Tables that grow by one list of entries after the other.
+-- Tables to which one list of entries after the other is added.
 use Rattle.std.proofs.Common.{◌≡◌, ◌∙◌, ap, sym, subst, refl, Bool, true, false, ◌||◌, cond, List, [], ◌∷◌, ◌++◌, Option, Some, None, is_some, if◌then◌else◌}
 use Rattle.std.specs.Cmp.{IsEquivalence}
 use Rattle.std.specs.List.{flat_map}
@@ -15,7 +15,7 @@ module _ {K X : Type 0} (eq : K → K → Bool) where
   pub after_both : (old mid new es more : List (K × X)) → mid ≡ with_all eq old es → new ≡ with_all eq mid more → new ≡ with_all eq old (es ++ more)
   after_both old mid new es more first second = second ∙ (ap (λ t. with_all eq t more) first ∙ sym (with_all_append old es more))
 
-  -- a table with the entries of one item, and those of the items that follow
+  -- a table with the entries of one item, and those of the following items
   pub after_item : {E : Type 0} (f : E → List (K × X)) (old new whole : List (K × X)) (x : E) (rest : List E) → new ≡ with_all eq old (f x)
       → with_all eq old (flat_map f (x ∷ rest)) ≡ whole → with_all eq new (flat_map f rest) ≡ whole
   after_item f old new whole x rest added all =
@@ -56,7 +56,7 @@ same_test p q [] same = refl
 same_test p q (e ∷ es) same = ap (λ b. cond b (Some e.1) (lookup p es)) (same e.0) ∙ ap (λ o. cond (q e.0) (Some e.1) o) (same_test p q es same)
 
 module _ {K X : Type 0} (eq : K → K → Bool) (laws : IsEquivalence eq) where
-  -- a key is in a table with one entry more exactly where it was, or is that entry's
+  -- a key is in a table with one more entry exactly if it was, or is that entry's
   in_first : (table : List (K × X)) (k : K) (v : X) (q : K) → is_some (lookup (eq q) (with_first eq table k v)) ≡ (is_some (lookup (eq q) table) || eq q k)
   in_first table k v q = by (is_some (lookup (eq k) table)) refl
     where
@@ -78,6 +78,6 @@ module _ {K X : Type 0} (eq : K → K → Bool) (laws : IsEquivalence eq) where
       ∙ (or_assoc (is_some (lookup (eq q) table)) (eq q e.0) (is_some (lookup (eq q) es))
       ∙ ap (λ b. is_some (lookup (eq q) table) || b) (sym (cons_found (eq q e.0) e.1 (lookup (eq q) es)))))
 
-  -- a table that is made of entries has the keys that stand among them
+  -- a table that is made of entries has exactly their keys
   pub entered : (es : List (K × X)) (q : K) → is_some (lookup (eq q) (with_all eq [] es)) ≡ is_some (lookup (eq q) es)
   entered es q = in_all [] es q

@@ -1,4 +1,4 @@
--- What is named in a sound resolve stands in it.
+-- What a sound resolve names exists in it.
 use Rattle.std.proofs.Common.{arith, ◌≡◌, ◌<◌, ℕ, zero, suc, Bool, true, false, cond, List, [], ◌∷◌, ◌++◌, length, map, Option, Some, None, refl, sym, ap, ◌∙◌, subst, get_or}
 use Rattle.std.specs.Prelude.{slice_get, option_map}
 use Rattle.std.specs.Option.{unwrap_or, option_and_then}
@@ -87,7 +87,7 @@ functions_exist : (r : Resolve) (fs : List (List ℕ × Function)) → AllByRecu
 functions_exist r [] h = tt
 functions_exist r (f ∷ fs) h = both_there r (function_types f.1) (flat_map (λ g. function_types g.1) fs) (function_there r f.1 h.0) (functions_exist r fs h.1)
 
--- what stands at a number, where everything does
+-- the element at a number has the property that all have
 at_number : {X : Type 0} (P : X → Type 0) (xs : List X) (n : ℕ) (x : X) → AllByRecursion P xs → slice_get xs n ≡ Some x → P x
 at_number P [] n x h e = absurd cc
 at_number P (y ∷ ys) zero x h e = let same : y ≡ x = cc in subst P same h.0
@@ -167,7 +167,7 @@ exports_there : (r : Resolve) (es : List (WorldKey × WorldItem)) → IsSound r 
 exports_there r [] sound h = tt
 exports_there r (e ∷ es) sound h = let here = h.0 in both_there r (export_types r e.1) (flat_map (λ x. export_types r x.1) es) (export_there r e.1 sound here.1) (exports_there r es sound h.1)
 
--- all that has to be there is there
+-- all types that have to exist do
 pub used_types_exist : (r : Resolve) (w : World) (is : List CoreImport) → IsSound r → HasWorld r w → AllByRecursion (λ i. HasRole r i.role) is → AreThere r (used_types is r w)
 used_types_exist r w is sound h has =
     both_there r (flat_map (λ i. role_types r w.imports i.role) is) (flat_map (λ e. import_types e.1) w.imports ++ flat_map (λ e. export_types r e.1) w.exports) (roles_there r w.imports is sound h.imports has)

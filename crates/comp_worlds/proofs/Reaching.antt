@@ -1,4 +1,4 @@
--- Marks on types tell what is live, and to which interfaces it belongs.
+-- Marks on types say which are live, and to which interfaces these belong.
 use Rattle.std.proofs.Common.{◌≡◌, ◌∙◌, ap, sym, refl, ℕ, suc, ◌+◌, ◌<◌, ◌==◌, nat_eq, Bool, false, ◌&&◌, not, List, [], ◌∷◌, ◌++◌, length, map, filter, drop, get_or, is_some, if◌then◌else◌, add-one, subst}
 use Rattle.std.proofs.Math.Seq.{drop-cons}
 use Rattle.std.proofs.lemmas.Cmp.{nat_eq_equiv}
@@ -21,7 +21,7 @@ use Rattle.comp_worlds.specs.Tables.{with_all}
 use Rattle.comp_worlds.proofs.Entering.{with_all_append, entered}
 use Rattle.comp_worlds.proofs.Using.{same_flat}
 
--- one type more of those whose owners are gone through
+-- one more type of those whose owners are collected
 pub owner_step : (live : ℕ → Bool) (types : List TypeDef) (n : ℕ) (d : TypeDef) (old new whole : List (ℕ × Unit {0})) (mark : Bool) → n < length types → mark ≡ live n
     → new ≡ with_all nat_eq old (if mark then owner_in (get_or types n d).owner else []) → with_all nat_eq old (owners_from live n (drop n types)) ≡ whole
     → with_all nat_eq new (owners_from live (n + 1) (drop (n + 1) types)) ≡ whole
@@ -37,12 +37,12 @@ owners_same p q n [] same = refl
 owners_same p q n (t ∷ ts) same =
     ap (λ b. (if b then owner_in t.owner else []) ++ owners_from p (suc n) ts) (same n) ∙ ap (λ os. (if q n then owner_in t.owner else []) ++ os) (owners_same p q (suc n) ts same)
 
--- what marks tell of owners
+-- the owners that marks give
 pub owners_are : (types : List TypeDef) (given : List Ty) (marks : List Bool) (table : List (ℕ × Unit {0})) → AreLive types given marks
     → table ≡ with_all nat_eq [] (owners_from (λ n. get_or marks n false) 0 types) → table ≡ with_all nat_eq [] (owners_from (is_live types given) 0 types)
 owners_are types given marks table live is = is ∙ ap (with_all nat_eq []) (owners_same (λ n. get_or marks n false) (is_live types given) 0 types live.each)
 
--- what a table of owners tells of the exported interfaces
+-- what a table of owners says of the exported interfaces
 pub named_are : (r : Resolve) (id : InterfaceId) (given : List Ty) (owners : List (ℕ × Unit {0})) (all found : List InterfaceId) → given ≡ interface_types r id
     → owners ≡ with_all nat_eq [] (owners_from (is_live r.types given) 0 r.types)
     → found ≡ filter (λ other. is_some (lookup (λ n. other.index == n) owners) && not (other.index == id.index)) all
@@ -57,7 +57,7 @@ same_entry p q r same (items.Interface id) = ap (λ ts. (id, ts) ∷ []) (filter
 same_entry p q r same (items.Function f) = refl
 same_entry p q r same (items.NamedType id) = refl
 
--- what marks tell of imported interfaces
+-- what marks say of imported interfaces
 pub live_are : (imports : List CoreImport) (r : Resolve) (w : World) (given : List Ty) (marks : List Bool) (table : List (InterfaceId × List TypeId)) → given ≡ used_types imports r w
     → AreLive r.types given marks → table ≡ with_all same_interface [] (flat_map (λ e. live_entry (λ n. get_or marks n false) r e.1) w.imports) → table ≡ live_type_imports imports r w
 live_are imports r w given marks table same found is =

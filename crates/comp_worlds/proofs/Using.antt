@@ -1,4 +1,4 @@
--- What core imports use is what the tables of their calls and drops tell.
+-- What core imports use is what the tables of their calls and drops say.
 use Rattle.std.proofs.Common.{rules, ◌≡◌, ◌∙◌, ap, refl, ℕ, nat_eq, Bool, List, [], ◌∷◌, ◌++◌, Some, None, is_some, if◌then◌else◌}
 use Rattle.std.proofs.lemmas.Cmp.{nat_eq_equiv}
 use Rattle.std.specs.Cmp.{IsEquivalence}
@@ -40,7 +40,7 @@ pub same_flat : {X A : Type 0} (f g : X → List A) → ((x : X) → f x ≡ g x
 same_flat f g same [] = refl
 same_flat f g same (x ∷ xs) = ap (λ ys. ys ++ flat_map f xs) (same x) ∙ ap (λ ys. g x ++ ys) (same_flat f g same xs)
 
--- ---- what is used tells how it is met
+-- ---- the uses determine the lowerings
 
 module _ (a b : Used) (same : IsUsed a b) where
   same_called : (types : List TypeDef) (key : WorldKey) (f : Function) (abi : AbiVariant) → called_as a types key f abi ≡ called_as b types key f abi

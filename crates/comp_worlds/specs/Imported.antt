@@ -1,4 +1,4 @@
--- How what a world imports is met where core modules use it (Canonical ABI: `canon lower`, `resource.drop`).
+-- How what a world imports is lowered for core modules (Canonical ABI: `canon lower`, `resource.drop`).
 use Rattle.std.specs.Prelude.{ℕ, Bool, ◌&&◌, not, if◌then◌else◌, List, [], ◌∷◌, ◌++◌, codes, Option, Some, None, option_map, unwrap_or, slice_get}
 use Rattle.std.specs.Option.{option_eq}
 use Rattle.std.specs.List.{flat_map}
@@ -28,14 +28,14 @@ use Rattle.comp_worlds.specs.declared.lowerings.LoweringKey.{LoweringKey}
 abbrev pub Lowerings : Type 0
 Lowerings = List (LoweringKey × Lowering)
 
--- a function is lowered directly where its options ask for no memory, or where main imports its memory, so that
--- there is one before main is instantiated; else it is called through a table
+-- a function is lowered directly where its options need no memory, or where main imports its memory, so that
+-- it exists before main is instantiated; else it is called through a table
 abbrev pub lowering_of : Bool → AbiVariant → List TypeDef → Function → Lowering
 lowering_of shares abi types f =
     if shares then Direct (record { 0 = import_set abi types f })
     else (if needs (import_set abi types f) 1 then Indirect (signature abi types f) (record { 0 = import_set abi types f }) else Direct (record { 0 = import_set abi types f }))
 
--- a function in one form, where some core import is for it
+-- a function in one form, if the role of some core import is this call
 abbrev pub called_as : Used → List TypeDef → WorldKey → Function → AbiVariant → Lowerings
 called_as used types key f abi =
     if used.called (call_at key f.name abi) then (record { name = f.name; abi = abi }, lowering_of used.shares abi types f) ∷ [] else []
@@ -45,7 +45,7 @@ abbrev pub function_lowerings : Used → List TypeDef → WorldKey → Function 
 function_lowerings used types key f =
     called_as used types key f GuestImport ++ called_as used types key f GuestImportAsync
 
--- a resource, where some core import drops it; no imported function is called in the form of this key
+-- the drop of a resource, if some core import drops it; no imported function is called in the form of this key
 abbrev pub drop_lowerings : Used → List ℕ → TypeId → Lowerings
 drop_lowerings used name id =
     if used.dropped id.index then (record { name = name ++ codes "_drop"; abi = GuestExport }, ResourceDrop id) ∷ [] else []

@@ -18,7 +18,7 @@ abbrev pub is_library_adapter : Option WorldAdapter → Bool
 is_library_adapter None = false
 is_library_adapter (Some adapter) = is_some adapter.library_info
 
--- the adapter of this name is there, and is a library
+-- the adapter of this name exists, and is a library
 abbrev pub is_library : ComponentWorld → List ℕ → Bool
 is_library w name = is_library_adapter (found name w.adapters)
 
@@ -34,6 +34,6 @@ resolved_realloc w which (Some own) = Some (which, own)
 resolved_realloc w (Some adapter) None = main_realloc_if (is_library w adapter) w.main.exports.exports
 resolved_realloc w None None = None
 
--- a module and one of its exports, as a look-up lends them
+-- a module and one of its exports, as a look-up borrows them
 abbrev pub lent_export : Option (CustomModule × Bor (List ℕ)) → Option (Option (List ℕ) × List ℕ)
 lent_export answer = option_map (λ p. (module_name p.0, p.1.now)) answer

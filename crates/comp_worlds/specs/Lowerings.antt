@@ -1,4 +1,4 @@
--- How imported functions are met (Canonical ABI: `canon lower`): by the function's name and the form in
+-- How imported functions are lowered (Canonical ABI: `canon lower`), by the function's name and the form in
 -- which it is called.
 use Rattle.std.specs.Prelude.{ℕ, nat_eq, Bool}
 use Rattle.std.specs.Ordering.{on, eq_of_both}
@@ -15,6 +15,6 @@ abi_number abis.GuestImportAsync = 2
 abi_number abis.GuestExportAsync = 3
 abi_number abis.GuestExportAsyncStackful = 4
 
--- functions of one name that are called in one form are one
+-- lowerings of the same name and form are the same
 abbrev pub is_same_lowering : LoweringKey → LoweringKey → Bool
 is_same_lowering = eq_of_both (on (λ k. k.name) bytes_eq) (on (λ k. abi_number k.abi) nat_eq)

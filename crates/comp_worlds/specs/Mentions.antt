@@ -1,5 +1,5 @@
--- The types that functions, interfaces and core imports name, and what follows from them (component model, binary
--- format: an instance type declares each type that its functions and types name).
+-- The types that functions, interfaces and core imports name, and the tables that follow from them (component model,
+-- binary format: an instance type declares each type that its functions and types name).
 use Rattle.std.specs.Prelude.{ℕ, suc, Bool, true, false, ◌&&◌, ◌==◌, not, if◌then◌else◌, List, [], ◌∷◌, ◌++◌, map, filter, Option, Some, None, is_some}
 use Rattle.std.specs.List.{flat_map, filter_map}
 use Rattle.std.specs.Map.{lookup}
@@ -61,7 +61,7 @@ types_of_function (Some f) = function_types f
 abbrev pub interface_types : Resolve → InterfaceId → List Ty
 interface_types r id = map (λ t. Id t.1) (named_types r id) ++ flat_map (λ f. function_types f.1) (functions_of r id)
 
--- the stream or the future that a core import is for
+-- the stream or the future of the role of a core import
 abbrev pub payload_in : Import → Option PayloadInfo
 payload_in (imports.StreamNew p) = Some p
 payload_in (imports.StreamRead p is_async) = Some p
@@ -83,7 +83,7 @@ abbrev pub payload_type : PayloadType → Option Ty
 payload_type (payloads.Typed id function) = Some (Id id)
 payload_type unit = None
 
--- its type, where it is met in an import
+-- its type, if it occurs in an import
 abbrev pub imported_payload : Option PayloadInfo → Option Ty
 imported_payload None = None
 imported_payload (Some p) = if p.imported then payload_type p.ty else None
@@ -96,24 +96,24 @@ function_in item = None
 abbrev pub root_function_at : List (WorldKey × WorldItem) → WorldKey → Option Function
 root_function_at entries key = option_and_then function_in (lookup (is_same_key key) entries)
 
--- a core import: the imported function that it is for, the imported resource that it drops, the imported stream or future
+-- a core import: the imported function or resource drop that is its role, or the imported stream or future
 abbrev pub role_types : Resolve → List (WorldKey × WorldItem) → Import → List Ty
 role_types r entries (imports.WorldFunc key name abi) = types_of_function (root_function_at entries key)
 role_types r entries (imports.InterfaceFunc key id name abi) = types_of_function (found name (functions_of r id))
 role_types r entries (imports.ImportedResourceDrop key interface id) = Id id ∷ []
 role_types r entries role = at_most_one (imported_payload (payload_in role))
 
--- what a core import itself names stands in the resolve
+-- what the role of a core import itself names exists in the resolve
 abbrev pub HasRole : Resolve → Import → Type 0
 HasRole r (imports.ImportedResourceDrop key interface id) = HasTypeId r id
 HasRole r role = HasType r (imported_payload (payload_in role))
 
--- the function of a `task.return`, which the role itself has, stands in the resolve
+-- the function of a `task.return`, which the role itself has, exists in the resolve
 abbrev pub HasReturned : Resolve → Import → Type 0
 HasReturned r (imports.ExportedTaskReturn key interface f) = HasFunction r f
 HasReturned r role = Unit {0}
 
--- an import of the world: a type alone is there without being used
+-- an import of the world: a bare type is needed even if it is unused
 abbrev pub import_types : WorldItem → List Ty
 import_types (items.NamedType id) = Id id ∷ []
 import_types item = []
@@ -123,7 +123,7 @@ export_types r (items.Interface id) = interface_types r id
 export_types r (items.Function f) = function_types f
 export_types r (items.NamedType id) = Id id ∷ []
 
--- all that names types for which the component has to have them
+-- all types for which the component needs definitions
 abbrev pub used_types : List CoreImport → Resolve → World → List Ty
 used_types imports r w =
     flat_map (λ i. role_types r w.imports i.role) imports ++ (flat_map (λ e. import_types e.1) w.imports ++ flat_map (λ e. export_types r e.1) w.exports)
@@ -146,7 +146,7 @@ abbrev pub live_entry : (ℕ → Bool) → Resolve → WorldItem → List (Inter
 live_entry live r (items.Interface id) = (id, filter (λ t. live t.index) (map (λ e. e.1) (named_types r id))) ∷ []
 live_entry live r item = []
 
--- of each imported interface those types that are used or that used ones reach
+-- of each imported interface those types that are used, or reached by used ones
 abbrev pub live_type_imports : List CoreImport → Resolve → World → List (InterfaceId × List TypeId)
 live_type_imports imports r w =
     with_all same_interface [] (flat_map (λ e. live_entry (is_live r.types (used_types imports r w)) r e.1) w.imports)
@@ -158,12 +158,12 @@ abbrev pub owner_in : TypeOwner → List (ℕ × Unit {0})
 owner_in (owners.Interface id) = (id.index, tt) ∷ []
 owner_in owner = []
 
--- the interfaces to which those of the types belong that are live, where so many stand before the first
+-- the interfaces to which the live types belong, where the first of the types has this number
 abbrev pub owners_from : (ℕ → Bool) → ℕ → List TypeDef → List (ℕ × Unit {0})
 owners_from live n [] = []
 owners_from live n (t ∷ ts) = (if live n then owner_in t.owner else []) ++ owners_from live (suc n) ts
 
--- what an interface names reaches a type of another
+-- whether a type that an interface names reaches a type of another
 abbrev pub names_interface : Resolve → InterfaceId → InterfaceId → Bool
 names_interface r id other =
     is_some (lookup (λ n. other.index == n) (owners_from (is_live r.types (interface_types r id)) 0 r.types))

@@ -27,20 +27,20 @@ all_imports main adapters = imports_of main ++ flat_map (λ a. imports_of a.1.in
 
 -- ---- functions
 
--- calls of one function in one form are one
+-- calls of the same function in the same form are the same
 abbrev pub is_same_call : Call → Call → Bool
 is_same_call = eq_of_both (on (λ c. c.key) is_same_key) (eq_of_both (on (λ c. c.lowering.name) bytes_eq) (on (λ c. abi_number c.lowering.abi) nat_eq))
 
 abbrev pub call_at : WorldKey → List ℕ → AbiVariant → Call
 call_at key name abi = record { key = key; lowering = record { name = name; abi = abi } }
 
--- the call that an import is for, if it is for one
+-- the call that is the role of an import, if it is one
 abbrev pub calls_in : Import → List (Call × Unit {0})
 calls_in (imports.WorldFunc key name abi) = (call_at key name abi, tt) ∷ []
 calls_in (imports.InterfaceFunc key interface name abi) = (call_at key name abi, tt) ∷ []
 calls_in role = []
 
--- some import is for this call
+-- the role of some import is this call
 abbrev pub is_called : List CoreImport → Call → Bool
 is_called imports c = is_some (lookup (is_same_call c) (flat_map (λ i. calls_in i.role) imports))
 
@@ -57,7 +57,7 @@ is_dropped imports n = is_some (lookup (λ m. n == m) (flat_map (λ i. drops_in 
 
 -- ---- both
 
--- which calls core imports are for, which resources they drop, and whether main imports its memory
+-- which calls are roles of core imports, which resources they drop, and whether main imports its memory
 pub record Used : Type 0 where
   pub called : Call → Bool
   pub dropped : ℕ → Bool
@@ -66,7 +66,7 @@ pub record Used : Type 0 where
 abbrev pub used_by : List CoreImport → Bool → Used
 used_by imports shares = record { called = is_called imports; dropped = is_dropped imports; shares = shares }
 
--- as tables tell it
+-- the same, read from the tables
 abbrev pub used_in : Uses → Used
 used_in u = record { called = λ c. is_some (lookup (is_same_call c) u.calls); dropped = λ n. is_some (lookup (λ m. n == m) u.drops); shares = u.shares_memory }
 

@@ -1,4 +1,4 @@
--- What a validated world says, and what holds of it (component model: the imports and exports of a
+-- What a validated world contains, and what holds of it (component model: the imports and exports of a
 -- world; core standard, binary format: the preamble of a module).
 use Rattle.std.specs.Prelude.{◌≡◌, ◌<◌, ℕ, List, [], ◌∷◌, Option, Some, None, map, get_or, length, Contains, IsSome, is_some}
 use Rattle.std.specs.List.{flat_map, IsDistinct, AllByRecursion}
@@ -31,7 +31,7 @@ use Rattle.comp_roles.specs.Lookups.{imported_memory}
 use Rattle.comp_worlds.specs.Mentions.{live_type_imports, exports_used}
 use Rattle.comp_worlds.specs.Uses.{used_by, all_imports}
 
--- ---- what it says
+-- ---- its contents
 
 -- the imports and exports of the world
 abbrev pub no_items : World
@@ -56,24 +56,24 @@ exported_functions w = flat_map root_function (items_of w).exports
 abbrev pub core_imports : ComponentWorld → List CoreImport
 core_imports w = flat_map imports_from w.main.imports.modules
 
--- the name of the root function that an import is
+-- the name of the root function that an import uses
 abbrev pub imported_name : Import → Option (List ℕ)
 imported_name (imports.WorldFunc (keys.Name text) function abi) = Some text
 imported_name role = None
 
--- the root function that an export is, with the export's name
+-- the root function that an export implements, with the export's name
 abbrev pub root_export : List ℕ × Export → List (List ℕ × List ℕ)
 root_export (name, exports.WorldFunc (keys.Name text) function abi) = (text, name) ∷ []
 root_export entry = []
 
--- the core export that is the root function of this key
+-- the core export that implements the root function of this key
 abbrev pub core_name_of : ComponentWorld → WorldKey → Option (List ℕ)
 core_name_of w (keys.Name text) = found text (flat_map root_export w.main.exports.exports)
 core_name_of w (keys.Interface id) = None
 
 -- ---- what holds of it
 
--- a function with no parameter and no result, for which nobody waits
+-- a synchronous function with no parameter and no result
 pub record IsPlain (f : Function) : Type 0 where
   pub kind : f.kind ≡ Freestanding
   pub params : f.params ≡ []
@@ -84,22 +84,22 @@ abbrev pub IsItem : WorldKey × WorldItem → Type 0
 IsItem (keys.Name text, items.Function f) = (text ≡ f.name) × IsPlain f
 IsItem entry = ⊥
 
--- what an import is for is a function that the world imports, called in the right form
+-- the role of an import is a function that the world imports, called in the right form
 abbrev pub IsImportRole : ComponentWorld → Import → Type 0
 IsImportRole w (imports.WorldFunc (keys.Name text) function abi) = Contains (imported_functions w) text × (function ≡ text) × (abi ≡ GuestImport)
 IsImportRole w role = ⊥
 
--- what the imports from one module are for
+-- the roles of the imports from one module
 abbrev pub IsImportGroup : ComponentWorld → List ℕ × ImportInstance → Type 0
 IsImportGroup w (name, instances.Names fields) = IsDistinct bytes_eq (map (λ f. f.0) fields) × AllByRecursion (λ f. IsImportRole w f.1) fields
 IsImportGroup w (name, instances.Whole which) = ⊥
 
--- what an export is for is a function that the world exports, called in the right form
+-- the role of an export is a function that the world exports, called in the right form
 abbrev pub IsExportRole : ComponentWorld → Export → Type 0
 IsExportRole w (exports.WorldFunc (keys.Name text) function abi) = Contains (exported_functions w) text × (function ≡ text) × (abi ≡ GuestExport)
 IsExportRole w role = ⊥
 
--- a required export is one of the world's, and stands in main
+-- a required export is one of the world's, and main has a core export for it
 pub record IsRequired (w : ComponentWorld) (key : WorldKey) : Type 0 where
   pub exported : Contains (map (λ e. e.0) (items_of w).exports) key
   pub present : IsSome (core_name_of w key)

@@ -1,4 +1,4 @@
-//! How what a world imports is met where core modules use it.
+//! How what a world imports is lowered for core modules.
 
 ghost use Rattle.std.specs.Prelude.{◌≡◌, [], ◌∷◌, ◌++◌, None, codes, IfOk, OnOk};
 ghost use Rattle.std.specs.List.{flat_map, AllByRecursion};
@@ -21,7 +21,7 @@ use wit_data::{AbiVariant, Function, InterfaceId, Resolve, TypeId, WorldItem, Wo
 /// Lowerings by name and form.
 type Lowerings = Keyed<LoweringKey, Lowering>;
 
-/// How a function is lowered that is called in this form.
+/// The lowering of a function that is called in this form.
 fn lowering_of(
     alloc: Global,
     resolve: &Resolve,
@@ -118,7 +118,7 @@ fn add_drop(
     table.insert_if_absent(key, Lowering::ResourceDrop(id))
 }
 
-/// The name under which the drop of a resource stands.
+/// The key's name of the drop of a resource: `NAME_drop`.
 fn drop_name(alloc: Global, name: &str) -> Result<Text, AllocError>
     ensures { IfOk result (λ t. t ≡ name.now ++ codes "_drop") }
 {

@@ -1,19 +1,19 @@
-//! The validated world: what a component is to import and export, with its core modules, and what follows
+//! The validated world: what a component is to import and export, with its core modules, and the tables that follow
 //! from these.
 //!
-//! Values alone, and the trait [`Lower`] by which a lower layer makes them; what is encoded from them
-//! is the business of the crates above. The promise upward is `specs/Worlds.antt`: `IsWorld`, what
-//! holds of every world that a lower layer answers. What each import and export of a core module is for comes from
-//! `comp_roles`, which options a call needs from `comp_options`; their names are handed on from here, so that
-//! who uses a world needs no other crate for its parts.
+//! Data alone, and the trait [`Lower`] by which a lower layer makes it; how it is encoded is up to the crates
+//! above. The guarantee is `IsWorld` of `specs/Worlds.antt`, which holds of every world that a lower layer
+//! returns. The roles of imports and exports of core modules come from `comp_roles`, the options that a call
+//! needs from `comp_options`; this crate re-exports their names, so that its users need no other crate.
 //!
-//! In reading order: `lowerings` (how imported functions are met), `world` (the validated world), `modules`
-//! (user modules by name, and where a module's realloc stands), `options` (what the encoder was
-//! asked for), `gathered` (what was gathered before the world is prepared), `lower` (the trait). What follows
-//! from a world is made by `tables`: with `uses` (what core imports use) `imported` (how the world's imports are
-//! met), with `mentions` (what names which types) `reached` (live types, and exported interfaces that others name).
+//! In reading order: `lowerings` (how imported functions are lowered), `world` (the validated world), `modules`
+//! (user modules by name, and which module has a module's realloc), `options` (the options of the encoder),
+//! `gathered` (what was gathered before the world is prepared), `lower` (the trait). The tables that follow from
+//! a world are made by `tables`: from `uses` (what core imports use) `imported` (the lowerings of the world's
+//! imports), from `mentions` (what names which types) `reached` (live types, and exported interfaces that
+//! others name).
 //!
-//! What the look-ups across modules answer is defined in `specs/Lookups.antt`, what follows from a world in
+//! The look-ups across modules are defined in `specs/Lookups.antt`, the tables of a world in
 //! `specs/Imported.antt` and `specs/Mentions.antt`.
 #![tactic(auto)]
 

@@ -1,5 +1,5 @@
-//! The lower layer: it takes what is said of a module from the module's bytes, joins what several
-//! say, and prepares the validated world.
+//! The lower layer: it reads a module's metadata from the module's bytes, merges the metadata of several
+//! modules, and prepares the validated world.
 
 ghost use Rattle.std.specs.Prelude.{◌≡◌, ℕ, List, Bool, false, IfOk, IfErr, IsSome, IsOk};
 ghost use Rattle.comp_worlds.specs.Worlds.{IsWorld};
@@ -13,22 +13,22 @@ use comp_lists::Bytes;
 use std::alloc::Global;
 use std::error::Error;
 
-/// A lower layer. The ghost members say what it means: `decoded`, `merged` and `prepared` are its own
-/// definitions, the causes say when a fault is right. A fault of memory needs no cause; a call of
-/// which a cause holds answers no `Ok`.
+/// A lower layer. The ghost members specify it: `decoded`, `merged` and `prepared` are its own
+/// definitions, the causes say when a fault is right. A fault of memory needs no cause; a call does not
+/// return `Ok` where a cause holds.
 pub trait Lower {
-    /// What modules say, in a form of the layer's own.
+    /// The metadata of modules, in a form of the layer's own.
     type Bindgen: Drop;
 
     type Fault: Error;
 
-    /// What a module says that says nothing.
+    /// Empty metadata.
     ghost empty_is: { Self → Self.Bindgen };
 
-    /// The bytes of a module without what the layer took from them, and what that said.
+    /// The bytes of a module without the custom sections that the layer read, and the metadata in those.
     ghost decoded: { Self → List ℕ → List ℕ × Self.Bindgen };
 
-    /// What two say together, and the keys that the second exports.
+    /// The merged metadata of two modules, and the keys that the second exports.
     ghost merged: { Self → Self.Bindgen → Self.Bindgen → Merged Self.Bindgen };
 
     /// The world of what was gathered.
@@ -40,19 +40,19 @@ pub trait Lower {
 
     ghost prepare_cause: { Self → Gathered Self.Bindgen → Self.Fault → Type 0 };
 
-    /// The faults of memory.
+    /// The faults that are out of memory.
     ghost memory_fault: { Self → Self.Fault → Bool };
 
     fn empty(&self, alloc: Global) -> Self::Bindgen
         ensures { result ≡ empty_is self.now };
 
-    /// Takes from a module's bytes what is said of it.
+    /// Reads a module's metadata from its bytes.
     fn decode(&self, alloc: Global, bytes: &[u8]) -> Result<(Bytes, Self::Bindgen), Self::Fault>
         ensures ok { IfOk result (λ p. p ≡ decoded self.now bytes.now) }
         ensures refused { IsOk result → (f : Self.Fault) → ¬ decode_cause self.now bytes.now f }
         ensures cause { IfErr result (λ f. memory_fault self.now f ≡ false → decode_cause self.now bytes.now f) };
 
-    /// Joins what modules said so far with what a further one says.
+    /// Merges the metadata so far with that of a further module.
     fn merge(
         &self,
         alloc: Global,
@@ -75,7 +75,7 @@ pub trait Lower {
         ensures refused { IsOk result → (f : Self.Fault) → ¬ prepare_cause self.now gathered.now f }
         ensures cause { IfErr result (λ f. memory_fault self.now f ≡ false → prepare_cause self.now gathered.now f) };
 
-    /// Whether a fault says that memory was refused.
+    /// Whether a fault is out of memory.
     fn is_memory(&self, fault: &Self::Fault) -> bool
         ensures { result ≡ memory_fault self.now fault.now };
 }

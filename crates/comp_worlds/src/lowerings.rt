@@ -1,4 +1,4 @@
-//! How the functions of imported interfaces are met (Canonical ABI: `canon lower`, `resource.drop`).
+//! How the functions of imported interfaces are lowered (Canonical ABI: `canon lower`, `resource.drop`).
 
 ghost use Rattle.std.specs.Prelude.{◌≡◌};
 ghost use Rattle.comp_worlds.specs.Lowerings.{abi_number};
@@ -8,14 +8,14 @@ use comp_options::RequiredOptions;
 use std::hash::{Hash, Hasher};
 use wit_data::{AbiVariant, InterfaceId, TypeId, WasmSignature};
 
-/// How an imported function is met.
+/// How an imported function is lowered.
 #[derive(Debug, Drop)]
 pub enum Lowering {
-    /// Lowered before the module that calls it, with options that ask for none of its parts.
+    /// Lowered before the module that calls it is instantiated, with options that need none of its items.
     Direct {
         options: RequiredOptions,
     },
-    /// Called through a table, since its options ask for parts of the module that calls it: the core
+    /// Called through a table, since its options need items of the module that calls it: the core
     /// signature of the call, and the options.
     Indirect {
         sig: WasmSignature,
@@ -83,7 +83,7 @@ impl Hash for LoweringKey {
 }
 
 /// What is imported of one interface, or of the root where there is none: each function that is called,
-/// in the order of first mention, and how it is met.
+/// in the order of first mention, and its lowering.
 #[derive(Drop)]
 pub struct ImportedInterface {
     pub lowerings: Keyed<LoweringKey, Lowering>,

@@ -65,7 +65,7 @@ fn add_params(list: &mut Vec<Type>, params: &[Param]) -> Result<(), AllocError>
     Ok(())
 }
 
-/// Adds what a function names.
+/// Adds the types that a function names.
 fn add_function(list: &mut Vec<Type>, function: &Function) -> Result<(), AllocError>
     ensures { OnOk result (list.new.items ≡ list.old.items ++ function_types function.now) }
 {
@@ -84,7 +84,7 @@ fn add_types(list: &mut Vec<Type>, types: &Keyed<Text, TypeId>) -> Result<(), Al
     Ok(())
 }
 
-/// Adds what these functions name.
+/// Adds the types that these functions name.
 #[tactic(auto, using(comp_roles::proofs::Walking::item_step))]
 fn add_functions(list: &mut Vec<Type>, functions: &Keyed<Text, Function>) -> Result<(), AllocError>
     ensures { OnOk result (list.new.items ≡ list.old.items ++ flat_map (λ f. function_types f.1) functions.now) }
@@ -95,7 +95,7 @@ fn add_functions(list: &mut Vec<Type>, functions: &Keyed<Text, Function>) -> Res
     Ok(())
 }
 
-/// Adds the types of an interface, and what its functions name.
+/// Adds the types of an interface, and those that its functions name.
 pub(crate) fn add_interface(
     list: &mut Vec<Type>,
     resolve: &Resolve,
@@ -110,7 +110,7 @@ pub(crate) fn add_interface(
     add_functions(list, &interface.functions)
 }
 
-/// The stream or the future that a core import is for.
+/// The stream or the future of the role of a core import.
 fn payload_in(role: &Import) -> Option<&PayloadInfo>
     ensures { option_copied result ≡ payload_in role.now }
 {
@@ -142,7 +142,7 @@ fn payload_type(ty: &PayloadType) -> Option<Type>
     }
 }
 
-/// The type of a stream or a future that is met in an import.
+/// The type of a stream or a future that occurs in an import.
 fn imported_payload(role: &Import) -> Option<Type>
     ensures { result ≡ imported_payload (payload_in role.now) }
 {
@@ -179,7 +179,7 @@ fn interface_function<'a>(
     interface.functions.get(name)
 }
 
-/// Adds what a function names, if there is one.
+/// Adds the types that a function names, if there is one.
 fn add_found(list: &mut Vec<Type>, function: Option<&Function>) -> Result<(), AllocError>
     ensures { OnOk result (list.new.items ≡ list.old.items ++ types_of_function (option_copied function.entry)) }
 {
@@ -189,7 +189,7 @@ fn add_found(list: &mut Vec<Type>, function: Option<&Function>) -> Result<(), Al
     }
 }
 
-/// Adds what a core import names.
+/// Adds the types that a core import names.
 fn add_role(
     list: &mut Vec<Type>,
     resolve: &Resolve,
@@ -208,7 +208,7 @@ fn add_role(
     }
 }
 
-/// Adds what core imports name.
+/// Adds the types that core imports name.
 #[tactic(auto, using(comp_roles::proofs::Walking::item_step))]
 fn add_roles(
     list: &mut Vec<Type>,
@@ -224,7 +224,7 @@ fn add_roles(
     Ok(())
 }
 
-/// Adds the types that a world imports alone.
+/// Adds the bare types that a world imports.
 #[tactic(auto, using(comp_roles::proofs::Walking::item_step))]
 fn add_imports(list: &mut Vec<Type>, entries: &Keyed<WorldKey, WorldItem>) -> Result<(), AllocError>
     ensures { OnOk result (list.new.items ≡ list.old.items ++ flat_map (λ e. import_types e.1) entries.now) }
@@ -235,7 +235,7 @@ fn add_imports(list: &mut Vec<Type>, entries: &Keyed<WorldKey, WorldItem>) -> Re
     Ok(())
 }
 
-/// Adds a type that the world imports alone.
+/// Adds a type, if the world's import is a bare type.
 fn add_import(list: &mut Vec<Type>, item: &WorldItem) -> Result<(), AllocError>
     ensures { OnOk result (list.new.items ≡ list.old.items ++ import_types item.now) }
 {
@@ -245,7 +245,7 @@ fn add_import(list: &mut Vec<Type>, item: &WorldItem) -> Result<(), AllocError>
     }
 }
 
-/// Adds what an export of the world names.
+/// Adds the types that an export of the world names.
 fn add_export(list: &mut Vec<Type>, resolve: &Resolve, item: &WorldItem) -> Result<(), AllocError>
     requires sound { IsSound resolve.now }
     requires present { HasItem resolve.now item.now }
@@ -258,7 +258,7 @@ fn add_export(list: &mut Vec<Type>, resolve: &Resolve, item: &WorldItem) -> Resu
     }
 }
 
-/// Adds what the exports of a world name.
+/// Adds the types that the exports of a world name.
 #[tactic(auto, using(comp_roles::proofs::Walking::item_step))]
 fn add_exports(
     list: &mut Vec<Type>,
@@ -275,7 +275,7 @@ fn add_exports(
     Ok(())
 }
 
-/// What is named by all for which the component has to have types.
+/// All types for which the component needs definitions, as they are listed.
 fn listed_types(
     alloc: Global,
     imports: &[NamedImport<'_>],

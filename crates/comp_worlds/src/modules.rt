@@ -1,4 +1,4 @@
-//! User modules by name, and where a module's realloc stands.
+//! User modules by name, and the realloc that a module uses.
 
 ghost use Rattle.std.specs.Prelude.{◌≡◌};
 ghost use Rattle.std.specs.Option.{option_copied};
@@ -16,10 +16,10 @@ pub enum CustomModule<'a> {
 }
 
 impl ComponentWorld {
-    /// The module that reallocates for a module, and the name of the export with which it does.
+    /// The module that reallocates for a module, and the name of its export for that.
     ///
-    /// `own` is the realloc that the module itself has for the calls in question: where it has one,
-    /// that is the answer. Where it has none, an adapter that is a library takes main's general one;
+    /// `own` is the realloc that the module itself has for the calls in question: it is the result where
+    /// there is one. Where there is none, an adapter that is a library takes main's general one;
     /// main, any other adapter and an unknown name have none.
     pub fn resolve_realloc<'a>(
         &'a self,

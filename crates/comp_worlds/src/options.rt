@@ -1,6 +1,6 @@
-//! What the encoder was asked for.
+//! The options of the encoder.
 
-/// The options of an encoder, each off in the beginning but for `merge_imports_based_on_semver`.
+/// The options of an encoder, each off at first except for `merge_imports_based_on_semver`.
 #[derive(Clone, Copy, Debug, PartialEq, Eq)]
 pub struct EncoderOptions {
     pub validate: bool,

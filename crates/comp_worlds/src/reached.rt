@@ -16,7 +16,7 @@ use wit_data::{
     marked_of,
 };
 
-/// Those of the types of an interface that are marked.
+/// The types of an interface that are marked.
 fn live_in(
     alloc: Global,
     resolve: &Resolve,
@@ -32,7 +32,7 @@ fn live_in(
     marked_of(alloc, marks, &interface.types)
 }
 
-/// Adds an imported interface with those of its types that are marked.
+/// Adds an imported interface with its marked types.
 fn add_live(
     alloc: Global,
     table: &mut Keyed<InterfaceId, Seq<TypeId>>,
@@ -52,7 +52,7 @@ fn add_live(
     table.insert_if_absent(*id, Seq::from_vec(live))
 }
 
-/// Of each imported interface those types that are marked.
+/// The marked types of each imported interface.
 #[tactic(auto, using(crate::proofs::Entering::after_item))]
 pub(crate) fn live_imports(
     alloc: Global,
@@ -140,7 +140,7 @@ fn owners_of(
     Ok(owners)
 }
 
-/// Those of the interfaces, but for this one, that are among the owners.
+/// The interfaces among the owners, except for this one.
 fn owning(
     alloc: Global,
     id: InterfaceId,
@@ -158,7 +158,7 @@ fn owning(
     Ok(list)
 }
 
-/// The types of an interface, and what its functions name.
+/// The types of an interface, and those that its functions name.
 #[tactic(auto, using(crate::proofs::Exists::listed_types_exist))]
 fn given_by(alloc: Global, resolve: &Resolve, id: InterfaceId) -> Result<Vec<Type>, AllocError>
     requires sound { IsSound resolve.now }
@@ -171,7 +171,7 @@ fn given_by(alloc: Global, resolve: &Resolve, id: InterfaceId) -> Result<Vec<Typ
     Ok(given)
 }
 
-/// The interfaces to which those types belong that the given ones reach.
+/// The interfaces to which the types belong that are reached from the given ones.
 #[tactic(auto, using(crate::proofs::Reaching::owners_are))]
 fn owners_among(
     alloc: Global,
@@ -224,7 +224,7 @@ fn add_used(
     table.insert_if_absent(*id, Seq::from_vec(named))
 }
 
-/// Of each exported interface the other exported ones that it names.
+/// For each exported interface, the other exported ones that it names.
 #[tactic(auto, using(crate::proofs::Entering::after_item))]
 fn used_among(
     alloc: Global,
@@ -243,8 +243,8 @@ fn used_among(
     Ok(table)
 }
 
-/// Of each exported interface the other exported ones that it names. For each it takes time by the number of
-/// the types and of their parts.
+/// For each exported interface, the other exported ones that it names. Each takes time linear in the number of
+/// types and of their parts.
 pub(crate) fn exports_used(
     alloc: Global,
     resolve: &Resolve,

@@ -1,4 +1,4 @@
-//! What follows from a world: how its imports are met, which types are needed, which exported interfaces others name.
+//! The tables of a world: lowerings of its imports, the types that are needed, exported interfaces that others name.
 
 ghost use Rattle.std.specs.Prelude.{◌≡◌, is_some, map, get_or, false, IfOk};
 ghost use Rattle.std.specs.List.{flat_map, AllByRecursion};
@@ -19,7 +19,7 @@ use comp_roles::NamedImport;
 use std::alloc::{AllocError, Global};
 use wit_data::{InterfaceId, Resolve, TypeId, World, WorldKey, live_marks};
 
-/// What follows from a world.
+/// The tables of a world.
 #[derive(Drop)]
 pub(crate) struct Tables {
     pub import_map: Keyed<Option<WorldKey>, ImportedInterface>,
@@ -27,7 +27,7 @@ pub(crate) struct Tables {
     pub exports_used: Keyed<InterfaceId, Seq<InterfaceId>>,
 }
 
-/// How the world's imports are met.
+/// The lowerings of the world's imports.
 #[tactic(auto, using(crate::proofs::Using::imported_are))]
 fn import_map(
     alloc: Global,
@@ -45,7 +45,7 @@ fn import_map(
     Ok(table)
 }
 
-/// Of each imported interface those of its types that the component needs.
+/// For each imported interface, the types that the component needs.
 #[tactic(auto, using(crate::proofs::Reaching::live_are))]
 fn live_type_imports(
     alloc: Global,
@@ -64,7 +64,7 @@ fn live_type_imports(
     Ok(table)
 }
 
-/// What follows from a world whose core imports are these.
+/// The tables of a world whose core imports are these.
 fn tables_with(
     alloc: Global,
     imports: &[NamedImport<'_>],
@@ -89,7 +89,7 @@ fn tables_with(
     })
 }
 
-/// What follows from these parts of a world.
+/// The tables of a world of these parts.
 pub(crate) fn tables_of(
     alloc: Global,
     resolve: &Resolve,

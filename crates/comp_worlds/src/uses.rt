@@ -14,7 +14,7 @@ use std::alloc::{AllocError, Global};
 use std::hash::{Hash, Hasher};
 use wit_data::{AbiVariant, WorldKey};
 
-/// A call of an imported function: the key of the world's import where it stands, its name there and
+/// A call of an imported function: the key of the world's import that has it, its name there and
 /// the form of the call.
 #[derive(Debug, Drop)]
 pub(crate) struct Call {
@@ -78,7 +78,7 @@ pub(crate) fn call_at(
     })
 }
 
-/// Adds the call that an import is for, if it is for one.
+/// Adds the call that is the role of an import, if it is one.
 fn add_call(alloc: Global, calls: &mut Keyed<Call, ()>, role: &Import) -> Result<(), AllocError>
     ensures { OnOk result (calls.new ≡ with_all is_same_call calls.old (calls_in role.now)) }
 {
@@ -118,7 +118,7 @@ pub(crate) fn all_imports<'a>(
     Ok(list)
 }
 
-/// The calls that imports are for.
+/// The calls that are roles of imports.
 #[tactic(auto, using(crate::proofs::Entering::after_item))]
 fn calls_of(alloc: Global, imports: &[NamedImport<'_>]) -> Result<Keyed<Call, ()>, AllocError>
     ensures { IfOk result (λ t. t ≡ with_all is_same_call [] (flat_map (λ i. calls_in i.role) (map core_import imports.now))) }
@@ -150,7 +150,7 @@ pub(crate) struct Uses {
     pub shares_memory: bool,
 }
 
-/// What these imports use, where main imports its memory or not.
+/// What these imports use, and whether main imports its memory.
 #[tactic(auto, using(crate::proofs::Using::uses_are))]
 pub(crate) fn uses_of(
     alloc: Global,

@@ -14,12 +14,12 @@ use comp_roles::{ExportMap, ExternType, ImportMap, LibraryInfo, ModuleMetadata};
 use std::alloc::{AllocError, Global};
 use wit_data::{InterfaceId, Resolve, TypeId, World, WorldId, WorldKey};
 
-/// A core module, and what its imports and exports are for.
+/// A core module, and the roles of its imports and exports.
 pub struct ValidatedModule {
     pub bytes: Bytes,
     pub imports: ImportMap,
     pub exports: ExportMap,
-    /// The types of what it offers to others, by the names of its core exports: of those whose types are made of the
+    /// The types of the core exports that others may use, by their names: those whose types are made of the
     /// four number types, references to any function, and tables and memories with limits below 2^32.
     pub offered: Keyed<Text, ExternType>,
     pub metadata: ModuleMetadata,
@@ -37,8 +37,8 @@ impl Drop for ValidatedModule {
     }
 }
 
-/// A module beside main: the keys of the exports that it has to have, in order, and what makes it a
-/// library, where it is one.
+/// An adapter: the keys of the exports that it has to have, in order, and what makes it a
+/// library, if it is one.
 pub struct WorldAdapter {
     pub info: ValidatedModule,
     pub required_exports: Seq<WorldKey>,
@@ -56,7 +56,7 @@ impl Drop for WorldAdapter {
 }
 
 /// The validated world: the items that the component imports and exports, its main module with the
-/// keys of the exports that it has to have, its adapters, in order, and what follows from these.
+/// keys of the exports that it has to have, its adapters, in order, and the tables that follow from these.
 /// `IsWorld` says what holds of it.
 pub struct ComponentWorld {
     pub resolve: Resolve,
@@ -65,12 +65,12 @@ pub struct ComponentWorld {
     pub main: ValidatedModule,
     pub main_exports: Seq<WorldKey>,
     pub adapters: Keyed<Text, WorldAdapter>,
-    /// What is lowered of what the world imports: of its root, which has no key and stands first, and
+    /// What is lowered of what the world imports: of its root, which has no key and is first, and
     /// of each imported interface, in the world's order.
     pub import_map: Keyed<Option<WorldKey>, ImportedInterface>,
-    /// Of each imported interface those of its types that the component needs, in its order.
+    /// For each imported interface, the types that the component needs, in its order.
     pub live_type_imports: Keyed<InterfaceId, Seq<TypeId>>,
-    /// Of each exported interface the other exported ones of which it needs types.
+    /// For each exported interface, the other exported ones whose types it needs.
     pub exports_used: Keyed<InterfaceId, Seq<InterfaceId>>,
     /// Whether the second slot of a task's context is free for thread-local data.
     pub can_use_context_slot_1: bool,
@@ -92,7 +92,7 @@ impl Drop for ComponentWorld {
     }
 }
 
-/// A world without what follows from it.
+/// A world without its tables.
 pub struct WorldParts {
     pub resolve: Resolve,
     pub world: WorldId,
@@ -116,9 +116,9 @@ impl Drop for WorldParts {
 }
 
 impl ComponentWorld {
-    /// The world of these parts, with what follows from them. It takes time by the number of its core
-    /// imports, of its interfaces and their functions, and for the exported interfaces and once for the imported
-    /// ones together by the number of types and of their parts. The only refusal is want of memory.
+    /// The world of these parts, with its tables. It takes time linear in the number of core imports, of interfaces
+    /// and of their functions; and, for each exported interface and once for all imported ones, in the number of
+    /// types and of their parts. Its only error is out of memory.
     pub fn of_parts(alloc: Global, parts: WorldParts) -> Result<ComponentWorld, AllocError>
         requires sound { IsSound parts.resolve }
         requires present { parts.world.index < length parts.resolve.worlds }
@@ -140,7 +140,7 @@ impl ComponentWorld {
 }
 
 impl WorldParts {
-    /// The world of these parts, from which these tables follow.
+    /// The world of these parts, with these tables.
     fn with_tables(self, tables: Tables) -> ComponentWorld
         ensures { result ≡ record { resolve = self.resolve; world = self.world; main = self.main; main_exports = self.main_exports; adapters = self.adapters; import_map = tables.import_map; live_type_imports = tables.live_type_imports; exports_used = tables.exports_used; can_use_context_slot_1 = self.can_use_context_slot_1 } }
     {

@@ -5,7 +5,7 @@ use std::alloc::{AllocError, Global};
 
 const PREAMBLE: [u8; 8] = [0x00, 0x61, 0x73, 0x6d, 0x0d, 0x00, 0x01, 0x00];
 
-/// All strings of two bytes behind these bytes, of which the first is given.
+/// All strings of two bytes after these bytes, of which the first is given.
 fn pairs(alloc: Global, count: &mut Count, front: &[u8], first: u8) -> Result<(), AllocError> {
     let mut bytes = Vec::from_slice(alloc, front)?;
     bytes.push(first)?;
@@ -18,7 +18,7 @@ fn pairs(alloc: Global, count: &mut Count, front: &[u8], first: u8) -> Result<()
     Ok(())
 }
 
-/// All strings of at most two bytes behind the preamble.
+/// All strings of at most two bytes after the preamble.
 pub(crate) fn tails(alloc: Global) -> Result<Count, AllocError> {
     let mut count = Count::new();
     count.add(alloc, &PREAMBLE)?;
@@ -28,7 +28,7 @@ pub(crate) fn tails(alloc: Global) -> Result<Count, AllocError> {
     Ok(count)
 }
 
-/// All beginnings of these bytes but the whole.
+/// All proper prefixes of these bytes.
 pub(crate) fn cuts(alloc: Global, bytes: &[u8]) -> Result<Count, AllocError> {
     let mut count = Count::new();
     for len in 0..bytes.len() {
@@ -37,7 +37,7 @@ pub(crate) fn cuts(alloc: Global, bytes: &[u8]) -> Result<Count, AllocError> {
     Ok(count)
 }
 
-/// All bytes that differ from these at this place alone.
+/// All bytes that differ from these at this offset alone.
 fn changes_at(
     alloc: Global,
     count: &mut Count,
@@ -59,7 +59,7 @@ fn changes_at(
     Ok(())
 }
 
-/// All bytes that differ from these in one place.
+/// All bytes that differ from these at one offset.
 pub(crate) fn changes(alloc: Global, bytes: &mut [u8]) -> Result<Count, AllocError> {
     let mut count = Count::new();
     for offset in 0..bytes.len() {

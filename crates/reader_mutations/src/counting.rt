@@ -1,10 +1,10 @@
-//! How many readings end how.
+//! Counts of the results of readings.
 
 use crate::reading::read_back;
 use std::alloc::{AllocError, Global};
 use std::fmt;
 
-/// How many readings ended how.
+/// How many readings ended with each result.
 #[derive(Clone, Copy, Debug, PartialEq, Eq)]
 pub(crate) struct Count {
     read: u32,
@@ -19,7 +19,7 @@ impl Count {
         }
     }
 
-    /// Reads bytes, and counts how that ends.
+    /// Reads bytes, and counts the result.
     pub(crate) fn add(&mut self, alloc: Global, bytes: &[u8]) -> Result<(), AllocError> {
         if read_back(alloc, bytes)? {
             self.read = self.read.saturating_add(1);

@@ -1,12 +1,12 @@
-//! The program `reader_mutations`: it reads components that were changed, each in turn, and counts how that
-//! ends.
+//! The program `reader_mutations`: it reads components that were changed, each in turn, and counts the
+//! results.
 //!
-//! First come all strings of at most two bytes behind a component's preamble. Then, for each FILE of its
-//! words, all beginnings of the file, and all files that differ from it in one byte. A line for each group
+//! First come all strings of at most two bytes after a component's preamble. Then, for each FILE of its
+//! arguments, all prefixes of the file, and all files that differ from it in one byte. A line for each group
 //! says how many were read and how many refused. What is read, the writer writes back to the same bytes:
-//! in [`reading::read_back`] any other case is proved not to come.
+//! in [`reading::read_back`] any other case is proved not to occur.
 //!
-//! In reading order: `reading` (how one reading ends), `counting` (how many end how), `changing` (the
+//! In reading order: `reading` (the result of one reading), `counting` (the counts of results), `changing` (the
 //! changed bytes).
 #![tactic(auto)]
 

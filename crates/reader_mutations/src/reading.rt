@@ -1,4 +1,4 @@
-//! How one reading ends.
+//! The result of one reading.
 
 ghost use Rattle.std.specs.Prelude.{◌≡◌, IfErr, IfOk, IsTrue};
 ghost use Rattle.comp_bytes.specs.Grammar.{Encodes, encoding_of};
@@ -9,7 +9,7 @@ use comp_bytes::{Def, component_bytes};
 use comp_read::{ReadFault, read_component};
 use std::alloc::{AllocError, Global};
 
-/// Writes definitions. Whether the bytes are these.
+/// Writes definitions, and compares the result with these bytes.
 fn writes(alloc: Global, definitions: &[Def], bytes: &[u8]) -> Result<bool, BuildFault>
     ensures ok { IfOk result (λ same. Encodes bytes.now definitions.now → IsTrue same) }
     ensures err { IfErr result (Refused (encoding_of definitions.now).counts) }

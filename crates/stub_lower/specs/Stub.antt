@@ -1,4 +1,4 @@
--- What the stub answers: the same world for every module. (For tests alone; no standard speaks of it.)
+-- The results of the stub: the same world for every module. (For tests alone; no standard defines it.)
 use Rattle.std.specs.Prelude.{◌≡◌, ◌≢◌, ℕ, List, [], ◌∷◌, ⊤, Bool, true, false, None, ◌⊎◌, codes, take}
 use Rattle.comp_worlds.specs.declared.gathered.Gathered.{Gathered}
 use Rattle.comp_worlds.specs.declared.gathered.Merged.{Merged}
@@ -28,7 +28,7 @@ decoded_of bytes = (bytes, tt)
 abbrev pub merged_of : ⊤ → ⊤ → Merged ⊤
 merged_of first second = record { combined = tt; exports = [] }
 
--- main imports `f` of `$root`, which is the root function `f`
+-- main imports `f` of `$root`, whose role is the root function `f`
 abbrev pub stub_role : Import
 stub_role = roles.WorldFunc (Name (codes "f")) (codes "f") GuestImport
 
@@ -45,7 +45,7 @@ stub_items = record { imports = (Name (codes "f"), items.Function (record { name
 abbrev pub stub_resolve : Resolve
 stub_resolve = record { interfaces = []; types = []; worlds = stub_items ∷ [] }
 
--- there is no string encoding for any function
+-- the world has no string encoding for any function
 unfoldable pub stub_parts : List ℕ → WorldParts
 stub_parts bytes = record {
   resolve = stub_resolve;

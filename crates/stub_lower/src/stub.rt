@@ -15,7 +15,7 @@ use thiserror::Error;
 /// Why the stub refuses.
 #[derive(Clone, Copy, Debug, PartialEq, Eq, Error)]
 pub enum StubFault {
-    /// A growth was refused.
+    /// An allocation failed.
     #[error("S1 Memory")]
     Memory,
     /// It is the refusing one, or main is no core module.
@@ -31,17 +31,17 @@ impl From<AllocError> for StubFault {
     }
 }
 
-/// A layer that takes nothing from a module.
+/// A layer that reads no metadata from a module.
 #[derive(Clone, Copy, Debug, PartialEq, Eq)]
 pub enum StubLower {
-    /// Its world imports the root function `f`, which main has as `f` of `$root`, and has no string
+    /// Its world imports the root function `f`, which main imports as `f` of `$root`, and has no string
     /// encoding for it.
     NoEncoding,
     /// It prepares no world.
     Refusing,
 }
 
-/// Whether these are the bytes of a core module, by their beginning.
+/// Whether these bytes begin with the preamble of a core module.
 fn is_core_module(bytes: &[u8]) -> bool
     ensures { MatchBool result (take 8 bytes.now ≡ core_preamble) (take 8 bytes.now ≢ core_preamble) }
 {

@@ -1,4 +1,4 @@
-//! Encoders over the stub: what they answer, and how their faults print.
+//! Encoders over the stub: their results, and how their faults print.
 
 use crate::stub::{StubFault, StubLower};
 use comp_encoder::{ComponentEncoder, EncodeFault};
@@ -17,7 +17,7 @@ fn fault_text<T>(
     }
 }
 
-/// What `encode` says after `module` took these bytes.
+/// The result of `encode`, as text, after `module` took these bytes.
 fn after(alloc: Global, lower: StubLower, bytes: &[u8]) -> Result<String, AllocError> {
     let mut encoder = ComponentEncoder::new(alloc, lower);
     let answer = match encoder.module(bytes) {

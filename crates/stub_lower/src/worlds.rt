@@ -1,4 +1,4 @@
-//! The world that the stub answers.
+//! The world that the stub returns.
 
 ghost use Rattle.std.specs.Prelude.{◌≡◌, IfOk, take};
 ghost use Rattle.stub_lower.specs.Stub.{stub_role, stub_fields, stub_imports, stub_items, stub_resolve, stub_parts, stub_world};
@@ -13,7 +13,7 @@ use comp_worlds::{
 use std::alloc::{AllocError, Global};
 use wit_data::{AbiVariant, Function, FunctionKind, Resolve, World, WorldId, WorldItem, WorldKey};
 
-/// The root function `f`, as main imports it.
+/// The role of main's import: the root function `f`.
 fn role(alloc: Global) -> Result<Import, AllocError>
     ensures { IfOk result (λ r. r ≡ stub_role) }
 {
@@ -22,7 +22,7 @@ fn role(alloc: Global) -> Result<Import, AllocError>
     Ok(Import::WorldFunc(key, name, AbiVariant::GuestImport))
 }
 
-/// The field `f` is that function.
+/// The imports from one module: the field `f`, with that role.
 fn fields(alloc: Global) -> Result<Keyed<Text, Import>, AllocError>
     ensures { IfOk result (λ t. t ≡ stub_fields) }
 {
@@ -63,7 +63,7 @@ fn items(alloc: Global) -> Result<World, AllocError>
     })
 }
 
-/// The world alone.
+/// A resolve of that world alone.
 fn resolve(alloc: Global) -> Result<Resolve, AllocError>
     ensures { IfOk result (λ r. r ≡ stub_resolve) }
 {

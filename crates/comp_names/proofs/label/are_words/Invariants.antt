@@ -5,7 +5,7 @@ use Rattle.std.specs.List.{slice_split, AllByRecursion}
 use Rattle.comp_names.specs.NameForm.{IsWord, hyphen}
 use Rattle.comp_names.proofs.label.are_words.Given as goal
 
--- the words that are left are words just where all are
+-- the remaining words are words exactly if all are
 abbrev pub invariant-loop-word : goal.invariant-loop-word
 invariant-loop-word l = shadow (Utf8 l.rest) × (AllByRecursion IsWord (slice_split (λ byte. byte == hyphen) l.text) ↔ AllByRecursion IsWord (slice_split (λ byte. byte == hyphen) l.rest))
 
