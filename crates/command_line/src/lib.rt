@@ -2,7 +2,7 @@
 //!
 //! `new OUT MAIN [--validate]` reads the module from the file MAIN and puts its component into the file
 //! OUT. `defs FILE` writes on standard output a line for each definition of the component in FILE. All that
-//! a run does with files, what it writes and what it prints of a failure is in the contract of [`run`].
+//! a run does with files, what it writes and what it prints of a failure is in the contract of [`run_with`].
 //!
 //! In reading order: `arguments` (what is asked for), `store` (files by their names), `fault` (why a
 //! run fails), `making` (from a file to a file), `messages` (the line that reports a failure), `listing` (a
@@ -17,9 +17,6 @@ mod running;
 mod store;
 mod messages;
 
-pub use running::{run, run_with};
+pub use running::run_with;
 pub use store::{Event, Store, StoreFault};
 pub use messages::{MEMORY, USAGE, say};
-
-#[cfg(test)]
-mod tests;

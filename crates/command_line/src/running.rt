@@ -2,7 +2,7 @@
 
 ghost use Rattle.std.specs.Prelude.{◌≡◌, map, string_bytes};
 ghost use Rattle.command_line.specs.Arguments.{request_of, is_listing};
-ghost use Rattle.command_line.specs.Running.{Performed, Ran, RanOver, Reported};
+ghost use Rattle.command_line.specs.Running.{Performed, Ran, Reported};
 ghost use Rattle.command_line.specs.Faults.{status_of};
 ghost use Rattle.command_line.specs.Messages.{memory_line_of};
 
@@ -13,7 +13,6 @@ use crate::making::make;
 use crate::store::Store;
 use crate::messages::print_fault;
 use comp_worlds::Lower;
-use plain_lower::PlainLower;
 use std::alloc::Global;
 use std::fmt::Display;
 use std::io::Write;
@@ -77,18 +76,4 @@ pub fn run_with<L: Lower + Drop, S: Store, W: Write, E: Write>(
     let done = perform(alloc, lower, words, store, out);
     report(alloc, err, is_listing(words), &done);
     status_of(&done)
-}
-
-/// Runs the program. `words` are the arguments after the program's name; the result is the exit
-/// status.
-pub fn run<S: Store, W: Write, E: Write>(
-    alloc: Global,
-    words: &[String],
-    store: &mut S,
-    out: &mut W,
-    err: &mut E,
-) -> u8
-    ensures ran { RanOver ⟦<PlainLower as Lower>⟧ (map string_bytes words.now) (S.events store.old) (S.events store.new) (W.contents out.old) (W.contents out.new) (E.contents err.old) (E.contents err.new) result }
-{
-    run_with(alloc, PlainLower::new(), words, store, out, err)
 }

@@ -1,10 +1,11 @@
 //! Files by their names.
 
 ghost use Rattle.std.specs.Prelude.{◌≡◌, List, Option};
+ghost use Rattle.command_line.specs.declared.store.StoreFault.TheVariants.{Memory};
 ghost use Rattle.command_line.specs.Events.{happen, events_of_read, events_of_put};
 
 use comp_lists::{Bytes, Text};
-use std::alloc::Global;
+use std::alloc::{AllocError, AllocFailed, Global};
 
 /// Why a file could not be read or put.
 #[derive(Clone, Copy, Debug, PartialEq, Eq)]
@@ -13,6 +14,22 @@ pub enum StoreFault {
     Device,
     /// A growth was refused. Nothing was done.
     Memory,
+}
+
+impl From<AllocError> for StoreFault {
+    ghost from_gives = { λ _ e. e ≡ Memory };
+
+    fn from(_error: AllocError) -> StoreFault {
+        StoreFault::Memory
+    }
+}
+
+impl<T: Drop> From<AllocFailed<T>> for StoreFault {
+    ghost from_gives = { λ _ e. e ≡ Memory };
+
+    fn from(_error: AllocFailed<T>) -> StoreFault {
+        StoreFault::Memory
+    }
 }
 
 /// What a store did, as an event of its history.

@@ -3,14 +3,16 @@
 //!
 //! `component_new new OUT MAIN [--validate]` reads the module from the file MAIN and puts its component
 //! into the file OUT. `component_new defs FILE` writes on standard output a line for each definition of
-//! the component in FILE. All of that is in the contract of [`command_line::run`]; `main` only passes it the
+//! the component in FILE. All of that is in the contract of `run`; `main` only passes it the
 //! system's arguments, streams and, in `files`, files.
 #![tactic(auto)]
 
 mod files;
+mod running;
 
-use command_line::{MEMORY, USAGE, run, say};
+use command_line::{MEMORY, USAGE, say};
 use files::Files;
+use running::run;
 use std::env::{self, Env};
 use std::io::{self, ErrorKind};
 use std::process::ExitCode;

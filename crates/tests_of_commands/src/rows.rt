@@ -1,6 +1,6 @@
 //! Modules through the encoder's calls, with the layer that the program uses.
 
-use super::modules::{COMPONENT, CUT, EMPTY, EMPTY_COMPONENT, MAIN, OPEN, PACKAGE};
+use crate::modules::{COMPONENT, CUT, EMPTY, EMPTY_COMPONENT, MAIN, OPEN, PACKAGE};
 use comp_encoder::{ComponentEncoder, EncodeFault, Lower};
 use plain_lower::PlainLower;
 use std::alloc::{AllocError, Global};

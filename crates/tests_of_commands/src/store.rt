@@ -1,30 +1,13 @@
 //! A store in memory, and a writer that accepts nothing.
 
-ghost use Rattle.std.specs.Prelude.{◌≡◌, ◌++◌, Some, IfOk};
+ghost use Rattle.std.specs.Prelude.{◌≡◌, ◌++◌, Some};
 ghost use Rattle.command_line.specs.Events.{events_of_read, events_of_put};
-ghost use Rattle.command_line.specs.declared.store.StoreFault.TheVariants.{Memory};
 
-use crate::store::{Event, Store, StoreFault};
+use command_line::{Event, Store, StoreFault};
 use comp_lists::{Bytes, Seq, Text};
-use std::alloc::{AllocError, AllocFailed, Global};
+use std::alloc::{AllocError, Global};
 use std::io;
 use std::io::{ErrorKind, Write};
-
-impl From<AllocError> for StoreFault {
-    ghost from_gives = { λ _ e. e ≡ Memory };
-
-    fn from(_error: AllocError) -> StoreFault {
-        StoreFault::Memory
-    }
-}
-
-impl<T: Drop> From<AllocFailed<T>> for StoreFault {
-    ghost from_gives = { λ _ e. e ≡ Memory };
-
-    fn from(_error: AllocFailed<T>) -> StoreFault {
-        StoreFault::Memory
-    }
-}
 
 /// One file, what was read and put so far, and how many calls come before one is refused.
 #[derive(Drop)]

@@ -1,11 +1,11 @@
 //! Runs of the program.
 
-use super::modules::{
+use crate::modules::{
     COMPONENT, CUT, DIGIT_FIRST, EMPTY, EMPTY_COMPONENT, LINES, MAIN, OPEN, PACKAGE,
 };
-use super::store::{Closed, OneFile};
-use crate::running::run;
-use crate::store::{Event, StoreFault};
+use crate::store::{Closed, OneFile};
+use command_line::{Event, StoreFault, run_with};
+use plain_lower::PlainLower;
 use std::alloc::{AllocError, Global};
 use std::test::Fail;
 
@@ -29,7 +29,7 @@ fn run_on(alloc: Global, words: &[&str], store: &mut OneFile) -> Result<Answer, 
     let words = texts(alloc, words)?;
     let mut out = Vec::new(alloc);
     let mut err = Vec::new(alloc);
-    let status = run(alloc, &words, store, &mut out, &mut err);
+    let status = run_with(alloc, PlainLower::new(), &words, store, &mut out, &mut err);
     Ok(Answer { status, out, err })
 }
 
@@ -99,7 +99,7 @@ fn the_status_reports_where_no_line_can(rt: HostRuntime) {
     let alloc = rt.alloc();
     let mut store = OneFile::new(alloc, "main.wasm", EMPTY).expect(&rt, "memory");
     let words = texts(alloc, &["new", "out.wasm", "other.wasm"]).expect(&rt, "memory");
-    let status = run(alloc, &words, &mut store, &mut Closed, &mut Closed);
+    let status = run_with(alloc, PlainLower::new(), &words, &mut store, &mut Closed, &mut Closed);
     assert_eq!(rt; status, 1);
 }
 
@@ -197,7 +197,7 @@ fn an_output_that_takes_nothing_is_reported(rt: HostRuntime) -> Result<(), Fail>
     let mut store = OneFile::new(alloc, "main.wasm", COMPONENT)?;
     let words = texts(alloc, &["defs", "main.wasm"])?;
     let mut err = Vec::new(alloc);
-    let status = run(alloc, &words, &mut store, &mut Closed, &mut err);
+    let status = run_with(alloc, PlainLower::new(), &words, &mut store, &mut Closed, &mut err);
     assert_eq!(rt; status, 1);
     assert_eq!(rt; err.as_slice(), b"error: write \"-\"\n".as_slice());
     Ok(())
