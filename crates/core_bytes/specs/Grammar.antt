@@ -5,6 +5,7 @@ use Rattle.std.specs.Prelude.{ℕ, List, Option, Some, None}
 use Rattle.byte_encoding.specs.Encoding.{Encoding, ◌⊕◌, raw, octet, number, signed_leb, each, listed, named, sized}
 use Rattle.standard_kinds.specs.Bytes.{kind_byte}
 use Rattle.byte_encoding.specs.Encoding.{flag}
+use Rattle.core_types.specs.Grammar.{value_type, table_type, memory_type, global_type}
 use Rattle.core_bytes.specs.Signed.{signed}
 use Rattle.core_types.specs.declared.types.RefType.{RefType}
 use Rattle.core_types.specs.declared.types.RefType.TheVariants as references
