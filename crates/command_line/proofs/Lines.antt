@@ -52,8 +52,9 @@ keeps_on (Some xs) (Some ys) None text h k = absurd k
 keeps_on (Some xs) (Some ys) (Some zs) text h k = k ∙ h
 
 -- a writer that fails after a front of a text
-pub fails_after : (a b c : Option (List ℕ)) (text : List ℕ) (n : ℕ) → Appends a b (take n text) → Keeps b c → Puts a c text false
-fails_after a b c text n h k = front_of a c text n false (keeps_on a b c (take n text) h k) (λ w. absurd (true≢false (sym w)))
+pub fails_after : (a b c : Option (List ℕ)) (text : List ℕ) (n : ℕ) (whole : Bool) → whole ≡ false → Appends a b (take n text) → Keeps b c → Puts a c text whole
+fails_after a b c text n whole e h k =
+    subst (λ v. Puts a c text v) (sym e) (front_of a c text n false (keeps_on a b c (take n text) h k) (λ w. absurd (true≢false (sym w))))
 
 -- a writer that accepts nothing
 pub stops_after : (a b c : Option (List ℕ)) (text : List ℕ) (i n : ℕ) → Appends a b (take i text) → Appends b c (take n (take (length text - i) (drop i text))) → Puts a c text false
@@ -67,6 +68,18 @@ no_lines a = record { front = []; rest = []; split = refl; appended = same a; en
     same : (a : Option (List ℕ)) → Appends a a []
     same None = tt
     same (Some xs) = sym (append-nil xs)
+
+-- a line and its end
+pub puts_line : (a b c : Option (List ℕ)) (line : List ℕ) (first whole : Bool) → first ≡ true → Puts a b line first → Puts b c (codes "\n") whole → Puts a c (printed (line ∷ [])) whole
+puts_line a b c line first whole e h k =
+    subst (λ t. Puts a c t whole) (sym (append-nil (line ++ codes "\n")))
+    (puts_both a b c line (codes "\n") whole (subst (λ v. Puts a b line v) e h) k)
+
+-- a line that was cut
+pub puts_cut : (a b : Option (List ℕ)) (line : List ℕ) (whole : Bool) → whole ≡ false → Puts a b line whole → Puts a b (printed (line ∷ [])) whole
+puts_cut a b line whole e h =
+    subst (λ t. Puts a b t whole) (sym (append-nil (line ++ codes "\n")))
+    (subst (λ v. Puts a b (line ++ codes "\n") v) (sym e) (puts_first a b line (codes "\n") (subst (λ v. Puts a b line v) e h)))
 
 module _ {X : Type 0} (f : X → List ℕ) (xs : List X) where
   printed_step : (i : ℕ) (x : X) → i < length xs → x ≡ get_or xs i x → printed (map f (take (i + 1) xs)) ≡ printed (map f (take i xs)) ++ printed (f x ∷ [])
@@ -86,8 +99,9 @@ module _ {X : Type 0} (f : X → List ℕ) (xs : List X) where
       (puts_both a b c (printed (map f (take i xs))) (printed (f x ∷ [])) true h (subst (λ v. Puts b c (printed (f x ∷ [])) v) w k))
 
   pub line_cut : (a b c : Option (List ℕ)) (i : ℕ) (x : X) → i < length xs → x ≡ get_or xs i x → Puts a b (printed (map f (take i xs))) true → (whole : Bool) → whole ≡ false → Puts b c (printed (f x ∷ [])) whole →
-      Puts a c (printed (map f xs)) false
+      Puts a c (printed (map f xs)) whole
   line_cut a b c i x l e h whole w k =
       let part : Puts a c (printed (map f (take (i + 1) xs))) false =
       subst (λ (t : List ℕ). Puts a c t false) (sym (printed_step i x l e)) (puts_both a b c (printed (map f (take i xs))) (printed (f x ∷ [])) false h (subst (λ v. Puts b c (printed (f x ∷ [])) v) w k)) in
-      subst (λ (t : List ℕ). Puts a c t false) (sym (printed_rest (i + 1))) (puts_first a c (printed (map f (take (i + 1) xs))) (printed (map f (drop (i + 1) xs))) part)
+      subst (λ v. Puts a c (printed (map f xs)) v) (sym w)
+      (subst (λ (t : List ℕ). Puts a c t false) (sym (printed_rest (i + 1))) (puts_first a c (printed (map f (take (i + 1) xs))) (printed (map f (drop (i + 1) xs))) part))

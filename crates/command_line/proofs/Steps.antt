@@ -35,6 +35,7 @@ module _ {L B F : Type 0} (l : lower.Ghosts L B F) where
   reported_refused layer validate bytes (Err (faults.Read name)) h = absurd h
   reported_refused layer validate bytes (Err (faults.Write name)) h = absurd h
   reported_refused layer validate bytes (Err faults.Out) h = absurd h
+  reported_refused layer validate bytes (Err faults.Closed) h = absurd h
   reported_refused layer validate bytes (Err (faults.Check f)) h = absurd h
   reported_refused layer validate bytes (Err (faults.Encode f)) h = refl
 
@@ -52,6 +53,7 @@ module _ {L B F : Type 0} (l : lower.Ghosts L B F) where
       reported (Err (faults.Read name)) h = absurd h
       reported (Err (faults.Write name)) h = absurd h
       reported (Err faults.Out) h = refl
+      reported (Err faults.Closed) h = refl
       reported (Err (faults.Check f)) h = refl
       reported (Err (faults.Encode f)) h = absurd h
   reported_listed file (Put to component ∷ es) before after r h = absurd h

@@ -7,9 +7,18 @@ use Rattle.command_line.specs.declared.arguments.Request.TheVariants as requests
 abbrev pub making : List ℕ → List ℕ → Bool → Request
 making out main validate = requests.New (record { out = out; main = main; validate = validate })
 
--- what the words after the program's name ask for: `defs` with a file; or `new` with the component's file and the
--- module's, and then, or not, `--validate`
+-- what one word asks for
+abbrev pub of_one_word : List ℕ → Option Request
+of_one_word word =
+    if bytes_eq word (codes "--help") then Some requests.Help
+    else (if bytes_eq word (codes "-h") then Some requests.Help
+    else (if bytes_eq word (codes "help") then Some requests.Help
+    else (if bytes_eq word (codes "--version") then Some requests.Version else None)))
+
+-- what the words after the program's name ask for: help or the version; or `defs` with a file; or `new` with the component's
+-- file and the module's, and then, or not, `--validate`
 abbrev pub request_of : List (List ℕ) → Option Request
+request_of (word ∷ []) = of_one_word word
 request_of (command ∷ file ∷ []) = if bytes_eq command (codes "defs") then Some (requests.Defs file) else None
 request_of (command ∷ out ∷ main ∷ []) = if bytes_eq command (codes "new") then Some (making out main false) else None
 request_of (command ∷ out ∷ main ∷ flag ∷ []) = if bytes_eq command (codes "new") && bytes_eq flag (codes "--validate") then Some (making out main true) else None

@@ -1,6 +1,8 @@
 -- What a program did with its files. (The program's own: no standard speaks of it.)
 use Rattle.std.specs.Prelude.{ℕ, ◌+◌, List, [], ◌∷◌, ◌++◌, ⊤, Option, option_map, Result, Ok, Err}
 use Rattle.std.specs.Global.{Vec}
+use Rattle.atomic_files.specs.Files.{Node, with_node, Are}
+use Rattle.atomic_files.specs.Steps.{Kept, put_node}
 use Rattle.command_line.specs.declared.store.Event.{Event}
 use Rattle.command_line.specs.declared.store.Event.TheVariants.{Read, NotRead, Put, NotPut}
 use Rattle.command_line.specs.declared.store.StoreFault.{StoreFault}
@@ -21,6 +23,11 @@ events_of_put name bytes (Err Memory) = []
 -- with these events added, where the events are known
 abbrev pub happen : Option (List Event) → List Event → Option (List Event)
 happen known es = option_map (λ before. before ++ es) known
+
+-- What a put leaves: the name has the bytes, and nothing else is changed; or what is there is unchanged.
+abbrev pub StorePut : List ℕ → List ℕ → Result ⊤ StoreFault → (List ℕ → Node) → (List ℕ → Node) → Type 0
+StorePut name bytes (Ok x) before after = Are after (with_node before name (put_node (before name) bytes))
+StorePut name bytes (Err f) before after = Kept before after
 
 -- 1 where the device refused
 abbrev pub device_fault : Event → ℕ

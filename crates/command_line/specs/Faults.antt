@@ -1,11 +1,15 @@
 -- Why a run fails, and with which exit status. (The program's own.)
-use Rattle.std.specs.Prelude.{ℕ, Bool, List, ⊤, Result, Ok, Err, if◌then◌else◌}
+use Rattle.std.specs.Prelude.{ℕ, Bool, true, false, List, ⊤, Result, Ok, Err, if◌then◌else◌}
 use Rattle.comp_check.specs.declared.fault.CheckFault.TheVariants as checks
 use Rattle.comp_encoder.specs.declared.fault.EncodeFault.TheVariants as encode_faults
 use Rattle.command_line.specs.declared.store.StoreFault.{StoreFault}
 use Rattle.command_line.specs.declared.store.StoreFault.TheVariants as store_faults
 use Rattle.command_line.specs.declared.fault.RunFault.{RunFault}
-use Rattle.command_line.specs.declared.fault.RunFault.TheVariants.{Usage, Read, Write, Encode, Check}
+use Rattle.command_line.specs.declared.fault.RunFault.TheVariants.{Usage, Read, Write, Out, Closed, Encode, Check}
+use Rattle.command_line.specs.declared.fault.Written.{Written}
+use Rattle.command_line.specs.declared.fault.Written.TheVariants as written
+use Rattle.std.specs.declared.io.ErrorKind.{ErrorKind}
+use Rattle.std.specs.declared.io.ErrorKind.TheVariants as kinds
 
 -- out of memory where a component is made
 abbrev pub no_memory : {F : Type 0} → RunFault F
@@ -22,6 +26,21 @@ of_read listing name store_faults.Memory = out_of_memory listing
 abbrev pub of_put : {F : Type 0} → List ℕ → StoreFault → RunFault F
 of_put name store_faults.Device = Write name
 of_put name store_faults.Memory = no_memory
+
+-- how writing ends by an error of this kind
+abbrev pub written_of : ErrorKind → Written
+written_of kinds.BrokenPipe = written.Closed
+written_of _ = written.Refused
+
+abbrev pub is_whole : Written → Bool
+is_whole written.Whole = true
+is_whole _ = false
+
+-- the end of a run that writes a text on standard output
+abbrev pub run_written : {F : Type 0} → Written → Result ⊤ (RunFault F)
+run_written written.Whole = Ok tt
+run_written written.Refused = Err Out
+run_written written.Closed = Err Closed
 
 -- 1 where the fault is a refusal of the device
 abbrev pub reported_faults : {F : Type 0} → Result ⊤ (RunFault F) → ℕ

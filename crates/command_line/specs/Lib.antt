@@ -5,3 +5,4 @@ pub mod Making
 pub mod Messages
 pub mod Listing
 pub mod Running
+pub mod Starting

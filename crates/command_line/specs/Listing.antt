@@ -28,6 +28,7 @@ pub record PrintsAll (bytes : List ℕ) (before after : Option (List ℕ)) (whol
 abbrev pub Prints : {F : Type 0} → List ℕ → Option (List ℕ) → Option (List ℕ) → Result ⊤ (RunFault F) → Type 0
 Prints bytes before after (Ok x) = PrintsAll bytes before after true
 Prints bytes before after (Err faults.Out) = PrintsAll bytes before after false
+Prints bytes before after (Err faults.Closed) = PrintsAll bytes before after false
 Prints bytes before after (Err (faults.Check f)) = IsUnread bytes f × (after ≡ before)
 Prints bytes before after (Err _) = ⊥
 

@@ -1,14 +1,28 @@
 -- The lines that report a failure. (The program's own. Of what a line says of a file's name, of an encoder's
 -- fault or of a component that can't be read only the beginning is specified here.)
-use Rattle.std.specs.Prelude.{◌≡◌, ℕ, Bool, List, [], ◌++◌, ◌⊎◌, Option, codes, if◌then◌else◌, IsTrue}
+use Rattle.std.specs.Prelude.{◌≡◌, ℕ, Bool, List, [], ◌++◌, ◌⊎◌, Option, Result, Ok, Err, ⊤, true, false, codes, if◌then◌else◌, IsTrue}
+use Rattle.std.specs.Fmt.{decimal}
 use Rattle.std.specs.Io.KnownBytes.{Appends}
 use Rattle.comp_check.specs.declared.fault.CheckFault.TheVariants as checks
 use Rattle.comp_encoder.specs.declared.fault.EncodeFault.TheVariants as encode_faults
 use Rattle.command_line.specs.declared.fault.RunFault.{RunFault}
-use Rattle.command_line.specs.declared.fault.RunFault.TheVariants.{Usage, Read, Write, Out, Encode, Check}
+use Rattle.command_line.specs.declared.fault.RunFault.TheVariants.{Usage, Read, Write, Out, Closed, Encode, Check}
 
 abbrev pub usage_line : List ℕ
 usage_line = codes "usage: component_new new OUT MAIN [options] | defs FILE\n"
+
+-- a line for each option
+abbrev pub option_lines : List ℕ
+option_lines =
+    codes "  --validate      new: check the names of the component's imports and exports\n" ++ codes "  -h, --help      print this text\n"
+    ++ codes "  --version       print the version of the program, and the kit that it is proved with\n"
+
+-- the usage line, and a line for each option
+abbrev pub help_text : List ℕ
+help_text = usage_line ++ option_lines
+
+abbrev pub version_line : List ℕ
+version_line = codes "component_new 0.1.0, proved with rattle-kit-13f logic dac8208d650f15bf\n"
 
 abbrev pub memory_line : List ℕ
 memory_line = codes "error: E1 Memory\n"
@@ -29,12 +43,21 @@ pub record IsText (start line : List ℕ) : Type 0 where
 abbrev pub IsTextOr : List ℕ → List ℕ → List ℕ → Type 0
 IsTextOr memory start line = IsText start line ⊎ (line ≡ memory)
 
+-- the line for an argument that is not UTF-8, by its number
+abbrev pub not_text_line : ℕ → List ℕ
+not_text_line n = codes "error: argument " ++ decimal n ++ codes " is not UTF-8\n"
+
+-- that line, or the one that reports out of memory, where there was no memory for the line
+abbrev pub IsNotTextLine : ℕ → List ℕ → Type 0
+IsNotTextLine n line = (line ≡ not_text_line n) ⊎ (line ≡ memory_line)
+
 -- the line of a fault; `memory` is the line that is printed where there is no memory for it
 abbrev pub IsLineOf : {F : Type 0} → List ℕ → RunFault F → List ℕ → Type 0
 IsLineOf memory Usage line = line ≡ usage_line
 IsLineOf memory (Read name) line = IsTextOr memory (codes "error: read ") line
 IsLineOf memory (Write name) line = IsTextOr memory (codes "error: write ") line
 IsLineOf memory Out line = line ≡ codes "error: write \"-\"\n"
+IsLineOf memory Closed line = ⊥
 IsLineOf memory (Encode encode_faults.Memory) line = line ≡ memory_line
 IsLineOf memory (Encode _) line = IsTextOr memory (codes "error: ") line
 IsLineOf memory (Check checks.Memory) line = line ≡ listing_memory_line
@@ -56,3 +79,15 @@ pub record Says (before after : Option (List ℕ)) (IsLine : List ℕ → Type 0
   pub rest : List ℕ
   pub split : line ≡ front ++ rest
   pub appended : Appends before after front
+
+-- How the printing of a text on standard output ended: it was written, or the writer failed after a front of it.
+abbrev pub PrintsText : {F : Type 0} → List ℕ → Option (List ℕ) → Option (List ℕ) → Result ⊤ (RunFault F) → Type 0
+PrintsText text before after (Ok x) = Puts before after text true
+PrintsText text before after (Err Out) = Puts before after text false
+PrintsText text before after (Err Closed) = Puts before after text false
+PrintsText text before after (Err _) = ⊥
+
+-- what is printed of a fault: its line, or nothing where nobody reads standard output any more
+abbrev pub Reports : {F : Type 0} → List ℕ → RunFault F → Option (List ℕ) → Option (List ℕ) → Type 0
+Reports memory Closed before after = after ≡ before
+Reports memory f before after = Says before after (IsLineOf memory f)

@@ -6,7 +6,7 @@ use Rattle.command_line.specs.Events.{happen, device_faults}
 use Rattle.command_line.specs.Faults.{status_of, reported_faults}
 use Rattle.command_line.specs.Listing.{Listed}
 use Rattle.command_line.specs.Making.{Made}
-use Rattle.command_line.specs.Messages.{IsLineOf, Says, memory_line_of}
+use Rattle.command_line.specs.Messages.{PrintsText, Reports, help_text, version_line, memory_line_of}
 use Rattle.command_line.specs.declared.arguments.Request.{Request}
 use Rattle.command_line.specs.declared.arguments.Request.TheVariants as requests
 use Rattle.command_line.specs.declared.fault.RunFault.{RunFault}
@@ -16,15 +16,17 @@ use Rattle.command_line.specs.declared.fault.RunFault.TheVariants.{Usage}
 -- what is printed at the end of a run: nothing on success, a line on a failure
 abbrev pub Reported : {F : Type 0} → List ℕ → Option (List ℕ) → Option (List ℕ) → Result ⊤ (RunFault F) → Type 0
 Reported memory before after (Ok x) = after ≡ before
-Reported memory before after (Err f) = Says before after (IsLineOf memory f)
+Reported memory before after (Err f) = Reports memory f before after
 
 module _ {L B F : Type 0} (l : lower.Ghosts L B F) where
   -- With wrong arguments nothing is read, put or written; with right ones the component is made and nothing is
-  -- written, or a component is printed.
+  -- written, or a component, the help or the version is printed.
   abbrev pub Did : L → Option Request → List Event → Option (List ℕ) → Option (List ℕ) → Result ⊤ (RunFault F) → Type 0
   Did layer None es before after r = (es ≡ []) × (r ≡ Err Usage) × (after ≡ before)
   Did layer (Some (requests.New names)) es before after r = Made l layer names es r × (after ≡ before)
   Did layer (Some (requests.Defs file)) es before after r = Listed file es before after r
+  Did layer (Some requests.Help) es before after r = (es ≡ []) × PrintsText help_text before after r
+  Did layer (Some requests.Version) es before after r = (es ≡ []) × PrintsText version_line before after r
 
   -- What was asked for was done, and this was the end of it: these events happened, each refusal of the device was reported.
   pub record Performed (layer : L) (request : Option Request) (before after : Option (List Event)) (out_before out_after : Option (List ℕ)) (ended : Result ⊤ (RunFault F)) : Type 0 where
@@ -39,8 +41,3 @@ module _ {L B F : Type 0} (l : lower.Ghosts L B F) where
     pub performed : Performed layer (request_of words) before after out_before out_after ended
     pub exit_status : status ≡ status_of ended
     pub reported : Reported (memory_line_of (is_listing (request_of words))) said_before said_after ended
-
-  -- a run over some lower layer of the kind
-  pub record RanOver (words : List (List ℕ)) (before after : Option (List Event)) (out_before out_after said_before said_after : Option (List ℕ)) (status : ℕ) : Type 0 where
-    pub layer : L
-    pub ran : Ran layer words before after out_before out_after said_before said_after status

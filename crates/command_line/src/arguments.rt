@@ -1,7 +1,7 @@
 //! What the program is asked for.
 
 ghost use Rattle.std.specs.Prelude.{◌≡◌, map, string_bytes, IfOk, IfErr, IsSome};
-ghost use Rattle.command_line.specs.Arguments.{request_of, making, is_listing};
+ghost use Rattle.command_line.specs.Arguments.{request_of, of_one_word, making, is_listing};
 ghost use Rattle.command_line.specs.declared.arguments.Request.TheVariants as requests;
 
 use comp_lists::Text;
@@ -23,6 +23,10 @@ pub(crate) enum Request {
     New(Arguments),
     /// The definitions of the component in a file.
     Defs { file: Text },
+    /// How the program is used.
+    Help,
+    /// Which version of the program this is.
+    Version,
 }
 
 impl Request {
@@ -45,12 +49,25 @@ impl Request {
         Ok(Request::Defs { file })
     }
 
+    fn of_one_word(word: &str) -> Option<Request>
+        ensures { result ≡ of_one_word word.now }
+    {
+        match word {
+            "--help" => Some(Request::Help),
+            "-h" => Some(Request::Help),
+            "help" => Some(Request::Help),
+            "--version" => Some(Request::Version),
+            _ => None,
+        }
+    }
+
     /// What the words after the program's name ask for, where they ask for anything.
     pub(crate) fn read(alloc: Global, words: &[String]) -> Result<Option<Request>, AllocError>
         ensures ok { IfOk result (λ r. r ≡ request_of (map string_bytes words.now)) }
         ensures err { IfErr result (λ _. IsSome (request_of (map string_bytes words.now))) }
     {
         match words {
+            [word] => Ok(Request::of_one_word(word.as_str())),
             [command, file] if command.as_str() == "defs" => {
                 Ok(Some(Request::listing(alloc, file.as_str())?))
             }

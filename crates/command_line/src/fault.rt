@@ -1,12 +1,14 @@
 //! Why a run fails.
 
-ghost use Rattle.std.specs.Prelude.{◌≡◌};
-ghost use Rattle.command_line.specs.Faults.{of_read, of_put, out_of_memory};
+ghost use Rattle.std.specs.Prelude.{◌≡◌, false};
+ghost use Rattle.std.specs.IoError.{error_kind};
+ghost use Rattle.command_line.specs.Faults.{is_whole, of_read, of_put, out_of_memory, run_written, written_of};
 
 use crate::store::StoreFault;
 use comp_check::CheckFault;
 use comp_encoder::EncodeFault;
 use comp_lists::Text;
+use std::io::{self, ErrorKind};
 
 /// Why a run fails; `F` are the faults of the lower layer.
 #[derive(Drop)]
@@ -19,11 +21,54 @@ pub(crate) enum RunFault<F> {
     Write { name: Text },
     /// Standard output can't be written.
     Out,
+    /// Nobody reads standard output any more.
+    Closed,
     /// There is no component. Out of memory is reported in this way wherever it occurs in `new`.
     Encode(EncodeFault<F>),
     /// The bytes of a file are no component. Out of memory is reported in this way wherever it occurs in
     /// `defs`.
     Check(CheckFault),
+}
+
+/// How the writing of a text ended.
+#[derive(Clone, Copy, Debug, PartialEq, Eq)]
+pub(crate) enum Written {
+    /// All of it was written.
+    Whole,
+    /// The writer refused.
+    Refused,
+    /// Nobody reads what is written.
+    Closed,
+}
+
+impl Written {
+    pub(crate) fn is_whole(&self) -> bool
+        ensures { result ≡ is_whole self.now }
+    {
+        matches!(self, Written::Whole)
+    }
+}
+
+/// How writing ends by an error of the writer.
+pub(crate) fn written_of(error: &io::Error) -> Written
+    ensures value { result ≡ written_of (error_kind error.now) }
+    ensures cut { is_whole result ≡ false }
+{
+    match error.kind() {
+        ErrorKind::BrokenPipe => Written::Closed,
+        _ => Written::Refused,
+    }
+}
+
+/// The end of a run that writes a text on standard output.
+pub(crate) fn run_written<F>(written: Written) -> Result<(), RunFault<F>>
+    ensures { result ≡ run_written written }
+{
+    match written {
+        Written::Whole => Ok(()),
+        Written::Refused => Err(RunFault::Out),
+        Written::Closed => Err(RunFault::Closed),
+    }
 }
 
 /// The fault of a run that is out of memory.

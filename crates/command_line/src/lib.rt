@@ -13,10 +13,14 @@ mod arguments;
 mod fault;
 mod listing;
 mod making;
-mod running;
-mod store;
 mod messages;
+mod running;
+mod starting;
+mod store;
+mod stored;
 
+pub use messages::{MEMORY, say};
 pub use running::run_with;
+pub use starting::start_with;
 pub use store::{Event, Store, StoreFault};
-pub use messages::{MEMORY, USAGE, say};
+pub use stored::Stored;

@@ -6,11 +6,12 @@ ghost use Rattle.comp_bytes.specs.declared.def.Def.{Def};
 ghost use Rattle.comp_check.specs.Faults.{IsUnread};
 ghost use Rattle.comp_lines.specs.Lines.{lines};
 ghost use Rattle.command_line.specs.Events.{happen};
+ghost use Rattle.command_line.specs.Faults.{is_whole};
 ghost use Rattle.command_line.specs.declared.store.Event.{Event};
 ghost use Rattle.command_line.specs.Listing.{printed, Listed};
 ghost use Rattle.command_line.specs.Messages.{Puts};
 
-use crate::fault::{RunFault, read_fault};
+use crate::fault::{RunFault, Written, read_fault, run_written};
 use crate::store::Store;
 use crate::messages::put;
 use byte_encoding::BuildFault;
@@ -33,23 +34,29 @@ fn lines_of(alloc: Global, bytes: &[u8]) -> Result<Vec<String>, CheckFault>
     }
 }
 
-/// Writes a line with its end. Whether all of it was written.
-fn put_line<W: Write>(writer: &mut W, line: &str) -> bool
-    ensures { Puts (W.contents writer.old) (W.contents writer.new) (printed (line.now ∷ [])) result }
+/// Writes a line with its end.
+fn put_line<W: Write>(writer: &mut W, line: &str) -> Written
+    ensures { Puts (W.contents writer.old) (W.contents writer.new) (printed (line.now ∷ [])) (is_whole result) }
 {
-    put(writer, line.as_bytes()) && put(writer, b"\n")
+    let written = put(writer, line.as_bytes());
+    if written.is_whole() {
+        put(writer, b"\n")
+    } else {
+        written
+    }
 }
 
-/// Writes lines with their ends. Whether all of them were written.
-fn put_lines<W: Write>(writer: &mut W, lines: &[String]) -> bool
-    ensures { Puts (W.contents writer.old) (W.contents writer.new) (printed (map string_bytes lines.now)) result }
+/// Writes lines with their ends.
+fn put_lines<W: Write>(writer: &mut W, lines: &[String]) -> Written
+    ensures { Puts (W.contents writer.old) (W.contents writer.new) (printed (map string_bytes lines.now)) (is_whole result) }
 {
     for line in lines {
-        if !put_line(writer, line.as_str()) {
-            return false;
+        let written = put_line(writer, line.as_str());
+        if !written.is_whole() {
+            return written;
         }
     }
-    true
+    Written::Whole
 }
 
 /// Reads a component, and prints its definitions, one line each.
@@ -69,9 +76,5 @@ pub(crate) fn list<S: Store, W: Write, F>(
         Ok(lines) => lines,
         Err(fault) => return Err(RunFault::Check(fault)),
     };
-    if put_lines(out, &lines) {
-        Ok(())
-    } else {
-        Err(RunFault::Out)
-    }
+    run_written(put_lines(out, &lines))
 }

@@ -2,9 +2,10 @@
 
 ghost use Rattle.std.specs.Prelude.{◌≡◌, ◌++◌, ℕ, List, IfOk, take, string_bytes, codes};
 ghost use Rattle.std.specs.Io.KnownBytes.{Appends};
-ghost use Rattle.command_line.specs.Messages.{Puts, Says, IsText, IsTextOr, IsLineOf, usage_line, memory_line, memory_line_of};
+ghost use Rattle.command_line.specs.Faults.{is_whole};
+ghost use Rattle.command_line.specs.Messages.{IsNotTextLine, Puts, PrintsText, Says, IsText, IsTextOr, Reports, usage_line, memory_line, memory_line_of, not_text_line};
 
-use crate::fault::RunFault;
+use crate::fault::{RunFault, Written, run_written, written_of};
 use comp_check::CheckFault;
 use comp_encoder::EncodeFault;
 use std::alloc::{AllocError, Global};
@@ -12,7 +13,17 @@ use std::fmt::Display;
 use std::io::Write;
 
 /// The line for arguments that are not those of the program.
-pub const USAGE: &[u8] = b"usage: component_new new OUT MAIN [options] | defs FILE\n";
+const USAGE: &[u8] = b"usage: component_new new OUT MAIN [options] | defs FILE\n";
+
+/// The text for `--help`: the usage line, and a line for each option.
+pub(crate) const HELP: &[u8] = b"usage: component_new new OUT MAIN [options] | defs FILE\n\
+    \x20 --validate      new: check the names of the component's imports and exports\n\
+    \x20 -h, --help      print this text\n\
+    \x20 --version       print the version of the program, and the kit that it is proved with\n";
+
+/// The line for `--version`.
+pub(crate) const VERSION: &[u8] =
+    b"component_new 0.1.0, proved with rattle-kit-13f logic dac8208d650f15bf\n";
 
 /// The line where memory is refused.
 pub const MEMORY: &[u8] = b"error: E1 Memory\n";
@@ -30,19 +41,26 @@ fn memory_line(listing: bool) -> &'static [u8]
     if listing { LISTING_MEMORY } else { MEMORY }
 }
 
-/// Writes a front of the text, and all of it unless the writer fails. Whether it was all of it.
-pub(crate) fn put<W: Write>(writer: &mut W, text: &[u8]) -> bool
-    ensures { Puts (W.contents writer.old) (W.contents writer.new) text.now result }
+/// Writes a front of the text, and all of it unless the writer fails.
+pub(crate) fn put<W: Write>(writer: &mut W, text: &[u8]) -> Written
+    ensures { Puts (W.contents writer.old) (W.contents writer.new) text.now (is_whole result) }
 {
     let mut done = 0;
     while done < text.len() {
         match writer.write(&text[done..]) {
-            Ok(0) => return false,
+            Ok(0) => return Written::Refused,
             Ok(n) => done += n,
-            Err(_) => return false,
+            Err(error) => return written_of(&error),
         }
     }
-    true
+    Written::Whole
+}
+
+/// Writes a text on standard output.
+pub(crate) fn print<W: Write, F>(out: &mut W, text: &[u8]) -> Result<(), RunFault<F>>
+    ensures { PrintsText text.now (W.contents out.old) (W.contents out.new) result }
+{
+    run_written(put(out, text))
 }
 
 /// Writes a front of the text, and all of it unless the writer fails.
@@ -50,6 +68,24 @@ pub fn say<W: Write>(writer: &mut W, text: &[u8])
     ensures { Says (W.contents writer.old) (W.contents writer.new) (λ line. line ≡ text.now) }
 {
     let _whole = put(writer, text);
+}
+
+/// The line for an argument that is not UTF-8.
+fn not_text_line(alloc: Global, number: usize) -> Result<String, AllocError>
+    ensures { IfOk result (λ line. string_bytes line ≡ not_text_line number) }
+{
+    format!(in alloc; "error: argument {number} is not UTF-8\n")
+}
+
+/// Writes a front of the line for an argument that is not UTF-8, or of the line that reports out of memory, where there was
+/// no memory for the line.
+pub(crate) fn say_not_text<W: Write>(alloc: Global, writer: &mut W, number: usize)
+    ensures { Says (W.contents writer.old) (W.contents writer.new) (IsNotTextLine number) }
+{
+    match not_text_line(alloc, number) {
+        Ok(line) => say(writer, line.as_bytes()),
+        Err(_) => say(writer, MEMORY),
+    }
 }
 
 /// A line that begins so, and continues with what the value displays.
@@ -80,15 +116,15 @@ fn say_value<W: Write, D: Display>(
     }
 }
 
-/// Writes a front of the line that reports a fault, and all of it unless the writer fails. `listing` is
-/// whether the definitions of a component were asked for.
+/// Writes a front of the line that reports a fault, and all of it unless the writer fails; nothing where nobody reads
+/// standard output any more. `listing` is whether the definitions of a component were asked for.
 pub(crate) fn print_fault<W: Write, F: Display>(
     alloc: Global,
     writer: &mut W,
     listing: bool,
     fault: &RunFault<F>,
 )
-    ensures { Says (W.contents writer.old) (W.contents writer.new) (IsLineOf (memory_line_of listing) fault.now) }
+    ensures { Reports (memory_line_of listing) fault.now (W.contents writer.old) (W.contents writer.new) }
 {
     let memory = memory_line(listing);
     match fault {
@@ -96,6 +132,7 @@ pub(crate) fn print_fault<W: Write, F: Display>(
         RunFault::Read { name } => say_value(alloc, writer, memory, "error: read ", name),
         RunFault::Write { name } => say_value(alloc, writer, memory, "error: write ", name),
         RunFault::Out => say(writer, OUT),
+        RunFault::Closed => {}
         RunFault::Encode(EncodeFault::Memory) => say(writer, MEMORY),
         RunFault::Encode(fault) => say_value(alloc, writer, memory, "error: ", fault),
         RunFault::Check(CheckFault::Memory) => say(writer, LISTING_MEMORY),

@@ -11,7 +11,7 @@ use crate::fault::{RunFault, out_of_memory};
 use crate::listing::list;
 use crate::making::make;
 use crate::store::Store;
-use crate::messages::print_fault;
+use crate::messages::{HELP, VERSION, print, print_fault};
 use comp_worlds::Lower;
 use std::alloc::Global;
 use std::fmt::Display;
@@ -30,6 +30,8 @@ fn perform<L: Lower + Drop, S: Store, W: Write>(
     match Request::read(alloc, words) {
         Ok(Some(Request::New(arguments))) => make(alloc, lower, arguments, store),
         Ok(Some(Request::Defs { file })) => list(alloc, file, store, out),
+        Ok(Some(Request::Help)) => print(out, HELP),
+        Ok(Some(Request::Version)) => print(out, VERSION),
         Ok(None) => Err(RunFault::Usage),
         Err(_) => Err(out_of_memory(is_listing(words))),
     }

@@ -1,8 +1,10 @@
 //! Files by their names.
 
-ghost use Rattle.std.specs.Prelude.{◌≡◌, List, Option};
+ghost use Rattle.std.specs.Prelude.{◌≡◌, ℕ, List, Option};
+ghost use Rattle.atomic_files.specs.Files.{Known};
+ghost use Rattle.atomic_files.specs.Steps.{ReadsFile};
 ghost use Rattle.command_line.specs.declared.store.StoreFault.TheVariants.{Memory};
-ghost use Rattle.command_line.specs.Events.{happen, events_of_read, events_of_put};
+ghost use Rattle.command_line.specs.Events.{StorePut, happen, events_of_read, events_of_put};
 
 use comp_lists::{Bytes, Text};
 use std::alloc::{AllocError, AllocFailed, Global};
@@ -48,16 +50,23 @@ pub enum Event {
 /// Files by their names.
 pub trait Store {
     ghost use Rattle.command_line.specs.declared.store.Event.{Event as Happened};
+    ghost use Rattle.atomic_files.specs.Files.{Node as NodeAt};
 
     /// What was read and put so far, in order, where that is known. It isn't known of the files of a
     /// system, which others change too.
     ghost events: { Self → Option (List Happened) };
 
+    /// What the names name, where that is known.
+    ghost files: { Self → Option (List ℕ → NodeAt) };
+
     /// All bytes of a file.
     fn read(&mut self, alloc: Global, name: &str) -> Result<Vec<u8>, StoreFault>
-        ensures { events self.new ≡ happen (events self.old) (events_of_read name.now result) };
+        ensures event { events self.new ≡ happen (events self.old) (events_of_read name.now result) }
+        ensures file { Known (ReadsFile name.now result) (files self.old) (files self.new) };
 
-    /// Replaces the contents of a file with these bytes.
+    /// Replaces the contents of a file with these bytes: it has all of them where the call succeeds, and is as it was where the
+    /// call fails. No other file that is there is changed. What is not a regular file, such as a device, is written in place.
     fn put(&mut self, name: &str, bytes: &[u8]) -> Result<(), StoreFault>
-        ensures { events self.new ≡ happen (events self.old) (events_of_put name.now bytes.now result) };
+        ensures event { events self.new ≡ happen (events self.old) (events_of_put name.now bytes.now result) }
+        ensures file { Known (StorePut name.now bytes.now result) (files self.old) (files self.new) };
 }

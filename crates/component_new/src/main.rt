@@ -10,38 +10,55 @@
 mod files;
 mod running;
 
-use command_line::{MEMORY, USAGE, say};
+use command_line::{MEMORY, Stored, say};
 use files::Files;
 use running::run;
-use std::env::{self, Env};
-use std::io::{self, ErrorKind};
+use std::alloc::AllocError;
+use std::env::{Env, FillError};
 use std::process::ExitCode;
 
-/// The arguments after the program's name.
-fn words<R: Env + AllocGlobal>(rt: &R) -> io::Result<Vec<String>> {
-    let mut words = Vec::new(rt.alloc());
-    for word in env::args(rt)?.skip(1) {
-        words.push(word)?;
+/// The bytes of an argument; none after the last. Argument 0 is the program's name.
+fn argument<R: Env + AllocGlobal>(rt: &R, index: usize) -> Result<Option<Vec<u8>>, AllocError> {
+    let mut size = 256usize;
+    for _ in 0..usize::BITS {
+        let mut bytes = Vec::new(rt.alloc());
+        bytes.resize(size, 0u8)?;
+        match rt.arg(index, bytes.as_mut_slice()) {
+            Ok(length) => {
+                bytes.truncate(length);
+                return Ok(Some(bytes));
+            }
+            Err(FillError::NotPresent) => return Ok(None),
+            Err(FillError::TooLong) => size = size.saturating_add(size),
+        }
     }
-    Ok(words)
+    Err(AllocError)
+}
+
+/// The arguments after the program's name.
+fn arguments<R: Env + AllocGlobal>(rt: &R) -> Result<Vec<Vec<u8>>, AllocError> {
+    let mut arguments = Vec::new(rt.alloc());
+    for index in 1..usize::MAX {
+        match argument(rt, index)? {
+            Some(bytes) => arguments.push(bytes)?,
+            None => break,
+        }
+    }
+    Ok(arguments)
 }
 
 fn main(rt: HostRuntime) -> ExitCode {
     let mut out = rt.stdout();
     let mut err = rt.stderr();
-    match words(&rt) {
-        Ok(words) => {
-            let mut files = Files::new(&rt);
-            let status = run(rt.alloc(), &words, &mut files, &mut out, &mut err);
+    match arguments(&rt) {
+        Ok(arguments) => {
+            let mut store = Stored::new(rt.alloc(), Files::new(&rt));
+            let status = run(rt.alloc(), &arguments, &mut store, &mut out, &mut err);
             ExitCode::from(status)
         }
-        Err(e) if e.kind() == ErrorKind::OutOfMemory => {
+        Err(_) => {
             say(&mut err, MEMORY);
             ExitCode::from(1)
-        }
-        Err(_) => {
-            say(&mut err, USAGE);
-            ExitCode::from(2)
         }
     }
 }

@@ -3,10 +3,11 @@
 use crate::modules::{
     COMPONENT, CUT, DIGIT_FIRST, EMPTY, EMPTY_COMPONENT, LINES, MAIN, OPEN, PACKAGE,
 };
-use crate::store::{Closed, OneFile};
-use command_line::{Event, StoreFault, run_with};
+use crate::store::{OneFile, Refusing};
+use command_line::{Event, StoreFault, run_with, start_with};
 use plain_lower::PlainLower;
 use std::alloc::{AllocError, Global};
+use std::io::ErrorKind;
 use std::test::Fail;
 
 /// The status of a run, and what it wrote to its two writers.
@@ -43,8 +44,12 @@ fn refused(alloc: Global, calls: u32, fault: StoreFault) -> Result<Answer, Alloc
 #[test]
 fn wrong_arguments_are_reported_before_anything_is_read(rt: HostRuntime) {
     let alloc = rt.alloc();
-    let wrong: [&[&str]; 8] = [
+    let wrong: [&[&str]; 12] = [
         &[],
+        &["--Help"],
+        &["--help", "--version"],
+        &["help", "new"],
+        &["new", "--help"],
         &["new", "out.wasm"],
         &["new", "out.wasm", "main.wasm", "--ref"],
         &["New", "out.wasm", "main.wasm"],
@@ -99,7 +104,9 @@ fn the_status_reports_where_no_line_can(rt: HostRuntime) {
     let alloc = rt.alloc();
     let mut store = OneFile::new(alloc, "main.wasm", EMPTY).expect(&rt, "memory");
     let words = texts(alloc, &["new", "out.wasm", "other.wasm"]).expect(&rt, "memory");
-    let status = run_with(alloc, PlainLower::new(), &words, &mut store, &mut Closed, &mut Closed);
+    let kind = ErrorKind::BrokenPipe;
+    let (mut out, mut err) = (Refusing { kind }, Refusing { kind });
+    let status = run_with(alloc, PlainLower::new(), &words, &mut store, &mut out, &mut err);
     assert_eq!(rt; status, 1);
 }
 
@@ -191,15 +198,90 @@ fn definitions_are_printed(rt: HostRuntime) -> Result<(), Fail> {
     Ok(())
 }
 
+/// The status of a run whose standard output refuses all for this reason, and what it printed on standard error.
+fn refused_output(
+    alloc: Global,
+    words: &[&str],
+    kind: ErrorKind,
+) -> Result<(u8, Vec<u8>), AllocError> {
+    let mut store = OneFile::new(alloc, "main.wasm", COMPONENT)?;
+    let words = texts(alloc, words)?;
+    let mut err = Vec::new(alloc);
+    let mut out = Refusing { kind };
+    let status = run_with(alloc, PlainLower::new(), &words, &mut store, &mut out, &mut err);
+    Ok((status, err))
+}
+
 #[test]
 fn an_output_that_takes_nothing_is_reported(rt: HostRuntime) -> Result<(), Fail> {
     let alloc = rt.alloc();
-    let mut store = OneFile::new(alloc, "main.wasm", COMPONENT)?;
-    let words = texts(alloc, &["defs", "main.wasm"])?;
+    let runs: [&[&str]; 3] = [&["defs", "main.wasm"], &["--help"], &["--version"]];
+    for words in runs {
+        let (status, err) = refused_output(alloc, words, ErrorKind::StorageFull)?;
+        assert_eq!(rt; status, 1);
+        assert_eq!(rt; err.as_slice(), b"error: write \"-\"\n".as_slice());
+    }
+    Ok(())
+}
+
+#[test]
+fn nothing_is_reported_where_nobody_reads_the_output(rt: HostRuntime) -> Result<(), Fail> {
+    let alloc = rt.alloc();
+    let runs: [&[&str]; 3] = [&["defs", "main.wasm"], &["--help"], &["--version"]];
+    for words in runs {
+        let (status, err) = refused_output(alloc, words, ErrorKind::BrokenPipe)?;
+        assert_eq!(rt; status, 1);
+        assert!(rt; err.is_empty());
+    }
+    Ok(())
+}
+
+#[test]
+fn help_and_version_are_printed(rt: HostRuntime) -> Result<(), Fail> {
+    let alloc = rt.alloc();
+    let help = "usage: component_new new OUT MAIN [options] | defs FILE\n\
+        \x20 --validate      new: check the names of the component's imports and exports\n\
+        \x20 -h, --help      print this text\n\
+        \x20 --version       print the version of the program, and the kit that it is proved with\n";
+    let version = "component_new 0.1.0, proved with rattle-kit-13f logic dac8208d650f15bf\n";
+    for (word, text) in [("--help", help), ("-h", help), ("help", help), ("--version", version)] {
+        assert!(rt; ends(alloc, &[word], MAIN, 0, text, "")?);
+    }
+    Ok(())
+}
+
+/// The status of a start with these arguments, and what it printed on standard error, where it printed nothing else and
+/// read and put nothing.
+fn started(alloc: Global, arguments: &[&[u8]]) -> Result<(u8, Vec<u8>), Fail> {
+    let mut list = Vec::new(alloc);
+    for argument in arguments {
+        list.push(Vec::from_slice(alloc, argument)?)?;
+    }
+    let mut store = OneFile::new(alloc, "main.wasm", MAIN)?;
+    let mut out = Vec::new(alloc);
     let mut err = Vec::new(alloc);
-    let status = run_with(alloc, PlainLower::new(), &words, &mut store, &mut Closed, &mut err);
-    assert_eq!(rt; status, 1);
-    assert_eq!(rt; err.as_slice(), b"error: write \"-\"\n".as_slice());
+    let status = start_with(alloc, PlainLower::new(), &list, &mut store, &mut out, &mut err);
+    if !store.log.is_empty() || !out.is_empty() {
+        return Err(Fail::from("more than the arguments was read"));
+    }
+    Ok((status, err))
+}
+
+#[test]
+fn an_argument_that_is_not_text_is_reported(rt: HostRuntime) -> Result<(), Fail> {
+    let alloc = rt.alloc();
+    let starts: [(&[&[u8]], &str); 5] = [
+        (&[b"defs", b"\xff"], "error: argument 2 is not UTF-8\n"),
+        (&[b"new", b"out\x80", b"\xff"], "error: argument 2 is not UTF-8\n"),
+        (&[b"new", b"out", b"main", b"\xc3"], "error: argument 4 is not UTF-8\n"),
+        (&[b"\xed\xa0\x80"], "error: argument 1 is not UTF-8\n"),
+        (&[b"new", b"\xc3\xa9"], "usage: component_new new OUT MAIN [options] | defs FILE\n"),
+    ];
+    for (arguments, line) in starts {
+        let (status, err) = started(alloc, arguments)?;
+        assert_eq!(rt; status, 2);
+        assert_eq!(rt; err.as_slice(), line.as_bytes());
+    }
     Ok(())
 }
 

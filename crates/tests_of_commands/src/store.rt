@@ -1,6 +1,6 @@
-//! A store in memory, and a writer that accepts nothing.
+//! A store in memory, and writers that accept nothing.
 
-ghost use Rattle.std.specs.Prelude.{◌≡◌, ◌++◌, Some};
+ghost use Rattle.std.specs.Prelude.{◌≡◌, ◌++◌, None, Some};
 ghost use Rattle.command_line.specs.Events.{events_of_read, events_of_put};
 
 use command_line::{Event, Store, StoreFault};
@@ -84,6 +84,8 @@ impl OneFile {
 impl Store for OneFile {
     ghost events = { λ s. Some s.log };
 
+    ghost files = { λ _. None };
+
     fn read(&mut self, _alloc: Global, name: &str) -> Result<Vec<u8>, StoreFault> {
         match self.refusal() {
             Some(StoreFault::Memory) => Err(StoreFault::Memory),
@@ -102,13 +104,15 @@ impl Store for OneFile {
     }
 }
 
-/// A writer that accepts nothing.
+/// A writer that accepts nothing, for this reason.
 #[derive(Drop)]
-pub(crate) struct Closed;
+pub(crate) struct Refusing {
+    pub kind: ErrorKind,
+}
 
-impl Write for Closed {
+impl Write for Refusing {
     fn write(&mut self, _buf: &[u8]) -> io::Result<usize> {
-        Err(io::Error::from(ErrorKind::BrokenPipe))
+        Err(io::Error::from(self.kind))
     }
 
     fn flush(&mut self) -> io::Result<()> {

@@ -3,19 +3,19 @@ use Rattle.command_line.proofs.Steps.{two_happened, not_read, not_put}
 use Rattle.command_line.proofs.making.make.Goals as goal
 
 pub returns-in-Err : goal.returns-in-Err
-returns-in-Err g c = (_, c.in-Err.ensures, not_read g.L.Lower c.args.lower c.args.arguments _ _ _ c.as_str.ensures c.read_fault.ensures)
+returns-in-Err g c = (_, c.in-Err.ensures.event, not_read g.L.Lower c.args.lower c.args.arguments _ _ _ c.as_str.ensures c.read_fault.ensures)
 
 pub returns-in-Err-component_of : goal.returns-in-Err-component_of
 returns-in-Err-component_of g c =
-    (_, c.in-Ok.ensures, (c.as_str.ensures, rw c.deref.ensures.value at c.in-Err-component_of.ensures.cause))
+    (_, c.in-Ok.ensures.event, (c.as_str.ensures, rw c.deref.ensures.value at c.in-Err-component_of.ensures.cause))
 
 pub returns-in-Ok-put : goal.returns-in-Ok-put
 returns-in-Ok-put g c =
-    (_, two_happened _ _ _ _ _ c.in-Ok.ensures c.in-Ok-put.ensures, (c.as_str.ensures, c.as_str-2.ensures, rw (c.deref-2.ensures.value, ← c.deref.ensures.value) c.in-Ok-component_of.ensures.ok, refl))
+    (_, two_happened _ _ _ _ _ c.in-Ok.ensures.event c.in-Ok-put.ensures.event, (c.as_str.ensures, c.as_str-2.ensures, rw (c.deref-2.ensures.value, ← c.deref.ensures.value) c.in-Ok-component_of.ensures.ok, refl))
 
 pub returns-in-Err-put : goal.returns-in-Err-put
 returns-in-Err-put g c = (
   _,
-  two_happened _ _ _ _ _ c.in-Ok.ensures c.in-Err-put.ensures,
+  two_happened _ _ _ _ _ c.in-Ok.ensures.event c.in-Err-put.ensures.event,
   not_put g.L.Lower c.args.lower c.args.arguments _ _ _ _ _ _ c.as_str.ensures c.as_str-2.ensures (rw (c.deref-2.ensures.value, ← c.deref.ensures.value) c.in-Ok-component_of.ensures.ok) c.put_fault.ensures,
 )

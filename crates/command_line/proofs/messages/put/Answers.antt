@@ -10,4 +10,4 @@ pub returns-in-Ok-eq0 : goal.returns-in-Ok-eq0
 returns-in-Ok-eq0 g c = stops_after _ _ _ c.args.text.now c.loop-done.done _ c.loop-done.invariant.1 c.in-Ok-eq0.ensures.bytes
 
 pub returns-in-Err : goal.returns-in-Err
-returns-in-Err g c = fails_after _ _ _ c.args.text.now c.loop-done.done c.loop-done.invariant.1 c.in-Err.ensures.bytes
+returns-in-Err g c = fails_after _ _ _ c.args.text.now c.loop-done.done _ c.written_of.ensures.cut c.loop-done.invariant.1 c.in-Err.ensures.bytes

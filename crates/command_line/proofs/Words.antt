@@ -1,0 +1,28 @@
+-- Arguments, as far as they were looked at.
+use Rattle.std.proofs.Common.{◌≡◌, ℕ, ◌+◌, ◌<◌, true, false, List, ◌++◌, [], ◌∷◌, map, get_or, length, take, drop, Some, refl, ap, ap₂, ◌∙◌, sym}
+use Rattle.std.specs.Str.{IsUtf8, is_utf8}
+use Rattle.std.proofs.lemmas.List.{drop_more, take_more, map-append}
+use Rattle.std.proofs.lemmas.Bool.{false_from_ne_true}
+use Rattle.std.proofs.lemmas.Str.{IsUtf8-from_is_utf8, is_utf8-from_IsUtf8}
+use Rattle.command_line.specs.Starting.{first_not_text}
+
+module _ {X : Type 0} (f : X → List ℕ) (xs : List X) (i : ℕ) (x : X) (l : i < length xs) (e : x ≡ get_or xs i x) where
+  next : drop i xs ≡ x ∷ drop (i + 1) xs
+  next = drop_more xs i x l ∙ ap (λ y. y ∷ drop (i + 1) xs) (sym e)
+
+  pub words_more : {W : Type 0} (g : W → List ℕ) (ws more : List W) (w : W) → map g ws ≡ map f (take i xs) → more ≡ ws ++ w ∷ [] → g w ≡ f x →
+      map g more ≡ map f (take (i + 1) xs)
+  words_more g ws more w h k same =
+      ap (map g) k ∙ map-append g ws (w ∷ []) ∙ ap₂ (λ a b. a ++ b ∷ []) h same
+      ∙ sym (ap (λ (ys : List X). map f ys) (take_more xs i x l ∙ ap (λ y. take i xs ++ y ∷ []) (sym e)) ∙ map-append f (take i xs) (x ∷ []))
+
+  pub text_more : (all : List ℕ) (n : ℕ) → first_not_text 1 (map f xs) ≡ first_not_text n (map f (drop i xs)) → all ≡ f x → IsUtf8 all →
+      first_not_text 1 (map f xs) ≡ first_not_text (n + 1) (map f (drop (i + 1) xs))
+  text_more all n h same utf8 =
+      h ∙ ap (λ (ys : List X). first_not_text n (map f ys)) next ∙ rw (is_utf8-from_IsUtf8 (f x) (rw same at utf8)) refl
+
+  pub text_not : (all : List ℕ) (n : ℕ) → first_not_text 1 (map f xs) ≡ first_not_text n (map f (drop i xs)) → all ≡ f x → ¬ (IsUtf8 all) →
+      first_not_text 1 (map f xs) ≡ Some n
+  text_not all n h same other =
+      let no : is_utf8 (f x) ≡ false = false_from_ne_true (is_utf8 (f x)) (λ t. other (rw (sym same) at (IsUtf8-from_is_utf8 (f x) t))) in
+      h ∙ ap (λ (ys : List X). first_not_text n (map f ys)) next ∙ rw no refl
