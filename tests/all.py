@@ -3,7 +3,7 @@
 
 First the tests of the programs that test, then `rt ci`, which proves each crate from nothing, tries the wrong bodies of
 must-fail/ and runs the programs and the tests, and then all other wrong bodies, those of wrong/. It stops at the first of
-these that fails. Before its last line, 'N passed, M failed', stand the processor seconds of each crate: bench/gate_costs.py
+these that fails. Before its last line, 'N passed, M failed', it prints the processor seconds of each crate: bench/gate_costs.py
 makes a table of them.
 """
 import os
