@@ -89,13 +89,6 @@ impl Text {
         self.text.is_empty()
     }
 
-    /// Whether it is this text.
-    pub fn is(&self, text: &str) -> bool
-        ensures { result ≡ bytes_eq self.now text.now }
-    {
-        self.as_str() == text
-    }
-
     /// An equal text, memory allowing.
     pub fn clone(&self, alloc: Global) -> Result<Text, AllocError>
         ensures { IfOk result (λ t. t ≡ self.now) }
