@@ -1,7 +1,7 @@
 #!/usr/bin/env python3
 """The tests of this repository: all.py, at its top.
 
-First the tests of the programs that test, then `rt ci`, which proves each crate from nothing, tries the wrong bodies of
+First docs/ARCHITECTURE.md is compared with crates.txt; then the tests of the programs that test, then `rt ci`, which proves each crate from nothing, tries the wrong bodies of
 must-fail/ and runs the programs and the tests, and then all other wrong bodies, those of wrong/. It stops at the first of
 these that fails. Before its last line, 'N passed, M failed', stand the processor seconds of each crate: bench/gate_costs.py
 makes a table of them.
@@ -41,6 +41,7 @@ def main():
     passed = failed = 0
     python = [sys.executable, "-u"]
     for name, words in (
+        ("graph of the crates", [*python, "tests/crate_graph.py", "--check"]),
         ("tests of the test programs", [*python, "tests/test_wrong_bodies.py"]),
         ("rt ci", ["rt", "ci"]),
         ("wrong bodies", [*python, "tests/wrong_bodies.py", "--after-ci"]),
