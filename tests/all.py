@@ -1,10 +1,10 @@
 #!/usr/bin/env python3
 """The tests of this repository: all.py, at its top.
 
-First docs/ARCHITECTURE.md is compared with crates.txt; then the tests of the programs that test, then `rt ci`, which proves each crate from nothing, tries the wrong bodies of
-must-fail/ and runs the programs and the tests, and then all other wrong bodies, those of wrong/. It stops at the first of
-these that fails. Before its last line, 'N passed, M failed', stand the processor seconds of each crate: bench/gate_costs.py
-makes a table of them.
+First the table of crates in docs/ARCHITECTURE.md is compared with crates.txt. Then come the tests of the programs that
+test; `rt ci`, which proves each crate from nothing, tries the wrong bodies of must-fail/ and runs the programs and the
+tests; and all other wrong bodies, those of wrong/. It stops at the first of these that fails. Before its last line,
+'N passed, M failed', it prints the processor seconds of each crate: bench/gate_costs.py makes a table of them.
 """
 import os
 import re

@@ -17,7 +17,7 @@ import sys
 TOP = os.path.dirname(os.path.dirname(os.path.realpath(__file__)))
 TABLE = f"{TOP}/docs/ARCHITECTURE.md"
 HEADER = "| Crate | Its one idea | Depends on |"
-ROW = re.compile(r"^\| `(\w+)` \| (.*) \| ([^|]*) \|$")
+ROW = re.compile(r"^\| `(\w+)` \| (.*?) \| ?([^|]*?) ?\|$")
 
 
 def read_graph(path):
