@@ -3,7 +3,8 @@
 -- these are this project's own: the version suffix of a name, `43` for an async function, the type of a context
 -- slot, and the `00` of the two waits.
 use Rattle.std.specs.Prelude.{ℕ, ◌≡◌, List, map, Bool, Option, Some, None, if◌then◌else◌}
-use Rattle.byte_encoding.specs.Encoding.{Encoding, Fits, ◌⊕◌, raw, octet, number, signed_leb, listed, named, optional}
+use Rattle.byte_encoding.specs.Encoding.{Encoding, Fits, ◌⊕◌, raw, octet, number, signed_leb, listed, named, optional, flag}
+use Rattle.standard_kinds.specs.Bytes.{kind_byte}
 use Rattle.comp_bytes.specs.Sections.{Entry, component}
 use Rattle.standard_kinds.specs.declared.kinds.ExportKind.{ExportKind}
 use Rattle.standard_kinds.specs.declared.kinds.ExportKind.TheVariants as kinds

@@ -7,7 +7,7 @@ ghost use Rattle.comp_bytes.specs.Spaces.{description_space};
 
 use crate::space::{ComponentExportKind, Space};
 use comp_lists::{Seq, Text};
-use standard_kinds::ExportKind;
+use standard_kinds::{ExportKind, Primitive};
 
 /// A value type: a primitive one, or one that was defined, by its type index.
 #[derive(Clone, Copy, Debug, PartialEq, Eq)]

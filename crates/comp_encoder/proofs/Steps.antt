@@ -29,7 +29,8 @@ use Rattle.wit_data.specs.declared.functions.AbiVariant.{AbiVariant}
 use Rattle.wit_data.specs.declared.worlds.WorldKey.{WorldKey}
 use Rattle.wit_data.specs.declared.worlds.WorldKey.TheVariants as keys
 use Rattle.comp_roles.specs.CoreImports.{fields_of}
-use Rattle.comp_worlds.specs.Worlds.{IsWorld, IsExportRole, IsImportGroup, core_imports, root_export, core_name_of}
+use Rattle.comp_worlds.specs.Worlds.{IsWorld, IsExportRole, IsImportGroup, core_imports, core_name_of}
+use Rattle.world_values.specs.Items.{root_export}
 use Rattle.comp_roles.specs.declared.exports.Export.{Export as WorldExport}
 use Rattle.comp_roles.specs.declared.exports.Export.TheVariants as exports
 use Rattle.comp_roles.specs.declared.imports.ImportInstance.{ImportInstance}

@@ -1,10 +1,10 @@
 -- What an encoder holds, its initial state, and its state after an accepted module. The rules are this project's
 -- own: the component model's standard defines components, and not how they are made.
 use Rattle.std.specs.Prelude.{Bool, ◌≡◌, ℕ, List, [], ◌++◌, Option, Some, None, true, false}
-use Rattle.comp_worlds.specs.declared.gathered.Gathered.{Gathered}
-use Rattle.comp_worlds.specs.declared.gathered.Part.{Part}
-use Rattle.comp_worlds.specs.declared.gathered.ExportKey.{ExportKey}
-use Rattle.comp_worlds.specs.declared.options.EncoderOptions.{EncoderOptions}
+use Rattle.world_values.specs.declared.gathered.Gathered.{Gathered}
+use Rattle.world_values.specs.declared.gathered.Part.{Part}
+use Rattle.world_values.specs.declared.gathered.ExportKey.{ExportKey}
+use Rattle.world_values.specs.declared.options.EncoderOptions.{EncoderOptions}
 use Rattle.comp_worlds.specs.declared.world.ComponentWorld.{ComponentWorld}
 use Rattle.comp_worlds.specs.declared.lower.Lower as lower
 use Rattle.comp_worlds.specs.Worlds.{IsWorld}

@@ -10,9 +10,10 @@ ghost use Rattle.comp_encoder.specs.Outputs.{NoOutputCause, IsOutputRefusal};
 use crate::fault::EncodeFault;
 use crate::output::{OutputFault, component_bytes};
 use comp_lists::Keyed;
-use comp_worlds::{ComponentWorld, EncoderOptions, Gathered, Lower, Part};
+use comp_worlds::{ComponentWorld, Lower};
 use std::alloc::Global;
 use std::marker::Model;
+use world_values::{EncoderOptions, Gathered, Part};
 
 /// What was gathered so far, and the lower layer that reads it.
 ///

@@ -3,7 +3,7 @@
 ghost use Rattle.std.specs.Prelude.{◌≡◌, ◌||◌, ℕ, List, IfOk, OnOk, is_some};
 ghost use Rattle.std.specs.List.{list_any, flat_map};
 ghost use Rattle.comp_lists.specs.Found.{found};
-ghost use Rattle.comp_worlds.specs.Worlds.{root_export};
+ghost use Rattle.world_values.specs.Items.{root_export};
 ghost use Rattle.comp_state.specs.Roles.{is_used, is_any_import, uses_from};
 
 use comp_lists::{Keyed, Text};

@@ -4,7 +4,7 @@ use Rattle.std.specs.Cmp.{IsEquivalence}
 use Rattle.std.specs.List.{flat_map}
 use Rattle.std.specs.Map.{lookup}
 use Rattle.comp_lists.specs.Tables.{with_first}
-use Rattle.comp_worlds.specs.Tables.{with_all}
+use Rattle.world_values.specs.Tables.{with_all}
 
 module _ {K X : Type 0} (eq : K → K → Bool) where
   pub with_all_append : (table es more : List (K × X)) → with_all eq table (es ++ more) ≡ with_all eq (with_all eq table es) more

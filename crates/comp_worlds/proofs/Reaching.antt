@@ -16,8 +16,8 @@ use Rattle.wit_data.specs.declared.worlds.WorldItem.{WorldItem}
 use Rattle.wit_data.specs.declared.worlds.WorldItem.TheVariants as items
 use Rattle.wit_data.proofs.Marking.{filter_same}
 use Rattle.comp_roles.specs.CoreImports.{CoreImport}
-use Rattle.comp_worlds.specs.Mentions.{same_interface, interface_types, live_entry, live_type_imports, names_interface, owner_in, owners_from, used_types}
-use Rattle.comp_worlds.specs.Tables.{with_all}
+use Rattle.world_values.specs.Mentions.{same_interface, interface_types, live_entry, live_type_imports, names_interface, owner_in, owners_from, used_types}
+use Rattle.world_values.specs.Tables.{with_all}
 use Rattle.comp_worlds.proofs.Entering.{with_all_append, entered}
 use Rattle.comp_worlds.proofs.Using.{same_flat}
 

@@ -1,8 +1,9 @@
 -- How what a world imports is lowered for core modules (Canonical ABI: `canon lower`, `resource.drop`).
-use Rattle.std.specs.Prelude.{ℕ, Bool, ◌&&◌, not, if◌then◌else◌, List, [], ◌∷◌, ◌++◌, codes, Option, Some, None, option_map, unwrap_or, slice_get}
+use Rattle.std.specs.Prelude.{ℕ, Bool, ◌&&◌, if◌then◌else◌, List, [], ◌∷◌, ◌++◌, codes, Option, Some, None}
 use Rattle.std.specs.Option.{option_eq}
 use Rattle.std.specs.List.{flat_map}
-use Rattle.comp_worlds.specs.Tables.{with_all}
+use Rattle.world_values.specs.Tables.{with_all}
+use Rattle.world_values.specs.Mentions.{functions_of}
 use Rattle.wit_data.specs.Keys.{is_same_key, name_of_key}
 use Rattle.wit_data.specs.Live.{named_types}
 use Rattle.wit_data.specs.Signatures.{signature}
@@ -55,10 +56,6 @@ abbrev pub root_lowerings : Used → List TypeDef → WorldKey × WorldItem → 
 root_lowerings used types (key, items.Function f) = function_lowerings used types key f
 root_lowerings used types (key, items.NamedType id) = drop_lowerings used (name_of_key key) id
 root_lowerings used types (key, items.Interface id) = []
-
--- the functions of an interface by name, in its order
-abbrev pub functions_of : Resolve → InterfaceId → List (List ℕ × Function)
-functions_of r id = unwrap_or (option_map (λ i. i.functions) (slice_get r.interfaces id.index)) []
 
 -- an imported interface: its types, then its functions
 abbrev pub interface_lowerings : Used → Resolve → WorldKey → InterfaceId → Lowerings

@@ -28,15 +28,13 @@ use Rattle.wit_data.specs.declared.resolve.Resolve.{Resolve}
 use Rattle.comp_roles.specs.CoreImports.{CoreImport, imports_from}
 use Rattle.comp_worlds.specs.Imported.{Imported, imported}
 use Rattle.comp_roles.specs.Lookups.{imported_memory}
-use Rattle.comp_worlds.specs.Mentions.{live_type_imports, exports_used}
+use Rattle.world_values.specs.Items.{no_items, root_export}
+use Rattle.world_values.specs.Mentions.{live_type_imports, exports_used}
 use Rattle.comp_worlds.specs.Uses.{used_by, all_imports}
 
 -- ---- its contents
 
 -- the imports and exports of the world
-abbrev pub no_items : World
-no_items = record { imports = []; exports = [] }
-
 abbrev pub items_of : ComponentWorld → World
 items_of w = get_or w.resolve.worlds w.world.index no_items
 
@@ -60,11 +58,6 @@ core_imports w = flat_map imports_from w.main.imports.modules
 abbrev pub imported_name : Import → Option (List ℕ)
 imported_name (imports.WorldFunc (keys.Name text) function abi) = Some text
 imported_name role = None
-
--- the root function that an export implements, with the export's name
-abbrev pub root_export : List ℕ × Export → List (List ℕ × List ℕ)
-root_export (name, exports.WorldFunc (keys.Name text) function abi) = (text, name) ∷ []
-root_export entry = []
 
 -- the core export that implements the root function of this key
 abbrev pub core_name_of : ComponentWorld → WorldKey → Option (List ℕ)

@@ -5,7 +5,7 @@ ghost use Rattle.std.specs.List.{flat_map, AllByRecursion};
 ghost use Rattle.wit_data.specs.Sound.{IsSound, HasFunction, HasInterface, HasEntry};
 ghost use Rattle.wit_data.specs.Keys.{name_of_key};
 ghost use Rattle.comp_worlds.specs.Lowerings.{is_same_lowering};
-ghost use Rattle.comp_worlds.specs.Tables.{with_all};
+ghost use Rattle.world_values.specs.Tables.{with_all};
 ghost use Rattle.comp_worlds.specs.Uses.{used_in};
 ghost use Rattle.comp_worlds.specs.Imported.{lowering_of, called_as, function_lowerings, drop_lowerings, root_lowerings, interface_lowerings, root_entry, interface_entry, imported, is_same_import_key};
 

@@ -7,23 +7,20 @@
 //! needs from `comp_options`; this crate re-exports their names, so that its users need no other crate.
 //!
 //! In reading order: `lowerings` (how imported functions are lowered), `world` (the validated world), `modules`
-//! (user modules by name, and which module has a module's realloc), `options` (the options of the encoder),
-//! `gathered` (what was gathered before the world is prepared), `lower` (the trait). The tables that follow from
+//! (user modules by name, and which module has a module's realloc), `lower` (the trait). The tables that follow from
 //! a world are made by `tables`: from `uses` (what core imports use) `imported` (the lowerings of the world's
 //! imports), from `mentions` (what names which types) `reached` (live types, and exported interfaces that
 //! others name).
 //!
 //! The look-ups across modules are defined in `specs/Lookups.antt`, the tables of a world in
-//! `specs/Imported.antt` and `specs/Mentions.antt`.
+//! `specs/Imported.antt` and in `specs/Mentions.antt` of `world_values`.
 #![tactic(auto)]
 
-mod gathered;
 mod imported;
 mod lower;
 mod lowerings;
 mod mentions;
 mod modules;
-mod options;
 mod reached;
 mod tables;
 mod uses;
@@ -37,9 +34,8 @@ pub use comp_roles::{
     LibraryArgument, LibraryInfo, MainOrAdapter, ModuleMetadata, NamedImport, PayloadFuncKind,
     PayloadInfo, PayloadType,
 };
-pub use gathered::{ExportKey, Gathered, GatheredAdapter, Merged, Part};
 pub use lower::Lower;
 pub use lowerings::{ImportedInterface, Lowering, LoweringKey};
 pub use modules::CustomModule;
-pub use options::EncoderOptions;
 pub use world::{ComponentWorld, ValidatedModule, WorldAdapter, WorldParts};
+pub use world_values::{EncoderOptions, ExportKey, Gathered, GatheredAdapter, Merged, Part};

@@ -4,14 +4,14 @@
 ghost use Rattle.std.specs.Prelude.{◌≡◌, ℕ, List, Bool, false, IfOk, IfErr, IsSome, IsOk};
 ghost use Rattle.comp_worlds.specs.Worlds.{IsWorld};
 ghost use Rattle.comp_worlds.specs.declared.world.ComponentWorld.{ComponentWorld};
-ghost use Rattle.comp_worlds.specs.declared.gathered.Gathered.{Gathered};
-ghost use Rattle.comp_worlds.specs.declared.gathered.Merged.{Merged};
+ghost use Rattle.world_values.specs.declared.gathered.Gathered.{Gathered};
+ghost use Rattle.world_values.specs.declared.gathered.Merged.{Merged};
 
-use crate::gathered::{Gathered, Merged};
 use crate::world::ComponentWorld;
 use comp_lists::Bytes;
 use std::alloc::Global;
 use std::error::Error;
+use world_values::{Gathered, Merged};
 
 /// A lower layer. The ghost members specify it: `decoded`, `merged` and `prepared` are its own
 /// definitions, the causes say when a fault is right. A fault of memory needs no cause; a call does not

@@ -5,8 +5,8 @@ ghost use Rattle.std.specs.List.{flat_map, AllByRecursion};
 ghost use Rattle.std.specs.Map.{lookup};
 ghost use Rattle.wit_data.specs.Live.{is_live, named_types};
 ghost use Rattle.wit_data.specs.Sound.{IsSound, HasInterface, HasItem, HasEntry, HasType};
-ghost use Rattle.comp_worlds.specs.Tables.{with_all};
-ghost use Rattle.comp_worlds.specs.Mentions.{same_interface, interface_types, interface_in, interfaces_of, live_entry, owner_in, owners_from, names_interface, used_entry, exports_used};
+ghost use Rattle.world_values.specs.Tables.{with_all};
+ghost use Rattle.world_values.specs.Mentions.{same_interface, interface_types, interface_in, interfaces_of, live_entry, owner_in, owners_from, names_interface, used_entry, exports_used};
 
 use crate::mentions::{add_interface, interface_of};
 use comp_lists::{Keyed, Seq};

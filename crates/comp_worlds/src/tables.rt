@@ -5,7 +5,7 @@ ghost use Rattle.std.specs.List.{flat_map, AllByRecursion};
 ghost use Rattle.wit_data.specs.Sound.{IsSound, HasWorld};
 ghost use Rattle.comp_worlds.specs.Imported.{imported};
 ghost use Rattle.comp_roles.specs.Lookups.{core_import, imported_memory};
-ghost use Rattle.comp_worlds.specs.Mentions.{HasRole, live_type_imports, exports_used};
+ghost use Rattle.world_values.specs.Mentions.{HasRole, live_type_imports, exports_used};
 ghost use Rattle.comp_worlds.specs.Uses.{used_by, all_imports};
 
 use crate::imported::imported;

@@ -4,8 +4,9 @@ ghost use Rattle.std.specs.Prelude.{◌≡◌, ◌<◌, length, get_or, IfOk};
 ghost use Rattle.std.specs.List.{AllByRecursion};
 ghost use Rattle.wit_data.specs.Sound.{IsSound, HasWorld};
 ghost use Rattle.comp_worlds.specs.Uses.{all_imports};
-ghost use Rattle.comp_worlds.specs.Mentions.{HasRole};
-ghost use Rattle.comp_worlds.specs.Worlds.{no_items, items_of, whole_of};
+ghost use Rattle.world_values.specs.Mentions.{HasRole};
+ghost use Rattle.world_values.specs.Items.{no_items};
+ghost use Rattle.comp_worlds.specs.Worlds.{items_of, whole_of};
 
 use crate::lowerings::ImportedInterface;
 use crate::tables::{Tables, tables_of};

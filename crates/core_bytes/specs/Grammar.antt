@@ -1,19 +1,11 @@
 -- The types, the instructions and the entries of core modules as bytes, form by form.
 -- Core standard, binary format: types, instructions, modules, with typed function references and tail calls. The
 -- names next to the definitions are those of its grammar.
-use Rattle.std.specs.Prelude.{ℕ, List, Option, Some, None}
-use Rattle.byte_encoding.specs.Encoding.{Encoding, ◌⊕◌, raw, octet, number, signed_leb, each, listed, named, sized}
+use Rattle.std.specs.Prelude.{List, Some, None}
+use Rattle.byte_encoding.specs.Encoding.{Encoding, ◌⊕◌, raw, octet, number, each, listed, named, sized}
 use Rattle.standard_kinds.specs.Bytes.{kind_byte}
-use Rattle.byte_encoding.specs.Encoding.{flag}
+use Rattle.core_types.specs.Grammar.{value_type, table_type, memory_type, global_type}
 use Rattle.core_bytes.specs.Signed.{signed}
-use Rattle.core_types.specs.declared.types.RefType.{RefType}
-use Rattle.core_types.specs.declared.types.RefType.TheVariants as references
-use Rattle.core_types.specs.declared.types.ValType.{ValType}
-use Rattle.core_types.specs.declared.types.ValType.TheVariants as values
-use Rattle.core_types.specs.declared.types.FuncType.{FuncType}
-use Rattle.core_types.specs.declared.types.GlobalType.{GlobalType}
-use Rattle.core_types.specs.declared.types.TableType.{TableType}
-use Rattle.core_types.specs.declared.types.MemoryType.{MemoryType}
 use Rattle.core_bytes.specs.declared.entity.EntityType.{EntityType}
 use Rattle.core_bytes.specs.declared.entity.EntityType.TheVariants as entities
 use Rattle.core_bytes.specs.declared.entity.ConstExpr.{ConstExpr}

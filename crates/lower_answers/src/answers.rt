@@ -3,9 +3,10 @@
 ghost use Rattle.std.specs.Prelude.{IsSome};
 
 use comp_lists::{Bytes, Keyed, Seq};
-use comp_worlds::{EncoderOptions, ExportKey, Gathered, Lower, Merged, Part};
+use comp_worlds::Lower;
 use std::alloc::{AllocError, Global};
 use std::fmt;
+use world_values::{EncoderOptions, ExportKey, Gathered, Merged, Part};
 
 /// The call that refuses a module, with its fault, or that none does.
 #[derive(Drop)]

@@ -7,8 +7,8 @@ use Rattle.std.proofs.lemmas.List.{append-nil}
 use Rattle.core_types.specs.Core.{IsCoreModule}
 use Rattle.comp_roles.specs.CoreImports.{CoreImport, imports_from}
 use Rattle.comp_roles.specs.declared.exports.Export.{Export}
-use Rattle.comp_worlds.specs.Mentions.{HasRole}
-use Rattle.comp_worlds.specs.declared.gathered.Part.{Part}
+use Rattle.world_values.specs.Mentions.{HasRole}
+use Rattle.world_values.specs.declared.gathered.Part.{Part}
 use Rattle.comp_worlds.specs.declared.world.ComponentWorld.{ComponentWorld}
 use Rattle.comp_worlds.specs.declared.world.WorldParts.{WorldParts}
 use Rattle.core_sections.specs.declared.core_module.CoreModule.{CoreModule}

@@ -3,7 +3,7 @@ use Rattle.std.proofs.Common.{arith, true≢false, ◌≡◌, Bool, List, [], �
 use Rattle.std.specs.Prelude.{◌≢◌, get_or, IfOk, IfErr, IsOk}
 use Rattle.std.specs.List.{AllByRecursion}
 use Rattle.wit_data.specs.declared.worlds.World.{World}
-use Rattle.comp_worlds.specs.Worlds.{no_items}
+use Rattle.world_values.specs.Items.{no_items}
 use Rattle.record_faults.specs.declared.fault.Failure.{Failure}
 use Rattle.record_faults.specs.declared.fault.Failure.TheVariants as failures
 use Rattle.record_faults.specs.declared.fault.PlainFault.{PlainFault}

@@ -3,8 +3,8 @@ use Rattle.std.proofs.Common.{◌≡◌, arith, ◌&&◌, ◌||◌, ℕ, Bool, t
 use Rattle.std.specs.Prelude.{◌≢◌, ⊤, Contains, is_some, not, codes, if◌then◌else◌}
 use Rattle.std.specs.List.{list_any}
 use Rattle.std.proofs.lemmas.List.Elements.{Contains-append_right}
-use Rattle.comp_worlds.specs.declared.gathered.Gathered.{Gathered}
-use Rattle.comp_worlds.specs.declared.gathered.GatheredAdapter.{GatheredAdapter}
+use Rattle.world_values.specs.declared.gathered.Gathered.{Gathered}
+use Rattle.world_values.specs.declared.gathered.GatheredAdapter.{GatheredAdapter}
 use Rattle.record_merge.specs.declared.bindgen.Bindgen.{Bindgen}
 use Rattle.record_faults.specs.declared.fault.Failure.{Failure}
 use Rattle.record_faults.specs.declared.fault.Failure.TheVariants as failures

@@ -2,8 +2,8 @@
 use Rattle.std.proofs.Common.{take, ◌≡◌, ℕ, List, Option, Some, None, Result, Ok, Err, refl, ap, subst, ◌∙◌}
 use Rattle.std.specs.Prelude.{◌≢◌, ⊤, IfErr, IsOk, IsSome}
 use Rattle.core_types.specs.Core.{IsCoreModule}
-use Rattle.comp_worlds.specs.declared.gathered.Gathered.{Gathered}
-use Rattle.comp_worlds.specs.declared.gathered.Part.{Part}
+use Rattle.world_values.specs.declared.gathered.Gathered.{Gathered}
+use Rattle.world_values.specs.declared.gathered.Part.{Part}
 use Rattle.comp_worlds.specs.declared.world.ComponentWorld.{ComponentWorld}
 use Rattle.core_sections.specs.declared.core_module.CoreModule.{CoreModule}
 use Rattle.core_sections.specs.declared.fault.SectionFault.{SectionFault}

@@ -3,9 +3,9 @@
 use Rattle.std.specs.Prelude.{◌≡◌, ℕ, Bool, true, List, [], ◌++◌, Some, None, Ok, Err, Contains, IsTrue, codes}
 use Rattle.std.specs.List.{AllZip}
 use Rattle.comp_roles.specs.declared.exports.Export.{Export}
-use Rattle.comp_worlds.specs.declared.gathered.Gathered.{Gathered}
-use Rattle.comp_worlds.specs.declared.gathered.GatheredAdapter.{GatheredAdapter}
-use Rattle.comp_worlds.specs.declared.gathered.Part.{Part}
+use Rattle.world_values.specs.declared.gathered.Gathered.{Gathered}
+use Rattle.world_values.specs.declared.gathered.GatheredAdapter.{GatheredAdapter}
+use Rattle.world_values.specs.declared.gathered.Part.{Part}
 use Rattle.core_sections.specs.Sections.{Piece, preamble}
 use Rattle.core_sections.specs.Stripping.{removed, is_package}
 use Rattle.core_sections.specs.Grammar.{IsModule, IsCutAt}

@@ -2,8 +2,8 @@
 -- own.)
 use Rattle.std.specs.Prelude.{ℕ, Bool, true, false, List, [], ◌∷◌}
 use Rattle.std.specs.Result.{result_unwrap_or}
-use Rattle.comp_worlds.specs.declared.gathered.Gathered.{Gathered}
-use Rattle.comp_worlds.specs.declared.gathered.Merged.{Merged}
+use Rattle.world_values.specs.declared.gathered.Gathered.{Gathered}
+use Rattle.world_values.specs.declared.gathered.Merged.{Merged}
 use Rattle.comp_worlds.specs.Worlds.{whole_of}
 use Rattle.comp_worlds.specs.declared.world.ComponentWorld.{ComponentWorld}
 use Rattle.record_faults.specs.declared.fault.PlainFault.{PlainFault}

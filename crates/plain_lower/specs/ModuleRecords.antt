@@ -1,6 +1,6 @@
 -- What the records of a module say, and what several modules say of their world. (This project's own.)
 use Rattle.std.specs.Prelude.{ℕ, List, [], ◌∷◌, Result, Ok}
-use Rattle.comp_worlds.specs.declared.gathered.Merged.{Merged}
+use Rattle.world_values.specs.declared.gathered.Merged.{Merged}
 use Rattle.core_sections.specs.Stripping.{stripped}
 use Rattle.json_paths.specs.declared.fault.Failure.{Failure as RecordFailure}
 use Rattle.json_paths.specs.Faults.{◌>>=◌ as ◌>>>=◌}

@@ -9,9 +9,9 @@ use Rattle.wit_data.specs.declared.worlds.WorldKey.{WorldKey}
 use Rattle.comp_roles.specs.declared.exports.Export.{Export}
 use Rattle.comp_roles.specs.declared.imports.ImportInstance.{ImportInstance}
 use Rattle.comp_roles.specs.declared.offered.ExternType.{ExternType}
-use Rattle.comp_worlds.specs.declared.gathered.Part.{Part}
-use Rattle.comp_worlds.specs.declared.gathered.Gathered.{Gathered}
-use Rattle.comp_worlds.specs.declared.gathered.GatheredAdapter.{GatheredAdapter}
+use Rattle.world_values.specs.declared.gathered.Part.{Part}
+use Rattle.world_values.specs.declared.gathered.Gathered.{Gathered}
+use Rattle.world_values.specs.declared.gathered.GatheredAdapter.{GatheredAdapter}
 use Rattle.comp_worlds.specs.declared.world.ComponentWorld.{ComponentWorld}
 use Rattle.comp_roles.specs.declared.metadata.ModuleMetadata.{ModuleMetadata}
 use Rattle.wit_data.specs.declared.resolve.Resolve.{Resolve}

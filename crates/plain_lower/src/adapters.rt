@@ -7,10 +7,10 @@ ghost use Rattle.record_faults.specs.declared.fault.Failure.TheVariants as failu
 ghost use Rattle.plain_lower.specs.Preparing.{left_out, is_plain, none_there, adapters_pass};
 
 use comp_lists::{Keyed, Text};
-use comp_worlds::GatheredAdapter;
 use record_faults::{Failure, Refusal};
 use record_merge::Bindgen;
 use std::alloc::Global;
+use world_values::GatheredAdapter;
 
 /// The refusal of what is not encoded yet.
 fn left_out<T>(alloc: Global, what: &str) -> Result<T, Failure>

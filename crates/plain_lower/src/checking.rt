@@ -14,15 +14,15 @@ ghost use Rattle.plain_lower.specs.Causes.{ExportsCause, RolesCause};
 
 use comp_lists::{Keyed, Seq, Text};
 use comp_roles::{Export, ImportMap};
-use comp_worlds::Part;
 use core_sections::CoreModule;
-use record_faults::Failure;
 use record_exports::{read_exports, require_all};
+use record_faults::Failure;
 use record_imports::read_imports;
 use record_merge::Bindgen;
 use record_resolve::Resolved;
 use std::alloc::Global;
 use wit_data::WorldKey;
+use world_values::Part;
 
 /// The roles of main's core imports and exports, and the keys of the exports that are required of it.
 #[derive(Drop)]

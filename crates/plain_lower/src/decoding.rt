@@ -10,14 +10,14 @@ ghost use Rattle.json_paths.specs.Faults.{Gives as GivesRecord};
 ghost use Rattle.plain_lower.specs.ModuleRecords.{records_in, said_in, decoding, merging};
 
 use comp_lists::{Bytes, Seq};
-use comp_worlds::Merged;
 use core_sections::strip;
+use json_paths::Failure as RecordFailure;
 use record_faults::Failure;
 use record_merge::{Bindgen, bindgen_of};
-use json_paths::Failure as RecordFailure;
 use record_roles::read_record;
 use record_values::Record;
 use std::alloc::Global;
+use world_values::Merged;
 
 /// The records that texts encode.
 fn read_records(alloc: Global, texts: &[&[u8]]) -> Result<Seq<Record>, RecordFailure>

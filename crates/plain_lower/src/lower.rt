@@ -5,10 +5,11 @@ ghost use Rattle.std.specs.Prelude.{◌≡◌};
 use crate::decoding::{decode, merge};
 use crate::preparing::prepare;
 use comp_lists::Bytes;
-use comp_worlds::{ComponentWorld, Gathered, Lower, Merged};
+use comp_worlds::{ComponentWorld, Lower};
 use record_faults::PlainFault;
 use record_merge::{Bindgen, no_bindgen};
 use std::alloc::Global;
+use world_values::{Gathered, Merged};
 
 /// A lower layer by records: the component of a module is described as JSON in the custom sections
 /// whose name begins `component-type`.

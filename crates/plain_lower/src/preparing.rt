@@ -16,20 +16,21 @@ ghost use Rattle.plain_lower.specs.Guarantees.{IsUsable, AreChecked};
 ghost use Rattle.plain_lower.specs.Causes.{CoreCause, MainCause, PrepareCause};
 
 use crate::adapters::refuse_adapters;
-use crate::combined::resolve_combined;
 use crate::checking::{CheckedRoles, check_roles};
+use crate::combined::resolve_combined;
 use comp_lists::{Bytes, Keyed, Text};
 use comp_roles::{ExportMap, ExternType, ModuleMetadata};
-use comp_worlds::{ComponentWorld, Gathered, Part, ValidatedModule, WorldParts};
+use comp_worlds::{ComponentWorld, ValidatedModule, WorldParts};
 use core_sections::{CoreModule, read_module};
-use supported_worlds::encoded_world;
+use record_core_types::offered;
 use record_faults::{Failure, Refusal};
 use record_merge::Bindgen;
-use record_role_targets::resolved_metadata;
-use record_core_types::offered;
 use record_resolve::Resolved;
+use record_role_targets::resolved_metadata;
 use std::alloc::{AllocError, Global};
+use supported_worlds::encoded_world;
 use wit_data::{Resolve, WorldId};
+use world_values::{Gathered, Part};
 
 /// What a module has besides its roles: its bytes, what it offers, and its string encodings.
 type Own = (Bytes, Keyed<Text, ExternType>, ModuleMetadata);

@@ -12,7 +12,7 @@ use Rattle.comp_roles.specs.declared.exports.Export.{Export}
 use Rattle.comp_roles.specs.declared.exports.Export.TheVariants as exports
 use Rattle.comp_roles.specs.declared.imports.Import.{Import}
 use Rattle.comp_roles.specs.declared.imports.Import.TheVariants as imports
-use Rattle.comp_worlds.specs.Worlds.{no_items, root_export}
+use Rattle.world_values.specs.Items.{no_items, root_export}
 use Rattle.record_core_types.specs.Asked.{imported_function, exported_function}
 
 -- the world imports the root function of an import's role, under its own name

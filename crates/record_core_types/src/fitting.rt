@@ -5,7 +5,7 @@ ghost use Rattle.std.specs.Option.{option_copied};
 ghost use Rattle.wit_data.specs.Signatures.{signature};
 ghost use Rattle.wit_data.specs.Sound.{IsSound, HasFunction};
 ghost use Rattle.wit_data.specs.declared.functions.AbiVariant.TheVariants.{GuestImport};
-ghost use Rattle.comp_worlds.specs.Mentions.{HasReturned};
+ghost use Rattle.world_values.specs.Mentions.{HasReturned};
 ghost use Rattle.record_core_types.specs.Asked.{number, called, post_return, returning, expected_import, expected_export};
 ghost use Rattle.record_core_types.specs.Shapes.{shape_type};
 ghost use Rattle.record_core_types.specs.Fitting.{are_same, is_same, is_asked, function_type, is_memory, fits_import, fits_export, HasFound};

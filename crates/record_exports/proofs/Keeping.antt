@@ -23,10 +23,10 @@ use Rattle.wit_data.specs.declared.worlds.WorldKey.TheVariants as keys
 use Rattle.comp_roles.specs.Functions.{is_same_function}
 use Rattle.comp_roles.specs.declared.exports.Export.TheVariants as exports
 use Rattle.comp_roles.specs.declared.metadata.FunctionKey.{FunctionKey}
-use Rattle.comp_worlds.specs.Mentions.{function_in}
-use Rattle.comp_worlds.specs.Worlds.{no_items, root_export}
-use Rattle.comp_worlds.specs.declared.gathered.ExportKey.{ExportKey}
-use Rattle.comp_worlds.specs.declared.gathered.ExportKey.TheVariants as export_keys
+use Rattle.world_values.specs.Mentions.{function_in}
+use Rattle.world_values.specs.Items.{no_items, root_export}
+use Rattle.world_values.specs.declared.gathered.ExportKey.{ExportKey}
+use Rattle.world_values.specs.declared.gathered.ExportKey.TheVariants as export_keys
 use Rattle.record_values.specs.declared.names.InterfaceName.TheVariants as names
 use Rattle.record_resolve.specs.declared.resolving.Resolved.{Resolved}
 use Rattle.record_role_targets.specs.declared.sides.Side.TheVariants as sides

@@ -9,8 +9,8 @@ use Rattle.wit_data.specs.declared.worlds.WorldKey.{WorldKey}
 use Rattle.comp_roles.specs.Functions.{is_same_function}
 use Rattle.comp_roles.specs.declared.exports.Export.{Export}
 use Rattle.comp_roles.specs.declared.metadata.FunctionKey.{FunctionKey}
-use Rattle.comp_worlds.specs.Tables.{with_all}
-use Rattle.comp_worlds.specs.declared.gathered.ExportKey.{ExportKey}
+use Rattle.world_values.specs.Tables.{with_all}
+use Rattle.world_values.specs.declared.gathered.ExportKey.{ExportKey}
 use Rattle.record_resolve.specs.declared.resolving.Resolved.{Resolved}
 use Rattle.record_role_targets.specs.Keys.{resolved_export_key}
 use Rattle.record_faults.specs.declared.fault.Failure.{Failure}

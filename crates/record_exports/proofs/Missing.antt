@@ -6,7 +6,7 @@ use Rattle.comp_lists.proofs.Lists.{AllByRecursion-contains}
 use Rattle.wit_data.specs.declared.functions.AbiVariant.{AbiVariant}
 use Rattle.wit_data.specs.declared.functions.AbiVariant.TheVariants as abis
 use Rattle.wit_data.specs.declared.worlds.WorldKey.{WorldKey}
-use Rattle.comp_worlds.specs.declared.gathered.ExportKey.{ExportKey}
+use Rattle.world_values.specs.declared.gathered.ExportKey.{ExportKey}
 use Rattle.record_resolve.specs.declared.resolving.Resolved.{Resolved}
 use Rattle.record_role_targets.specs.Keys.{resolved_export_key}
 use Rattle.record_faults.specs.declared.fault.Failure.{Failure}

@@ -17,7 +17,7 @@ use Rattle.wit_data.specs.declared.worlds.WorldKey.{WorldKey}
 use Rattle.wit_data.specs.declared.worlds.WorldKey.TheVariants as keys
 use Rattle.comp_roles.specs.declared.exports.Export.{Export}
 use Rattle.comp_roles.specs.declared.exports.Export.TheVariants as exports
-use Rattle.comp_worlds.specs.declared.gathered.ExportKey.TheVariants as required
+use Rattle.world_values.specs.declared.gathered.ExportKey.TheVariants as required
 use Rattle.record_values.specs.declared.names.InterfaceName.TheVariants as names
 use Rattle.record_values.specs.declared.names.Owner.TheVariants as owners
 use Rattle.record_values.specs.declared.roles.ExportRole.TheVariants as roles

@@ -8,7 +8,7 @@ use Rattle.wit_data.specs.declared.functions.AbiVariant.TheVariants.{GuestExport
 use Rattle.wit_data.specs.declared.worlds.WorldKey.{WorldKey}
 use Rattle.comp_roles.specs.declared.exports.Export.{Export}
 use Rattle.comp_roles.specs.declared.metadata.FunctionKey.{FunctionKey}
-use Rattle.comp_worlds.specs.declared.gathered.ExportKey.{ExportKey}
+use Rattle.world_values.specs.declared.gathered.ExportKey.{ExportKey}
 use Rattle.record_values.specs.declared.roles.ExportRole.{ExportRole}
 use Rattle.record_resolve.specs.declared.resolving.Resolved.{Resolved}
 use Rattle.record_role_targets.specs.Exports.{resolved_export}

@@ -1,7 +1,7 @@
 //! The functions of core exports.
 
 ghost use Rattle.std.specs.Prelude.{◌≡◌, [], IfOk, OnOk};
-ghost use Rattle.comp_worlds.specs.Tables.{with_all};
+ghost use Rattle.world_values.specs.Tables.{with_all};
 ghost use Rattle.comp_roles.specs.Functions.{is_same_function};
 ghost use Rattle.record_exports.specs.Functions.{function_key, lifted_function, at_root, post_return_function, callback_function, alone, lifted_functions, callbacks, known_by, IsOf};
 

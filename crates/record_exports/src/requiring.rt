@@ -4,7 +4,7 @@ ghost use Rattle.std.specs.Prelude.{◌≡◌, ◌≢◌, [], IfOk, IfErr, IsOk}
 ghost use Rattle.std.specs.List.{AllByRecursion};
 ghost use Rattle.std.specs.Option.{option_copied};
 ghost use Rattle.wit_data.specs.Sound.{IsSound};
-ghost use Rattle.comp_worlds.specs.Imported.{functions_of};
+ghost use Rattle.world_values.specs.Mentions.{functions_of};
 ghost use Rattle.record_role_targets.specs.Sides.{item_at};
 ghost use Rattle.record_role_targets.specs.declared.sides.Side.TheVariants as sides;
 ghost use Rattle.record_faults.specs.Faults.{Gives};
@@ -20,12 +20,12 @@ ghost use Rattle.record_exports.specs.Requiring.{missing, key_text, function_nam
 use crate::functions::{Functions, function_key};
 use comp_lists::{Keyed, Seq, Text};
 use comp_roles::{Export, FunctionKey};
-use comp_worlds::ExportKey;
 use record_faults::{Failure, Refusal};
-use record_role_targets::resolved_export_key;
 use record_resolve::Resolved;
+use record_role_targets::resolved_export_key;
 use std::alloc::Global;
 use wit_data::{AbiVariant, Function, InterfaceId, WorldItem, WorldKey};
+use world_values::ExportKey;
 
 /// The refusal that the export of this name is missing, or out of memory.
 fn missing(alloc: Global, name: &Text) -> Failure

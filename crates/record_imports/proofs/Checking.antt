@@ -34,7 +34,7 @@ use Rattle.record_role_targets.specs.Keys.{interface_key}
 use Rattle.record_role_targets.specs.Positions.{at_root, in_interface, position_of, function_at, function_position, resource_of}
 use Rattle.record_role_targets.specs.Payloads.{resolved_payload, payload_import}
 use Rattle.record_role_targets.specs.Imports.{memory_type, function_type, called, imported_drop, exported_drop, exported_rep, exported_new, task_return, intrinsic, resolved_import}
-use Rattle.comp_worlds.specs.Mentions.{HasReturned}
+use Rattle.world_values.specs.Mentions.{HasReturned}
 use Rattle.record_role_targets.specs.Named.{HasNamed}
 use Rattle.record_core_types.specs.Asked.{called as called_as, imported_function}
 use Rattle.record_core_types.specs.Fitting.{is_asked, function_type as type_of_function, fits_import}

@@ -15,7 +15,7 @@ use Rattle.comp_roles.specs.CoreImports.{CoreImport as CoreUse, imports_from}
 use Rattle.comp_roles.specs.Lookups.{field_imports}
 use Rattle.comp_roles.specs.declared.imports.Import.{Import}
 use Rattle.comp_roles.specs.declared.imports.ImportInstance.{ImportInstance}
-use Rattle.comp_worlds.specs.Mentions.{HasRole}
+use Rattle.world_values.specs.Mentions.{HasRole}
 use Rattle.record_core_types.specs.Guarantees.{IsCalled}
 use Rattle.record_faults.proofs.Chains.{equivalence}
 use Rattle.record_imports.specs.declared.grouping.Group.{Group}

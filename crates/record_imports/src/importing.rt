@@ -6,7 +6,7 @@ ghost use Rattle.std.specs.Map.{keys_of};
 ghost use Rattle.std.specs.Str.{bytes_eq};
 ghost use Rattle.wit_data.specs.Sound.{IsSound};
 ghost use Rattle.comp_roles.specs.CoreImports.{imports_from};
-ghost use Rattle.comp_worlds.specs.Mentions.{HasRole};
+ghost use Rattle.world_values.specs.Mentions.{HasRole};
 ghost use Rattle.record_core_types.specs.Guarantees.{IsCalled};
 ghost use Rattle.record_faults.specs.Faults.{Gives};
 ghost use Rattle.record_faults.specs.declared.fault.Refusal.{Refusal as RefusalRecord};

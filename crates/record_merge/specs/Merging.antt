@@ -4,9 +4,9 @@
 -- may be in both.
 use Rattle.std.specs.Prelude.{◌≡◌, Bool, List, Result, Ok, map}
 use Rattle.std.specs.Map.{lookup}
-use Rattle.comp_worlds.specs.declared.gathered.ExportKey.{ExportKey}
-use Rattle.comp_worlds.specs.declared.gathered.ExportKey.TheVariants as export_keys
-use Rattle.comp_worlds.specs.declared.gathered.Merged.{Merged}
+use Rattle.world_values.specs.declared.gathered.ExportKey.{ExportKey}
+use Rattle.world_values.specs.declared.gathered.ExportKey.TheVariants as export_keys
+use Rattle.world_values.specs.declared.gathered.Merged.{Merged}
 use Rattle.json_paths.specs.declared.fault.Failure.{Failure}
 use Rattle.json_paths.specs.Faults.{◌>>=◌}
 use Rattle.record_values.specs.declared.names.InterfaceName.{InterfaceName}

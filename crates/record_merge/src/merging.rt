@@ -10,10 +10,10 @@ ghost use Rattle.record_merge.specs.Tables.{conflict};
 use crate::bindgen::{Bindgen, empty_roles};
 use crate::tables::{add_all, add_apart, copy};
 use comp_lists::{Keyed, Seq};
-use comp_worlds::{ExportKey, Merged};
 use json_paths::Failure;
 use record_values::{Interface, Item, ItemKey, Wit};
 use std::alloc::{AllocError, Global};
+use world_values::{ExportKey, Merged};
 
 /// Adds to a world what another says.
 #[tactic(auto, unfolding(crate::specs::Merging::merged_wit), using(crate::proofs::Conflicts::of_interfaces, crate::proofs::Conflicts::of_imports, crate::proofs::Conflicts::of_exports))]

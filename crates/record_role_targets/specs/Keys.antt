@@ -8,8 +8,8 @@ use Rattle.wit_data.specs.declared.worlds.WorldItem.{WorldItem}
 use Rattle.wit_data.specs.declared.worlds.WorldItem.TheVariants as items
 use Rattle.wit_data.specs.declared.worlds.WorldKey.{WorldKey}
 use Rattle.wit_data.specs.declared.worlds.WorldKey.TheVariants as keys
-use Rattle.comp_worlds.specs.declared.gathered.ExportKey.{ExportKey}
-use Rattle.comp_worlds.specs.declared.gathered.ExportKey.TheVariants as required
+use Rattle.world_values.specs.declared.gathered.ExportKey.{ExportKey}
+use Rattle.world_values.specs.declared.gathered.ExportKey.TheVariants as required
 use Rattle.record_values.specs.declared.names.InterfaceName.TheVariants as names
 use Rattle.record_values.specs.declared.world.ItemKey.{ItemKey}
 use Rattle.record_values.specs.declared.world.ItemKey.TheVariants as item_keys

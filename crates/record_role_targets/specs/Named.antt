@@ -4,7 +4,7 @@ use Rattle.std.specs.Prelude.{Option, Some, None}
 use Rattle.wit_data.specs.Sound.{HasType}
 use Rattle.wit_data.specs.declared.resolve.Resolve.{Resolve}
 use Rattle.wit_data.specs.declared.types.Type.{«Type» as Ty}
-use Rattle.comp_worlds.specs.Mentions.{HasRole, HasReturned, payload_in, payload_type}
+use Rattle.world_values.specs.Mentions.{HasRole, HasReturned, payload_in, payload_type}
 use Rattle.comp_roles.specs.declared.imports.Import.{Import}
 use Rattle.comp_roles.specs.declared.payloads.PayloadInfo.{PayloadInfo}
 

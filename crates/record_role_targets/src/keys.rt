@@ -8,11 +8,11 @@ ghost use Rattle.record_values.specs.declared.world.ItemKey.TheVariants as item_
 
 use crate::sides::{Side, interface_keys, interface_of, item_at};
 use comp_lists::{Text, TryClone};
-use comp_worlds::ExportKey;
 use record_resolve::Resolved;
 use record_values::{InterfaceName, ItemKey};
 use std::alloc::{AllocError, Global};
 use wit_data::{InterfaceId, WorldItem, WorldKey};
+use world_values::ExportKey;
 
 fn existing(resolved: &Resolved, side: Side, key: WorldKey) -> Option<WorldKey>
     ensures { result ≡ existing side resolved.now key }

@@ -3,10 +3,10 @@ use Rattle.std.proofs.Common.{◌≡◌, ℕ, List, refl, subst, sym, take, inl,
 use Rattle.std.specs.Prelude.{⊤, codes}
 use Rattle.std.specs.List.{IsDistinct, AllByRecursion}
 use Rattle.std.specs.Str.{bytes_eq}
-use Rattle.comp_worlds.specs.declared.gathered.Gathered.{Gathered}
+use Rattle.world_values.specs.declared.gathered.Gathered.{Gathered}
 use Rattle.comp_worlds.specs.declared.world.ComponentWorld.{ComponentWorld}
 use Rattle.comp_worlds.specs.declared.world.WorldParts.{WorldParts}
-use Rattle.comp_worlds.specs.Mentions.{HasRole}
+use Rattle.world_values.specs.Mentions.{HasRole}
 use Rattle.comp_worlds.specs.Uses.{all_imports}
 use Rattle.core_types.specs.Core.{core_preamble}
 use Rattle.comp_worlds.specs.Worlds.{IsWorld}

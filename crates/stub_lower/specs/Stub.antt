@@ -1,7 +1,7 @@
 -- The results of the stub: the same world for every module. (For tests alone; no standard defines it.)
 use Rattle.std.specs.Prelude.{◌≡◌, ◌≢◌, ℕ, List, [], ◌∷◌, ⊤, Bool, true, false, None, ◌⊎◌, codes, take}
-use Rattle.comp_worlds.specs.declared.gathered.Gathered.{Gathered}
-use Rattle.comp_worlds.specs.declared.gathered.Merged.{Merged}
+use Rattle.world_values.specs.declared.gathered.Gathered.{Gathered}
+use Rattle.world_values.specs.declared.gathered.Merged.{Merged}
 use Rattle.comp_roles.specs.declared.imports.ImportMap.{ImportMap}
 use Rattle.comp_roles.specs.declared.imports.ImportInstance.TheVariants.{Names}
 use Rattle.comp_roles.specs.declared.imports.Import.{Import}

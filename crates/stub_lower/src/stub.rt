@@ -8,9 +8,10 @@ ghost use Rattle.stub_lower.specs.declared.stub.StubFault.TheVariants.{Memory};
 
 use crate::worlds::world;
 use comp_lists::{Bytes, Seq};
-use comp_worlds::{ComponentWorld, Gathered, Lower, Merged};
+use comp_worlds::{ComponentWorld, Lower};
 use std::alloc::{AllocError, Global};
 use thiserror::Error;
+use world_values::{Gathered, Merged};
 
 /// Why the stub refuses.
 #[derive(Clone, Copy, Debug, PartialEq, Eq, Error)]

@@ -29,8 +29,9 @@ use Rattle.comp_roles.specs.declared.imports.Import.{Import}
 use Rattle.comp_roles.specs.declared.imports.Import.TheVariants as imports
 use Rattle.comp_roles.specs.declared.imports.ImportInstance.{ImportInstance}
 use Rattle.comp_roles.specs.declared.imports.ImportInstance.TheVariants as instances
-use Rattle.comp_worlds.specs.Mentions.{function_in, root_function_at}
-use Rattle.comp_worlds.specs.Worlds.{no_items, root_function, core_name_of, IsWorld, IsPlain, IsItem, IsImportRole, IsImportGroup, IsExportRole, IsRequired, whole_of}
+use Rattle.world_values.specs.Mentions.{function_in, root_function_at}
+use Rattle.world_values.specs.Items.{no_items}
+use Rattle.comp_worlds.specs.Worlds.{root_function, core_name_of, IsWorld, IsPlain, IsItem, IsImportRole, IsImportGroup, IsExportRole, IsRequired, whole_of}
 use Rattle.comp_worlds.specs.declared.world.ComponentWorld.{ComponentWorld}
 use Rattle.comp_worlds.specs.declared.world.WorldParts.{WorldParts}
 use Rattle.record_core_types.specs.Asked.{imported_function, exported_function}

@@ -4,7 +4,7 @@ use Rattle.std.specs.List.{flat_map, AllByRecursion}
 use Rattle.core_types.specs.Core.{IsCoreModule}
 use Rattle.wit_data.specs.Sound.{IsSound}
 use Rattle.comp_roles.specs.CoreImports.{imports_from}
-use Rattle.comp_worlds.specs.Mentions.{HasRole}
+use Rattle.world_values.specs.Mentions.{HasRole}
 use Rattle.comp_worlds.specs.Uses.{all_imports}
 use Rattle.comp_worlds.specs.declared.world.WorldParts.{WorldParts}
 use Rattle.record_core_types.specs.Guarantees.{IsCalled, IsLifted, IsKept}

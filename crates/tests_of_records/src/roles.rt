@@ -5,7 +5,7 @@
 //! memory: a minimum, a maximum or `_`, and `narrow` or `wide`. The answer is `yes` or `no` for each type.
 
 ghost use Rattle.std.specs.Prelude.{IsTrue};
-ghost use Rattle.comp_worlds.specs.Mentions.{HasReturned};
+ghost use Rattle.world_values.specs.Mentions.{HasReturned};
 
 use crate::{exports, imports};
 use crate::cases::word_and_rest;

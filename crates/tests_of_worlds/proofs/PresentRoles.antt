@@ -6,7 +6,7 @@ use Rattle.comp_roles.specs.declared.imports.ImportMap.{ImportMap}
 use Rattle.comp_worlds.specs.declared.world.WorldAdapter.{WorldAdapter}
 use Rattle.comp_worlds.specs.declared.world.WorldParts.{WorldParts}
 use Rattle.comp_roles.specs.CoreImports.{imports_from}
-use Rattle.comp_worlds.specs.Mentions.{HasRole}
+use Rattle.world_values.specs.Mentions.{HasRole}
 use Rattle.comp_worlds.specs.Uses.{imports_of, all_imports}
 use Rattle.tests_of_worlds.specs.CoreImports.{core_imports}
 

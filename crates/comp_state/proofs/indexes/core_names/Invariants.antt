@@ -1,7 +1,7 @@
 use Rattle.std.proofs.Common.{◌≡◌, ◌++◌, ℕ, List}
 use Rattle.std.specs.List.{flat_map}
 use Rattle.comp_lists.specs.Found.{found}
-use Rattle.comp_worlds.specs.Worlds.{root_export}
+use Rattle.world_values.specs.Items.{root_export}
 use Rattle.comp_state.proofs.indexes.core_names.Given as goal
 
 abbrev pub invariant-loop-name : goal.invariant-loop-name

@@ -1,7 +1,7 @@
 use Rattle.std.proofs.Common.{◌≡◌}
 use Rattle.std.specs.List.{flat_map, AllByRecursion}
 use Rattle.wit_data.specs.Sound.{HasEntry}
-use Rattle.comp_worlds.specs.Tables.{with_all}
+use Rattle.world_values.specs.Tables.{with_all}
 use Rattle.comp_worlds.specs.Uses.{used_in}
 use Rattle.comp_worlds.specs.Imported.{is_same_import_key, interface_entry, imported}
 use Rattle.comp_worlds.proofs.imported.imported.Given as goal

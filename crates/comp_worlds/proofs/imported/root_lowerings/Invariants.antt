@@ -2,7 +2,7 @@ use Rattle.std.proofs.Common.{◌≡◌, []}
 use Rattle.std.specs.List.{flat_map, AllByRecursion}
 use Rattle.wit_data.specs.Sound.{HasEntry}
 use Rattle.comp_worlds.specs.Lowerings.{is_same_lowering}
-use Rattle.comp_worlds.specs.Tables.{with_all}
+use Rattle.world_values.specs.Tables.{with_all}
 use Rattle.comp_worlds.specs.Uses.{used_in}
 use Rattle.comp_worlds.specs.Imported.{root_lowerings}
 use Rattle.comp_worlds.proofs.imported.root_lowerings.Given as goal

@@ -1,7 +1,7 @@
 use Rattle.std.proofs.Common.{◌≡◌, ◌++◌}
 use Rattle.std.specs.List.{flat_map, AllByRecursion}
 use Rattle.wit_data.specs.Sound.{HasEntry}
-use Rattle.comp_worlds.specs.Mentions.{export_types}
+use Rattle.world_values.specs.Mentions.{export_types}
 use Rattle.comp_worlds.proofs.mentions.add_exports.Given as goal
 
 abbrev pub invariant-loop-item : goal.invariant-loop-item

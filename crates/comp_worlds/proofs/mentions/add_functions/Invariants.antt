@@ -1,6 +1,6 @@
 use Rattle.std.proofs.Common.{◌≡◌, ◌++◌}
 use Rattle.std.specs.List.{flat_map}
-use Rattle.comp_worlds.specs.Mentions.{function_types}
+use Rattle.world_values.specs.Mentions.{function_types}
 use Rattle.comp_worlds.proofs.mentions.add_functions.Given as goal
 
 abbrev pub invariant-loop-function : goal.invariant-loop-function

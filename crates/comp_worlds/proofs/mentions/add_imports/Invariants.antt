@@ -1,6 +1,6 @@
 use Rattle.std.proofs.Common.{◌≡◌, ◌++◌}
 use Rattle.std.specs.List.{flat_map}
-use Rattle.comp_worlds.specs.Mentions.{import_types}
+use Rattle.world_values.specs.Mentions.{import_types}
 use Rattle.comp_worlds.proofs.mentions.add_imports.Given as goal
 
 abbrev pub invariant-loop-item : goal.invariant-loop-item

@@ -1,7 +1,7 @@
 use Rattle.std.proofs.Common.{◌≡◌, ◌++◌, map, drop}
 use Rattle.std.specs.List.{flat_map}
 use Rattle.comp_roles.specs.Lookups.{core_import}
-use Rattle.comp_worlds.specs.Mentions.{role_types}
+use Rattle.world_values.specs.Mentions.{role_types}
 use Rattle.comp_worlds.proofs.mentions.add_roles.Given as goal
 
 abbrev pub invariant-loop-import : goal.invariant-loop-import

@@ -1,5 +1,5 @@
 use Rattle.std.proofs.Common.{◌≡◌, ◌++◌}
-use Rattle.comp_worlds.specs.Mentions.{interfaces_of}
+use Rattle.world_values.specs.Mentions.{interfaces_of}
 use Rattle.comp_worlds.proofs.reached.interfaces_of.Given as goal
 
 abbrev pub invariant-loop-item : goal.invariant-loop-item

@@ -1,6 +1,6 @@
 use Rattle.std.proofs.Common.{◌≡◌, [], drop, nat_eq, get_or, false}
-use Rattle.comp_worlds.specs.Tables.{with_all}
-use Rattle.comp_worlds.specs.Mentions.{owners_from}
+use Rattle.world_values.specs.Tables.{with_all}
+use Rattle.world_values.specs.Mentions.{owners_from}
 use Rattle.comp_worlds.proofs.reached.owners_of.Given as goal
 
 abbrev pub invariant-loop-n : goal.invariant-loop-n

@@ -1,8 +1,8 @@
 use Rattle.std.proofs.Common.{◌≡◌, []}
 use Rattle.std.specs.List.{flat_map, AllByRecursion}
 use Rattle.wit_data.specs.Sound.{HasEntry}
-use Rattle.comp_worlds.specs.Tables.{with_all}
-use Rattle.comp_worlds.specs.Mentions.{same_interface, used_entry}
+use Rattle.world_values.specs.Tables.{with_all}
+use Rattle.world_values.specs.Mentions.{same_interface, used_entry}
 use Rattle.comp_worlds.proofs.reached.used_among.Given as goal
 
 abbrev pub invariant-loop-item : goal.invariant-loop-item

@@ -1,6 +1,6 @@
 use Rattle.std.proofs.Common.{◌≡◌, [], map, drop}
 use Rattle.std.specs.List.{flat_map}
-use Rattle.comp_worlds.specs.Tables.{with_all}
+use Rattle.world_values.specs.Tables.{with_all}
 use Rattle.comp_roles.specs.Lookups.{core_import}
 use Rattle.comp_worlds.specs.Uses.{calls_in, is_same_call}
 use Rattle.comp_worlds.proofs.uses.calls_of.Given as goal

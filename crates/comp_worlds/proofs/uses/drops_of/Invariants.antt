@@ -1,6 +1,6 @@
 use Rattle.std.proofs.Common.{◌≡◌, [], map, drop, nat_eq}
 use Rattle.std.specs.List.{flat_map}
-use Rattle.comp_worlds.specs.Tables.{with_all}
+use Rattle.world_values.specs.Tables.{with_all}
 use Rattle.comp_roles.specs.Lookups.{core_import}
 use Rattle.comp_worlds.specs.Uses.{drops_in}
 use Rattle.comp_worlds.proofs.uses.drops_of.Given as goal

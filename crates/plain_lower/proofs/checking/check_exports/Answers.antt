@@ -1,5 +1,5 @@
 use Rattle.std.proofs.Common.{List, subst}
-use Rattle.comp_worlds.specs.declared.gathered.ExportKey.{ExportKey}
+use Rattle.world_values.specs.declared.gathered.ExportKey.{ExportKey}
 use Rattle.record_exports.specs.Causes.{RequiredCause}
 use Rattle.plain_lower.specs.Causes.{ExportsCause, unfit, missing}
 use Rattle.plain_lower.proofs.CheckingCauses.{handed_out}

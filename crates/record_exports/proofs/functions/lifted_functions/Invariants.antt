@@ -1,6 +1,6 @@
 use Rattle.std.proofs.Common.{◌≡◌, []}
 use Rattle.comp_roles.specs.Functions.{is_same_function}
-use Rattle.comp_worlds.specs.Tables.{with_all}
+use Rattle.world_values.specs.Tables.{with_all}
 use Rattle.record_exports.specs.Functions.{lifted_functions}
 use Rattle.record_exports.proofs.functions.lifted_functions.Given as goal
 

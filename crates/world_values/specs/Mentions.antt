@@ -1,11 +1,11 @@
 -- The types that functions, interfaces and core imports name, and the tables that follow from them (component model,
 -- binary format: an instance type declares each type that its functions and types name).
-use Rattle.std.specs.Prelude.{ℕ, suc, Bool, true, false, ◌&&◌, ◌==◌, not, if◌then◌else◌, List, [], ◌∷◌, ◌++◌, map, filter, Option, Some, None, is_some}
+use Rattle.std.specs.Prelude.{ℕ, suc, Bool, ◌&&◌, ◌==◌, not, if◌then◌else◌, List, [], ◌∷◌, ◌++◌, map, filter, Option, Some, None, is_some, unwrap_or, option_map, slice_get}
 use Rattle.std.specs.List.{flat_map, filter_map}
 use Rattle.std.specs.Map.{lookup}
 use Rattle.std.specs.Option.{option_and_then}
 use Rattle.comp_lists.specs.Found.{found}
-use Rattle.comp_worlds.specs.Tables.{with_all}
+use Rattle.world_values.specs.Tables.{with_all}
 use Rattle.wit_data.specs.Keys.{is_same_key}
 use Rattle.wit_data.specs.Live.{is_live, named_types}
 use Rattle.wit_data.specs.Sound.{HasType, HasTypeId, HasFunction}
@@ -25,7 +25,6 @@ use Rattle.wit_data.specs.declared.worlds.WorldItem.{WorldItem}
 use Rattle.wit_data.specs.declared.worlds.WorldItem.TheVariants as items
 use Rattle.wit_data.specs.declared.worlds.WorldKey.{WorldKey}
 use Rattle.wit_data.specs.contracts.ids.InterfaceIdPartialEq.TheImpl as same_id
-use Rattle.comp_worlds.specs.Imported.{functions_of}
 use Rattle.comp_roles.specs.CoreImports.{CoreImport}
 use Rattle.comp_roles.specs.declared.imports.Import.{Import}
 use Rattle.comp_roles.specs.declared.imports.Import.TheVariants as imports
@@ -56,6 +55,10 @@ function_types f = at_most_one (resource_of f.kind) ++ (map (λ p. p.ty) f.param
 abbrev pub types_of_function : Option Function → List Ty
 types_of_function None = []
 types_of_function (Some f) = function_types f
+
+-- the functions of an interface by name, in its order
+abbrev pub functions_of : Resolve → InterfaceId → List (List ℕ × Function)
+functions_of r id = unwrap_or (option_map (λ i. i.functions) (slice_get r.interfaces id.index)) []
 
 -- an interface: its types, and what its functions name
 abbrev pub interface_types : Resolve → InterfaceId → List Ty
