@@ -160,7 +160,7 @@ class Merged:
             self.texts[file] = "\n".join(lines)
 
     def original(self, file, line):
-        """The line of the unedited file that a line of the batch's stands for."""
+        """The line of the unedited file for a line of the batch's."""
         shift = 0
         for start, end, new in sorted(self.replaced.get(file, [])):
             if line > start + shift + len(new):
