@@ -56,7 +56,7 @@ fn add_called(
     ensures { OnOk result (table.new ≡ with_all is_same_lowering table.old (called_as (used_in uses.now) resolve.now.types key.now function.now abi)) }
 {
     let call = call_at(alloc, key, &function.name, abi)?;
-    if !uses.calls.contains(&call) {
+    if !uses.calls.contains_key(&call) {
         return Ok(());
     }
     let lowering = lowering_of(alloc, resolve, function, abi, uses.shares_memory)?;
@@ -107,7 +107,7 @@ fn add_drop(
 ) -> Result<(), AllocError>
     ensures { OnOk result (table.new ≡ with_all is_same_lowering table.old (drop_lowerings (used_in uses.now) name.now id)) }
 {
-    if !uses.drops.contains(&id.index) {
+    if !uses.drops.contains_key(&id.index) {
         return Ok(());
     }
     let name = drop_name(alloc, name)?;
@@ -170,7 +170,7 @@ fn root_lowerings(
     ensures { IfOk result (λ t. t ≡ with_all is_same_lowering [] (flat_map (root_lowerings (used_in uses.now) resolve.now.types) entries.now)) }
 {
     let mut table = Keyed::new(alloc);
-    for (key, item) in entries.entries() {
+    for (key, item) in entries.iter() {
         add_root_item(alloc, &mut table, uses, resolve, key, item)?;
     }
     Ok(table)
@@ -186,7 +186,7 @@ fn add_drops(
 ) -> Result<(), AllocError>
     ensures { OnOk result (table.new ≡ with_all is_same_lowering table.old (flat_map (λ t. drop_lowerings (used_in uses.now) t.0 t.1) types.now)) }
 {
-    for (name, id) in types.entries() {
+    for (name, id) in types.iter() {
         add_drop(alloc, table, uses, name.as_str(), *id)?;
     }
     Ok(())
@@ -206,7 +206,7 @@ fn add_functions(
     requires all_present { AllByRecursion (λ f. HasFunction resolve.now f.1) functions.now }
     ensures { OnOk result (table.new ≡ with_all is_same_lowering table.old (flat_map (λ f. function_lowerings (used_in uses.now) resolve.now.types key.now f.1) functions.now)) }
 {
-    for (_, function) in functions.entries() {
+    for (_, function) in functions.iter() {
         add_function(alloc, table, uses, resolve, key, function)?;
     }
     Ok(())
@@ -287,7 +287,7 @@ pub(crate) fn imported(
 {
     let root = root_lowerings(alloc, uses, resolve, entries)?;
     let mut table = of_root(alloc, root)?;
-    for (key, item) in entries.entries() {
+    for (key, item) in entries.iter() {
         add_interface(alloc, &mut table, uses, resolve, key, item)?;
     }
     Ok(table)

@@ -78,7 +78,7 @@ fn add_function(list: &mut Vec<Type>, function: &Function) -> Result<(), AllocEr
 fn add_types(list: &mut Vec<Type>, types: &Keyed<Text, TypeId>) -> Result<(), AllocError>
     ensures { OnOk result (list.new.items ≡ list.old.items ++ map (λ t. Id t.1) types.now) }
 {
-    for (_, id) in types.entries() {
+    for (_, id) in types.iter() {
         list.push(Type::Id(*id))?;
     }
     Ok(())
@@ -89,7 +89,7 @@ fn add_types(list: &mut Vec<Type>, types: &Keyed<Text, TypeId>) -> Result<(), Al
 fn add_functions(list: &mut Vec<Type>, functions: &Keyed<Text, Function>) -> Result<(), AllocError>
     ensures { OnOk result (list.new.items ≡ list.old.items ++ flat_map (λ f. function_types f.1) functions.now) }
 {
-    for (_, function) in functions.entries() {
+    for (_, function) in functions.iter() {
         add_function(list, function)?;
     }
     Ok(())
@@ -229,7 +229,7 @@ fn add_roles(
 fn add_imports(list: &mut Vec<Type>, entries: &Keyed<WorldKey, WorldItem>) -> Result<(), AllocError>
     ensures { OnOk result (list.new.items ≡ list.old.items ++ flat_map (λ e. import_types e.1) entries.now) }
 {
-    for (_, item) in entries.entries() {
+    for (_, item) in entries.iter() {
         add_import(list, item)?;
     }
     Ok(())
@@ -269,7 +269,7 @@ fn add_exports(
     requires all_present { AllByRecursion (HasEntry resolve.now) entries.now }
     ensures { OnOk result (list.new.items ≡ list.old.items ++ flat_map (λ e. export_types resolve.now e.1) entries.now) }
 {
-    for (_, item) in entries.entries() {
+    for (_, item) in entries.iter() {
         add_export(list, resolve, item)?;
     }
     Ok(())

@@ -66,7 +66,7 @@ pub(crate) fn live_imports(
     ensures { IfOk result (λ t. t ≡ with_all same_interface [] (flat_map (λ e. live_entry (λ n. get_or marks.now n false) resolve.now e.1) entries.now)) }
 {
     let mut table = Keyed::new(alloc);
-    for (_, item) in entries.entries() {
+    for (_, item) in entries.iter() {
         add_live(alloc, &mut table, resolve, marks, item)?;
     }
     Ok(table)
@@ -90,7 +90,7 @@ fn interfaces_of(
     ensures { IfOk result (λ v. v.items ≡ interfaces_of entries.now) }
 {
     let mut list = Vec::new(alloc);
-    for (_, item) in entries.entries() {
+    for (_, item) in entries.iter() {
         if let Some(id) = interface_in(item) {
             list.push(id)?;
         }
@@ -151,7 +151,7 @@ fn owning(
 {
     let mut list = Vec::new(alloc);
     for other in all {
-        if owners.contains(&other.index) && other.index != id.index {
+        if owners.contains_key(&other.index) && other.index != id.index {
             list.push(*other)?;
         }
     }
@@ -237,7 +237,7 @@ fn used_among(
     ensures { IfOk result (λ t. t ≡ with_all same_interface [] (flat_map (λ e. used_entry resolve.now all.now e.1) entries.now)) }
 {
     let mut table = Keyed::new(alloc);
-    for (_, item) in entries.entries() {
+    for (_, item) in entries.iter() {
         add_used(alloc, &mut table, resolve, all, item)?;
     }
     Ok(table)

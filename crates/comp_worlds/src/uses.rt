@@ -112,7 +112,7 @@ pub(crate) fn all_imports<'a>(
 {
     let mut list = Vec::new(alloc);
     main.imports.add_imports(&mut list)?;
-    for (_, adapter) in adapters.entries() {
+    for (_, adapter) in adapters.iter() {
         adapter.info.imports.add_imports(&mut list)?;
     }
     Ok(list)

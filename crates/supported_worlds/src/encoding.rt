@@ -32,7 +32,7 @@ fn refused(alloc: Global, what: &str) -> Failure
 fn adapters_left_out(adapters: &Keyed<Text, WorldAdapter>) -> Option<&'static str>
     ensures { option_copied result ≡ adapters_left_out adapters.now }
 {
-    let mut entries = adapters.entries();
+    let mut entries = adapters.iter();
     match entries.next() {
         Some(_) => Some("adapter"),
         None => None,
