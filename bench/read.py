@@ -58,5 +58,5 @@ for count in (1000, 10000):
         file.write(importing(count))
     new = timed([program, "new", made, main])
     checked = timed([program, "new", made, main, "--validate"])
-    told = timed([program, "defs", made])
-    print(f"{count:7} {new:10.4f} {checked:12.4f} {told:9.4f} {checked / new:15.2f} {told / new:10.2f}")
+    printed = timed([program, "defs", made])
+    print(f"{count:7} {new:10.4f} {checked:12.4f} {printed:9.4f} {checked / new:15.2f} {printed / new:10.2f}")

@@ -79,18 +79,18 @@ def unnamed_types(count):
 
 
 def compatible_versions(count):
-    """Interfaces that name a type of an old version, of which a newer one stands behind them."""
+    """Interfaces that name a type of an old version, of which a newer one follows."""
     old = {"name": "t", "type": "u32"}
     using = [{"name": "f", "params": [["p", {"ref": [0, "t"]}]]}]
     interfaces = [interface("a:b/c@1.0.0", (), [old])]
     interfaces += [interface(f"a:b/i{n}@1.0.0", using) for n in range(count)]
     interfaces += [interface("a:b/c@1.0.1", (), [old])]
-    imports = [{"interface": place} for place in range(len(interfaces))]
+    imports = [{"interface": index} for index in range(len(interfaces))]
     return module({"interfaces": interfaces, "imports": imports})
 
 
-def told(command):
-    """What a run says on standard error."""
+def printed_fault(command):
+    """What a run prints on standard error."""
     return subprocess.run(command, capture_output=True, text=True, check=False).stderr.strip()
 
 
@@ -106,7 +106,7 @@ for make in (
     for count in (1000, 10000):
         with open(main, "wb") as file:
             file.write(make(count))
-        said = told([program, "new", made, main])
+        said = printed_fault([program, "new", made, main])
         if said and not said.startswith("error: E3 Lower: P8 LeftOut"):
             sys.exit(f"{make.__name__}: {said}")
         seconds.append(timed([program, "new", made, main], check=False))

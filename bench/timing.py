@@ -26,11 +26,11 @@ def timed(command, check=True):
 
 def peak(command, folder):
     """Peak memory of a run in MiB, as /usr/bin/time tells it."""
-    told = os.path.join(folder, "peak")
+    peak = os.path.join(folder, "peak")
     subprocess.run(
-        ["/usr/bin/time", "-f", "%M", "-o", told] + command, check=True, stdout=subprocess.DEVNULL
+        ["/usr/bin/time", "-f", "%M", "-o", peak] + command, check=True, stdout=subprocess.DEVNULL
     )
-    with open(told) as file:
+    with open(peak) as file:
         return int(file.read()) / 1024
 
 

@@ -1,4 +1,4 @@
-"""The functions of Rattle sources, as texts: where each stands, and what a check calls it."""
+"""The functions of Rattle sources, as texts: where each is, and what a check calls it."""
 import dataclasses
 import json
 import re

@@ -58,7 +58,7 @@ is_done() {
 refuse_each() {
     line=$1
     shift
-    told=0 spared=0
+    reported=0 spared=0
     at=$first
     while :; do
         rm -f "$made" "$folder/met"
@@ -68,7 +68,7 @@ refuse_each() {
             [ -e "$folder/met" ] || break
             spared=$((spared + 1))
         elif [ "$status" -eq 1 ] && grep -qx "$line" "$folder/said" && [ ! -e "$made" ] && [ ! -s "$folder/out" ]; then
-            told=$((told + 1))
+            reported=$((reported + 1))
         else
             echo "FAILED: $1, allocation $at: status $status, said:"
             cat "$folder/said" "$folder/out"
@@ -76,13 +76,13 @@ refuse_each() {
         fi
         at=$((at + step))
     done
-    echo "$1: of the allocations, refused one at a time, $told were told as want of memory, with nothing put or printed, and $spared could be spared"
+    echo "$1: of the allocations, refused one at a time, $reported were reported as out of memory, with nothing written or printed, and $spared had no effect"
 }
 
 refuse_each 'error: E1 Memory' new "$made" "$main"
 refuse_each 'error: E1 Memory' new "$made" "$main" --validate
 # A module with all roles of core imports and exports, whose world isn't encoded yet.
-sed -n '1s/.* <- //p' "$top/crates/tell_records/data/roles.txt" | xxd -r -p >"$folder/roles.wasm"
+sed -n '1s/.* <- //p' "$top/crates/record_cases/data/roles.txt" | xxd -r -p >"$folder/roles.wasm"
 ends='error: E3 Lower: P8 LeftOut what="interface"'
 refuse_each 'error: E1 Memory' new "$made" "$folder/roles.wasm"
 ends=

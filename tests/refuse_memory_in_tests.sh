@@ -1,7 +1,7 @@
 #!/bin/sh
 # Refuses each allocation of each test of some crates in turn: the first, the second and so on, until a run
-# of the test makes fewer. A run either passes, where the test could do without, or ends in a told want of
-# memory: at an `expect` (`memory: AllocError`, or `AllocFailed`), or with the fault `error: "memory"`, or with
+# of the test makes fewer. A run either passes, where the test could do without, or ends in a report that memory
+# ran out: at an `expect` (`memory: AllocError`, or `AllocFailed`), or with the fault `error: "memory"`, or with
 # that of the allocator. Any other end, as an answer that differs, is a failure. Prints how many runs there were of each.
 #
 # refuse_memory_in_tests.sh CRATE[::MODULE]..: the tests of a crate, or of one module of it. Needs `rt` and `cc`
@@ -24,7 +24,7 @@ refuse_each() {
             [ -e "$folder/met" ] || break
             spared=$((spared + 1))
         elif grep -Eq '^(memory: Alloc(Error|Failed)|error: ("memory"|AllocError|AllocFailed))' "$folder/said"; then
-            told=$((told + 1))
+            reported=$((reported + 1))
         else
             echo "FAILED: $1, $2, allocation $at: status $status, said:"
             cat "$folder/said"
@@ -41,9 +41,9 @@ for given in "$@"; do
     cd "$top/crates/$crate"
     rt test >"$folder/build" 2>&1 || { cat "$folder/build"; exit 1; }
     "out/${crate}_tests" --list | sed -n "s/^\(${only:+$only::}.*\): test\$/\1/p" >"$folder/tests"
-    told=0 spared=0
+    reported=0 spared=0
     while read -r test; do
         refuse_each "$crate" "$test"
     done <"$folder/tests"
-    echo "$given: $(wc -l <"$folder/tests") tests; of the allocations, refused one at a time, $told were told as want of memory, and $spared could be spared"
+    echo "$given: $(wc -l <"$folder/tests") tests; of the allocations, refused one at a time, $reported were reported as out of memory, and $spared had no effect"
 done

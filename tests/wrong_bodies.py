@@ -15,7 +15,7 @@ With --after-ci, which the test command gives, the libraries that `rt ci` left a
 batch are proved from nothing, and only those of wrong/ are tried: `rt ci` has tried the others.
 The last line is 'N passed, M failed', and the exit status is 1 where M is not 0.
 
-Written for the kit rattle-kit-13b: how a crate is checked is taken from its rtlib.py, and the form of the lines that a
+Written for the kit rattle-kit-13f: how a crate is checked is taken from its rtlib.py, and the form of the lines that a
 check prints from its rattle.
 """
 import argparse
@@ -160,7 +160,7 @@ class Merged:
             self.texts[file] = "\n".join(lines)
 
     def original(self, file, line):
-        """The line of the unedited file that a line of the batch's stands for."""
+        """The line of the unedited file for a line of the batch's."""
         shift = 0
         for start, end, new in sorted(self.replaced.get(file, [])):
             if line > start + shift + len(new):

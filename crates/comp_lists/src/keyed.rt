@@ -52,14 +52,14 @@ impl<K: Eq + Hash, V> Keyed<K, V> {
     }
 
     /// Whether there is an entry of a key.
-    pub fn contains(&self, key: &K) -> bool
+    pub fn contains_key(&self, key: &K) -> bool
         ensures { result ≡ is_some (lookup (K.eq key.now) self.now) }
     {
         self.get(key).is_some()
     }
 
     /// The entries, in order.
-    pub fn entries(&self) -> Iter<'_, K, V>
+    pub fn iter(&self) -> Iter<'_, K, V>
         ensures rest { result ≡ self.now }
         ensures runs { ShowsInOrder (deref_pair {K = K} {X = V}) }
         ensures unique { IsDistinct K.eq (keys_of self.now) }
@@ -71,7 +71,7 @@ impl<K: Eq + Hash, V> Keyed<K, V> {
 impl<K: Eq + Hash + Drop, V: Drop> Keyed<K, V> {
     /// Adds an entry whose key the table lacks. Where memory is refused, the table is as it was.
     #[tactic(auto, using(crate::proofs::TableLemmas::grows))]
-    pub fn add(&mut self, key: K, value: V) -> Result<(), AllocError>
+    pub fn insert(&mut self, key: K, value: V) -> Result<(), AllocError>
         requires { lookup (K.eq key) self.old ≡ None }
         ensures ok { OnOk result (self.new ≡ self.old ++ (key, value) ∷ []) }
         ensures err { OnErr result (self.new ≡ self.old) }
@@ -86,9 +86,9 @@ impl<K: Eq + Hash + Drop, V: Drop> Keyed<K, V> {
         ensures ok { OnOk result (self.new ≡ with_first K.eq self.old key value) }
         ensures err { OnErr result (self.new ≡ self.old) }
     {
-        if self.contains(&key) {
+        if self.contains_key(&key) {
             return Ok(());
         }
-        self.add(key, value)
+        self.insert(key, value)
     }
 }

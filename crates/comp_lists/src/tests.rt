@@ -46,7 +46,7 @@ fn found_by_copy(alloc: Global, name: Text) -> Result<Option<u32>, AllocError> {
 fn texts_are_keys(rt: HostRuntime) {
     let alloc = rt.alloc();
     let name = Text::from_string(String::from_str(alloc, "f").expect(&rt, "memory"));
-    assert!(rt; name.is("f") && !name.is("g") && name.len() == 1 && !name.is_empty());
+    assert!(rt; name.as_str() == "f" && name.len() == 1 && !name.is_empty());
     assert_eq!(rt; found_by_copy(alloc, name).expect(&rt, "memory"), Some(3));
     assert!(rt; Text::new(alloc).into_string().is_empty());
 }
@@ -58,10 +58,10 @@ fn kept_in_order(alloc: Global) -> Result<Seq<u32>, AllocError> {
     table.insert_if_absent(Text::from_str(alloc, "b")?, 2)?;
     table.insert_if_absent(Text::from_str(alloc, "a")?, 3)?;
     let mut values = Seq::new(alloc);
-    if table.contains(&Text::from_str(alloc, "c")?) {
+    if table.contains_key(&Text::from_str(alloc, "c")?) {
         return Ok(values);
     }
-    for (_, value) in table.entries() {
+    for (_, value) in table.iter() {
         values.push(*value)?;
     }
     Ok(values)

@@ -1,7 +1,6 @@
 //! Texts.
 
 ghost use Rattle.std.specs.Prelude.{◌≡◌, ◌==◌, nat_eq, length, IfOk, string_bytes};
-ghost use Rattle.std.specs.Str.{bytes_eq};
 ghost use Rattle.std.proofs.Common.{rules};
 ghost use Rattle.std.specs.Cmp.Rules.{comparing, hashing};
 ghost use Rattle.std.specs.Cmp.Lexicographic.{pointwise};
@@ -87,13 +86,6 @@ impl Text {
         ensures { result ≡ (length self.now == 0) }
     {
         self.text.is_empty()
-    }
-
-    /// Whether it is this text.
-    pub fn is(&self, text: &str) -> bool
-        ensures { result ≡ bytes_eq self.now text.now }
-    {
-        self.as_str() == text
     }
 
     /// An equal text, memory allowing.

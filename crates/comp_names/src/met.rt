@@ -40,12 +40,12 @@ impl<'a> Met<'a> {
         ensures other { OnOk result (list_any (bytes_eq name.now) self.old ≡ false) }
         ensures cause { IfErr result (IsMetBefore name.now self.old) }
     {
-        if self.names.contains(&name) {
+        if self.names.contains_key(&name) {
             return Err(NameFault::Twice {
                 name: name.clone(alloc)?,
             });
         }
-        self.names.add(name, ())?;
+        self.names.insert(name, ())?;
         Ok(())
     }
 }

@@ -77,14 +77,14 @@ impl ExportMap {
         ensures rest { result ≡ self.now.exports }
         ensures runs { ShowsInOrder (deref_pair {K = List ℕ} {X = Export}) }
     {
-        self.exports.entries()
+        self.exports.iter()
     }
 
     /// The name and the type of the memory: of the first, where there are several.
     pub fn memory(&self) -> Option<(&str, MemoryType)>
         ensures { lent_pair result ≡ first_memory self.now.exports }
     {
-        for (name, export) in self.exports.entries() {
+        for (name, export) in self.exports.iter() {
             if let Export::Memory(ty) = export {
                 return Some((name.as_str(), *ty));
             }
@@ -96,7 +96,7 @@ impl ExportMap {
     pub fn abi(&self, key: &WorldKey, function: &Function) -> Option<AbiVariant>
         ensures { result ≡ first_abi key.now function.now.name self.now.exports }
     {
-        for (_, export) in self.exports.entries() {
+        for (_, export) in self.exports.iter() {
             if let Some(abi) = abi_in(export, key, function.name.as_str()) {
                 return Some(abi);
             }
@@ -110,7 +110,7 @@ impl ExportMap {
         ensures { IfOk result (λ names. map (λ n. n.now) names.items ≡ realloc_names self.now.exports) }
     {
         let mut names = Vec::new(alloc);
-        for (name, export) in self.exports.entries() {
+        for (name, export) in self.exports.iter() {
             if is_realloc(export) {
                 names.push(name.as_str())?;
             }

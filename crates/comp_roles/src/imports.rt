@@ -211,7 +211,7 @@ impl ImportMap {
     pub fn add_imports<'a>(&'a self, list: &mut Vec<NamedImport<'a>>) -> Result<(), AllocError>
         ensures { OnOk result (map core_import list.new.items ≡ map core_import list.old.items ++ flat_map imports_from self.now.modules) }
     {
-        for (from, instance) in self.modules.entries() {
+        for (from, instance) in self.modules.iter() {
             add_group(list, from.as_str(), instance)?;
         }
         Ok(())
@@ -222,7 +222,7 @@ impl ImportMap {
     pub fn imported_memory(&self) -> Option<MemoryType>
         ensures { result ≡ imported_memory self.now.modules }
     {
-        for (_, instance) in self.modules.entries() {
+        for (_, instance) in self.modules.iter() {
             if let ImportInstance::Names(fields) = instance {
                 if let Some(ty) = memory_in(fields) {
                     return Some(ty);
@@ -237,7 +237,7 @@ impl ImportMap {
 fn memory_in(fields: &Keyed<Text, Import>) -> Option<MemoryType>
     ensures { result ≡ memory_of_fields fields.now }
 {
-    for (_, import) in fields.entries() {
+    for (_, import) in fields.iter() {
         if let Import::MainModuleMemory(ty) = import {
             return Some(*ty);
         }
@@ -253,7 +253,7 @@ fn add_fields<'a>(
 ) -> Result<(), AllocError>
     ensures { OnOk result (map core_import list.new.items ≡ map core_import list.old.items ++ field_imports from.now fields.now) }
 {
-    for (field, role) in fields.entries() {
+    for (field, role) in fields.iter() {
         let field = field.as_str();
         list.push(NamedImport { from, field, role })?;
     }

@@ -23,7 +23,7 @@ pub(crate) trait Role {
 pub(crate) fn first<'a, R: Role>(exports: &'a Keyed<Text, Export>, role: &R) -> Option<&'a str>
     ensures { option_copied result ≡ first_export (R.matching role.now) exports.now }
 {
-    for (name, export) in exports.entries() {
+    for (name, export) in exports.iter() {
         if role.is(export) {
             return Some(name.as_str());
         }

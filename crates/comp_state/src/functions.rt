@@ -80,7 +80,7 @@ impl EncodingState<'_> {
         ensures found { OnOk result (IsTrue (is_used self.old.world name.now) → IsSome (found name.now self.new.functions)) }
         ensures cause { IfErr result (IsCause self.old.world) }
     {
-        if !used.contains(name) {
+        if !used.contains_key(name) {
             return Ok(());
         }
         let index = self.import_function(name)?;
@@ -120,7 +120,7 @@ impl EncodingState<'_> {
     {
         let world = self.world;
         let used = used_functions(self.alloc, world)?;
-        for (key, item) in world.items().imports.entries() {
+        for (key, item) in world.items().imports.iter() {
             self.import_item(&used, key, item)?;
         }
         Ok(())

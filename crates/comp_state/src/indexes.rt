@@ -20,7 +20,7 @@ fn add_used(
 ) -> Result<(), AllocError>
     ensures { OnOk result ((text : List ℕ) → is_some (found text used.new) ≡ (is_some (found text used.old) || is_any_import text fields.now)) }
 {
-    for (_, import) in fields.entries() {
+    for (_, import) in fields.iter() {
         match import {
             Import::WorldFunc(WorldKey::Name(function), _, _) => {
                 used.insert_if_absent(function.clone(alloc)?, ())?;
@@ -39,7 +39,7 @@ pub(crate) fn used_functions(
     ensures { IfOk result (λ used. (text : List ℕ) → is_some (found text used) ≡ is_used world.now text) }
 {
     let mut used = Keyed::new(alloc);
-    for (_, instance) in world.main.imports.modules.entries() {
+    for (_, instance) in world.main.imports.modules.iter() {
         if let ImportInstance::Names(fields) = instance {
             add_used(alloc, &mut used, fields)?;
         }
@@ -56,7 +56,7 @@ pub(crate) fn core_names(
     ensures { IfOk result (λ names. (text : List ℕ) → found text names ≡ found text (flat_map root_export exports.now)) }
 {
     let mut names = Keyed::new(alloc);
-    for (name, export) in exports.entries() {
+    for (name, export) in exports.iter() {
         match export {
             Export::WorldFunc(WorldKey::Name(function), _, _) => {
                 names.insert_if_absent(function.clone(alloc)?, name.clone(alloc)?)?;

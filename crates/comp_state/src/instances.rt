@@ -44,7 +44,7 @@ pub(crate) fn is_encoded(
         key: WorldKey::Name(name.clone(alloc)?),
         function: function.clone(alloc)?,
     };
-    Ok(encodings.contains(&wanted))
+    Ok(encodings.contains_key(&wanted))
 }
 
 /// The text that names a core import in faults: `module::field`.
@@ -140,7 +140,7 @@ impl EncodingState<'_> {
         ensures cause { IfErr result (IsFieldsRefusal self.old.world «module».now fields.now) }
     {
         let mut entries = Seq::new(self.alloc);
-        for (field, import) in fields.entries() {
+        for (field, import) in fields.iter() {
             let entry = self.encode_field(module, field, import)?;
             entries.push(entry)?;
         }
@@ -199,7 +199,7 @@ impl EncodingState<'_> {
     {
         let world = self.world;
         let mut arguments = Seq::new(self.alloc);
-        for (module, instance) in world.main.imports.modules.entries() {
+        for (module, instance) in world.main.imports.modules.iter() {
             let argument = self.encode_argument(module, instance)?;
             arguments.push(argument)?;
         }

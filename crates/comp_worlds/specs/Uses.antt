@@ -12,8 +12,8 @@ use Rattle.comp_worlds.specs.Lowerings.{abi_number}
 use Rattle.comp_roles.specs.CoreImports.{CoreImport, imports_from}
 use Rattle.comp_roles.specs.declared.imports.Import.{Import}
 use Rattle.comp_roles.specs.declared.imports.Import.TheVariants as imports
-use Rattle.comp_worlds.specs.declared.uses.Call.{Call}
-use Rattle.comp_worlds.specs.declared.uses.Uses.{Uses}
+use Rattle.comp_worlds.specs.declared.calls.Call.{Call}
+use Rattle.comp_worlds.specs.declared.calls.Uses.{Uses}
 use Rattle.comp_worlds.specs.declared.world.ValidatedModule.{ValidatedModule}
 use Rattle.comp_worlds.specs.declared.world.WorldAdapter.{WorldAdapter}
 

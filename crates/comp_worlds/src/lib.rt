@@ -6,26 +6,20 @@
 //! returns. The roles of imports and exports of core modules come from `comp_roles`, the options that a call
 //! needs from `comp_options`; this crate re-exports their names, so that its users need no other crate.
 //!
-//! In reading order: `lowerings` (how imported functions are lowered), `world` (the validated world), `modules`
-//! (user modules by name, and which module has a module's realloc), `lower` (the trait). The tables that follow from
-//! a world are made by `tables`: from `uses` (what core imports use) `imported` (the lowerings of the world's
-//! imports), from `mentions` (what names which types) `reached` (live types, and exported interfaces that
-//! others name).
-//!
-//! The look-ups across modules are defined in `specs/Lookups.antt`, the tables of a world in
-//! `specs/Imported.antt` and in `specs/Mentions.antt` of `world_values`.
+//! In reading order: `lowerings` (how imported functions are lowered), `calls` (what core imports use), `world` (the
+//! validated world), `modules` (user modules by name, and which module has a module's realloc), `lower` (the
+//! trait). The tables that follow from a world are defined here (`specs/Uses.antt`, `specs/Imported.antt`) and in
+//! `specs/Mentions.antt` of `world_values`, and made by `world_tables`. The look-ups across modules are defined in
+//! `specs/Lookups.antt`.
 #![tactic(auto)]
 
-mod imported;
+mod calls;
 mod lower;
 mod lowerings;
-mod mentions;
 mod modules;
-mod reached;
-mod tables;
-mod uses;
 mod world;
 
+pub use calls::{Call, Uses};
 pub use comp_options::{
     OptionFault, Options, RequiredOptions, count_equals_len, lowering_adds_realloc,
 };

@@ -61,7 +61,7 @@ impl ComponentWorld {
 fn adapter<'a>(adapters: &'a Keyed<Text, WorldAdapter>, name: &str) -> Option<&'a WorldAdapter>
     ensures { option_copied result ≡ found name.now adapters.now }
 {
-    for (other, adapter) in adapters.entries() {
+    for (other, adapter) in adapters.iter() {
         if name == other.as_str() {
             return Some(adapter);
         }

@@ -1,18 +1,11 @@
 //! The validated world.
 
-ghost use Rattle.std.specs.Prelude.{◌≡◌, ◌<◌, length, get_or, IfOk};
-ghost use Rattle.std.specs.List.{AllByRecursion};
-ghost use Rattle.wit_data.specs.Sound.{IsSound, HasWorld};
-ghost use Rattle.comp_worlds.specs.Uses.{all_imports};
-ghost use Rattle.world_values.specs.Mentions.{HasRole};
-ghost use Rattle.world_values.specs.Items.{no_items};
-ghost use Rattle.comp_worlds.specs.Worlds.{items_of, whole_of};
+ghost use Rattle.std.specs.Prelude.{◌≡◌, ◌<◌, length};
+ghost use Rattle.comp_worlds.specs.Worlds.{items_of};
 
 use crate::lowerings::ImportedInterface;
-use crate::tables::{Tables, tables_of};
 use comp_lists::{Bytes, Keyed, Seq, Text};
 use comp_roles::{ExportMap, ExternType, ImportMap, LibraryInfo, ModuleMetadata};
-use std::alloc::{AllocError, Global};
 use wit_data::{InterfaceId, Resolve, TypeId, World, WorldId, WorldKey};
 
 /// A core module, and the roles of its imports and exports.
@@ -117,20 +110,6 @@ impl Drop for WorldParts {
 }
 
 impl ComponentWorld {
-    /// The world of these parts, with its tables. It takes time linear in the number of core imports, of interfaces
-    /// and of their functions; and, for each exported interface and once for all imported ones, in the number of
-    /// types and of their parts. Its only error is out of memory.
-    pub fn of_parts(alloc: Global, parts: WorldParts) -> Result<ComponentWorld, AllocError>
-        requires sound { IsSound parts.resolve }
-        requires present { parts.world.index < length parts.resolve.worlds }
-        requires roles { AllByRecursion (λ i. HasRole parts.resolve i.role) (all_imports parts.main parts.adapters) }
-        ensures { IfOk result (λ w. w ≡ whole_of parts) }
-    {
-        let items = items_in(&parts.resolve, parts.world);
-        let tables = tables_of(alloc, &parts.resolve, items, &parts.main, &parts.adapters)?;
-        Ok(parts.with_tables(tables))
-    }
-
     /// The imports and exports of the world.
     pub fn items(&self) -> &World
         requires { self.now.world.index < length self.now.resolve.worlds }
@@ -142,8 +121,13 @@ impl ComponentWorld {
 
 impl WorldParts {
     /// The world of these parts, with these tables.
-    fn with_tables(self, tables: Tables) -> ComponentWorld
-        ensures { result ≡ record { resolve = self.resolve; world = self.world; main = self.main; main_exports = self.main_exports; adapters = self.adapters; import_map = tables.import_map; live_type_imports = tables.live_type_imports; exports_used = tables.exports_used; can_use_context_slot_1 = self.can_use_context_slot_1 } }
+    pub fn with_tables(
+        self,
+        import_map: Keyed<Option<WorldKey>, ImportedInterface>,
+        live_type_imports: Keyed<InterfaceId, Seq<TypeId>>,
+        exports_used: Keyed<InterfaceId, Seq<InterfaceId>>,
+    ) -> ComponentWorld
+        ensures { result ≡ record { resolve = self.resolve; world = self.world; main = self.main; main_exports = self.main_exports; adapters = self.adapters; import_map = import_map; live_type_imports = live_type_imports; exports_used = exports_used; can_use_context_slot_1 = self.can_use_context_slot_1 } }
     {
         let WorldParts {
             resolve,
@@ -159,21 +143,10 @@ impl WorldParts {
             main,
             main_exports,
             adapters,
-            import_map: tables.import_map,
-            live_type_imports: tables.live_type_imports,
-            exports_used: tables.exports_used,
+            import_map,
+            live_type_imports,
+            exports_used,
             can_use_context_slot_1,
         }
     }
-}
-
-/// The imports and exports of a world.
-#[tactic(auto, using(crate::proofs::Exists::world_sound))]
-fn items_in(resolve: &Resolve, world: WorldId) -> &World
-    requires sound { IsSound resolve.now }
-    requires present { world.index < length resolve.now.worlds }
-    ensures items { result.now ≡ get_or resolve.now.worlds world.index no_items }
-    ensures sound { HasWorld resolve.now result.now }
-{
-    &resolve.worlds.as_slice()[world.index]
 }

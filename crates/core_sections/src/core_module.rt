@@ -122,10 +122,10 @@ fn add_export(
     ensures { Gives (λ t. t) result (with_export table name item) }
 {
     let mut all = table;
-    if all.contains(&name) {
+    if all.contains_key(&name) {
         return Err(ReadFault::Malformed);
     }
-    all.add(name, item)?;
+    all.insert(name, item)?;
     Ok(all)
 }
 

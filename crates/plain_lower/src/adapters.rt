@@ -25,7 +25,7 @@ fn left_out<T>(alloc: Global, what: &str) -> Result<T, Failure>
 fn is_any_plain(adapters: &Keyed<Text, GatheredAdapter<Bindgen>>) -> bool
     ensures { result ≡ list_any is_plain adapters.now }
 {
-    for (_, adapter) in adapters.entries() {
+    for (_, adapter) in adapters.iter() {
         if adapter.library_info.is_none() {
             return true;
         }
@@ -40,7 +40,7 @@ fn refuse_any(
 ) -> Result<(), Failure>
     ensures { Gives (λ _. tt) result (none_there adapters.now) }
 {
-    let mut entries = adapters.entries();
+    let mut entries = adapters.iter();
     match entries.next() {
         Some(_) => left_out(alloc, "adapter"),
         None => Ok(()),

@@ -176,9 +176,9 @@ pub fn offered(alloc: Global, core: &CoreModule) -> Result<Keyed<Text, ExternTyp
     ensures { IfOk result (λ table. table ≡ offered core.now) }
 {
     let mut table = Keyed::new(alloc);
-    for (name, item) in core.exports.entries() {
+    for (name, item) in core.exports.iter() {
         if let Some(ty) = item_type(alloc, core, item)? {
-            table.add(name.clone(alloc)?, ty)?;
+            table.insert(name.clone(alloc)?, ty)?;
         }
     }
     Ok(table)

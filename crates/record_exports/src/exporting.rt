@@ -58,7 +58,7 @@ fn exports_with_roles(
     ensures { Gives (λ t. t) result (exports_after resolved.now roles.now core.now [] core.now.exports) }
 {
     let mut all = Keyed::new(alloc);
-    for (name, item) in core.exports.entries() {
+    for (name, item) in core.exports.iter() {
         let role = roles.get(name);
         add_export(alloc, resolved, core, &mut all, name, item, role)?;
     }

@@ -38,7 +38,7 @@ impl Functions {
     pub(crate) fn has_callback(&self, function: &FunctionKey) -> bool
         ensures { result ≡ (known_by self.now).called_back function.now }
     {
-        self.callbacks.contains(function)
+        self.callbacks.contains_key(function)
     }
 }
 
@@ -135,7 +135,7 @@ fn lifted_functions(
     ensures { IfOk result (λ t. t ≡ with_all is_same_function [] (lifted_functions exports.now)) }
 {
     let mut abis = Keyed::new(alloc);
-    for (_, export) in exports.entries() {
+    for (_, export) in exports.iter() {
         add_lifted(alloc, &mut abis, export)?;
     }
     Ok(abis)
@@ -150,7 +150,7 @@ fn callbacks(
     ensures { IfOk result (λ t. t ≡ with_all is_same_function [] (callbacks exports.now)) }
 {
     let mut functions = Keyed::new(alloc);
-    for (_, export) in exports.entries() {
+    for (_, export) in exports.iter() {
         add_callback(alloc, &mut functions, export)?;
     }
     Ok(functions)

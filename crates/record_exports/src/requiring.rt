@@ -91,7 +91,7 @@ fn check_functions(
 ) -> Result<(), Failure>
     ensures { Gives (λ _. tt) result (all_there (known_by functions.now) key.now (function_names all.now)) }
 {
-    for (_, function) in all.entries() {
+    for (_, function) in all.iter() {
         check_function(alloc, functions, key, &function.name)?;
     }
     Ok(())

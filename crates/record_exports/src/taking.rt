@@ -78,7 +78,7 @@ fn check_by(
 ) -> Result<(), Failure>
     ensures { Gives (λ _. tt) result (taken (known_by functions.now) exports.now) }
 {
-    for (name, export) in exports.entries() {
+    for (name, export) in exports.iter() {
         if !is_taken(alloc, functions, export)? {
             return Err(unfit(alloc, name));
         }

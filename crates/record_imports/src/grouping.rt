@@ -49,7 +49,7 @@ fn has_field(grouping: &Grouping, name: &Text, field: &Text) -> bool
     ensures { result ≡ is_some (found field.now (fields_in grouping.now.groups.items name.now)) }
 {
     match position_of(grouping, name) {
-        Some(position) => grouping.groups[position].fields.contains(field),
+        Some(position) => grouping.groups[position].fields.contains_key(field),
         None => false,
     }
 }
@@ -68,7 +68,7 @@ fn add_field(
         → x.groups.items ≡ slice_set grouping.groups.items position (record { name = g.name; fields = g.fields ++ (field, role) ∷ [] })) }
 {
     let Grouping { positions, mut groups } = grouping;
-    groups[position].fields.add(field, role)?;
+    groups[position].fields.insert(field, role)?;
     Ok(Grouping { positions, groups })
 }
 
@@ -77,7 +77,7 @@ fn group_of(alloc: Global, name: Text, field: Text, role: Import) -> Result<Grou
     ensures { IfOk result (λ g. g ≡ record { name = name; fields = (field, role) ∷ [] }) }
 {
     let mut fields = Keyed::new(alloc);
-    fields.add(field, role)?;
+    fields.insert(field, role)?;
     Ok(Group { name, fields })
 }
 
@@ -92,7 +92,7 @@ fn push_group(grouping: Grouping, name: Text, group: Group) -> Result<Grouping, 
         mut positions,
         mut groups,
     } = grouping;
-    positions.add(name, groups.len())?;
+    positions.insert(name, groups.len())?;
     groups.push(group)?;
     Ok(Grouping { positions, groups })
 }
@@ -195,7 +195,7 @@ fn group_imports(
 fn positions_are_apart(positions: &Keyed<Text, usize>)
     ensures { IsDistinct bytes_eq (keys_of positions.now) }
 {
-    let _entries = positions.entries();
+    let _entries = positions.iter();
 }
 
 /// The groups without the positions.

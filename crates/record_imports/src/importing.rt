@@ -34,7 +34,7 @@ fn table_of(alloc: Global, groups: Vec<Group>) -> Result<Keyed<Text, ImportInsta
 {
     let mut modules = Keyed::new(alloc);
     for group in groups {
-        modules.add(group.name, ImportInstance::Names(group.fields))?;
+        modules.insert(group.name, ImportInstance::Names(group.fields))?;
     }
     Ok(modules)
 }

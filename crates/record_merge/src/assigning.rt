@@ -75,7 +75,7 @@ fn add_role<K: Key, R: PartialEq + Drop>(
             }
         }
         None => {
-            table.add(key, role)?;
+            table.insert(key, role)?;
             return Ok(());
         }
     }
@@ -129,10 +129,10 @@ fn put_field(
 ) -> Result<(), Failure>
     ensures { Gives (λ _. fields.new) result (apart ⟦<ExportRole as PartialEq>⟧.eq (λ e. e.1) fields.old ((role, field) ∷ [])) }
 {
-    if fields.contains(&role) {
+    if fields.contains_key(&role) {
         return Err(Failure::Refused(Refusal::MergeConflict { name: field }));
     }
-    Ok(fields.add(role, field)?)
+    Ok(fields.insert(role, field)?)
 }
 
 /// Adds the field of a role, except for the role's form of calls.
@@ -158,7 +158,7 @@ fn check_fields(
     ensures { Gives (λ t. t) result (one_field_each ⟦<ExportRole as PartialEq>⟧.eq roles.now) }
 {
     let mut fields: Keyed<ExportRole, Text> = Keyed::new(alloc);
-    for (field, role) in roles.entries() {
+    for (field, role) in roles.iter() {
         add_field(alloc, &mut fields, field, role)?;
     }
     Ok(fields)

@@ -78,7 +78,7 @@ fn add_items(
 ) -> Result<(), AllocError>
     ensures { OnOk result (table.new ≡ with_items interfaces.now encoding table.old all.now) }
 {
-    for (key, item) in all.entries() {
+    for (key, item) in all.iter() {
         add_item(alloc, table, interfaces, key, item, encoding)?;
     }
     Ok(())

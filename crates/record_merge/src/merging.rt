@@ -106,7 +106,7 @@ fn export_keys(alloc: Global, exports: &Keyed<ItemKey, Item>) -> Result<Seq<Expo
     ensures { IfOk result (λ ks. ks ≡ keys_of_exports exports.now) }
 {
     let mut keys = Seq::new(alloc);
-    for (key, _) in exports.entries() {
+    for (key, _) in exports.iter() {
         push_key(alloc, &mut keys, key)?;
     }
     Ok(keys)

@@ -71,7 +71,7 @@ fn add_copy<K: TryClone + Eq + Hash + Drop, X: TryClone>(
 {
     let key = key.try_clone(alloc)?;
     let value = value.try_clone(alloc)?;
-    table.add(key, value)
+    table.insert(key, value)
 }
 
 /// Adds an entry; a key that the table has must have the same value.
@@ -107,7 +107,7 @@ pub(crate) fn add_all<K: Key + TryClone, X: TryClone + Eq>(
     ensures exact { Gives (λ _. table.new) result (merged_entries K.eq X.eq K.name table.old more.now) }
     ensures cause { IfErr result (Unless (Named (Differs K.eq K.name table.old more.now))) }
 {
-    for (key, value) in more.entries() {
+    for (key, value) in more.iter() {
         put(alloc, table, key, value)?;
     }
     Ok(())
@@ -123,8 +123,8 @@ pub(crate) fn add_apart<K: Key + TryClone, X: TryClone>(
     ensures exact { Gives (λ _. table.new) result (apart K.eq (λ e. K.name e.0) table.old more.now) }
     ensures cause { IfErr result (Unless (Named (IsInBoth K.eq K.name table.old more.now))) }
 {
-    for (key, value) in more.entries() {
-        if table.contains(key) {
+    for (key, value) in more.iter() {
+        if table.contains_key(key) {
             return Err(Failure::Refused(Refusal::MergeConflict {
                 name: key.to_text(alloc)?,
             }));
@@ -143,7 +143,7 @@ pub(crate) fn copy<K: TryClone + Eq + Hash, X: TryClone>(
     ensures { IfOk result (λ t. t ≡ table.now) }
 {
     let mut copied = Keyed::new(alloc);
-    for (key, value) in table.entries() {
+    for (key, value) in table.iter() {
         add_copy(alloc, &mut copied, key, value)?;
     }
     Ok(copied)

@@ -38,7 +38,7 @@ fn first_keys(alloc: Global, items: &Items) -> Result<InterfaceKeys, AllocError>
     ensures { IfOk result (λ ks. ks ≡ keys_after [] items.now) }
 {
     let mut keys = Keyed::new(alloc);
-    for (key, item) in items.entries() {
+    for (key, item) in items.iter() {
         add_key(alloc, &mut keys, key, item)?;
     }
     Ok(keys)

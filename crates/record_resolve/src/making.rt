@@ -43,7 +43,7 @@ pub(crate) fn put_new<K: Eq + Hash + Drop, V: Drop>(
 ) -> Result<(), Failure>
     ensures { Becomes result table.new (with_new K.eq table.old key value) }
 {
-    if table.contains(&key) {
+    if table.contains_key(&key) {
         return Err(fault_here(alloc));
     }
     table.insert_if_absent(key, value)?;
@@ -56,7 +56,7 @@ impl Making {
     {
         match owner {
             Owner::World => false,
-            Owner::Interface(name) => self.exported.contains(name),
+            Owner::Interface(name) => self.exported.contains_key(name),
         }
     }
 

@@ -30,7 +30,7 @@ fn add_other_names(
 ) -> Result<(), AllocError>
     ensures { OnOk result (ids.new ≡ with_other_names ids.old renames.now) }
 {
-    for (old, new) in renames.entries() {
+    for (old, new) in renames.iter() {
         add_other_name(alloc, ids, old, new)?;
     }
     Ok(())

@@ -260,7 +260,7 @@ fn resolve_names(alloc: Global, wit: &Wit) -> Result<Resolved, Failure>
 fn are_there(resolve: &Resolve, ids: &Keyed<InterfaceName, InterfaceId>) -> bool
     ensures { IsTrue result ↔ AllByRecursion (λ i. HasInterface resolve.now i.1) ids.now }
 {
-    for (_name, id) in ids.entries() {
+    for (_name, id) in ids.iter() {
         if id.index >= resolve.interfaces.len() {
             return false;
         }
@@ -280,7 +280,7 @@ fn is_named(key: &WorldKey, item: &WorldItem) -> bool
 fn all_named(items: &Items) -> bool
     ensures { IsTrue result ↔ AllByRecursion IsNamed items.now }
 {
-    for (key, item) in items.entries() {
+    for (key, item) in items.iter() {
         if !is_named(key, item) {
             return false;
         }

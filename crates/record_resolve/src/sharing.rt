@@ -50,7 +50,7 @@ impl Making {
     {
         let key = kind.try_clone(alloc)?;
         let id = self.push_type(None, kind, TypeOwner::None)?;
-        self.unnamed.add(key, id)?;
+        self.unnamed.insert(key, id)?;
         Ok(id)
     }
 

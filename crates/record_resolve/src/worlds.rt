@@ -36,7 +36,7 @@ pub(crate) fn add_all(
 ) -> Result<(), Failure>
     ensures { Becomes result (made_interfaces.new, making.new) (all_named side all.now names.now (made_interfaces.old, making.old)) }
 {
-    for (name, _) in names.entries() {
+    for (name, _) in names.iter() {
         add_named(alloc, making, side, all, name, made_interfaces)?;
     }
     Ok(())
@@ -52,7 +52,7 @@ fn add_copy(
 ) -> Result<(), Failure>
     ensures { Becomes result (made_interfaces.new, making.new) (with_copy all.now name.now (made_interfaces.old, making.old)) }
 {
-    if making.exported.contains(name) {
+    if making.exported.contains_key(name) {
         add_named(alloc, making, Side::Exported, all, name, made_interfaces)
     } else {
         Ok(())
@@ -68,7 +68,7 @@ fn add_copies(
 ) -> Result<(), Failure>
     ensures { Becomes result (made_interfaces.new, making.new) (copies_of all.now imported.now (made_interfaces.old, making.old)) }
 {
-    for (name, _) in imported.entries() {
+    for (name, _) in imported.iter() {
         add_copy(alloc, making, all, name, made_interfaces)?;
     }
     Ok(())
@@ -85,7 +85,7 @@ fn add_other(
 ) -> Result<(), Failure>
     ensures { Becomes result (made_interfaces.new, making.new) (with_other imported.now all.now name.now (made_interfaces.old, making.old)) }
 {
-    if making.exported.contains(name) && !imported.contains(name) {
+    if making.exported.contains_key(name) && !imported.contains_key(name) {
         add_named(alloc, making, Side::Exported, all, name, made_interfaces)
     } else {
         Ok(())
@@ -101,7 +101,7 @@ fn add_others(
 ) -> Result<(), Failure>
     ensures { Becomes result (made_interfaces.new, making.new) (others_of imported.now all.now all.now (made_interfaces.old, making.old)) }
 {
-    for (name, _interface) in all.entries() {
+    for (name, _interface) in all.iter() {
         add_other(alloc, making, imported, all, name, made_interfaces)?;
     }
     Ok(())
@@ -246,7 +246,7 @@ pub(crate) fn make_items(
     ensures { Makes result making.new (items_from side ids.now entries.now ([], making.old)) }
 {
     let mut items = Keyed::new(alloc);
-    for (key, item) in entries.entries() {
+    for (key, item) in entries.iter() {
         add_item(alloc, making, side, ids, key, item, &mut items)?;
     }
     Ok(items)

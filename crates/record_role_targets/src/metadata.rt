@@ -46,7 +46,7 @@ fn resolve_encodings(
     ensures { IfOk result (λ t. t ≡ encodings_after side resolved.now [] encodings.now) }
 {
     let mut all = Keyed::new(alloc);
-    for (named, encoding) in encodings.entries() {
+    for (named, encoding) in encodings.iter() {
         add_encoding(alloc, resolved, side, &mut all, named, *encoding)?;
     }
     Ok(all)

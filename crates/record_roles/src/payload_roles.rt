@@ -32,7 +32,7 @@ fn read_unit(alloc: Global, kind: PayloadKind, value: &Value) -> Result<Payload,
 {
     check_members(alloc, value, &["unit"])?;
     let name = text_member(alloc, value, "unit")?;
-    if name.is(kind_name(kind)) {
+    if name.as_str() == kind_name(kind) {
         Ok(Payload::Unit)
     } else {
         Err(fault_at(alloc, "unit"))

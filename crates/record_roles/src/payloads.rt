@@ -102,7 +102,7 @@ fn add_interfaces(
 ) -> Result<(), AllocError>
     ensures { OnOk result (met.new ≡ with_interfaces met.old interfaces.now) }
 {
-    for (name, interface) in interfaces.entries() {
+    for (name, interface) in interfaces.iter() {
         add_types(alloc, met, name, interface.types.as_slice())?;
     }
     Ok(())
@@ -124,7 +124,7 @@ fn add_item(alloc: Global, met: &mut Met, key: &ItemKey, item: &Item) -> Result<
 fn add_items(alloc: Global, met: &mut Met, items: &Keyed<ItemKey, Item>) -> Result<(), AllocError>
     ensures { OnOk result (met.new ≡ with_items met.old items.now) }
 {
-    for (key, item) in items.entries() {
+    for (key, item) in items.iter() {
         add_item(alloc, met, key, item)?;
     }
     Ok(())

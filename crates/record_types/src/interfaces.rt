@@ -107,7 +107,7 @@ fn read_new_function(
     ensures { Gives (λ x. x) result (new_function (names_in scope.now) seen.now (view value.now)) }
 {
     let function = read_function(alloc, scope, value)?;
-    if seen.contains(&function.name) {
+    if seen.contains_key(&function.name) {
         return Err(fault_at(alloc, "name"));
     }
     Ok(function)

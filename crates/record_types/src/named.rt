@@ -138,7 +138,7 @@ fn read_new_name(
     ensures { Gives (λ x. x) result (new_name table.now (view value.now)) }
 {
     let name = read_text(alloc, value)?;
-    if table.contains(&name) {
+    if table.contains_key(&name) {
         return Err(fault_here(alloc));
     }
     Ok(name)

@@ -30,7 +30,7 @@ pub fn interfaces_among(
     ensures { IfOk result (λ is. is ≡ interfaces_after [] items.now) }
 {
     let mut interfaces = Keyed::new(alloc);
-    for (_key, item) in items.entries() {
+    for (_key, item) in items.iter() {
         add_item(alloc, &mut interfaces, item)?;
     }
     Ok(interfaces)

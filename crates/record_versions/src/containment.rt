@@ -162,7 +162,7 @@ pub(crate) fn check_renames(
 ) -> Result<(), Failure>
     ensures { Gives (λ _. tt) result (renames_are_valid renames.now interfaces.now renames.now) }
 {
-    for (lesser, greatest) in renames.entries() {
+    for (lesser, greatest) in renames.iter() {
         if !rename_is_valid(alloc, renames, interfaces, lesser, greatest)? {
             return Err(conflict_of(alloc, lesser));
         }

@@ -85,7 +85,7 @@ fn candidates(alloc: Global, imports: &Keyed<ItemKey, Item>) -> Result<Seq<Candi
     ensures { Gives (λ cs. cs) result (Ok (candidates imports.now)) }
 {
     let mut found = Seq::new(alloc);
-    for (_key, item) in imports.entries() {
+    for (_key, item) in imports.iter() {
         add_found(alloc, &mut found, item)?;
     }
     Ok(found)
@@ -173,7 +173,7 @@ fn add_rename(
 {
     match greatest {
         Some(greatest) => {
-            if *name == greatest.name || exported.contains(name) {
+            if *name == greatest.name || exported.contains_key(name) {
                 Ok(())
             } else {
                 let name = name.try_clone(alloc)?;

@@ -66,7 +66,7 @@ fn all_waiting(
     ensures { IfOk result (λ ws. ws ≡ waiting interfaces.now imports.now) }
 {
     let mut list = Seq::new(alloc);
-    for (key, item) in imports.entries() {
+    for (key, item) in imports.iter() {
         list.append(waiting_item(alloc, interfaces, key, item)?)?;
     }
     Ok(list)
@@ -90,7 +90,7 @@ fn interfaces_taken(alloc: Global, taken: &Taken) -> Result<Keyed<ItemKey, Item>
     ensures { IfOk result (λ t. t ≡ interfaces_taken [] taken.now) }
 {
     let mut table = Keyed::new(alloc);
-    for (name, key) in taken.entries() {
+    for (name, key) in taken.iter() {
         put_taken(alloc, &mut table, name, key)?;
     }
     Ok(table)
@@ -118,7 +118,7 @@ fn add_others(
 ) -> Result<(), AllocError>
     ensures { OnOk result (table.new ≡ others_after table.old imports.now) }
 {
-    for (key, item) in imports.entries() {
+    for (key, item) in imports.iter() {
         add_other(alloc, table, key, item)?;
     }
     Ok(())
@@ -172,7 +172,7 @@ fn put_in_order(alloc: Global, lesser: &InterfaceName, wit: Wit) -> Result<Wit, 
 fn first_lesser(alloc: Global, renames: &Renames) -> Result<Option<InterfaceName>, AllocError>
     ensures { IfOk result (λ n. n ≡ first_lesser renames.now) }
 {
-    for (lesser, _greatest) in renames.entries() {
+    for (lesser, _greatest) in renames.iter() {
         return Ok(Some(lesser.try_clone(alloc)?));
     }
     Ok(None)

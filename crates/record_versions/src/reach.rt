@@ -15,7 +15,7 @@ fn leads_any(exported: &Interfaces, leading: &Interfaces, names: &[InterfaceName
     ensures { result ≡ leads_any exported.now leading.now names.now }
 {
     for name in names {
-        if exported.contains(name) || leading.contains(name) {
+        if exported.contains_key(name) || leading.contains_key(name) {
             return true;
         }
     }
@@ -65,7 +65,7 @@ fn leading(
     ensures { IfOk result (λ is. is ≡ leading_after interfaces.now exported.now [] imports.now) }
 {
     let mut leading = Keyed::new(alloc);
-    for (_key, item) in imports.entries() {
+    for (_key, item) in imports.iter() {
         add_leading(alloc, interfaces, exported, &mut leading, item)?;
     }
     Ok(leading)
@@ -80,7 +80,7 @@ fn check_names(
     ensures { Gives (λ _. tt) result (none_leads exported.now leading.now names.now) }
 {
     for name in names {
-        if !exported.contains(name) && leading.contains(name) {
+        if !exported.contains_key(name) && leading.contains_key(name) {
             return Err(conflict_of(alloc, name));
         }
     }
@@ -115,7 +115,7 @@ fn check_items(
 ) -> Result<(), Failure>
     ensures { Gives (λ _. tt) result (items_lead_not interfaces.now exported.now leading.now exports.now) }
 {
-    for (_key, item) in exports.entries() {
+    for (_key, item) in exports.iter() {
         check_item(alloc, interfaces, exported, leading, item)?;
     }
     Ok(())

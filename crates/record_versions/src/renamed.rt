@@ -15,7 +15,7 @@ fn item_is_removed(renames: &Renames, item: &Item) -> bool
     ensures { result ≡ item_is_removed renames.now item.now }
 {
     match item {
-        Item::Interface(name) => renames.contains(name),
+        Item::Interface(name) => renames.contains_key(name),
         Item::Function(_) => false,
         Item::Type(_) => false,
     }
@@ -30,7 +30,7 @@ fn add_interface(
 ) -> Result<(), AllocError>
     ensures { OnOk result (table.new ≡ (if is_removed renames.now name.now then table.old else with_first is_same_interface table.old name.now (renamed_interface renames.now interface.now))) }
 {
-    if renames.contains(name) {
+    if renames.contains_key(name) {
         return Ok(());
     }
     let name = name.try_clone(alloc)?;
@@ -45,7 +45,7 @@ fn interfaces_left(
     ensures { IfOk result (λ t. t ≡ interfaces_left renames.now [] interfaces.now) }
 {
     let mut table = Keyed::new(alloc);
-    for (name, interface) in interfaces.entries() {
+    for (name, interface) in interfaces.iter() {
         add_interface(alloc, renames, &mut table, name, interface)?;
     }
     Ok(table)
@@ -75,7 +75,7 @@ fn items_left(
     ensures { IfOk result (λ t. t ≡ items_left renames.now [] items.now) }
 {
     let mut table = Keyed::new(alloc);
-    for (key, item) in items.entries() {
+    for (key, item) in items.iter() {
         add_item(alloc, renames, &mut table, key, item)?;
     }
     Ok(table)

@@ -37,7 +37,7 @@ struct Trials {
 fn is_at_hand(taken: &Taken, own: &InterfaceName, name: &InterfaceName) -> bool
     ensures { result ≡ (is_same_interface name.now own.now || is_taken taken.now name.now) }
 {
-    *name == *own || taken.contains(name)
+    *name == *own || taken.contains_key(name)
 }
 
 /// The position of the first use, from this one on, that is neither the interface itself nor taken.
@@ -139,7 +139,7 @@ impl Trials {
         ensures ready { IfOk result (λ ready. (w : Waiting) → slice_get all.now position ≡ Some w → MatchBool ready (is_ready taken.now w ≡ true) (IsAway taken.now (waits self.new.parked) position w)) }
     {
         let waiting = &all[position];
-        if taken.contains(&waiting.name) {
+        if taken.contains_key(&waiting.name) {
             return Ok(false);
         }
         let lacking = first_lacking(taken, waiting, self.checked[position]);

@@ -16,7 +16,7 @@ fn types_of(alloc: Global, known: &Keyed<Text, TypeFacts>) -> Result<Keyed<Text,
     ensures { IfOk result (λ t. t ≡ types_of known.now) }
 {
     let mut types = Keyed::new(alloc);
-    for (name, facts) in known.entries() {
+    for (name, facts) in known.iter() {
         types.insert_if_absent(name.clone(alloc)?, facts.is_resource)?;
     }
     Ok(types)
@@ -47,8 +47,8 @@ fn index_interface(
     let name = rename_name(alloc, names, &index_name(index))?;
     let types = types_of(alloc, &read.known)?;
     let functions = functions_of(alloc, read.functions.as_slice())?;
-    let is_imported = imported.contains(&name);
-    let is_exported = exported.contains(&name);
+    let is_imported = imported.contains_key(&name);
+    let is_exported = exported.contains_key(&name);
     Ok(IndexedInterface {
         name,
         is_imported,

@@ -16,7 +16,7 @@ fn owner_in_scope(scope: &InterfaceSet, more: &InterfaceSet, owner: &Owner) -> b
 {
     match owner {
         Owner::World => true,
-        Owner::Interface(name) => scope.contains(name) || more.contains(name),
+        Owner::Interface(name) => scope.contains_key(name) || more.contains_key(name),
     }
 }
 

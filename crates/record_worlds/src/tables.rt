@@ -65,7 +65,7 @@ fn add_same(
             }
         }
         None => {
-            table.add(name, interface)?;
+            table.insert(name, interface)?;
             Ok(())
         }
     }
@@ -122,7 +122,7 @@ fn is_seen(interfaces: &InterfaceSet, item: &Item) -> bool
     ensures { result ≡ is_seen interfaces.now item.now }
 {
     match item {
-        Item::Interface(name) => interfaces.contains(name),
+        Item::Interface(name) => interfaces.contains_key(name),
         Item::Function(_) => false,
         Item::Type(_) => false,
     }
@@ -165,7 +165,7 @@ fn add_entry(
 ) -> Result<(), Failure>
     ensures { Gives (λ _. table.new) result (with_item index table.old entry.now) }
 {
-    if table.items.contains(&entry.key) {
+    if table.items.contains_key(&entry.key) {
         return under_index(alloc, index, Err(fault_here(alloc)));
     }
     if is_seen(&table.interfaces, &entry.item) {

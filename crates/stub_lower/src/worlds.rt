@@ -12,6 +12,7 @@ use comp_worlds::{
 };
 use std::alloc::{AllocError, Global};
 use wit_data::{AbiVariant, Function, FunctionKind, Resolve, World, WorldId, WorldItem, WorldKey};
+use world_tables::world_of_parts;
 
 /// The role of main's import: the root function `f`.
 fn role(alloc: Global) -> Result<Import, AllocError>
@@ -108,7 +109,7 @@ fn world_of(alloc: Global, bytes: &[u8]) -> Result<ComponentWorld, AllocError>
     ensures { IfOk result (λ w. w ≡ stub_world bytes.now) }
 {
     let parts = parts_of(alloc, bytes)?;
-    let world = ComponentWorld::of_parts(alloc, parts)?;
+    let world = world_of_parts(alloc, parts)?;
     Ok(world)
 }
 

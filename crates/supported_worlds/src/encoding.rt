@@ -17,6 +17,7 @@ use comp_lists::{Keyed, Text};
 use comp_worlds::{ComponentWorld, WorldAdapter, WorldParts};
 use record_faults::{Failure, Refusal};
 use std::alloc::Global;
+use world_tables::world_of_parts;
 
 /// The refusal of what is not encoded yet.
 fn refused(alloc: Global, what: &str) -> Failure
@@ -32,7 +33,7 @@ fn refused(alloc: Global, what: &str) -> Failure
 fn adapters_left_out(adapters: &Keyed<Text, WorldAdapter>) -> Option<&'static str>
     ensures { option_copied result ≡ adapters_left_out adapters.now }
 {
-    let mut entries = adapters.entries();
+    let mut entries = adapters.iter();
     match entries.next() {
         Some(_) => Some("adapter"),
         None => None,
@@ -68,7 +69,7 @@ fn unless_left_out(alloc: Global, parts: WorldParts) -> Result<ComponentWorld, F
             Err(refused(alloc, what))
         }
         None => {
-            let world = ComponentWorld::of_parts(alloc, parts)?;
+            let world = world_of_parts(alloc, parts)?;
             Ok(world)
         }
     }
@@ -79,7 +80,7 @@ fn unless_left_out(alloc: Global, parts: WorldParts) -> Result<ComponentWorld, F
 /// It refuses with `LeftOut` and the kind of something of the world that is not encoded yet: `params`,
 /// `result`, `async`, `interface` or `type` of an item of the world, the kind of a role of main's
 /// imports or exports, `library`, or `adapter`. The only other refusal is out of memory. On top of
-/// `ComponentWorld::of_parts` it takes time linear in the number of items, of core imports and of core
+/// `world_of_parts` it takes time linear in the number of items, of core imports and of core
 /// exports.
 #[tactic(auto, using(crate::proofs::Reporting::no_cause, crate::proofs::Reporting::has_cause))]
 pub fn encoded_world(alloc: Global, parts: WorldParts) -> Result<ComponentWorld, Failure>

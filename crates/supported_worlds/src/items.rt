@@ -50,7 +50,7 @@ fn items_left_out(items: &Keyed<WorldKey, WorldItem>) -> Option<&'static str>
     ensures reported { option_copied result ≡ first_some item_left_out items.now }
     ensures apart { IsDistinct is_same_key (keys_of items.now) }
 {
-    for (key, item) in items.entries() {
+    for (key, item) in items.iter() {
         if let Some(what) = item_left_out(key, item) {
             return Some(what);
         }

@@ -41,7 +41,7 @@ fn fields_left_out(fields: &Keyed<Text, Import>) -> Option<&'static str>
     ensures reported { option_copied result ≡ first_some (λ f. import_left_out f.1) fields.now }
     ensures apart { IsDistinct bytes_eq (keys_of fields.now) }
 {
-    for (_, role) in fields.entries() {
+    for (_, role) in fields.iter() {
         if let Some(what) = import_left_out(role) {
             return Some(what);
         }
@@ -66,7 +66,7 @@ fn groups_left_out(groups: &Keyed<Text, ImportInstance>) -> Option<&'static str>
     ensures reported { option_copied result ≡ first_some group_left_out groups.now }
     ensures apart { option_copied result ≡ None → GroupsApart groups.now }
 {
-    for (_, instance) in groups.entries() {
+    for (_, instance) in groups.iter() {
         if let Some(what) = instance_left_out(instance) {
             return Some(what);
         }
@@ -77,7 +77,7 @@ fn groups_left_out(groups: &Keyed<Text, ImportInstance>) -> Option<&'static str>
 fn exports_left_out(exports: &Keyed<Text, Export>) -> Option<&'static str>
     ensures { option_copied result ≡ first_some (λ e. export_left_out e.1) exports.now }
 {
-    for (_, role) in exports.entries() {
+    for (_, role) in exports.iter() {
         if let Some(what) = export_left_out(role) {
             return Some(what);
         }

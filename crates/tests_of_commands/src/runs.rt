@@ -145,8 +145,8 @@ fn puts(alloc: Global, main: &[u8], component: &[u8]) -> Result<bool, Fail> {
     let answer = run_on(alloc, &["new", "out.wasm", "main.wasm"], &mut store)?;
     match store.log.as_slice() {
         [Event::Read { name, .. }, Event::Put { name: out, bytes }] => Ok(
-            name.is("main.wasm")
-                && out.is("out.wasm")
+            name.as_str() == "main.wasm"
+                && out.as_str() == "out.wasm"
                 && bytes.as_slice() == component
                 && answer.status == 0
                 && answer.out.is_empty()

@@ -90,7 +90,7 @@ impl Store for OneFile {
         match self.refusal() {
             Some(StoreFault::Memory) => Err(StoreFault::Memory),
             Some(StoreFault::Device) => self.refuse_read(name),
-            None if self.name.is(name) => self.give(name),
+            None if self.name.as_str() == name => self.give(name),
             None => self.refuse_read(name),
         }
     }

@@ -77,7 +77,7 @@ fn push_entry(out: &mut String, name: &str, ty: &ExternType) -> Result<(), Alloc
 /// The entries of a table, with spaces between.
 fn print_table(alloc: Global, table: &Keyed<Text, ExternType>) -> Result<String, AllocError> {
     let mut out = String::new(alloc);
-    for (name, ty) in table.entries() {
+    for (name, ty) in table.iter() {
         push_entry(&mut out, name.as_str(), ty)?;
     }
     Ok(out)

@@ -91,7 +91,7 @@ fn world(alloc: Global, text: &str) -> Result<Wit, AllocError> {
 
 fn print_imports(alloc: Global, wit: &Wit) -> Result<String, AllocError> {
     let mut out = String::new(alloc);
-    for (key, _item) in wit.imports.entries() {
+    for (key, _item) in wit.imports.iter() {
         if !out.is_empty() {
             out.push(' ')?;
         }

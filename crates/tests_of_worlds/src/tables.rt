@@ -23,6 +23,7 @@ use wit_data::{
     AbiVariant, Function, Interface, InterfaceId, Resolve, TypeDef, TypeId, TypeOwner, World,
     WorldId, WorldItem, WorldKey,
 };
+use world_tables::world_of_parts;
 
 const fn interface(index: usize) -> InterfaceId
     ensures { result ≡ record { index = index } }
@@ -247,7 +248,7 @@ fn whole(alloc: Global, parts: WorldParts) -> Result<Option<ComponentWorld>, All
         drop(parts);
         return Ok(None);
     }
-    let world = ComponentWorld::of_parts(alloc, parts)?;
+    let world = world_of_parts(alloc, parts)?;
     Ok(Some(world))
 }
 

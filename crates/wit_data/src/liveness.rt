@@ -133,7 +133,7 @@ pub fn marked_of(
     ensures { IfOk result (λ v. v.items ≡ filter (λ id. get_or marks.now id.index false) (map (λ entry. entry.1) named.now)) }
 {
     let mut found = Vec::new(alloc);
-    for (_, id) in named.entries() {
+    for (_, id) in named.iter() {
         if marks[id.index] {
             found.push(*id)?;
         }

@@ -101,7 +101,7 @@ impl Resolve {
     fn has_types(&self, types: &Keyed<Text, TypeId>) -> bool
         ensures { IsTrue result ↔ AllByRecursion (λ t. sound.HasTypeId self.now t.1) types.now }
     {
-        for (_, id) in types.entries() {
+        for (_, id) in types.iter() {
             if !self.has_type_id(*id) {
                 return false;
             }
@@ -112,7 +112,7 @@ impl Resolve {
     fn has_functions(&self, functions: &Keyed<Text, Function>) -> bool
         ensures { IsTrue result ↔ AllByRecursion (λ f. sound.HasFunction self.now f.1) functions.now }
     {
-        for (_, function) in functions.entries() {
+        for (_, function) in functions.iter() {
             if !self.has_function(function) {
                 return false;
             }
@@ -165,7 +165,7 @@ impl Resolve {
     fn has_entries(&self, items: &Keyed<WorldKey, WorldItem>) -> bool
         ensures { IsTrue result ↔ AllByRecursion (sound.HasEntry self.now) items.now }
     {
-        for (key, item) in items.entries() {
+        for (key, item) in items.iter() {
             if !self.has_entry(key, item) {
                 return false;
             }

@@ -10,4 +10,4 @@ index-requires c = let b = at_position _ _ _ _ c.in-Some.ensures c.requires in o
 
 pub returns-in-Some : goal.returns-in-Some
 returns-in-Some c =
-    c.contains.ensures ∙ ap (λ (fs : List (List ℕ × Import)). is_some (found c.args.field.now fs)) (sym (has_at _ _ _ _ _ c.in-Some.ensures c.requires c.index.ensures))
+    c.contains_key.ensures ∙ ap (λ (fs : List (List ℕ × Import)). is_some (found c.args.field.now fs)) (sym (has_at _ _ _ _ _ c.in-Some.ensures c.requires c.index.ensures))

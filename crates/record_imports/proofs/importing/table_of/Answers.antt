@@ -1,5 +1,5 @@
 use Rattle.record_imports.proofs.Groups.{not_yet}
 use Rattle.record_imports.proofs.importing.table_of.Goals as goal
 
-pub add-requires : goal.add-requires
-add-requires c = not_yet c.loop-group.modules c.loop-group.group-iterator.rest.items _ c.args.groups.items c.in-Some.group c.loop-group.invariant.0 c.in-Some.ensures.steps.0 c.loop-group.invariant.1
+pub insert-requires : goal.insert-requires
+insert-requires c = not_yet c.loop-group.modules c.loop-group.group-iterator.rest.items _ c.args.groups.items c.in-Some.group c.loop-group.invariant.0 c.in-Some.ensures.steps.0 c.loop-group.invariant.1

@@ -12,7 +12,7 @@ loop-module-init c =
     let world : c.self.inside.world.now ≡ c.args.self.now.world = ap (λ (e : Encoding). e.world) c.self.view_is in
     let all : List (List ℕ × ImportInstance) = c.args.self.now.world.main.imports.modules in
     let items : c.into_iter-module-iterator.result ≡ c.args.self.now.world.main.imports.modules =
-    c.into_iter-module-iterator.ensures.into_iter_gives ∙ c.entries-module-items.ensures.rest ∙ ap (λ (w : ComponentWorld). w.main.imports.modules) world in
+    c.into_iter-module-iterator.ensures.into_iter_gives ∙ c.iter-module-items.ensures.rest ∙ ap (λ (w : ComponentWorld). w.main.imports.modules) world in
     let none : c.new-arguments.result ≡ [] = c.new-arguments.ensures in (
       tt,
       tt,

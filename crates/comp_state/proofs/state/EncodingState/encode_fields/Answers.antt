@@ -7,7 +7,7 @@ use Rattle.std.proofs.Common.{ℕ}
 
 pub loop-field-init : goal.loop-field-init
 loop-field-init c =
-    let items : c.into_iter-field-iterator.result ≡ c.args.fields.now = c.into_iter-field-iterator.ensures.into_iter_gives ∙ c.entries-field-items.ensures.rest in
+    let items : c.into_iter-field-iterator.result ≡ c.args.fields.now = c.into_iter-field-iterator.ensures.into_iter_gives ∙ c.iter-field-items.ensures.rest in
     let none : c.new-entries.result ≡ [] = c.new-entries.ensures in (
       tt,
       tt,
@@ -29,4 +29,4 @@ loop-field-preserved c =
 pub returns-clause-apart : goal.returns-clause-apart
 returns-clause-apart c =
     entries_apart c.args.self.now c.loop-field.self c.loop-field.entries c.args.fields.now c.loop-field.field-iterator c.loop-field.invariant.2 (search rules)
-    c.entries-field-items.ensures.unique
+    c.iter-field-items.ensures.unique

@@ -12,7 +12,7 @@ pub loop-key-init : goal.loop-key-init
 loop-key-init c =
     let world : c.self.inside.world.now ≡ c.args.self.now.world = ap (λ (e : Encoding). e.world) c.self.view_is in
     let items : c.into_iter-key-iterator.result ≡ (items_of c.args.self.now.world).imports =
-    c.into_iter-key-iterator.ensures.into_iter_gives ∙ c.entries-key-items.ensures.rest ∙ ap (λ (w : World). w.imports) c.items.ensures ∙ ap (λ (w : ComponentWorld). (items_of w).imports) world in
+    c.into_iter-key-iterator.ensures.into_iter_gives ∙ c.iter-key-items.ensures.rest ∙ ap (λ (w : World). w.imports) c.items.ensures ∙ ap (λ (w : ComponentWorld). (items_of w).imports) world in
     (tt, tt, subst (λ (es : List (WorldKey × WorldItem)). ImportsSoFar c.args.self.now c.args.self.now es) (sym items) (imports_start c.args.self.now))
 
 pub loop-key-preserved : goal.loop-key-preserved

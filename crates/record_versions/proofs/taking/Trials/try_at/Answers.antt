@@ -7,14 +7,14 @@ use Rattle.record_versions.specs.Taking.{waits, IsAway}
 use Rattle.record_versions.proofs.Keeping.{at_one, away_taken, away_by, ready_by, read_at, kept_checked, kept_parked}
 use Rattle.record_versions.proofs.taking.Trials.try_at.Goals as goal
 
-pub returns-then-contains-clause-ready : goal.returns-then-contains-clause-ready
-returns-then-contains-clause-ready c =
+pub returns-then-contains_key-clause-ready : goal.returns-then-contains_key-clause-ready
+returns-then-contains_key-clause-ready c =
     let all = c.args.all.now in
     let w = c.index-all-position.result in
     let wait = waits c.args.self.now.parked in
     let at = slice_get_read all (length all) c.args.position w refl c.requires.below c.index-all-position.is in
     at_one (λ v. IsAway c.args.taken.now wait c.args.position v) all c.args.position w at
-    (away_taken c.args.taken.now wait c.args.position w (sym c.contains.ensures ∙ c.if-contains.true))
+    (away_taken c.args.taken.now wait c.args.position w (sym c.contains_key.ensures ∙ c.if-contains_key.true))
 
 pub first_lacking-lacking-requires : goal.first_lacking-lacking-requires
 first_lacking-lacking-requires c =
@@ -66,4 +66,4 @@ returns-in-None-clause-ready c =
     let at = slice_get_read all (length all) c.args.position w refl c.requires.below c.index-all-position.is in
     let past : length w.uses ≤ c.first_lacking-lacking.result = rw (← c.as_slice.ensures) c.in-None.ensures.lookup.3 in
     at_one (λ v. is_ready taken v ≡ true) all c.args.position w at
-    (ready_by taken w c.first_lacking-lacking.result (sym c.contains.ensures ∙ c.if-contains.false) c.first_lacking-lacking.ensures.known past)
+    (ready_by taken w c.first_lacking-lacking.result (sym c.contains_key.ensures ∙ c.if-contains_key.false) c.first_lacking-lacking.ensures.known past)

@@ -1,0 +1,15 @@
+use Rattle.std.proofs.Common.{◌≡◌, []}
+use Rattle.std.specs.List.{flat_map, AllByRecursion}
+use Rattle.wit_data.specs.Sound.{HasEntry}
+use Rattle.comp_worlds.specs.Lowerings.{is_same_lowering}
+use Rattle.world_values.specs.Tables.{with_all}
+use Rattle.comp_worlds.specs.Uses.{used_in}
+use Rattle.comp_worlds.specs.Imported.{root_lowerings}
+use Rattle.world_tables.proofs.imported.root_lowerings.Given as goal
+
+abbrev pub invariant-loop-key : goal.invariant-loop-key
+invariant-loop-key l =
+    goal.iterator-loop-key.can_next l.key-iterator ×
+    goal.iterator-loop-key.is_finite l.key-iterator ×
+    AllByRecursion (HasEntry l.resolve) l.key-iterator ×
+    (with_all is_same_lowering l.table (flat_map (root_lowerings (used_in l.uses) l.resolve.types) l.key-iterator) ≡ with_all is_same_lowering [] (flat_map (root_lowerings (used_in l.uses) l.resolve.types) l.entries))
