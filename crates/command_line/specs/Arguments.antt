@@ -1,5 +1,5 @@
 -- What the program's arguments ask for. (The program's own: its command line.)
-use Rattle.std.specs.Prelude.{ℕ, Bool, true, false, List, [], ◌∷◌, ◌&&◌, codes, Option, Some, None, if◌then◌else◌}
+use Rattle.std.specs.Prelude.{ℕ, Bool, true, false, List, [], ◌∷◌, ◌&&◌, codes, ⊤, Option, Some, None, if◌then◌else◌}
 use Rattle.std.specs.Str.{bytes_eq}
 use Rattle.command_line.specs.declared.arguments.Request.{Request}
 use Rattle.command_line.specs.declared.arguments.Request.TheVariants as requests
@@ -23,6 +23,12 @@ request_of (command ∷ file ∷ []) = if bytes_eq command (codes "defs") then S
 request_of (command ∷ out ∷ main ∷ []) = if bytes_eq command (codes "new") then Some (making out main false) else None
 request_of (command ∷ out ∷ main ∷ flag ∷ []) = if bytes_eq command (codes "new") && bytes_eq flag (codes "--validate") then Some (making out main true) else None
 request_of _ = None
+
+-- files are named, so that memory is needed for their names
+abbrev pub NamesFiles : Option Request → Type 0
+NamesFiles (Some (requests.New names)) = ⊤
+NamesFiles (Some (requests.Defs file)) = ⊤
+NamesFiles _ = ⊥
 
 -- whether the definitions of a component are asked for
 abbrev pub is_listing : Option Request → Bool

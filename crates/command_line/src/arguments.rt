@@ -1,7 +1,7 @@
 //! What the program is asked for.
 
-ghost use Rattle.std.specs.Prelude.{◌≡◌, map, string_bytes, IfOk, IfErr, IsSome};
-ghost use Rattle.command_line.specs.Arguments.{request_of, of_one_word, making, is_listing};
+ghost use Rattle.std.specs.Prelude.{◌≡◌, map, string_bytes, IfOk, IfErr};
+ghost use Rattle.command_line.specs.Arguments.{NamesFiles, request_of, of_one_word, making, is_listing};
 ghost use Rattle.command_line.specs.declared.arguments.Request.TheVariants as requests;
 
 use comp_lists::Text;
@@ -64,7 +64,7 @@ impl Request {
     /// What the words after the program's name ask for, where they ask for anything.
     pub(crate) fn read(alloc: Global, words: &[String]) -> Result<Option<Request>, AllocError>
         ensures ok { IfOk result (λ r. r ≡ request_of (map string_bytes words.now)) }
-        ensures err { IfErr result (λ _. IsSome (request_of (map string_bytes words.now))) }
+        ensures err { IfErr result (λ _. NamesFiles (request_of (map string_bytes words.now))) }
     {
         match words {
             [word] => Ok(Request::of_one_word(word.as_str())),

@@ -5,6 +5,8 @@ ghost use Rattle.comp_bytes.specs.Grammar.{Encodes};
 ghost use Rattle.comp_bytes.specs.declared.def.Def.{Def};
 ghost use Rattle.comp_check.specs.Faults.{IsUnread};
 ghost use Rattle.comp_lines.specs.Lines.{lines};
+ghost use Rattle.atomic_files.specs.Files.{Known};
+ghost use Rattle.atomic_files.specs.Steps.{Unchanged};
 ghost use Rattle.command_line.specs.Events.{happen};
 ghost use Rattle.command_line.specs.Faults.{is_whole};
 ghost use Rattle.command_line.specs.declared.store.Event.{Event};
@@ -66,7 +68,8 @@ pub(crate) fn list<S: Store, W: Write, F>(
     store: &mut S,
     out: &mut W,
 ) -> Result<(), RunFault<F>>
-    ensures { (es : List Event) × (S.events store.new ≡ happen (S.events store.old) es) × Listed file es (W.contents out.old) (W.contents out.new) result }
+    ensures listed { (es : List Event) × (S.events store.new ≡ happen (S.events store.old) es) × Listed file es (W.contents out.old) (W.contents out.new) result }
+    ensures files { Known Unchanged (S.files store.old) (S.files store.new) }
 {
     let bytes = match store.read(alloc, file.as_str()) {
         Ok(bytes) => bytes,

@@ -1,6 +1,8 @@
 //! From a file to a file.
 
 ghost use Rattle.std.specs.Prelude.{◌≡◌, List, IfOk, IfErr};
+ghost use Rattle.atomic_files.specs.Files.{Known};
+ghost use Rattle.atomic_files.specs.Steps.{Kept};
 ghost use Rattle.command_line.specs.Events.{happen};
 ghost use Rattle.command_line.specs.declared.store.Event.{Event};
 ghost use Rattle.command_line.specs.Making.{IsMade, IsMakeRefusal, Made};
@@ -35,7 +37,8 @@ pub(crate) fn make<L: Lower + Drop, S: Store>(
     arguments: Arguments,
     store: &mut S,
 ) -> Result<(), RunFault<L::Fault>>
-    ensures { (es : List Event) × (S.events store.new ≡ happen (S.events store.old) es) × Made L.Lower lower arguments es result }
+    ensures made { (es : List Event) × (S.events store.new ≡ happen (S.events store.old) es) × Made L.Lower lower arguments es result }
+    ensures files { IfErr result (λ _. Known Kept (S.files store.old) (S.files store.new)) }
 {
     let Arguments {
         out,

@@ -1,6 +1,8 @@
 //! A run of the program.
 
-ghost use Rattle.std.specs.Prelude.{◌≡◌, map, string_bytes};
+ghost use Rattle.std.specs.Prelude.{◌≡◌, ◌≢◌, IfErr, map, string_bytes};
+ghost use Rattle.atomic_files.specs.Files.{Known};
+ghost use Rattle.atomic_files.specs.Steps.{Kept};
 ghost use Rattle.command_line.specs.Arguments.{request_of, is_listing};
 ghost use Rattle.command_line.specs.Running.{Performed, Ran, Reported};
 ghost use Rattle.command_line.specs.Faults.{status_of};
@@ -25,7 +27,8 @@ fn perform<L: Lower + Drop, S: Store, W: Write>(
     store: &mut S,
     out: &mut W,
 ) -> Result<(), RunFault<L::Fault>>
-    ensures { Performed L.Lower lower (request_of (map string_bytes words.now)) (S.events store.old) (S.events store.new) (W.contents out.old) (W.contents out.new) result }
+    ensures performed { Performed L.Lower lower (request_of (map string_bytes words.now)) (S.events store.old) (S.events store.new) (W.contents out.old) (W.contents out.new) result }
+    ensures files { IfErr result (λ _. Known Kept (S.files store.old) (S.files store.new)) }
 {
     match Request::read(alloc, words) {
         Ok(Some(Request::New(arguments))) => make(alloc, lower, arguments, store),
@@ -74,6 +77,7 @@ pub fn run_with<L: Lower + Drop, S: Store, W: Write, E: Write>(
     err: &mut E,
 ) -> u8
     ensures ran { Ran L.Lower lower (map string_bytes words.now) (S.events store.old) (S.events store.new) (W.contents out.old) (W.contents out.new) (E.contents err.old) (E.contents err.new) result }
+    ensures files { result ≢ 0 → Known Kept (S.files store.old) (S.files store.new) }
 {
     let done = perform(alloc, lower, words, store, out);
     report(alloc, err, is_listing(words), &done);

@@ -1,6 +1,8 @@
 //! From the arguments as the system gives them.
 
-ghost use Rattle.std.specs.Prelude.{◌≡◌, ℕ, None, Some, List, IfOk, IfErr, IsOk, map, string_bytes};
+ghost use Rattle.std.specs.Prelude.{◌≡◌, ◌≢◌, ℕ, None, Some, List, IfOk, IfErr, IsOk, map, string_bytes};
+ghost use Rattle.atomic_files.specs.Files.{Known};
+ghost use Rattle.atomic_files.specs.Steps.{Kept};
 ghost use Rattle.command_line.specs.Starting.{Started, first_not_text};
 ghost use Rattle.command_line.specs.declared.starting.WordsFault.TheVariants as faults;
 
@@ -54,6 +56,7 @@ pub fn start_with<L: Lower + Drop, S: Store, W: Write, E: Write>(
     err: &mut E,
 ) -> u8
     ensures started { Started L.Lower lower (map (λ a. a.items) arguments.now) (S.events store.old) (S.events store.new) (W.contents out.old) (W.contents out.new) (E.contents err.old) (E.contents err.new) result }
+    ensures files { result ≢ 0 → Known Kept (S.files store.old) (S.files store.new) }
 {
     match words_of(alloc, arguments) {
         Ok(words) => run_with(alloc, lower, &words, store, out, err),

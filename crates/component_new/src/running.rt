@@ -1,6 +1,8 @@
 //! A run with the lower layer of the program.
 
-ghost use Rattle.std.specs.Prelude.{map};
+ghost use Rattle.std.specs.Prelude.{◌≢◌, map};
+ghost use Rattle.atomic_files.specs.Files.{Known};
+ghost use Rattle.atomic_files.specs.Steps.{Kept};
 ghost use Rattle.command_line.specs.Starting.{StartedOver};
 
 use command_line::{Store, start_with};
@@ -18,6 +20,7 @@ pub(crate) fn run<S: Store, W: Write, E: Write>(
     err: &mut E,
 ) -> u8
     ensures started { StartedOver ⟦<PlainLower as Lower>⟧ (map (λ a. a.items) arguments.now) (S.events store.old) (S.events store.new) (W.contents out.old) (W.contents out.new) (E.contents err.old) (E.contents err.new) result }
+    ensures files { result ≢ 0 → Known Kept (S.files store.old) (S.files store.new) }
 {
     start_with(alloc, PlainLower::new(), arguments, store, out, err)
 }
