@@ -111,7 +111,7 @@ core-instance 3 = exports "0"=func 1
 core-instance 4 = instantiate 2 "actual"=3 "shim"=0
 custom "component-name" 189 bytes
 LINES
-tells 'a component with shims is told' 0 shim_lines '' defs "$top/crates/read_changes/data/shims.wasm"
+tells 'a component with shims is told' 0 shim_lines '' defs "$top/crates/reader_mutations/data/shims.wasm"
 tells 'a front that is a component' 0 front_lines '' defs front.wasm
 : >none
 head -c 100 "$top/examples/component.wasm" >cut_component.wasm
@@ -122,5 +122,72 @@ got=0
 "$program" defs "$top/examples/component.wasm" >/dev/full 2>err || got=$?
 printf 'error: write "-"\n' >line
 if [ "$got" -eq 1 ] && cmp -s err line; then echo 'ok: a full output'; else echo 'FAILED: a full output'; failed=1; fi
+(sleep 0.5; got=0; "$program" defs "$top/examples/component.wasm" 2>err || got=$?; echo "$got" >status) | true
+if [ "$(cat status)" -eq 1 ] && [ ! -s err ]; then echo 'ok: an output that nobody reads'; else echo 'FAILED: an output that nobody reads'; failed=1; fi
+
+cat >help <<'HELP'
+usage: component_new new OUT MAIN [options] | defs FILE
+  --validate      new: check the names of the component's imports and exports
+  -h, --help      print this text
+  --version       print the version of the program, and the kit that it is proved with
+HELP
+printf 'component_new 0.1.0, proved with %s\n' "$(rt version)" >version
+for word in --help -h help; do tells "$word" 0 help '' "$word"; done
+tells 'the version, and the kit' 0 version '' --version
+expect 'help and another word' 2 "$usage" --help new
+
+not_text=$(printf 'a\377b')
+expect 'a FILE that is not UTF-8' 2 'error: argument 2 is not UTF-8' defs "$not_text"
+expect 'an OUT that is not UTF-8' 2 'error: argument 2 is not UTF-8' new "$not_text" main.wasm
+expect 'a MAIN that is not UTF-8' 2 'error: argument 3 is not UTF-8' new kept.wasm "$not_text"
+long=$(printf '%0250d' 0)
+expect 'a MAIN with a long name' 1 "error: read \"none/$long$long\"" new kept.wasm "none/$long$long"
+
+# A regular file is replaced whole, by a new file.
+component=$top/examples/component.wasm
+expect 'an OUT with a long name' 0 '' new "$long" main.wasm
+holds 'has its component' "$long" "$component"
+printf old >kept_mode.wasm
+chmod 640 kept_mode.wasm
+: >.component_new-0.part
+expect 'a new file whose first name is taken' 0 '' new kept_mode.wasm main.wasm
+holds 'takes another' kept_mode.wasm "$component"
+if [ "$(stat -c %a kept_mode.wasm)" = 640 ] && [ -e .component_new-0.part ] && [ ! -s .component_new-0.part ]; then
+    echo 'ok: it has the permissions of the old one'
+else
+    echo 'FAILED: permissions, or the taken name'
+    failed=1
+fi
+rm .component_new-0.part
+
+# limited BLOCKS: a run that may write files of this many blocks of 512 bytes leaves the old OUT
+limited() {
+    printf old >old.wasm
+    (trap '' XFSZ; ulimit -f "$1"; exec "$program" new old.wasm padded.wasm) 2>&1 >/dev/null | cat >err
+    printf 'error: write "old.wasm"\n' >line
+    if cmp -s err line && [ "$(cat old.wasm)" = old ]; then echo "ok: no room after $1 blocks"; else echo "FAILED: no room after $1 blocks"; failed=1; fi
+}
+{ printf '\0asm\001\0\0\0\000\322\017\001a'; head -c 2000 /dev/zero; } >padded.wasm
+limited 0
+limited 1
+if ls -A | grep -q '\.part$'; then echo 'FAILED: a new file is left'; failed=1; else echo 'ok: no new file is left'; fi
+
+# What is not a regular file is written in place.
+expect 'an OUT without room' 1 'error: write "/dev/full"' new /dev/full main.wasm
+expect 'an OUT that is a folder' 1 'error: write "."' new . main.wasm
+tells 'an OUT that is standard output, a file' 0 "$component" '' new /dev/stdout main.wasm
+"$program" new /dev/stdout main.wasm | cat >piped
+holds 'an OUT that is standard output, a pipe' piped "$component"
+printf old >target.wasm
+ln -s target.wasm link.wasm
+expect 'an OUT that is a symbolic link' 0 '' new link.wasm main.wasm
+holds 'is written where it leads to' target.wasm "$component"
+if [ -L link.wasm ]; then echo 'ok: it is a link still'; else echo 'FAILED: the link was replaced'; failed=1; fi
+mkfifo pipe
+cat pipe >piped &
+expect 'an OUT that is a named pipe' 0 '' new pipe main.wasm
+wait
+holds 'is written once' piped "$component"
+
 if [ -e kept.wasm ]; then echo 'FAILED: a failed run left an OUT'; failed=1; fi
 exit $failed
