@@ -13,13 +13,13 @@ mod arguments;
 mod fault;
 mod listing;
 mod making;
+mod messages;
 mod running;
 mod store;
-mod messages;
 
+pub use messages::{MEMORY, USAGE, say};
 pub use running::{run, run_with};
 pub use store::{Event, Store, StoreFault};
-pub use messages::{MEMORY, USAGE, say};
 
 #[cfg(test)]
 mod tests;

@@ -171,7 +171,12 @@ fn put_made(
     ensures { Becomes result made_interfaces.new (with_made name.now number id items made_interfaces.old) }
 {
     push_made(made_interfaces, id, items)?;
-    put_new(alloc, &mut made_interfaces.ids, name.try_clone(alloc)?, number)
+    put_new(
+        alloc,
+        &mut made_interfaces.ids,
+        name.try_clone(alloc)?,
+        number,
+    )
 }
 
 /// The interface of this name, made as the next one.

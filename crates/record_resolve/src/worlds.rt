@@ -15,9 +15,7 @@ use comp_lists::{Keyed, Seq, Text, TryClone};
 use json_paths::{Failure, fault_here};
 use record_values::{Func, Interface, InterfaceName, Interfaces, Item, ItemKey, Node, Owner};
 use std::alloc::{AllocError, Global};
-use wit_data::{
-    Function, FunctionKind, InterfaceId, TypeOwner, WorldId, WorldItem, WorldKey,
-};
+use wit_data::{Function, FunctionKind, InterfaceId, TypeOwner, WorldId, WorldItem, WorldKey};
 
 /// The interfaces of the record by name.
 type All = Keyed<InterfaceName, Interface>;
@@ -188,7 +186,15 @@ fn imported_type(
     let name = plain_name(alloc, key)?;
     let type_owner = TypeOwner::World(WorldId { index: 0 });
     let owner = Owner::World;
-    let id = make_named(alloc, making, Side::Imported, &owner, type_owner, &name, nodes)?;
+    let id = make_named(
+        alloc,
+        making,
+        Side::Imported,
+        &owner,
+        type_owner,
+        &name,
+        nodes,
+    )?;
     Ok((WorldKey::Name(name), WorldItem::NamedType(id)))
 }
 
@@ -252,7 +258,7 @@ fn make_unfinished(
     ensures { Makes result making.new (items_from side ids.now entries.now ([], making.old)) }
 {
     let mut items = Seq::new(alloc);
-    for (key, item) in entries.entries() {
+    for (key, item) in entries.iter() {
         push_item(alloc, making, side, ids, key, item, &mut items)?;
     }
     Ok(items)
@@ -346,14 +352,6 @@ pub(crate) fn make_items(
 ) -> Result<Items, Failure>
     ensures { Makes result making.new (all_items side ids.now entries.now making.old) }
 {
-<<<<<<< HEAD
-    let mut items = Keyed::new(alloc);
-    for (key, item) in entries.iter() {
-        add_item(alloc, making, side, ids, key, item, &mut items)?;
-    }
-    Ok(items)
-=======
     let made = make_unfinished(alloc, making, side, ids, entries)?;
     finish_items(alloc, making, side, made)
->>>>>>> rec
 }

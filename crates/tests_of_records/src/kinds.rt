@@ -28,14 +28,14 @@ fn push_item(alloc: Global, out: &mut String, item: &WorldItem) -> Result<(), Al
 }
 
 fn push_imports(alloc: Global, out: &mut String, world: &World) -> Result<(), AllocError> {
-    for (_key, item) in world.imports.entries() {
+    for (_key, item) in world.imports.iter() {
         push_item(alloc, out, item)?;
     }
     Ok(())
 }
 
 fn push_exports(alloc: Global, out: &mut String, world: &World) -> Result<(), AllocError> {
-    for (_key, item) in world.exports.entries() {
+    for (_key, item) in world.exports.iter() {
         push_item(alloc, out, item)?;
     }
     Ok(())
@@ -46,7 +46,7 @@ fn push_interface(
     out: &mut String,
     interface: &Interface,
 ) -> Result<(), AllocError> {
-    for (_name, function) in interface.functions.entries() {
+    for (_name, function) in interface.functions.iter() {
         push_function(alloc, out, function)?;
     }
     Ok(())

@@ -25,8 +25,8 @@ mod made;
 mod offers;
 mod resolving;
 mod roles;
-mod versions;
 mod types;
+mod versions;
 mod wits;
 mod worlds;
 
