@@ -14,8 +14,8 @@ ghost use Rattle.command_line.specs.Listing.{printed, Listed};
 ghost use Rattle.command_line.specs.Messages.{Puts};
 
 use crate::fault::{RunFault, Written, read_fault, run_written};
-use crate::store::Store;
 use crate::messages::put;
+use crate::store::Store;
 use byte_encoding::BuildFault;
 use comp_check::{CheckFault, read_component};
 use comp_lines::describe;

@@ -104,7 +104,11 @@ fn check_component(line: u128, top: &Counts, inner: &[Item]) -> Result<(), Index
     let outer = [*top];
     let mut own = Counts::new();
     for (item_index, item) in inner.iter().enumerate() {
-        check_item_on(line + 1 + item_index as u128, &Scopes::new(&own, &outer), item)?;
+        check_item_on(
+            line + 1 + item_index as u128,
+            &Scopes::new(&own, &outer),
+            item,
+        )?;
         own.count(items::item_space(item));
     }
     Ok(())

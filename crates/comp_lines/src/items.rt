@@ -14,8 +14,8 @@ use crate::parts::{Printable, put_each, put_extern, put_item, put_numbered};
 use crate::texts::{put_hex, put_number, put_quoted};
 use byte_encoding::{BuildFault, Encode, encoded};
 use comp_bytes::{
-    Alias, CanonicalOption, CoreInlineExport, Description, ExternName, Intrinsic, Item, Sort, Space,
-    space_of_kind,
+    Alias, CanonicalOption, CoreInlineExport, Description, ExternName, Intrinsic, Item, Sort,
+    Space, space_of_kind,
 };
 use comp_lists::{Seq, Text};
 use std::alloc::Global;
@@ -44,7 +44,11 @@ fn put_with_each<T: Printable>(
 }
 
 /// Writes what is instantiated, and its arguments.
-fn put_instantiate<T: Printable>(out: &mut String, made: u32, args: &Seq<T>) -> Result<(), BuildFault>
+fn put_instantiate<T: Printable>(
+    out: &mut String,
+    made: u32,
+    args: &Seq<T>,
+) -> Result<(), BuildFault>
     ensures { Puts (string_bytes out.old) (string_bytes out.new) result (codes "instantiate " ++ decimal made ++ flat_map T.text args.now) [] }
 {
     put_with_each(out, "instantiate ", made, args.as_slice())

@@ -7,7 +7,7 @@ ghost use Rattle.byte_encoding.specs.Written.{Writes};
 ghost use Rattle.core_bytes.specs.Signed.{low_seven, signed_within, signed};
 ghost use Rattle.core_bytes.specs.Modules.{with_id};
 
-use byte_encoding::{BuildFault, Encode, put_bytes, put_count, encoded};
+use byte_encoding::{BuildFault, Encode, encoded, put_bytes, put_count};
 use std::alloc::AllocError;
 
 /// The low seven bits of a number, or of -1 less it.

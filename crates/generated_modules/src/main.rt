@@ -28,7 +28,11 @@ enum Failure {
 }
 
 /// Prints a line.
-fn print_module(rt: &HostRuntime, name: &str, bytes: Result<Vec<u8>, BuildFault>) -> Result<(), Failure> {
+fn print_module(
+    rt: &HostRuntime,
+    name: &str,
+    bytes: Result<Vec<u8>, BuildFault>,
+) -> Result<(), Failure> {
     let Ok(bytes) = bytes else {
         return Err(Failure::Making);
     };

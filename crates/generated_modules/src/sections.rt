@@ -2,9 +2,9 @@
 
 use byte_encoding::BuildFault;
 use core_bytes::{
-    Body, Code, ConstExpr, DefinedGlobal, ElementSection, ElementSegment, EntityType, ExportSection,
-    FunctionSection, GlobalSection, ImportSection, MemorySection, Module, Section, TableSection,
-    TypeSection,
+    Body, Code, ConstExpr, DefinedGlobal, ElementSection, ElementSegment, EntityType,
+    ExportSection, FunctionSection, GlobalSection, ImportSection, MemorySection, Module, Section,
+    TableSection, TypeSection,
 };
 use core_types::{GlobalType, MemoryType, TableType, ValType};
 use standard_kinds::ExportKind;

@@ -14,8 +14,8 @@ ghost use Rattle.plain_lower.specs.Causes.{CombinedCause};
 use comp_lists::Keyed;
 use record_faults::Failure;
 use record_resolve::{Resolved, resolve};
-use record_versions::{MergedVersions, merge_versions};
 use record_values::{InterfaceName, Wit};
+use record_versions::{MergedVersions, merge_versions};
 use std::alloc::{AllocError, Global};
 
 /// The same resolve, in which interfaces that became others have their old names too.

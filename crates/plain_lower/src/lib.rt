@@ -15,10 +15,10 @@
 #![tactic(auto)]
 
 mod adapters;
-mod decoding;
-mod combined;
-mod lower;
 mod checking;
+mod combined;
+mod decoding;
+mod lower;
 mod preparing;
 
 pub use lower::PlainLower;

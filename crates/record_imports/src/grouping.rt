@@ -67,7 +67,10 @@ fn add_field(
     ensures groups { IfOk result (λ x. (g : GroupRecord) → slice_get grouping.groups.items position ≡ Some g
         → x.groups.items ≡ slice_set grouping.groups.items position (record { name = g.name; fields = g.fields ++ (field, role) ∷ [] })) }
 {
-    let Grouping { positions, mut groups } = grouping;
+    let Grouping {
+        positions,
+        mut groups,
+    } = grouping;
     groups[position].fields.insert(field, role)?;
     Ok(Grouping { positions, groups })
 }

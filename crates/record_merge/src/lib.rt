@@ -16,10 +16,10 @@
 mod assigning;
 mod bindgen;
 mod encodings;
-mod module_records;
 mod merging;
+mod module_records;
 mod tables;
 
 pub use bindgen::{Bindgen, FunctionOf, Roles, no_bindgen};
-pub use module_records::bindgen_of;
 pub use merging::{merge, merge_wit};
+pub use module_records::bindgen_of;

@@ -7,6 +7,8 @@ use Rattle.wit_data.specs.declared.types.TypeDefKind.{TypeDefKind}
 use Rattle.wit_data.specs.declared.types.TypeDefKind.TheVariants as kinds
 use Rattle.wit_data.specs.declared.functions.FunctionKind.{FunctionKind}
 use Rattle.wit_data.specs.declared.functions.FunctionKind.TheVariants as forms
+use Rattle.wit_data.specs.declared.worlds.WorldItem.{WorldItem}
+use Rattle.wit_data.specs.declared.worlds.WorldItem.TheVariants as made_items
 use Rattle.json_paths.specs.declared.fault.Failure.{Failure}
 use Rattle.record_values.specs.declared.names.InterfaceName.{InterfaceName}
 use Rattle.record_values.specs.declared.names.InterfaceName.TheVariants as names
@@ -28,7 +30,7 @@ use Rattle.record_resolve.specs.Types.{after_compound, step, type_of, kind_befor
 use Rattle.record_resolve.specs.Functions.{function_kind, with_param, some_result, function_of}
 use Rattle.record_resolve.specs.Ids.{id_name, id_parts}
 use Rattle.record_resolve.specs.Interfaces.{with_type_of, with_function_of, items_of, with_interface, with_named}
-use Rattle.record_resolve.specs.Worlds.{exported_of, interface_item, with_item}
+use Rattle.record_resolve.specs.Worlds.{exported_of, interface_item, function_item, imported_type, with_item, with_finished, all_items}
 use Rattle.record_resolve.specs.declared.resolving.Resolved.{Resolved}
 use Rattle.record_resolve.specs.Resolved.{imports_of, exports_of, resolved_after, resolved_among, resolved}
 
@@ -90,32 +92,68 @@ list_of_texts = kinds.«List» (types.Primitive prims.String)
 
 -- i alone, imported: the two functions share one list; the named type l is one of its own
 imported_only : named_kinds (resolved (world imports_i [])) ≡ Ok ((Some (codes "r"), kinds.Resource) ∷ (Some (codes "l"), list_of_texts) ∷ (None, list_of_texts) ∷ (None, kinds.Own (type_id 0)) ∷ [])
-unfolding resolved resolved_among resolved_after imports_of exports_of exported_of with_item with_named with_interface items_of with_type_of with_function_of new_type kind_before type_of step after_compound shared function_of with_param some_result function_kind interface_item
+unfolding resolved resolved_among resolved_after imports_of exports_of exported_of all_items with_item with_finished with_named with_interface items_of with_type_of with_function_of new_type kind_before type_of step after_compound shared function_of with_param some_result function_kind interface_item
 imported_only = refl
 
 -- j exported, which names a type of i, which is only imported
 uses_the_imported : named_kinds (resolved (world imports_i exports_j)) ≡ Ok ((Some (codes "r"), kinds.Resource) ∷ (Some (codes "l"), list_of_texts) ∷ (None, list_of_texts) ∷ (None, kinds.Own (type_id 0)) ∷ (Some (codes "u"), kinds.Alias (types.Id (type_id 1))) ∷ (None, list_of_texts) ∷ (Some (codes "o"), kinds.«Option» (types.Id (type_id 5))) ∷ [])
-unfolding resolved resolved_among resolved_after imports_of exports_of exported_of with_item with_named with_interface items_of with_type_of with_function_of new_type kind_before type_of step after_compound shared function_of with_param some_result function_kind interface_item
+unfolding resolved resolved_among resolved_after imports_of exports_of exported_of all_items with_item with_finished with_named with_interface items_of with_type_of with_function_of new_type kind_before type_of step after_compound shared function_of with_param some_result function_kind interface_item
 uses_the_imported = refl
 
 -- i on both sides: its copy is apart, is made before j, and j names a type of the copy
 uses_the_copy : named_kinds (resolved (world imports_i both)) ≡ Ok ((Some (codes "r"), kinds.Resource) ∷ (Some (codes "l"), list_of_texts) ∷ (None, list_of_texts) ∷ (None, kinds.Own (type_id 0)) ∷ (Some (codes "r"), kinds.Resource) ∷ (Some (codes "l"), list_of_texts) ∷ (None, list_of_texts) ∷ (None, kinds.Own (type_id 4)) ∷ (Some (codes "u"), kinds.Alias (types.Id (type_id 5))) ∷ (None, list_of_texts) ∷ (Some (codes "o"), kinds.«Option» (types.Id (type_id 9))) ∷ [])
-unfolding resolved resolved_among resolved_after imports_of exports_of exported_of with_item with_named with_interface items_of with_type_of with_function_of new_type kind_before type_of step after_compound shared function_of with_param some_result function_kind interface_item
+unfolding resolved resolved_among resolved_after imports_of exports_of exported_of all_items with_item with_finished with_named with_interface items_of with_type_of with_function_of new_type kind_before type_of step after_compound shared function_of with_param some_result function_kind interface_item
 uses_the_copy = refl
 
 -- the method belongs to the resource of its own side
 methods : forms_of (resolved (world imports_i both)) ≡ Ok ((forms.Freestanding ∷ forms.Freestanding ∷ forms.Method (type_id 0) ∷ []) ∷ (forms.Freestanding ∷ forms.Freestanding ∷ forms.Method (type_id 4) ∷ []) ∷ [] ∷ [])
-unfolding resolved resolved_among resolved_after imports_of exports_of exported_of with_item with_named with_interface items_of with_type_of with_function_of new_type kind_before type_of step after_compound shared function_of with_param some_result function_kind interface_item
+unfolding resolved resolved_among resolved_after imports_of exports_of exported_of all_items with_item with_finished with_named with_interface items_of with_type_of with_function_of new_type kind_before type_of step after_compound shared function_of with_param some_result function_kind interface_item
 methods = refl
+
+-- a function of the world, and the resource r of the world
+abbrev method_m : ItemKey × Item
+method_m = (keys.Name (codes "[method]r.m"), items.Function (function (codes "[method]r.m") [] None))
+
+abbrev resource_r : ItemKey × Item
+resource_r = (keys.Name (codes "r"), items.«Type» (nodes.Resource ∷ []))
+
+abbrev world_forms : Result Resolved Failure → Result (List (List WorldItem)) Failure
+world_forms (Ok r) = Ok (map (λ w. map (λ e. e.1) w.imports) r.resolve.worlds)
+world_forms (Err e) = Err e
+
+abbrev made_method : FunctionKind → WorldItem
+made_method kind = made_items.Function (record { name = codes "[method]r.m"; kind = kind; params = []; result = None })
+
+-- a method of the world belongs to a resource that comes later
+resource_later : world_forms (resolved (world (method_m ∷ resource_r ∷ []) [])) ≡ Ok ((made_method (forms.Method (type_id 0)) ∷ made_items.NamedType (type_id 0) ∷ []) ∷ [])
+unfolding resolved resolved_among resolved_after imports_of exports_of exported_of all_items with_item with_finished function_item imported_type function_of new_type kind_before function_kind
+resource_later = refl
+
+-- a method of the world belongs to no type where there is none of this name
+no_resource : world_forms (resolved (world (method_m ∷ []) [])) ≡ Ok ((made_method forms.Freestanding ∷ []) ∷ [])
+unfolding resolved resolved_among resolved_after imports_of exports_of exported_of all_items with_item with_finished function_item imported_type function_of new_type kind_before function_kind
+no_resource = refl
+
+-- a method of the interface k, which has no type of this name
+abbrev k : InterfaceName
+k = names.Imported (codes "k")
+
+abbrev world_with_k : Wit
+world_with_k = record { interfaces = (k, record { types = []; functions = function (codes "[static]r.m") [] None ∷ [] }) ∷ []; imports = resource_r ∷ (keys.Name (codes "k"), items.Interface k) ∷ []; exports = [] }
+
+-- the resource of the world is no type of the interface
+no_resource_here : forms_of (resolved world_with_k) ≡ Ok ((forms.Freestanding ∷ []) ∷ [])
+unfolding resolved resolved_among resolved_after imports_of exports_of exported_of all_items with_item with_finished with_named with_interface items_of with_function_of imported_type interface_item function_of new_type kind_before function_kind
+no_resource_here = refl
 
 -- j alone names a type of an interface that does not exist
 nothing_there : named_kinds (resolved (world [] exports_j)) ≡ Err nowhere
-unfolding resolved resolved_among resolved_after imports_of exports_of exported_of with_item with_named with_interface items_of with_type_of with_function_of new_type kind_before type_of step after_compound shared function_of with_param some_result function_kind interface_item
+unfolding resolved resolved_among resolved_after imports_of exports_of exported_of all_items with_item with_finished with_named with_interface items_of with_type_of with_function_of new_type kind_before type_of step after_compound shared function_of with_param some_result function_kind interface_item
 nothing_there = refl
 
 -- j before i, where both are exported only: the name of a type that is made later refers to nothing
 too_early : named_kinds (resolved (world [] both)) ≡ Err nowhere
-unfolding resolved resolved_among resolved_after imports_of exports_of exported_of with_item with_named with_interface items_of with_type_of with_function_of new_type kind_before type_of step after_compound shared function_of with_param some_result function_kind interface_item
+unfolding resolved resolved_among resolved_after imports_of exports_of exported_of all_items with_item with_finished with_named with_interface items_of with_type_of with_function_of new_type kind_before type_of step after_compound shared function_of with_param some_result function_kind interface_item
 too_early = refl
 
 -- an id without a version

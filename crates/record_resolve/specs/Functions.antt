@@ -1,6 +1,7 @@
 -- Functions (component model, WIT: `func`): their kinds, which are written in their names, and the types of their
 -- parameters and results.
-use Rattle.std.specs.Prelude.{ℕ, List, [], ◌∷◌, ◌++◌, codes, Bool, Option, None, Some, Result, Ok, Err, if◌then◌else◌}
+use Rattle.std.specs.Prelude.{ℕ, List, [], ◌∷◌, ◌++◌, codes, Bool, false, Option, None, Some, Result, Ok, Err, if◌then◌else◌}
+use Rattle.std.specs.Option.{option_map_or}
 use Rattle.std.specs.Str.{bytes_eq}
 use Rattle.json_paths.specs.declared.fault.Failure.{Failure}
 use Rattle.json_paths.specs.Faults.{◌>>=◌}
@@ -18,7 +19,7 @@ use Rattle.record_resolve.specs.declared.making.Making.{Making}
 use Rattle.record_resolve.specs.declared.making.Side.{Side}
 use Rattle.record_resolve.specs.Steps.{nowhere}
 use Rattle.comp_lists.specs.Cuts.{cut_at}
-use Rattle.record_resolve.specs.Names.{found}
+use Rattle.record_resolve.specs.Names.{type_named}
 use Rattle.record_resolve.specs.Types.{type_of, type_name}
 
 abbrev pub method : Bool → TypeId → FunctionKind
@@ -30,30 +31,29 @@ static is_async id = if is_async then kinds.AsyncStatic id else kinds.Static id
 abbrev pub plain : Bool → FunctionKind
 plain is_async = if is_async then kinds.AsyncFreestanding else kinds.Freestanding
 
--- a function of the type of this name, which is of the same owner
-abbrev pub of_type : Making → Side → Owner → (TypeId → FunctionKind) → List ℕ → Result FunctionKind Failure
-of_type m side owner make name = do
-  id ← found m side (type_name owner name)
-  Ok (make id)
+-- a function of the type of this name, which is of the same owner; where the owner has no such type, of none
+abbrev pub of_type : Making → Side → Owner → Bool → (TypeId → FunctionKind) → List ℕ → FunctionKind
+of_type m side owner is_async make name = option_map_or make (type_named m side (type_name owner name)) (plain is_async)
 
 -- a method or a static function has the name of its type before a dot
-abbrev pub of_member : Making → Side → Owner → Bool → (TypeId → FunctionKind) → Option (List ℕ × List ℕ) → Result FunctionKind Failure
-of_member m side owner is_async make None = Ok (plain is_async)
-of_member m side owner is_async make (Some p) = of_type m side owner make p.0
+abbrev pub of_member : Making → Side → Owner → Bool → (TypeId → FunctionKind) → Option (List ℕ × List ℕ) → FunctionKind
+of_member m side owner is_async make None = plain is_async
+of_member m side owner is_async make (Some p) = of_type m side owner is_async make p.0
 
 -- a constructor is not asynchronous
 abbrev pub constructor_of : Making → Side → Owner → Bool → List ℕ → Result FunctionKind Failure
-constructor_of m side owner is_async name = if is_async then Err nowhere else of_type m side owner kinds.Constructor name
+constructor_of m side owner is_async name = if is_async then Err nowhere else Ok (of_type m side owner false kinds.Constructor name)
 
 abbrev pub kind_by_tag : Making → Side → Owner → Bool → Option (List ℕ × List ℕ) → Result FunctionKind Failure
 kind_by_tag m side owner is_async None = Ok (plain is_async)
 kind_by_tag m side owner is_async (Some p) =
-    if bytes_eq p.0 (codes "[method") then of_member m side owner is_async (method is_async) (cut_at 46 p.1)
-    else if bytes_eq p.0 (codes "[static") then of_member m side owner is_async (static is_async) (cut_at 46 p.1)
+    if bytes_eq p.0 (codes "[method") then Ok (of_member m side owner is_async (method is_async) (cut_at 46 p.1))
+    else if bytes_eq p.0 (codes "[static") then Ok (of_member m side owner is_async (static is_async) (cut_at 46 p.1))
     else if bytes_eq p.0 (codes "[constructor") then constructor_of m side owner is_async p.1
     else Ok (plain is_async)
 
--- `[method]r.f`, `[static]r.f` and `[constructor]r` belong to the type r; other functions are freestanding
+-- `[method]r.f`, `[static]r.f` and `[constructor]r` belong to the type r of those that are made, where it is one of them;
+-- other functions are freestanding
 unfoldable pub function_kind : Making → Side → Owner → Bool → List ℕ → Result FunctionKind Failure
 function_kind m side owner is_async name = kind_by_tag m side owner is_async (cut_at 93 name)
 
@@ -84,10 +84,9 @@ result_of side (Some ns) m = some_result side ns m
 abbrev pub function : List ℕ → FunctionKind → List Param → Option Ty → Function
 function name kind params result = record { name = name; kind = kind; params = params; result = result }
 
--- a function of this owner: its parameters first, then its result
-unfoldable pub function_of : Side → Owner → Func → Making → Result (Function × Making) Failure
-function_of side owner f m = do
-  kind ← function_kind m side owner f.is_async f.name
+-- a function of this kind: its parameters first, then its result
+unfoldable pub function_of : Side → FunctionKind → Func → Making → Result (Function × Making) Failure
+function_of side kind f m = do
   params ← params_from side f.params ([], m)
   result ← result_of side f.result params.1
   Ok (function f.name kind params.0 result.0, result.1)

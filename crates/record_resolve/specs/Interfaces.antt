@@ -24,7 +24,7 @@ use Rattle.record_resolve.specs.declared.interfaces.MadeInterfaces.{MadeInterfac
 use Rattle.record_resolve.specs.Steps.{nowhere, with_new}
 use Rattle.record_resolve.specs.Sharing.{scoped}
 use Rattle.record_resolve.specs.Types.{new_type}
-use Rattle.record_resolve.specs.Functions.{function_of}
+use Rattle.record_resolve.specs.Functions.{function_kind, function_of}
 use Rattle.record_resolve.specs.Ids.{id_of}
 
 -- the types of an interface by name
@@ -47,9 +47,11 @@ types_from side owner type_owner (t ∷ ts) so_far = do
 abbrev pub Functions : Type 0
 Functions = List (List ℕ × Function)
 
+-- all types of the interface are made before its functions
 unfoldable pub with_function_of : Side → Owner → Func → Functions × Making → Result (Functions × Making) Failure
 with_function_of side owner f so_far = do
-  made ← function_of side owner f so_far.1
+  kind ← function_kind so_far.1 side owner f.is_async f.name
+  made ← function_of side kind f so_far.1
   functions ← with_new bytes_eq so_far.0 f.name made.0
   Ok (functions, made.1)
 

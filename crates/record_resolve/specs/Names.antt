@@ -1,6 +1,6 @@
 -- The types to which names refer. An exported interface has a copy of its own: within exported copies, and in exported
 -- functions, its types are those of the copy. Everywhere else a name refers to the imported type.
-use Rattle.std.specs.Prelude.{Bool, false, List, is_some, ok_or, Result, Ok, if◌then◌else◌}
+use Rattle.std.specs.Prelude.{Bool, false, List, Option, is_some, ok_or, Result, Ok, if◌then◌else◌}
 use Rattle.std.specs.Map.{lookup}
 use Rattle.json_paths.specs.declared.fault.Failure.{Failure}
 use Rattle.json_paths.specs.Faults.{◌>>=◌}
@@ -27,9 +27,13 @@ abbrev pub table_of : Making → Side → List (TypeName × TypeId)
 table_of m sides.Imported = m.imported_types
 table_of m sides.Exported = m.exported_types
 
+-- the type of this name, if it is made
+abbrev pub type_named : Making → Side → TypeName → Option TypeId
+type_named m side t = lookup (is_same_type t) (table_of m (side_of m side t.owner))
+
 -- the type to which a name refers; it is made earlier, else the name refers to nothing
 abbrev pub found : Making → Side → TypeName → Result TypeId Failure
-found m side t = ok_or (lookup (is_same_type t) (table_of m (side_of m side t.owner))) nowhere
+found m side t = ok_or (type_named m side t) nowhere
 
 abbrev pub with_table : Making → Side → List (TypeName × TypeId) → Making
 with_table m sides.Imported table =

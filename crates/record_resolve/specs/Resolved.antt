@@ -6,7 +6,8 @@
 --    of the imports, then of the others, in the order in which the record has its interfaces;
 -- 4. those of the exported functions, in the order of the exports.
 --
--- So the names of a sound record refer to types that are made earlier; any other name refers to nothing.
+-- So the names of a sound record refer to types that are made earlier; any other name refers to nothing. The type to which
+-- a function belongs by its own name may come later, or be none.
 use Rattle.std.specs.Prelude.{◌≡◌, ◌≢◌, ◌<◌, length, [], ◌∷◌, Result, Ok, Err}
 use Rattle.std.specs.List.{AllByRecursion}
 use Rattle.json_paths.specs.declared.fault.Failure.{Failure}
@@ -26,7 +27,7 @@ use Rattle.wit_data.specs.declared.worlds.WorldItem.{WorldItem}
 use Rattle.wit_data.specs.declared.worlds.WorldItem.TheVariants as items
 use Rattle.wit_data.specs.declared.worlds.WorldKey.{WorldKey}
 use Rattle.wit_data.specs.declared.worlds.WorldKey.TheVariants as keys
-use Rattle.record_resolve.specs.Worlds.{Ids, Items, all_named, exported_of, items_from}
+use Rattle.record_resolve.specs.Worlds.{Ids, Items, all_named, exported_of, all_items}
 use Rattle.record_resolve.specs.InterfaceKeys.{keys_after}
 
 abbrev pub nothing_made : Interfaces → Making
@@ -44,14 +45,14 @@ whole_of imports exports made m imported =
 unfoldable pub imports_of : Interfaces → Wit → MadeInterfaces × Making → Result (Items × MadeInterfaces × Making) Failure
 imports_of imported w so_far = do
   made ← all_named sides.Imported w.interfaces imported so_far
-  items ← items_from sides.Imported made.0.ids w.imports ([], made.1)
+  items ← all_items sides.Imported made.0.ids w.imports made.1
   Ok (items.0, made.0, items.1)
 
 -- what is exported: the copies of interfaces, and the items of the world
 unfoldable pub exports_of : Interfaces → Wit → MadeInterfaces × Making → Result (Items × MadeInterfaces × Making) Failure
 exports_of imported w so_far = do
   made ← exported_of imported w.interfaces so_far
-  items ← items_from sides.Exported made.0.ids w.exports ([], made.1)
+  items ← all_items sides.Exported made.0.ids w.exports made.1
   Ok (items.0, made.0, items.1)
 
 -- what a step returns, paired with a value

@@ -1,5 +1,6 @@
--- The items of a world, in the order of the record's.
-use Rattle.std.specs.Prelude.{ℕ, Bool, not, ◌&&◌, List, [], ◌∷◌, is_some, ok_or, Result, Ok, Err, if◌then◌else◌}
+-- The items of a world, in the order of the record's. A function may come before the type to which it belongs: so the kinds
+-- of functions are found when all items are made.
+use Rattle.std.specs.Prelude.{ℕ, Bool, true, false, not, ◌&&◌, List, [], ◌∷◌, ◌++◌, is_some, ok_or, Result, Ok, Err, if◌then◌else◌}
 use Rattle.std.specs.Map.{lookup}
 use Rattle.comp_lists.specs.Tables.{with_first}
 use Rattle.json_paths.specs.declared.fault.Failure.{Failure}
@@ -12,6 +13,9 @@ use Rattle.wit_data.specs.declared.worlds.WorldKey.TheVariants as made_keys
 use Rattle.wit_data.specs.declared.worlds.WorldItem.{WorldItem}
 use Rattle.wit_data.specs.declared.worlds.WorldItem.TheVariants as made_items
 use Rattle.wit_data.specs.Keys.{is_same_key}
+use Rattle.wit_data.specs.declared.functions.Function.{Function}
+use Rattle.wit_data.specs.declared.functions.FunctionKind.{FunctionKind}
+use Rattle.wit_data.specs.declared.functions.FunctionKind.TheVariants as kinds
 use Rattle.record_values.specs.declared.names.InterfaceName.{InterfaceName}
 use Rattle.record_values.specs.declared.names.Owner.TheVariants as owners
 use Rattle.record_values.specs.declared.types.Node.{Node}
@@ -28,7 +32,7 @@ use Rattle.record_resolve.specs.declared.making.Side.{Side}
 use Rattle.record_resolve.specs.declared.making.Side.TheVariants as sides
 use Rattle.record_resolve.specs.Steps.{nowhere, with_new}
 use Rattle.record_resolve.specs.Types.{new_type}
-use Rattle.record_resolve.specs.Functions.{function_of}
+use Rattle.record_resolve.specs.Functions.{plain, function_kind, function, function_of}
 use Rattle.record_resolve.specs.declared.interfaces.MadeInterfaces.{MadeInterfaces}
 use Rattle.record_resolve.specs.Interfaces.{with_named}
 
@@ -92,10 +96,11 @@ interface_item ids key name = do
   id ← ok_or (lookup (is_same_interface name) ids) nowhere
   Ok (key_of key id, made_items.Interface id)
 
+-- a function that does not belong to a type yet
 unfoldable pub function_item : Side → ItemKey → Func → Making → Result ((WorldKey × WorldItem) × Making) Failure
 function_item side key f m = do
   name ← plain_name key
-  made ← function_of side owners.World f m
+  made ← function_of side (plain f.is_async) f m
   Ok ((made_keys.Name name, made_items.Function made.0), made.1)
 
 unfoldable pub imported_type : ItemKey → List Node → Making → Result ((WorldKey × WorldItem) × Making) Failure
@@ -120,11 +125,47 @@ item_of side ids key (items.«Type» ns) m = type_item side key ns m
 unfoldable pub with_item : Side → Ids → ItemKey → Item → Items × Making → Result (Items × Making) Failure
 with_item side ids key item so_far = do
   made ← item_of side ids key item so_far.1
-  items ← with_new is_same_key so_far.0 made.0.0 made.0.1
-  Ok (items, made.1)
+  Ok (so_far.0 ++ made.0 ∷ [], made.1)
 
+-- the items of these entries, made one after the other
 abbrev pub items_from : Side → Ids → List (ItemKey × Item) → Items × Making → Result (Items × Making) Failure
 items_from side ids [] so_far = Ok so_far
 items_from side ids (e ∷ es) so_far = do
   more ← with_item side ids e.0 e.1 so_far
   items_from side ids es more
+
+abbrev pub is_async : FunctionKind → Bool
+is_async kinds.AsyncFreestanding = true
+is_async (kinds.AsyncMethod id) = true
+is_async (kinds.AsyncStatic id) = true
+is_async kind = false
+
+-- a function of the world, with its kind among the types that are made
+abbrev pub with_kind : Making → Side → Function → Result WorldItem Failure
+with_kind m side f = do
+  kind ← function_kind m side owners.World (is_async f.kind) f.name
+  Ok (made_items.Function (function f.name kind f.params f.result))
+
+abbrev pub finished : Making → Side → WorldItem → Result WorldItem Failure
+finished m side (made_items.Interface id) = Ok (made_items.Interface id)
+finished m side (made_items.Function f) = with_kind m side f
+finished m side (made_items.NamedType id) = Ok (made_items.NamedType id)
+
+unfoldable pub with_finished : Making → Side → WorldKey → WorldItem → Items → Result Items Failure
+with_finished m side key item items = do
+  done ← finished m side item
+  with_new is_same_key items key done
+
+-- items that are made, finished one after the other; no key occurs twice
+abbrev pub finished_from : Making → Side → Items → Items → Result Items Failure
+finished_from m side [] items = Ok items
+finished_from m side (e ∷ es) items = do
+  more ← with_finished m side e.0 e.1 items
+  finished_from m side es more
+
+-- the items of a side: all of them are made, then the kinds of the functions are found among the types of the world
+unfoldable pub all_items : Side → Ids → List (ItemKey × Item) → Making → Result (Items × Making) Failure
+all_items side ids entries m = do
+  made ← items_from side ids entries ([], m)
+  items ← finished_from made.1 side made.0 []
+  Ok (items, made.1)

@@ -1,11 +1,11 @@
 //! Functions: their kinds, and the types of their parameters and results.
 
-ghost use Rattle.std.specs.Prelude.{◌≡◌, [], option_map};
+ghost use Rattle.std.specs.Prelude.{◌≡◌, [], IfOk};
 ghost use Rattle.json_paths.specs.Faults.{Gives};
 ghost use Rattle.record_resolve.specs.Steps.{Becomes, Makes};
-ghost use Rattle.record_resolve.specs.Functions.{method, static, plain, of_type, of_member, constructor_of, kind_by_tag, function_kind, with_param, params_from, some_result, result_of, function_of};
+ghost use Rattle.record_resolve.specs.Functions.{method, static, plain, of_member, constructor_of, function_kind, with_param, params_from, some_result, result_of, function_of};
 ghost use Rattle.comp_lists.specs.Cuts.{cut_at};
-ghost use Rattle.record_resolve.specs.Names.{found};
+ghost use Rattle.record_resolve.specs.Names.{type_named};
 ghost use Rattle.record_resolve.specs.Types.{type_name};
 
 use crate::making::{Making, Side};
@@ -13,7 +13,7 @@ use crate::types::{make_type, type_name};
 use comp_lists::{Seq, cut};
 use json_paths::{Failure, fault_here};
 use record_values::{Func, Node, Owner, Typed};
-use std::alloc::Global;
+use std::alloc::{AllocError, Global};
 use wit_data::{Function, FunctionKind, Param, Type, TypeId};
 
 fn method(is_async: bool, id: TypeId) -> FunctionKind
@@ -36,7 +36,8 @@ fn static_function(is_async: bool, id: TypeId) -> FunctionKind
     }
 }
 
-fn plain(is_async: bool) -> FunctionKind
+/// The kind of a function that belongs to no type.
+pub(crate) fn plain(is_async: bool) -> FunctionKind
     ensures { result ≡ plain is_async }
 {
     if is_async {
@@ -46,18 +47,18 @@ fn plain(is_async: bool) -> FunctionKind
     }
 }
 
-/// The type of this name, which is of the same owner.
+/// The type of this name, which is of the same owner, if it is made.
 fn find_type(
     alloc: Global,
     making: &Making,
     side: Side,
     owner: &Owner,
     name: &str,
-) -> Result<TypeId, Failure>
-    ensures { Gives (λ id. id) result (found making.now side (type_name owner.now name.now)) }
+) -> Result<Option<TypeId>, AllocError>
+    ensures { IfOk result (λ found. found ≡ type_named making.now side (type_name owner.now name.now)) }
 {
     let named = type_name(alloc, owner, name)?;
-    making.find(alloc, side, &named)
+    Ok(making.type_named(side, &named))
 }
 
 fn method_kind(
@@ -67,11 +68,14 @@ fn method_kind(
     owner: &Owner,
     is_async: bool,
     name: &str,
-) -> Result<FunctionKind, Failure>
-    ensures { Gives (λ k. k) result (of_member making.now side owner.now is_async (method is_async) (cut_at 46 name.now)) }
+) -> Result<FunctionKind, AllocError>
+    ensures { IfOk result (λ k. k ≡ of_member making.now side owner.now is_async (method is_async) (cut_at 46 name.now)) }
 {
-    match cut(name, '.') {
-        Some((ty, _)) => Ok(method(is_async, find_type(alloc, making, side, owner, ty)?)),
+    let Some((ty, _)) = cut(name, '.') else {
+        return Ok(plain(is_async));
+    };
+    match find_type(alloc, making, side, owner, ty)? {
+        Some(id) => Ok(method(is_async, id)),
         None => Ok(plain(is_async)),
     }
 }
@@ -83,11 +87,14 @@ fn static_kind(
     owner: &Owner,
     is_async: bool,
     name: &str,
-) -> Result<FunctionKind, Failure>
-    ensures { Gives (λ k. k) result (of_member making.now side owner.now is_async (static is_async) (cut_at 46 name.now)) }
+) -> Result<FunctionKind, AllocError>
+    ensures { IfOk result (λ k. k ≡ of_member making.now side owner.now is_async (static is_async) (cut_at 46 name.now)) }
 {
-    match cut(name, '.') {
-        Some((ty, _)) => Ok(static_function(is_async, find_type(alloc, making, side, owner, ty)?)),
+    let Some((ty, _)) = cut(name, '.') else {
+        return Ok(plain(is_async));
+    };
+    match find_type(alloc, making, side, owner, ty)? {
+        Some(id) => Ok(static_function(is_async, id)),
         None => Ok(plain(is_async)),
     }
 }
@@ -105,13 +112,15 @@ fn constructor_kind(
     if is_async {
         return Err(fault_here(alloc));
     }
-    let id = find_type(alloc, making, side, owner, name)?;
-    Ok(FunctionKind::Constructor(id))
+    match find_type(alloc, making, side, owner, name)? {
+        Some(id) => Ok(FunctionKind::Constructor(id)),
+        None => Ok(FunctionKind::Freestanding),
+    }
 }
 
-/// The relation of a function to a type of its owner, by its name.
+/// The relation of a function to a type of its owner, by its name, among the types that are made.
 #[tactic(auto, unfolding(crate::specs::Functions::function_kind))]
-fn function_kind(
+pub(crate) fn function_kind(
     alloc: Global,
     making: &Making,
     side: Side,
@@ -125,8 +134,8 @@ fn function_kind(
         return Ok(plain(is_async));
     };
     match tag {
-        "[method" => method_kind(alloc, making, side, owner, is_async, rest),
-        "[static" => static_kind(alloc, making, side, owner, is_async, rest),
+        "[method" => Ok(method_kind(alloc, making, side, owner, is_async, rest)?),
+        "[static" => Ok(static_kind(alloc, making, side, owner, is_async, rest)?),
         "[constructor" => constructor_kind(alloc, making, side, owner, is_async, rest),
         _ => Ok(plain(is_async)),
     }
@@ -191,19 +200,18 @@ fn make_result(
     }
 }
 
-/// A function of this owner.
+/// A function of this kind.
 #[tactic(auto, unfolding(crate::specs::Functions::function_of))]
 pub(crate) fn make_function(
     alloc: Global,
     making: &mut Making,
     side: Side,
-    owner: &Owner,
+    kind: FunctionKind,
     function: &Func,
 ) -> Result<Function, Failure>
-    ensures { Makes result making.new (function_of side owner.now function.now making.old) }
+    ensures { Makes result making.new (function_of side kind function.now making.old) }
 {
     let name = function.name.clone(alloc)?;
-    let kind = function_kind(alloc, making, side, owner, function.is_async, name.as_str())?;
     let params = make_params(alloc, making, side, function.params.as_slice())?;
     let result = make_result(alloc, making, side, &function.result)?;
     Ok(Function {

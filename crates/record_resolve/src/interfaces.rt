@@ -8,7 +8,7 @@ ghost use Rattle.wit_data.specs.declared.types.TypeOwner.TheVariants as type_own
 ghost use Rattle.record_resolve.specs.Steps.{Becomes, Makes};
 ghost use Rattle.record_resolve.specs.Interfaces.{with_type_of, types_from, with_function_of, functions_from, items_of, made, with_made, with_interface, with_named};
 
-use crate::functions::make_function;
+use crate::functions::{function_kind, make_function};
 use crate::ids::id_of;
 use crate::making::{Making, Side, put_new};
 use crate::types::make_named;
@@ -77,7 +77,8 @@ fn add_function(
     ensures { Becomes result (functions.new, making.new) (with_function_of side owner.now function.now (functions.old, making.old)) }
 {
     let name = function.name.clone(alloc)?;
-    let made = make_function(alloc, making, side, owner, function)?;
+    let kind = function_kind(alloc, making, side, owner, function.is_async, name.as_str())?;
+    let made = make_function(alloc, making, side, kind, function)?;
     put_new(alloc, functions, name, made)
 }
 
@@ -170,7 +171,12 @@ fn put_made(
     ensures { Becomes result made_interfaces.new (with_made name.now number id items made_interfaces.old) }
 {
     push_made(made_interfaces, id, items)?;
-    put_new(alloc, &mut made_interfaces.ids, name.try_clone(alloc)?, number)
+    put_new(
+        alloc,
+        &mut made_interfaces.ids,
+        name.try_clone(alloc)?,
+        number,
+    )
 }
 
 /// The interface of this name, made as the next one.

@@ -3,7 +3,7 @@
 ghost use Rattle.std.specs.Prelude.{◌≡◌, OnOk};
 ghost use Rattle.json_paths.specs.Faults.{Gives};
 ghost use Rattle.record_resolve.specs.Steps.{Becomes, with_new};
-ghost use Rattle.record_resolve.specs.Names.{has_copy, side_of, table_of, found, with_name};
+ghost use Rattle.record_resolve.specs.Names.{has_copy, side_of, table_of, type_named, found, with_name};
 
 use crate::sharing::Unnamed;
 use comp_lists::{Keyed, Seq};
@@ -84,6 +84,14 @@ impl Making {
         }
     }
 
+    /// The type of this name, if it is made.
+    pub(crate) fn type_named(&self, side: Side, named: &TypeName) -> Option<TypeId>
+        ensures { result ≡ type_named self.now side named.now }
+    {
+        let table = self.table_of(self.side_of(side, &named.owner));
+        table.get(named).copied()
+    }
+
     /// The type to which a name refers, which is made already.
     pub(crate) fn find(
         &self,
@@ -93,9 +101,8 @@ impl Making {
     ) -> Result<TypeId, Failure>
         ensures { Gives (λ id. id) result (found self.now side named.now) }
     {
-        let table = self.table_of(self.side_of(side, &named.owner));
-        match table.get(named) {
-            Some(id) => Ok(*id),
+        match self.type_named(side, named) {
+            Some(id) => Ok(id),
             None => Err(fault_here(alloc)),
         }
     }

@@ -76,7 +76,13 @@ fn import_all(
         imported,
         made_interfaces,
     )?;
-    make_items(alloc, making, Side::Imported, &made_interfaces.ids, &wit.imports)
+    make_items(
+        alloc,
+        making,
+        Side::Imported,
+        &made_interfaces.ids,
+        &wit.imports,
+    )
 }
 
 /// What is exported: the copies of interfaces, and then the items of the world.
@@ -91,7 +97,13 @@ fn export_all(
     ensures { MakesBoth result made_interfaces.new making.new (exports_of imported.now wit.now (made_interfaces.old, making.old)) }
 {
     add_exported(alloc, making, imported, &wit.interfaces, made_interfaces)?;
-    make_items(alloc, making, Side::Exported, &made_interfaces.ids, &wit.exports)
+    make_items(
+        alloc,
+        making,
+        Side::Exported,
+        &made_interfaces.ids,
+        &wit.exports,
+    )
 }
 
 fn nothing_made(alloc: Global, exported: Interfaces) -> Making

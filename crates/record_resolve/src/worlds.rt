@@ -3,10 +3,11 @@
 ghost use Rattle.std.specs.Prelude.{◌≡◌, [], IfOk, OnOk};
 ghost use Rattle.json_paths.specs.Faults.{Gives};
 ghost use Rattle.record_resolve.specs.declared.making.Side.TheVariants as sides;
+ghost use Rattle.wit_data.specs.declared.worlds.WorldItem.TheVariants as made_items;
 ghost use Rattle.record_resolve.specs.Steps.{Becomes, Makes};
-ghost use Rattle.record_resolve.specs.Worlds.{all_named, with_copy, copies_of, with_other, others_of, exported_of, key_of, plain_name, interface_item, function_item, imported_type, type_item, item_of, with_item, items_from};
+ghost use Rattle.record_resolve.specs.Worlds.{all_named, with_copy, copies_of, with_other, others_of, exported_of, key_of, plain_name, interface_item, function_item, imported_type, type_item, item_of, with_item, items_from, is_async, with_kind, finished, with_finished, finished_from, all_items};
 
-use crate::functions::make_function;
+use crate::functions::{function_kind, make_function, plain};
 use crate::interfaces::{MadeInterfaces, add_named};
 use crate::making::{Making, Side, put_new};
 use crate::types::make_named;
@@ -14,7 +15,7 @@ use comp_lists::{Keyed, Seq, Text, TryClone};
 use json_paths::{Failure, fault_here};
 use record_values::{Func, Interface, InterfaceName, Interfaces, Item, ItemKey, Node, Owner};
 use std::alloc::{AllocError, Global};
-use wit_data::{InterfaceId, TypeOwner, WorldId, WorldItem, WorldKey};
+use wit_data::{Function, FunctionKind, InterfaceId, TypeOwner, WorldId, WorldItem, WorldKey};
 
 /// The interfaces of the record by name.
 type All = Keyed<InterfaceName, Interface>;
@@ -156,6 +157,7 @@ fn interface_item(
     }
 }
 
+/// A function that does not belong to a type yet.
 #[tactic(auto, unfolding(crate::specs::Worlds::function_item))]
 fn function_item(
     alloc: Global,
@@ -167,7 +169,8 @@ fn function_item(
     ensures { Makes result making.new (function_item side key.now function.now making.old) }
 {
     let name = plain_name(alloc, key)?;
-    let made = make_function(alloc, making, side, &Owner::World, function)?;
+    let kind = plain(function.is_async);
+    let made = make_function(alloc, making, side, kind, function)?;
     Ok((WorldKey::Name(name), WorldItem::Function(made)))
 }
 
@@ -183,7 +186,15 @@ fn imported_type(
     let name = plain_name(alloc, key)?;
     let type_owner = TypeOwner::World(WorldId { index: 0 });
     let owner = Owner::World;
-    let id = make_named(alloc, making, Side::Imported, &owner, type_owner, &name, nodes)?;
+    let id = make_named(
+        alloc,
+        making,
+        Side::Imported,
+        &owner,
+        type_owner,
+        &name,
+        nodes,
+    )?;
     Ok((WorldKey::Name(name), WorldItem::NamedType(id)))
 }
 
@@ -220,22 +231,118 @@ fn make_item(
 }
 
 #[tactic(auto, unfolding(crate::specs::Worlds::with_item))]
-fn add_item(
+fn push_item(
     alloc: Global,
     making: &mut Making,
     side: Side,
     ids: &Ids,
     key: &ItemKey,
     item: &Item,
-    items: &mut Items,
+    items: &mut Seq<(WorldKey, WorldItem)>,
 ) -> Result<(), Failure>
     ensures { Becomes result (items.new, making.new) (with_item side ids.now key.now item.now (items.old, making.old)) }
 {
-    let (key, item) = make_item(alloc, making, side, ids, key, item)?;
+    let made = make_item(alloc, making, side, ids, key, item)?;
+    items.push(made)?;
+    Ok(())
+}
+
+/// The items of a side as they are made; its functions do not belong to types yet.
+fn make_unfinished(
+    alloc: Global,
+    making: &mut Making,
+    side: Side,
+    ids: &Ids,
+    entries: &Keyed<ItemKey, Item>,
+) -> Result<Seq<(WorldKey, WorldItem)>, Failure>
+    ensures { Makes result making.new (items_from side ids.now entries.now ([], making.old)) }
+{
+    let mut items = Seq::new(alloc);
+    for (key, item) in entries.iter() {
+        push_item(alloc, making, side, ids, key, item, &mut items)?;
+    }
+    Ok(items)
+}
+
+fn is_async(kind: FunctionKind) -> bool
+    ensures { result ≡ is_async kind }
+{
+    match kind {
+        FunctionKind::Freestanding => false,
+        FunctionKind::AsyncFreestanding => true,
+        FunctionKind::Method(_) => false,
+        FunctionKind::AsyncMethod(_) => true,
+        FunctionKind::Static(_) => false,
+        FunctionKind::AsyncStatic(_) => true,
+        FunctionKind::Constructor(_) => false,
+    }
+}
+
+/// Sets the kind of a function of the world, among all types that are made.
+fn set_kind(
+    alloc: Global,
+    making: &Making,
+    side: Side,
+    function: &mut Function,
+) -> Result<(), Failure>
+    ensures { Becomes result (made_items.Function function.new) (with_kind making.now side function.old) }
+{
+    let is_async = is_async(function.kind);
+    let name = function.name.as_str();
+    let kind = function_kind(alloc, making, side, &Owner::World, is_async, name)?;
+    function.kind = kind;
+    Ok(())
+}
+
+fn finish_item(
+    alloc: Global,
+    making: &Making,
+    side: Side,
+    item: &mut WorldItem,
+) -> Result<(), Failure>
+    ensures { Becomes result item.new (finished making.now side item.old) }
+{
+    match item {
+        WorldItem::Interface(_) => Ok(()),
+        WorldItem::Function(function) => set_kind(alloc, making, side, function),
+        WorldItem::NamedType(_) => Ok(()),
+    }
+}
+
+/// Finishes an item, and adds it after others.
+#[tactic(auto, unfolding(crate::specs::Worlds::with_finished))]
+fn add_finished(
+    alloc: Global,
+    making: &Making,
+    side: Side,
+    key: WorldKey,
+    item: WorldItem,
+    items: &mut Items,
+) -> Result<(), Failure>
+    ensures { Becomes result items.new (with_finished making.now side key item items.old) }
+{
+    let mut item = item;
+    finish_item(alloc, making, side, &mut item)?;
     put_new(alloc, items, key, item)
 }
 
-/// The items of a side.
+fn finish_items(
+    alloc: Global,
+    making: &Making,
+    side: Side,
+    made: Seq<(WorldKey, WorldItem)>,
+) -> Result<Items, Failure>
+    ensures { Gives (λ items. items) result (finished_from making.now side made []) }
+{
+    let mut items = Keyed::new(alloc);
+    for (key, item) in made.into_vec() {
+        add_finished(alloc, making, side, key, item, &mut items)?;
+    }
+    Ok(items)
+}
+
+/// The items of a side. The kinds of its functions are found among all types of the world.
+#[tactic(auto, unfolding(crate::specs::Worlds::all_items))]
 pub(crate) fn make_items(
     alloc: Global,
     making: &mut Making,
@@ -243,11 +350,8 @@ pub(crate) fn make_items(
     ids: &Ids,
     entries: &Keyed<ItemKey, Item>,
 ) -> Result<Items, Failure>
-    ensures { Makes result making.new (items_from side ids.now entries.now ([], making.old)) }
+    ensures { Makes result making.new (all_items side ids.now entries.now making.old) }
 {
-    let mut items = Keyed::new(alloc);
-    for (key, item) in entries.iter() {
-        add_item(alloc, making, side, ids, key, item, &mut items)?;
-    }
-    Ok(items)
+    let made = make_unfinished(alloc, making, side, ids, entries)?;
+    finish_items(alloc, making, side, made)
 }

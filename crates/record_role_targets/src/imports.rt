@@ -13,7 +13,9 @@ ghost use Rattle.record_role_targets.specs.Imports.{memory_type, function_type, 
 
 use crate::copies::copy_function;
 use crate::payloads::{payload_import, resolved_payload};
-use crate::positions::{Position, Resource, function_at, function_position, position_of, resource_of};
+use crate::positions::{
+    Position, Resource, function_at, function_position, position_of, resource_of,
+};
 use crate::sides::Side;
 use comp_lists::{Text, TryClone};
 use comp_roles::{ExternType, Import};

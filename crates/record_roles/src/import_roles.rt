@@ -61,7 +61,11 @@ fn read_imported_resource(
     ensures { Gives (λ t. t) result (imported_resource world.now (view value.now)) }
 {
     let (owner_index, name) = two_arguments(alloc, value)?;
-    let owner_index = under(alloc, "1", read_owner(alloc, world, Side::Import, owner_index))?;
+    let owner_index = under(
+        alloc,
+        "1",
+        read_owner(alloc, world, Side::Import, owner_index),
+    )?;
     let name = read_resource_name(alloc, world, Side::Import, owner_index, name);
     let name = under(alloc, "2", name)?;
     let owner = owner_at(alloc, world, owner_index)?;
@@ -95,7 +99,11 @@ fn read_task_return(
     ensures { Gives (λ r. r) result (task_return_of world.now (view value.now)) }
 {
     let (owner_index, name) = two_arguments(alloc, value)?;
-    let owner_index = under(alloc, "1", read_owner(alloc, world, Side::Export, owner_index))?;
+    let owner_index = under(
+        alloc,
+        "1",
+        read_owner(alloc, world, Side::Export, owner_index),
+    )?;
     let name = read_function_name(alloc, world, Side::Export, owner_index, name);
     let function = under(alloc, "2", name)?;
     let owner = owner_at(alloc, world, owner_index)?;

@@ -166,7 +166,16 @@ fn read_met(
     let owner_index = owner_member(alloc, world, side, value)?;
     let function = function_member(alloc, world, side, owner_index, value)?;
     let index = index_member(alloc, value)? as u32;
-    met_payload(alloc, world, met, kind, imported, owner_index, function, index)
+    met_payload(
+        alloc,
+        world,
+        met,
+        kind,
+        imported,
+        owner_index,
+        function,
+        index,
+    )
 }
 
 #[tactic(auto, unfolding(crate::specs::ImportRoles::payload_of))]

@@ -96,7 +96,11 @@ fn are_among<T: HasName + TryClone + PartialEq + Drop>(
     Ok(has_all_equal(&table, others))
 }
 
-fn is_contained_in(alloc: Global, greatest: &Interface, lesser: &Interface) -> Result<bool, AllocError>
+fn is_contained_in(
+    alloc: Global,
+    greatest: &Interface,
+    lesser: &Interface,
+) -> Result<bool, AllocError>
     ensures { IfOk result (λ b. b ≡ is_contained_in greatest.now lesser.now) }
 {
     let types = are_among(alloc, greatest.types.as_slice(), lesser.types.as_slice())?;

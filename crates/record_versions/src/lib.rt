@@ -11,14 +11,14 @@
 #![tactic(auto)]
 
 mod compatible;
+mod containment;
 mod groups;
 mod order;
 mod reach;
 mod renamed;
-mod versions;
-mod containment;
 mod taking;
 mod uses;
+mod versions;
 
 pub use compatible::Compatible;
 pub use groups::{Candidate, renames};

@@ -7,8 +7,8 @@ ghost use Rattle.record_values.specs.Names.{is_same_item};
 ghost use Rattle.record_versions.specs.Order.{waiting_item, waiting, interfaces_taken, with_other, others_after, ordered_by, ordered, in_order_by, in_order, first_lesser};
 ghost use Rattle.record_values.specs.declared.world.Item.TheVariants as items;
 
-use crate::groups::Renames;
 use crate::containment::conflict_of;
+use crate::groups::Renames;
 use crate::taking::take_anew;
 use crate::uses::uses;
 use comp_lists::{Keyed, Seq, TryClone};

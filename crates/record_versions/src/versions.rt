@@ -4,11 +4,11 @@ ghost use Rattle.std.specs.Prelude.{◌≡◌, Ok};
 ghost use Rattle.json_paths.specs.Faults.{Gives};
 ghost use Rattle.record_versions.specs.MergedVersions.{renames_where, merged_by, merged_versions};
 
+use crate::containment::check_renames;
 use crate::groups::{Renames, renames};
 use crate::order::in_order;
 use crate::reach::check_reach;
 use crate::renamed::rename_wit;
-use crate::containment::check_renames;
 use comp_lists::Keyed;
 use json_paths::Failure;
 use record_values::{InterfaceName, Wit};

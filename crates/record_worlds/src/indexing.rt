@@ -3,8 +3,8 @@
 ghost use Rattle.std.specs.Prelude.{◌≡◌, [], IfOk};
 ghost use Rattle.record_worlds.specs.Indexing.{types_of, functions_of, indexed, indexed_from};
 
-use crate::naming::{Names, index_name};
 use crate::indexed::IndexedInterface;
+use crate::naming::{Names, index_name};
 use crate::tables::InterfaceSet;
 use comp_lists::{Keyed, Seq, Text};
 use record_types::{ReadInterface, TypeFacts};

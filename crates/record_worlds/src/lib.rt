@@ -10,10 +10,10 @@
 //! `rules` (what items may name), `indexing` (interfaces by index), `world` (all of it).
 #![tactic(auto)]
 
-mod items;
-mod naming;
 mod indexed;
 mod indexing;
+mod items;
+mod naming;
 mod rules;
 mod tables;
 mod world;

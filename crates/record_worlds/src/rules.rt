@@ -5,7 +5,7 @@ ghost use Rattle.json_paths.specs.Faults.{Gives};
 ghost use Rattle.record_worlds.specs.Rules.{owner_in_scope, node_in_scope, nodes_in_scope, types_in_scope, result_in_scope, function_in_scope, functions_in_scope, content_in_scope, named_in_scope, import_in_scope, imports_in_scope, export_in_scope, exports_in_scope, rules_hold};
 
 use crate::naming::Entry;
-use crate::tables::{Interfaces, InterfaceSet, note_seen};
+use crate::tables::{InterfaceSet, Interfaces, note_seen};
 use comp_lists::{Keyed, Seq};
 use json_paths::{Failure, fault_here, under, under_index};
 use record_values::{Func, Interface, InterfaceName, Item, Node, Owner, Typed};

@@ -3,7 +3,9 @@
 use crate::components::{not_built, refused};
 use byte_encoding::BuildFault;
 use comp_builder::ComponentBuilder;
-use comp_bytes::{Alias, CoreModule, Def, Defs, ExternName, InstanceType, Intrinsic, Item, TypeDef};
+use comp_bytes::{
+    Alias, CoreModule, Def, Defs, ExternName, InstanceType, Intrinsic, Item, TypeDef,
+};
 use comp_check::CheckFault;
 use comp_lists::{Seq, Text};
 use comp_read::read_component;

@@ -8,12 +8,9 @@
 
 #[cfg(test)]
 mod modules;
-
 #[cfg(test)]
 mod rows;
-
 #[cfg(test)]
 mod runs;
-
 #[cfg(test)]
 mod store;

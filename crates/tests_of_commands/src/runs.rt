@@ -106,7 +106,14 @@ fn the_status_reports_where_no_line_can(rt: HostRuntime) {
     let words = texts(alloc, &["new", "out.wasm", "other.wasm"]).expect(&rt, "memory");
     let kind = ErrorKind::BrokenPipe;
     let (mut out, mut err) = (Refusing { kind }, Refusing { kind });
-    let status = run_with(alloc, PlainLower::new(), &words, &mut store, &mut out, &mut err);
+    let status = run_with(
+        alloc,
+        PlainLower::new(),
+        &words,
+        &mut store,
+        &mut out,
+        &mut err,
+    );
     assert_eq!(rt; status, 1);
 }
 
@@ -208,7 +215,14 @@ fn refused_output(
     let words = texts(alloc, words)?;
     let mut err = Vec::new(alloc);
     let mut out = Refusing { kind };
-    let status = run_with(alloc, PlainLower::new(), &words, &mut store, &mut out, &mut err);
+    let status = run_with(
+        alloc,
+        PlainLower::new(),
+        &words,
+        &mut store,
+        &mut out,
+        &mut err,
+    );
     Ok((status, err))
 }
 
@@ -244,7 +258,12 @@ fn help_and_version_are_printed(rt: HostRuntime) -> Result<(), Fail> {
         \x20 -h, --help      print this text\n\
         \x20 --version       print the version of the program, and the kit that it is proved with\n";
     let version = "component_new 0.1.0, proved with rattle-kit-13f logic dac8208d650f15bf\n";
-    for (word, text) in [("--help", help), ("-h", help), ("help", help), ("--version", version)] {
+    for (word, text) in [
+        ("--help", help),
+        ("-h", help),
+        ("help", help),
+        ("--version", version),
+    ] {
         assert!(rt; ends(alloc, &[word], MAIN, 0, text, "")?);
     }
     Ok(())
@@ -260,7 +279,14 @@ fn started(alloc: Global, arguments: &[&[u8]]) -> Result<(u8, Vec<u8>), Fail> {
     let mut store = OneFile::new(alloc, "main.wasm", MAIN)?;
     let mut out = Vec::new(alloc);
     let mut err = Vec::new(alloc);
-    let status = start_with(alloc, PlainLower::new(), &list, &mut store, &mut out, &mut err);
+    let status = start_with(
+        alloc,
+        PlainLower::new(),
+        &list,
+        &mut store,
+        &mut out,
+        &mut err,
+    );
     if !store.log.is_empty() || !out.is_empty() {
         return Err(Fail::from("more than the arguments was read"));
     }
@@ -272,10 +298,19 @@ fn an_argument_that_is_not_text_is_reported(rt: HostRuntime) -> Result<(), Fail>
     let alloc = rt.alloc();
     let starts: [(&[&[u8]], &str); 5] = [
         (&[b"defs", b"\xff"], "error: argument 2 is not UTF-8\n"),
-        (&[b"new", b"out\x80", b"\xff"], "error: argument 2 is not UTF-8\n"),
-        (&[b"new", b"out", b"main", b"\xc3"], "error: argument 4 is not UTF-8\n"),
+        (
+            &[b"new", b"out\x80", b"\xff"],
+            "error: argument 2 is not UTF-8\n",
+        ),
+        (
+            &[b"new", b"out", b"main", b"\xc3"],
+            "error: argument 4 is not UTF-8\n",
+        ),
         (&[b"\xed\xa0\x80"], "error: argument 1 is not UTF-8\n"),
-        (&[b"new", b"\xc3\xa9"], "usage: component_new new OUT MAIN [options] | defs FILE\n"),
+        (
+            &[b"new", b"\xc3\xa9"],
+            "usage: component_new new OUT MAIN [options] | defs FILE\n",
+        ),
     ];
     for (arguments, line) in starts {
         let (status, err) = started(alloc, arguments)?;

@@ -1,6 +1,6 @@
 //! Files of cases, their lines, and their answers.
 
-use crate::{offers, resolving, roles, versions, types, worlds};
+use crate::{kinds, offers, resolving, roles, types, versions, worlds};
 use std::alloc::{AllocError, Global};
 use std::{fs, io};
 
@@ -12,6 +12,7 @@ enum Topic {
     Worlds,
     Versions,
     Resolving,
+    Kinds,
     Offers,
     Sizes,
     Roles,
@@ -26,6 +27,7 @@ impl Topic {
             "worlds.txt" => Some(Topic::Worlds),
             "settling.txt" => Some(Topic::Versions),
             "resolving.txt" => Some(Topic::Resolving),
+            "kinds.txt" => Some(Topic::Kinds),
             "offers.txt" => Some(Topic::Offers),
             "sizes.txt" => Some(Topic::Sizes),
             "roles.txt" => Some(Topic::Roles),
@@ -42,6 +44,7 @@ fn answer(alloc: Global, topic: Topic, given: &str, asked: &str) -> Result<Strin
         Topic::Worlds => worlds::answer(alloc, asked),
         Topic::Versions => versions::answer(alloc, asked),
         Topic::Resolving => resolving::answer(alloc, asked),
+        Topic::Kinds => kinds::answer(alloc, asked),
         Topic::Offers => offers::answer(alloc, asked),
         Topic::Sizes => offers::size_answer(alloc, asked),
         Topic::Roles => roles::answer(alloc, asked),

@@ -12,20 +12,21 @@
 //!
 //! In reading order: `cases` (files and lines), `faults` (printed faults), then the topics: `types` (the
 //! nodes and sizes of types, and functions), `worlds` (interfaces of whole records), `wits` (worlds by names),
-//! `versions` (compatible interfaces), `resolving` (how many types a world has), `offers` (what a core module
-//! offers), and the core types of roles: `made` (the world they are in), `imports`, `exports` and `roles`.
+//! `versions` (compatible interfaces), `resolving` (how many types a world has), `kinds` (the types to which functions
+//! belong), `offers` (what a core module offers), and the core types of roles: `made` (the world they are in), `imports`, `exports` and `roles`.
 #![tactic(auto)]
 
 mod cases;
 mod exports;
 mod faults;
 mod imports;
+mod kinds;
 mod made;
 mod offers;
 mod resolving;
 mod roles;
-mod versions;
 mod types;
+mod versions;
 mod wits;
 mod worlds;
 

@@ -7,10 +7,10 @@
 ghost use Rattle.std.specs.Prelude.{IsTrue};
 ghost use Rattle.world_values.specs.Mentions.{HasReturned};
 
-use crate::{exports, imports};
 use crate::cases::word_and_rest;
 use crate::made::{WORLD, module, resolve};
 use crate::offers::limits_of;
+use crate::{exports, imports};
 use comp_worlds::{Export, Import};
 use core_sections::{CoreModule, EntityType, ExportedItem, Limits};
 use core_types::MemoryType;

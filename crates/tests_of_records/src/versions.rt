@@ -8,8 +8,8 @@ use crate::cases::word_and_rest;
 use crate::faults::print_fault;
 use crate::wits::{add_item, empty, name};
 use comp_lists::{Keyed, Seq, Text};
-use record_versions::merge_versions;
 use record_values::{Interface, InterfaceName, Node, Owner, TypeName, Typed, Wit};
+use record_versions::merge_versions;
 use std::alloc::{AllocError, Global};
 use wit_data::Primitive;
 

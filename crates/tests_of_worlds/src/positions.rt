@@ -188,18 +188,20 @@ fn entries_at(
 
 fn world_at(alloc: Global, position: Position, index: usize) -> Result<World, AllocError> {
     match position {
-        Position::ImportKey | Position::ImportInterface | Position::ImportFunction | Position::ImportType => Ok(
-            World {
-                imports: entries_at(alloc, position, index)?,
-                exports: Keyed::new(alloc),
-            },
-        ),
-        Position::ExportKey | Position::ExportInterface | Position::ExportFunction | Position::ExportType => Ok(
-            World {
-                imports: Keyed::new(alloc),
-                exports: entries_at(alloc, position, index)?,
-            },
-        ),
+        Position::ImportKey
+        | Position::ImportInterface
+        | Position::ImportFunction
+        | Position::ImportType => Ok(World {
+            imports: entries_at(alloc, position, index)?,
+            exports: Keyed::new(alloc),
+        }),
+        Position::ExportKey
+        | Position::ExportInterface
+        | Position::ExportFunction
+        | Position::ExportType => Ok(World {
+            imports: Keyed::new(alloc),
+            exports: entries_at(alloc, position, index)?,
+        }),
         _ => Ok(World {
             imports: Keyed::new(alloc),
             exports: Keyed::new(alloc),

@@ -34,7 +34,10 @@ fn add_call(alloc: Global, calls: &mut Keyed<Call, ()>, role: &Import) -> Result
     ensures { OnOk result (calls.new ≡ with_all is_same_call calls.old (calls_in role.now)) }
 {
     match role {
-        Import::WorldFunc(key, name, abi) => calls.insert_if_absent(call_at(alloc, key, name, *abi)?, ()),
+        Import::WorldFunc(key, name, abi) => calls.insert_if_absent(
+            call_at(alloc, key, name, *abi)?,
+            (),
+        ),
         Import::InterfaceFunc(key, _, name, abi) => {
             calls.insert_if_absent(call_at(alloc, key, name, *abi)?, ())
         }

@@ -10,8 +10,8 @@ returns-in_default-clause-cause c = λ n e.
 pub loop-argument-preserved : goal.loop-argument-preserved
 loop-argument-preserved c = (
   words_more (λ a. a.items) c.args.arguments.now c.loop-argument.argument-index c.argument-item.result c.loop-argument-test.true c.argument-item.is
-  string_bytes c.loop-argument.words.items c.push.new.self.items c.in-Ok-from_str.word c.loop-argument.invariant.0 (search rules) (search rules),
+      string_bytes c.loop-argument.words.items c.push.new.self.items c.in-Ok-from_str.word c.loop-argument.invariant.0 (search rules) (search rules),
   search rules,
   text_more (λ a. a.items) c.args.arguments.now c.loop-argument.argument-index c.argument-item.result c.loop-argument-test.true c.argument-item.is
-  _ _ c.loop-argument.invariant.2 c.as_slice.ensures.value c.in-Ok.ensures.cases.1,
+      _ _ c.loop-argument.invariant.2 c.as_slice.ensures.value c.in-Ok.ensures.cases.1,
 )

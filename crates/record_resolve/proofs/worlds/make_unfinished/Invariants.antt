@@ -1,6 +1,6 @@
 use Rattle.std.proofs.Common.{◌≡◌, []}
 use Rattle.record_resolve.specs.Worlds.{items_from}
-use Rattle.record_resolve.proofs.worlds.make_items.Given as goal
+use Rattle.record_resolve.proofs.worlds.make_unfinished.Given as goal
 
 abbrev pub invariant-loop-key : goal.invariant-loop-key
 invariant-loop-key l =
