@@ -1,0 +1,26 @@
+-- What holds of the trees of the types and functions of a resolve, whatever the addresses of the resources are.
+use Rattle.std.specs.Prelude.{ℕ, ◌≡◌, ◌<◌, List, length, map, Option, Some}
+use Rattle.wit_data.specs.declared.ids.TypeId.{TypeId}
+use Rattle.wit_data.specs.declared.types.Type.{«Type» as Ty}
+use Rattle.wit_data.specs.declared.types.Type.TheVariants.{Id}
+use Rattle.wit_data.specs.declared.types.TypeDef.{TypeDef}
+use Rattle.wit_data.specs.declared.functions.AbiVariant.{AbiVariant}
+use Rattle.wit_data.specs.declared.functions.Function.{Function}
+use Rattle.wit_data.specs.Parts.{parts, RefersBack}
+use Rattle.wit_data.specs.Values.{kind_at}
+use Rattle.wit_data.specs.Flat.{flat}
+use Rattle.wit_data.specs.Signatures.{signature}
+use Rattle.comp_trees.specs.WitTrees.{kind_tree, wit_tree, wit_function_tree}
+use Rattle.comp_trees.specs.Flattening.{flat_tree, tree_signature}
+
+-- The tree of a type is made of the trees of the types that it names.
+abbrev pub TreesOfParts : Type 0
+TreesOfParts = (origin : TypeId → ℕ) (types : List TypeDef) (id : TypeId) → RefersBack types → id.index < length types → wit_tree origin types (Some (Id id)) ≡ kind_tree origin id.index (kind_at types id.index) (map (wit_tree origin types) (parts (kind_at types id.index)))
+
+-- The core values of a type are those of its tree.
+abbrev pub FlatOfTrees : Type 0
+FlatOfTrees = (origin : TypeId → ℕ) (types : List TypeDef) (part : Option Ty) → flat_tree (wit_tree origin types part) ≡ flat types part
+
+-- The core signature of a function is that of its tree.
+abbrev pub SignaturesOfTrees : Type 0
+SignaturesOfTrees = (origin : TypeId → ℕ) (types : List TypeDef) (abi : AbiVariant) (f : Function) → tree_signature abi (wit_function_tree origin types f) ≡ signature abi types f

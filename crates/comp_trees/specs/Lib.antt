@@ -1,0 +1,4 @@
+pub mod Trees
+pub mod WitTrees
+pub mod Flattening
+pub mod Laws
