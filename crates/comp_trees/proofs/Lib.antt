@@ -1,3 +1,4 @@
 pub mod Folds
 pub mod Flats
 pub mod Signing
+mod Worked
