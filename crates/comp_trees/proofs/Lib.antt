@@ -1,4 +1,6 @@
 pub mod Folds
 pub mod Flats
 pub mod Signing
+pub mod Keeping
 mod Worked
+mod WorkedScopes

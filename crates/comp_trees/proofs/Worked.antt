@@ -55,11 +55,11 @@ exported_stackful = refl
 abbrev unnamed : TypeDefKind → TypeDef
 unnamed kind = record { name = None; kind = kind; owner = owners.«None» }
 
-abbrev numbered : ℕ → Ty
+abbrev pub numbered : ℕ → Ty
 numbered n = Id (record { index = n })
 
 -- a resource, its owned handle, an option of that, a record, and another name for the record
-abbrev some_types : List TypeDef
+abbrev pub some_types : List TypeDef
 some_types =
     unnamed kinds.Resource
     ∷ unnamed (kinds.Own (record { index = 0 }))
@@ -81,7 +81,7 @@ two_resources : some_record 7 ≢ some_record 8
 two_resources e = cc
 
 -- a function of them
-abbrev method : Function
+abbrev pub method : Function
 method = record {
   name = codes "m";
   kind = functions.AsyncMethod (record { index = 0 });

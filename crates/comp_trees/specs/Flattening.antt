@@ -8,7 +8,7 @@ use Rattle.wit_data.specs.declared.signatures.WasmType.TheVariants.{I32}
 use Rattle.wit_data.specs.declared.signatures.WasmSignature.{WasmSignature}
 use Rattle.wit_data.specs.Flat.{flat_primitive, join_lists}
 use Rattle.wit_data.specs.Signatures.{most_params, result_pointer, core_results}
-use Rattle.comp_trees.specs.Trees.{Tree, Trees, Absent, PrimitiveOf, RecordOf, TupleOf, VariantOf, EnumOf, FlagsOf, ListOf, OptionOf, ResultOf, OwnOf, BorrowOf, StreamOf, FutureOf, ResourceAt, Nil, Cons, ParamTree, FunctionTree}
+use Rattle.comp_trees.specs.Trees.{Tree, Trees, Absent, PrimitiveOf, RecordOf, TupleOf, VariantOf, EnumOf, FlagsOf, ListOf, OptionOf, ResultOf, OwnOf, BorrowOf, StreamOf, FutureOf, ResourceAt, Unknown, Nil, Cons, ParamTree, FunctionTree}
 
 -- Members come one after the other. A variant, an option and a result have a number for the case, and then values that
 -- hold those of any case. Handles, streams and futures are numbers, whatever they refer to.
@@ -29,6 +29,7 @@ abbrev mutual
   flat_tree (StreamOf t) = I32 ∷ []
   flat_tree (FutureOf t) = I32 ∷ []
   flat_tree (ResourceAt address) = I32 ∷ []
+  flat_tree Unknown = []
 
   -- one after the other
   pub flat_members : Trees → List WasmType

@@ -1,5 +1,6 @@
--- What holds of the trees of the types and functions of a resolve, whatever the addresses of the resources are.
-use Rattle.std.specs.Prelude.{ℕ, ◌≡◌, ◌<◌, List, length, map, Option, Some}
+-- What holds of trees, whatever the addresses of the resources are.
+use Rattle.std.specs.Prelude.{ℕ, ◌≡◌, ◌<◌, List, ◌∷◌, ◌++◌, length, map, Option, Some}
+use Rattle.std.specs.List.{AllByRecursion}
 use Rattle.wit_data.specs.declared.ids.TypeId.{TypeId}
 use Rattle.wit_data.specs.declared.types.Type.{«Type» as Ty}
 use Rattle.wit_data.specs.declared.types.Type.TheVariants.{Id}
@@ -10,8 +11,13 @@ use Rattle.wit_data.specs.Parts.{parts, RefersBack}
 use Rattle.wit_data.specs.Values.{kind_at}
 use Rattle.wit_data.specs.Flat.{flat}
 use Rattle.wit_data.specs.Signatures.{signature}
+use Rattle.comp_bytes.specs.declared.space.Space.TheVariants as spaces
+use Rattle.comp_bytes.specs.declared.types.TypeDef.{TypeDef as Definition}
+use Rattle.comp_bytes.specs.References.{type_references}
+use Rattle.comp_bytes.specs.Scopes.{Scope, InScope}
 use Rattle.comp_trees.specs.WitTrees.{kind_tree, wit_tree, wit_function_tree}
 use Rattle.comp_trees.specs.Flattening.{flat_tree, tree_signature}
+use Rattle.comp_trees.specs.DefinedTrees.{TypeTree, type_tree}
 
 -- The tree of a type is made of the trees of the types that it names.
 abbrev pub TreesOfParts : Type 0
@@ -24,3 +30,7 @@ FlatOfTrees = (origin : TypeId → ℕ) (types : List TypeDef) (part : Option Ty
 -- The core signature of a function is that of its tree.
 abbrev pub SignaturesOfTrees : Type 0
 SignaturesOfTrees = (origin : TypeId → ℕ) (types : List TypeDef) (abi : AbiVariant) (f : Function) → tree_signature abi (wit_function_tree origin types f) ≡ signature abi types f
+
+-- What a type denotes that names earlier items of its scope alone, it denotes in each longer scope.
+abbrev pub TreesAreKept : Type 0
+TreesAreKept = (scope : Scope) (outer : List Scope) (trees more : List TypeTree) (address : ℕ) (t : Definition) → scope spaces.Type ≡ length trees → AllByRecursion (InScope (scope ∷ outer)) (type_references t) → type_tree (trees ++ more) address t ≡ type_tree trees address t

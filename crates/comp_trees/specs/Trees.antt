@@ -27,6 +27,8 @@ mutual
     FutureOf : Tree → Tree
     -- a resource, by its address
     ResourceAt : ℕ → Tree
+    -- what an index has that names no type of values; no type of a resolve has it
+    Unknown : Tree
 
   -- trees in their order
   pub data Trees : Type 0 where

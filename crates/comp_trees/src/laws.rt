@@ -1,6 +1,6 @@
 //! What holds of all trees: each function's contract is a law, and its body does nothing.
 
-ghost use Rattle.comp_trees.specs.Laws.{TreesOfParts, FlatOfTrees, SignaturesOfTrees};
+ghost use Rattle.comp_trees.specs.Laws.{TreesOfParts, FlatOfTrees, SignaturesOfTrees, TreesAreKept};
 
 /// The tree of a type of a resolve is made of the trees of the types that it names.
 pub fn trees_of_parts()
@@ -15,4 +15,9 @@ pub fn flat_of_trees()
 /// The core signature of a function is that of its tree, in each form of call.
 pub fn signatures_of_trees()
     ensures { SignaturesOfTrees }
+{}
+
+/// What a type of a component denotes, it denotes in each longer scope.
+pub fn trees_are_kept()
+    ensures { TreesAreKept }
 {}

@@ -5,15 +5,17 @@
 //! the same is an equation, and what follows from a type alone is plain recursion on its tree.
 //!
 //! This crate holds definitions and their laws alone. In reading order: `specs/Trees.antt` (the trees of types and of
-//! functions), `specs/WitTrees.antt` (those of WIT), `specs/Flattening.antt` (core values of types and core signatures
-//! of functions, by their trees), `laws` (what holds of them).
+//! functions), `specs/WitTrees.antt` (those of WIT), `specs/DefinedTrees.antt` (those that a component defines),
+//! `specs/Flattening.antt` (core values of types and core signatures of functions, by their trees), `laws` (what holds
+//! of them).
 //!
 //! Upward this crate promises: the tree of a type of a resolve is made of the trees of the types that it names
 //! ([`trees_of_parts`]); the core values of a type are those of its tree ([`flat_of_trees`]); the core signature of a
-//! function is that of its tree, in each form of call ([`signatures_of_trees`]). For proofs above: `proofs/Folds.antt`
-//! (what is plain recursion on a tree, and a fold over the types of a resolve, is one value).
+//! function is that of its tree, in each form of call ([`signatures_of_trees`]); what a type of a component denotes, it
+//! denotes in each longer scope ([`trees_are_kept`]). For proofs above: `proofs/Folds.antt` (a function of the values of
+//! one fold over types takes them to those of another, if it does so at each kind).
 #![tactic(auto)]
 
 mod laws;
 
-pub use laws::{flat_of_trees, signatures_of_trees, trees_of_parts};
+pub use laws::{flat_of_trees, signatures_of_trees, trees_are_kept, trees_of_parts};
