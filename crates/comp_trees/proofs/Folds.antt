@@ -1,5 +1,6 @@
--- A function that takes each value of one fold over types to that of another.
+-- What holds of all values of a fold over types, and a function that takes each value of one to that of another.
 use Rattle.std.proofs.Common.{◌≡◌, ℕ, zero, suc, List, [], ◌∷◌, ◌++◌, length, get_or, map, refl, ap, ◌∙◌, Option, Some, None}
+use Rattle.std.specs.List.{AllByRecursion}
 use Rattle.wit_data.specs.declared.types.Type.{«Type» as Ty}
 use Rattle.wit_data.specs.declared.types.Type.TheVariants.{Primitive, Id}
 use Rattle.standard_kinds.specs.declared.kinds.Primitive.{Primitive as Prim}
@@ -55,3 +56,37 @@ pub carried : {A B : Type 0} (h : A → B) (m : Making A) (n : Making B) → Car
 carried h m n c types part =
     carried_part h m n c (values m types) part
     ∙ ap (λ vs. part_value n vs part) (carried_from h m n c [] types)
+
+-- What holds of no type and of all primitive ones, and of a type where it holds of its parts.
+pub record Holds {A : Type 0} (m : Making A) (P : A → Type 0) : Type 0 where
+  pub absent : P m.absent
+  pub simple : (p : Prim) → P (m.simple p)
+  pub made : (index : ℕ) (kind : TypeDefKind) (vs : List A) → AllByRecursion P vs → P (m.made index kind vs)
+
+holds_at : {A : Type 0} (P : A → Type 0) (a : A) → P a → (xs : List A) (k : ℕ) → AllByRecursion P xs → P (get_or xs k a)
+holds_at P a h [] k all = h
+holds_at P a h (x ∷ xs) zero all = all.0
+holds_at P a h (x ∷ xs) (suc k) all = holds_at P a h xs k all.1
+
+holds_next : {A : Type 0} (P : A → Type 0) (xs : List A) (x : A) → AllByRecursion P xs → P x → AllByRecursion P (xs ++ x ∷ [])
+holds_next P [] x all h = (h, tt)
+holds_next P (y ∷ ys) x all h = (all.0, holds_next P ys x all.1 h)
+
+holds_each : {X A : Type 0} (P : A → Type 0) (f : X → A) → ((x : X) → P (f x)) → (xs : List X) → AllByRecursion P (map f xs)
+holds_each P f h [] = tt
+holds_each P f h (x ∷ xs) = (h x, holds_each P f h xs)
+
+holds_of_part : {A : Type 0} (m : Making A) (P : A → Type 0) → Holds m P → (done : List A) → AllByRecursion P done → (p : Option Ty) → P (part_value m done p)
+holds_of_part m P h done all None = h.absent
+holds_of_part m P h done all (Some (Primitive p)) = h.simple p
+holds_of_part m P h done all (Some (Id id)) = holds_at P m.absent h.absent done id.index all
+
+holds_from : {A : Type 0} (m : Making A) (P : A → Type 0) → Holds m P → (done : List A) (ts : List TypeDef) → AllByRecursion P done → AllByRecursion P (values_from m done ts)
+unfolding values_from
+holds_from m P h done [] all = all
+holds_from m P h done (t ∷ ts) all =
+    let made = h.made (length done) t.kind (map (part_value m done) (parts t.kind)) (holds_each P (part_value m done) (holds_of_part m P h done all) (parts t.kind)) in
+    holds_from m P h (done ++ next_value m done t.kind ∷ []) ts (holds_next P done (next_value m done t.kind) all made)
+
+pub holds : {A : Type 0} (m : Making A) (P : A → Type 0) → Holds m P → (types : List TypeDef) (part : Option Ty) → P (value m types part)
+holds m P h types part = holds_of_part m P h (values m types) (holds_from m P h [] types tt) part

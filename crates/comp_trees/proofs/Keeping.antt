@@ -6,7 +6,6 @@ use Rattle.comp_bytes.specs.declared.space.Space.TheVariants as spaces
 use Rattle.comp_bytes.specs.declared.types.ComponentValType.{ComponentValType}
 use Rattle.comp_bytes.specs.declared.types.ComponentValType.TheVariants as values
 use Rattle.comp_bytes.specs.declared.types.Field.{Field}
-use Rattle.comp_bytes.specs.declared.types.Case.{Case}
 use Rattle.comp_bytes.specs.declared.types.DefinedType.{DefinedType}
 use Rattle.comp_bytes.specs.declared.types.DefinedType.TheVariants as defined
 use Rattle.comp_bytes.specs.declared.types.FuncTypeDef.{FuncTypeDef}
@@ -14,7 +13,7 @@ use Rattle.comp_bytes.specs.declared.types.TypeDef.{TypeDef}
 use Rattle.comp_bytes.specs.declared.types.TypeDef.TheVariants as types
 use Rattle.comp_bytes.specs.References.{Reference, own, where_some, value_references, fields_references, defined_references, type_references}
 use Rattle.comp_bytes.specs.Scopes.{InScope}
-use Rattle.comp_trees.specs.Trees.{Tree, Trees, RecordOf, TupleOf, VariantOf, ListOf, OptionOf, ResultOf, OwnOf, BorrowOf, StreamOf, FutureOf, trees_of, ParamTree, FunctionTree}
+use Rattle.comp_trees.specs.Trees.{Tree, RecordOf, TupleOf, VariantOf, ListOf, OptionOf, ResultOf, OwnOf, BorrowOf, StreamOf, FutureOf, trees_of, ParamTree, FunctionTree}
 use Rattle.comp_trees.specs.DefinedTrees.{TypeTree, OfValues, OfFunctions, OfOthers, values_of, tree_at, value_tree, payload_tree, defined_tree, function_tree, type_tree}
 use Rattle.comp_trees.specs.Laws.{TreesAreKept}
 

@@ -3,7 +3,6 @@ use Rattle.std.proofs.Common.{◌≡◌, ◌≢◌, ℕ, true, false, List, [], 
 use Rattle.std.specs.Prelude.{codes, replicate}
 use Rattle.standard_kinds.specs.declared.kinds.Primitive.{Primitive as Prim}
 use Rattle.standard_kinds.specs.declared.kinds.Primitive.TheVariants as prims
-use Rattle.wit_data.specs.declared.ids.TypeId.{TypeId}
 use Rattle.wit_data.specs.declared.types.Type.{«Type» as Ty}
 use Rattle.wit_data.specs.declared.types.Type.TheVariants.{Primitive, Id}
 use Rattle.wit_data.specs.declared.types.TypeDefKind.{TypeDefKind}
@@ -15,7 +14,7 @@ use Rattle.wit_data.specs.declared.functions.FunctionKind.TheVariants as functio
 use Rattle.wit_data.specs.declared.functions.AbiVariant.TheVariants as abis
 use Rattle.wit_data.specs.declared.signatures.WasmType.TheVariants.{I32, I64}
 use Rattle.wit_data.specs.Values.{values_from}
-use Rattle.comp_trees.specs.Trees.{Tree, Absent, PrimitiveOf, RecordOf, TupleOf, VariantOf, ListOf, OptionOf, ResultOf, OwnOf, ResourceAt, Nil, Cons, FunctionTree}
+use Rattle.comp_trees.specs.Trees.{Tree, Absent, PrimitiveOf, RecordOf, TupleOf, VariantOf, OptionOf, OwnOf, ResourceAt, Nil, Cons, FunctionTree}
 use Rattle.comp_trees.specs.WitTrees.{wit_tree, wit_function_tree}
 use Rattle.comp_trees.specs.Flattening.{flat_tree, tree_signature}
 

@@ -1,5 +1,5 @@
 -- What holds of trees, whatever the addresses of the resources are.
-use Rattle.std.specs.Prelude.{ℕ, ◌≡◌, ◌<◌, List, ◌∷◌, ◌++◌, length, map, Option, Some}
+use Rattle.std.specs.Prelude.{ℕ, ◌≡◌, ◌<◌, true, List, ◌∷◌, ◌++◌, length, map, Option, Some}
 use Rattle.std.specs.List.{AllByRecursion}
 use Rattle.wit_data.specs.declared.ids.TypeId.{TypeId}
 use Rattle.wit_data.specs.declared.types.Type.{«Type» as Ty}
@@ -15,6 +15,7 @@ use Rattle.comp_bytes.specs.declared.space.Space.TheVariants as spaces
 use Rattle.comp_bytes.specs.declared.types.TypeDef.{TypeDef as Definition}
 use Rattle.comp_bytes.specs.References.{type_references}
 use Rattle.comp_bytes.specs.Scopes.{Scope, InScope}
+use Rattle.comp_trees.specs.Trees.{is_known}
 use Rattle.comp_trees.specs.WitTrees.{kind_tree, wit_tree, wit_function_tree}
 use Rattle.comp_trees.specs.Flattening.{flat_tree, tree_signature}
 use Rattle.comp_trees.specs.DefinedTrees.{TypeTree, type_tree}
@@ -22,6 +23,10 @@ use Rattle.comp_trees.specs.DefinedTrees.{TypeTree, type_tree}
 -- The tree of a type is made of the trees of the types that it names.
 abbrev pub TreesOfParts : Type 0
 TreesOfParts = (origin : TypeId → ℕ) (types : List TypeDef) (id : TypeId) → RefersBack types → id.index < length types → wit_tree origin types (Some (Id id)) ≡ kind_tree origin id.index (kind_at types id.index) (map (wit_tree origin types) (parts (kind_at types id.index)))
+
+-- Nothing in the tree of a type of a resolve is unknown: a definition with the same tree names types of values alone.
+abbrev pub TreesAreKnown : Type 0
+TreesAreKnown = (origin : TypeId → ℕ) (types : List TypeDef) (part : Option Ty) → is_known (wit_tree origin types part) ≡ true
 
 -- The core values of a type are those of its tree.
 abbrev pub FlatOfTrees : Type 0

@@ -10,12 +10,15 @@
 //! of them).
 //!
 //! Upward this crate promises: the tree of a type of a resolve is made of the trees of the types that it names
-//! ([`trees_of_parts`]); the core values of a type are those of its tree ([`flat_of_trees`]); the core signature of a
-//! function is that of its tree, in each form of call ([`signatures_of_trees`]); what a type of a component denotes, it
-//! denotes in each longer scope ([`trees_are_kept`]). For proofs above: `proofs/Folds.antt` (a function of the values of
-//! one fold over types takes them to those of another, if it does so at each kind).
+//! ([`trees_of_parts`]), and nothing in it is unknown ([`trees_are_known`]); the core values of a type are those of its
+//! tree ([`flat_of_trees`]); the core signature of a function is that of its tree, in each form of call
+//! ([`signatures_of_trees`]); what a type of a component denotes, it denotes in each longer scope ([`trees_are_kept`]).
+//! For proofs above: `proofs/Folds.antt` (a function that takes the values of one fold over types to those of another at
+//! each kind does so at each type; what each step of a fold keeps holds of all its values).
 #![tactic(auto)]
 
 mod laws;
 
-pub use laws::{flat_of_trees, signatures_of_trees, trees_are_kept, trees_of_parts};
+pub use laws::{
+    flat_of_trees, signatures_of_trees, trees_are_kept, trees_are_known, trees_of_parts,
+};
