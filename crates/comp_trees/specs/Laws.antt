@@ -24,7 +24,7 @@ use Rattle.comp_trees.specs.DefinedTrees.{TypeTree, type_tree}
 abbrev pub TreesOfParts : Type 0
 TreesOfParts = (origin : TypeId → ℕ) (types : List TypeDef) (id : TypeId) → RefersBack types → id.index < length types → wit_tree origin types (Some (Id id)) ≡ kind_tree origin id.index (kind_at types id.index) (map (wit_tree origin types) (parts (kind_at types id.index)))
 
--- Nothing in the tree of a type of a resolve is unknown: a definition with the same tree names types of values alone.
+-- Nothing in the tree of a type of a resolve is unknown.
 abbrev pub TreesAreKnown : Type 0
 TreesAreKnown = (origin : TypeId → ℕ) (types : List TypeDef) (part : Option Ty) → is_known (wit_tree origin types part) ≡ true
 
