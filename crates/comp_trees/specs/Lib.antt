@@ -1,0 +1,5 @@
+pub mod Trees
+pub mod WitTrees
+pub mod Flattening
+pub mod DefinedTrees
+pub mod Laws
