@@ -1,9 +1,3 @@
 mod Refused
-mod Zips
-mod Stores
-mod Given
-mod Steps
-mod Runs
 mod Naming
 mod Answered
-mod Worked

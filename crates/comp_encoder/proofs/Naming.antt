@@ -1,10 +1,12 @@
 -- The names in a component that was built for a world: those of its imports and exports are the stated ones, and
 -- all other names are distinct in their lists.
-use Rattle.std.proofs.Common.{◌≡◌, ℕ, Bool, IsTrue, List, [], ◌∷◌, ◌++◌, refl, sym, ap₂, subst, map, inl, inr, ◌⊎◌}
+use Rattle.std.proofs.Common.{ap, ◌∙◌, ◌≡◌, ℕ, Bool, IsTrue, List, [], ◌∷◌, ◌++◌, refl, sym, ap₂, subst, map, inl, inr, ◌⊎◌}
 use Rattle.std.specs.Prelude.{Contains}
 use Rattle.std.specs.List.{AllByRecursion, AllZip, IsDistinct, flat_map}
 use Rattle.std.specs.Str.{bytes_eq}
 use Rattle.std.proofs.lemmas.List.Elements.{Contains-append_left, Contains-append_right, Contains-append_cases}
+use Rattle.std.proofs.lemmas.List.{map-append}
+use Rattle.comp_links.specs.Lists.{Stated}
 use Rattle.comp_bytes.specs.ScopeNames.{Names, item_names, def_names, def_import, def_export, names}
 use Rattle.comp_bytes.specs.declared.def.CoreArgument.{CoreArgument}
 use Rattle.comp_bytes.specs.declared.def.Item.{Item}
@@ -15,8 +17,8 @@ use Rattle.comp_names.specs.Names.{def_extern_names, extern_names}
 use Rattle.comp_worlds.specs.Worlds.{IsWorld}
 use Rattle.comp_roles.specs.declared.imports.ImportInstance.{ImportInstance}
 use Rattle.comp_worlds.specs.declared.world.ComponentWorld.{ComponentWorld}
-use Rattle.comp_state.specs.Facts.{IsArgumentFor}
-use Rattle.comp_state.specs.Rules.{IsItemRight, IsRight, RightAfter, IsBuilt}
+use Rattle.comp_terms.specs.Facts.{IsArgumentFor}
+use Rattle.comp_terms.specs.Rules.{IsItemRight, IsRight, RightAfter, IsBuilt}
 use Rattle.comp_bytes.specs.Scopes.{Scoped}
 use Rattle.comp_check.proofs.Faults.{fault_no}
 use Rattle.comp_check.specs.Faults.{IsUnchecked}
@@ -26,8 +28,8 @@ use Rattle.comp_lists.proofs.Lists.{AllByRecursion-contains, AllByRecursion-weak
 use Rattle.comp_names.proofs.Judging.{not_distinct}
 use Rattle.comp_names.specs.NameForm.{IsFormed}
 use Rattle.comp_names.specs.Names.{OccursTwice, NamesOk}
-use Rattle.comp_encoder.specs.Linking.{IsComposed, stated_imports, stated_exports}
-use Rattle.comp_encoder.specs.Outputs.{IsNameCause, IsOutputRefusal}
+use Rattle.link_laws.specs.Composition.{GeneratedModules, IsComposed, at_root, item_imports, item_exports}
+use Rattle.comp_encoder.specs.Outputs.{stated_names, import_names, export_names, IsNameCause, IsOutputRefusal}
 use Rattle.comp_encoder.specs.declared.output.OutputFault.TheVariants as outputs
 
 all_both : {A : Type 0} (P : A → Type 0) (xs ys : List A) → AllByRecursion P xs → AllByRecursion P ys → AllByRecursion P (xs ++ ys)
@@ -121,26 +123,73 @@ module _ (w : ComponentWorld) where
       here : Contains (def_import d ++ def_export d) name → Contains (extern_names (d ∷ ds)) name
       here i = Contains-append_left (def_extern_names d) (extern_names ds) name (subst (λ (ns : Names). Contains ns name) (sym (def_externs earlier d h.0)) i)
 
+-- the names of what is stated
+import_name : (d : Def) → def_import d ≡ stated_names (at_root item_imports d)
+import_name (defs.Component inner) = refl
+import_name (defs.Item (items.CoreModule bytes)) = refl
+import_name (defs.Item (items.CoreInstantiate number arguments)) = refl
+import_name (defs.Item (items.CoreExports entries)) = refl
+import_name (defs.Item (items.Instantiate component arguments)) = refl
+import_name (defs.Item (items.Alias a)) = refl
+import_name (defs.Item (items.Type t)) = refl
+import_name (defs.Item (items.InstanceType t)) = refl
+import_name (defs.Item (items.Lift core options kind)) = refl
+import_name (defs.Item (items.Lower function options)) = refl
+import_name (defs.Item (items.Intrinsic i)) = refl
+import_name (defs.Item (items.Import name description)) = refl
+import_name (defs.Item (items.Export name sort index description)) = refl
+import_name (defs.Item (items.Custom name contents)) = refl
+
+import_names_of : (ds : List Def) → flat_map def_import ds ≡ stated_names (flat_map (at_root item_imports) ds)
+import_names_of [] = refl
+import_names_of (d ∷ ds) = rw (import_name d, import_names_of ds) (sym (map-append (λ (s : Stated). s.name.name) (at_root item_imports d) (flat_map (at_root item_imports) ds)))
+
+export_name : (d : Def) → def_export d ≡ stated_names (at_root item_exports d)
+export_name (defs.Component inner) = refl
+export_name (defs.Item (items.CoreModule bytes)) = refl
+export_name (defs.Item (items.CoreInstantiate number arguments)) = refl
+export_name (defs.Item (items.CoreExports entries)) = refl
+export_name (defs.Item (items.Instantiate component arguments)) = refl
+export_name (defs.Item (items.Alias a)) = refl
+export_name (defs.Item (items.Type t)) = refl
+export_name (defs.Item (items.InstanceType t)) = refl
+export_name (defs.Item (items.Lift core options kind)) = refl
+export_name (defs.Item (items.Lower function options)) = refl
+export_name (defs.Item (items.Intrinsic i)) = refl
+export_name (defs.Item (items.Import name description)) = refl
+export_name (defs.Item (items.Export name sort index description)) = refl
+export_name (defs.Item (items.Custom name contents)) = refl
+
+export_names_of : (ds : List Def) → flat_map def_export ds ≡ stated_names (flat_map (at_root item_exports) ds)
+export_names_of [] = refl
+export_names_of (d ∷ ds) = rw (export_name d, export_names_of ds) (sym (map-append (λ (s : Stated). s.name.name) (at_root item_exports d) (flat_map (at_root item_exports) ds)))
+
 never_twice : (name : List ℕ) (list : Names) → IsDistinct bytes_eq list → OccursTwice name list → ⊥
 never_twice name list apart twice = not_distinct name twice.before twice.between twice.after (subst (λ (ns : Names). IsDistinct bytes_eq ns) twice.parts apart)
 
-module _ (w : ComponentWorld) (ds : List Def) (valid : IsWorld w) (built : IsBuilt w ds) (composed : IsComposed w ds) where
+module _ (w : ComponentWorld) (ds : List Def) (valid : IsWorld w) (built : IsBuilt w ds) (g : GeneratedModules) (composed : IsComposed w g ds) where
+  imports_are : flat_map def_import ds ≡ import_names w
+  imports_are = import_names_of ds ∙ ap stated_names composed.imports
+
+  exports_are : flat_map def_export ds ≡ export_names w
+  exports_are = export_names_of ds ∙ ap stated_names composed.exports
+
   -- a name that occurs twice in a list of names is a stated one
-  twice_stated : (name : List ℕ) (list : Names) → Contains (names ds) list → OccursTwice name list → OccursTwice name (stated_imports w) ⊎ OccursTwice name (stated_exports w)
+  twice_stated : (name : List ℕ) (list : Names) → Contains (names ds) list → OccursTwice name list → OccursTwice name (import_names w) ⊎ OccursTwice name (export_names w)
   twice_stated name list there twice =
-      let P : Names → Type 0 = λ l. OccursTwice name l → OccursTwice name (stated_imports w) ⊎ OccursTwice name (stated_exports w) in
+      let P : Names → Type 0 = λ l. OccursTwice name l → OccursTwice name (import_names w) ⊎ OccursTwice name (export_names w) in
       AllByRecursion-contains P (names ds) list (
-        (λ t. inl (subst (λ (l : Names). OccursTwice name l) composed.imports t)),
+        (λ t. inl (subst (λ (l : Names). OccursTwice name l) imports_are t)),
         (
-          (λ t. inr (subst (λ (l : Names). OccursTwice name l) composed.exports t)),
+          (λ t. inr (subst (λ (l : Names). OccursTwice name l) exports_are t)),
           AllByRecursion-weaker (λ l apart t. absurd (never_twice name l apart t)) (flat_map def_names ds) (lists_apart w valid [] ds built.right),
         ),
       ) there twice
 
-  stated : (name : List ℕ) → Contains (extern_names ds) name → Contains (stated_imports w ++ stated_exports w) name
+  stated : (name : List ℕ) → Contains (extern_names ds) name → Contains (import_names w ++ export_names w) name
   stated name c = elim (externs_stated w [] ds built.right name c) [
-    | inl i ↦ Contains-append_left (stated_imports w) (stated_exports w) name (subst (λ (ns : Names). Contains ns name) composed.imports i)
-    | inr e ↦ Contains-append_right (stated_imports w) (stated_exports w) name (subst (λ (ns : Names). Contains ns name) composed.exports e)
+    | inl i ↦ Contains-append_left (import_names w) (export_names w) name (subst (λ (ns : Names). Contains ns name) imports_are i)
+    | inr e ↦ Contains-append_right (import_names w) (export_names w) name (subst (λ (ns : Names). Contains ns name) exports_are e)
   ]
 
   -- a refusal by the check has its cause
@@ -156,12 +205,12 @@ module _ (w : ComponentWorld) (ds : List Def) (valid : IsWorld w) (built : IsBui
   no_name_cause ok checks.Memory h = h
   no_name_cause ok (checks.Grammar place) h = h
   no_name_cause ok (checks.Index definition space index) h = h
-  no_name_cause ok (checks.NameTwice name) (inl t) = never_twice name (stated_imports w) (subst (λ (l : Names). IsDistinct bytes_eq l) composed.imports ok.0.0) t
-  no_name_cause ok (checks.NameTwice name) (inr t) = never_twice name (stated_exports w) (subst (λ (l : Names). IsDistinct bytes_eq l) composed.exports ok.0.1.0) t
+  no_name_cause ok (checks.NameTwice name) (inl t) = never_twice name (import_names w) (subst (λ (l : Names). IsDistinct bytes_eq l) imports_are ok.0.0) t
+  no_name_cause ok (checks.NameTwice name) (inr t) = never_twice name (export_names w) (subst (λ (l : Names). IsDistinct bytes_eq l) exports_are ok.0.1.0) t
   no_name_cause ok (checks.NameForm name) h = h.1 (AllByRecursion-contains IsFormed (extern_names ds) name ok.1 (stated_externs w [] ds built.right name (back name h.0)))
     where
-      back : (name : List ℕ) → Contains (stated_imports w ++ stated_exports w) name → Contains (flat_map def_import ds) name ⊎ Contains (flat_map def_export ds) name
-      back name c = elim (Contains-append_cases (stated_imports w) (stated_exports w) name c) [
-        | inl i ↦ inl (subst (λ (ns : Names). Contains ns name) (sym composed.imports) i)
-        | inr e ↦ inr (subst (λ (ns : Names). Contains ns name) (sym composed.exports) e)
+      back : (name : List ℕ) → Contains (import_names w ++ export_names w) name → Contains (flat_map def_import ds) name ⊎ Contains (flat_map def_export ds) name
+      back name c = elim (Contains-append_cases (import_names w) (export_names w) name c) [
+        | inl i ↦ inl (subst (λ (ns : Names). Contains ns name) (sym imports_are) i)
+        | inr e ↦ inr (subst (λ (ns : Names). Contains ns name) (sym exports_are) e)
       ]

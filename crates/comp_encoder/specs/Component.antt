@@ -5,9 +5,11 @@ use Rattle.comp_bytes.specs.Scopes.{Scoped}
 use Rattle.comp_bytes.specs.declared.def.Def.{Def}
 use Rattle.comp_names.specs.Names.{NamesOk}
 use Rattle.comp_worlds.specs.declared.world.ComponentWorld.{ComponentWorld}
+use Rattle.comp_worlds.specs.Gathering.{HasModules}
 use Rattle.comp_worlds.specs.declared.lower.Lower as lower
 use Rattle.comp_encoder.specs.Encoder.{Encoder}
-use Rattle.comp_encoder.specs.Linking.{IsComposed, Links}
+use Rattle.link_laws.specs.Composition.{GeneratedModules, IsComposed}
+use Rattle.link_laws.specs.Linking.{Links}
 
 -- These bytes are the component of a validated world: they encode a list of definitions, in which each index
 -- names an earlier item, which is composed as the world says, and which links when it is run. Where `validate` is
@@ -16,11 +18,14 @@ pub record IsComponentOf (w : ComponentWorld) (validate : Bool) (bytes : List �
   pub defs : List Def
   pub encodes : Encodes bytes defs
   pub scoped : Scoped defs
-  pub composed : IsComposed w defs
-  pub links : Links w defs
+  pub generated : GeneratedModules
+  pub composed : IsComposed w generated defs
+  pub links : Links w generated defs
   pub named : IsTrue validate → NamesOk defs
 
 module _ {L B F : Type 0} (l : lower.Ghosts L B F) where
-  -- these bytes are the component of the world that the lower layer prepares from what was gathered
-  abbrev pub IsEncoding : Encoder L B → List ℕ → Type 0
-  IsEncoding e bytes = IsComponentOf (l.prepared e.lower e.gathered) e.gathered.options.validate bytes
+  -- these bytes are the component of the world that the lower layer prepares from what was gathered, whose modules are
+  -- the gathered ones
+  pub record IsEncoding (e : Encoder L B) (bytes : List ℕ) : Type 0 where
+    pub component : IsComponentOf (l.prepared e.lower e.gathered) e.gathered.options.validate bytes
+    pub modules : HasModules e.gathered (l.prepared e.lower e.gathered)

@@ -8,6 +8,7 @@ use Rattle.world_values.specs.declared.options.EncoderOptions.{EncoderOptions}
 use Rattle.comp_worlds.specs.declared.world.ComponentWorld.{ComponentWorld}
 use Rattle.comp_worlds.specs.declared.lower.Lower as lower
 use Rattle.comp_worlds.specs.Worlds.{IsWorld}
+use Rattle.comp_worlds.specs.Gathering.{HasModules}
 
 -- the lower layer, and what was gathered
 pub record Encoder (L B : Type 0) : Type 0 where
@@ -70,3 +71,4 @@ module _ {L B F : Type 0} (l : lower.Ghosts L B F) where
   pub record IsWorldOf (e : Encoder L B) (w : ComponentWorld) : Type 0 where
     pub prepared : w ≡ l.prepared e.lower e.gathered
     pub valid : IsWorld w
+    pub modules : HasModules e.gathered w

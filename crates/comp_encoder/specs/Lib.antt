@@ -1,10 +1,4 @@
 pub mod Encoder
-pub mod Machine
-pub mod Instances
-pub mod Signatures
-pub mod Running
-pub mod Meeting
-pub mod Linking
 pub mod Component
 pub mod Outputs
 pub mod Refusals

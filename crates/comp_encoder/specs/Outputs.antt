@@ -1,20 +1,30 @@
 -- When no component of a world is returned. The form of names is the component model's (explainer: import and
 -- export definitions); the string encoding that a function needs is the Canonical ABI's `string-encoding`.
-use Rattle.std.specs.Prelude.{ℕ, Bool, List, ◌++◌, ⊤, ◌⊎◌, IsTrue, Contains}
+use Rattle.std.specs.Prelude.{ℕ, Bool, List, ◌++◌, map, ⊤, ◌⊎◌, IsTrue, Contains}
 use Rattle.comp_check.specs.declared.fault.CheckFault.{CheckFault}
 use Rattle.comp_check.specs.declared.fault.CheckFault.TheVariants as checks
 use Rattle.comp_names.specs.NameForm.{IsFormed}
 use Rattle.comp_names.specs.Names.{OccursTwice}
 use Rattle.comp_worlds.specs.declared.world.ComponentWorld.{ComponentWorld}
 use Rattle.comp_state.specs.Causes.{IsCause, LacksEncoding}
-use Rattle.comp_encoder.specs.Linking.{stated_imports, stated_exports}
+use Rattle.comp_links.specs.Lists.{Stated, stated_imports, stated_exports}
 use Rattle.comp_encoder.specs.declared.output.OutputFault.{OutputFault}
 use Rattle.comp_encoder.specs.declared.output.OutputFault.TheVariants as outputs
 
+-- the names of the stated imports, and of the stated exports
+abbrev pub stated_names : List Stated → List (List ℕ)
+stated_names stated = map (λ (s : Stated). s.name.name) stated
+
+abbrev pub import_names : ComponentWorld → List (List ℕ)
+import_names w = stated_names (stated_imports w)
+
+abbrev pub export_names : ComponentWorld → List (List ℕ)
+export_names w = stated_names (stated_exports w)
+
 -- what is wrong with the names of the stated imports and exports: one occurs twice, or is not well formed
 abbrev pub IsNameCause : ComponentWorld → CheckFault → Type 0
-IsNameCause w (checks.NameTwice name) = OccursTwice name (stated_imports w) ⊎ OccursTwice name (stated_exports w)
-IsNameCause w (checks.NameForm name) = Contains (stated_imports w ++ stated_exports w) name × (IsFormed name → ⊥)
+IsNameCause w (checks.NameTwice name) = OccursTwice name (import_names w) ⊎ OccursTwice name (export_names w)
+IsNameCause w (checks.NameForm name) = Contains (import_names w ++ export_names w) name × (IsFormed name → ⊥)
 IsNameCause w _ = ⊥
 
 -- a refusal is out of memory, or has its cause; names are checked where `validate` is on

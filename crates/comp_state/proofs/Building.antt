@@ -1,5 +1,5 @@
 -- The steps in their order build a whole component.
-use Rattle.std.proofs.Common.{◌≡◌, ◌∙◌, ℕ, ◌==◌, Bool, true, false, List, [], ◌∷◌, ◌++◌, length, refl, sym, ap, subst, append-nil, Option, Some, None, IsSome, is_some, inl, inr, true≢false, if◌then◌else◌}
+use Rattle.std.proofs.Common.{◌≡◌, ◌∙◌, ℕ, ◌==◌, Bool, true, false, List, [], ◌∷◌, ◌++◌, length, refl, sym, ap, subst, append-nil, append_assoc, Option, Some, None, IsSome, is_some, inl, inr, true≢false, if◌then◌else◌}
 use Rattle.comp_lists.proofs.Lists.{AllByRecursion-contains}
 use Rattle.comp_builder.specs.Built.{Built}
 use Rattle.comp_bytes.specs.DebugNames.{names_text}
@@ -13,40 +13,44 @@ use Rattle.comp_worlds.specs.Worlds.{core_imports}
 use Rattle.wit_data.specs.declared.worlds.WorldKey.{WorldKey}
 use Rattle.comp_worlds.specs.declared.world.ComponentWorld.{ComponentWorld}
 use Rattle.comp_state.specs.Causes.{IsEncoded, LacksEncoding}
-use Rattle.comp_state.specs.Roles.{import_encoding, export_encoding}
-use Rattle.comp_state.specs.Rules.{Grows, RightAfter, Landmark, ModuleIs, InstanceOf, landmarks, imports_marked, exports_marked, expected, IsBuilt}
+use Rattle.comp_links.specs.Roles.{import_encoding, export_encoding}
+use Rattle.comp_terms.specs.Rules.{Grows, RightAfter, Landmark, ModuleIs, InstanceOf, landmarks, imports_marked, exports_marked, expected, IsUnnamed, IsBuilt}
 use Rattle.comp_state.proofs.Growth.{Grows-none, Grows-by, Grows-then}
 
 -- a list that grew from the empty one
-pub built_from : (w : ComponentWorld) (old new : List Def) → old ≡ [] → Grows w old new (expected w) → IsBuilt w new
+pub built_from : (w : ComponentWorld) (old new : List Def) → old ≡ [] → Grows w old new (expected w) → IsUnnamed w new
 built_from w old new empty g =
     let same : new ≡ g.more = g.extended ∙ ap (λ l. l ++ g.more) empty in
     let right : RightAfter w [] g.more = subst (λ l. RightAfter w l g.more) empty g.right in
     record { right = subst (λ l. RightAfter w [] l) (sym same) right; marked = ap landmarks same ∙ g.marked }
 
 pub built_by_steps : (w : ComponentWorld) (a b c d e : List Def) → a ≡ [] → Grows w a b (imports_marked w) → Grows w b c (ModuleIs w.main.bytes ∷ []) → Grows w c d (InstanceOf 0 ∷ []) →
-    Grows w d e (exports_marked w) → IsBuilt w e
+    Grows w d e (exports_marked w) → IsUnnamed w e
 built_by_steps w a b c d e empty imports main instance exports = built_from w a e empty (Grows-then imports (Grows-then main (Grows-then instance exports)))
 
 -- the landmarks of a list that grew from the empty one
 pub marked_from : (w : ComponentWorld) (old new : List Def) (m : List Landmark) → old ≡ [] → Grows w old new m → landmarks new ≡ m
 marked_from w old new m empty g = ap landmarks (g.extended ∙ ap (λ l. l ++ g.more) empty) ∙ g.marked
 
--- a whole component is still one when what is appended has no landmark
-pub built_more : (w : ComponentWorld) (old new : List Def) → IsBuilt w old → Grows w old new [] → IsBuilt w new
-built_more w old new h g =
-    let first : Grows w [] old (expected w) = record { more = old; extended = refl; right = h.right; marked = h.marked } in
-    let both : Grows w [] new (expected w ++ []) = Grows-then first g in
-    built_from w [] new refl (subst (λ m. Grows w [] new m) (append-nil (expected w)) both)
+right_after : (w : ComponentWorld) (earlier ds more : List Def) → RightAfter w earlier ds → RightAfter w (earlier ++ ds) more → RightAfter w earlier (ds ++ more)
+right_after w earlier [] more h k = subst (λ l. RightAfter w l more) (append-nil earlier) k
+right_after w earlier (d ∷ ds) more h k = (h.0, right_after w (earlier ++ d ∷ []) ds more h.1 (subst (λ l. RightAfter w l more) (sym (append_assoc earlier (d ∷ []) ds)) k))
 
--- the definition with the names of the items has no landmark
-pub names_grow : (w : ComponentWorld) (old new : Built) → new ≡ with_names old → Grows w old.defs new.defs []
-names_grow w old new same = subst (λ (b : Built). Grows w old.defs b.defs []) (sym same) (named (length old.names == 0) (names_text old.names).bytes)
+-- a component with the names of its items, where there are any
+pub built_named : (w : ComponentWorld) (old new : Built) → new ≡ with_names old → IsUnnamed w old.defs → IsBuilt w new.defs
+built_named w old new same h = subst (λ (b : Built). IsBuilt w b.defs) (sym same) (named (length old.names == 0) (names_text old.names).bytes)
   where
     named : (b : Bool) (contents : List ℕ) →
-        Grows w old.defs (if b then old else record { defs = old.defs ++ defs.Item (items.Custom (codes "component-name") contents) ∷ []; names = old.names }).defs []
-    named true contents = Grows-none w old.defs
-    named false contents = Grows-by (defs.Item (items.Custom (codes "component-name") contents)) refl tt
+        IsBuilt w (if b then old else record { defs = old.defs ++ defs.Item (items.Custom (codes "component-name") contents) ∷ []; names = old.names }).defs
+    named true contents = record { front = old.defs; names = []; whole = sym (append-nil old.defs); right = h.right; marked = h.marked; named = tt }
+    named false contents = record {
+      front = old.defs;
+      names = defs.Item (items.Custom (codes "component-name") contents) ∷ [];
+      whole = refl;
+      right = right_after w [] old.defs (defs.Item (items.Custom (codes "component-name") contents) ∷ []) h.right (tt, tt);
+      marked = h.marked;
+      named = refl;
+    }
 
 lacks_none : {X : Type 0} (o : Option X) → IsSome o → o ≡ None → ⊥
 lacks_none None h e = true≢false (sym h)

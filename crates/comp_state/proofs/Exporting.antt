@@ -23,10 +23,11 @@ use Rattle.comp_state.specs.declared.fault.StateFault.TheVariants as faults
 use Rattle.comp_state.specs.Causes.{IsCause, IsExportRefusal}
 use Rattle.comp_state.specs.Encoding.{Encoding, Extends, IsOffered}
 use Rattle.std.specs.Option.{option_map}
-use Rattle.comp_shims.specs.Targets.{Main, Lifted}
-use Rattle.comp_state.specs.Facts.{IsFunctionType, IsMain, IsAliased, IsLiftFor, plain_name}
-use Rattle.comp_state.specs.Roles.{export_encoding}
-use Rattle.comp_state.specs.Rules.{Grows, ExportNamed}
+use Rattle.comp_links.specs.Targets.{Main, Lifted}
+use Rattle.comp_links.specs.Lists.{plain_name}
+use Rattle.comp_terms.specs.Facts.{IsFunctionType, IsMain, IsAliased, IsLiftFor}
+use Rattle.comp_links.specs.Roles.{export_encoding}
+use Rattle.comp_terms.specs.Rules.{Grows, named_export}
 use Rattle.comp_state.proofs.Extending.{extends_none, extends_then}
 use Rattle.comp_state.proofs.Growth.{Grows-none, Grows-by, Grows-then, IsFunctionType-kept, IsMain-kept, IsAliased-kept}
 
@@ -67,41 +68,41 @@ adds_lift w old new core kind index options name key none alias type' role encod
         made = subst (λ o. IsAt new.defs spaces.Func index (defs.Item (items.Lift core o kind))) none at;
         typed = IsFunctionType-kept g type';
         aliased = IsAliased-kept g alias;
-        said = ap (option_map (λ n. Lifted (record { of = Main; name = n }) [])) role;
+        role = role;
         encoded = encoded;
       };
     }
 
 pub adds_export : (w : ComponentWorld) (old new : Built) (index : ℕ) (name : List ℕ) (key : WorldKey) → name ≡ name_of_key key → IsLiftFor w old.defs index key →
-    new.defs ≡ old.defs ++ defs.Item (items.Export (plain_name name) sorts.Func index None) ∷ [] → Grows w old.defs new.defs (ExportNamed (name_of_key key) ∷ [])
+    new.defs ≡ old.defs ++ defs.Item (items.Export (plain_name name) sorts.Func index None) ∷ [] → Grows w old.defs new.defs (named_export (name_of_key key) ∷ [])
 adds_export w old new index name key same lifted appended =
-    subst (λ n. Grows w old.defs new.defs (ExportNamed n ∷ [])) same
+    subst (λ n. Grows w old.defs new.defs (named_export n ∷ [])) same
     (Grows-by (defs.Item (items.Export (plain_name name) sorts.Func index None)) appended (record { key = key; named = ap plain_name same; lifted = lifted }))
 
 -- the keys that were exported so far
 pub record ExportsSoFar (old new : Encoding) (done : List WorldKey) : Type 0 where
   pub same : new ≡ record old { built = new.built }
   pub extends : Extends old.built new.built
-  pub grows : Grows old.world old.built.defs new.built.defs (map (λ key. ExportNamed (name_of_key key)) done)
+  pub grows : Grows old.world old.built.defs new.built.defs (map (λ key. named_export (name_of_key key)) done)
   pub encoded : AllByRecursion (λ key. IsSome (export_encoding old.world key)) done
 
 pub exports_start : (old : Encoding) → ExportsSoFar old old []
 exports_start old = record { same = refl; extends = extends_none old.built; grows = Grows-none old.world old.built.defs; encoded = tt }
 
 pub exports_step : (old mid new : Encoding) (keys : List WorldKey) (i : ℕ) (key : WorldKey) → ExportsSoFar old mid (take i keys) → i < length keys → key ≡ get_or keys i key →
-    new ≡ record mid { built = new.built } → Extends mid.built new.built → Grows mid.world mid.built.defs new.built.defs (ExportNamed (name_of_key key) ∷ []) →
+    new ≡ record mid { built = new.built } → Extends mid.built new.built → Grows mid.world mid.built.defs new.built.defs (named_export (name_of_key key) ∷ []) →
     IsSome (export_encoding mid.world key) → ExportsSoFar old new (take (i + 1) keys)
 exports_step old mid new keys i key h l is same extends grows encoded =
     let world : mid.world ≡ old.world = ap (λ (s : Encoding). s.world) h.same in
     let more : take (i + 1) keys ≡ take i keys ++ key ∷ [] = take_more keys i key l ∙ ap (λ k. take i keys ++ k ∷ []) (sym is) in
-    let marks : map (λ k. ExportNamed (name_of_key k)) (take (i + 1) keys) ≡ map (λ k. ExportNamed (name_of_key k)) (take i keys) ++ ExportNamed (name_of_key key) ∷ [] =
-    map_more (λ k. ExportNamed (name_of_key k)) keys i key l ∙ ap (λ k. map (λ j. ExportNamed (name_of_key j)) (take i keys) ++ ExportNamed (name_of_key k) ∷ []) (sym is) in
+    let marks : map (λ k. named_export (name_of_key k)) (take (i + 1) keys) ≡ map (λ k. named_export (name_of_key k)) (take i keys) ++ named_export (name_of_key key) ∷ [] =
+    map_more (λ k. named_export (name_of_key k)) keys i key l ∙ ap (λ k. map (λ j. named_export (name_of_key j)) (take i keys) ++ named_export (name_of_key k) ∷ []) (sym is) in
     record {
       same = same ∙ ap (λ (s : Encoding). record s { built = new.built }) h.same;
       extends = extends_then old.built mid.built new.built h.extends extends;
       grows =
           subst (λ m. Grows old.world old.built.defs new.built.defs m) (sym marks)
-          (Grows-then h.grows (subst (λ w. Grows w mid.built.defs new.built.defs (ExportNamed (name_of_key key) ∷ [])) world grows));
+          (Grows-then h.grows (subst (λ w. Grows w mid.built.defs new.built.defs (named_export (name_of_key key) ∷ [])) world grows));
       encoded =
           subst (λ ks. AllByRecursion (λ k. IsSome (export_encoding old.world k)) ks) (sym more)
           (AllByRecursion-push (λ k. IsSome (export_encoding old.world k)) (take i keys) key h.encoded (subst (λ w. IsSome (export_encoding w key)) world encoded));

@@ -22,10 +22,10 @@ use Rattle.wit_data.specs.declared.worlds.WorldKey.{WorldKey}
 use Rattle.comp_roles.specs.declared.imports.Import.{Import}
 use Rattle.comp_roles.specs.declared.imports.ImportInstance.{ImportInstance}
 use Rattle.comp_worlds.specs.declared.world.ComponentWorld.{ComponentWorld}
-use Rattle.comp_shims.specs.Targets.{Main, Target, OfRoot, Lowered}
-use Rattle.comp_state.specs.Links.{link_of}
-use Rattle.comp_state.specs.Facts.{IsFunctionType, IsImported, IsLowered, IsCoreItemFor, IsEntryFor, IsInlineInstanceFor, IsArgumentFor, IsMain, IsAliased, IsLiftFor}
-use Rattle.comp_state.specs.Rules.{IsRight, RightAfter, Landmark, landmark, landmarks, Grows, IsEntry}
+use Rattle.comp_links.specs.Targets.{Main, Target, OfRoot, Lowered}
+use Rattle.comp_links.specs.Links.{link_of}
+use Rattle.comp_terms.specs.Facts.{IsFunctionType, IsImported, IsLowered, IsCoreItemFor, IsEntryFor, IsInlineInstanceFor, IsArgumentFor, IsMain, IsAliased, IsLiftFor}
+use Rattle.comp_terms.specs.Rules.{IsRight, RightAfter, Landmark, landmark, landmarks, Grows, IsEntry}
 use Rattle.comp_state.specs.Encoding.{IsEncoding}
 
 RightAfter-append : (w : ComponentWorld) (old a b : List Def) → RightAfter w old a → RightAfter w (old ++ a) b → RightAfter w old (a ++ b)
@@ -90,7 +90,7 @@ module _ {w : ComponentWorld} {old new : List Def} {m : List Landmark} (g : Grow
     made = kept g h.made;
     typed = IsFunctionType-kept h.typed;
     aliased = IsAliased-kept h.aliased;
-    said = h.said;
+    role = h.role;
     encoded = h.encoded;
   }
 

@@ -18,8 +18,8 @@ use Rattle.comp_roles.specs.declared.imports.ImportInstance.{ImportInstance}
 use Rattle.comp_roles.specs.declared.imports.ImportInstance.TheVariants as instances
 use Rattle.comp_worlds.specs.declared.world.ComponentWorld.{ComponentWorld}
 use Rattle.comp_state.specs.Encoding.{Encoding, Extends, FindsMore, FindsUsed}
-use Rattle.comp_state.specs.Roles.{is_named, is_any_import, uses_from, is_used}
-use Rattle.comp_state.specs.Rules.{Grows, ImportNamed, names_marked, imports_marked}
+use Rattle.comp_links.specs.Roles.{is_named, is_any_import, uses_from, is_used}
+use Rattle.comp_terms.specs.Rules.{Grows, named_import, names_marked, imports_marked}
 use Rattle.comp_state.proofs.Extending.{extends_none, extends_then}
 use Rattle.comp_state.proofs.Serving.{AllByRecursion-join}
 use Rattle.comp_state.proofs.Growth.{Grows-none, Grows-then, found_first}
@@ -87,9 +87,9 @@ used_push w [] more = refl
 used_push w (n ∷ ns) more = by (is_used w n) (used_push w ns more)
   where
     by : (b : Bool) → names_marked w (ns ++ more) ≡ names_marked w ns ++ names_marked w more →
-        map ImportNamed (if b then n ∷ filter (is_used w) (ns ++ more) else filter (is_used w) (ns ++ more))
-        ≡ map ImportNamed (if b then n ∷ filter (is_used w) ns else filter (is_used w) ns) ++ names_marked w more
-    by true h = ap (λ l. ImportNamed n ∷ l) h
+        map named_import (if b then n ∷ filter (is_used w) (ns ++ more) else filter (is_used w) (ns ++ more))
+        ≡ map named_import (if b then n ∷ filter (is_used w) ns else filter (is_used w) ns) ++ names_marked w more
+    by true h = ap (λ l. named_import n ∷ l) h
     by false h = h
 
 functions_push : (done : List (WorldKey × WorldItem)) (e : WorldKey × WorldItem) → flat_map root_function (done ++ e ∷ []) ≡ flat_map root_function done ++ root_function e

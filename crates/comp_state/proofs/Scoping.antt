@@ -20,8 +20,8 @@ use Rattle.comp_bytes.specs.declared.def.Def.TheVariants as defs
 use Rattle.comp_bytes.specs.declared.def.Item.TheVariants as items
 use Rattle.comp_roles.specs.declared.imports.ImportInstance.{ImportInstance}
 use Rattle.comp_worlds.specs.declared.world.ComponentWorld.{ComponentWorld}
-use Rattle.comp_state.specs.Facts.{IsArgumentFor, plain_function}
-use Rattle.comp_state.specs.Rules.{IsRight, RightAfter, IsEntry, IsBuilt}
+use Rattle.comp_terms.specs.Facts.{IsArgumentFor, plain_function}
+use Rattle.comp_terms.specs.Rules.{IsRight, RightAfter, IsEntry, IsBuilt}
 
 abbrev Within : List Def → Reference → Type 0
 Within earlier = InScope (scope_of space_of earlier ∷ [])

@@ -38,9 +38,9 @@ use Rattle.comp_state.specs.Encoding.{Encoding, Extends, FindsRole, FindsFields,
 use Rattle.comp_state.specs.Causes.{IsFieldsRefusal, IsCause}
 use Rattle.comp_state.specs.declared.fault.StateFault.{StateFault}
 use Rattle.comp_state.specs.declared.fault.StateFault.TheVariants as faults
-use Rattle.comp_state.specs.Facts.{IsEntryFor, IsArgumentFor}
-use Rattle.comp_state.specs.Roles.{import_encoding, is_named, is_any_import, uses_from}
-use Rattle.comp_state.specs.Rules.{Grows, ImportNamed, landmarks}
+use Rattle.comp_terms.specs.Facts.{IsEntryFor, IsArgumentFor}
+use Rattle.comp_links.specs.Roles.{import_encoding, is_named, is_any_import, uses_from}
+use Rattle.comp_terms.specs.Rules.{Grows, named_import, landmarks}
 use Rattle.comp_state.proofs.Extending.{extends_none, extends_then}
 use Rattle.comp_state.proofs.Growth.{Grows-none, Grows-by, Grows-then, IsEntryFor-kept, IsArgumentFor-kept, entries_in_range}
 
@@ -210,7 +210,7 @@ group_refused w done rest g split (faults.NoEncoding place) h =
     let within : Contains (flat_map imports_from (done ++ g ∷ rest)) given =
     rw (flat_map-append imports_from done (g ∷ rest))
     (Contains-append_right (flat_map imports_from done) (imports_from g ++ flat_map imports_from rest) given (Contains-append_left (imports_from g) (flat_map imports_from rest) given here)) in
-    inl (record { given = given; present = subst (λ gs. Contains (flat_map imports_from gs) given) split within; none = h.none; at = h.at })
+    inl (record { given = given; present = subst (λ gs. Contains (flat_map imports_from gs) given) split within; needs = h.needs; none = h.none; at = h.at })
 
 sort_apart : (sort : Sort) → is_space spaces.CoreModule (Some (sort_space sort)) ≡ false
 sort_apart (sorts.Core kinds.Func) = refl
@@ -240,7 +240,7 @@ abbrev rest_of : {X : Type 0} → List X → List X
 rest_of [] = []
 rest_of (x ∷ xs) = xs
 
-unmarked : (ds : List Def) (names : List (List ℕ)) → landmarks ds ≡ map ImportNamed names → in_space spaces.CoreModule ds ≡ []
+unmarked : (ds : List Def) (names : List (List ℕ)) → landmarks ds ≡ map named_import names → in_space spaces.CoreModule ds ≡ []
 unmarked [] names h = refl
 unmarked (defs.Component inner ∷ ds) names h = unmarked ds names h
 unmarked (defs.Item (items.CoreModule bytes) ∷ ds) [] h = cc
@@ -259,10 +259,11 @@ unmarked (defs.Item (items.Import name description) ∷ ds) [] h = cc
 unmarked (defs.Item (items.Import name description) ∷ ds) (n ∷ ns) h = rw (description_apart description) (unmarked ds ns (ap rest_of h))
 unmarked (defs.Item (items.Export name sort index description) ∷ ds) [] h = cc
 unmarked (defs.Item (items.Export name sort index description) ∷ ds) (n ∷ ns) h = cc
-unmarked (defs.Item (items.Custom name contents) ∷ ds) names h = unmarked ds names h
+unmarked (defs.Item (items.Custom name contents) ∷ ds) [] h = cc
+unmarked (defs.Item (items.Custom name contents) ∷ ds) (n ∷ ns) h = cc
 
 -- where only functions were imported, there is no core module
-pub no_modules : (ds : List Def) (names : List (List ℕ)) → landmarks ds ≡ map ImportNamed names → items_in spaces.CoreModule ds ≡ 0
+pub no_modules : (ds : List Def) (names : List (List ℕ)) → landmarks ds ≡ map named_import names → items_in spaces.CoreModule ds ≡ 0
 no_modules ds names h = sym (length-filter (λ d. is_space spaces.CoreModule (space_of d)) ds) ∙ ap length (unmarked ds names h)
 
 fields_encoded : (w : ComponentWorld) (ds : List Def) (name : List ℕ) (es : List CoreInlineExport) (fs : List (List ℕ × Import)) → AllZip (IsEntryFor w ds) es fs →

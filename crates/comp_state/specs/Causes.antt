@@ -1,6 +1,6 @@
 -- When the encoding of a world is refused: out of memory, where a function has no string encoding
 -- (Canonical ABI: `string-encoding`), and where a count passes 32 bits (core standard, binary format: vectors).
-use Rattle.std.specs.Prelude.{◌≡◌, ◌≤◌, ◌^◌, ◌⊎◌, ℕ, List, None, Contains, IsSome}
+use Rattle.std.specs.Prelude.{◌≡◌, ◌≤◌, ◌^◌, ◌⊎◌, ℕ, List, None, Contains, IsSome, IsTrue}
 use Rattle.std.specs.List.{AllByRecursion}
 use Rattle.wit_data.specs.Keys.{name_of_key}
 use Rattle.comp_roles.specs.CoreImports.{CoreImport}
@@ -12,17 +12,18 @@ use Rattle.byte_encoding.specs.declared.fault.BuildFault.{BuildFault}
 use Rattle.byte_encoding.specs.declared.fault.BuildFault.TheVariants as build
 use Rattle.comp_state.specs.declared.fault.StateFault.{StateFault}
 use Rattle.comp_state.specs.declared.fault.StateFault.TheVariants as faults
-use Rattle.comp_state.specs.Roles.{import_encoding, export_encoding, field_path}
+use Rattle.comp_links.specs.Roles.{needs_encoding, import_encoding, export_encoding, field_path}
 
 -- a fault of the builder, as one of the state
 abbrev pub of_build : BuildFault → StateFault
 of_build build.Memory = faults.Memory
 of_build (build.TooMany excess) = faults.TooMany excess
 
--- a core import of this module and field has no string encoding
+-- a core import of this module and field needs a string encoding, and has none
 pub record LacksImportEncoding (w : ComponentWorld) (place : List ℕ) : Type 0 where
   pub given : CoreImport
   pub present : Contains (core_imports w) given
+  pub needs : IsTrue (needs_encoding given.role)
   pub none : import_encoding w given.role ≡ None
   pub at : place ≡ field_path given.module_name given.field
 
@@ -50,13 +51,14 @@ IsBuildRefusal (build.TooMany excess) = 2 ^ 32 ≤ excess
 -- the cause of a fault at one import
 abbrev pub IsImportRefusal : ComponentWorld → List ℕ → List ℕ → Import → StateFault → Type 0
 IsImportRefusal w module_name field role faults.Memory = Unit {0}
-IsImportRefusal w module_name field role (faults.NoEncoding place) = (place ≡ field_path module_name field) × (import_encoding w role ≡ None)
+IsImportRefusal w module_name field role (faults.NoEncoding place) = (place ≡ field_path module_name field) × IsTrue (needs_encoding role) × (import_encoding w role ≡ None)
 IsImportRefusal w module_name field role (faults.TooMany excess) = 2 ^ 32 ≤ excess
 
--- an import from this module that has no string encoding
+-- an import from this module that needs a string encoding, and has none
 pub record LacksFieldEncoding (w : ComponentWorld) (module_name : List ℕ) (fields : List (List ℕ × Import)) (place : List ℕ) : Type 0 where
   pub field : List ℕ × Import
   pub present : Contains fields field
+  pub needs : IsTrue (needs_encoding field.1)
   pub none : import_encoding w field.1 ≡ None
   pub at : place ≡ field_path module_name field.0
 

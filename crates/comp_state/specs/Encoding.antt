@@ -13,8 +13,8 @@ use Rattle.comp_roles.specs.declared.imports.Import.{Import}
 use Rattle.comp_roles.specs.declared.imports.ImportInstance.{ImportInstance}
 use Rattle.comp_roles.specs.declared.imports.ImportInstance.TheVariants as instances
 use Rattle.comp_worlds.specs.declared.world.ComponentWorld.{ComponentWorld}
-use Rattle.comp_state.specs.Facts.{IsFunctionType, IsImported, IsAliased, IsMain}
-use Rattle.comp_state.specs.Roles.{is_used}
+use Rattle.comp_terms.specs.Facts.{IsFunctionType, IsImported, IsAliased, IsMain}
+use Rattle.comp_links.specs.Roles.{is_used}
 
 -- the world, what was built so far, the root functions that were imported, and main's instance
 pub record Encoding : Type 0 where

@@ -7,7 +7,7 @@ ghost use Rattle.comp_bytes.specs.Scopes.{Scoped};
 ghost use Rattle.comp_worlds.specs.Worlds.{IsWorld};
 ghost use Rattle.comp_state.specs.Causes.{IsCause, IsBuildRefusal, LacksEncoding, IsEncoded};
 ghost use Rattle.comp_state.specs.Encoding.{Extends};
-ghost use Rattle.comp_state.specs.Rules.{Grows, IsBuilt, expected};
+ghost use Rattle.comp_terms.specs.Rules.{Grows, IsUnnamed, IsBuilt, expected};
 
 use crate::fault::StateFault;
 use crate::state::EncodingState;
@@ -39,7 +39,7 @@ impl EncodingState<'_> {
     fn encode_all(&mut self) -> Result<(), StateFault>
         requires { self.old.built.defs ≡ [] }
         ensures world { self.new.world ≡ self.old.world }
-        ensures built { OnOk result (IsBuilt self.old.world self.new.built.defs) }
+        ensures built { OnOk result (IsUnnamed self.old.world self.new.built.defs) }
         ensures encoded { OnOk result (IsEncoded self.old.world) }
         ensures cause { IfErr result (IsCause self.old.world) }
     {

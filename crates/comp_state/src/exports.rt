@@ -7,9 +7,9 @@ ghost use Rattle.wit_data.specs.Keys.{name_of_key};
 ghost use Rattle.comp_worlds.specs.Worlds.{core_name_of};
 ghost use Rattle.comp_state.specs.Causes.{IsCause, IsBuildRefusal, IsExportRefusal};
 ghost use Rattle.comp_state.specs.Encoding.{Extends, IsOffered};
-ghost use Rattle.comp_state.specs.Facts.{IsAliased, IsLiftFor};
-ghost use Rattle.comp_state.specs.Roles.{export_encoding};
-ghost use Rattle.comp_state.specs.Rules.{Grows, ExportNamed, exports_marked};
+ghost use Rattle.comp_terms.specs.Facts.{IsAliased, IsLiftFor};
+ghost use Rattle.comp_links.specs.Roles.{export_encoding};
+ghost use Rattle.comp_terms.specs.Rules.{Grows, named_export, exports_marked};
 
 use crate::fault::StateFault;
 use crate::instances::is_encoded;
@@ -140,7 +140,7 @@ impl EncodingState<'_> {
         requires present { IsSome (core_name_of self.old.world key.now) }
         ensures same { self.new ≡ record self.old { built = self.new.built } }
         ensures extends { Extends self.old.built self.new.built }
-        ensures grows { OnOk result (Grows self.old.world self.old.built.defs self.new.built.defs (ExportNamed (name_of_key key.now) ∷ [])) }
+        ensures grows { OnOk result (Grows self.old.world self.old.built.defs self.new.built.defs (named_export (name_of_key key.now) ∷ [])) }
         ensures encoded { OnOk result (IsSome (export_encoding self.old.world key.now)) }
         ensures cause { IfErr result (IsExportRefusal self.old.world key.now) }
     {

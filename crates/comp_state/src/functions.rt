@@ -8,9 +8,9 @@ ghost use Rattle.std.specs.List.{AllByRecursion};
 ghost use Rattle.comp_worlds.specs.Worlds.{root_function};
 ghost use Rattle.comp_state.specs.Causes.{IsCause, IsBuildRefusal};
 ghost use Rattle.comp_state.specs.Encoding.{Extends, FindsMore, FindsUsed};
-ghost use Rattle.comp_state.specs.Roles.{is_used};
-ghost use Rattle.comp_state.specs.Facts.{IsFunctionType, IsImported};
-ghost use Rattle.comp_state.specs.Rules.{Grows, ImportNamed, names_marked, imports_marked};
+ghost use Rattle.comp_links.specs.Roles.{is_used};
+ghost use Rattle.comp_terms.specs.Facts.{IsFunctionType, IsImported};
+ghost use Rattle.comp_terms.specs.Rules.{Grows, named_import, names_marked, imports_marked};
 
 use crate::fault::StateFault;
 use crate::indexes::used_functions;
@@ -57,7 +57,7 @@ impl EncodingState<'_> {
     fn import_function(&mut self, name: &Text) -> Result<u32, StateFault>
         ensures same { self.new ≡ record self.old { built = self.new.built } }
         ensures extends { Extends self.old.built self.new.built }
-        ensures grows { OnOk result (Grows self.old.world self.old.built.defs self.new.built.defs (ImportNamed name.now ∷ [])) }
+        ensures grows { OnOk result (Grows self.old.world self.old.built.defs self.new.built.defs (named_import name.now ∷ [])) }
         ensures imported { IfOk result (λ index. IsImported self.new.built.defs index name.now) }
         ensures cause { IfErr result (IsCause self.old.world) }
     {

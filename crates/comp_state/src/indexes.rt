@@ -4,7 +4,7 @@ ghost use Rattle.std.specs.Prelude.{◌≡◌, ◌||◌, ℕ, List, IfOk, OnOk, 
 ghost use Rattle.std.specs.List.{list_any, flat_map};
 ghost use Rattle.comp_lists.specs.Found.{found};
 ghost use Rattle.world_values.specs.Items.{root_export};
-ghost use Rattle.comp_state.specs.Roles.{is_used, is_any_import, uses_from};
+ghost use Rattle.comp_links.specs.Roles.{is_used, is_any_import, uses_from};
 
 use comp_lists::{Keyed, Text};
 use comp_worlds::{ComponentWorld, Export, Import, ImportInstance};

@@ -12,11 +12,11 @@ ghost use Rattle.comp_roles.specs.CoreImports.{fields_of};
 ghost use Rattle.comp_worlds.specs.Worlds.{core_imports};
 ghost use Rattle.comp_state.specs.Causes.{IsCause, IsBuildRefusal, IsImportRefusal, IsFieldsRefusal};
 ghost use Rattle.comp_state.specs.Encoding.{Extends, FindsUsed, FindsRole, FindsFields, FindsGroup};
-ghost use Rattle.comp_shims.specs.Targets.{Main};
-ghost use Rattle.comp_state.specs.Links.{link_of};
-ghost use Rattle.comp_state.specs.Facts.{IsLowered, IsCoreItemFor, IsEntryFor, IsInlineInstanceFor, IsArgumentFor, IsMain, IsFirstModule};
-ghost use Rattle.comp_state.specs.Roles.{import_encoding, field_path};
-ghost use Rattle.comp_state.specs.Rules.{Grows, ModuleIs, InstanceOf, imports_marked, landmarks};
+ghost use Rattle.comp_links.specs.Targets.{Main};
+ghost use Rattle.comp_links.specs.Links.{link_of};
+ghost use Rattle.comp_terms.specs.Facts.{IsLowered, IsCoreItemFor, IsEntryFor, IsInlineInstanceFor, IsArgumentFor, IsMain, IsFirstModule};
+ghost use Rattle.comp_links.specs.Roles.{import_encoding, field_path};
+ghost use Rattle.comp_terms.specs.Rules.{Grows, ModuleIs, InstanceOf, imports_marked, landmarks};
 
 use crate::fault::StateFault;
 use crate::state::EncodingState;

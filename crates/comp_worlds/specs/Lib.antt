@@ -3,3 +3,4 @@ pub mod Lowerings
 pub mod Uses
 pub mod Imported
 pub mod Worlds
+pub mod Gathering

@@ -4,3 +4,4 @@ mod Refusing
 mod CombinedCauses
 mod CheckingCauses
 mod Whole
+mod Modules

@@ -20,7 +20,7 @@ use Rattle.json_paths.specs.Faults.{◌>>=◌ as ◌>>+=◌}
 use Rattle.record_merge.specs.Causes.{RecordsConflict, WorldConflict}
 use Rattle.record_merge.specs.declared.bindgen.Bindgen.{Bindgen}
 use Rattle.record_merge.specs.Tables.{conflict as conflict_of}
-use Rattle.record_roles.specs.Records.{record_in}
+use Rattle.records.specs.Records.{record_in}
 use Rattle.record_values.specs.declared.record.Record.{Record}
 use Rattle.record_faults.specs.declared.fault.Failure.{Failure}
 use Rattle.record_faults.specs.declared.fault.Failure.TheVariants as failures

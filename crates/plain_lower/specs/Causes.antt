@@ -22,7 +22,7 @@ use Rattle.record_merge.specs.Tables.{conflict as conflict_of}
 use Rattle.json_paths.specs.declared.fault.Failure.{Failure as RecordFailure}
 use Rattle.json_paths.specs.declared.fault.Failure.TheVariants as record_failures
 use Rattle.json_paths.specs.declared.fault.Refusal.{Refusal as RecordRefusal}
-use Rattle.record_roles.specs.Records.{record_in}
+use Rattle.records.specs.Records.{record_in}
 use Rattle.record_values.specs.declared.record.Record.{Record}
 use Rattle.record_values.specs.declared.world.Wit.{Wit}
 use Rattle.record_versions.specs.declared.versions.MergedVersions.{MergedVersions}

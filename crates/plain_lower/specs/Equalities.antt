@@ -1,7 +1,7 @@
 -- When items and roles are equal: where all their parts are.
 use Rattle.record_merge.specs.ModuleRecords.{RoleTests}
 use Rattle.record_merge.specs.Merging.{Tests}
-use Rattle.record_roles.specs.Equalities.{same_interface}
+use Rattle.records.specs.Equalities.{same_interface}
 use Rattle.record_values.specs.contracts.roles.ExportRolePartialEq.TheImpl as export_roles
 use Rattle.record_values.specs.contracts.roles.ImportRolePartialEq.TheImpl as import_roles
 use Rattle.record_values.specs.contracts.world.ItemPartialEq.TheImpl as items

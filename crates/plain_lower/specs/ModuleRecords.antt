@@ -7,7 +7,7 @@ use Rattle.json_paths.specs.Faults.{◌>>=◌ as ◌>>>=◌}
 use Rattle.record_merge.specs.declared.bindgen.Bindgen.{Bindgen}
 use Rattle.record_merge.specs.ModuleRecords.{bindgen_of}
 use Rattle.record_merge.specs.Merging.{merged}
-use Rattle.record_roles.specs.Records.{record_in}
+use Rattle.records.specs.Records.{record_in}
 use Rattle.record_values.specs.declared.record.Record.{Record}
 use Rattle.record_faults.specs.declared.fault.Failure.{Failure}
 use Rattle.plain_lower.specs.Equalities.{tests, role_tests}

@@ -14,8 +14,8 @@ use core_sections::strip;
 use json_paths::Failure as RecordFailure;
 use record_faults::Failure;
 use record_merge::{Bindgen, bindgen_of};
-use record_roles::read_record;
 use record_values::Record;
+use records::read_record;
 use std::alloc::Global;
 use world_values::Merged;
 

@@ -2,7 +2,7 @@
 //! the module whose name begins `component-type`.
 //!
 //! [`PlainLower`] implements [`comp_worlds::Lower`]; it guarantees the clauses of that trait over the
-//! definitions of `specs/`. A record is read by `record_roles` and the crates below it, and records are
+//! definitions of `specs/`. A record is read by `records` and the crates below it, and records are
 //! merged by `record_merge`. A world is prepared in steps, each a crate of its own: `record_versions`
 //! merges compatible versions, `record_resolve` resolves names, `record_imports` and `record_exports`
 //! check the roles of main against its core types, and `supported_worlds` refuses what is not encoded

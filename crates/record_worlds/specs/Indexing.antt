@@ -9,7 +9,7 @@ use Rattle.record_types.specs.declared.known.ReadInterface.{ReadInterface}
 use Rattle.record_values.specs.declared.types.Func.{Func}
 use Rattle.record_values.specs.Names.{is_same_interface}
 use Rattle.record_values.specs.Renaming.{Renames, renamed}
-use Rattle.record_worlds.specs.declared.indexed.IndexedInterface.{IndexedInterface}
+use Rattle.record_sides.specs.declared.indexed.IndexedInterface.{IndexedInterface}
 use Rattle.record_worlds.specs.Naming.{index_name}
 use Rattle.record_worlds.specs.Tables.{InterfaceSet}
 

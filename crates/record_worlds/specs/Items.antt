@@ -24,8 +24,8 @@ use Rattle.record_values.specs.declared.world.ItemKey.{ItemKey}
 use Rattle.record_values.specs.declared.world.ItemKey.TheVariants as keys
 use Rattle.record_values.specs.declared.world.Item.TheVariants as items
 use Rattle.record_values.specs.Names.{key_text}
-use Rattle.record_worlds.specs.declared.items.Side.{Side}
-use Rattle.record_worlds.specs.declared.items.Side.TheVariants as sides
+use Rattle.record_sides.specs.declared.sides.Side.{Side}
+use Rattle.record_sides.specs.declared.sides.Side.TheVariants as sides
 use Rattle.record_worlds.specs.declared.items.ReadItem.{ReadItem}
 use Rattle.record_worlds.specs.declared.items.ReadItems.{ReadItems}
 use Rattle.record_worlds.specs.declared.items.WorldItems.{WorldItems}

@@ -11,8 +11,8 @@ use Rattle.record_values.specs.declared.world.Item.{Item}
 use Rattle.record_values.specs.declared.world.Item.TheVariants as items
 use Rattle.record_values.specs.Names.{is_same_interface}
 use Rattle.record_values.specs.Renaming.{Renames, renamed_item}
-use Rattle.record_worlds.specs.declared.items.Side.{Side}
-use Rattle.record_worlds.specs.declared.items.Side.TheVariants as sides
+use Rattle.record_sides.specs.declared.sides.Side.{Side}
+use Rattle.record_sides.specs.declared.sides.Side.TheVariants as sides
 use Rattle.record_worlds.specs.declared.items.ReadItem.{ReadItem}
 use Rattle.record_worlds.specs.declared.items.WorldItems.{WorldItems}
 use Rattle.record_worlds.specs.declared.naming.Entry.{Entry}

@@ -17,8 +17,8 @@ use Rattle.record_values.specs.declared.world.Item.{Item}
 use Rattle.record_values.specs.declared.world.Item.TheVariants as items
 use Rattle.record_values.specs.Names.{is_same_interface, is_same_item}
 use Rattle.record_values.specs.Renaming.{Renames, renamed, renamed_interface}
-use Rattle.record_worlds.specs.declared.items.Side.{Side}
-use Rattle.record_worlds.specs.declared.items.Side.TheVariants as sides
+use Rattle.record_sides.specs.declared.sides.Side.{Side}
+use Rattle.record_sides.specs.declared.sides.Side.TheVariants as sides
 use Rattle.record_worlds.specs.declared.naming.Entry.{Entry}
 use Rattle.record_worlds.specs.declared.tables.SideTable.{SideTable}
 use Rattle.record_worlds.specs.Naming.{index_name}

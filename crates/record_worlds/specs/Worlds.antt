@@ -5,10 +5,10 @@ use Rattle.json_paths.specs.declared.fault.Failure.{Failure}
 use Rattle.json_paths.specs.Faults.{◌>>=◌}
 use Rattle.record_types.specs.declared.known.ReadInterface.{ReadInterface}
 use Rattle.record_values.specs.Renaming.{Renames}
-use Rattle.record_worlds.specs.declared.items.Side.TheVariants as sides
+use Rattle.record_sides.specs.declared.sides.Side.TheVariants as sides
 use Rattle.record_worlds.specs.declared.items.WorldItems.{WorldItems}
 use Rattle.record_worlds.specs.declared.naming.Entry.{Entry}
-use Rattle.record_worlds.specs.declared.indexed.RecordWorld.{RecordWorld}
+use Rattle.record_sides.specs.declared.indexed.RecordWorld.{RecordWorld}
 use Rattle.record_worlds.specs.declared.world.Sides.{Sides}
 use Rattle.record_worlds.specs.Items.{world_items_of}
 use Rattle.record_worlds.specs.Naming.{names_of, renamed_entries}

@@ -3,10 +3,10 @@
 ghost use Rattle.std.specs.Prelude.{◌≡◌, [], IfOk};
 ghost use Rattle.record_worlds.specs.Indexing.{types_of, functions_of, indexed, indexed_from};
 
-use crate::indexed::IndexedInterface;
 use crate::naming::{Names, index_name};
 use crate::tables::InterfaceSet;
 use comp_lists::{Keyed, Seq, Text};
+use record_sides::IndexedInterface;
 use record_types::{ReadInterface, TypeFacts};
 use record_values::{Func, rename_name};
 use std::alloc::{AllocError, Global};

@@ -11,19 +11,13 @@ use comp_lists::{Keyed, Seq, Text};
 use json_paths::{
     Failure, check_members, fault_at, fault_here, read_text, required, under, under_index,
 };
+use record_sides::Side;
 use record_types::{
     ReadInterface, Scope, TypeFacts, read_function, read_interfaces, read_named_type,
 };
 use record_values::{Func, InterfaceName, Item, ItemKey, Typed};
 use serde_json::Value;
 use std::alloc::{AllocError, Global};
-
-/// The imports or the exports of a world.
-#[derive(Clone, Copy, Debug, PartialEq, Eq)]
-pub(crate) enum Side {
-    Import,
-    Export,
-}
 
 /// An item of a world as it is written in a record, with its key. An interface is named by its index in
 /// the record; of a type it has what is known.

@@ -5,12 +5,11 @@
 //! for those that read the rest of the record. Each public call returns exactly what
 //! `specs/Worlds.antt` gives, unless it runs out of memory.
 //!
-//! In reading order: `indexed` (what is read), `items` (the items of imports and exports as they are
-//! written in the record), `naming` (names of interfaces), `tables` (interfaces and items by name),
-//! `rules` (what items may name), `indexing` (interfaces by index), `world` (all of it).
+//! In reading order: `items` (the items of imports and exports as they are written in the record),
+//! `naming` (names of interfaces), `tables` (interfaces and items by name), `rules` (what items may
+//! name), `indexing` (interfaces by index), `world` (all of it).
 #![tactic(auto)]
 
-mod indexed;
 mod indexing;
 mod items;
 mod naming;
@@ -18,5 +17,4 @@ mod rules;
 mod tables;
 mod world;
 
-pub use indexed::{IndexedInterface, RecordWorld};
 pub use world::read_world;

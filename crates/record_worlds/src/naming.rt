@@ -3,8 +3,9 @@
 ghost use Rattle.std.specs.Prelude.{◌≡◌, [], OnOk, IfOk, map};
 ghost use Rattle.record_worlds.specs.Naming.{index_name, given_name, with_id, ids_from, with_key, with_given, with_all_given, names_of, renamed_entry, renamed_entries};
 
-use crate::items::{ReadItem, Side, WorldItems};
+use crate::items::{ReadItem, WorldItems};
 use comp_lists::{Keyed, Seq, Text, TryClone};
+use record_sides::Side;
 use record_types::ReadInterface;
 use record_values::{InterfaceName, Item, ItemKey, rename_item};
 use std::alloc::{AllocError, Global};

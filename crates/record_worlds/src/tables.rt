@@ -8,10 +8,10 @@ ghost use Rattle.record_values.specs.Renaming.{renamed};
 ghost use Rattle.record_worlds.specs.Naming.{index_name};
 ghost use Rattle.record_worlds.specs.Tables.{renamed_content, with_interface, with_same, interfaces_from, is_seen, with_seen, with_item, side_from, side_at};
 
-use crate::items::Side;
 use crate::naming::{Entry, Names, index_name};
 use comp_lists::{Keyed, Text, TryClone};
 use json_paths::{Failure, Refusal, fault_here, under, under_index};
+use record_sides::Side;
 use record_types::ReadInterface;
 use record_values::{Interface, InterfaceName, Item, ItemKey, rename_interface, rename_name};
 use std::alloc::{AllocError, Global};

@@ -6,14 +6,14 @@ ghost use Rattle.json_paths.specs.Faults.{Gives};
 ghost use Rattle.record_worlds.specs.Indexing.{indexed_from};
 ghost use Rattle.record_worlds.specs.Worlds.{once_checked, sides_of, checked_sides, built_world, named_world_of, world_of};
 
-use crate::indexed::{IndexedInterface, RecordWorld};
 use crate::indexing::index_interfaces;
-use crate::items::{Side, WorldItems, read_world_items};
+use crate::items::{WorldItems, read_world_items};
 use crate::naming::{Entry, Names, names_of, rename_entries};
 use crate::rules::check_rules;
 use crate::tables::{Interfaces, SideTable, table_interfaces, table_side};
 use comp_lists::Seq;
 use json_paths::Failure;
+use record_sides::{IndexedInterface, RecordWorld, Side};
 use record_types::ReadInterface;
 use record_values::{Interface, Wit};
 use serde_json::Value;

@@ -1,6 +1,9 @@
 -- The stub's world is a validated one, and the stub refuses no good module.
-use Rattle.std.proofs.Common.{◌≡◌, ℕ, List, refl, subst, sym, take, inl, inr, [], ◌∷◌, arith, length, ◌<◌}
-use Rattle.std.specs.Prelude.{⊤, codes}
+use Rattle.std.proofs.Common.{◌≡◌, ℕ, List, map, refl, subst, sym, ap, take, inl, inr, [], ◌∷◌, arith, length, ◌<◌, Some, Result, Ok, Err}
+use Rattle.std.specs.Prelude.{⊤, codes, IfOk, IsOk}
+use Rattle.std.specs.Option.{option_map}
+use Rattle.comp_worlds.specs.Gathering.{gathered_module, HasModules}
+use Rattle.world_values.specs.declared.gathered.Part.{Part}
 use Rattle.std.specs.List.{IsDistinct, AllByRecursion}
 use Rattle.std.specs.Str.{bytes_eq}
 use Rattle.world_values.specs.declared.gathered.Gathered.{Gathered}
@@ -75,7 +78,17 @@ valid_of bytes core = record {
 pub valid : (w : ComponentWorld) (bytes : List ℕ) → w ≡ stub_world bytes → take 8 bytes ≡ core_preamble → IsWorld w
 valid w bytes is core = subst IsWorld (sym is) (valid_of bytes core)
 
-pub no_cause : (g : Gathered ⊤) (f : StubFault) → take 8 (main_bytes g.main) ≡ core_preamble → ¬ PrepareCause layers.NoEncoding g f
+pub no_cause : (g : Gathered ⊤) (f : StubFault) → (take 8 (main_bytes g.main) ≡ core_preamble) × (g.adapters ≡ []) → ¬ PrepareCause layers.NoEncoding g f
 no_cause g faults.Memory core h = h
 no_cause g faults.Refused core (inl h) = cc
-no_cause g faults.Refused core (inr h) = h core
+no_cause g faults.Refused core (inr (inl h)) = h core.0
+no_cause g faults.Refused core (inr (inr h)) = h core.1
+
+-- the stub's world has the module that was gathered
+modules_of : (g : Gathered ⊤) (part : Part ⊤) → g.main ≡ Some part → g.adapters ≡ [] → HasModules g (stub_world part.bytes)
+unfolding stub_parts stub_world
+modules_of g part main alone = record { main = ap (option_map (λ (p : Part ⊤). p.bytes)) main; adapters = ap (map gathered_module) alone }
+
+pub with_modules : (g : Gathered ⊤) (part : Part ⊤) (r : Result ComponentWorld StubFault) → g.main ≡ Some part → IfOk r (λ w. w ≡ stub_world part.bytes) → (IsOk r → (take 8 part.bytes ≡ core_preamble) × (g.adapters ≡ [])) → IfOk r (HasModules g)
+with_modules g part (Ok w) main is passed = subst (HasModules g) (sym is) (modules_of g part main (passed refl).1)
+with_modules g part (Err f) main is passed = tt

@@ -68,10 +68,10 @@ stub_world bytes = whole_of (stub_parts bytes)
 abbrev pub world_of : Gathered ⊤ → ComponentWorld
 world_of gathered = stub_world (main_bytes gathered.main)
 
--- it is the refusing one, or main is no core module
+-- it is the refusing one, or main is no core module, or there are adapters
 abbrev pub PrepareCause : StubLower → Gathered ⊤ → StubFault → Type 0
 PrepareCause layer gathered faults.Memory = ⊥
-PrepareCause layer gathered faults.Refused = (layer ≡ layers.Refusing) ⊎ (take 8 (main_bytes gathered.main) ≢ core_preamble)
+PrepareCause layer gathered faults.Refused = (layer ≡ layers.Refusing) ⊎ (take 8 (main_bytes gathered.main) ≢ core_preamble) ⊎ (gathered.adapters ≢ [])
 
 abbrev pub is_memory : StubFault → Bool
 is_memory faults.Memory = true

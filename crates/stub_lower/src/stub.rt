@@ -1,17 +1,17 @@
 //! The layer.
 
-ghost use Rattle.std.specs.Prelude.{◌≡◌, ◌≢◌, IfOk, IfErr, IsOk, MatchBool, take};
+ghost use Rattle.std.specs.Prelude.{◌≡◌, ◌≢◌, ◌⊎◌, [], IfOk, IfErr, IsOk, MatchBool, take};
 ghost use Rattle.core_types.specs.Core.{core_preamble};
 ghost use Rattle.comp_worlds.specs.Worlds.{IsWorld};
 ghost use Rattle.stub_lower.specs.Stub.{stub_world};
 ghost use Rattle.stub_lower.specs.declared.stub.StubFault.TheVariants.{Memory};
 
 use crate::worlds::world;
-use comp_lists::{Bytes, Seq};
+use comp_lists::{Bytes, Keyed, Seq, Text};
 use comp_worlds::{ComponentWorld, Lower};
 use std::alloc::{AllocError, Global};
 use thiserror::Error;
-use world_values::{Gathered, Merged};
+use world_values::{Gathered, GatheredAdapter, Merged};
 
 /// Why the stub refuses.
 #[derive(Clone, Copy, Debug, PartialEq, Eq, Error)]
@@ -19,7 +19,7 @@ pub enum StubFault {
     /// An allocation failed.
     #[error("S1 Memory")]
     Memory,
-    /// It is the refusing one, or main is no core module.
+    /// It is the refusing one, or main is no core module, or there are adapters.
     #[error("S2 Refused")]
     Refused,
 }
@@ -49,6 +49,14 @@ fn is_core_module(bytes: &[u8]) -> bool
     bytes.starts_with(b"\0asm\x01\0\0\0")
 }
 
+/// Whether there is an adapter.
+fn has_adapters(adapters: &Keyed<Text, GatheredAdapter<()>>) -> bool
+    ensures { MatchBool result (adapters.now ≢ []) (adapters.now ≡ []) }
+{
+    let mut entries = adapters.iter();
+    entries.next().is_some()
+}
+
 /// The world of a core module.
 fn world_of_core(alloc: Global, bytes: &[u8]) -> Result<ComponentWorld, StubFault>
     ensures ok { IfOk result (λ w. w ≡ stub_world bytes.now) }
@@ -61,6 +69,23 @@ fn world_of_core(alloc: Global, bytes: &[u8]) -> Result<ComponentWorld, StubFaul
     } else {
         Err(StubFault::Refused)
     }
+}
+
+/// The world of a core module, where it has no adapters.
+fn world_alone(
+    alloc: Global,
+    bytes: &[u8],
+    adapters: &Keyed<Text, GatheredAdapter<()>>,
+) -> Result<ComponentWorld, StubFault>
+    ensures ok { IfOk result (λ w. w ≡ stub_world bytes.now) }
+    ensures valid { IfOk result IsWorld }
+    ensures refused { IsOk result → (take 8 bytes.now ≡ core_preamble) × (adapters.now ≡ []) }
+    ensures cause { IfErr result (λ f. f ≢ Memory → (take 8 bytes.now ≢ core_preamble) ⊎ (adapters.now ≢ [])) }
+{
+    if has_adapters(adapters) {
+        return Err(StubFault::Refused);
+    }
+    world_of_core(alloc, bytes)
 }
 
 impl Lower for StubLower {
@@ -99,12 +124,12 @@ impl Lower for StubLower {
         })
     }
 
-    #[tactic(auto, using(crate::proofs::Stubs::no_cause))]
+    #[tactic(auto, using(crate::proofs::Stubs::no_cause, crate::proofs::Stubs::with_modules))]
     fn prepare(&self, alloc: Global, gathered: &Gathered<()>) -> Result<ComponentWorld, StubFault> {
         match self {
             StubLower::Refusing => Err(StubFault::Refused),
             StubLower::NoEncoding => match &gathered.main {
-                Some(part) => world_of_core(alloc, part.bytes.as_slice()),
+                Some(part) => world_alone(alloc, part.bytes.as_slice(), &gathered.adapters),
                 None => unreachable!(),
             },
         }

@@ -1,32 +1,11 @@
-//! Cases, one line each, and the calls of their inputs.
+//! The calls of the inputs of cases.
 
 use crate::building::built;
 use crate::components::{checked, equal, read};
 use crate::values::called;
 use comp_names::is_formed;
-use hex::FromHexError;
 use std::alloc::{AllocError, Global};
-
-/// A case.
-#[derive(Clone, Copy)]
-pub(crate) struct Case<'a> {
-    pub name: &'a str,
-    pub expected: &'a str,
-    pub input: &'a str,
-}
-
-impl<'a> Case<'a> {
-    /// The case of a line.
-    pub(crate) fn of(line: &'a str) -> Case<'a> {
-        let (name, rest) = line.split_once(": ").unwrap_or((line, ""));
-        let (expected, input) = rest.split_once(" <- ").unwrap_or((rest, ""));
-        Case {
-            name,
-            expected,
-            input,
-        }
-    }
-}
+use test_cases::{bytes_of, word_and_rest};
 
 /// Whether a name has its form.
 fn formed(alloc: Global, name: &str) -> Result<String, AllocError> {
@@ -34,15 +13,6 @@ fn formed(alloc: Global, name: &str) -> Result<String, AllocError> {
         String::from_str(alloc, "yes")
     } else {
         String::from_str(alloc, "no")
-    }
-}
-
-/// The bytes of hexadecimal digits; none for anything else.
-fn bytes_of(alloc: Global, digits: &str) -> Result<Vec<u8>, AllocError> {
-    match hex::decode(alloc, digits.as_bytes()) {
-        Ok(bytes) => Ok(bytes),
-        Err(FromHexError::OutOfMemory) => Err(AllocError),
-        Err(_) => Ok(Vec::new(alloc)),
     }
 }
 
@@ -60,7 +30,7 @@ fn answer_of_bytes(alloc: Global, call: &str, given: &str) -> Result<String, All
 
 /// The result for an input.
 pub(crate) fn answer(alloc: Global, input: &str) -> Result<String, AllocError> {
-    let (call, given) = input.split_once(' ').unwrap_or((input, ""));
+    let (call, given) = word_and_rest(input);
     match call {
         "check" | "build" | "equal" | "read" | "check_names" | "describe" => {
             answer_of_bytes(alloc, call, given)

@@ -2,17 +2,7 @@
 
 use byte_encoding::{BuildFault, Encode, encoded};
 use core_sections::SectionFault;
-use hex::FromHexError;
 use std::alloc::{AllocError, Global};
-
-/// The bytes of hexadecimal digits; none for anything else.
-pub(crate) fn bytes_of(alloc: Global, digits: &str) -> Result<Vec<u8>, AllocError> {
-    match hex::decode(alloc, digits.as_bytes()) {
-        Ok(bytes) => Ok(bytes),
-        Err(FromHexError::OutOfMemory) => Err(AllocError),
-        Err(_) => Ok(Vec::new(alloc)),
-    }
-}
 
 /// The text of a fault, where it isn't that memory was refused.
 pub(crate) fn not_written(alloc: Global, fault: BuildFault) -> Result<String, AllocError> {

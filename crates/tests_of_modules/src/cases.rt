@@ -1,33 +1,13 @@
-//! Cases, one line each, and the calls of their inputs.
+//! The calls of the inputs of cases.
 
-use crate::answers::{bytes_of, encoding, written};
+use crate::answers::{encoding, written};
 use crate::bodies::body;
 use crate::modules::called;
 use crate::reading::{read, stripped};
 use crate::sections::section;
 use core_bytes::set_module_name;
 use std::alloc::{AllocError, Global};
-
-/// A case.
-#[derive(Clone, Copy)]
-pub(crate) struct Case<'a> {
-    pub name: &'a str,
-    pub expected: &'a str,
-    pub input: &'a str,
-}
-
-impl<'a> Case<'a> {
-    /// The case of a line.
-    pub(crate) fn of(line: &'a str) -> Case<'a> {
-        let (name, rest) = line.split_once(": ").unwrap_or((line, ""));
-        let (expected, input) = rest.split_once(" <- ").unwrap_or((rest, ""));
-        Case {
-            name,
-            expected,
-            input,
-        }
-    }
-}
+use test_cases::{bytes_of, word_and_rest};
 
 /// The result of a call on a module, and on the text in front of the module.
 fn answer_of_module(alloc: Global, call: &str, given: &str) -> Result<String, AllocError> {
@@ -42,7 +22,7 @@ fn answer_of_module(alloc: Global, call: &str, given: &str) -> Result<String, Al
 
 /// The result for an input.
 pub(crate) fn answer(alloc: Global, input: &str) -> Result<String, AllocError> {
-    let (call, given) = input.split_once(' ').unwrap_or((input, ""));
+    let (call, given) = word_and_rest(input);
     match call {
         "read" | "rename" | "strip" => answer_of_module(alloc, call, given),
         "body" => encoding(alloc, body(alloc, given)),

@@ -1,16 +1,13 @@
 //! The program `tests_of_modules`: core modules, how they are read, written and generated, by cases.
 //!
-//! Its words are FILES of cases. A line of a file is a case: `NAME: EXPECTED <- INPUT`, where the input is a
-//! call with its arguments; a line that begins with `#` is a comment. It prints the comments and, for each
-//! case, `NAME: ANSWER`, with the expected answer where that differs. So the file `stdout`, which the
-//! output is compared with, is the data without the inputs. The expected answers were worked out by hand from
-//! the binary format of core modules. Where memory is refused, the program says so on standard error and ends
-//! with status 1, whatever the case.
+//! The input of a case is a call with its arguments (`test_cases` says how the files are read). The program prints the
+//! comments too, so that the file `stdout`, which its output is compared with, is the data without the inputs. The expected
+//! answers were worked out by hand from the binary format of core modules.
 //!
 //! Modules that are read are in the data. What is written has no bytes before: it is made in the code, and the
 //! input is its name.
 //!
-//! In reading order: `cases` (lines, and the calls of their inputs), `answers` (bytes and faults as texts),
+//! In reading order: `cases` (the calls of inputs), `answers` (bytes and faults as texts),
 //! `reading` (modules that are read and stripped), `bodies` (generated bodies), `sections` (sections that
 //! are written), `modules` (new modules and sections, and laws).
 #![tactic(auto)]
@@ -22,54 +19,25 @@ mod modules;
 mod reading;
 mod sections;
 
-use cases::{Case, answer};
+use cases::answer;
+use std::alloc::{AllocError, Global};
 use std::process::ExitCode;
-use std::{env, fs, io};
+use test_cases::{Beside, Topic, answer_files};
 
-/// Prints the answer to a case, and the expected one where that differs.
-fn print_answer(rt: &HostRuntime, case: Case<'_>, answer: &str) -> io::Result<()> {
-    if answer == case.expected {
-        println!(rt; "{}: {answer}", case.name)
-    } else {
-        println!(rt;
-            "{}: {answer}, where {} was expected",
-            case.name, case.expected
-        )
-    }
-}
+/// All files have calls.
+#[derive(Clone, Copy)]
+struct Calls;
 
-/// Prints the answer to the case of a line, or the line where it is a comment.
-fn run_line(rt: &HostRuntime, line: &str) -> io::Result<()> {
-    if line.starts_with('#') {
-        return println!(rt; "{line}");
+impl Topic for Calls {
+    fn of(_name: &str) -> Option<Calls> {
+        Some(Calls)
     }
-    let case = Case::of(line);
-    let answer = answer(rt.alloc(), case.input)?;
-    print_answer(rt, case, answer.as_str())
-}
 
-/// Prints the answers to the cases of a file.
-fn run_file(rt: &HostRuntime, file: &str) -> io::Result<()> {
-    let text = fs::read_to_string(rt, file)?;
-    for line in text.lines() {
-        run_line(rt, line)?;
+    fn answer(self, alloc: Global, _given: &str, input: &str) -> Result<String, AllocError> {
+        answer(alloc, input)
     }
-    Ok(())
-}
-
-fn run(rt: &HostRuntime) -> io::Result<()> {
-    for file in env::args(rt)?.skip(1) {
-        run_file(rt, file.as_str())?;
-    }
-    Ok(())
 }
 
 fn main(rt: HostRuntime) -> ExitCode {
-    match run(&rt) {
-        Ok(()) => ExitCode::from(0),
-        Err(fault) => {
-            let _ = eprintln!(rt; "error: {fault}");
-            ExitCode::from(1)
-        }
-    }
+    answer_files::<Calls, HostRuntime>(&rt, Beside::Comments)
 }

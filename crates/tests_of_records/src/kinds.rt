@@ -4,57 +4,48 @@
 //! interface, and those that the world exports.
 
 use crate::faults::print_fault;
+use comp_lists::Keyed;
 use json_paths::{Failure, read_value};
 use record_resolve::{Resolved, resolve};
-use record_worlds::{RecordWorld, read_world};
+use record_sides::RecordWorld;
+use record_worlds::read_world;
 use serde_json::Value;
 use std::alloc::{AllocError, Global};
-use wit_data::{Function, Interface, Resolve, World, WorldItem};
+use wit_data::{Function, Interface, Resolve, WorldItem, WorldKey};
 
-fn push_function(alloc: Global, out: &mut String, function: &Function) -> Result<(), AllocError> {
+fn push_function(out: &mut String, function: &Function) -> Result<(), AllocError> {
     if !out.is_empty() {
         out.push_str("; ")?;
     }
-    let text = format!(in alloc; "{} {:?}", function.name.as_str(), function.kind)?;
-    out.push_str(text.as_str())
+    write!(out, "{} {:?}", function.name.as_str(), function.kind)
 }
 
-fn push_item(alloc: Global, out: &mut String, item: &WorldItem) -> Result<(), AllocError> {
+fn push_item(out: &mut String, item: &WorldItem) -> Result<(), AllocError> {
     match item {
-        WorldItem::Function(function) => push_function(alloc, out, function),
+        WorldItem::Function(function) => push_function(out, function),
         WorldItem::Interface(_) => Ok(()),
         WorldItem::NamedType(_) => Ok(()),
     }
 }
 
-fn push_imports(alloc: Global, out: &mut String, world: &World) -> Result<(), AllocError> {
-    for (_key, item) in world.imports.iter() {
-        push_item(alloc, out, item)?;
+/// Adds the functions among the imports or the exports of a world.
+fn push_items(out: &mut String, items: &Keyed<WorldKey, WorldItem>) -> Result<(), AllocError> {
+    for (_key, item) in items.iter() {
+        push_item(out, item)?;
     }
     Ok(())
 }
 
-fn push_exports(alloc: Global, out: &mut String, world: &World) -> Result<(), AllocError> {
-    for (_key, item) in world.exports.iter() {
-        push_item(alloc, out, item)?;
+fn push_interfaces(out: &mut String, interfaces: &[Interface]) -> Result<(), AllocError> {
+    for interface in interfaces {
+        push_functions(out, interface)?;
     }
     Ok(())
 }
 
-fn push_interface(
-    alloc: Global,
-    out: &mut String,
-    interface: &Interface,
-) -> Result<(), AllocError> {
+fn push_functions(out: &mut String, interface: &Interface) -> Result<(), AllocError> {
     for (_name, function) in interface.functions.iter() {
-        push_function(alloc, out, function)?;
-    }
-    Ok(())
-}
-
-fn push_interfaces(alloc: Global, out: &mut String, resolve: &Resolve) -> Result<(), AllocError> {
-    for interface in resolve.interfaces.as_slice() {
-        push_interface(alloc, out, interface)?;
+        push_function(out, function)?;
     }
     Ok(())
 }
@@ -62,9 +53,9 @@ fn push_interfaces(alloc: Global, out: &mut String, resolve: &Resolve) -> Result
 fn print_functions(alloc: Global, resolve: &Resolve) -> Result<String, AllocError> {
     let mut out = String::new(alloc);
     for world in resolve.worlds.as_slice() {
-        push_imports(alloc, &mut out, world)?;
-        push_interfaces(alloc, &mut out, resolve)?;
-        push_exports(alloc, &mut out, world)?;
+        push_items(&mut out, &world.imports)?;
+        push_interfaces(&mut out, resolve.interfaces.as_slice())?;
+        push_items(&mut out, &world.exports)?;
     }
     Ok(out)
 }

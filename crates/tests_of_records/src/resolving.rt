@@ -3,7 +3,6 @@
 //! The query is the id of an interface of two functions that return lists of texts, and the side that it is on: `import`, `export`, `both` or
 //! `nowhere`.
 
-use crate::cases::word_and_rest;
 use crate::faults::print_fault;
 use crate::wits::{add_item, empty, name};
 use comp_lists::{Keyed, Seq, Text};
@@ -11,6 +10,7 @@ use json_paths::{Failure, Refusal};
 use record_resolve::{Resolved, resolve};
 use record_values::{Func, Interface, InterfaceName, Node, Wit};
 use std::alloc::{AllocError, Global};
+use test_cases::word_and_rest;
 use wit_data::Primitive;
 
 fn texts(alloc: Global) -> Result<Seq<Node>, AllocError> {

@@ -4,13 +4,13 @@
 //! its id, and the ids of at most two others. It has types `t` and `u`, each of which is the `t` of such another
 //! interface, in turn, or a number where none is named.
 
-use crate::cases::word_and_rest;
 use crate::faults::print_fault;
 use crate::wits::{add_item, empty, name};
 use comp_lists::{Keyed, Seq, Text};
 use record_values::{Interface, InterfaceName, Node, Owner, TypeName, Typed, Wit};
 use record_versions::merge_versions;
 use std::alloc::{AllocError, Global};
+use test_cases::word_and_rest;
 use wit_data::Primitive;
 
 /// The type `t` of an interface.

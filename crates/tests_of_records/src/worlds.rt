@@ -2,8 +2,9 @@
 
 use crate::faults::print_fault;
 use json_paths::read_value;
+use record_sides::{IndexedInterface, RecordWorld};
 use record_values::InterfaceName;
-use record_worlds::{IndexedInterface, RecordWorld, read_world};
+use record_worlds::read_world;
 use serde_json::Value;
 use std::alloc::{AllocError, Global};
 

@@ -11,7 +11,6 @@
 ghost use Rattle.std.specs.Prelude.{◌≡◌, [], IfOk, OnOk};
 ghost use Rattle.tests_of_worlds.specs.CoreImports.{role_of, fields_of, with_module, core_imports};
 
-use crate::types::{kind, named_function_of, push_type, word_and_rest};
 use bitflags::Flags;
 use comp_lists::{Keyed, Seq, Text};
 use comp_worlds::{
@@ -19,10 +18,12 @@ use comp_worlds::{
     ModuleMetadata, ValidatedModule, WorldParts,
 };
 use std::alloc::{AllocError, Global};
+use test_cases::word_and_rest;
 use wit_data::{
     AbiVariant, Function, Interface, InterfaceId, Resolve, TypeDef, TypeId, TypeOwner, World,
     WorldId, WorldItem, WorldKey,
 };
+use wit_texts::{kind, named_function_of, push_type};
 use world_tables::world_of_parts;
 
 const fn interface(index: usize) -> InterfaceId
@@ -112,13 +113,23 @@ fn push_interface(
     Ok(())
 }
 
-/// `i` with `r`, `s`, `f: func(p: r)` and `g: func()`; `k` with `t`; `j` with `h: func(p: t)`.
+/// The types of `i`, and its functions: `f: func(p: r)` and `g: func()`.
+const TYPES_OF_I: &[(&str, usize)] = &[("r", 1), ("s", 2)];
+
+const FUNCTIONS_OF_I: &[(&str, &str)] = &[("f", "1 ->"), ("g", "->")];
+
+/// The types of `k`.
+const TYPES_OF_K: &[(&str, usize)] = &[("t", 3)];
+
+/// The functions of `j`: `h: func(p: t)`.
+const FUNCTIONS_OF_J: &[(&str, &str)] = &[("h", "3 ->")];
+
+/// `i`, `k` and `j`.
 fn interfaces(alloc: Global) -> Result<Seq<Interface>, AllocError> {
     let mut all = Seq::new(alloc);
-    let (f, g) = (("f", "1 ->"), ("g", "->"));
-    push_interface(alloc, &mut all, &[("r", 1), ("s", 2)], &[f, g])?;
-    push_interface(alloc, &mut all, &[("t", 3)], &[])?;
-    push_interface(alloc, &mut all, &[], &[("h", "3 ->")])?;
+    push_interface(alloc, &mut all, TYPES_OF_I, FUNCTIONS_OF_I)?;
+    push_interface(alloc, &mut all, TYPES_OF_K, &[])?;
+    push_interface(alloc, &mut all, &[], FUNCTIONS_OF_J)?;
     Ok(all)
 }
 

@@ -7,8 +7,6 @@
 //! - `lowerings`, and two names, each followed by a form of call: whether their lowerings are one;
 //! - `copy`: whether a copy of a library's arguments equals them.
 
-use crate::exports::abi_of;
-use crate::types::word_and_rest;
 use comp_lists::{Keyed, Seq, Text};
 use comp_worlds::{
     ComponentWorld, CustomModule, Export, ExportMap, FunctionKey, ImportMap, Instance, Item,
@@ -17,7 +15,9 @@ use comp_worlds::{
 };
 use standard_kinds::{ExportKind, StringEncoding};
 use std::alloc::{AllocError, Global};
+use test_cases::word_and_rest;
 use wit_data::{Resolve, WorldId};
+use wit_texts::abi_of;
 
 /// A module with these exports.
 fn module(alloc: Global, exports: ExportMap) -> ValidatedModule {

@@ -3,18 +3,17 @@ use Rattle.comp_bytes.specs.Scopes.{Scoped}
 use Rattle.comp_builder.specs.Built.{Built}
 use Rattle.comp_builder.specs.Naming.{with_names}
 use Rattle.std.proofs.lemmas.Result.{IfOk-weaker}
-use Rattle.comp_state.specs.Rules.{IsBuilt}
-use Rattle.comp_state.proofs.Building.{built_more, names_grow, encoded_lacks}
+use Rattle.comp_terms.specs.Rules.{IsUnnamed, IsBuilt}
+use Rattle.comp_state.proofs.Building.{built_named, encoded_lacks}
 use Rattle.comp_state.proofs.Scoping.{built_scoped}
 use Rattle.comp_state.proofs.encode.encode_world.Goals as goal
 
 pub returns-clause-ok : goal.returns-clause-ok
 returns-clause-ok c =
     let world : c.encode_all.new.self.world ≡ c.args.world.now = search rules in
-    let built : IsBuilt c.args.world.now c.encode_all.new.self.built.defs = search rules in
+    let built : IsUnnamed c.args.world.now c.encode_all.new.self.built.defs = search rules in
     let whole : IsBuilt c.args.world.now (with_names c.encode_all.new.self.built).defs =
-    built_more c.args.world.now c.encode_all.new.self.built.defs (with_names c.encode_all.new.self.built).defs built
-    (names_grow c.args.world.now c.encode_all.new.self.built (with_names c.encode_all.new.self.built) refl) in
+    built_named c.args.world.now c.encode_all.new.self.built (with_names c.encode_all.new.self.built) refl built in
     IfOk-weaker c.finish.result _ _
     (λ component same. subst (λ (b : Built). Scoped b.defs × IsBuilt c.args.world.now b.defs) (sym same)
     (built_scoped c.args.world.now (with_names c.encode_all.new.self.built).defs whole, whole)) c.finish.ensures.ok

@@ -1,7 +1,7 @@
 use Rattle.std.proofs.Common.{◌≡◌, ap, rules}
 use Rattle.comp_builder.specs.Built.{Built}
 use Rattle.comp_state.specs.Encoding.{Encoding, IsOffered}
-use Rattle.comp_state.specs.Facts.{IsMain}
+use Rattle.comp_terms.specs.Facts.{IsMain}
 use Rattle.comp_state.proofs.Growth.{IsEncoding-kept, IsEncoding-aliased}
 use Rattle.comp_state.proofs.Exporting.{AddsAlias, adds_alias}
 use Rattle.comp_state.proofs.state.EncodingState.add_alias.Goals as goal

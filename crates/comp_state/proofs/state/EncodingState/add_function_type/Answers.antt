@@ -1,6 +1,6 @@
 use Rattle.std.proofs.Common.{rules, []}
-use Rattle.comp_state.specs.Facts.{IsFunctionType}
-use Rattle.comp_state.specs.Rules.{Grows}
+use Rattle.comp_terms.specs.Facts.{IsFunctionType}
+use Rattle.comp_terms.specs.Rules.{Grows}
 use Rattle.comp_state.proofs.Growth.{IsEncoding-kept, IsEncoding-typed}
 use Rattle.comp_state.proofs.state.EncodingState.add_function_type.Goals as goal
 

@@ -1,7 +1,7 @@
 use Rattle.std.proofs.Common.{◌≡◌, ◌∙◌, ◌∷◌, [], ap}
 use Rattle.comp_worlds.specs.declared.world.ComponentWorld.{ComponentWorld}
 use Rattle.comp_state.specs.Encoding.{Encoding}
-use Rattle.comp_state.specs.Rules.{Grows, ModuleIs, InstanceOf, exports_marked}
+use Rattle.comp_terms.specs.Rules.{Grows, ModuleIs, InstanceOf, exports_marked}
 use Rattle.comp_state.proofs.Building.{built_by_steps}
 use Rattle.comp_state.proofs.state.EncodingState.encode_all.Goals as goal
 

@@ -4,8 +4,8 @@ use Rattle.comp_bytes.specs.Spaces.{items_in}
 use Rattle.comp_bytes.specs.declared.space.Space.TheVariants as spaces
 use Rattle.comp_worlds.specs.declared.world.ComponentWorld.{ComponentWorld}
 use Rattle.comp_state.specs.Encoding.{Encoding}
-use Rattle.comp_state.specs.Roles.{used_functions}
-use Rattle.comp_state.specs.Rules.{Grows, ModuleIs}
+use Rattle.comp_links.specs.Roles.{used_functions}
+use Rattle.comp_terms.specs.Rules.{Grows, ModuleIs}
 use Rattle.comp_state.proofs.Growth.{IsEncoding-kept}
 use Rattle.comp_state.proofs.Serving.{no_modules}
 use Rattle.comp_state.proofs.state.EncodingState.encode_core_modules.Goals as goal

@@ -3,7 +3,7 @@ use Rattle.std.specs.List.{AllZip}
 use Rattle.comp_builder.specs.Built.{Built}
 use Rattle.comp_roles.specs.declared.imports.ImportInstance.TheVariants as instances
 use Rattle.comp_state.specs.Encoding.{Encoding}
-use Rattle.comp_state.specs.Facts.{IsEntryFor}
+use Rattle.comp_terms.specs.Facts.{IsEntryFor}
 use Rattle.comp_state.proofs.Growth.{Grows-then, IsEncoding-kept}
 use Rattle.comp_state.proofs.Serving.{ServesGroup, serve_group}
 use Rattle.comp_state.proofs.state.EncodingState.encode_inline_instance.Goals as goal

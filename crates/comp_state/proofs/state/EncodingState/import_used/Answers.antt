@@ -1,6 +1,6 @@
 use Rattle.std.proofs.Common.{◌≡◌, ◌∙◌, ap}
 use Rattle.comp_state.specs.Encoding.{Encoding}
-use Rattle.comp_state.specs.Facts.{IsImported}
+use Rattle.comp_terms.specs.Facts.{IsImported}
 use Rattle.comp_state.proofs.Growth.{IsEncoding-imported}
 use Rattle.comp_state.proofs.Importing.{finds_more, finds_added}
 use Rattle.comp_state.proofs.state.EncodingState.import_used.Goals as goal

@@ -5,8 +5,8 @@ use Rattle.comp_bytes.proofs.ItemIndices.{in_range}
 use Rattle.comp_bytes.specs.declared.def.Def.TheVariants as defs
 use Rattle.comp_bytes.specs.declared.def.Item.TheVariants as items
 use Rattle.comp_state.specs.Encoding.{Encoding}
-use Rattle.comp_state.specs.Facts.{IsArgumentFor}
-use Rattle.comp_state.specs.Rules.{Grows, InstanceOf}
+use Rattle.comp_terms.specs.Facts.{IsArgumentFor}
+use Rattle.comp_terms.specs.Rules.{Grows, InstanceOf}
 use Rattle.comp_state.proofs.Growth.{Grows-by, Grows-then, IsEncoding-kept, IsEncoding-made, kept}
 use Rattle.comp_state.proofs.Serving.{groups_encoded}
 use Rattle.comp_state.proofs.state.EncodingState.instantiate.Goals as goal

@@ -1,8 +1,8 @@
 use Rattle.std.proofs.Common.{◌≡◌, ◌∙◌, [], ap, rules}
 use Rattle.comp_builder.specs.Built.{Built}
 use Rattle.comp_state.specs.Encoding.{Encoding}
-use Rattle.comp_state.specs.Facts.{IsAliased, IsFunctionType}
-use Rattle.comp_state.specs.Rules.{Grows}
+use Rattle.comp_terms.specs.Facts.{IsAliased, IsFunctionType}
+use Rattle.comp_terms.specs.Rules.{Grows}
 use Rattle.comp_state.proofs.Extending.{extends_then}
 use Rattle.comp_state.proofs.Growth.{Grows-then, IsEncoding-kept, IsFunctionType-kept}
 use Rattle.comp_state.proofs.Exporting.{AddsLift, adds_lift}

@@ -1,8 +1,8 @@
 use Rattle.std.proofs.Common.{◌≡◌, [], ap, rules}
 use Rattle.comp_bytes.proofs.ItemIndices.{in_range}
 use Rattle.comp_state.specs.Encoding.{Encoding}
-use Rattle.comp_state.specs.Facts.{IsImported}
-use Rattle.comp_state.specs.Rules.{Grows}
+use Rattle.comp_terms.specs.Facts.{IsImported}
+use Rattle.comp_terms.specs.Rules.{Grows}
 use Rattle.comp_state.proofs.Growth.{IsEncoding-kept, IsImported-kept}
 use Rattle.comp_state.proofs.state.EncodingState.lower_function.Goals as goal
 

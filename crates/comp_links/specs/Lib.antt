@@ -1,0 +1,5 @@
+pub mod Targets
+pub mod Modules
+pub mod Roles
+pub mod Lists
+pub mod Links

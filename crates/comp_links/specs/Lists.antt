@@ -1,0 +1,105 @@
+-- What a component imports and exports, in order, and the section of its names (component model: the imports and exports
+-- of a component; binary format: name section).
+use Rattle.std.specs.Prelude.{◌≡◌, ℕ, List, [], ◌∷◌, codes, map, Option, Some, None}
+use Rattle.std.specs.List.{flat_map}
+use Rattle.std.specs.Map.{lookup}
+use Rattle.comp_bytes.specs.declared.space.Sort.{Sort}
+use Rattle.comp_bytes.specs.declared.space.Sort.TheVariants as sorts
+use Rattle.comp_bytes.specs.declared.types.ExternName.{ExternName}
+use Rattle.comp_bytes.specs.declared.types.Description.{Description}
+use Rattle.comp_bytes.specs.declared.types.Description.TheVariants as descriptions
+use Rattle.comp_bytes.specs.declared.def.Item.TheVariants as parts
+use Rattle.comp_bytes.specs.declared.def.Def.{Def}
+use Rattle.comp_bytes.specs.declared.def.Def.TheVariants as defs
+use Rattle.wit_data.specs.Names.{key_text}
+use Rattle.wit_data.specs.Keys.{is_same_key}
+use Rattle.wit_data.specs.declared.resolve.Resolve.{Resolve}
+use Rattle.wit_data.specs.declared.worlds.WorldItem.{WorldItem}
+use Rattle.wit_data.specs.declared.worlds.WorldItem.TheVariants as items
+use Rattle.wit_data.specs.declared.worlds.WorldKey.{WorldKey}
+use Rattle.world_values.specs.Mentions.{functions_of}
+use Rattle.comp_worlds.specs.Worlds.{items_of}
+use Rattle.comp_worlds.specs.declared.world.ComponentWorld.{ComponentWorld}
+use Rattle.comp_links.specs.Targets.{UserModule, Main}
+use Rattle.comp_links.specs.Roles.{used_functions}
+
+-- the sort of what an import is said to be
+abbrev pub described_sort : Description → Sort
+described_sort (descriptions.Func index) = sorts.Func
+described_sort (descriptions.TypeEqual index) = sorts.Type
+described_sort descriptions.SubResource = sorts.Type
+described_sort (descriptions.Instance index) = sorts.Instance
+
+-- an import or an export of a component, by its name with the version suffix, and its sort
+pub record Stated : Type 0 where
+  pub name : ExternName
+  pub sort : Sort
+
+-- a name without a version suffix
+abbrev pub plain_name : List ℕ → ExternName
+plain_name text = record { name = text; version_suffix = None }
+
+-- a function at the root
+abbrev pub root_function : List ℕ → Stated
+root_function name = record { name = plain_name name; sort = sorts.Func }
+
+-- an import of the component: so far, a function at the world's root
+pub data ImportEntry : Type 0 where
+  RootFunction : (name : List ℕ) → ImportEntry
+
+-- the imports of the component, by what of the world they are
+abbrev pub import_entries : ComponentWorld → List ImportEntry
+import_entries w = map RootFunction (used_functions w)
+
+abbrev pub stated_import : ImportEntry → Stated
+stated_import (RootFunction name) = root_function name
+
+abbrev pub stated_imports : ComponentWorld → List Stated
+stated_imports w = map stated_import (import_entries w)
+
+-- the key of an export that a user module has to provide
+pub record RequiredKey : Type 0 where
+  pub of : UserModule
+  pub key : WorldKey
+
+abbrev pub required_keys : ComponentWorld → List RequiredKey
+required_keys w = map (λ key. record { of = Main; key = key }) w.main_exports
+
+-- what the world exports at a key
+abbrev pub exported_item : ComponentWorld → WorldKey → Option WorldItem
+exported_item w key = lookup (is_same_key key) (items_of w).exports
+
+abbrev pub sort_of : Option WorldItem → Sort
+sort_of (Some (items.Function f)) = sorts.Func
+sort_of (Some (items.NamedType id)) = sorts.Type
+sort_of item = sorts.Instance
+
+abbrev pub stated_export : ComponentWorld → RequiredKey → Stated
+stated_export w r = record { name = plain_name (key_text w.resolve r.key); sort = sort_of (exported_item w r.key) }
+
+abbrev pub stated_exports : ComponentWorld → List Stated
+stated_exports w = map (stated_export w) (required_keys w)
+
+-- the functions of an item: itself, or those of an interface
+abbrev pub functions_in : Resolve → Option WorldItem → List (List ℕ)
+functions_in r (Some (items.Function f)) = f.name ∷ []
+functions_in r (Some (items.Interface id)) = map (λ e. e.0) (functions_of r id)
+functions_in r item = []
+
+-- a function that has to be exported, at a key
+pub record RequiredFunction : Type 0 where
+  pub of : UserModule
+  pub key : WorldKey
+  pub function : List ℕ
+
+abbrev pub functions_required : ComponentWorld → RequiredKey → List RequiredFunction
+functions_required w r = map (λ name. record { of = r.of; key = r.key; function = name }) (functions_in w.resolve (exported_item w r.key))
+
+abbrev pub required_functions : ComponentWorld → List RequiredFunction
+required_functions w = flat_map (functions_required w) (required_keys w)
+
+-- the section with the names of the items, where there is one
+abbrev pub AreNames : List Def → Type 0
+AreNames [] = Unit {0}
+AreNames (defs.Item (parts.Custom name contents) ∷ []) = name ≡ codes "component-name"
+AreNames ds = ⊥

@@ -1,0 +1,55 @@
+-- What the roles of a world need (component model: a function is imported once, under its name;
+-- Canonical ABI: each function is called with a string encoding).
+use Rattle.std.specs.Prelude.{ℕ, Bool, true, false, List, ◌∷◌, ◌++◌, Option, Some, None, filter}
+use Rattle.std.specs.List.{list_any}
+use Rattle.std.specs.Str.{bytes_eq}
+use Rattle.wit_data.specs.Keys.{name_of_key}
+use Rattle.comp_roles.specs.Functions.{of_function}
+use Rattle.comp_roles.specs.CoreImports.{fields_of}
+use Rattle.comp_worlds.specs.Worlds.{imported_name, imported_functions}
+use Rattle.wit_data.specs.declared.worlds.WorldKey.{WorldKey}
+use Rattle.standard_kinds.specs.declared.kinds.StringEncoding.{StringEncoding}
+use Rattle.comp_roles.specs.declared.imports.Import.{Import}
+use Rattle.comp_roles.specs.declared.imports.Import.TheVariants as imports
+use Rattle.comp_roles.specs.declared.imports.ImportInstance.{ImportInstance}
+use Rattle.comp_worlds.specs.declared.world.ComponentWorld.{ComponentWorld}
+
+-- whether this is the name of the root function of a role
+abbrev pub is_named : List ℕ → Option (List ℕ) → Bool
+is_named text None = false
+is_named text (Some name) = bytes_eq text name
+
+-- whether one of these imports uses the root function of this name
+abbrev pub is_any_import : List ℕ → List (List ℕ × Import) → Bool
+is_any_import text fields = list_any (λ f. is_named text (imported_name f.1)) fields
+
+abbrev pub uses_from : List ℕ → List ℕ × ImportInstance → Bool
+uses_from text group = is_any_import text (fields_of group.1)
+
+-- whether an import of main uses the root function of this name
+abbrev pub is_used : ComponentWorld → List ℕ → Bool
+is_used w text = list_any (uses_from text) w.main.imports.modules
+
+-- the root functions that core imports use, in the order of the world
+abbrev pub used_functions : ComponentWorld → List (List ℕ)
+used_functions w = filter (is_used w) (imported_functions w)
+
+-- whether an import is called with a string encoding: a function of the world is, and `task.return`
+abbrev pub needs_encoding : Import → Bool
+needs_encoding (imports.WorldFunc key function abi) = true
+needs_encoding (imports.InterfaceFunc key interface function abi) = true
+needs_encoding (imports.ExportedTaskReturn key interface function) = true
+needs_encoding role = false
+
+-- the encoding with which an import is called
+abbrev pub import_encoding : ComponentWorld → Import → Option StringEncoding
+import_encoding w (imports.WorldFunc key function abi) = of_function key function w.main.metadata.import_encodings
+import_encoding w role = None
+
+-- the encoding with which the root function of a key is lifted
+abbrev pub export_encoding : ComponentWorld → WorldKey → Option StringEncoding
+export_encoding w key = of_function key (name_of_key key) w.main.metadata.export_encodings
+
+-- the text that names a core import in faults, `module::field`
+abbrev pub field_path : List ℕ → List ℕ → List ℕ
+field_path module_name field = module_name ++ 0x3a ∷ 0x3a ∷ field

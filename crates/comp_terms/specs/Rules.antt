@@ -1,0 +1,161 @@
+-- Rules that each definition keeps at its index, and the landmarks of the whole list (component model,
+-- explainer: component definitions). They are what the steps guarantee to the proof that the list runs; no rule is
+-- part of a public guarantee.
+use Rattle.std.specs.Prelude.{◌≡◌, ◌<◌, ℕ, List, [], ◌∷◌, ◌++◌, Option, Some, None, map, filter}
+use Rattle.std.specs.List.{AllByRecursion, AllZip, IsDistinct, filter_map}
+use Rattle.std.specs.Str.{bytes_eq}
+use Rattle.comp_bytes.specs.Spaces.{items_in}
+use Rattle.comp_bytes.specs.declared.space.Space.TheVariants as spaces
+use Rattle.standard_kinds.specs.declared.kinds.ExportKind.TheVariants as kinds
+use Rattle.comp_bytes.specs.declared.space.Sort.{Sort}
+use Rattle.comp_bytes.specs.declared.space.Sort.TheVariants as sorts
+use Rattle.comp_bytes.specs.declared.types.ExternName.{ExternName}
+use Rattle.comp_bytes.specs.declared.types.TypeDef.TheVariants as types
+use Rattle.comp_bytes.specs.declared.types.Alias.{Alias}
+use Rattle.comp_bytes.specs.declared.types.Alias.TheVariants as aliases
+use Rattle.comp_bytes.specs.declared.types.Description.{Description}
+use Rattle.comp_bytes.specs.declared.types.Description.TheVariants as descriptions
+use Rattle.comp_bytes.specs.declared.def.CoreArgument.{CoreArgument}
+use Rattle.comp_bytes.specs.declared.def.CoreInlineExport.{CoreInlineExport}
+use Rattle.comp_bytes.specs.declared.def.Item.{Item}
+use Rattle.comp_bytes.specs.declared.def.Item.TheVariants as items
+use Rattle.comp_bytes.specs.declared.def.Def.{Def}
+use Rattle.comp_bytes.specs.declared.def.Def.TheVariants as defs
+use Rattle.wit_data.specs.Keys.{name_of_key}
+use Rattle.comp_worlds.specs.Worlds.{core_name_of}
+use Rattle.wit_data.specs.declared.worlds.WorldKey.{WorldKey}
+use Rattle.comp_worlds.specs.declared.world.ComponentWorld.{ComponentWorld}
+use Rattle.comp_links.specs.Roles.{is_used, used_functions}
+use Rattle.comp_links.specs.Lists.{Stated, plain_name, root_function, described_sort, AreNames}
+use Rattle.comp_terms.specs.Facts.{plain_function, IsFunctionType, IsArgumentFor, IsMain, IsLiftFor}
+
+-- main's instantiation: an argument for each module of imports, in order
+pub record InstantiatesMain (w : ComponentWorld) (earlier : List Def) (number : ℕ) (arguments : List CoreArgument) : Type 0 where
+  pub main : number ≡ 0
+  pub scoped : number < items_in spaces.CoreModule earlier
+  pub each : AllZip (IsArgumentFor w earlier) arguments w.main.imports.modules
+
+-- an alias of a core export: one of main that implements some root function
+pub record AliasesMain (w : ComponentWorld) (earlier : List Def) (instance : ℕ) (name : List ℕ) : Type 0 where
+  pub of : IsMain earlier instance
+  pub key : WorldKey
+  pub role : core_name_of w key ≡ Some name
+
+-- an export: a required one, under its name
+pub record ExportsRequired (w : ComponentWorld) (earlier : List Def) (name : ExternName) (index : ℕ) : Type 0 where
+  pub key : WorldKey
+  pub named : name ≡ plain_name (name_of_key key)
+  pub lifted : IsLiftFor w earlier index key
+
+-- an entry of an inline instance is a core function
+pub record IsEntry (earlier : List Def) (e : CoreInlineExport) : Type 0 where
+  pub kind : e.kind ≡ kinds.Func
+  pub scoped : e.index < items_in spaces.CoreFunc earlier
+
+-- the entries of an inline instance are core functions, under distinct names
+pub record AreEntries (earlier : List Def) (entries : List CoreInlineExport) : Type 0 where
+  pub each : AllByRecursion (IsEntry earlier) entries
+  pub apart : IsDistinct bytes_eq (map (λ e. e.name) entries)
+
+abbrev pub IsAliasRight : ComponentWorld → List Def → Alias → Type 0
+IsAliasRight w earlier (aliases.CoreExport kinds.Func instance name) = AliasesMain w earlier instance name
+IsAliasRight w earlier _ = ⊥
+
+abbrev pub IsImportRight : List Def → ExternName → Description → Type 0
+IsImportRight earlier name (descriptions.Func kind) = (name ≡ plain_name name.name) × IsFunctionType earlier kind
+IsImportRight earlier name _ = ⊥
+
+abbrev pub IsExportRight : ComponentWorld → List Def → ExternName → Sort → ℕ → Option Description → Type 0
+IsExportRight w earlier name sorts.Func index None = ExportsRequired w earlier name index
+IsExportRight w earlier name _ index _ = ⊥
+
+-- the rule of an item, after the earlier definitions; kinds that are never written have no rule that holds
+abbrev pub IsItemRight : ComponentWorld → List Def → Item → Type 0
+IsItemRight w earlier (items.CoreModule bytes) = Unit {0}
+IsItemRight w earlier (items.CoreInstantiate number arguments) = InstantiatesMain w earlier number arguments
+IsItemRight w earlier (items.CoreExports entries) = AreEntries earlier entries
+IsItemRight w earlier (items.Instantiate component arguments) = ⊥
+IsItemRight w earlier (items.Alias a) = IsAliasRight w earlier a
+IsItemRight w earlier (items.Type t) = t ≡ types.Func plain_function
+IsItemRight w earlier (items.InstanceType t) = ⊥
+IsItemRight w earlier (items.Lift core options kind) = (core < items_in spaces.CoreFunc earlier) × (options ≡ []) × IsFunctionType earlier kind
+IsItemRight w earlier (items.Lower function options) = (function < items_in spaces.Func earlier) × (options ≡ [])
+IsItemRight w earlier (items.Intrinsic i) = ⊥
+IsItemRight w earlier (items.Import name description) = IsImportRight earlier name description
+IsItemRight w earlier (items.Export name sort index description) = IsExportRight w earlier name sort index description
+IsItemRight w earlier (items.Custom name contents) = Unit {0}
+
+abbrev pub IsRight : ComponentWorld → List Def → Def → Type 0
+IsRight w earlier (defs.Item i) = IsItemRight w earlier i
+IsRight w earlier (defs.Component inner) = ⊥
+
+-- each of these definitions keeps its rule, after the earlier ones
+abbrev pub RightAfter : ComponentWorld → List Def → List Def → Type 0
+RightAfter w earlier [] = Unit {0}
+RightAfter w earlier (d ∷ ds) = IsRight w earlier d × RightAfter w (earlier ++ d ∷ []) ds
+
+-- a definition that is visible in the list of all
+pub data Landmark : Type 0 where
+  Imported : (stated : Stated) → Landmark
+  ModuleIs : (bytes : List ℕ) → Landmark
+  InstanceOf : (number : ℕ) → Landmark
+  Exported : (stated : Stated) → Landmark
+  CustomNamed : (name : List ℕ) → Landmark
+
+-- a function that is imported, or exported, at the root
+abbrev pub named_import : List ℕ → Landmark
+named_import text = Imported (root_function text)
+
+abbrev pub named_export : List ℕ → Landmark
+named_export text = Exported (root_function text)
+
+abbrev pub item_landmark : Item → Option Landmark
+item_landmark (items.CoreModule bytes) = Some (ModuleIs bytes)
+item_landmark (items.CoreInstantiate number arguments) = Some (InstanceOf number)
+item_landmark (items.Import name description) = Some (Imported (record { name = name; sort = described_sort description }))
+item_landmark (items.Export name sort index description) = Some (Exported (record { name = name; sort = sort }))
+item_landmark (items.Custom name contents) = Some (CustomNamed name)
+item_landmark _ = None
+
+abbrev pub landmark : Def → Option Landmark
+landmark (defs.Item i) = item_landmark i
+landmark (defs.Component inner) = None
+
+abbrev pub landmarks : List Def → List Landmark
+landmarks ds = filter_map landmark ds
+
+-- new definitions are appended, each keeps its rule, and these are their landmarks
+pub record Grows (w : ComponentWorld) (old new : List Def) (marks : List Landmark) : Type 0 where
+  pub more : List Def
+  pub extended : new ≡ old ++ more
+  pub right : RightAfter w old more
+  pub marked : landmarks more ≡ marks
+
+-- the landmarks of the used ones of these functions
+abbrev pub names_marked : ComponentWorld → List (List ℕ) → List Landmark
+names_marked w names = map named_import (filter (is_used w) names)
+
+-- the landmarks of the imports, and of the exports
+abbrev pub imports_marked : ComponentWorld → List Landmark
+imports_marked w = map named_import (used_functions w)
+
+abbrev pub exports_marked : ComponentWorld → List Landmark
+exports_marked w = map (λ key. named_export (name_of_key key)) w.main_exports
+
+-- the landmarks of a component without the names of its items
+abbrev pub expected : ComponentWorld → List Landmark
+expected w = imports_marked w ++ ModuleIs w.main.bytes ∷ InstanceOf 0 ∷ exports_marked w
+
+-- a component for the world, without the names of its items
+pub record IsUnnamed (w : ComponentWorld) (ds : List Def) : Type 0 where
+  pub right : RightAfter w [] ds
+  pub marked : landmarks ds ≡ expected w
+
+-- a whole component for the world
+pub record IsBuilt (w : ComponentWorld) (ds : List Def) : Type 0 where
+  pub front : List Def
+  pub names : List Def
+  pub whole : ds ≡ front ++ names
+  pub right : RightAfter w [] ds
+  pub marked : landmarks front ≡ expected w
+  pub named : AreNames names

@@ -1,0 +1,207 @@
+-- The landmarks of a list of definitions, and what they say of it.
+use Rattle.std.proofs.Common.{◌≡◌, ◌∙◌, ℕ, List, [], ◌∷◌, ◌++◌, map, refl, ap, append-nil}
+use Rattle.std.proofs.lemmas.Grind.{flat_map-append}
+use Rattle.std.specs.List.{flat_map, filter_map}
+use Rattle.comp_bytes.specs.ScopeNames.{def_export}
+use Rattle.comp_bytes.specs.declared.def.Item.TheVariants as items
+use Rattle.comp_bytes.specs.declared.def.Def.{Def}
+use Rattle.comp_bytes.specs.declared.def.Def.TheVariants as defs
+use Rattle.wit_data.specs.Keys.{name_of_key}
+use Rattle.comp_worlds.specs.declared.world.ComponentWorld.{ComponentWorld}
+use Rattle.comp_links.specs.Roles.{used_functions}
+use Rattle.comp_links.specs.Lists.{Stated, root_function, AreNames}
+use Rattle.comp_terms.specs.Rules.{Landmark, Imported, ModuleIs, InstanceOf, Exported, CustomNamed, landmark, imports_marked, exports_marked, IsBuilt}
+use Rattle.link_laws.specs.Composition.{at_root, item_module, item_instantiates, item_imports, item_exports, item_customs}
+use Rattle.link_laws.proofs.Zips.{flat_map-marked}
+
+abbrev import_mark : Landmark → List Stated
+import_mark (Imported stated) = stated ∷ []
+import_mark _ = []
+
+abbrev module_mark : Landmark → List (List ℕ)
+module_mark (ModuleIs bytes) = bytes ∷ []
+module_mark _ = []
+
+abbrev instance_mark : Landmark → List ℕ
+instance_mark (InstanceOf number) = number ∷ []
+instance_mark _ = []
+
+abbrev export_mark : Landmark → List Stated
+export_mark (Exported stated) = stated ∷ []
+export_mark _ = []
+
+abbrev name_mark : Landmark → List (List ℕ)
+name_mark (Exported stated) = stated.name.name ∷ []
+name_mark _ = []
+
+abbrev custom_mark : Landmark → List (List ℕ)
+custom_mark (CustomNamed name) = name ∷ []
+custom_mark _ = []
+
+import_is : (d : Def) → at_root item_imports d ≡ flat_map import_mark (filter_map landmark (d ∷ []))
+import_is (defs.Component inner) = refl
+import_is (defs.Item (items.CoreModule bytes)) = refl
+import_is (defs.Item (items.CoreInstantiate number arguments)) = refl
+import_is (defs.Item (items.CoreExports entries)) = refl
+import_is (defs.Item (items.Instantiate component arguments)) = refl
+import_is (defs.Item (items.Alias a)) = refl
+import_is (defs.Item (items.Type t)) = refl
+import_is (defs.Item (items.InstanceType t)) = refl
+import_is (defs.Item (items.Lift core options kind)) = refl
+import_is (defs.Item (items.Lower function options)) = refl
+import_is (defs.Item (items.Intrinsic i)) = refl
+import_is (defs.Item (items.Import name description)) = refl
+import_is (defs.Item (items.Export name sort index description)) = refl
+import_is (defs.Item (items.Custom name contents)) = refl
+
+module_is : (d : Def) → at_root item_module d ≡ flat_map module_mark (filter_map landmark (d ∷ []))
+module_is (defs.Component inner) = refl
+module_is (defs.Item (items.CoreModule bytes)) = refl
+module_is (defs.Item (items.CoreInstantiate number arguments)) = refl
+module_is (defs.Item (items.CoreExports entries)) = refl
+module_is (defs.Item (items.Instantiate component arguments)) = refl
+module_is (defs.Item (items.Alias a)) = refl
+module_is (defs.Item (items.Type t)) = refl
+module_is (defs.Item (items.InstanceType t)) = refl
+module_is (defs.Item (items.Lift core options kind)) = refl
+module_is (defs.Item (items.Lower function options)) = refl
+module_is (defs.Item (items.Intrinsic i)) = refl
+module_is (defs.Item (items.Import name description)) = refl
+module_is (defs.Item (items.Export name sort index description)) = refl
+module_is (defs.Item (items.Custom name contents)) = refl
+
+instance_is : (d : Def) → at_root item_instantiates d ≡ flat_map instance_mark (filter_map landmark (d ∷ []))
+instance_is (defs.Component inner) = refl
+instance_is (defs.Item (items.CoreModule bytes)) = refl
+instance_is (defs.Item (items.CoreInstantiate number arguments)) = refl
+instance_is (defs.Item (items.CoreExports entries)) = refl
+instance_is (defs.Item (items.Instantiate component arguments)) = refl
+instance_is (defs.Item (items.Alias a)) = refl
+instance_is (defs.Item (items.Type t)) = refl
+instance_is (defs.Item (items.InstanceType t)) = refl
+instance_is (defs.Item (items.Lift core options kind)) = refl
+instance_is (defs.Item (items.Lower function options)) = refl
+instance_is (defs.Item (items.Intrinsic i)) = refl
+instance_is (defs.Item (items.Import name description)) = refl
+instance_is (defs.Item (items.Export name sort index description)) = refl
+instance_is (defs.Item (items.Custom name contents)) = refl
+
+export_is : (d : Def) → at_root item_exports d ≡ flat_map export_mark (filter_map landmark (d ∷ []))
+export_is (defs.Component inner) = refl
+export_is (defs.Item (items.CoreModule bytes)) = refl
+export_is (defs.Item (items.CoreInstantiate number arguments)) = refl
+export_is (defs.Item (items.CoreExports entries)) = refl
+export_is (defs.Item (items.Instantiate component arguments)) = refl
+export_is (defs.Item (items.Alias a)) = refl
+export_is (defs.Item (items.Type t)) = refl
+export_is (defs.Item (items.InstanceType t)) = refl
+export_is (defs.Item (items.Lift core options kind)) = refl
+export_is (defs.Item (items.Lower function options)) = refl
+export_is (defs.Item (items.Intrinsic i)) = refl
+export_is (defs.Item (items.Import name description)) = refl
+export_is (defs.Item (items.Export name sort index description)) = refl
+export_is (defs.Item (items.Custom name contents)) = refl
+
+name_is : (d : Def) → def_export d ≡ flat_map name_mark (filter_map landmark (d ∷ []))
+name_is (defs.Component inner) = refl
+name_is (defs.Item (items.CoreModule bytes)) = refl
+name_is (defs.Item (items.CoreInstantiate number arguments)) = refl
+name_is (defs.Item (items.CoreExports entries)) = refl
+name_is (defs.Item (items.Instantiate component arguments)) = refl
+name_is (defs.Item (items.Alias a)) = refl
+name_is (defs.Item (items.Type t)) = refl
+name_is (defs.Item (items.InstanceType t)) = refl
+name_is (defs.Item (items.Lift core options kind)) = refl
+name_is (defs.Item (items.Lower function options)) = refl
+name_is (defs.Item (items.Intrinsic i)) = refl
+name_is (defs.Item (items.Import name description)) = refl
+name_is (defs.Item (items.Export name sort index description)) = refl
+name_is (defs.Item (items.Custom name contents)) = refl
+
+custom_is : (d : Def) → at_root item_customs d ≡ flat_map custom_mark (filter_map landmark (d ∷ []))
+custom_is (defs.Component inner) = refl
+custom_is (defs.Item (items.CoreModule bytes)) = refl
+custom_is (defs.Item (items.CoreInstantiate number arguments)) = refl
+custom_is (defs.Item (items.CoreExports entries)) = refl
+custom_is (defs.Item (items.Instantiate component arguments)) = refl
+custom_is (defs.Item (items.Alias a)) = refl
+custom_is (defs.Item (items.Type t)) = refl
+custom_is (defs.Item (items.InstanceType t)) = refl
+custom_is (defs.Item (items.Lift core options kind)) = refl
+custom_is (defs.Item (items.Lower function options)) = refl
+custom_is (defs.Item (items.Intrinsic i)) = refl
+custom_is (defs.Item (items.Import name description)) = refl
+custom_is (defs.Item (items.Export name sort index description)) = refl
+custom_is (defs.Item (items.Custom name contents)) = refl
+
+module _ {A : Type 0} (f : Landmark → List A) where
+  none_of : {X : Type 0} (mark : X → Landmark) → ((x : X) → f (mark x) ≡ []) → (xs : List X) → flat_map f (map mark xs) ≡ []
+  none_of mark e [] = refl
+  none_of mark e (x ∷ xs) = rw (e x, none_of mark e xs) refl
+
+  all_of : {X : Type 0} (mark : X → Landmark) (g : X → A) → ((x : X) → f (mark x) ≡ g x ∷ []) → (xs : List X) → flat_map f (map mark xs) ≡ map g xs
+  all_of mark g e [] = refl
+  all_of mark g e (x ∷ xs) = rw (e x, all_of mark g e xs) refl
+
+-- the section of names has nothing of what others have
+names_nothing : {A : Type 0} (f : Def → List A) → ((name contents : List ℕ) → f (defs.Item (items.Custom name contents)) ≡ []) → (ds : List Def) → AreNames ds → flat_map f ds ≡ []
+names_nothing f e [] h = refl
+names_nothing f e (defs.Item (items.Custom name contents) ∷ []) h = rw (e name contents) refl
+names_nothing f e (defs.Item (items.Custom name contents) ∷ d ∷ ds) h = absurd h
+names_nothing f e (defs.Component inner ∷ ds) h = absurd h
+names_nothing f e (defs.Item (items.CoreModule bytes) ∷ ds) h = absurd h
+names_nothing f e (defs.Item (items.CoreInstantiate number arguments) ∷ ds) h = absurd h
+names_nothing f e (defs.Item (items.CoreExports entries) ∷ ds) h = absurd h
+names_nothing f e (defs.Item (items.Instantiate component arguments) ∷ ds) h = absurd h
+names_nothing f e (defs.Item (items.Alias a) ∷ ds) h = absurd h
+names_nothing f e (defs.Item (items.Type t) ∷ ds) h = absurd h
+names_nothing f e (defs.Item (items.InstanceType t) ∷ ds) h = absurd h
+names_nothing f e (defs.Item (items.Lift core options kind) ∷ ds) h = absurd h
+names_nothing f e (defs.Item (items.Lower function options) ∷ ds) h = absurd h
+names_nothing f e (defs.Item (items.Intrinsic i) ∷ ds) h = absurd h
+names_nothing f e (defs.Item (items.Import name description) ∷ ds) h = absurd h
+names_nothing f e (defs.Item (items.Export name sort index description) ∷ ds) h = absurd h
+
+module _ (w : ComponentWorld) (ds : List Def) (built : IsBuilt w ds) where
+  -- what is read of all definitions but the section of names
+  front_marks : {A : Type 0} (f : Def → List A) (g : Landmark → List A) → ((d : Def) → f d ≡ flat_map g (filter_map landmark (d ∷ []))) →
+      flat_map f built.front ≡ flat_map g (imports_marked w) ++ flat_map g (ModuleIs w.main.bytes ∷ InstanceOf 0 ∷ exports_marked w)
+  front_marks f g same = flat_map-marked f landmark g same built.front ∙ (ap (flat_map g) built.marked ∙ flat_map-append g (imports_marked w) (ModuleIs w.main.bytes ∷ InstanceOf 0 ∷ exports_marked w))
+
+  read_marks : {A : Type 0} (f : Def → List A) (g : Landmark → List A) → ((d : Def) → f d ≡ flat_map g (filter_map landmark (d ∷ []))) → ((name contents : List ℕ) → f (defs.Item (items.Custom name contents)) ≡ []) →
+      flat_map f ds ≡ flat_map g (imports_marked w) ++ flat_map g (ModuleIs w.main.bytes ∷ InstanceOf 0 ∷ exports_marked w)
+  read_marks f g same none =
+      ap (flat_map f) built.whole
+      ∙ (flat_map-append f built.front built.names
+      ∙ (ap (λ l. flat_map f built.front ++ l) (names_nothing f none built.names built.named) ∙ (append-nil (flat_map f built.front) ∙ front_marks f g same)))
+
+  pub root_imports : flat_map (at_root item_imports) ds ≡ map root_function (used_functions w)
+  root_imports =
+      read_marks (at_root item_imports) import_mark import_is (λ n c. refl)
+      ∙ rw (all_of import_mark (λ t. Imported (root_function t)) root_function (λ t. refl) (used_functions w), none_of import_mark (λ key. Exported (root_function (name_of_key key))) (λ key. refl) w.main_exports)
+      (append-nil (map root_function (used_functions w)))
+
+  pub root_modules : flat_map (at_root item_module) ds ≡ w.main.bytes ∷ []
+  root_modules =
+      read_marks (at_root item_module) module_mark module_is (λ n c. refl)
+      ∙ rw (none_of module_mark (λ t. Imported (root_function t)) (λ t. refl) (used_functions w), none_of module_mark (λ key. Exported (root_function (name_of_key key))) (λ key. refl) w.main_exports) refl
+
+  pub root_instances : flat_map (at_root item_instantiates) ds ≡ 0 ∷ []
+  root_instances =
+      read_marks (at_root item_instantiates) instance_mark instance_is (λ n c. refl)
+      ∙ rw (none_of instance_mark (λ t. Imported (root_function t)) (λ t. refl) (used_functions w), none_of instance_mark (λ key. Exported (root_function (name_of_key key))) (λ key. refl) w.main_exports) refl
+
+  pub root_exports : flat_map (at_root item_exports) ds ≡ map (λ key. root_function (name_of_key key)) w.main_exports
+  root_exports =
+      read_marks (at_root item_exports) export_mark export_is (λ n c. refl)
+      ∙ rw (none_of export_mark (λ t. Imported (root_function t)) (λ t. refl) (used_functions w), all_of export_mark (λ key. Exported (root_function (name_of_key key))) (λ key. root_function (name_of_key key)) (λ key. refl) w.main_exports) refl
+
+  pub root_export_names : flat_map def_export ds ≡ map name_of_key w.main_exports
+  root_export_names =
+      read_marks def_export name_mark name_is (λ n c. refl)
+      ∙ rw (none_of name_mark (λ t. Imported (root_function t)) (λ t. refl) (used_functions w), all_of name_mark (λ key. Exported (root_function (name_of_key key))) name_of_key (λ key. refl) w.main_exports) refl
+
+  pub no_customs : flat_map (at_root item_customs) built.front ≡ []
+  no_customs =
+      front_marks (at_root item_customs) custom_mark custom_is
+      ∙ rw (none_of custom_mark (λ t. Imported (root_function t)) (λ t. refl) (used_functions w), none_of custom_mark (λ key. Exported (root_function (name_of_key key))) (λ key. refl) w.main_exports) refl

@@ -1,0 +1,164 @@
+-- Lists that are related elementwise, and look-ups in them.
+use Rattle.std.proofs.Common.{◌≡◌, ◌∙◌, ℕ, zero, suc, Bool, true, false, true≢false, List, [], ◌∷◌, ◌++◌, length, map, filter, refl, sym, ap, subst, Option, Some, None, cond, if◌then◌else◌, ◌||◌, append_assoc}
+use Rattle.std.proofs.lemmas.Option.{same_Some, none-some}
+use Rattle.std.proofs.lemmas.Bool.{false_from_ne_true}
+use Rattle.std.proofs.lemmas.Slice.Eq.{bytes_eq-Decides}
+use Rattle.std.proofs.lemmas.Map.Keys.{IsDistinct-head, IsDistinct-tail}
+use Rattle.std.specs.Str.{bytes_eq}
+use Rattle.std.specs.List.{slice_get, flat_map, filter_map, cons_option, list_any, AllZip, AllByRecursion, IsDistinct}
+use Rattle.std.specs.Option.{option_map}
+use Rattle.comp_lists.specs.Found.{found}
+use Rattle.comp_runs.specs.Machine.{all_some}
+
+-- tests that agree on both lists keep the relation
+pub AllZip-filter : {A B : Type 0} (R : A → B → Type 0) (p : A → Bool) (q : B → Bool) → ((x : A) (y : B) → R x y → p x ≡ q y) → (xs : List A) (ys : List B) → AllZip R xs ys →
+    AllZip R (filter p xs) (filter q ys)
+AllZip-filter R p q same [] [] h = tt
+AllZip-filter R p q same (x ∷ xs) [] h = absurd h
+AllZip-filter R p q same [] (y ∷ ys) h = absurd h
+AllZip-filter {A} {B} R p q same (x ∷ xs) (y ∷ ys) h = by (AllZip-filter R p q same xs ys h.1) (p x) (q y) (same x y h.0)
+  where
+    by : AllZip R (filter p xs) (filter q ys) → (b c : Bool) → b ≡ c → AllZip R (if b then x ∷ filter p xs else filter p xs) (if c then y ∷ filter q ys else filter q ys)
+    by rest true true e = (h.0, rest)
+    by rest false false e = rest
+    by rest true false e = absurd (true≢false e)
+    by rest false true e = absurd (true≢false (sym e))
+
+-- filtering by a test, and by one that it implies, is filtering by the first
+pub filter-both : {A : Type 0} (p q : A → Bool) → ((x : A) → p x ≡ true → q x ≡ true) → (xs : List A) → filter p (filter q xs) ≡ filter p xs
+filter-both p q within [] = refl
+filter-both p q within (x ∷ xs) = by (filter-both p q within xs) (p x) refl (q x) refl
+  where
+    by : filter p (filter q xs) ≡ filter p xs → (b : Bool) → p x ≡ b → (c : Bool) → q x ≡ c → filter p (if c then x ∷ filter q xs else filter q xs) ≡ (if b then x ∷ filter p xs else filter p xs)
+    by rest true e true f = rw e (ap (λ l. x ∷ l) rest)
+    by rest false e true f = rw e rest
+    by rest true e false f = absurd (true≢false (sym (within x e) ∙ f))
+    by rest false e false f = rest
+
+-- what passes a filter passes its test
+pub filter-at : {A : Type 0} (p : A → Bool) (xs : List A) (i : ℕ) (x : A) → slice_get (filter p xs) i ≡ Some x → p x ≡ true
+filter-at p [] i x e = absurd (none-some x e)
+filter-at {A} p (y ∷ xs) i x e = by (λ j f. filter-at p xs j x f) (p y) refl i e
+  where
+    by : ((j : ℕ) → slice_get (filter p xs) j ≡ Some x → p x ≡ true) → (b : Bool) → p y ≡ b → (j : ℕ) → slice_get (if b then y ∷ filter p xs else filter p xs) j ≡ Some x → p x ≡ true
+    by rest true t zero f = subst (λ z. p z ≡ true) (same_Some y x f) t
+    by rest true t (suc j) f = rest j f
+    by rest false t j f = rest j f
+
+-- a test that all pass
+pub filter-all : {A : Type 0} (p : A → Bool) (xs : List A) → AllByRecursion (λ x. p x ≡ true) xs → filter p xs ≡ xs
+filter-all p [] h = refl
+filter-all p (x ∷ xs) h = rw h.0 (ap (λ l. x ∷ l) (filter-all p xs h.1))
+
+pub mapped_some : {A B : Type 0} (f : A → B) (o : Option A) (y : B) → option_map f o ≡ Some y → (x : A) × (o ≡ Some x) × (f x ≡ y)
+mapped_some f None y e = absurd (none-some y e)
+mapped_some f (Some x) y e = (x, refl, same_Some (f x) y e)
+
+pub length-map : {A B : Type 0} (f : A → B) (xs : List A) → length (map f xs) ≡ length xs
+length-map f [] = refl
+length-map f (x ∷ xs) = ap suc (length-map f xs)
+
+pub map-map : {A B C : Type 0} (f : B → C) (g : A → B) (xs : List A) → map f (map g xs) ≡ map (λ x. f (g x)) xs
+map-map f g [] = refl
+map-map f g (x ∷ xs) = ap (λ l. f (g x) ∷ l) (map-map f g xs)
+
+-- where each is found, all are, and each is related to its own
+pub all_some-each : {A B C : Type 0} (R : C → A → Type 0) (f : A → Option C) (g : B → A) (xs : List B) →
+    AllByRecursion (λ x. (y : C) × (f (g x) ≡ Some y) × R y (g x)) xs → (ys : List C) × (all_some (map f (map g xs)) ≡ Some ys) × AllZip R ys (map g xs)
+all_some-each R f g [] h = ([], refl, tt)
+all_some-each R f g (x ∷ xs) h =
+    let rest = all_some-each R f g xs h.1 in
+    (h.0.0 ∷ rest.0, rw (h.0.1, rest.1) refl, (h.0.2, rest.2))
+
+pub all_some-zip : {A B C : Type 0} (R : C → B → Type 0) (f : A → Option C) (S : A → B → Type 0) → ((x : A) (z : B) → S x z → (y : C) × (f x ≡ Some y) × R y z) → (xs : List A) (zs : List B) → AllZip S xs zs →
+    (ys : List C) × (all_some (map f xs) ≡ Some ys) × AllZip R ys zs
+all_some-zip R f S one [] [] h = ([], refl, tt)
+all_some-zip R f S one (x ∷ xs) (z ∷ zs) h =
+    let first = one x z h.0 in
+    let rest = all_some-zip R f S one xs zs h.1 in
+    (first.0 ∷ rest.0, rw (first.1, rest.1) refl, (first.2, rest.2))
+all_some-zip R f S one [] (z ∷ zs) h = absurd h
+all_some-zip R f S one (x ∷ xs) [] h = absurd h
+
+pub all_some-self : {A C : Type 0} (R : A → C → Type 0) (f : A → Option C) (P : A → Type 0) → ((x : A) → P x → (y : C) × (f x ≡ Some y) × R x y) → (xs : List A) → AllByRecursion P xs →
+    (ys : List C) × (all_some (map f xs) ≡ Some ys) × AllZip R xs ys
+all_some-self R f P one [] h = ([], refl, tt)
+all_some-self R f P one (x ∷ xs) h =
+    let first = one x h.0 in
+    let rest = all_some-self R f P one xs h.1 in
+    (first.0 ∷ rest.0, rw (first.1, rest.1) refl, (first.2, rest.2))
+
+apart : (k l : List ℕ) → bytes_eq k l ≡ false → bytes_eq l k ≡ false
+apart k l e = false_from_ne_true (bytes_eq l k) (λ t. let same : l ≡ k = (bytes_eq-Decides l k).0 t in let yes : bytes_eq k l ≡ true = (bytes_eq-Decides k l).1 (sym same) in cc)
+
+module _ {X Y : Type 0} (key : Y → List ℕ) (R : List ℕ × X → Y → Type 0) where
+  -- what the look-up of an entry finds
+  abbrev pub FindsIn : List (List ℕ × X) → Y → Type 0
+  FindsIn table y = (e : List ℕ × X) × (found (key y) table ≡ Some e.1) × R e y
+
+  not_first : (k : List ℕ) (e : List ℕ × X) (table : List (List ℕ × X)) → e.0 ≡ k → (ys : List Y) → AllByRecursion (λ l. bytes_eq k l ≡ false) (map key ys) →
+      AllByRecursion (FindsIn table) ys → AllByRecursion (FindsIn (e ∷ table)) ys
+  not_first k e table named [] d h = tt
+  not_first k e table named (y ∷ ys) d h = ((h.0.0, rw (named, apart k (key y) d.0) h.0.1, h.0.2), not_first k e table named ys d.1 h.1)
+
+  -- where keys are distinct, each look-up finds the related entry
+  pub found-along : ((e : List ℕ × X) (y : Y) → R e y → e.0 ≡ key y) → (es : List (List ℕ × X)) (ys : List Y) → AllZip R es ys → IsDistinct bytes_eq (map key ys) →
+      AllByRecursion (FindsIn es) ys
+  found-along named [] [] h d = tt
+  found-along named (e ∷ es) (y ∷ ys) h d =
+      let same : e.0 ≡ key y = named e y h.0 in (
+        (e, rw (same, (bytes_eq-Decides (key y) (key y)).1 refl) refl, h.0),
+        not_first (key y) e es same ys (IsDistinct-head bytes_eq (key y) (map key ys) d) (found-along named es ys h.1 (IsDistinct-tail bytes_eq (key y) (map key ys) d)),
+      )
+  found-along named [] (y ∷ ys) h d = absurd h
+  found-along named (e ∷ es) [] h d = absurd h
+
+module _ {E : Type 0} (name_of : E → List ℕ) where
+  -- an entry that is found has its name, and the property that each has
+  pub found-each : (P : E → Type 0) (name : List ℕ) (es : List E) (e : E) → AllByRecursion P es → found name (map (λ e. (name_of e, e)) es) ≡ Some e → (name_of e ≡ name) × P e
+  found-each P name [] e h f = absurd (none-some e f)
+  found-each P name (x ∷ es) e h f = by (λ g. found-each P name es e h.1 g) (bytes_eq name (name_of x)) refl f
+    where
+      by : (found name (map (λ e. (name_of e, e)) es) ≡ Some e → (name_of e ≡ name) × P e) → (b : Bool) → bytes_eq name (name_of x) ≡ b → cond b (Some x) (found name (map (λ e. (name_of e, e)) es)) ≡ Some e → (name_of e ≡ name) × P e
+      by rest true t g = let same : x ≡ e = same_Some x e g in (sym (ap name_of same) ∙ sym ((bytes_eq-Decides name (name_of x)).0 t), subst P same h.0)
+      by rest false t g = rest g
+
+  -- a name that an entry has is found
+  pub found-listed : (name : List ℕ) (es : List E) → list_any (bytes_eq name) (map name_of es) ≡ true → (e : E) × (found name (map (λ e. (name_of e, e)) es) ≡ Some e)
+  found-listed name [] h = cc
+  found-listed name (x ∷ es) h = by (λ k. found-listed name es k) (bytes_eq name (name_of x)) h
+    where
+      by : (list_any (bytes_eq name) (map name_of es) ≡ true → (e : E) × (found name (map (λ e. (name_of e, e)) es) ≡ Some e)) → (b : Bool) → (b || list_any (bytes_eq name) (map name_of es)) ≡ true → (e : E) × (cond b (Some x) (found name (map (λ e. (name_of e, e)) es)) ≡ Some e)
+      by rest true h = (x, refl)
+      by rest false h = rest h
+
+-- each of some texts is among them
+pub each_listed : {X : Type 0} (text : X → List ℕ) (xs : List X) → AllByRecursion (λ x. list_any (bytes_eq (text x)) (map text xs) ≡ true) xs
+each_listed text [] = tt
+each_listed {X} text (x ∷ xs) = (rw ((bytes_eq-Decides (text x) (text x)).1 refl) refl, later xs (each_listed text xs))
+  where
+    or_true : (b c : Bool) → c ≡ true → (b || c) ≡ true
+    or_true true c e = refl
+    or_true false c e = e
+
+    later : (ys : List X) → AllByRecursion (λ y. list_any (bytes_eq (text y)) (map text xs) ≡ true) ys → AllByRecursion (λ y. list_any (bytes_eq (text y)) (map text (x ∷ xs)) ≡ true) ys
+    later [] h = tt
+    later (y ∷ ys) h = (or_true (bytes_eq (text y) (text x)) (list_any (bytes_eq (text y)) (map text xs)) h.0, later ys h.1)
+
+-- the element after a list
+pub slice_get-middle : {X : Type 0} (xs : List X) (x : X) (more : List X) → slice_get (xs ++ x ∷ more) (length xs) ≡ Some x
+slice_get-middle [] x more = refl
+slice_get-middle (y ∷ xs) x more = slice_get-middle xs x more
+
+pub AllByRecursion-join : {X : Type 0} (P : X → Type 0) (xs ys : List X) → AllByRecursion P xs → AllByRecursion P ys → AllByRecursion P (xs ++ ys)
+AllByRecursion-join P [] ys h k = k
+AllByRecursion-join P (x ∷ xs) ys h k = (h.0, AllByRecursion-join P xs ys h.1 k)
+
+-- what is read from the landmarks is what is read from the list, where each element has its landmark
+pub flat_map-marked : {X M A : Type 0} (f : X → List A) (mark : X → Option M) (g : M → List A) → ((x : X) → f x ≡ flat_map g (filter_map mark (x ∷ []))) → (xs : List X) → flat_map f xs ≡ flat_map g (filter_map mark xs)
+flat_map-marked f mark g same [] = refl
+flat_map-marked {X} {M} {A} f mark g same (x ∷ xs) = by (flat_map-marked f mark g same xs) (mark x) (same x)
+  where
+    by : flat_map f xs ≡ flat_map g (filter_map mark xs) → (o : Option M) → f x ≡ flat_map g (cons_option o []) → f x ++ flat_map f xs ≡ flat_map g (cons_option o (filter_map mark xs))
+    by rest None e = rw (e, rest) refl
+    by rest (Some m) e = rw (e, rest) (append_assoc (g m) [] (flat_map g (filter_map mark xs)))

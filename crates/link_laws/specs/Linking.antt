@@ -1,0 +1,199 @@
+-- What a list of definitions is to a validated world when it is run (component model, explainer: component definitions;
+-- Canonical ABI: `canon lift`, `canon lower`).
+use Rattle.std.specs.Prelude.{◌≡◌, ◌≢◌, ◌≤◌, ◌+◌, ◌++◌, ◌&&◌, ℕ, nat_le, Bool, List, [], ◌∷◌, Option, Some, None, length, map, slice_get, is_some, IsTrue, Contains}
+use Rattle.std.specs.List.{AllByRecursion, AllZip, flat_map, list_all}
+use Rattle.std.specs.Option.{option_and_then}
+use Rattle.comp_lists.specs.Found.{found}
+use Rattle.comp_bytes.specs.declared.space.Space.TheVariants as spaces
+use Rattle.comp_bytes.specs.declared.def.Def.{Def}
+use Rattle.core_types.specs.declared.types.ValType.{ValType}
+use Rattle.core_runs.specs.declared.bracket.TaskHook.{TaskHook}
+use Rattle.core_runs.specs.declared.bracket.TaskHook.TheVariants.{InitializeStart, InitializeFinish}
+use Rattle.core_runs.specs.Hooks.{hook_number}
+use Rattle.core_runs.specs.Values.{Value, I32Value, fit}
+use Rattle.core_runs.specs.Store.{Cell, Event, Instantiated, Called, Answer, Gives, Traps, Func, signature_of, Now, ByCode}
+use Rattle.core_runs.specs.Store as core
+use Rattle.core_runs.specs.Execution.{acts}
+use Rattle.core_runs.specs.Expected.{Known, Is}
+use Rattle.core_runs.specs.Sections.{parts_of}
+use Rattle.wit_data.specs.Names.{key_text}
+use Rattle.wit_data.specs.declared.ids.TypeId.{TypeId}
+use Rattle.wit_data.specs.declared.functions.Function.{Function as WitFunction}
+use Rattle.wit_data.specs.declared.worlds.WorldItem.{WorldItem}
+use Rattle.wit_data.specs.declared.worlds.WorldItem.TheVariants as world_items
+use Rattle.comp_roles.specs.Lookups.{first_export, is_initialize}
+use Rattle.comp_roles.specs.declared.imports.Import.{Import}
+use Rattle.world_values.specs.Mentions.{functions_of}
+use Rattle.comp_worlds.specs.declared.world.ComponentWorld.{ComponentWorld}
+use Rattle.comp_trees.specs.WitTrees.{wit_function_tree}
+use Rattle.comp_links.specs.Targets.{Main, ExportRef, Target, Lifted}
+use Rattle.comp_links.specs.Modules.{WorldModule, user_modules, role_at}
+use Rattle.comp_links.specs.Lists.{RequiredFunction, required_functions, exported_item}
+use Rattle.comp_links.specs.Links.{link_of, lift_of}
+use Rattle.comp_runs.specs.Store.{Thing, Export, CoreItem, ModuleInstance}
+use Rattle.comp_runs.specs.Machine.{Machine, Outcome, Done, Trapped, Open, Stuck, export_of}
+use Rattle.comp_runs.specs.Instances.{ModuleMeaning, OfUser, OfGenerated, ImportType}
+use Rattle.comp_runs.specs.Running.{run, fresh_machine}
+use Rattle.link_laws.specs.Meeting.{KeepsReferences, ItemIsExport, IsLift, Meets, task_hook}
+use Rattle.link_laws.specs.Composition.{GeneratedModules, generated_sections, numbers_from, number_after, instance_order, at_root, item_instantiates}
+
+-- ---- how a list runs
+
+-- what the core modules of a list are: the user modules as validation found them, and the generated ones
+abbrev pub module_meanings : ComponentWorld → GeneratedModules → List ModuleMeaning
+module_meanings w g = map (λ m. OfUser m.imports m.exports) (user_modules w) ++ map (λ ss. OfGenerated ss) (generated_sections g)
+
+-- how running the list ends, with these answers of the outside
+abbrev pub outcome : ComponentWorld → GeneratedModules → List Def → List Answer → Outcome
+outcome w g ds answers = run (module_meanings w g) ds (fresh_machine answers)
+
+-- a run ends at this machine, however it ends
+abbrev pub EndsAt : Machine → Outcome → Type 0
+EndsAt m (Done n) = n ≡ m
+EndsAt m (Trapped n) = n ≡ m
+EndsAt m (Open n) = n ≡ m
+EndsAt m Stuck = ⊥
+
+-- A call of what main exports, which the component makes when it is instantiated.
+pub record StartCall : Type 0 where
+  pub function : ExportRef
+  pub arguments : List Value
+
+abbrev pub of_main : List ℕ → List Value → StartCall
+of_main name arguments = record { function = record { of = Main; name = name }; arguments = arguments }
+
+abbrev pub hook_call : Option (List ℕ) → TaskHook → List StartCall
+hook_call None moment = []
+hook_call (Some name) moment = of_main name (I32Value (hook_number moment) ∷ []) ∷ []
+
+-- main's initialization, if it has one, with the task hook round it
+abbrev pub initialization : Option (List ℕ) → Option (List ℕ) → List StartCall
+initialization hook None = []
+initialization hook (Some name) = hook_call hook InitializeStart ++ (of_main name [] ∷ hook_call hook InitializeFinish)
+
+abbrev pub start_calls : ComponentWorld → List StartCall
+start_calls w = initialization (task_hook w) (first_export is_initialize w.main.exports.exports)
+
+-- the calls of the outside in a run to the end, by the types of their results: each user module is instantiated, and
+-- then the start calls are made
+abbrev pub questions : ComponentWorld → List (List ValType)
+questions w = map (λ m. []) (user_modules w) ++ map (λ c. []) (start_calls w)
+
+-- these answers fit those calls, and let a run continue to its end
+abbrev pub LetsRun : List (List ValType) → List Answer → Type 0
+LetsRun [] answers = Unit {0}
+LetsRun (types ∷ rest) [] = ⊥
+LetsRun (types ∷ rest) (Traps ∷ answers) = ⊥
+LetsRun (types ∷ rest) (Gives results cell ∷ answers) = IsTrue (fit types results) × LetsRun rest answers
+
+-- ---- imports
+
+-- what an import was given is what the link table says of its role
+pub record IsServed (w : ComponentWorld) (m : Machine) (origins : TypeId → ℕ) (of : WorldModule) (thing : Thing) (i : ImportType) : Type 0 where
+  pub role : Import
+  pub has_role : role_at of.roles i.module_name i.field ≡ Some role
+  pub meets : Meets w m origins thing (link_of w of.of role)
+
+-- an instance of a module: each import is served
+abbrev pub AreServed : ComponentWorld → Machine → (TypeId → ℕ) → WorldModule → ModuleInstance → Type 0
+AreServed w m origins of i = AllZip (IsServed w m origins of) i.given of.imports
+
+-- each instance of a user module
+pub record UsersServed (w : ComponentWorld) (m : Machine) (origins : TypeId → ℕ) : Type 0 where
+  pub each : (instance : ℕ) (i : ModuleInstance) (of : WorldModule) → slice_get m.store.module_instances instance ≡ Some i → slice_get (user_modules w) i.module_number ≡ Some of → AreServed w m origins of i
+
+-- ---- exports
+
+-- where the functions of an item of the world are: at the root of the component, or in an instance that it exports
+abbrev pub exports_at : ComponentWorld → Machine → List ℕ → Option WorldItem → Option (List Export)
+exports_at w m name (Some (world_items.Function f)) = Some m.scope.exports
+exports_at w m name item = option_and_then (λ (e : Export). slice_get m.store.instances e.address) (export_of spaces.Instance name m.scope.exports)
+
+-- a function of an item, with its type in the world
+abbrev pub function_in : ComponentWorld → List ℕ → Option WorldItem → Option WitFunction
+function_in w name (Some (world_items.Function f)) = Some f
+function_in w name (Some (world_items.Interface id)) = found name (functions_of w.resolve id)
+function_in w name item = None
+
+-- the function at this address is a lift of this function of the world as the target says
+abbrev pub LiftMeets : ComponentWorld → Machine → (TypeId → ℕ) → ℕ → WitFunction → Target → Type 0
+LiftMeets w m origins address wit (Lifted entry options) = IsLift w m address (wit_function_tree origins w.resolve.types wit) entry options
+LiftMeets w m origins address wit target = ⊥
+
+-- a required function is found by its sort and name, and is what the link table says, with its type
+pub record IsProvided (w : ComponentWorld) (m : Machine) (origins : TypeId → ℕ) (r : RequiredFunction) : Type 0 where
+  pub address : ℕ
+  pub target : Target
+  pub wit : WitFunction
+  pub provided : option_and_then (export_of spaces.Func r.function) (exports_at w m (key_text w.resolve r.key) (exported_item w r.key)) ≡ Some (record { space = spaces.Func; name = r.function; address = address })
+  pub said : lift_of w r ≡ Some target
+  pub type_of : function_in w r.function (exported_item w r.key) ≡ Some wit
+  pub meets : LiftMeets w m origins address wit target
+
+-- ---- the end of a run
+
+-- an event is this call
+abbrev pub MakesCall : ComponentWorld → Machine → Event → StartCall → Type 0
+MakesCall w m (Called address arguments) call =
+    (target : Known) × (what : ℕ) × (item : CoreItem) × (target.address ≡ address) × Is m.store.code target what × (slice_get m.store.known what ≡ Some item)
+    × ItemIsExport w m call.function item × (arguments ≡ call.arguments)
+MakesCall w m event call = ⊥
+
+-- At the end: each module has one instance, in order; each import is served, and each required function is provided;
+-- and what was seen from outside is the instantiation of each user module, and then the start calls.
+pub record IsLinked (w : ComponentWorld) (g : GeneratedModules) (m : Machine) : Type 0 where
+  pub origins : TypeId → ℕ
+  pub start_events : List Event
+  pub instances : map (λ (i : ModuleInstance). i.module_number) m.store.module_instances ≡ instance_order (length (user_modules w)) g
+  pub imports : UsersServed w m origins
+  pub exports : AllByRecursion (IsProvided w m origins) (required_functions w)
+  pub events : m.now.events ≡ map (λ n. Instantiated n) (numbers_from 0 (length (user_modules w))) ++ start_events
+  pub started : AllZip (MakesCall w m) start_events (start_calls w)
+
+-- ---- shims
+
+-- a shim, by its address: what the module of shims exports under a decimal number
+abbrev is_digit : ℕ → Bool
+is_digit c = nat_le 0x30 c && nat_le c 0x39
+
+pub record IsShim (w : ComponentWorld) (m : Machine) (address : ℕ) : Type 0 where
+  pub instance : ℕ
+  pub made : ModuleInstance
+  pub name : List ℕ
+  pub present : slice_get m.store.module_instances instance ≡ Some made
+  pub of : made.module_number ≡ length (user_modules w)
+  pub exported : Contains made.exports (record { space = spaces.CoreFunc; name = name; address = address })
+  pub numbered : IsTrue (list_all is_digit name)
+
+-- a call of the function traps with no event, for all arguments of its type, and whatever happened since in globals that
+-- hold no reference
+pub record TrapsAtOnce (m : Machine) (address : ℕ) : Type 0 where
+  pub function : Func
+  pub is : slice_get m.store.code.functions address ≡ Some function
+  pub traps : (arguments : List Value) (now : Now) → IsTrue (fit (signature_of function).params arguments) → KeepsReferences m.now.globals now.globals → acts m.store.code address arguments now ≡ core.Trapped ByCode now
+
+-- the definitions don't instantiate the fixup
+abbrev pub BeforeFixup : ComponentWorld → GeneratedModules → List Def → Type 0
+BeforeFixup w g ds = AllByRecursion (λ n. n ≢ number_after (length (user_modules w)) g.shims) (flat_map (at_root item_instantiates) ds)
+
+-- In every run up to the instance of the fixup, each shim traps.
+pub record ShimsTrapBefore (w : ComponentWorld) (g : GeneratedModules) (ds : List Def) : Type 0 where
+  pub each : (before after : List Def) → ds ≡ before ++ after → BeforeFixup w g before → IsTrue (is_some g.fixup) → (answers : List Answer) (m : Machine) → outcome w g before answers ≡ Done m → (address : ℕ) → IsShim w m address → TrapsAtOnce m address
+
+-- the events before the start function of the fixup: the instances of the user modules, and what its segments write
+abbrev pub events_before_start : ComponentWorld → GeneratedModules → ℕ
+events_before_start w g = length (user_modules w) + elim g.fixup [ None ↦ 0 | Some ss ↦ length (parts_of ss).segments ]
+
+-- From the first event of the fixup's start function on, each import is served, also in a run that ends early.
+pub record ServedThroughout (w : ComponentWorld) (g : GeneratedModules) (ds : List Def) : Type 0 where
+  pub each : (answers : List Answer) (m : Machine) → EndsAt m (outcome w g ds answers) → (event : ℕ) (globals : List Cell) → events_before_start w g ≤ event → slice_get m.now.moments event ≡ Some globals →
+      (origins : TypeId → ℕ) × UsersServed w (record m { now = record m.now { globals = globals } }) origins
+
+-- When it is run, whatever the outside returns: it is never stuck; it is done where the answers let it; where it is done
+-- it is linked; shims trap before they are filled, and are filled before anything is called.
+pub record Links (w : ComponentWorld) (g : GeneratedModules) (ds : List Def) : Type 0 where
+  pub never_stuck : (answers : List Answer) → outcome w g ds answers ≢ Stuck
+  pub ends : (answers : List Answer) → LetsRun (questions w) answers → (m : Machine) × (outcome w g ds answers ≡ Done m)
+  pub linked : (answers : List Answer) (m : Machine) → outcome w g ds answers ≡ Done m → IsLinked w g m
+  pub traps_before : ShimsTrapBefore w g ds
+  pub served_throughout : ServedThroughout w g ds

@@ -1,0 +1,3 @@
+pub mod Kinds
+pub mod ExportRoles
+pub mod CoreExports

@@ -1,0 +1,3 @@
+pub mod Sides
+pub mod Arguments
+pub mod Named
