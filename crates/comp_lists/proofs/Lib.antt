@@ -1,4 +1,4 @@
 pub mod Lists
 pub mod Lookups
 pub mod TableLemmas
-pub mod Splits
+pub mod SplitAtMark

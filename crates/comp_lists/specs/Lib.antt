@@ -1,3 +1,3 @@
 pub mod Found
 pub mod Tables
-pub mod Cuts
+pub mod Splits

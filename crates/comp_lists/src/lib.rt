@@ -4,21 +4,21 @@
 //! [`Text`] and [`Bytes`] is itself the value that definitions speak of: equality of values is
 //! equality of lists, and no second copy of a type is needed in `specs/`.
 //!
-//! In reading order: `try_clone` (copies that may fail with out of memory), `seq` (lists), `text` (texts), `cuts`
+//! In reading order: `try_clone` (copies that may fail with out of memory), `seq` (lists), `text` (texts), `splits`
 //! (texts split at a character), `keyed` (tables by key).
 //! `specs/Found.antt` has look-ups by name in a list of pairs; `proofs/` has the lemmas on lists that
 //! the standard library lacks, for every crate above.
 #![tactic(auto)]
 
-mod cuts;
 mod keyed;
 mod seq;
+mod splits;
 mod text;
 mod try_clone;
 
-pub use cuts::cut;
 pub use keyed::Keyed;
 pub use seq::{Bytes, Seq};
+pub use splits::split_once;
 pub use text::Text;
 pub use try_clone::TryClone;
 

@@ -18,7 +18,7 @@ use Rattle.record_values.specs.declared.types.Func.{Func}
 use Rattle.record_resolve.specs.declared.making.Making.{Making}
 use Rattle.record_resolve.specs.declared.making.Side.{Side}
 use Rattle.record_resolve.specs.Steps.{nowhere}
-use Rattle.comp_lists.specs.Cuts.{cut_at}
+use Rattle.comp_lists.specs.Splits.{split_once}
 use Rattle.record_resolve.specs.Names.{type_named}
 use Rattle.record_resolve.specs.Types.{type_of, type_name}
 
@@ -47,15 +47,15 @@ constructor_of m side owner is_async name = if is_async then Err nowhere else Ok
 abbrev pub kind_by_tag : Making → Side → Owner → Bool → Option (List ℕ × List ℕ) → Result FunctionKind Failure
 kind_by_tag m side owner is_async None = Ok (plain is_async)
 kind_by_tag m side owner is_async (Some p) =
-    if bytes_eq p.0 (codes "[method") then Ok (of_member m side owner is_async (method is_async) (cut_at 46 p.1))
-    else if bytes_eq p.0 (codes "[static") then Ok (of_member m side owner is_async (static is_async) (cut_at 46 p.1))
+    if bytes_eq p.0 (codes "[method") then Ok (of_member m side owner is_async (method is_async) (split_once 46 p.1))
+    else if bytes_eq p.0 (codes "[static") then Ok (of_member m side owner is_async (static is_async) (split_once 46 p.1))
     else if bytes_eq p.0 (codes "[constructor") then constructor_of m side owner is_async p.1
     else Ok (plain is_async)
 
 -- `[method]r.f`, `[static]r.f` and `[constructor]r` belong to the type r of those that are made, where it is one of them;
 -- other functions are freestanding
 unfoldable pub function_kind : Making → Side → Owner → Bool → List ℕ → Result FunctionKind Failure
-function_kind m side owner is_async name = kind_by_tag m side owner is_async (cut_at 93 name)
+function_kind m side owner is_async name = kind_by_tag m side owner is_async (split_once 93 name)
 
 abbrev pub param : List ℕ → Ty → Param
 param name t = record { name = name; ty = t }

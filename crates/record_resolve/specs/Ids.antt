@@ -9,7 +9,7 @@ use Rattle.json_paths.specs.Faults.{◌>>=◌}
 use Rattle.record_values.specs.declared.names.InterfaceName.{InterfaceName}
 use Rattle.record_values.specs.declared.names.InterfaceName.TheVariants as names
 use Rattle.record_resolve.specs.Steps.{nowhere}
-use Rattle.comp_lists.specs.Cuts.{cut_at}
+use Rattle.comp_lists.specs.Splits.{split_once}
 
 abbrev pub version_by : Result Parts Error → Result Parts Failure
 version_by (Ok p) = Ok p
@@ -30,9 +30,9 @@ id_name space name interface version = record { namespace = space; «package» =
 
 unfoldable pub id_parts : List ℕ → Result IdName Failure
 id_parts text = do
-  path ← path_of text (cut_at 64 text)
-  colon ← ok_or (cut_at 58 path.0) nowhere
-  slash ← ok_or (cut_at 47 colon.1) nowhere
+  path ← path_of text (split_once 64 text)
+  colon ← ok_or (split_once 58 path.0) nowhere
+  slash ← ok_or (split_once 47 colon.1) nowhere
   Ok (id_name colon.0 slash.0 slash.1 path.1)
 
 -- an interface's id, where it has one

@@ -4,13 +4,13 @@ ghost use Rattle.std.specs.Prelude.{◌≡◌, [], IfOk};
 ghost use Rattle.json_paths.specs.Faults.{Gives};
 ghost use Rattle.record_resolve.specs.Steps.{Becomes, Makes};
 ghost use Rattle.record_resolve.specs.Functions.{method, static, plain, of_member, constructor_of, function_kind, with_param, params_from, some_result, result_of, function_of};
-ghost use Rattle.comp_lists.specs.Cuts.{cut_at};
+ghost use Rattle.comp_lists.specs.Splits.{split_once};
 ghost use Rattle.record_resolve.specs.Names.{type_named};
 ghost use Rattle.record_resolve.specs.Types.{type_name};
 
 use crate::making::{Making, Side};
 use crate::types::{make_type, type_name};
-use comp_lists::{Seq, cut};
+use comp_lists::{Seq, split_once};
 use json_paths::{Failure, fault_here};
 use record_values::{Func, Node, Owner, Typed};
 use std::alloc::{AllocError, Global};
@@ -69,9 +69,9 @@ fn method_kind(
     is_async: bool,
     name: &str,
 ) -> Result<FunctionKind, AllocError>
-    ensures { IfOk result (λ k. k ≡ of_member making.now side owner.now is_async (method is_async) (cut_at 46 name.now)) }
+    ensures { IfOk result (λ k. k ≡ of_member making.now side owner.now is_async (method is_async) (split_once 46 name.now)) }
 {
-    let Some((ty, _)) = cut(name, '.') else {
+    let Some((ty, _)) = split_once(name, '.') else {
         return Ok(plain(is_async));
     };
     match find_type(alloc, making, side, owner, ty)? {
@@ -88,9 +88,9 @@ fn static_kind(
     is_async: bool,
     name: &str,
 ) -> Result<FunctionKind, AllocError>
-    ensures { IfOk result (λ k. k ≡ of_member making.now side owner.now is_async (static is_async) (cut_at 46 name.now)) }
+    ensures { IfOk result (λ k. k ≡ of_member making.now side owner.now is_async (static is_async) (split_once 46 name.now)) }
 {
-    let Some((ty, _)) = cut(name, '.') else {
+    let Some((ty, _)) = split_once(name, '.') else {
         return Ok(plain(is_async));
     };
     match find_type(alloc, making, side, owner, ty)? {
@@ -130,7 +130,7 @@ pub(crate) fn function_kind(
 ) -> Result<FunctionKind, Failure>
     ensures { Gives (λ k. k) result (function_kind making.now side owner.now is_async name.now) }
 {
-    let Some((tag, rest)) = cut(name, ']') else {
+    let Some((tag, rest)) = split_once(name, ']') else {
         return Ok(plain(is_async));
     };
     match tag {

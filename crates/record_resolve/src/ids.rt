@@ -4,10 +4,10 @@ ghost use Rattle.std.specs.Prelude.{◌≡◌, true};
 ghost use Rattle.json_paths.specs.Faults.{Gives};
 ghost use Rattle.semver.specs.Identifiers.{parts_of};
 ghost use Rattle.semver.specs.Parse.{memory_error, version_parts};
-ghost use Rattle.comp_lists.specs.Cuts.{cut_at};
+ghost use Rattle.comp_lists.specs.Splits.{split_once};
 ghost use Rattle.record_resolve.specs.Ids.{version_by, some_version, path_of, id_parts, some_id, id_of};
 
-use comp_lists::{Text, cut};
+use comp_lists::{Text, split_once};
 use json_paths::{Failure, fault_here};
 use record_values::InterfaceName;
 use semver::{Error, Version};
@@ -44,9 +44,9 @@ fn some_version(alloc: Global, text: &str) -> Result<Option<PackageVersion>, Fai
 
 /// The names before the version, and the version.
 fn read_path(alloc: Global, text: &str) -> Result<(&str, Option<PackageVersion>), Failure>
-    ensures { Gives (λ p. (p.0.now, p.1)) result (path_of text.now (cut_at 64 text.now)) }
+    ensures { Gives (λ p. (p.0.now, p.1)) result (path_of text.now (split_once 64 text.now)) }
 {
-    match cut(text, '@') {
+    match split_once(text, '@') {
         Some((path, version)) => {
             let version = some_version(alloc, version)?;
             Ok((path, version))
@@ -60,10 +60,10 @@ fn read_id(alloc: Global, text: &str) -> Result<IdName, Failure>
     ensures { Gives (λ id. id) result (id_parts text.now) }
 {
     let (path, version) = read_path(alloc, text)?;
-    let Some((namespace, rest)) = cut(path, ':') else {
+    let Some((namespace, rest)) = split_once(path, ':') else {
         return Err(fault_here(alloc));
     };
-    let Some((package, interface)) = cut(rest, '/') else {
+    let Some((package, interface)) = split_once(rest, '/') else {
         return Err(fault_here(alloc));
     };
     Ok(IdName {

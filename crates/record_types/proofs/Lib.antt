@@ -1,5 +1,4 @@
 pub mod Sums
-pub mod Cuts
 pub mod Counts
 pub mod Loop
 pub mod Arrays

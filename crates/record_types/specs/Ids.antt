@@ -1,20 +1,14 @@
 -- Ids of interfaces: three texts with a colon and a slash between them, and after an at sign a version, if any (component
 -- model, explainer: `interfacename`).
-use Rattle.std.specs.Prelude.{ℕ, ◌==◌, ◌&&◌, ◌||◌, not, nat_lt, length, List, Bool, false, Option, Some, None, is_some, is_ok, Result, Ok, Err, if◌then◌else◌}
-use Rattle.std.specs.List.{list_any, before_first, after_first, position_or_len}
+use Rattle.std.specs.Prelude.{ℕ, ◌==◌, ◌&&◌, ◌||◌, not, length, List, Bool, false, Option, Some, None, is_some, is_ok, Result, Ok, Err, if◌then◌else◌}
+use Rattle.std.specs.List.{list_any}
+use Rattle.comp_lists.specs.Splits.{split_once}
 use Rattle.semver.specs.Parse.{version_parts}
 use Rattle.serde_json.specs.Data.{Data}
 use Rattle.serde_json.specs.Find.{as_null}
 use Rattle.json_paths.specs.declared.fault.Failure.{Failure}
 use Rattle.json_paths.specs.Faults.{◌>>=◌}
 use Rattle.json_paths.specs.Reading.{here, text_of}
-
--- what is before and after the first such character
-abbrev pub cut_at : ℕ → List ℕ → Option (List ℕ × List ℕ)
-cut_at mark text =
-    if nat_lt (position_or_len (λ b. b == mark) text) (length text)
-    then Some (before_first (λ b. b == mark) text, after_first (λ b. b == mark) text)
-    else None
 
 -- a colon, a slash or an at sign
 abbrev pub is_mark : ℕ → Bool
@@ -29,11 +23,11 @@ names_by_slash namespace (Some p) = is_name namespace && is_name p.0 && is_name 
 
 abbrev pub names_by_colon : Option (List ℕ × List ℕ) → Bool
 names_by_colon None = false
-names_by_colon (Some p) = names_by_slash p.0 (cut_at 47 p.1)
+names_by_colon (Some p) = names_by_slash p.0 (split_once 47 p.1)
 
 -- a namespace, a package and a name
 unfoldable pub is_unversioned : List ℕ → Bool
-is_unversioned text = names_by_colon (cut_at 58 text)
+is_unversioned text = names_by_colon (split_once 58 text)
 
 abbrev pub is_version : List ℕ → Bool
 is_version text = is_ok (version_parts text)
@@ -43,7 +37,7 @@ is_id_by text None = is_unversioned text
 is_id_by text (Some p) = is_unversioned p.0 && is_version p.1
 
 unfoldable pub is_id : List ℕ → Bool
-is_id text = is_id_by text (cut_at 64 text)
+is_id text = is_id_by text (split_once 64 text)
 
 unfoldable pub some_id : Data → Result (Option (List ℕ)) Failure
 some_id d = do

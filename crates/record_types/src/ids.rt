@@ -1,26 +1,17 @@
 //! Ids of interfaces.
 
-ghost use Rattle.std.specs.Prelude.{◌≡◌, ◌<◌, Ok, true, option_map};
+ghost use Rattle.std.specs.Prelude.{◌≡◌, Ok, true};
 ghost use Rattle.std.specs.List.{list_any};
 ghost use Rattle.serde_json.specs.View.{view};
 ghost use Rattle.json_paths.specs.Faults.{Gives};
 ghost use Rattle.semver.specs.Parse.{memory_error};
-ghost use Rattle.record_types.specs.Ids.{cut_at, is_mark, is_name, is_unversioned, is_version, is_id, some_id, id_of};
+ghost use Rattle.record_types.specs.Ids.{is_mark, is_name, is_unversioned, is_version, is_id, some_id, id_of};
 
-use comp_lists::Text;
+use comp_lists::{Text, split_once};
 use json_paths::{Failure, fault_here, read_text};
 use semver::{Error, Version};
 use serde_json::Value;
 use std::alloc::{AllocError, Global};
-
-/// What is before and after the first such character.
-#[tactic(auto, using(crate::proofs::Cuts::cut_is))]
-fn cut(text: &str, mark: char) -> Option<(&str, &str)>
-    requires { mark < 128 }
-    ensures { option_map (λ p. (p.0.now, p.1.now)) result ≡ cut_at mark text.now }
-{
-    text.split_once(mark)
-}
 
 fn has_mark(bytes: &[u8]) -> bool
     ensures { result ≡ list_any is_mark bytes.now }
@@ -44,10 +35,10 @@ fn is_name(text: &str) -> bool
 fn is_unversioned(text: &str) -> bool
     ensures { result ≡ is_unversioned text.now }
 {
-    let Some((namespace, rest)) = cut(text, ':') else {
+    let Some((namespace, rest)) = split_once(text, ':') else {
         return false;
     };
-    let Some((package, name)) = cut(rest, '/') else {
+    let Some((package, name)) = split_once(rest, '/') else {
         return false;
     };
     is_name(namespace) && is_name(package) && is_name(name)
@@ -78,7 +69,7 @@ fn is_version(alloc: Global, text: &str) -> Result<bool, Failure>
 fn is_id(alloc: Global, text: &str) -> Result<bool, Failure>
     ensures { Gives (λ b. b) result (Ok (is_id text.now)) }
 {
-    match cut(text, '@') {
+    match split_once(text, '@') {
         None => Ok(is_unversioned(text)),
         Some((names, version)) => {
             if is_unversioned(names) {

@@ -1,6 +1,6 @@
 -- The ids of interfaces that compatible versions share (component model, explainer: `canonversion`).
 use Rattle.std.specs.Prelude.{ℕ, ◌==◌, ◌&&◌, ◌||◌, nat_lt, List, ◌∷◌, ◌++◌, Bool, Option, Some, None, option_map, Result, Ok, Err}
-use Rattle.comp_lists.specs.Cuts.{cut_at}
+use Rattle.comp_lists.specs.Splits.{split_once}
 use Rattle.semver.specs.Parse.{Parts, version_parts}
 use Rattle.semver.specs.declared.error.Error.{Error}
 use Rattle.wit_data.specs.Versions.{canonical_version}
@@ -17,12 +17,12 @@ abbrev pub by_version : List ℕ → Result Parts Error → Option Compatible
 by_version path (Ok p) = by_parts path p
 by_version path (Err e) = None
 
-abbrev pub by_cut : Option (List ℕ × List ℕ) → Option Compatible
-by_cut None = None
-by_cut (Some p) = by_version p.0 (version_parts p.1)
+abbrev pub by_parts : Option (List ℕ × List ℕ) → Option Compatible
+by_parts None = None
+by_parts (Some p) = by_version p.0 (version_parts p.1)
 
 unfoldable pub of_id : List ℕ → Option Compatible
-of_id text = by_cut (cut_at 64 text)
+of_id text = by_parts (split_once 64 text)
 
 -- only an id has compatible ones
 abbrev pub compatible : InterfaceName → Option Compatible

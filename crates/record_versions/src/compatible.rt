@@ -4,10 +4,10 @@ ghost use Rattle.std.specs.Prelude.{◌≡◌, ◌∷◌, ◌++◌, Ok, true, If
 ghost use Rattle.semver.specs.Identifiers.{parts_of};
 ghost use Rattle.semver.specs.Parse.{memory_error, version_parts};
 ghost use Rattle.json_paths.specs.Faults.{Gives};
-ghost use Rattle.comp_lists.specs.Cuts.{cut_at};
+ghost use Rattle.comp_lists.specs.Splits.{split_once};
 ghost use Rattle.record_versions.specs.Compatible.{by_parts, by_version, of_id, compatible, is_newer};
 
-use comp_lists::{Text, cut};
+use comp_lists::{Text, split_once};
 use json_paths::Failure;
 use record_values::InterfaceName;
 use semver::{Error, Version};
@@ -90,7 +90,7 @@ fn compatible_text(alloc: Global, path: &str, text: &str) -> Result<Option<Compa
 fn compatible_id(alloc: Global, text: &str) -> Result<Option<Compatible>, Failure>
     ensures { Gives (λ c. c) result (Ok (of_id text.now)) }
 {
-    match cut(text, '@') {
+    match split_once(text, '@') {
         None => Ok(None),
         Some((path, version)) => compatible_text(alloc, path, version),
     }

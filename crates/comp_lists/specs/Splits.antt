@@ -3,8 +3,8 @@ use Rattle.std.specs.Prelude.{ℕ, ◌==◌, nat_lt, length, List, Option, Some,
 use Rattle.std.specs.List.{before_first, after_first, position_or_len}
 
 -- the text before and the text after the first such character
-abbrev pub cut_at : ℕ → List ℕ → Option (List ℕ × List ℕ)
-cut_at mark text =
+abbrev pub split_once : ℕ → List ℕ → Option (List ℕ × List ℕ)
+split_once mark text =
     if nat_lt (position_or_len (λ b. b == mark) text) (length text)
     then Some (before_first (λ b. b == mark) text, after_first (λ b. b == mark) text)
     else None
