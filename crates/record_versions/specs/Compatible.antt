@@ -17,12 +17,12 @@ abbrev pub by_version : List ℕ → Result Parts Error → Option Compatible
 by_version path (Ok p) = by_parts path p
 by_version path (Err e) = None
 
-abbrev pub by_parts : Option (List ℕ × List ℕ) → Option Compatible
-by_parts None = None
-by_parts (Some p) = by_version p.0 (version_parts p.1)
+abbrev pub of_split : Option (List ℕ × List ℕ) → Option Compatible
+of_split None = None
+of_split (Some p) = by_version p.0 (version_parts p.1)
 
 unfoldable pub of_id : List ℕ → Option Compatible
-of_id text = by_parts (split_once 64 text)
+of_id text = of_split (split_once 64 text)
 
 -- only an id has compatible ones
 abbrev pub compatible : InterfaceName → Option Compatible
