@@ -5,12 +5,11 @@
 ghost use Rattle.std.specs.Prelude.{◌≡◌, ◌↔◌, IsTrue, IfOk};
 ghost use Rattle.std.specs.List.{list_all};
 ghost use Rattle.std.specs.Char.{is_ascii_digit};
-ghost use Rattle.semver.specs.Parse.{memory_error};
 ghost use Rattle.comp_names.specs.NameForm.{IsNumber, Joined, dot, IsVersion, IsVersionText};
 
 use crate::cut::cut;
-use semver::{Error, Version};
 use std::alloc::{AllocError, Global};
+use version_texts::parse_version;
 
 fn are_digits(bytes: &[u8]) -> bool
     ensures { result ≡ list_all is_ascii_digit bytes.now }
@@ -35,27 +34,13 @@ fn is_short_version(text: &str) -> bool
     }
 }
 
-fn is_memory(fault: Error) -> bool
-    ensures { fault ≡ memory_error → IsTrue result }
-{
-    fault == Error::from(AllocError)
-}
-
 /// Whether a text is a version of three numbers, with or without more. The only error is out of
 /// memory.
 fn is_version(alloc: Global, text: &str) -> Result<bool, AllocError>
     ensures { IfOk result (λ holds. IsTrue holds ↔ IsVersion text.now) }
 {
-    match Version::parse(alloc, text) {
-        Ok(_version) => Ok(true),
-        Err(fault) => {
-            if is_memory(fault) {
-                Err(AllocError)
-            } else {
-                Ok(false)
-            }
-        }
-    }
+    let found = parse_version(alloc, text)?;
+    Ok(found.is_some())
 }
 
 /// Whether a text may follow the `@` of a name. The only error is out of memory.

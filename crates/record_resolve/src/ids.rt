@@ -1,37 +1,25 @@
 //! The parts of the ids of interfaces.
 
-ghost use Rattle.std.specs.Prelude.{◌≡◌, true};
 ghost use Rattle.json_paths.specs.Faults.{Gives};
 ghost use Rattle.semver.specs.Identifiers.{parts_of};
-ghost use Rattle.semver.specs.Parse.{memory_error, version_parts};
+ghost use Rattle.semver.specs.Parse.{version_parts};
 ghost use Rattle.comp_lists.specs.Splits.{split_once};
 ghost use Rattle.record_resolve.specs.Ids.{version_by, some_version, path_of, id_parts, some_id, id_of};
 
 use comp_lists::{Text, split_once};
 use json_paths::{Failure, fault_here};
 use record_values::InterfaceName;
-use semver::{Error, Version};
-use std::alloc::{AllocError, Global};
+use semver::Version;
+use std::alloc::Global;
+use version_texts::parse_version;
 use wit_data::{IdName, PackageVersion};
-
-fn is_memory(fault: Error) -> bool
-    ensures { fault ≡ memory_error → result ≡ true }
-{
-    fault == Error::from(AllocError)
-}
 
 fn read_version(alloc: Global, text: &str) -> Result<Version, Failure>
     ensures { Gives parts_of result (version_by (version_parts text.now)) }
 {
-    match Version::parse(alloc, text) {
-        Ok(version) => Ok(version),
-        Err(fault) => {
-            if is_memory(fault) {
-                Err(Failure::Memory)
-            } else {
-                Err(fault_here(alloc))
-            }
-        }
+    match parse_version(alloc, text)? {
+        Some(version) => Ok(version),
+        None => Err(fault_here(alloc)),
     }
 }
 

@@ -1,17 +1,16 @@
 //! Ids of interfaces.
 
-ghost use Rattle.std.specs.Prelude.{◌≡◌, Ok, true};
+ghost use Rattle.std.specs.Prelude.{◌≡◌, Ok};
 ghost use Rattle.std.specs.List.{list_any};
 ghost use Rattle.serde_json.specs.View.{view};
 ghost use Rattle.json_paths.specs.Faults.{Gives};
-ghost use Rattle.semver.specs.Parse.{memory_error};
 ghost use Rattle.record_types.specs.Ids.{is_mark, is_name, is_unversioned, is_version, is_id, some_id, id_of};
 
 use comp_lists::{Text, split_once};
 use json_paths::{Failure, fault_here, read_text};
-use semver::{Error, Version};
 use serde_json::Value;
-use std::alloc::{AllocError, Global};
+use std::alloc::Global;
+use version_texts::parse_version;
 
 fn has_mark(bytes: &[u8]) -> bool
     ensures { result ≡ list_any is_mark bytes.now }
@@ -44,24 +43,12 @@ fn is_unversioned(text: &str) -> bool
     is_name(namespace) && is_name(package) && is_name(name)
 }
 
-fn is_memory(fault: Error) -> bool
-    ensures { fault ≡ memory_error → result ≡ true }
-{
-    fault == Error::from(AllocError)
-}
-
 fn is_version(alloc: Global, text: &str) -> Result<bool, Failure>
     ensures { Gives (λ b. b) result (Ok (is_version text.now)) }
 {
-    match Version::parse(alloc, text) {
-        Ok(_version) => Ok(true),
-        Err(fault) => {
-            if is_memory(fault) {
-                Err(Failure::Memory)
-            } else {
-                Ok(false)
-            }
-        }
+    match parse_version(alloc, text)? {
+        Some(_version) => Ok(true),
+        None => Ok(false),
     }
 }
 

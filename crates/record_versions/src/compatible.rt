@@ -1,8 +1,8 @@
 //! The ids of interfaces that compatible versions share.
 
-ghost use Rattle.std.specs.Prelude.{◌≡◌, ◌∷◌, ◌++◌, Ok, true, IfOk};
+ghost use Rattle.std.specs.Prelude.{◌≡◌, ◌∷◌, ◌++◌, Ok, IfOk};
 ghost use Rattle.semver.specs.Identifiers.{parts_of};
-ghost use Rattle.semver.specs.Parse.{memory_error, version_parts};
+ghost use Rattle.semver.specs.Parse.{version_parts};
 ghost use Rattle.json_paths.specs.Faults.{Gives};
 ghost use Rattle.comp_lists.specs.Splits.{split_once};
 ghost use Rattle.record_versions.specs.Compatible.{by_parts, by_version, of_id, compatible, is_newer};
@@ -10,8 +10,9 @@ ghost use Rattle.record_versions.specs.Compatible.{by_parts, by_version, of_id, 
 use comp_lists::{Text, split_once};
 use json_paths::Failure;
 use record_values::InterfaceName;
-use semver::{Error, Version};
+use semver::Version;
 use std::alloc::{AllocError, Global};
+use version_texts::parse_version;
 use wit_data::canonical_version;
 
 /// The part of the id that compatible versions of an interface share, and the numbers of its version.
@@ -33,12 +34,6 @@ impl Drop for Compatible {
             patch: _,
         } = self;
     }
-}
-
-fn is_memory(fault: Error) -> bool
-    ensures { fault ≡ memory_error → result ≡ true }
-{
-    fault == Error::from(AllocError)
 }
 
 /// A name with a version.
@@ -74,15 +69,9 @@ fn compatible_version(
 fn compatible_text(alloc: Global, path: &str, text: &str) -> Result<Option<Compatible>, Failure>
     ensures { Gives (λ c. c) result (Ok (by_version path.now (version_parts text.now))) }
 {
-    match Version::parse(alloc, text) {
-        Ok(version) => Ok(compatible_version(alloc, path, &version)?),
-        Err(fault) => {
-            if is_memory(fault) {
-                Err(Failure::Memory)
-            } else {
-                Ok(None)
-            }
-        }
+    match parse_version(alloc, text)? {
+        Some(version) => Ok(compatible_version(alloc, path, &version)?),
+        None => Ok(None),
     }
 }
 
