@@ -15,12 +15,11 @@ use Rattle.comp_bytes.specs.declared.def.Def.{Def}
 use Rattle.comp_bytes.specs.declared.def.Def.TheVariants as defs
 use Rattle.comp_bytes.specs.declared.def.Item.TheVariants as items
 use Rattle.wit_data.specs.Keys.{name_of_key}
-use Rattle.comp_worlds.specs.Worlds.{IsWorld, IsRequired, core_name_of}
+use Rattle.comp_worlds.specs.Worlds.{IsWorld, IsRequired, core_name_of, core_imports}
 use Rattle.wit_data.specs.declared.worlds.WorldKey.{WorldKey}
 use Rattle.comp_worlds.specs.declared.world.ComponentWorld.{ComponentWorld}
 use Rattle.comp_state.specs.declared.fault.StateFault.{StateFault}
-use Rattle.comp_state.specs.declared.fault.StateFault.TheVariants as faults
-use Rattle.comp_state.specs.Causes.{IsCause, IsExportRefusal}
+use Rattle.comp_state.specs.Causes.{IsCause, IsCauseAmong}
 use Rattle.comp_state.specs.Encoding.{Encoding, Extends, IsOffered}
 use Rattle.std.specs.Option.{option_map}
 use Rattle.comp_links.specs.Targets.{Main, Lifted}
@@ -28,6 +27,7 @@ use Rattle.comp_links.specs.Lists.{plain_name}
 use Rattle.comp_terms.specs.Facts.{IsFunctionType, IsMain, IsAliased, IsLiftFor}
 use Rattle.comp_links.specs.Roles.{export_encoding}
 use Rattle.comp_terms.specs.Rules.{Grows, named_export}
+use Rattle.comp_state.proofs.Refusals.{among_more, contains_one, contains_none}
 use Rattle.comp_state.proofs.Extending.{extends_none, extends_then}
 use Rattle.comp_state.proofs.Growth.{Grows-none, Grows-by, Grows-then, IsFunctionType-kept, IsMain-kept, IsAliased-kept}
 
@@ -120,8 +120,7 @@ key_has_core_name w keys valid same i key l is =
 
 -- a refusal of a required export is one of the world's
 pub export_refused : (w : ComponentWorld) (keys : List WorldKey) → keys ≡ w.main_exports → (i : ℕ) (key : WorldKey) → i < length keys → key ≡ get_or keys i key →
-    (e : StateFault) → IsExportRefusal w key e → IsCause w e
-export_refused w keys same i key l is faults.Memory h = tt
-export_refused w keys same i key l is (faults.TooMany excess) h = h
-export_refused w keys same i key l is (faults.NoEncoding place) h =
-    inr (record { key = key; present = subst (λ ks. Contains ks key) same (i, l, sym is); none = h.1; at = h.0 })
+    (e : StateFault) → IsCauseAmong w [] (key ∷ []) e → IsCause w e
+export_refused w keys same i key l is e h =
+    among_more w [] (core_imports w) (key ∷ []) w.main_exports (λ x c. contains_none x c)
+    (λ k c. subst (λ x. Contains w.main_exports x) (contains_one key k c) (subst (λ ks. Contains ks key) same (i, l, sym is))) e h

@@ -1,3 +1,4 @@
+pub mod Refusals
 pub mod Building
 pub mod Exporting
 pub mod Extending

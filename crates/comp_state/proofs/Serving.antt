@@ -1,5 +1,5 @@
 -- The imports of main: each is given what its role needs, in order.
-use Rattle.std.proofs.Common.{Bool, true, false, ◌||◌, Some, Result, Ok, Err, inl, ◌≡◌, ◌∙◌, ℕ, List, [], ◌∷◌, ◌++◌, refl, sym, ap, ap₂, subst, append_assoc, append-nil, map, length, IsSome, Contains}
+use Rattle.std.proofs.Common.{Bool, true, false, ◌||◌, Some, Result, Ok, Err, inl, ◌≡◌, ◌∙◌, ℕ, List, [], ◌∷◌, ◌++◌, refl, sym, ap, ap₂, subst, append_assoc, append-nil, map, length, IsSome, Contains, arith}
 use Rattle.std.specs.List.{AllByRecursion, AllZip, IsDistinct, list_any, flat_map}
 use Rattle.comp_lists.specs.Found.{found}
 use Rattle.std.proofs.lemmas.Slice.Eq.{bytes_eq-Decides}
@@ -35,12 +35,13 @@ use Rattle.comp_roles.specs.declared.imports.ImportInstance.{ImportInstance}
 use Rattle.comp_roles.specs.declared.imports.ImportInstance.TheVariants as instances
 use Rattle.comp_worlds.specs.declared.world.ComponentWorld.{ComponentWorld}
 use Rattle.comp_state.specs.Encoding.{Encoding, Extends, FindsRole, FindsFields, FindsGroup, FindsUsed}
-use Rattle.comp_state.specs.Causes.{IsFieldsRefusal, IsCause}
+use Rattle.comp_state.specs.Causes.{IsCauseAmong, IsCause}
 use Rattle.comp_state.specs.declared.fault.StateFault.{StateFault}
 use Rattle.comp_state.specs.declared.fault.StateFault.TheVariants as faults
 use Rattle.comp_terms.specs.Facts.{IsEntryFor, IsArgumentFor}
 use Rattle.comp_links.specs.Roles.{import_encoding, is_named, is_any_import, uses_from}
 use Rattle.comp_terms.specs.Rules.{Grows, named_import, landmarks}
+use Rattle.comp_state.proofs.Refusals.{among_more, contains_one, contains_none}
 use Rattle.comp_state.proofs.Extending.{extends_none, extends_then}
 use Rattle.comp_state.proofs.Growth.{Grows-none, Grows-by, Grows-then, IsEntryFor-kept, IsArgumentFor-kept, entries_in_range}
 
@@ -199,18 +200,29 @@ pub handed_on : {T E : Type 0} (r : Result T E) (e : E) (Q : E → Type 0) → I
 handed_on (Ok x) e Q h q = tt
 handed_on (Err y) e Q h q = subst Q (sym h) q
 
+-- the field with this name and role of an import from a module
+abbrev import_of : List ℕ → List ℕ × Import → CoreImport
+import_of name f = record { module_name = name; field = f.0; role = f.1 }
+
+-- a refusal of one import from a module is one of the imports from it
+pub field_refused : (w : ComponentWorld) (name : List ℕ) (done rest all : List (List ℕ × Import)) (f : List ℕ × Import) → done ++ f ∷ rest ≡ all →
+    (e : StateFault) → IsCauseAmong w (import_of name f ∷ []) [] e → IsCauseAmong w (imports_from (name, instances.Names all)) [] e
+field_refused w name done rest all f split e h =
+    among_more w (import_of name f ∷ []) (imports_from (name, instances.Names all)) [] []
+    (λ i c. subst (λ x. Contains (map (import_of name) all) x) (contains_one (import_of name f) i c)
+    (subst (λ fs. Contains (map (import_of name) fs) (import_of name f)) split
+    (Contains-map (import_of name) (done ++ f ∷ rest) f (Contains-append_right done (f ∷ rest) f (0, omega arith, refl)))))
+    (λ k c. c) e h
+
 -- a refusal of the imports from one module is one of the world's
 pub group_refused : (w : ComponentWorld) (done rest : List (List ℕ × ImportInstance)) (g : List ℕ × ImportInstance) → done ++ g ∷ rest ≡ w.main.imports.modules →
-    (e : StateFault) → IsFieldsRefusal w g.0 (fields_of g.1) e → IsCause w e
-group_refused w done rest g split faults.Memory h = tt
-group_refused w done rest g split (faults.TooMany excess) h = h
-group_refused w done rest g split (faults.NoEncoding place) h =
-    let given : CoreImport = record { module_name = g.0; field = h.field.0; role = h.field.1 } in
-    let here : Contains (imports_from g) given = Contains-map (λ f. record { module_name = g.0; field = f.0; role = f.1 }) (fields_of g.1) h.field h.present in
-    let within : Contains (flat_map imports_from (done ++ g ∷ rest)) given =
-    rw (flat_map-append imports_from done (g ∷ rest))
-    (Contains-append_right (flat_map imports_from done) (imports_from g ++ flat_map imports_from rest) given (Contains-append_left (imports_from g) (flat_map imports_from rest) given here)) in
-    inl (record { given = given; present = subst (λ gs. Contains (flat_map imports_from gs) given) split within; needs = h.needs; none = h.none; at = h.at })
+    (e : StateFault) → IsCauseAmong w (imports_from g) [] e → IsCause w e
+group_refused w done rest g split e h =
+    among_more w (imports_from g) (flat_map imports_from w.main.imports.modules) [] w.main_exports
+    (λ i c. subst (λ gs. Contains (flat_map imports_from gs) i) split
+    (rw (flat_map-append imports_from done (g ∷ rest))
+    (Contains-append_right (flat_map imports_from done) (imports_from g ++ flat_map imports_from rest) i (Contains-append_left (imports_from g) (flat_map imports_from rest) i c))))
+    (λ k c. contains_none k c) e h
 
 sort_apart : (sort : Sort) → is_space spaces.CoreModule (Some (sort_space sort)) ≡ false
 sort_apart (sorts.Core kinds.Func) = refl

@@ -5,7 +5,7 @@ ghost use Rattle.std.specs.Prelude.{◌≡◌, [], ◌∷◌, List, ℕ, IfOk, I
 ghost use Rattle.std.specs.List.{AllByRecursion};
 ghost use Rattle.wit_data.specs.Keys.{name_of_key};
 ghost use Rattle.comp_worlds.specs.Worlds.{core_name_of};
-ghost use Rattle.comp_state.specs.Causes.{IsCause, IsBuildRefusal, IsExportRefusal};
+ghost use Rattle.comp_state.specs.Causes.{IsCause, IsCauseAmong, IsBuildRefusal};
 ghost use Rattle.comp_state.specs.Encoding.{Extends, IsOffered};
 ghost use Rattle.comp_terms.specs.Facts.{IsAliased, IsLiftFor};
 ghost use Rattle.comp_links.specs.Roles.{export_encoding};
@@ -84,7 +84,7 @@ impl EncodingState<'_> {
     fn check_export_encoding(&self, key: &WorldKey) -> Result<(), StateFault>
         requires { IsSome (core_name_of self.now.world key.now) }
         ensures ok { OnOk result (IsSome (export_encoding self.now.world key.now)) }
-        ensures cause { IfErr result (IsExportRefusal self.now.world key.now) }
+        ensures cause { IfErr result (IsCauseAmong self.now.world [] (key.now ∷ [])) }
     {
         let WorldKey::Name(function) = key else {
             unreachable!()
@@ -127,7 +127,7 @@ impl EncodingState<'_> {
         ensures extends { Extends self.old.built self.new.built }
         ensures grows { OnOk result (Grows self.old.world self.old.built.defs self.new.built.defs []) }
         ensures lifted { IfOk result (λ index. IsLiftFor self.old.world self.new.built.defs index key.now) }
-        ensures cause { IfErr result (IsExportRefusal self.old.world key.now) }
+        ensures cause { IfErr result (IsCauseAmong self.old.world [] (key.now ∷ [])) }
     {
         self.check_export_encoding(key)?;
         let index = self.lift_function(key)?;
@@ -142,7 +142,7 @@ impl EncodingState<'_> {
         ensures extends { Extends self.old.built self.new.built }
         ensures grows { OnOk result (Grows self.old.world self.old.built.defs self.new.built.defs (named_export (name_of_key key.now) ∷ [])) }
         ensures encoded { OnOk result (IsSome (export_encoding self.old.world key.now)) }
-        ensures cause { IfErr result (IsExportRefusal self.old.world key.now) }
+        ensures cause { IfErr result (IsCauseAmong self.old.world [] (key.now ∷ [])) }
     {
         let name = ExternName {
             name: self.function_name(key).clone(self.alloc)?,

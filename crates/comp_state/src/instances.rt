@@ -8,9 +8,10 @@ ghost use Rattle.comp_lists.specs.Found.{found};
 ghost use Rattle.comp_bytes.specs.ItemIndices.{IsAt};
 ghost use Rattle.wit_data.specs.declared.worlds.WorldKey.TheVariants as keys;
 ghost use Rattle.comp_roles.specs.Functions.{of_function};
-ghost use Rattle.comp_roles.specs.CoreImports.{fields_of};
+ghost use Rattle.comp_roles.specs.CoreImports.{imports_from};
+ghost use Rattle.comp_roles.specs.declared.imports.ImportInstance.TheVariants.{Names};
 ghost use Rattle.comp_worlds.specs.Worlds.{core_imports};
-ghost use Rattle.comp_state.specs.Causes.{IsCause, IsBuildRefusal, IsImportRefusal, IsFieldsRefusal};
+ghost use Rattle.comp_state.specs.Causes.{IsCause, IsCauseAmong, IsBuildRefusal};
 ghost use Rattle.comp_state.specs.Encoding.{Extends, FindsUsed, FindsRole, FindsFields, FindsGroup};
 ghost use Rattle.comp_links.specs.Targets.{Main};
 ghost use Rattle.comp_links.specs.Links.{link_of};
@@ -90,7 +91,7 @@ impl EncodingState<'_> {
         ensures grows { OnOk result (Grows self.old.world self.old.built.defs self.new.built.defs []) }
         ensures made { IfOk result (λ item. IsCoreItemFor self.new.built.defs item.0 item.1 (link_of self.old.world Main import.now)) }
         ensures encoded { OnOk result (IsSome (import_encoding self.old.world import.now)) }
-        ensures cause { IfErr result (IsImportRefusal self.old.world «module».now field.now import.now) }
+        ensures cause { IfErr result (IsCauseAmong self.old.world (record { module_name = «module».now; field = field.now; role = import.now } ∷ []) []) }
     {
         match import {
             Import::WorldFunc(WorldKey::Name(name), function, _) => {
@@ -118,7 +119,7 @@ impl EncodingState<'_> {
         ensures extends { Extends self.old.built self.new.built }
         ensures grows { OnOk result (Grows self.old.world self.old.built.defs self.new.built.defs []) }
         ensures serves { IfOk result (λ entry. IsEntryFor self.old.world self.new.built.defs entry (field.now, import.now)) }
-        ensures cause { IfErr result (IsImportRefusal self.old.world «module».now field.now import.now) }
+        ensures cause { IfErr result (IsCauseAmong self.old.world (record { module_name = «module».now; field = field.now; role = import.now } ∷ []) []) }
     {
         let name = field.clone(self.alloc)?;
         let (kind, index) = self.materialize_import(module, field, import)?;
@@ -137,7 +138,7 @@ impl EncodingState<'_> {
         ensures grows { OnOk result (Grows self.old.world self.old.built.defs self.new.built.defs []) }
         ensures serves { IfOk result (λ entries. AllZip (IsEntryFor self.old.world self.new.built.defs) entries fields.now) }
         ensures apart { IfOk result (λ entries. IsDistinct bytes_eq (map (λ e. e.name) entries)) }
-        ensures cause { IfErr result (IsFieldsRefusal self.old.world «module».now fields.now) }
+        ensures cause { IfErr result (IsCauseAmong self.old.world (imports_from («module».now, Names fields.now)) []) }
     {
         let mut entries = Seq::new(self.alloc);
         for (field, import) in fields.iter() {
@@ -159,7 +160,7 @@ impl EncodingState<'_> {
         ensures grows { OnOk result (Grows self.old.world self.old.built.defs self.new.built.defs []) }
         ensures named { IfOk result (λ argument. argument.name ≡ «module».now) }
         ensures serves { IfOk result (λ argument. IsInlineInstanceFor self.old.world self.new.built.defs argument.instance fields.now) }
-        ensures cause { IfErr result (IsFieldsRefusal self.old.world «module».now fields.now) }
+        ensures cause { IfErr result (IsCauseAmong self.old.world (imports_from («module».now, Names fields.now)) []) }
     {
         let name = module.clone(self.alloc)?;
         let entries = self.encode_fields(module, fields)?;
@@ -180,7 +181,7 @@ impl EncodingState<'_> {
         ensures extends { Extends self.old.built self.new.built }
         ensures grows { OnOk result (Grows self.old.world self.old.built.defs self.new.built.defs []) }
         ensures serves { IfOk result (λ argument. IsArgumentFor self.old.world self.new.built.defs argument («module».now, instance.now)) }
-        ensures cause { IfErr result (IsFieldsRefusal self.old.world «module».now (fields_of instance.now)) }
+        ensures cause { IfErr result (IsCauseAmong self.old.world (imports_from («module».now, instance.now)) []) }
     {
         match instance {
             ImportInstance::Names(fields) => self.encode_inline_instance(module, fields),

@@ -1,7 +1,11 @@
-use Rattle.std.proofs.Common.{◌≡◌, ◌∙◌, List, [], ◌∷◌, subst, sym, rules}
+use Rattle.std.proofs.Common.{◌≡◌, ◌∙◌, List, [], ◌∷◌, ap, subst, sym, rules}
 use Rattle.comp_bytes.specs.declared.def.CoreInlineExport.{CoreInlineExport}
 use Rattle.comp_roles.specs.declared.imports.Import.{Import}
-use Rattle.comp_state.proofs.Serving.{FieldsSoFar, fields_start, fields_step, entries_apart}
+use Rattle.comp_roles.specs.CoreImports.{imports_from}
+use Rattle.comp_roles.specs.declared.imports.ImportInstance.TheVariants.{Names}
+use Rattle.comp_state.specs.Causes.{IsCauseAmong}
+use Rattle.comp_state.specs.Encoding.{Encoding}
+use Rattle.comp_state.proofs.Serving.{FieldsSoFar, fields_start, fields_step, entries_apart, field_refused, handed_on}
 use Rattle.comp_state.proofs.state.EncodingState.encode_fields.Goals as goal
 use Rattle.std.proofs.Common.{ℕ}
 
@@ -30,3 +34,12 @@ pub returns-clause-apart : goal.returns-clause-apart
 returns-clause-apart c =
     entries_apart c.args.self.now c.loop-field.self c.loop-field.entries c.args.fields.now c.loop-field.field-iterator c.loop-field.invariant.2 (search rules)
     c.iter-field-items.ensures.unique
+
+pub returns-in_err-entry-clause-cause : goal.returns-in_err-entry-clause-cause
+returns-in_err-entry-clause-cause c =
+    let f : List ℕ × Import = (c.in-Some.field.now, c.in-Some.import.now) in
+    let before : FieldsSoFar c.args.self.now c.loop-field.self c.loop-field.entries c.args.fields.now (f ∷ c.next.new.self) =
+    subst (λ (fs : List (List ℕ × Import)). FieldsSoFar c.args.self.now c.loop-field.self c.loop-field.entries c.args.fields.now fs) c.in-Some.ensures.steps c.loop-field.invariant.2 in
+    let world : c.loop-field.self.world ≡ c.args.self.now.world = ap (λ (e : Encoding). e.world) before.same in
+    handed_on c.from_residual.result c.in_err-entry.field-0.0 (IsCauseAmong c.args.self.now.world (imports_from (c.args.module.now, Names c.args.fields.now)) []) c.from_residual.ensures.1
+    (field_refused c.args.self.now.world c.args.module.now before.done c.next.new.self c.args.fields.now f before.split c.in_err-entry.field-0.0 (rw (← world) c.in_err-entry.ensures.cause))
