@@ -6,7 +6,7 @@ use Rattle.std.specs.Char.{is_ascii_alphabetic, is_ascii_digit}
 use Rattle.std.proofs.lemmas.Bool.{cases_Bool, eqb-true}
 use Rattle.std.proofs.Common.{inl, inr}
 use Rattle.comp_names.specs.NameForm.{IsWord, IsLabel, IsNumber, IsUnversioned, in_lower_word, in_upper_word, hyphen, dot, slash, colon, at_sign}
-use Rattle.comp_names.specs.Cuts.{Lacks, IsCut, is_mark}
+use Rattle.comp_names.specs.Splits.{Lacks, IsSplit, is_mark}
 use Rattle.comp_names.proofs.Parts.{lacks-passing, all-append}
 
 -- ---- the bytes of labels
@@ -111,7 +111,7 @@ word_lacks : (word : List ℕ) → IsWord word → Lacks hyphen word
 word_lacks word w = lacks-passing in_word hyphen refl word (word_bytes w)
 
 -- the words that are left after a word
-pub next_word : {text word rest : List ℕ} → IsCut hyphen text word rest → AllByRecursion IsWord (words text) ↔ (IsWord word × AllByRecursion IsWord (words rest))
+pub next_word : {text word rest : List ℕ} → IsSplit hyphen text word rest → AllByRecursion IsWord (words text) ↔ (IsWord word × AllByRecursion IsWord (words rest))
 next_word {text} {word} {rest} at =
     let e = ap words at.parts ∙ words_cut word rest at.first in
     (λ h. subst (AllByRecursion IsWord) e h, λ h. subst (AllByRecursion IsWord) (sym e) (h.0, h.1))

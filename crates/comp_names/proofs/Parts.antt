@@ -1,13 +1,15 @@
 -- Texts that are split at a separator that the part before it lacks: there is one way to split them.
-use Rattle.std.proofs.Common.{ℕ, ◌≡◌, ◌==◌, ◌<◌, Bool, false, List, [], ◌∷◌, ◌++◌, length, get_or, suc, refl, sym, ap, subst, ◌∙◌, true≢false, arith, Option, Some, None, Bor}
-use Rattle.std.specs.Prelude.{◌↔◌, ◌≢◌, IsTrue, IfSome, IfNone}
-use Rattle.std.proofs.lemmas.Str.Pattern.{IsSplitOnceResult, split_parts}
-use Rattle.std.specs.List.{AllByRecursion}
+use Rattle.std.proofs.Common.{ℕ, ◌≡◌, ◌==◌, ◌+◌, ◌<◌, ◌≤◌, Bool, true, false, List, [], ◌∷◌, ◌++◌, length, get_or, suc, refl, sym, ap, subst, ◌∙◌, true≢false, arith, Option, Some, None, Bor}
+use Rattle.std.specs.Prelude.{◌↔◌, ◌≢◌, ◌⊎◌, IsTrue, option_map, nat_lt, not, cond, take}
+use Rattle.std.specs.List.{AllByRecursion, position_or_len, before_first, after_first}
+use Rattle.std.proofs.lemmas.List.Sums.{split_at_first, passes_at_first, fails_before_first}
+use Rattle.comp_lists.specs.Splits.{split_once}
 use Rattle.std.proofs.lemmas.List.{append_cancel_left}
-use Rattle.std.proofs.lemmas.Bool.{cases_Bool, eq-eqb, eqb-true}
+use Rattle.std.proofs.lemmas.Option.{same_Some}
+use Rattle.std.proofs.lemmas.Bool.{cases_Bool, eq-eqb, eqb-true, ltb-true, ltb-false}
 use Rattle.std.proofs.Common.{inl, inr}
 use Rattle.comp_names.specs.NameForm.{Joined, Prefixed}
-use Rattle.comp_names.specs.Cuts.{Lacks, IsCut, BeginsElse}
+use Rattle.comp_names.specs.Splits.{Lacks, IsSplit, BeginsElse}
 
 pub all-append : {X : Type 0} (P : X → Type 0) (xs ys : List X) → AllByRecursion P xs → AllByRecursion P ys → AllByRecursion P (xs ++ ys)
 all-append P [] ys h k = k
@@ -52,7 +54,7 @@ no_cut m [] y h = clash m m h.0 refl
 no_cut m (c ∷ x) y h = no_cut m x y h.1
 
 pub joined_iff : {Left Right : List ℕ → Type 0} {mark : ℕ} {text left right : List ℕ} → ((part : List ℕ) → Left part → Lacks mark part) →
-    IsCut mark text left right → Joined Left mark Right text ↔ (Left left × Right right)
+    IsSplit mark text left right → Joined Left mark Right text ↔ (Left left × Right right)
 joined_iff {Left} {Right} {mark} {text} {left} {right} lacks at = (there, λ p. record { left = left; right = right; parts = at.parts; left_is = p.0; right_is = p.1 })
   where
     there : Joined Left mark Right text → Left left × Right right
@@ -70,10 +72,58 @@ prefixed_iff {Rest} beginning text rest e =
 pub prefixed_nowhere : {Rest : List ℕ → Type 0} (beginning text : List ℕ) → BeginsElse beginning text → Prefixed beginning Rest text → ⊥
 prefixed_nowhere beginning text none b = none b.rest b.parts
 
-pub some_cut : (mark : ℕ) (text : List ℕ) (r : Option (Bor (List ℕ) × Bor (List ℕ))) → IsSplitOnceResult mark text r → mark < 128 → IfSome r (λ s. IsCut mark text s.0.now s.1.now)
-some_cut mark text None h l = tt
-some_cut mark text (Some s) h l = let p = split_parts mark text (Some s) h l in record { parts = p.0; first = lacks-everywhere mark s.0.now p.1 }
+-- the part before the first such character lacks it
+lacks_before : (mark : ℕ) (text : List ℕ) → Lacks mark (before_first (λ b. b == mark) text)
+lacks_before mark [] = tt
+lacks_before mark (b ∷ bs) = by (b == mark) refl (lacks_before mark bs)
+  where
+    rest_at : ℕ
+    rest_at = position_or_len (λ c. c == mark) bs
 
-pub none_cut : (mark : ℕ) (text : List ℕ) (r : Option (Bor (List ℕ) × Bor (List ℕ))) → IsSplitOnceResult mark text r → mark < 128 → IfNone r (Lacks mark text)
-none_cut mark text None h l = lacks-everywhere mark text (split_parts mark text None h l)
-none_cut mark text (Some s) h l = tt
+    by : (t : Bool) → (b == mark) ≡ t → Lacks mark (take rest_at bs) → Lacks mark (take (cond (not t) (1 + rest_at) 0) (b ∷ bs))
+    by true e rest = tt
+    by false e rest = let one : suc rest_at ≡ 1 + rest_at = omega arith in subst (λ k. Lacks mark (take k (b ∷ bs))) one (e, rest)
+
+-- what `split_once` gives
+pub is_split : (mark : ℕ) (text left right : List ℕ) → split_once mark text ≡ Some (left, right) → IsSplit mark text left right
+is_split mark text left right e = by (cases_Bool (nat_lt at (length text)))
+  where
+    at : ℕ
+    at = position_or_len (λ b. b == mark) text
+
+    by : (nat_lt at (length text) ≡ true) ⊎ (nat_lt at (length text) ≡ false) → IsSplit mark text left right
+    by (inl h) =
+        let inside : at < length text = ltb-true at (length text) h in
+        let same : Some (before_first (λ b. b == mark) text, after_first (λ b. b == mark) text) ≡ Some (left, right) = rw h at e in
+        let both : (before_first (λ b. b == mark) text, after_first (λ b. b == mark) text) ≡ (left, right) = same_Some _ _ same in
+        let l : before_first (λ b. b == mark) text ≡ left = ap (λ p. p.0) both in
+        let r : after_first (λ b. b == mark) text ≡ right = ap (λ p. p.1) both in
+        let is : get_or text at 0 ≡ mark = eqb-true (get_or text at 0) mark (passes_at_first (λ b. b == mark) text 0 inside) in
+        record {
+          parts =
+              split_at_first (λ b. b == mark) text 0 inside
+              ∙ ap (λ c. before_first (λ b. b == mark) text ++ c ∷ after_first (λ b. b == mark) text) is
+              ∙ ap (λ x. x ++ mark ∷ after_first (λ b. b == mark) text) l
+              ∙ ap (λ x. left ++ mark ∷ x) r;
+          first = subst (Lacks mark) l (lacks_before mark text);
+        }
+    by (inr h) = let none : None ≡ Some (left, right) = rw h at e in cc
+
+pub is_whole : (mark : ℕ) (text : List ℕ) → split_once mark text ≡ None → Lacks mark text
+is_whole mark text e = by (cases_Bool (nat_lt at (length text)))
+  where
+    at : ℕ
+    at = position_or_len (λ b. b == mark) text
+
+    by : (nat_lt at (length text) ≡ true) ⊎ (nat_lt at (length text) ≡ false) → Lacks mark text
+    by (inl h) = let some : Some (before_first (λ b. b == mark) text, after_first (λ b. b == mark) text) ≡ None = rw h at e in cc
+    by (inr h) =
+        let past : length text ≤ at = ltb-false at (length text) h in
+        lacks-everywhere mark text (λ i l is. true≢false (sym (eq-eqb (get_or text i 0) mark is) ∙ fails_before_first (λ b. b == mark) text i 0 (omega arith)))
+
+-- what a call of it gives, by its two cases
+pub split_some : (mark : ℕ) (text : List ℕ) (r : Option (Bor (List ℕ) × Bor (List ℕ))) (l x : Bor (List ℕ)) → option_map (λ p. (p.0.now, p.1.now)) r ≡ split_once mark text → r ≡ Some (l, x) → IsSplit mark text l.now x.now
+split_some mark text r l x e is = is_split mark text l.now x.now (sym e ∙ ap (option_map (λ p. (p.0.now, p.1.now))) is)
+
+pub split_none : (mark : ℕ) (text : List ℕ) (r : Option (Bor (List ℕ) × Bor (List ℕ))) → option_map (λ p. (p.0.now, p.1.now)) r ≡ split_once mark text → r ≡ None → Lacks mark text
+split_none mark text r e is = is_whole mark text (sym e ∙ ap (option_map (λ p. (p.0.now, p.1.now))) is)

@@ -1,4 +1,4 @@
 pub mod NameForm
-pub mod Cuts
+pub mod Splits
 pub mod Names
 pub mod Judged

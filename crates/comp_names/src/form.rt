@@ -5,9 +5,10 @@
 ghost use Rattle.std.specs.Prelude.{◌↔◌, IsTrue, IfOk};
 ghost use Rattle.comp_names.specs.NameForm.{IsConstructor, IsMember, IsPlainName, IsUnversioned, Joined, at_sign, IsVersionText, IsFormed};
 
-use crate::cut::{after_prefix, cut};
 use crate::label::{is_label, is_pair};
+use crate::prefix::after_prefix;
 use crate::version::is_version_text;
+use comp_lists::split_once;
 use std::alloc::{AllocError, Global};
 
 fn is_constructor(name: &str) -> bool
@@ -40,7 +41,7 @@ fn is_plain(name: &str) -> bool
 fn is_unversioned(name: &str) -> bool
     ensures { IsTrue result ↔ IsUnversioned name.now }
 {
-    match cut(name, ':') {
+    match split_once(name, ':') {
         Some((namespace, path)) => is_label(namespace) && is_pair('/', path),
         None => false,
     }
@@ -49,7 +50,7 @@ fn is_unversioned(name: &str) -> bool
 fn is_versioned(alloc: Global, name: &str) -> Result<bool, AllocError>
     ensures { IfOk result (λ holds. IsTrue holds ↔ Joined IsUnversioned at_sign IsVersionText name.now) }
 {
-    match cut(name, '@') {
+    match split_once(name, '@') {
         Some((interface, version)) => {
             if is_unversioned(interface) {
                 is_version_text(alloc, version)

@@ -6,9 +6,9 @@ ghost use Rattle.std.specs.Prelude.{◌≡◌, ◌↔◌, IsTrue, slice_index, �
 ghost use Rattle.std.specs.List.{list_all, slice_split, AllByRecursion};
 ghost use Rattle.std.specs.Char.{is_ascii_alphabetic};
 ghost use Rattle.comp_names.specs.NameForm.{IsWord, IsLabel, Joined, in_lower_word, in_upper_word, hyphen};
-ghost use Rattle.comp_names.specs.Cuts.{is_mark};
+ghost use Rattle.comp_names.specs.Splits.{is_mark};
 
-use crate::cut::cut;
+use comp_lists::split_once;
 
 fn is_lower(bytes: &[u8]) -> bool
     ensures { result ≡ list_all in_lower_word bytes.now }
@@ -47,7 +47,7 @@ fn are_words(text: &str) -> bool
     ensures { IsTrue result ↔ AllByRecursion IsWord (slice_split (λ byte. byte == hyphen) text.now) }
 {
     let mut rest = text;
-    while let Some((word, after)) = cut(rest, '-') {
+    while let Some((word, after)) = split_once(rest, '-') {
         if !is_word(word) {
             return false;
         }
@@ -68,7 +68,7 @@ pub(crate) fn is_pair(mark: char, pair: &str) -> bool
     requires { IsTrue (is_mark mark) }
     ensures { IsTrue result ↔ Joined IsLabel mark IsLabel pair.now }
 {
-    match cut(pair, mark) {
+    match split_once(pair, mark) {
         Some((left, right)) => is_label(left) && is_label(right),
         None => false,
     }

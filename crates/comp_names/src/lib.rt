@@ -5,13 +5,12 @@
 //! memory, and reports a name that is wrong else. [`is_formed`] decides the form of a name, whose grammar is
 //! `specs/NameForm.antt`.
 //!
-//! In reading order: `fault` (what is wrong), `cut` (texts split at a character), `label`, `version`, `form`
-//! (the form of names), `met`, `listing` (one list of names), `lists` (which lists there are), `checking`
+//! In reading order: `fault` (what is wrong), `label`, `version`, `prefix`, `form` (the form of
+//! names), `met`, `listing` (one list of names), `lists` (which lists there are), `checking`
 //! (the definitions in turn), `names` (a whole component).
 #![tactic(auto)]
 
 mod checking;
-mod cut;
 mod fault;
 mod form;
 mod label;
@@ -19,6 +18,7 @@ mod listing;
 mod lists;
 mod met;
 mod names;
+mod prefix;
 mod version;
 
 pub use fault::NameFault;

@@ -7,7 +7,7 @@ ghost use Rattle.std.specs.List.{list_all};
 ghost use Rattle.std.specs.Char.{is_ascii_digit};
 ghost use Rattle.comp_names.specs.NameForm.{IsNumber, Joined, dot, IsVersion, IsVersionText};
 
-use crate::cut::cut;
+use comp_lists::split_once;
 use std::alloc::{AllocError, Global};
 use version_texts::parse_version;
 
@@ -28,7 +28,7 @@ fn is_number(text: &str) -> bool
 fn is_short_version(text: &str) -> bool
     ensures { IsTrue result ↔ Joined IsNumber dot IsNumber text.now }
 {
-    match cut(text, '.') {
+    match split_once(text, '.') {
         Some((major, minor)) => is_number(major) && is_number(minor),
         None => false,
     }

@@ -7,7 +7,7 @@ abbrev pub Lacks : ℕ → List ℕ → Type 0
 Lacks mark text = AllByRecursion (λ byte. (byte == mark) ≡ false) text
 
 -- the text is split at the first occurrence of the character
-pub record IsCut (mark : ℕ) (text left right : List ℕ) : Type 0 where
+pub record IsSplit (mark : ℕ) (text left right : List ℕ) : Type 0 where
   pub parts : text ≡ left ++ mark ∷ right
   pub first : Lacks mark left
 
