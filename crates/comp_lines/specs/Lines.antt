@@ -22,7 +22,8 @@ use Rattle.comp_bytes.specs.declared.def.Item.{Item}
 use Rattle.comp_bytes.specs.declared.def.Item.TheVariants as items
 use Rattle.comp_bytes.specs.declared.def.Def.{Def}
 use Rattle.comp_bytes.specs.declared.def.Def.TheVariants as defs
-use Rattle.comp_lines.specs.Texts.{hex, quoted}
+use Rattle.hex.specs.Hex.{encode_lower}
+use Rattle.comp_lines.specs.Texts.{quoted}
 
 -- ---- parts of a line
 
@@ -89,12 +90,12 @@ made_of (items.CoreInstantiate from args) = codes "instantiate " ++ decimal from
 made_of (items.CoreExports entries) = codes "exports" ++ flat_map core_export entries
 made_of (items.Instantiate from args) = codes "instantiate " ++ decimal from ++ flat_map argument args
 made_of (items.Alias a) = alias a
-made_of (items.Type t) = hex (type_def t).bytes
-made_of (items.InstanceType t) = hex (instance_type t).bytes
+made_of (items.Type t) = encode_lower (type_def t).bytes
+made_of (items.InstanceType t) = encode_lower (instance_type t).bytes
 made_of (items.Lift func options ty) = codes "lift " ++ decimal func ++ codes " " ++ decimal ty ++ flat_map option options
 made_of (items.Lower func options) = codes "lower " ++ decimal func ++ flat_map option options
-made_of (items.Intrinsic i) = codes "canon " ++ hex (intrinsic_bytes i).bytes
-made_of (items.Import name description) = codes "import " ++ extern name ++ codes " " ++ hex (description_bytes description).bytes
+made_of (items.Intrinsic i) = codes "canon " ++ encode_lower (intrinsic_bytes i).bytes
+made_of (items.Import name description) = codes "import " ++ extern name ++ codes " " ++ encode_lower (description_bytes description).bytes
 made_of (items.Export name sort index description) = codes "export " ++ extern name ++ codes " " ++ space_word (sort_space sort) ++ codes " " ++ decimal index
 made_of (items.Custom name contents) = codes "custom " ++ quoted name ++ codes " " ++ decimal (length contents) ++ codes " bytes"
 

@@ -5,7 +5,8 @@ ghost use Rattle.std.specs.List.{flat_map};
 ghost use Rattle.std.specs.Fmt.{decimal};
 ghost use Rattle.comp_bytes.specs.Grammar.{intrinsic_bytes, description_bytes};
 ghost use Rattle.comp_bytes.specs.Spaces.{sort_space, alias_space, item_space};
-ghost use Rattle.comp_lines.specs.Texts.{hex, quoted};
+ghost use Rattle.hex.specs.Hex.{encode_lower};
+ghost use Rattle.comp_lines.specs.Texts.{quoted};
 ghost use Rattle.comp_lines.specs.Lines.{space_word, core_export, option, extern, alias, shown, made_of, left, item_line};
 ghost use Rattle.comp_lines.specs.Written.{Puts};
 ghost use Rattle.comp_bytes.specs.declared.space.Space.TheVariants.{Component};
@@ -106,7 +107,7 @@ fn put_lift(
 
 /// Writes the bytes that encode a value.
 fn put_encoded<T: Encode>(alloc: Global, out: &mut String, value: &T) -> Result<(), BuildFault>
-    ensures { Puts (string_bytes out.old) (string_bytes out.new) result (hex (T.encoding value.now).bytes) (T.encoding value.now).counts }
+    ensures { Puts (string_bytes out.old) (string_bytes out.new) result (encode_lower (T.encoding value.now).bytes) (T.encoding value.now).counts }
 {
     let bytes = encoded(alloc, value)?;
     put_hex(out, bytes.as_slice())?;
@@ -114,7 +115,7 @@ fn put_encoded<T: Encode>(alloc: Global, out: &mut String, value: &T) -> Result<
 }
 
 fn put_intrinsic(alloc: Global, out: &mut String, intrinsic: &Intrinsic) -> Result<(), BuildFault>
-    ensures { Puts (string_bytes out.old) (string_bytes out.new) result (codes "canon " ++ hex (intrinsic_bytes intrinsic.now).bytes) (intrinsic_bytes intrinsic.now).counts }
+    ensures { Puts (string_bytes out.old) (string_bytes out.new) result (codes "canon " ++ encode_lower (intrinsic_bytes intrinsic.now).bytes) (intrinsic_bytes intrinsic.now).counts }
 {
     out.push_str("canon ")?;
     put_encoded(alloc, out, intrinsic)?;
@@ -127,7 +128,7 @@ fn put_import(
     name: &ExternName,
     description: &Description,
 ) -> Result<(), BuildFault>
-    ensures { Puts (string_bytes out.old) (string_bytes out.new) result (codes "import " ++ extern name.now ++ codes " " ++ hex (description_bytes description.now).bytes) (description_bytes description.now).counts }
+    ensures { Puts (string_bytes out.old) (string_bytes out.new) result (codes "import " ++ extern name.now ++ codes " " ++ encode_lower (description_bytes description.now).bytes) (description_bytes description.now).counts }
 {
     out.push_str("import ")?;
     put_extern(out, name)?;

@@ -4,7 +4,8 @@ ghost use Rattle.std.specs.Prelude.{◌≡◌, ◌<◌, ◌++◌, ◌∷◌, [],
 ghost use Rattle.std.specs.List.{flat_map};
 ghost use Rattle.std.specs.Char.{encode_utf8};
 ghost use Rattle.std.specs.Fmt.{decimal};
-ghost use Rattle.comp_lines.specs.Texts.{hex_digit, hex_byte, hex, escaped, quoted};
+ghost use Rattle.hex.specs.Hex.{encode_lower};
+ghost use Rattle.comp_lines.specs.Texts.{escaped, quoted};
 
 use std::alloc::AllocError;
 use std::fmt::Write;
@@ -19,36 +20,12 @@ pub(crate) fn put_number(out: &mut String, number: u64) -> Result<(), AllocError
     Ok(())
 }
 
-/// Writes a digit of a number below 16.
-fn put_hex_digit(out: &mut String, digit: u8) -> Result<(), AllocError>
-    requires { digit < 16 }
-    ensures { OnOk result (string_bytes out.new ≡ string_bytes out.old ++ hex_digit digit ∷ []) }
-{
-    let code = if digit < 10 {
-        b'0' + digit
-    } else {
-        b'a' + (digit - 10)
-    };
-    out.push(char::from(code))?;
-    Ok(())
-}
-
-/// Writes a byte as two hexadecimal digits.
-fn put_hex_byte(out: &mut String, byte: u8) -> Result<(), AllocError>
-    ensures { OnOk result (string_bytes out.new ≡ string_bytes out.old ++ hex_byte byte) }
-{
-    put_hex_digit(out, byte / 16)?;
-    put_hex_digit(out, byte % 16)?;
-    Ok(())
-}
-
 /// Writes bytes as hexadecimal digits.
 pub(crate) fn put_hex(out: &mut String, bytes: &[u8]) -> Result<(), AllocError>
-    ensures { OnOk result (string_bytes out.new ≡ string_bytes out.old ++ hex bytes.now) }
+    ensures { OnOk result (string_bytes out.new ≡ string_bytes out.old ++ encode_lower bytes.now) }
 {
-    for byte in bytes {
-        put_hex_byte(out, *byte)?;
-    }
+    let digits = hex::encode(*out.allocator(), bytes)?;
+    out.push_str(digits.as_str())?;
     Ok(())
 }
 
@@ -64,7 +41,7 @@ fn put_escaped_ascii(out: &mut String, byte: u8) -> Result<(), AllocError>
     }
     if byte < 0x20 || byte == 0x7f {
         out.push('\\')?;
-        return put_hex_byte(out, byte);
+        return put_hex(out, &[byte]);
     }
     out.push(char::from(byte))?;
     Ok(())
