@@ -25,7 +25,7 @@ def timed(command, check=True):
 
 
 def peak(command, folder):
-    """Peak memory of a run in MiB, as /usr/bin/time tells it."""
+    """Peak memory of a run in MiB, as /usr/bin/time reports it."""
     peak = os.path.join(folder, "peak")
     subprocess.run(
         ["/usr/bin/time", "-f", "%M", "-o", peak] + command, check=True, stdout=subprocess.DEVNULL

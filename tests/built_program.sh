@@ -29,8 +29,8 @@ expect() {
     fi
 }
 
-# tells NAME STATUS WANT LINE ARGUMENT..: the same, with what the file WANT has on standard output
-tells() {
+# prints NAME STATUS WANT LINE ARGUMENT..: the same, with what the file WANT has on standard output
+prints() {
     name=$1 status=$2 want=$3 line=$4
     shift 4
     got=0
@@ -91,7 +91,7 @@ func 1 = lift 1 0
 func 2 = export "g" func 1
 custom "component-name" 47 bytes
 LINES
-tells 'a component is told' 0 lines '' defs "$top/examples/component.wasm"
+prints 'a component is printed' 0 lines '' defs "$top/examples/component.wasm"
 head -c 105 "$top/examples/component.wasm" >front.wasm
 head -n 7 lines >front_lines
 cat >shim_lines <<'LINES'
@@ -111,13 +111,13 @@ core-instance 3 = exports "0"=func 1
 core-instance 4 = instantiate 2 "actual"=3 "shim"=0
 custom "component-name" 189 bytes
 LINES
-tells 'a component with shims is told' 0 shim_lines '' defs "$top/crates/reader_mutations/data/shims.wasm"
-tells 'a front that is a component' 0 front_lines '' defs front.wasm
+prints 'a component with shims is printed' 0 shim_lines '' defs "$top/crates/reader_mutations/data/shims.wasm"
+prints 'a front that is a component' 0 front_lines '' defs front.wasm
 : >none
 head -c 100 "$top/examples/component.wasm" >cut_component.wasm
-tells 'a front that is none' 1 none 'error: C2 Grammar place=96' defs cut_component.wasm
-tells 'a core module' 1 none 'error: C2 Grammar place=0' defs main.wasm
-tells 'no such FILE' 1 none 'error: read "none.wasm"' defs none.wasm
+prints 'a front that is none' 1 none 'error: C2 Grammar place=96' defs cut_component.wasm
+prints 'a core module' 1 none 'error: C2 Grammar place=0' defs main.wasm
+prints 'no such FILE' 1 none 'error: read "none.wasm"' defs none.wasm
 got=0
 "$program" defs "$top/examples/component.wasm" >/dev/full 2>err || got=$?
 printf 'error: write "-"\n' >line
@@ -132,8 +132,8 @@ usage: component_new new OUT MAIN [options] | defs FILE
   --version       print the version of the program, and the kit that it is proved with
 HELP
 printf 'component_new 0.1.0, proved with %s\n' "$(rt version)" >version
-for word in --help -h help; do tells "$word" 0 help '' "$word"; done
-tells 'the version, and the kit' 0 version '' --version
+for word in --help -h help; do prints "$word" 0 help '' "$word"; done
+prints 'the version, and the kit' 0 version '' --version
 expect 'help and another word' 2 "$usage" --help new
 
 not_text=$(printf 'a\377b')
@@ -175,7 +175,7 @@ if ls -A | grep -q '\.part$'; then echo 'FAILED: a new file is left'; failed=1; 
 # What is not a regular file is written in place.
 expect 'an OUT without room' 1 'error: write "/dev/full"' new /dev/full main.wasm
 expect 'an OUT that is a folder' 1 'error: write "."' new . main.wasm
-tells 'an OUT that is standard output, a file' 0 "$component" '' new /dev/stdout main.wasm
+prints 'an OUT that is standard output, a file' 0 "$component" '' new /dev/stdout main.wasm
 "$program" new /dev/stdout main.wasm | cat >piped
 holds 'an OUT that is standard output, a pipe' piped "$component"
 printf old >target.wasm

@@ -51,7 +51,7 @@ abbrev pub Removed : List ℕ → Result ⊤ SystemFault → (List ℕ → Node)
 Removed name (Ok x) before after = Are after (with_node before name Missing)
 Removed name (Err f) before after = Are after before
 
--- what a name that named this names once these bytes are put: another thing than a regular file stays what it is
+-- what a name that named this names once these bytes are put: another thing than a regular file is unchanged
 abbrev pub put_node : Node → List ℕ → Node
 put_node Missing bytes = Regular bytes
 put_node (Regular old) bytes = Regular bytes
@@ -71,7 +71,7 @@ abbrev pub PutLeaves : List ℕ → List ℕ → Result ⊤ PutFault → (List �
 PutLeaves name bytes (Ok x) before after = Are after (with_node before name (put_node (before name) bytes))
 PutLeaves name bytes (Err f) before after = Undone f before after
 
--- the same where a new file takes the place of what the name names
+-- the same where a new file replaces what the name names
 abbrev pub Replaced : List ℕ → List ℕ → Result ⊤ PutFault → (List ℕ → Node) → (List ℕ → Node) → Type 0
 Replaced name bytes (Ok x) before after = Are after (with_node before name (Regular bytes))
 Replaced name bytes (Err f) before after = Undone f before after

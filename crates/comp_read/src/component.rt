@@ -16,13 +16,13 @@ use comp_bytes::{Def, Defs, Item};
 use comp_lists::Seq;
 use std::alloc::{AllocError, Global};
 
-fn item_contents(alloc: Global, place: usize, id: u8, inner: &[u8]) -> Result<Seq<Item>, ReadFault>
-    ensures { GivesAt (λ x. x) result (ok_or_at place (contents_at id inner.now)) }
+fn item_contents(alloc: Global, offset: usize, id: u8, inner: &[u8]) -> Result<Seq<Item>, ReadFault>
+    ensures { GivesAt (λ x. x) result (ok_or_at offset (contents_at id inner.now)) }
 {
     match items::contents(alloc, id, inner) {
         Ok(items) => Ok(items),
         Err(PartFault::Memory) => Err(ReadFault::Memory),
-        Err(PartFault::Malformed) => Err(ReadFault::Grammar { place }),
+        Err(PartFault::Malformed) => Err(ReadFault::Grammar { place: offset }),
     }
 }
 
@@ -33,12 +33,12 @@ impl SectionItem for Item {
 
     fn contents(
         alloc: Global,
-        place: usize,
+        offset: usize,
         _start: usize,
         id: u8,
         inner: &[u8],
     ) -> Result<Seq<Item>, ReadFault> {
-        item_contents(alloc, place, id, inner)
+        item_contents(alloc, offset, id, inner)
     }
 }
 
@@ -60,18 +60,18 @@ impl SectionItem for Def {
 
     fn contents(
         alloc: Global,
-        place: usize,
+        offset: usize,
         start: usize,
         id: u8,
         inner: &[u8],
     ) -> Result<Seq<Def>, ReadFault> {
         if id == 4 {
-            let items = component::<Item>(alloc, place, start, inner)?;
+            let items = component::<Item>(alloc, offset, start, inner)?;
             let mut found = Seq::new(alloc);
             found.push(Def::Component(items))?;
             return Ok(found);
         }
-        let items = item_contents(alloc, place, id, inner)?;
+        let items = item_contents(alloc, offset, id, inner)?;
         Ok(wrapped(alloc, items)?)
     }
 }

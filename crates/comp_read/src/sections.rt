@@ -18,16 +18,16 @@ const PREAMBLE: [u8; 8] = [0x00, 0x61, 0x73, 0x6d, 0x0d, 0x00, 0x01, 0x00];
 pub(crate) trait SectionItem: Sized + Drop {
     ghost contents_at: { Contents Self };
 
-    /// The definitions of a section of this id at the offset `place`. Its contents are at the offset `start`.
+    /// The definitions of a section of this id at the offset `offset`. Its contents are at the offset `start`.
     fn contents(
         alloc: Global,
-        place: usize,
+        offset: usize,
         start: usize,
         id: u8,
         inner: &[u8],
     ) -> Result<Seq<Self>, ReadFault>
         requires { start + length inner.now < 2 ^ 64 }
-        ensures { GivesAt (λ x. x) result (contents_at id place start inner.now) };
+        ensures { GivesAt (λ x. x) result (contents_at id offset start inner.now) };
 }
 
 fn is_shared(id: u8) -> bool
@@ -50,24 +50,24 @@ fn header(last: u8, bytes: &[u8]) -> Result<(u8, &[u8], &[u8]), PartFault>
     Ok((id, inner, rest))
 }
 
-/// The section at the front, at the offset `place`, after a section of the id `last`.
+/// The section at the front, at the offset `offset`, after a section of the id `last`.
 #[tactic(auto, unfolding(crate::specs::SectionReaders::section_at))]
 fn section<D: SectionItem>(
     alloc: Global,
-    place: usize,
+    offset: usize,
     last: u8,
     bytes: &[u8],
 ) -> Result<(u8, Seq<D>, &[u8]), ReadFault>
-    requires { place + length bytes.now < 2 ^ 64 }
-    ensures { GivesAt (λ x. (x.0, x.1, x.2.now)) result (section_at D.contents_at place last bytes.now) }
+    requires { offset + length bytes.now < 2 ^ 64 }
+    ensures { GivesAt (λ x. (x.0, x.1, x.2.now)) result (section_at D.contents_at offset last bytes.now) }
 {
     let (id, inner, rest) = match header(last, bytes) {
         Ok(read) => read,
         Err(PartFault::Memory) => return Err(ReadFault::Memory),
-        Err(PartFault::Malformed) => return Err(ReadFault::Grammar { place }),
+        Err(PartFault::Malformed) => return Err(ReadFault::Grammar { place: offset }),
     };
-    let start = place + (bytes.len() - rest.len() - inner.len());
-    let found = D::contents(alloc, place, start, id, inner)?;
+    let start = offset + (bytes.len() - rest.len() - inner.len());
+    let found = D::contents(alloc, offset, start, id, inner)?;
     Ok((id, found, rest))
 }
 
@@ -80,8 +80,8 @@ fn sections<D: SectionItem>(alloc: Global, start: usize, bytes: &[u8]) -> Result
     let mut last = 0;
     let mut rest = bytes;
     while !rest.is_empty() {
-        let place = start + (bytes.len() - rest.len());
-        let (id, found, after) = section::<D>(alloc, place, last, rest)?;
+        let offset = start + (bytes.len() - rest.len());
+        let (id, found, after) = section::<D>(alloc, offset, last, rest)?;
         defs.append(found)?;
         last = id;
         rest = after;
@@ -89,19 +89,19 @@ fn sections<D: SectionItem>(alloc: Global, start: usize, bytes: &[u8]) -> Result
     Ok(defs)
 }
 
-/// A component at the offset `start`. A wrong preamble is reported at `place`.
+/// A component at the offset `start`. A wrong preamble is reported at `offset`.
 #[tactic(auto, unfolding(crate::specs::SectionReaders::component_at))]
 pub(crate) fn component<D: SectionItem>(
     alloc: Global,
-    place: usize,
+    offset: usize,
     start: usize,
     bytes: &[u8],
 ) -> Result<Seq<D>, ReadFault>
     requires { start + length bytes.now < 2 ^ 64 }
-    ensures { GivesAt (λ x. x) result (component_at D.contents_at place start bytes.now) }
+    ensures { GivesAt (λ x. x) result (component_at D.contents_at offset start bytes.now) }
 {
     if !bytes.starts_with(&PREAMBLE) {
-        return Err(ReadFault::Grammar { place });
+        return Err(ReadFault::Grammar { place: offset });
     }
     let (_, body) = bytes.split_at(8);
     sections::<D>(alloc, start + 8, body)

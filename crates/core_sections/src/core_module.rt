@@ -217,14 +217,14 @@ pub fn read_module(alloc: Global, bytes: &[u8]) -> Result<CoreModule, SectionFau
         items: no_items(alloc),
         exports: Keyed::new(alloc),
     };
-    let mut place = PREAMBLE.len();
+    let mut offset = PREAMBLE.len();
     for section in &sections {
         entries = match add_content(alloc, entries, section.content) {
             Ok(entries) => entries,
             Err(ReadFault::Memory) => return Err(SectionFault::Memory),
-            Err(ReadFault::Malformed) => return Err(SectionFault::Section { place }),
+            Err(ReadFault::Malformed) => return Err(SectionFault::Section { place: offset }),
         };
-        place += section.whole.len();
+        offset += section.whole.len();
     }
     Ok(entries)
 }

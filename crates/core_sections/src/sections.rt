@@ -56,9 +56,9 @@ pub fn sections_of(alloc: Global, bytes: &[u8]) -> Result<Vec<Section<'_>>, Sect
     let mut rest = &bytes[PREAMBLE.len()..];
     let mut sections = Vec::new(alloc);
     while !rest.is_empty() {
-        let place = bytes.len() - rest.len();
+        let offset = bytes.len() - rest.len();
         let Some((section, after)) = read_section(rest) else {
-            return Err(SectionFault::Section { place });
+            return Err(SectionFault::Section { place: offset });
         };
         sections.push(section)?;
         rest = after;

@@ -104,7 +104,7 @@ impl fmt::Display for Count {
     fn fmt<W: fmt::Write>(&self, f: &mut fmt::Formatter<W>) -> fmt::Result {
         write!(
             f,
-            "{} as told, {} left out, {} otherwise",
+            "{} as expected, {} left out, {} otherwise",
             self.as_expected, self.left_out, self.otherwise
         )
     }

@@ -16,7 +16,7 @@ or_else (Some x) y = Some x
 or_else None y = y
 
 module _ {K X : Type 0} (eq : K → K → Bool) (same : X → X → Bool) (text : K → List ℕ) where
-  -- a table with one entry more: a key that the table has must have the same value, and a new one goes last
+  -- a table with one entry more: a key that the table has must have the same value, and a new one is last
   abbrev pub with_entry : List (K × X) → K → X → Result (List (K × X)) Failure
   with_entry table k x = option_map_or
       (λ y. if same y x then Ok table else Err (conflict (text k)))

@@ -90,8 +90,8 @@ pub(crate) fn called(alloc: Global, call: &str, given: &str) -> Result<String, A
         "BuildFault::Memory" => format!(in alloc; "{}", BuildFault::Memory),
         "ReadFault::Memory" => format!(in alloc; "{}", ReadFault::Memory),
         "ReadFault::Grammar" => {
-            let place = number(given) as usize;
-            format!(in alloc; "{}", ReadFault::Grammar { place })
+            let offset = number(given) as usize;
+            format!(in alloc; "{}", ReadFault::Grammar { place: offset })
         }
         "NameFault::Memory" => format!(in alloc; "{}", NameFault::Memory),
         "NameFault::Twice" => name_fault(alloc, true, given),

@@ -1,8 +1,9 @@
 //! Modules through the encoder's calls, with the layer that the program uses.
 
 use crate::modules::{COMPONENT, CUT, EMPTY, EMPTY_COMPONENT, MAIN, OPEN, PACKAGE};
+use byte_encoding::next_count;
 use comp_encoder::{ComponentEncoder, EncodeFault, Lower};
-use plain_lower::PlainLower;
+use plain_lower::{PlainFault, PlainLower};
 use std::alloc::{AllocError, Global};
 use std::fmt::Display;
 use std::test::Fail;
@@ -75,5 +76,20 @@ fn refusals_of_the_layer_are_reported(rt: HostRuntime) -> Result<(), Fail> {
         let text = fault_text(alloc, &encoded(alloc, PlainLower::new(), bytes))?;
         assert_eq!(rt; text.as_str(), fault);
     }
+    Ok(())
+}
+
+/// The fault for a count of 2^32, which the binary format can't hold.
+fn too_many() -> EncodeFault<PlainFault> {
+    match next_count(u32::MAX) {
+        Ok(_) => EncodeFault::NoModule,
+        Err(excess) => EncodeFault::TooMany { excess },
+    }
+}
+
+#[test]
+fn a_count_that_is_too_large_is_reported(rt: HostRuntime) -> Result<(), Fail> {
+    let text = format!(in rt.alloc(); "{}", too_many())?;
+    assert_eq!(rt; text.as_str(), "E16 TooMany excess=4294967296");
     Ok(())
 }

@@ -36,7 +36,7 @@ impl test_cases::Topic for Topic {
             "types.txt" => Some(Topic::Types),
             "functions.txt" => Some(Topic::Functions),
             "worlds.txt" => Some(Topic::Worlds),
-            "settling.txt" => Some(Topic::Versions),
+            "versions.txt" => Some(Topic::Versions),
             "resolving.txt" => Some(Topic::Resolving),
             "kinds.txt" => Some(Topic::Kinds),
             _ => None,

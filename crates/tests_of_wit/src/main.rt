@@ -32,7 +32,7 @@ impl test_cases::Topic for Topic {
         match name {
             "signatures.txt" => Some(Topic::Signatures),
             "soundness.txt" => Some(Topic::Soundness),
-            "places.txt" => Some(Topic::Positions),
+            "positions.txt" => Some(Topic::Positions),
             "names.txt" => Some(Topic::Names),
             "contents.txt" => Some(Topic::Contents),
             "reached.txt" => Some(Topic::Reached),

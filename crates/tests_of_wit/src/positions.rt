@@ -274,6 +274,6 @@ pub(crate) fn answer(alloc: Global, asked: &str) -> Result<String, AllocError> {
     let (word, index) = word_and_rest(asked);
     match position_of(word) {
         Some(position) => answer_at(alloc, position, number(index)),
-        None => String::from_str(alloc, "no place"),
+        None => String::from_str(alloc, "no position"),
     }
 }

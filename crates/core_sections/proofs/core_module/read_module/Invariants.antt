@@ -6,5 +6,5 @@ use Rattle.core_sections.proofs.core_module.read_module.Given as goal
 
 abbrev pub invariant-loop-section : goal.invariant-loop-section
 invariant-loop-section l =
-    (entries_from l.place l.entries (map view (drop l.section-index l.section-items)) ≡ entries_from 8 no_entries (map view l.section-items)) ×
-    (l.place + size_of (map view (drop l.section-index l.section-items)) ≡ length l.bytes)
+    (entries_from l.offset l.entries (map view (drop l.section-index l.section-items)) ≡ entries_from 8 no_entries (map view l.section-items)) ×
+    (l.offset + size_of (map view (drop l.section-index l.section-items)) ≡ length l.bytes)
