@@ -1,6 +1,6 @@
 -- The names in a component that was built for a world: those of its imports and exports are the stated ones, and
 -- all other names are distinct in their lists.
-use Rattle.std.proofs.Common.{ap, ◌∙◌, ◌≡◌, ℕ, Bool, IsTrue, List, [], ◌∷◌, ◌++◌, refl, sym, ap₂, subst, map, inl, inr, ◌⊎◌}
+use Rattle.std.proofs.Common.{ap, ◌∙◌, ◌≡◌, ℕ, zero, suc, Some, Bool, IsTrue, List, [], ◌∷◌, ◌++◌, refl, sym, ap₂, subst, map, inl, inr, ◌⊎◌}
 use Rattle.std.specs.Prelude.{Contains}
 use Rattle.std.specs.List.{AllByRecursion, AllZip, IsDistinct, flat_map}
 use Rattle.std.specs.Str.{bytes_eq}
@@ -17,7 +17,13 @@ use Rattle.comp_names.specs.Names.{def_extern_names, extern_names}
 use Rattle.comp_worlds.specs.Worlds.{IsWorld}
 use Rattle.comp_roles.specs.declared.imports.ImportInstance.{ImportInstance}
 use Rattle.comp_worlds.specs.declared.world.ComponentWorld.{ComponentWorld}
-use Rattle.comp_terms.specs.Facts.{IsArgumentFor}
+use Rattle.std.specs.List.{slice_get}
+use Rattle.std.proofs.lemmas.Option.{none-some, same_Some}
+use Rattle.comp_worlds.specs.Worlds.{IsUserModule}
+use Rattle.comp_worlds.specs.declared.world.WorldAdapter.{WorldAdapter}
+use Rattle.comp_links.specs.Targets.{UserModule, Main}
+use Rattle.comp_links.specs.Modules.{WorldModule, adapter_module, user_modules}
+use Rattle.comp_terms.specs.Planned.{IsArgumentFor}
 use Rattle.comp_terms.specs.Rules.{IsItemRight, IsRight, RightAfter, IsBuilt}
 use Rattle.comp_bytes.specs.Scopes.{Scoped}
 use Rattle.comp_check.proofs.Faults.{fault_no}
@@ -36,18 +42,32 @@ all_both : {A : Type 0} (P : A → Type 0) (xs ys : List A) → AllByRecursion P
 all_both P [] ys h k = k
 all_both P (x ∷ xs) ys h k = (h.0, all_both P xs ys h.1 k)
 
-argument_names : (w : ComponentWorld) (earlier : List Def) (as' : List CoreArgument) (gs : List (List ℕ × ImportInstance)) → AllZip (IsArgumentFor w earlier) as' gs →
+argument_names : (w : ComponentWorld) (of : UserModule) (earlier : List Def) (as' : List CoreArgument) (gs : List (List ℕ × ImportInstance)) → AllZip (IsArgumentFor w of earlier) as' gs →
     map (λ a. a.name) as' ≡ map (λ g. g.0) gs
-argument_names w earlier [] [] h = refl
-argument_names w earlier (a ∷ as') (g ∷ gs) h = ap₂ (λ n ns. n ∷ ns) h.0.named (argument_names w earlier as' gs h.1)
-argument_names w earlier [] (g ∷ gs) h = absurd h
-argument_names w earlier (a ∷ as') [] h = absurd h
+argument_names w of earlier [] [] h = refl
+argument_names w of earlier (a ∷ as') (g ∷ gs) h = ap₂ (λ n ns. n ∷ ns) h.0.named (argument_names w of earlier as' gs h.1)
+argument_names w of earlier [] (g ∷ gs) h = absurd h
+argument_names w of earlier (a ∷ as') [] h = absurd h
+
+-- the modules that a user module imports from have distinct names
+abbrev ImportsApart : WorldModule → Type 0
+ImportsApart m = IsDistinct bytes_eq (map (λ g. g.0) m.found.imports.modules)
+
+adapter_apart : (w : ComponentWorld) (as' : List (List ℕ × WorldAdapter)) → AllByRecursion (λ a. IsUserModule w a.1.info a.1.required_exports) as' → (number : ℕ) (of : WorldModule) →
+    slice_get (map adapter_module as') number ≡ Some of → ImportsApart of
+adapter_apart w [] h number of e = absurd (none-some of e)
+adapter_apart w (a ∷ as') h zero of e = subst ImportsApart (same_Some (adapter_module a) of e) h.0.modules_apart
+adapter_apart w (a ∷ as') h (suc number) of e = adapter_apart w as' h.1 number of e
 
 module _ (w : ComponentWorld) (valid : IsWorld w) where
+  user_module_apart : (number : ℕ) (of : WorldModule) → slice_get (user_modules w) number ≡ Some of → ImportsApart of
+  user_module_apart zero of e = subst ImportsApart (same_Some (record { of = Main; found = w.main }) of e) valid.main.modules_apart
+  user_module_apart (suc number) of e = adapter_apart w w.adapters valid.adapters number of e
+
   item_apart : (earlier : List Def) (i : Item) → IsItemRight w earlier i → AllByRecursion (IsDistinct bytes_eq) (item_names i)
   item_apart earlier (items.CoreModule bytes) h = tt
   item_apart earlier (items.CoreInstantiate number arguments) h =
-      (subst (λ (ns : Names). IsDistinct bytes_eq ns) (sym (argument_names w earlier arguments w.main.imports.modules h.each)) valid.modules_apart, tt)
+      (subst (λ (ns : Names). IsDistinct bytes_eq ns) (sym (argument_names w h.of.of earlier arguments h.of.found.imports.modules h.each)) (user_module_apart number h.of h.listed), tt)
   item_apart earlier (items.CoreExports entries) h = (h.apart, tt)
   item_apart earlier (items.Instantiate component arguments) h = absurd h
   item_apart earlier (items.Alias a) h = tt

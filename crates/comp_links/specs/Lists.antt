@@ -1,6 +1,6 @@
 -- What a component imports and exports, in order, and the section of its names (component model: the imports and exports
 -- of a component; binary format: name section).
-use Rattle.std.specs.Prelude.{◌≡◌, ℕ, List, [], ◌∷◌, codes, map, Option, Some, None}
+use Rattle.std.specs.Prelude.{◌≡◌, ℕ, List, [], ◌∷◌, codes, map, Option, Some, None, slice_get}
 use Rattle.std.specs.List.{flat_map}
 use Rattle.std.specs.Map.{lookup}
 use Rattle.comp_bytes.specs.declared.space.Sort.{Sort}
@@ -20,7 +20,8 @@ use Rattle.wit_data.specs.declared.worlds.WorldKey.{WorldKey}
 use Rattle.world_values.specs.Mentions.{functions_of}
 use Rattle.comp_worlds.specs.Worlds.{items_of}
 use Rattle.comp_worlds.specs.declared.world.ComponentWorld.{ComponentWorld}
-use Rattle.comp_links.specs.Targets.{UserModule, Main}
+use Rattle.comp_runs.specs.Store.{Origin}
+use Rattle.comp_links.specs.Targets.{UserModule, Main, WorldFunction, OfRoot, OfInterface}
 use Rattle.comp_links.specs.Roles.{used_functions}
 
 -- the sort of what an import is said to be
@@ -50,6 +51,11 @@ pub data ImportEntry : Type 0 where
 -- the imports of the component, by what of the world they are
 abbrev pub import_entries : ComponentWorld → List ImportEntry
 import_entries w = map RootFunction (used_functions w)
+
+-- where a function of the world is imported
+abbrev pub IsOriginOf : ComponentWorld → WorldFunction → Origin → Type 0
+IsOriginOf w (OfRoot name) o = (slice_get (import_entries w) o.number ≡ Some (RootFunction name)) × (o.inner ≡ None)
+IsOriginOf w (OfInterface interface name) o = ⊥
 
 abbrev pub stated_import : ImportEntry → Stated
 stated_import (RootFunction name) = root_function name

@@ -1,3 +1,4 @@
 pub mod Functions
 pub mod CoreImports
 pub mod Lookups
+pub mod CoreTypes

@@ -32,23 +32,18 @@ use Rattle.comp_trees.specs.Trees.{is_known, FunctionTree}
 use Rattle.comp_trees.specs.DefinedTrees.{TypeTree, OfValues, OfFunctions, function_tree, defined_tree}
 use Rattle.comp_roles.specs.declared.offered.ExternType.{ExternType}
 use Rattle.comp_roles.specs.declared.offered.ExternType.TheVariants as externs
+use Rattle.comp_roles.specs.declared.offered.ImportType.{ImportType}
 use Rattle.comp_runs.specs.Store.{Thing, Export, Origin, CoreItem, ExportedBy, Imported, TypeItem, TreeOf, ImportedResource, OwnResource, InstanceTypeOf, tree_held, ModuleInstance}
 use Rattle.comp_runs.specs.Machine.{Machine, Outcome, Stuck, Next, with_some, all_some, address_at, is_of, export_named, export_in, export_of, with_item, with_opaque, new_core_instance, new_function, new_type, new_instance, resumed}
 
--- an import of a core module, and an export, with the types that validation finds
-pub record ImportType : Type 0 where
-  pub module_name : List ℕ
-  pub field : List ℕ
-  pub type : ExternType
+-- the exports of a core module by their names, each with its type
+abbrev pub ExportTypes : Type 0
+ExportTypes = List (List ℕ × ExternType)
 
-pub record ExportType : Type 0 where
-  pub name : List ℕ
-  pub type : ExternType
-
--- What a core module is: one of the user's, by the types of its imports and exports; or a generated one, by its
--- sections.
+-- What a core module is: one of the user's, by the types of its imports and exports as validation finds them; or a
+-- generated one, by its sections.
 pub data ModuleMeaning : Type 0 where
-  OfUser : (imports : List ImportType) (exports : List ExportType) → ModuleMeaning
+  OfUser : (imports : List ImportType) (exports : ExportTypes) → ModuleMeaning
   OfGenerated : (sections : List Section) → ModuleMeaning
 
 -- an argument by its name, with the exports of its core instance
@@ -96,7 +91,7 @@ abbrev pub matching : Machine → ExternType → Thing → Option Thing
 matching m type t = option_and_then (λ given. if matches (types_of type) m.store.code m.now (entity_of type) given then Some t else None) (external t)
 
 abbrev pub given_to : Machine → Arguments → ImportType → Option Thing
-given_to m arguments i = option_and_then (matching m i.type) (argument_for arguments (type_kind i.type) i.module_name i.field)
+given_to m arguments i = option_and_then (matching m i.ty) (argument_for arguments (type_kind i.ty) i.module_name i.field)
 
 -- the index space of an item of a type, and the address of the next one
 abbrev pub type_space : ExternType → Space
@@ -124,26 +119,26 @@ with_export item (externs.Global type) m =
     }
 
 -- the exports of a user instance, each at an address of its own, and the machine with them
-abbrev pub exported_by : ℕ → List ExportType → Machine → List Export
+abbrev pub exported_by : ℕ → ExportTypes → Machine → List Export
 exported_by user [] m = []
-exported_by user (e ∷ es) m =
-    record { space = type_space e.type; name = e.name; address = next_address e.type m } ∷ exported_by user es (with_export (ExportedBy user e.name) e.type m)
+exported_by user ((name, type) ∷ es) m =
+    record { space = type_space type; name = name; address = next_address type m } ∷ exported_by user es (with_export (ExportedBy user name) type m)
 
-abbrev pub with_exports : ℕ → List ExportType → Machine → Machine
+abbrev pub with_exports : ℕ → ExportTypes → Machine → Machine
 with_exports user [] m = m
-with_exports user (e ∷ es) m = with_exports user es (with_export (ExportedBy user e.name) e.type m)
+with_exports user ((name, type) ∷ es) m = with_exports user es (with_export (ExportedBy user name) type m)
 
 -- one more instance of a core module, which is a core instance too
 abbrev pub with_module_instance : ModuleInstance → Machine → Machine
 with_module_instance i m = new_core_instance i.exports (record m { store = record m.store { module_instances = m.store.module_instances ++ i ∷ [] } })
 
-abbrev pub new_user : ℕ → List ExportType → List Thing → Machine → Machine
+abbrev pub new_user : ℕ → ExportTypes → List Thing → Machine → Machine
 new_user number exports given m =
     let user = length m.store.module_instances in
     with_module_instance (record { module_number = number; given = given; exports = exported_by user exports m }) (with_exports user exports m)
 
 -- a user module is instantiated by the outside, which returns no value
-abbrev pub instantiate_user : List ImportType → List ExportType → ℕ → Arguments → Machine → Next → Outcome
+abbrev pub instantiate_user : List ImportType → ExportTypes → ℕ → Arguments → Machine → Next → Outcome
 instantiate_user imports exports number arguments m next =
     with_some (all_some (map (given_to m arguments) imports))
     (λ given. resumed (answered [] m.now.answers (seen m.now (Instantiated number))) m (λ values after. next (new_user number exports given after)))

@@ -1,5 +1,5 @@
 -- The core types of canonical functions (Canonical ABI: flattening, `canon` built-ins).
-use Rattle.std.specs.Prelude.{Bool, true, false, List, [], ◌∷◌, map, Option, Some, None, if◌then◌else◌}
+use Rattle.std.specs.Prelude.{Bool, true, false, List, [], ◌∷◌, Option, Some, None, if◌then◌else◌}
 use Rattle.std.specs.List.{list_any}
 use Rattle.comp_bytes.specs.declared.types.ComponentValType.{ComponentValType}
 use Rattle.comp_bytes.specs.declared.canon.ContextType.{ContextType}
@@ -7,37 +7,23 @@ use Rattle.comp_bytes.specs.declared.canon.ContextType.TheVariants as contexts
 use Rattle.comp_bytes.specs.declared.canon.Intrinsic.{Intrinsic}
 use Rattle.comp_bytes.specs.declared.canon.Intrinsic.TheVariants as intrinsics
 use Rattle.core_types.specs.declared.types.ValType.{ValType}
-use Rattle.core_types.specs.declared.types.ValType.TheVariants.{I32, I64, F32, F64}
+use Rattle.core_types.specs.declared.types.ValType.TheVariants.{I32, I64}
 use Rattle.core_types.specs.declared.types.FuncType.{FuncType}
 use Rattle.wit_data.specs.declared.functions.AbiVariant.{AbiVariant}
 use Rattle.wit_data.specs.declared.functions.AbiVariant.TheVariants as abis
-use Rattle.wit_data.specs.declared.signatures.WasmType.{WasmType}
-use Rattle.wit_data.specs.declared.signatures.WasmType.TheVariants as wasm
-use Rattle.wit_data.specs.declared.signatures.WasmSignature.{WasmSignature}
 use Rattle.comp_trees.specs.Trees.{Tree, FunctionTree}
 use Rattle.comp_trees.specs.Flattening.{tree_signature}
+use Rattle.comp_roles.specs.CoreTypes.{function_type, core_type}
 use Rattle.comp_runs.specs.Store.{HeldOption, HeldAsync}
-
-abbrev pub function_type : List ValType → List ValType → FuncType
-function_type params results = record { params = params; results = results }
 
 -- whether a lowering with this option is asynchronous
 abbrev pub is_async : HeldOption → Bool
 is_async HeldAsync = true
 is_async option = false
 
-abbrev pub value_type : WasmType → ValType
-value_type wasm.I32 = I32
-value_type wasm.I64 = I64
-value_type wasm.F32 = F32
-value_type wasm.F64 = F64
-
 -- the core type of a lowering of a function of this type with these options
 abbrev pub form_of : List HeldOption → AbiVariant
 form_of options = if list_any is_async options then abis.GuestImportAsync else abis.GuestImport
-
-abbrev pub core_type : WasmSignature → FuncType
-core_type s = function_type (map value_type s.params) (map value_type s.results)
 
 abbrev pub core_signature : FunctionTree → List HeldOption → FuncType
 core_signature f options = core_type (tree_signature (form_of options) f)

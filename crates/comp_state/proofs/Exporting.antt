@@ -1,5 +1,5 @@
 -- The required exports: what is lifted for each, and that each is exported.
-use Rattle.std.proofs.Common.{◌+◌, inr, ◌≡◌, ◌∙◌, ℕ, ◌<◌, List, [], ◌∷◌, ◌++◌, refl, sym, ap, subst, length, take, get_or, map, Some, None, IsSome, Contains, arith}
+use Rattle.std.proofs.Common.{◌+◌, ◌≡◌, ◌∙◌, ℕ, ◌<◌, List, [], ◌∷◌, ◌++◌, refl, sym, ap, subst, length, take, get_or, map, Some, None, Option, Bool, true, false, cond, IsSome, Contains, arith}
 use Rattle.std.proofs.lemmas.List.{map_more, take_more, take_all}
 use Rattle.std.specs.List.{AllByRecursion}
 use Rattle.comp_lists.proofs.Lists.{AllByRecursion-push, AllByRecursion-at}
@@ -15,38 +15,100 @@ use Rattle.comp_bytes.specs.declared.def.Def.{Def}
 use Rattle.comp_bytes.specs.declared.def.Def.TheVariants as defs
 use Rattle.comp_bytes.specs.declared.def.Item.TheVariants as items
 use Rattle.wit_data.specs.Keys.{name_of_key}
-use Rattle.comp_worlds.specs.Worlds.{IsWorld, IsRequired, core_name_of, core_imports}
+use Rattle.comp_worlds.specs.Worlds.{IsWorld, IsRequired, IsExportRole, items_of, core_name_of, core_imports}
 use Rattle.wit_data.specs.declared.worlds.WorldKey.{WorldKey}
 use Rattle.comp_worlds.specs.declared.world.ComponentWorld.{ComponentWorld}
 use Rattle.comp_state.specs.declared.fault.StateFault.{StateFault}
 use Rattle.comp_state.specs.Causes.{IsCause, IsCauseAmong}
-use Rattle.comp_state.specs.Encoding.{Encoding, Extends, IsOffered}
+use Rattle.comp_state.specs.Encoding.{Encoding, Extends, main_export, IsOffered, IsLiftFor}
 use Rattle.std.specs.Option.{option_map}
 use Rattle.comp_links.specs.Targets.{Main, Lifted}
 use Rattle.comp_links.specs.Lists.{plain_name}
-use Rattle.comp_terms.specs.Facts.{IsFunctionType, IsMain, IsAliased, IsLiftFor}
+use Rattle.core_types.specs.declared.types.FuncType.{FuncType}
+use Rattle.std.proofs.lemmas.Option.{none-some, same_Some}
+use Rattle.std.specs.Str.{bytes_eq}
+use Rattle.std.specs.List.{flat_map}
+use Rattle.comp_lists.specs.Found.{found}
+use Rattle.world_values.specs.Items.{root_export}
+use Rattle.world_values.specs.Mentions.{root_function_at}
+use Rattle.wit_data.specs.declared.functions.Function.{Function}
+use Rattle.wit_data.specs.declared.worlds.WorldKey.TheVariants as keys
+use Rattle.comp_roles.specs.CoreTypes.{called_type}
+use Rattle.comp_roles.specs.declared.offered.ExternType.{ExternType}
+use Rattle.comp_roles.specs.declared.offered.ExternType.TheVariants as externs
+use Rattle.comp_roles.specs.declared.exports.Export.{Export as WorldExport}
+use Rattle.comp_roles.specs.declared.exports.Export.TheVariants as exports
+use Rattle.comp_worlds.specs.Typed.{FitsExport}
+use Rattle.comp_links.specs.Modules.{WorldModule}
+use Rattle.comp_terms.specs.Terms.{IsFunctionType, IsInstanceOf, IsExported}
+use Rattle.comp_terms.specs.Terms as terms
 use Rattle.comp_links.specs.Roles.{export_encoding}
-use Rattle.comp_terms.specs.Rules.{Grows, named_export}
+use Rattle.comp_terms.specs.Rules.{plain_function, Grows, named_export}
 use Rattle.comp_state.proofs.Refusals.{among_more, contains_one, contains_none}
 use Rattle.comp_state.proofs.Extending.{extends_none, extends_then}
-use Rattle.comp_state.proofs.Growth.{Grows-none, Grows-by, Grows-then, IsFunctionType-kept, IsMain-kept, IsAliased-kept}
+use Rattle.comp_state.proofs.Growth.{Grows-none, Grows-by, Grows-then, IsFunctionType-kept, IsInstanceOf-kept, IsExported-kept}
+
+-- ---- what main offers
+
+-- main, as a user module
+abbrev pub main_module : ComponentWorld → WorldModule
+main_module w = record { of = Main; found = w.main }
+
+-- validation found a function of this name among the exports of main
+abbrev pub OffersFunction : ComponentWorld → List ℕ → Type 0
+OffersFunction w name = (type : FuncType) × (found name w.main.offered ≡ Some (externs.Func type))
+
+-- an export of main that has the role of a root function is a function
+role_offered : (w : ComponentWorld) (name : List ℕ) (role : WorldExport) → IsExportRole w role → FitsExport w.resolve (items_of w) w.main (name, role) → OffersFunction w name
+role_offered w name (exports.WorldFunc (keys.Name text) function abi) r h = by (root_function_at (items_of w).exports (keys.Name text)) h.type h.fits h.offered
+  where
+    by : (o : Option Function) (type : ExternType) → option_map (called_type w.resolve abi) o ≡ Some type → found name w.main.offered ≡ Some type → OffersFunction w name
+    by None type e f = absurd (none-some type e)
+    by (Some x) (externs.Func type) e f = (type, f)
+    by (Some x) (externs.Table type) e f = cc
+    by (Some x) (externs.Memory type) e f = cc
+    by (Some x) (externs.Global type) e f = cc
+role_offered w name role r h = absurd r
+
+root_offered : (w : ComponentWorld) (text name : List ℕ) (es : List (List ℕ × WorldExport)) → AllByRecursion (λ e. IsExportRole w e.1) es → AllByRecursion (FitsExport w.resolve (items_of w) w.main) es →
+    found text (flat_map root_export es) ≡ Some name → OffersFunction w name
+root_offered w text name [] r f h = absurd (none-some name h)
+root_offered w text name ((n, exports.WorldFunc (keys.Name t) function abi) ∷ es) r f h = by (bytes_eq text t) h (root_offered w text name es r.1 f.1)
+  where
+    here : OffersFunction w n
+    here = role_offered w n (exports.WorldFunc (keys.Name t) function abi) r.0 f.0
+
+    by : (b : Bool) → cond b (Some n) (found text (flat_map root_export es)) ≡ Some name → (found text (flat_map root_export es) ≡ Some name → OffersFunction w name) → OffersFunction w name
+    by true same rest = subst (OffersFunction w) (same_Some n name same) here
+    by false same rest = rest same
+root_offered w text name ((n, role) ∷ es) r f h = absurd r.0
+
+pub core_offered : (w : ComponentWorld) → IsWorld w → (name : List ℕ) → IsOffered w name → OffersFunction w name
+core_offered w ok name h = by h.function h.role
+  where
+    by : (key : WorldKey) → core_name_of w key ≡ Some name → OffersFunction w name
+    by (keys.Name text) e = root_offered w text name w.main.exports.exports ok.main.export_roles ok.main.exported e
+    by (keys.Interface id) e = absurd (none-some name e)
+
+-- ---- what each call adds
 
 pub record AddsAlias (w : ComponentWorld) (old new : List Def) (index : ℕ) (name : List ℕ) : Type 0 where
   pub grows : Grows w old new []
-  pub aliased : IsAliased new index name
+  pub aliased : IsExported new index (main_export name)
 
-pub adds_alias : (w : ComponentWorld) (old new : Built) (main index : ℕ) (text name : List ℕ) → text ≡ name → IsMain old.defs main → IsOffered w name →
+pub adds_alias : (w : ComponentWorld) (old new : Built) (main index : ℕ) (text name : List ℕ) → IsWorld w → text ≡ name → IsInstanceOf old.defs main 0 → IsOffered w name →
     new.defs ≡ old.defs ++ defs.Item (items.Alias (aliases.CoreExport kinds.Func main text)) ∷ [] →
     IsAt new.defs spaces.CoreFunc index (defs.Item (items.Alias (aliases.CoreExport kinds.Func main text))) → AddsAlias w old.defs new.defs index name
-adds_alias w old new main index text name same of offered appended at =
+adds_alias w old new main index text name ok same of offered appended at =
+    let o : OffersFunction w text = subst (OffersFunction w) (sym same) (core_offered w ok name offered) in
     let g : Grows w old.defs new.defs [] =
-    Grows-by (defs.Item (items.Alias (aliases.CoreExport kinds.Func main text))) appended (record { of = of; key = offered.function; role = subst (λ n. core_name_of w offered.function ≡ Some n) (sym same) offered.role }) in
+    Grows-by (defs.Item (items.Alias (aliases.CoreExport kinds.Func main text))) appended (record { number = 0; of = main_module w; type = o.0; is = of; listed = refl; offered = o.1 }) in
     record {
       grows = g;
       aliased = record {
         instance = main;
         made = subst (λ n. IsAt new.defs spaces.CoreFunc index (defs.Item (items.Alias (aliases.CoreExport kinds.Func main n)))) same at;
-        of = IsMain-kept g of;
+        of = IsInstanceOf-kept g of;
       };
     }
 
@@ -55,20 +117,29 @@ pub record AddsLift (w : ComponentWorld) (old new : List Def) (index : ℕ) (key
   pub lifted : IsLiftFor w new index key
 
 pub adds_lift : (w : ComponentWorld) (old new : Built) (core kind index : ℕ) (options : List CanonicalOption) (name : List ℕ) (key : WorldKey) → options ≡ [] →
-    IsAliased old.defs core name → IsFunctionType old.defs kind → core_name_of w key ≡ Some name → IsSome (export_encoding w key) →
+    IsExported old.defs core (main_export name) → IsFunctionType old.defs kind plain_function → core_name_of w key ≡ Some name → IsSome (export_encoding w key) →
     new.defs ≡ old.defs ++ defs.Item (items.Lift core options kind) ∷ [] → IsAt new.defs spaces.Func index (defs.Item (items.Lift core options kind)) → AddsLift w old.defs new.defs index key
 adds_lift w old new core kind index options name key none alias type' role encoded appended at =
     let g : Grows w old.defs new.defs [] = Grows-by (defs.Item (items.Lift core options kind)) appended (in_range alias.made, none, type') in
     record {
       grows = g;
       lifted = record {
-        core = core;
-        kind = kind;
-        name = name;
-        made = subst (λ o. IsAt new.defs spaces.Func index (defs.Item (items.Lift core o kind))) none at;
-        typed = IsFunctionType-kept g type';
-        aliased = IsAliased-kept g alias;
-        role = role;
+        target = Lifted (record { of = Main; name = name }) [];
+        said = ap (option_map (λ n. Lifted (record { of = Main; name = n }) [])) role;
+        is = record {
+          term = terms.Lifting (main_export name) [] plain_function;
+          is = record {
+            core = core;
+            kind = kind;
+            written = [];
+            made = subst (λ o. IsAt new.defs spaces.Func index (defs.Item (items.Lift core o kind))) none at;
+            of = IsExported-kept g alias;
+            function = refl;
+            with_options = tt;
+            typed = IsFunctionType-kept g type';
+          };
+          asked = (record { of = record { world_module = main_module w; listed = refl; same = refl }; named = refl }, tt);
+        };
         encoded = encoded;
       };
     }
@@ -77,7 +148,7 @@ pub adds_export : (w : ComponentWorld) (old new : Built) (index : ℕ) (name : L
     new.defs ≡ old.defs ++ defs.Item (items.Export (plain_name name) sorts.Func index None) ∷ [] → Grows w old.defs new.defs (named_export (name_of_key key) ∷ [])
 adds_export w old new index name key same lifted appended =
     subst (λ n. Grows w old.defs new.defs (named_export n ∷ [])) same
-    (Grows-by (defs.Item (items.Export (plain_name name) sorts.Func index None)) appended (record { key = key; named = ap plain_name same; lifted = lifted }))
+    (Grows-by (defs.Item (items.Export (plain_name name) sorts.Func index None)) appended (record { key = key; target = lifted.target; named = ap plain_name same; said = lifted.said; lifted = lifted.is }))
 
 -- the keys that were exported so far
 pub record ExportsSoFar (old new : Encoding) (done : List WorldKey) : Type 0 where
@@ -115,8 +186,8 @@ exports_done old new keys i e h = subst (λ ks. ExportsSoFar old new ks) (take_a
 -- a required key has a core export in main
 pub key_has_core_name : (w : ComponentWorld) (keys : List WorldKey) → IsWorld w → keys ≡ w.main_exports → (i : ℕ) (key : WorldKey) → i < length keys → key ≡ get_or keys i key → IsSome (core_name_of w key)
 key_has_core_name w keys valid same i key l is =
-    let all : AllByRecursion (IsRequired w) keys = subst (λ ks. AllByRecursion (IsRequired w) ks) (sym same) valid.required in
-    let one : IsRequired w key = AllByRecursion-at (IsRequired w) keys i key all l (sym is) in one.present
+    let all : AllByRecursion (IsRequired w w.main) keys = subst (λ ks. AllByRecursion (IsRequired w w.main) ks) (sym same) valid.main.required in
+    let one : IsRequired w w.main key = AllByRecursion-at (IsRequired w w.main) keys i key all l (sym is) in one.present
 
 -- a refusal of a required export is one of the world's
 pub export_refused : (w : ComponentWorld) (keys : List WorldKey) → keys ≡ w.main_exports → (i : ℕ) (key : WorldKey) → i < length keys → key ≡ get_or keys i key →

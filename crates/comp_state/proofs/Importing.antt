@@ -1,5 +1,5 @@
 -- The root functions that imports of main use: all of them are imported, in the order of the world.
-use Rattle.std.proofs.Common.{if◌then◌else◌, ◌≡◌, ◌∙◌, ℕ, Bool, true, false, ◌||◌, List, [], ◌∷◌, ◌++◌, refl, sym, ap, subst, append_assoc, append-nil, map, filter, IsTrue, IsSome, Contains}
+use Rattle.std.proofs.Common.{if◌then◌else◌, ◌≡◌, ◌∙◌, ◌+◌, ap₂, suc, length, length-append, add-zero, Some, ℕ, Bool, true, false, ◌||◌, List, [], ◌∷◌, ◌++◌, refl, sym, ap, subst, append_assoc, append-nil, map, filter, IsTrue, IsSome, Contains}
 use Rattle.std.proofs.lemmas.Slice.Eq.{bytes_eq-Decides}
 use Rattle.std.specs.Str.{bytes_eq}
 use Rattle.std.specs.List.{AllByRecursion, flat_map, list_any}
@@ -18,8 +18,16 @@ use Rattle.comp_roles.specs.declared.imports.ImportInstance.{ImportInstance}
 use Rattle.comp_roles.specs.declared.imports.ImportInstance.TheVariants as instances
 use Rattle.comp_worlds.specs.declared.world.ComponentWorld.{ComponentWorld}
 use Rattle.comp_state.specs.Encoding.{Encoding, Extends, FindsMore, FindsUsed}
-use Rattle.comp_links.specs.Roles.{is_named, is_any_import, uses_from, is_used}
-use Rattle.comp_terms.specs.Rules.{Grows, named_import, names_marked, imports_marked}
+use Rattle.comp_links.specs.Roles.{is_named, is_any_import, uses_from, is_used, used_functions}
+use Rattle.comp_terms.specs.Terms.{is_import, imports_in}
+use Rattle.comp_terms.specs.Rules.{Grows, Landmark, Imported, landmarks, named_import, names_marked, imports_marked}
+use Rattle.wit_data.specs.declared.worlds.WorldItem.TheVariants as world_items
+use Rattle.comp_bytes.specs.declared.def.Item.TheVariants as items
+use Rattle.comp_bytes.specs.declared.def.Def.{Def}
+use Rattle.comp_bytes.specs.declared.def.Def.TheVariants as defs
+use Rattle.std.specs.List.{slice_get}
+use Rattle.comp_lists.proofs.Lists.{slice_get-append, slice_get-end}
+use Rattle.std.proofs.lemmas.List.Elements.{filter-append}
 use Rattle.comp_state.proofs.Extending.{extends_none, extends_then}
 use Rattle.comp_state.proofs.Serving.{AllByRecursion-join}
 use Rattle.comp_state.proofs.Growth.{Grows-none, Grows-then, found_first}
@@ -61,7 +69,63 @@ groups_are_imported w text (g ∷ gs) h e = by (uses_from text g) refl e (groups
 
 -- a root function that an import of main uses is one that the world imports
 pub used_is_imported : (w : ComponentWorld) → IsWorld w → (text : List ℕ) → IsTrue (is_used w text) → IsWorldImport w text
-used_is_imported w valid text u = groups_are_imported w text w.main.imports.modules valid.import_roles u
+used_is_imported w valid text u = groups_are_imported w text w.main.imports.modules valid.main.import_roles u
+
+-- ---- how many imports there are
+
+abbrev is_imported : Landmark → Bool
+is_imported (Imported stated) = true
+is_imported mark = false
+
+-- each import is a landmark
+counted : (ds : List Def) → imports_in ds ≡ length (filter is_imported (landmarks ds))
+counted [] = refl
+counted (defs.Component inner ∷ ds) = counted ds
+counted (defs.Item (items.CoreModule bytes) ∷ ds) = counted ds
+counted (defs.Item (items.CoreInstantiate number arguments) ∷ ds) = counted ds
+counted (defs.Item (items.CoreExports entries) ∷ ds) = counted ds
+counted (defs.Item (items.Instantiate component arguments) ∷ ds) = counted ds
+counted (defs.Item (items.Alias a) ∷ ds) = counted ds
+counted (defs.Item (items.Type t) ∷ ds) = counted ds
+counted (defs.Item (items.InstanceType t) ∷ ds) = counted ds
+counted (defs.Item (items.Lift core options kind) ∷ ds) = counted ds
+counted (defs.Item (items.Lower function options) ∷ ds) = counted ds
+counted (defs.Item (items.Intrinsic i) ∷ ds) = counted ds
+counted (defs.Item (items.Import name description) ∷ ds) = ap suc (counted ds)
+counted (defs.Item (items.Export name sort index description) ∷ ds) = counted ds
+counted (defs.Item (items.Custom name contents) ∷ ds) = counted ds
+
+-- a list that grew has as many imports more as its landmarks say
+pub grown_imports : {w : ComponentWorld} {old new : List Def} {m : List Landmark} → Grows w old new m → imports_in new ≡ imports_in old + length (filter is_imported m)
+grown_imports {w} {old} {new} {m} g =
+    ap imports_in g.extended
+    ∙ (ap (λ (l : List Def). length l) (filter-append is_import old g.more)
+    ∙ (length-append (filter is_import old) (filter is_import g.more)
+    ∙ ap (λ n. imports_in old + n) (counted g.more ∙ ap (λ l. length (filter is_imported l)) g.marked)))
+
+-- a list that grew by no landmark
+pub no_imports : {w : ComponentWorld} {old new : List Def} → Grows w old new [] → imports_in new ≡ imports_in old
+no_imports {w} {old} {new} g = grown_imports g ∙ add-zero (imports_in old)
+
+all_imported : (names : List (List ℕ)) → length (filter is_imported (map named_import names)) ≡ length names
+all_imported [] = refl
+all_imported (n ∷ ns) = ap suc (all_imported ns)
+
+-- the used ones of more names
+used_more : (w : ComponentWorld) (names more : List (List ℕ)) → length (filter (is_used w) names) + length (filter is_imported (names_marked w more)) ≡ length (filter (is_used w) (names ++ more))
+used_more w names more =
+    ap (λ n. length (filter (is_used w) names) + n) (all_imported (filter (is_used w) more))
+    ∙ sym (ap (λ (l : List (List ℕ)). length l) (filter-append (is_used w) names more) ∙ length-append (filter (is_used w) names) (filter (is_used w) more))
+
+-- the next used one
+next_in : (p : List ℕ → Bool) (xs ys : List (List ℕ)) (t : List ℕ) → p t ≡ true → slice_get (filter p (xs ++ t ∷ ys)) (length (filter p xs)) ≡ Some t
+next_in p xs ys t e =
+    let one : filter p (t ∷ ys) ≡ t ∷ filter p ys = rw e refl in
+    let all : filter p (xs ++ t ∷ ys) ≡ (filter p xs ++ t ∷ []) ++ filter p ys =
+    filter-append p xs (t ∷ ys) ∙ (ap (λ l. filter p xs ++ l) one ∙ sym (append_assoc (filter p xs) (t ∷ []) (filter p ys))) in
+    ap (λ l. slice_get l (length (filter p xs))) all ∙ slice_get-append (filter p xs ++ t ∷ []) (filter p ys) (length (filter p xs)) t (slice_get-end (filter p xs) t)
+
+-- ---- the loop
 
 -- the items of the world that were passed so far, and what was made for them
 pub record ImportsSoFar (old new : Encoding) (rest : List (WorldKey × WorldItem)) : Type 0 where
@@ -70,15 +134,17 @@ pub record ImportsSoFar (old new : Encoding) (rest : List (WorldKey × WorldItem
   pub same : new ≡ record old { built = new.built; functions = new.functions }
   pub extends : Extends old.built new.built
   pub grows : Grows old.world old.built.defs new.built.defs (names_marked old.world (flat_map root_function done))
+  pub count : imports_in new.built.defs ≡ length (filter (is_used old.world) (flat_map root_function done))
   pub finds : AllByRecursion (λ t. IsTrue (is_used old.world t) → IsSome (found t new.functions)) (flat_map root_function done)
 
-pub imports_start : (old : Encoding) → ImportsSoFar old old (items_of old.world).imports
-imports_start old = record {
+pub imports_start : (old : Encoding) → old.built.defs ≡ [] → ImportsSoFar old old (items_of old.world).imports
+imports_start old empty = record {
   done = [];
   split = refl;
   same = refl;
   extends = extends_none old.built;
   grows = Grows-none old.world old.built.defs;
+  count = ap imports_in empty;
   finds = tt;
 }
 
@@ -118,11 +184,39 @@ imports_step old mid new e rest h same extends grows more here =
       grows =
           subst (λ m. Grows old.world old.built.defs new.built.defs m) (sym (marked_push old.world h.done e))
           (Grows-then h.grows (subst (λ w. Grows w mid.built.defs new.built.defs (names_marked w (root_function e))) world grows));
+      count =
+          grown_imports grows
+          ∙ (ap₂ (λ n w. n + length (filter is_imported (names_marked w (root_function e)))) h.count world
+          ∙ (used_more old.world (flat_map root_function h.done) (root_function e) ∙ ap (λ l. length (filter (is_used old.world) l)) (sym (functions_push h.done e))));
       finds =
           finds_push h.done e (λ t. IsTrue (is_used old.world t) → IsSome (found t new.functions))
           (AllByRecursion-weaker (λ t k u. more.each t (k u)) (flat_map root_function h.done) h.finds)
           (subst (λ w. AllByRecursion (λ t. IsTrue (is_used w t) → IsSome (found t new.functions)) (root_function e)) world here);
     }
+
+-- the function of the next item, where it is used, is the next used one
+pub next_used : (old mid : Encoding) (e : WorldKey × WorldItem) (rest : List (WorldKey × WorldItem)) → ImportsSoFar old mid (e ∷ rest) →
+    AllByRecursion (λ t. IsTrue (is_used mid.world t) → slice_get (used_functions mid.world) (imports_in mid.built.defs) ≡ Some t) (root_function e)
+next_used old mid e rest h = by e refl
+  where
+    world : mid.world ≡ old.world
+    world = ap (λ (s : Encoding). s.world) h.same
+
+    all : flat_map root_function h.done ++ (root_function e ++ flat_map root_function rest) ≡ imported_functions old.world
+    all = sym (flat_map-append root_function h.done (e ∷ rest)) ∙ ap (flat_map root_function) h.split
+
+    by : (x : WorldKey × WorldItem) → x ≡ e → AllByRecursion (λ t. IsTrue (is_used mid.world t) → slice_get (used_functions mid.world) (imports_in mid.built.defs) ≡ Some t) (root_function x)
+    by (keys.Name text, world_items.Function f) same = (
+      λ used.
+          let here : flat_map root_function h.done ++ text ∷ flat_map root_function rest ≡ imported_functions old.world =
+          subst (λ (x : WorldKey × WorldItem). flat_map root_function h.done ++ (root_function x ++ flat_map root_function rest) ≡ imported_functions old.world) (sym same) all in
+          let one : slice_get (used_functions old.world) (imports_in mid.built.defs) ≡ Some text =
+          ap₂ (λ l n. slice_get (filter (is_used old.world) l) n) (sym here) h.count
+          ∙ next_in (is_used old.world) (flat_map root_function h.done) (flat_map root_function rest) text (subst (λ w. is_used w text ≡ true) world used) in
+          subst (λ w. slice_get (used_functions w) (imports_in mid.built.defs) ≡ Some text) (sym world) one,
+      tt,
+    )
+    by x same = tt
 
 -- no item is left
 pub imports_marks : (old new : Encoding) → ImportsSoFar old new [] → Grows old.world old.built.defs new.built.defs (imports_marked old.world)

@@ -20,18 +20,20 @@ use Rattle.comp_bytes.specs.declared.def.Def.TheVariants as defs
 use Rattle.comp_bytes.specs.declared.def.Item.TheVariants as items
 use Rattle.comp_roles.specs.declared.imports.ImportInstance.{ImportInstance}
 use Rattle.comp_worlds.specs.declared.world.ComponentWorld.{ComponentWorld}
-use Rattle.comp_terms.specs.Facts.{IsArgumentFor, plain_function}
-use Rattle.comp_terms.specs.Rules.{IsRight, RightAfter, IsEntry, IsBuilt}
+use Rattle.comp_links.specs.Targets.{UserModule}
+use Rattle.comp_terms.specs.Planned.{IsArgumentFor}
+use Rattle.comp_state.proofs.Growth.{term_in_range}
+use Rattle.comp_terms.specs.Rules.{plain_function, IsRight, RightAfter, IsEntry, IsBuilt}
 
 abbrev Within : List Def → Reference → Type 0
 Within earlier = InScope (scope_of space_of earlier ∷ [])
 
-arguments_within : (w : ComponentWorld) (earlier : List Def) (as' : List CoreArgument) (gs : List (List ℕ × ImportInstance)) → AllZip (IsArgumentFor w earlier) as' gs →
+arguments_within : (w : ComponentWorld) (of : UserModule) (earlier : List Def) (as' : List CoreArgument) (gs : List (List ℕ × ImportInstance)) → AllZip (IsArgumentFor w of earlier) as' gs →
     AllByRecursion (Within earlier) (flat_map (λ a. own spaces.CoreInstance a.instance ∷ []) as')
-arguments_within w earlier [] [] h = tt
-arguments_within w earlier (a ∷ as') (g ∷ gs) h = (in_range h.0.serves.made, arguments_within w earlier as' gs h.1)
-arguments_within w earlier [] (g ∷ gs) h = absurd h
-arguments_within w earlier (a ∷ as') [] h = absurd h
+arguments_within w of earlier [] [] h = tt
+arguments_within w of earlier (a ∷ as') (g ∷ gs) h = (in_range h.0.serves.made, arguments_within w of earlier as' gs h.1)
+arguments_within w of earlier [] (g ∷ gs) h = absurd h
+arguments_within w of earlier (a ∷ as') [] h = absurd h
 
 entries_within : (earlier : List Def) (es : List CoreInlineExport) → AllByRecursion (IsEntry earlier) es → AllByRecursion (Within earlier) (flat_map (λ e. own (kind_space e.kind) e.index ∷ []) es)
 entries_within earlier [] h = tt
@@ -46,11 +48,11 @@ plain_within earlier t same = subst (λ u. AllByRecursion (Within earlier) (type
 within : (w : ComponentWorld) (earlier : List Def) (d : Def) → IsRight w earlier d → DefScoped (scope_of space_of earlier) d
 within w earlier (defs.Component inner) h = absurd h
 within w earlier (defs.Item (items.CoreModule bytes)) h = (tt, tt)
-within w earlier (defs.Item (items.CoreInstantiate number arguments)) h = ((h.scoped, arguments_within w earlier arguments w.main.imports.modules h.each), tt)
+within w earlier (defs.Item (items.CoreInstantiate number arguments)) h = ((h.scoped, arguments_within w h.of.of earlier arguments h.of.found.imports.modules h.each), tt)
 within w earlier (defs.Item (items.CoreExports entries)) h = (entries_within earlier entries h.each, tt)
 within w earlier (defs.Item (items.Instantiate component arguments)) h = absurd h
 within w earlier (defs.Item (items.Alias (aliases.Export sort instance name))) h = absurd h
-within w earlier (defs.Item (items.Alias (aliases.CoreExport kinds.Func instance name))) h = ((in_range h.of.made, tt), tt)
+within w earlier (defs.Item (items.Alias (aliases.CoreExport kinds.Func instance name))) h = ((in_range h.is.made, tt), tt)
 within w earlier (defs.Item (items.Alias (aliases.CoreExport kinds.Table instance name))) h = absurd h
 within w earlier (defs.Item (items.Alias (aliases.CoreExport kinds.Memory instance name))) h = absurd h
 within w earlier (defs.Item (items.Alias (aliases.CoreExport kinds.Global instance name))) h = absurd h
@@ -65,7 +67,7 @@ within w earlier (defs.Item (items.Import name (descriptions.Func kind))) h = ((
 within w earlier (defs.Item (items.Import name (descriptions.TypeEqual index))) h = absurd h
 within w earlier (defs.Item (items.Import name descriptions.SubResource)) h = absurd h
 within w earlier (defs.Item (items.Import name (descriptions.Instance index))) h = absurd h
-within w earlier (defs.Item (items.Export name sorts.Func index None)) h = ((in_range h.lifted.made, tt), tt)
+within w earlier (defs.Item (items.Export name sorts.Func index None)) h = ((term_in_range earlier spaces.Func index h.lifted.term h.lifted.is, tt), tt)
 within w earlier (defs.Item (items.Export name sorts.Func index (Some d))) h = absurd h
 within w earlier (defs.Item (items.Export name (sorts.Core kind) index None)) h = absurd h
 within w earlier (defs.Item (items.Export name (sorts.Core kind) index (Some d))) h = absurd h

@@ -1,5 +1,5 @@
 -- The imports of main: each is given what its role needs, in order.
-use Rattle.std.proofs.Common.{Bool, true, false, ◌||◌, Some, Result, Ok, Err, inl, ◌≡◌, ◌∙◌, ℕ, List, [], ◌∷◌, ◌++◌, refl, sym, ap, ap₂, subst, append_assoc, append-nil, map, length, IsSome, Contains, arith}
+use Rattle.std.proofs.Common.{Bool, true, false, ◌||◌, Some, Result, Ok, Err, ◌≡◌, ◌∙◌, ℕ, List, [], ◌∷◌, ◌++◌, refl, sym, ap, ap₂, subst, append_assoc, append-nil, map, length, IsSome, Contains, arith}
 use Rattle.std.specs.List.{AllByRecursion, AllZip, IsDistinct, list_any, flat_map}
 use Rattle.comp_lists.specs.Found.{found}
 use Rattle.std.proofs.lemmas.Slice.Eq.{bytes_eq-Decides}
@@ -37,8 +37,8 @@ use Rattle.comp_worlds.specs.declared.world.ComponentWorld.{ComponentWorld}
 use Rattle.comp_state.specs.Encoding.{Encoding, Extends, FindsRole, FindsFields, FindsGroup, FindsUsed}
 use Rattle.comp_state.specs.Causes.{IsCauseAmong, IsCause}
 use Rattle.comp_state.specs.declared.fault.StateFault.{StateFault}
-use Rattle.comp_state.specs.declared.fault.StateFault.TheVariants as faults
-use Rattle.comp_terms.specs.Facts.{IsEntryFor, IsArgumentFor}
+use Rattle.comp_links.specs.Targets.{Main}
+use Rattle.comp_terms.specs.Planned.{IsEntryFor, IsArgumentFor}
 use Rattle.comp_links.specs.Roles.{import_encoding, is_named, is_any_import, uses_from}
 use Rattle.comp_terms.specs.Rules.{Grows, named_import, landmarks}
 use Rattle.comp_state.proofs.Refusals.{among_more, contains_one, contains_none}
@@ -52,7 +52,7 @@ pub record FieldsSoFar (old new : Encoding) (entries : List CoreInlineExport) (a
   pub same : new ≡ record old { built = new.built }
   pub extends : Extends old.built new.built
   pub grows : Grows old.world old.built.defs new.built.defs []
-  pub serves : AllZip (IsEntryFor old.world new.built.defs) entries done
+  pub serves : AllZip (IsEntryFor old.world Main new.built.defs) entries done
   pub finds : FindsFields old.functions rest
 
 pub fields_start : (old : Encoding) (all : List (List ℕ × Import)) → FindsFields old.functions all → FieldsSoFar old old [] all all
@@ -68,11 +68,11 @@ fields_start old all finds = record {
 
 pub fields_step : (old mid new : Encoding) (before after : List CoreInlineExport) (entry : CoreInlineExport) (all rest : List (List ℕ × Import)) (f : List ℕ × Import) →
     FieldsSoFar old mid before all (f ∷ rest) → new ≡ record mid { built = new.built } → Extends mid.built new.built →
-    Grows mid.world mid.built.defs new.built.defs [] → IsEntryFor mid.world new.built.defs entry f → after ≡ before ++ entry ∷ [] → FieldsSoFar old new after all rest
+    Grows mid.world mid.built.defs new.built.defs [] → IsEntryFor mid.world Main new.built.defs entry f → after ≡ before ++ entry ∷ [] → FieldsSoFar old new after all rest
 fields_step old mid new before after entry all rest f h same extends grows serves pushed =
     let world : mid.world ≡ old.world = ap (λ (s : Encoding). s.world) h.same in
     let g : Grows old.world mid.built.defs new.built.defs [] = subst (λ w. Grows w mid.built.defs new.built.defs []) world grows in
-    let s : IsEntryFor old.world new.built.defs entry f = subst (λ w. IsEntryFor w new.built.defs entry f) world serves in
+    let s : IsEntryFor old.world Main new.built.defs entry f = subst (λ w. IsEntryFor w Main new.built.defs entry f) world serves in
     record {
       done = h.done ++ f ∷ [];
       split = append_assoc h.done (f ∷ []) rest ∙ h.split;
@@ -80,13 +80,13 @@ fields_step old mid new before after entry all rest f h same extends grows serve
       extends = extends_then old.built mid.built new.built h.extends extends;
       grows = Grows-then h.grows g;
       serves =
-          subst (λ es. AllZip (IsEntryFor old.world new.built.defs) es (h.done ++ f ∷ [])) (sym pushed)
-          (AllZip-end (IsEntryFor old.world new.built.defs) before h.done entry f (AllZip-weaker (λ x y. IsEntryFor-kept g) before h.done h.serves) s);
+          subst (λ es. AllZip (IsEntryFor old.world Main new.built.defs) es (h.done ++ f ∷ [])) (sym pushed)
+          (AllZip-end (IsEntryFor old.world Main new.built.defs) before h.done entry f (AllZip-weaker (λ x y. IsEntryFor-kept g) before h.done h.serves) s);
       finds = h.finds.1;
     }
 
 -- entries have the names of their fields
-entry_names : (w : ComponentWorld) (ds : List Def) (es : List CoreInlineExport) (fs : List (List ℕ × Import)) → AllZip (IsEntryFor w ds) es fs → map (λ e. e.name) es ≡ map (λ f. f.0) fs
+entry_names : (w : ComponentWorld) (ds : List Def) (es : List CoreInlineExport) (fs : List (List ℕ × Import)) → AllZip (IsEntryFor w Main ds) es fs → map (λ e. e.name) es ≡ map (λ f. f.0) fs
 entry_names w ds [] [] h = refl
 entry_names w ds (e ∷ es) (f ∷ fs) h = ap₂ (λ n ns. n ∷ ns) h.0.named (entry_names w ds es fs h.1)
 entry_names w ds [] (f ∷ fs) h = absurd h
@@ -107,7 +107,7 @@ pub record GroupsSoFar (old new : Encoding) (arguments : List CoreArgument) (all
   pub same : new ≡ record old { built = new.built }
   pub extends : Extends old.built new.built
   pub grows : Grows old.world old.built.defs new.built.defs []
-  pub serves : AllZip (IsArgumentFor old.world new.built.defs) arguments done
+  pub serves : AllZip (IsArgumentFor old.world Main new.built.defs) arguments done
   pub finds : AllByRecursion (λ g. FindsGroup old.functions g.1) rest
 
 pub groups_start : (old : Encoding) (all : List (List ℕ × ImportInstance)) → AllByRecursion (λ g. FindsGroup old.functions g.1) all → GroupsSoFar old old [] all all
@@ -123,11 +123,11 @@ groups_start old all finds = record {
 
 pub groups_step : (old mid new : Encoding) (before after : List CoreArgument) (argument : CoreArgument) (all rest : List (List ℕ × ImportInstance)) (g : List ℕ × ImportInstance) →
     GroupsSoFar old mid before all (g ∷ rest) → new ≡ record mid { built = new.built } → Extends mid.built new.built →
-    Grows mid.world mid.built.defs new.built.defs [] → IsArgumentFor mid.world new.built.defs argument g → after ≡ before ++ argument ∷ [] → GroupsSoFar old new after all rest
+    Grows mid.world mid.built.defs new.built.defs [] → IsArgumentFor mid.world Main new.built.defs argument g → after ≡ before ++ argument ∷ [] → GroupsSoFar old new after all rest
 groups_step old mid new before after argument all rest g h same extends grows serves pushed =
     let world : mid.world ≡ old.world = ap (λ (s : Encoding). s.world) h.same in
     let more : Grows old.world mid.built.defs new.built.defs [] = subst (λ w. Grows w mid.built.defs new.built.defs []) world grows in
-    let s : IsArgumentFor old.world new.built.defs argument g = subst (λ w. IsArgumentFor w new.built.defs argument g) world serves in
+    let s : IsArgumentFor old.world Main new.built.defs argument g = subst (λ w. IsArgumentFor w Main new.built.defs argument g) world serves in
     record {
       done = h.done ++ g ∷ [];
       split = append_assoc h.done (g ∷ []) rest ∙ h.split;
@@ -135,22 +135,22 @@ groups_step old mid new before after argument all rest g h same extends grows se
       extends = extends_then old.built mid.built new.built h.extends extends;
       grows = Grows-then h.grows more;
       serves =
-          subst (λ es. AllZip (IsArgumentFor old.world new.built.defs) es (h.done ++ g ∷ [])) (sym pushed)
-          (AllZip-end (IsArgumentFor old.world new.built.defs) before h.done argument g (AllZip-weaker (λ x y. IsArgumentFor-kept more) before h.done h.serves) s);
+          subst (λ es. AllZip (IsArgumentFor old.world Main new.built.defs) es (h.done ++ g ∷ [])) (sym pushed)
+          (AllZip-end (IsArgumentFor old.world Main new.built.defs) before h.done argument g (AllZip-weaker (λ x y. IsArgumentFor-kept more) before h.done h.serves) s);
       finds = h.finds.1;
     }
 
 -- an inline instance for the imports from one module
 pub record ServesGroup (w : ComponentWorld) (mid new : List Def) (argument : CoreArgument) (group : List ℕ × ImportInstance) : Type 0 where
   pub grows : Grows w mid new []
-  pub serves : IsArgumentFor w new argument group
+  pub serves : IsArgumentFor w Main new argument group
 
-pub serve_group : (w : ComponentWorld) (mid new : Built) (index : ℕ) (entries : List CoreInlineExport) (name : List ℕ) (group : List ℕ × ImportInstance) →
-    AllZip (IsEntryFor w mid.defs) entries (fields_of group.1) → IsDistinct bytes_eq (map (λ e. e.name) entries) → new.defs ≡ mid.defs ++ defs.Item (items.CoreExports entries) ∷ [] →
+pub serve_group : (w : ComponentWorld) (functions : List (List ℕ × ℕ)) (mid new : Built) (index : ℕ) (entries : List CoreInlineExport) (name : List ℕ) (group : List ℕ × ImportInstance) → FindsFields functions (fields_of group.1) →
+    AllZip (IsEntryFor w Main mid.defs) entries (fields_of group.1) → IsDistinct bytes_eq (map (λ e. e.name) entries) → new.defs ≡ mid.defs ++ defs.Item (items.CoreExports entries) ∷ [] →
     IsAt new.defs spaces.CoreInstance index (defs.Item (items.CoreExports entries)) → name ≡ group.0 →
     ServesGroup w mid.defs new.defs (record { name = name; instance = index }) group
-serve_group w mid new index entries name group each apart appended at named =
-    let g : Grows w mid.defs new.defs [] = Grows-by (defs.Item (items.CoreExports entries)) appended (record { each = entries_in_range w mid.defs entries (fields_of group.1) each; apart = apart }) in
+serve_group w functions mid new index entries name group finds each apart appended at named =
+    let g : Grows w mid.defs new.defs [] = Grows-by (defs.Item (items.CoreExports entries)) appended (record { each = entries_in_range w mid.defs functions entries (fields_of group.1) finds each; apart = apart }) in
     record {
       grows = g;
       serves = record { named = named; serves = record { entries = entries; made = at; each = AllZip-weaker (λ x y. IsEntryFor-kept g) entries (fields_of group.1) each } };
@@ -193,7 +193,7 @@ finds_all w functions (g ∷ gs) valid h = (finds_group w functions g valid.0 (�
 
 -- where each used function is found, those of each module are
 pub finds_groups : (w : ComponentWorld) (functions : List (List ℕ × ℕ)) → IsWorld w → FindsUsed w functions → AllByRecursion (λ g. FindsGroup functions g.1) w.main.imports.modules
-finds_groups w functions valid h = finds_all w functions w.main.imports.modules valid.import_roles h.each
+finds_groups w functions valid h = finds_all w functions w.main.imports.modules valid.main.import_roles h.each
 
 -- a property of an error that is passed on
 pub handed_on : {T E : Type 0} (r : Result T E) (e : E) (Q : E → Type 0) → IsErrAnd r (λ y. y ≡ e) → Q e → IfErr r Q
@@ -278,7 +278,7 @@ unmarked (defs.Item (items.Custom name contents) ∷ ds) (n ∷ ns) h = cc
 pub no_modules : (ds : List Def) (names : List (List ℕ)) → landmarks ds ≡ map named_import names → items_in spaces.CoreModule ds ≡ 0
 no_modules ds names h = sym (length-filter (λ d. is_space spaces.CoreModule (space_of d)) ds) ∙ ap length (unmarked ds names h)
 
-fields_encoded : (w : ComponentWorld) (ds : List Def) (name : List ℕ) (es : List CoreInlineExport) (fs : List (List ℕ × Import)) → AllZip (IsEntryFor w ds) es fs →
+fields_encoded : (w : ComponentWorld) (ds : List Def) (name : List ℕ) (es : List CoreInlineExport) (fs : List (List ℕ × Import)) → AllZip (IsEntryFor w Main ds) es fs →
     AllByRecursion (λ (i : CoreImport). IsSome (import_encoding w i.role)) (map (λ f. record { module_name = name; field = f.0; role = f.1 }) fs)
 fields_encoded w ds name [] [] h = tt
 fields_encoded w ds name (e ∷ es) (f ∷ fs) h = (h.0.encoded, fields_encoded w ds name es fs h.1)
@@ -290,7 +290,7 @@ AllByRecursion-join P [] ys h k = k
 AllByRecursion-join P (x ∷ xs) ys h k = (h.0, AllByRecursion-join P xs ys h.1 k)
 
 -- where each import is given its item, each has an encoding
-pub groups_encoded : (w : ComponentWorld) (ds : List Def) (as' : List CoreArgument) (gs : List (List ℕ × ImportInstance)) → AllZip (IsArgumentFor w ds) as' gs →
+pub groups_encoded : (w : ComponentWorld) (ds : List Def) (as' : List CoreArgument) (gs : List (List ℕ × ImportInstance)) → AllZip (IsArgumentFor w Main ds) as' gs →
     AllByRecursion (λ (i : CoreImport). IsSome (import_encoding w i.role)) (flat_map imports_from gs)
 groups_encoded w ds [] [] h = tt
 groups_encoded w ds (a ∷ as') (g ∷ gs) h =

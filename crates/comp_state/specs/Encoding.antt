@@ -13,8 +13,20 @@ use Rattle.comp_roles.specs.declared.imports.Import.{Import}
 use Rattle.comp_roles.specs.declared.imports.ImportInstance.{ImportInstance}
 use Rattle.comp_roles.specs.declared.imports.ImportInstance.TheVariants as instances
 use Rattle.comp_worlds.specs.declared.world.ComponentWorld.{ComponentWorld}
-use Rattle.comp_terms.specs.Facts.{IsFunctionType, IsImported, IsAliased, IsMain}
-use Rattle.comp_links.specs.Roles.{is_used}
+use Rattle.comp_bytes.specs.ItemIndices.{IsAt}
+use Rattle.comp_bytes.specs.declared.space.Space.TheVariants as spaces
+use Rattle.comp_bytes.specs.declared.def.Def.TheVariants as defs
+use Rattle.comp_bytes.specs.declared.def.Item.TheVariants as items
+use Rattle.standard_kinds.specs.declared.kinds.ExportKind.TheVariants as kinds
+use Rattle.wit_data.specs.Keys.{name_of_key}
+use Rattle.comp_runs.specs.Store.{Origin}
+use Rattle.comp_links.specs.Targets.{Main, Target, OfRoot}
+use Rattle.comp_links.specs.Lists.{IsOriginOf}
+use Rattle.comp_links.specs.Links.{lift_of}
+use Rattle.comp_links.specs.Roles.{is_used, export_encoding}
+use Rattle.comp_terms.specs.Terms.{CoreExport, IsFunctionType, IsImportedFunction, IsInstanceOf, IsExported}
+use Rattle.comp_terms.specs.Planned.{IsItemFor}
+use Rattle.comp_terms.specs.Rules.{plain_function}
 
 -- the world, what was built so far, the root functions that were imported, and main's instance
 pub record Encoding : Type 0 where
@@ -23,14 +35,35 @@ pub record Encoding : Type 0 where
   pub functions : List (List ℕ × ℕ)
   pub main : Option ℕ
 
+-- the function is the world's root function of this name, as it is imported
+pub record IsRootImport (w : ComponentWorld) (ds : List Def) (index : ℕ) (text : List ℕ) : Type 0 where
+  pub origin : Origin
+  pub of : IsOriginOf w (OfRoot text) origin
+  pub is : IsImportedFunction ds index origin
+
+-- a function that main's instance exports
+abbrev pub main_export : List ℕ → CoreExport
+main_export name = record { of = 0; kind = kinds.Func; name = name }
+
+-- the first core module is main's
+pub record IsFirstModule (w : ComponentWorld) (ds : List Def) : Type 0 where
+  pub made : IsAt ds spaces.CoreModule 0 (defs.Item (items.CoreModule w.main.bytes))
+
+-- the function is the lift that the link table names for the required function of this key
+pub record IsLiftFor (w : ComponentWorld) (ds : List Def) (index : ℕ) (key : WorldKey) : Type 0 where
+  pub target : Target
+  pub said : lift_of w (record { of = Main; key = key; function = name_of_key key }) ≡ Some target
+  pub is : IsItemFor w ds spaces.Func index target
+  pub encoded : IsSome (export_encoding w key)
+
 -- the world is a valid one, each look-up finds the item that it names, and main's instance is one
 pub record IsEncoding (w : ComponentWorld) (ds : List Def) (function_type : Option ℕ) (functions aliases : List (List ℕ × ℕ)) (core_names : List (List ℕ × List ℕ)) (main : Option ℕ) : Type 0 where
   pub valid : IsWorld w
-  pub typed : (index : ℕ) → function_type ≡ Some index → IsFunctionType ds index
-  pub imported : (text : List ℕ) (index : ℕ) → found text functions ≡ Some index → IsImported ds index text
-  pub aliased : (name : List ℕ) (index : ℕ) → found name aliases ≡ Some index → IsAliased ds index name
+  pub typed : (index : ℕ) → function_type ≡ Some index → IsFunctionType ds index plain_function
+  pub imported : (text : List ℕ) (index : ℕ) → found text functions ≡ Some index → IsRootImport w ds index text
+  pub aliased : (name : List ℕ) (index : ℕ) → found name aliases ≡ Some index → IsExported ds index (main_export name)
   pub named : (text : List ℕ) → found text core_names ≡ core_name_of w (keys.Name text)
-  pub made : (index : ℕ) → main ≡ Some index → IsMain ds index
+  pub made : (index : ℕ) → main ≡ Some index → IsInstanceOf ds index 0
 
 -- definitions and debug names only grew at their ends
 pub record Extends (old new : Built) : Type 0 where

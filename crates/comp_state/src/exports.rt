@@ -6,8 +6,8 @@ ghost use Rattle.std.specs.List.{AllByRecursion};
 ghost use Rattle.wit_data.specs.Keys.{name_of_key};
 ghost use Rattle.comp_worlds.specs.Worlds.{core_name_of};
 ghost use Rattle.comp_state.specs.Causes.{IsCause, IsCauseAmong, IsBuildRefusal};
-ghost use Rattle.comp_state.specs.Encoding.{Extends, IsOffered};
-ghost use Rattle.comp_terms.specs.Facts.{IsAliased, IsLiftFor};
+ghost use Rattle.comp_state.specs.Encoding.{Extends, main_export, IsOffered, IsLiftFor};
+ghost use Rattle.comp_terms.specs.Terms.{IsExported};
 ghost use Rattle.comp_links.specs.Roles.{export_encoding};
 ghost use Rattle.comp_terms.specs.Rules.{Grows, named_export, exports_marked};
 
@@ -51,7 +51,7 @@ impl EncodingState<'_> {
         ensures same { self.new ≡ record self.old { built = self.new.built } }
         ensures extends { Extends self.old.built self.new.built }
         ensures grows { OnOk result (Grows self.old.world self.old.built.defs self.new.built.defs []) }
-        ensures aliased { IfOk result (λ index. IsAliased self.new.built.defs index name.now) }
+        ensures aliased { IfOk result (λ index. IsExported self.new.built.defs index (main_export name.now)) }
         ensures cause { IfErr result IsBuildRefusal }
     {
         let key = name.clone(self.alloc)?;
@@ -71,7 +71,7 @@ impl EncodingState<'_> {
         ensures same { self.new ≡ record self.old { built = self.new.built } }
         ensures extends { Extends self.old.built self.new.built }
         ensures grows { OnOk result (Grows self.old.world self.old.built.defs self.new.built.defs []) }
-        ensures aliased { IfOk result (λ index. IsAliased self.new.built.defs index name.now) }
+        ensures aliased { IfOk result (λ index. IsExported self.new.built.defs index (main_export name.now)) }
         ensures cause { IfErr result IsBuildRefusal }
     {
         match self.aliases.get(name) {

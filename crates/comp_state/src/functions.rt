@@ -2,15 +2,15 @@
 
 #![tactic(auto, using(crate::proofs::Extending::extending))]
 
-ghost use Rattle.std.specs.Prelude.{◌≡◌, [], ◌∷◌, List, ℕ, IfOk, IfErr, OnOk, IsTrue, IsSome, is_some, map, filter};
+ghost use Rattle.std.specs.Prelude.{◌≡◌, [], ◌∷◌, List, ℕ, IfOk, IfErr, OnOk, IsTrue, IsSome, Some, None, is_some, map, filter, slice_get};
 ghost use Rattle.comp_lists.specs.Found.{found};
 ghost use Rattle.std.specs.List.{AllByRecursion};
 ghost use Rattle.comp_worlds.specs.Worlds.{root_function};
 ghost use Rattle.comp_state.specs.Causes.{IsCause, IsBuildRefusal};
 ghost use Rattle.comp_state.specs.Encoding.{Extends, FindsMore, FindsUsed};
-ghost use Rattle.comp_links.specs.Roles.{is_used};
-ghost use Rattle.comp_terms.specs.Facts.{IsFunctionType, IsImported};
-ghost use Rattle.comp_terms.specs.Rules.{Grows, named_import, names_marked, imports_marked};
+ghost use Rattle.comp_links.specs.Roles.{is_used, used_functions};
+ghost use Rattle.comp_terms.specs.Terms.{IsFunctionType, IsImportedFunction, imports_in};
+ghost use Rattle.comp_terms.specs.Rules.{Grows, plain_function, named_import, names_marked, imports_marked};
 
 use crate::fault::StateFault;
 use crate::indexes::used_functions;
@@ -26,7 +26,7 @@ impl EncodingState<'_> {
         ensures same { self.new ≡ record self.old { built = self.new.built } }
         ensures extends { Extends self.old.built self.new.built }
         ensures grows { OnOk result (Grows self.old.world self.old.built.defs self.new.built.defs []) }
-        ensures typed { IfOk result (IsFunctionType self.new.built.defs) }
+        ensures typed { IfOk result (λ index. IsFunctionType self.new.built.defs index plain_function) }
         ensures cause { IfErr result IsBuildRefusal }
     {
         let ty = FuncTypeDef {
@@ -44,7 +44,7 @@ impl EncodingState<'_> {
         ensures same { self.new ≡ record self.old { built = self.new.built } }
         ensures extends { Extends self.old.built self.new.built }
         ensures grows { OnOk result (Grows self.old.world self.old.built.defs self.new.built.defs []) }
-        ensures typed { IfOk result (IsFunctionType self.new.built.defs) }
+        ensures typed { IfOk result (λ index. IsFunctionType self.new.built.defs index plain_function) }
         ensures cause { IfErr result IsBuildRefusal }
     {
         match self.function_type {
@@ -58,7 +58,7 @@ impl EncodingState<'_> {
         ensures same { self.new ≡ record self.old { built = self.new.built } }
         ensures extends { Extends self.old.built self.new.built }
         ensures grows { OnOk result (Grows self.old.world self.old.built.defs self.new.built.defs (named_import name.now ∷ [])) }
-        ensures imported { IfOk result (λ index. IsImported self.new.built.defs index name.now) }
+        ensures imported { IfOk result (λ index. IsImportedFunction self.new.built.defs index (record { number = imports_in self.old.built.defs; inner = None })) }
         ensures cause { IfErr result (IsCause self.old.world) }
     {
         let name = ExternName {
@@ -73,6 +73,7 @@ impl EncodingState<'_> {
     /// Imports a root function, if an import of main uses it.
     fn import_used(&mut self, used: &Keyed<Text, ()>, name: &Text) -> Result<(), StateFault>
         requires used { (text : List ℕ) → is_some (found text used.now) ≡ is_used self.old.world text }
+        requires next { IsTrue (is_used self.old.world name.now) → slice_get (used_functions self.old.world) (imports_in self.old.built.defs) ≡ Some name.now }
         ensures same { self.new ≡ record self.old { built = self.new.built; functions = self.new.functions } }
         ensures extends { Extends self.old.built self.new.built }
         ensures grows { OnOk result (Grows self.old.world self.old.built.defs self.new.built.defs (names_marked self.old.world (name.now ∷ []))) }
@@ -97,6 +98,7 @@ impl EncodingState<'_> {
         item: &WorldItem,
     ) -> Result<(), StateFault>
         requires used { (text : List ℕ) → is_some (found text used.now) ≡ is_used self.old.world text }
+        requires next { AllByRecursion (λ name. IsTrue (is_used self.old.world name) → slice_get (used_functions self.old.world) (imports_in self.old.built.defs) ≡ Some name) (root_function (key.now, item.now)) }
         ensures same { self.new ≡ record self.old { built = self.new.built; functions = self.new.functions } }
         ensures extends { Extends self.old.built self.new.built }
         ensures grows { OnOk result (Grows self.old.world self.old.built.defs self.new.built.defs (names_marked self.old.world (root_function (key.now, item.now)))) }
@@ -112,6 +114,7 @@ impl EncodingState<'_> {
 
     /// Imports the root functions that imports of main use, in the order of the world.
     pub fn encode_imports(&mut self) -> Result<(), StateFault>
+        requires { self.old.built.defs ≡ [] }
         ensures same { self.new ≡ record self.old { built = self.new.built; functions = self.new.functions } }
         ensures extends { Extends self.old.built self.new.built }
         ensures grows { OnOk result (Grows self.old.world self.old.built.defs self.new.built.defs (imports_marked self.old.world)) }

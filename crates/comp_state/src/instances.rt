@@ -6,16 +6,18 @@ ghost use Rattle.std.specs.List.{AllZip, AllByRecursion, IsDistinct};
 ghost use Rattle.std.specs.Str.{bytes_eq};
 ghost use Rattle.comp_lists.specs.Found.{found};
 ghost use Rattle.comp_bytes.specs.ItemIndices.{IsAt};
+ghost use Rattle.comp_bytes.specs.Spaces.{kind_space};
+ghost use Rattle.comp_bytes.specs.declared.space.Space.TheVariants.{CoreFunc};
 ghost use Rattle.wit_data.specs.declared.worlds.WorldKey.TheVariants as keys;
 ghost use Rattle.comp_roles.specs.Functions.{of_function};
 ghost use Rattle.comp_roles.specs.CoreImports.{imports_from};
 ghost use Rattle.comp_roles.specs.declared.imports.ImportInstance.TheVariants.{Names};
 ghost use Rattle.comp_worlds.specs.Worlds.{core_imports};
 ghost use Rattle.comp_state.specs.Causes.{IsCause, IsCauseAmong, IsBuildRefusal};
-ghost use Rattle.comp_state.specs.Encoding.{Extends, FindsUsed, FindsRole, FindsFields, FindsGroup};
-ghost use Rattle.comp_links.specs.Targets.{Main};
+ghost use Rattle.comp_state.specs.Encoding.{Extends, IsFirstModule, FindsUsed, FindsRole, FindsFields, FindsGroup};
+ghost use Rattle.comp_links.specs.Targets.{Main, OfRoot, Lowered};
 ghost use Rattle.comp_links.specs.Links.{link_of};
-ghost use Rattle.comp_terms.specs.Facts.{IsLowered, IsCoreItemFor, IsEntryFor, IsInlineInstanceFor, IsArgumentFor, IsMain, IsFirstModule};
+ghost use Rattle.comp_terms.specs.Planned.{IsItemFor, IsEntryFor, IsInlineInstanceFor, IsArgumentFor};
 ghost use Rattle.comp_links.specs.Roles.{import_encoding, field_path};
 ghost use Rattle.comp_terms.specs.Rules.{Grows, ModuleIs, InstanceOf, imports_marked, landmarks};
 
@@ -65,7 +67,7 @@ impl EncodingState<'_> {
         ensures same { self.new ≡ record self.old { built = self.new.built } }
         ensures extends { Extends self.old.built self.new.built }
         ensures grows { OnOk result (Grows self.old.world self.old.built.defs self.new.built.defs []) }
-        ensures lowered { IfOk result (λ index. IsLowered self.new.built.defs index name.now) }
+        ensures lowered { IfOk result (λ index. IsItemFor self.old.world self.new.built.defs CoreFunc index (Lowered (OfRoot name.now) [])) }
         ensures cause { IfErr result IsBuildRefusal }
     {
         let function = *self.functions.get(name).unwrap();
@@ -89,7 +91,7 @@ impl EncodingState<'_> {
         ensures same { self.new ≡ record self.old { built = self.new.built } }
         ensures extends { Extends self.old.built self.new.built }
         ensures grows { OnOk result (Grows self.old.world self.old.built.defs self.new.built.defs []) }
-        ensures made { IfOk result (λ item. IsCoreItemFor self.new.built.defs item.0 item.1 (link_of self.old.world Main import.now)) }
+        ensures made { IfOk result (λ item. IsItemFor self.old.world self.new.built.defs (kind_space item.0) item.1 (link_of self.old.world Main import.now)) }
         ensures encoded { OnOk result (IsSome (import_encoding self.old.world import.now)) }
         ensures cause { IfErr result (IsCauseAmong self.old.world (record { module_name = «module».now; field = field.now; role = import.now } ∷ []) []) }
     {
@@ -118,7 +120,7 @@ impl EncodingState<'_> {
         ensures same { self.new ≡ record self.old { built = self.new.built } }
         ensures extends { Extends self.old.built self.new.built }
         ensures grows { OnOk result (Grows self.old.world self.old.built.defs self.new.built.defs []) }
-        ensures serves { IfOk result (λ entry. IsEntryFor self.old.world self.new.built.defs entry (field.now, import.now)) }
+        ensures serves { IfOk result (λ entry. IsEntryFor self.old.world Main self.new.built.defs entry (field.now, import.now)) }
         ensures cause { IfErr result (IsCauseAmong self.old.world (record { module_name = «module».now; field = field.now; role = import.now } ∷ []) []) }
     {
         let name = field.clone(self.alloc)?;
@@ -136,7 +138,7 @@ impl EncodingState<'_> {
         ensures same { self.new ≡ record self.old { built = self.new.built } }
         ensures extends { Extends self.old.built self.new.built }
         ensures grows { OnOk result (Grows self.old.world self.old.built.defs self.new.built.defs []) }
-        ensures serves { IfOk result (λ entries. AllZip (IsEntryFor self.old.world self.new.built.defs) entries fields.now) }
+        ensures serves { IfOk result (λ entries. AllZip (IsEntryFor self.old.world Main self.new.built.defs) entries fields.now) }
         ensures apart { IfOk result (λ entries. IsDistinct bytes_eq (map (λ e. e.name) entries)) }
         ensures cause { IfErr result (IsCauseAmong self.old.world (imports_from («module».now, Names fields.now)) []) }
     {
@@ -159,7 +161,7 @@ impl EncodingState<'_> {
         ensures extends { Extends self.old.built self.new.built }
         ensures grows { OnOk result (Grows self.old.world self.old.built.defs self.new.built.defs []) }
         ensures named { IfOk result (λ argument. argument.name ≡ «module».now) }
-        ensures serves { IfOk result (λ argument. IsInlineInstanceFor self.old.world self.new.built.defs argument.instance fields.now) }
+        ensures serves { IfOk result (λ argument. IsInlineInstanceFor self.old.world Main self.new.built.defs argument.instance fields.now) }
         ensures cause { IfErr result (IsCauseAmong self.old.world (imports_from («module».now, Names fields.now)) []) }
     {
         let name = module.clone(self.alloc)?;
@@ -180,7 +182,7 @@ impl EncodingState<'_> {
         ensures same { self.new ≡ record self.old { built = self.new.built } }
         ensures extends { Extends self.old.built self.new.built }
         ensures grows { OnOk result (Grows self.old.world self.old.built.defs self.new.built.defs []) }
-        ensures serves { IfOk result (λ argument. IsArgumentFor self.old.world self.new.built.defs argument («module».now, instance.now)) }
+        ensures serves { IfOk result (λ argument. IsArgumentFor self.old.world Main self.new.built.defs argument («module».now, instance.now)) }
         ensures cause { IfErr result (IsCauseAmong self.old.world (imports_from («module».now, instance.now)) []) }
     {
         match instance {
@@ -195,7 +197,7 @@ impl EncodingState<'_> {
         ensures same { self.new ≡ record self.old { built = self.new.built } }
         ensures extends { Extends self.old.built self.new.built }
         ensures grows { OnOk result (Grows self.old.world self.old.built.defs self.new.built.defs []) }
-        ensures serves { IfOk result (λ arguments. AllZip (IsArgumentFor self.old.world self.new.built.defs) arguments self.old.world.main.imports.modules) }
+        ensures serves { IfOk result (λ arguments. AllZip (IsArgumentFor self.old.world Main self.new.built.defs) arguments self.old.world.main.imports.modules) }
         ensures cause { IfErr result (IsCause self.old.world) }
     {
         let world = self.world;

@@ -4,8 +4,8 @@
 //! runs the steps in their order. The link table of a world is in `specs/Links.antt`, over its
 //! user modules in `specs/Modules.antt`. What a step guarantees is in `specs/Rules.antt`: the
 //! list of definitions only grows (`Grows`), each new definition keeps the rule of its kind, the
-//! landmarks of the list are those of the world, and `specs/Facts.antt` says what a returned index is:
-//! the item that the link table names. Nothing here depends on how a component runs; the look-ups are
+//! landmarks of the list are those of the world. A returned index is a term that the link table names
+//! (`specs/Terms.antt`, `specs/Planned.antt`). Nothing here depends on how a component runs; the look-ups are
 //! private to the state.
 //!
 //! In reading order: `fault`, `indexes` (look-ups by the name of a function), `state` (the fields),

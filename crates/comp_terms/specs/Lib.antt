@@ -1,2 +1,3 @@
-pub mod Facts
+pub mod Terms
+pub mod Planned
 pub mod Rules

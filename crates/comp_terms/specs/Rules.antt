@@ -1,7 +1,7 @@
 -- Rules that each definition keeps at its index, and the landmarks of the whole list (component model,
 -- explainer: component definitions). They are what the steps guarantee to the proof that the list runs; no rule is
 -- part of a public guarantee.
-use Rattle.std.specs.Prelude.{◌≡◌, ◌<◌, ℕ, List, [], ◌∷◌, ◌++◌, Option, Some, None, map, filter}
+use Rattle.std.specs.Prelude.{◌≡◌, ◌<◌, ℕ, List, [], ◌∷◌, ◌++◌, Option, Some, None, false, map, filter, slice_get}
 use Rattle.std.specs.List.{AllByRecursion, AllZip, IsDistinct, filter_map}
 use Rattle.std.specs.Str.{bytes_eq}
 use Rattle.comp_bytes.specs.Spaces.{items_in}
@@ -10,6 +10,7 @@ use Rattle.standard_kinds.specs.declared.kinds.ExportKind.TheVariants as kinds
 use Rattle.comp_bytes.specs.declared.space.Sort.{Sort}
 use Rattle.comp_bytes.specs.declared.space.Sort.TheVariants as sorts
 use Rattle.comp_bytes.specs.declared.types.ExternName.{ExternName}
+use Rattle.comp_bytes.specs.declared.types.FuncTypeDef.{FuncTypeDef}
 use Rattle.comp_bytes.specs.declared.types.TypeDef.TheVariants as types
 use Rattle.comp_bytes.specs.declared.types.Alias.{Alias}
 use Rattle.comp_bytes.specs.declared.types.Alias.TheVariants as aliases
@@ -21,31 +22,47 @@ use Rattle.comp_bytes.specs.declared.def.Item.{Item}
 use Rattle.comp_bytes.specs.declared.def.Item.TheVariants as items
 use Rattle.comp_bytes.specs.declared.def.Def.{Def}
 use Rattle.comp_bytes.specs.declared.def.Def.TheVariants as defs
+use Rattle.core_types.specs.declared.types.FuncType.{FuncType}
+use Rattle.comp_lists.specs.Found.{found}
 use Rattle.wit_data.specs.Keys.{name_of_key}
-use Rattle.comp_worlds.specs.Worlds.{core_name_of}
+use Rattle.comp_roles.specs.declared.offered.ExternType.TheVariants as externs
 use Rattle.wit_data.specs.declared.worlds.WorldKey.{WorldKey}
 use Rattle.comp_worlds.specs.declared.world.ComponentWorld.{ComponentWorld}
 use Rattle.comp_links.specs.Roles.{is_used, used_functions}
+use Rattle.comp_links.specs.Targets.{Main, Target}
+use Rattle.comp_links.specs.Modules.{WorldModule, user_modules}
 use Rattle.comp_links.specs.Lists.{Stated, plain_name, root_function, described_sort, AreNames}
-use Rattle.comp_terms.specs.Facts.{plain_function, IsFunctionType, IsArgumentFor, IsMain, IsLiftFor}
+use Rattle.comp_links.specs.Links.{lift_of}
+use Rattle.comp_terms.specs.Terms.{FunctionType, InstanceOf as InstanceTerm, Is}
+use Rattle.comp_terms.specs.Planned.{IsItemFor, IsArgumentFor}
 
--- main's instantiation: an argument for each module of imports, in order
-pub record InstantiatesMain (w : ComponentWorld) (earlier : List Def) (number : ℕ) (arguments : List CoreArgument) : Type 0 where
-  pub main : number ≡ 0
+-- the type of synchronous functions with no parameter and no result
+abbrev pub plain_function : FuncTypeDef
+plain_function = record { async_ = false; params = []; result = None }
+
+-- a user module is instantiated: an argument for each module of its imports, in order
+pub record InstantiatesUser (w : ComponentWorld) (earlier : List Def) (number : ℕ) (arguments : List CoreArgument) : Type 0 where
+  pub of : WorldModule
+  pub listed : slice_get (user_modules w) number ≡ Some of
   pub scoped : number < items_in spaces.CoreModule earlier
-  pub each : AllZip (IsArgumentFor w earlier) arguments w.main.imports.modules
+  pub each : AllZip (IsArgumentFor w of.of earlier) arguments of.found.imports.modules
 
--- an alias of a core export: one of main that implements some root function
-pub record AliasesMain (w : ComponentWorld) (earlier : List Def) (instance : ℕ) (name : List ℕ) : Type 0 where
-  pub of : IsMain earlier instance
-  pub key : WorldKey
-  pub role : core_name_of w key ≡ Some name
+-- an alias of a core export: a function that validation found among the exports of a user module
+pub record AliasesUser (w : ComponentWorld) (earlier : List Def) (instance : ℕ) (name : List ℕ) : Type 0 where
+  pub number : ℕ
+  pub of : WorldModule
+  pub type : FuncType
+  pub is : Is earlier spaces.CoreInstance instance (InstanceTerm number)
+  pub listed : slice_get (user_modules w) number ≡ Some of
+  pub offered : found name of.found.offered ≡ Some (externs.Func type)
 
--- an export: a required one, under its name
+-- an export: a required one, under its name, lifted as the link table says
 pub record ExportsRequired (w : ComponentWorld) (earlier : List Def) (name : ExternName) (index : ℕ) : Type 0 where
   pub key : WorldKey
+  pub target : Target
   pub named : name ≡ plain_name (name_of_key key)
-  pub lifted : IsLiftFor w earlier index key
+  pub said : lift_of w (record { of = Main; key = key; function = name_of_key key }) ≡ Some target
+  pub lifted : IsItemFor w earlier spaces.Func index target
 
 -- an entry of an inline instance is a core function
 pub record IsEntry (earlier : List Def) (e : CoreInlineExport) : Type 0 where
@@ -58,11 +75,11 @@ pub record AreEntries (earlier : List Def) (entries : List CoreInlineExport) : T
   pub apart : IsDistinct bytes_eq (map (λ e. e.name) entries)
 
 abbrev pub IsAliasRight : ComponentWorld → List Def → Alias → Type 0
-IsAliasRight w earlier (aliases.CoreExport kinds.Func instance name) = AliasesMain w earlier instance name
+IsAliasRight w earlier (aliases.CoreExport kinds.Func instance name) = AliasesUser w earlier instance name
 IsAliasRight w earlier _ = ⊥
 
 abbrev pub IsImportRight : List Def → ExternName → Description → Type 0
-IsImportRight earlier name (descriptions.Func kind) = (name ≡ plain_name name.name) × IsFunctionType earlier kind
+IsImportRight earlier name (descriptions.Func kind) = (name ≡ plain_name name.name) × Is earlier spaces.Type kind (FunctionType plain_function)
 IsImportRight earlier name _ = ⊥
 
 abbrev pub IsExportRight : ComponentWorld → List Def → ExternName → Sort → ℕ → Option Description → Type 0
@@ -72,13 +89,13 @@ IsExportRight w earlier name _ index _ = ⊥
 -- the rule of an item, after the earlier definitions; kinds that are never written have no rule that holds
 abbrev pub IsItemRight : ComponentWorld → List Def → Item → Type 0
 IsItemRight w earlier (items.CoreModule bytes) = Unit {0}
-IsItemRight w earlier (items.CoreInstantiate number arguments) = InstantiatesMain w earlier number arguments
+IsItemRight w earlier (items.CoreInstantiate number arguments) = InstantiatesUser w earlier number arguments
 IsItemRight w earlier (items.CoreExports entries) = AreEntries earlier entries
 IsItemRight w earlier (items.Instantiate component arguments) = ⊥
 IsItemRight w earlier (items.Alias a) = IsAliasRight w earlier a
 IsItemRight w earlier (items.Type t) = t ≡ types.Func plain_function
 IsItemRight w earlier (items.InstanceType t) = ⊥
-IsItemRight w earlier (items.Lift core options kind) = (core < items_in spaces.CoreFunc earlier) × (options ≡ []) × IsFunctionType earlier kind
+IsItemRight w earlier (items.Lift core options kind) = (core < items_in spaces.CoreFunc earlier) × (options ≡ []) × Is earlier spaces.Type kind (FunctionType plain_function)
 IsItemRight w earlier (items.Lower function options) = (function < items_in spaces.Func earlier) × (options ≡ [])
 IsItemRight w earlier (items.Intrinsic i) = ⊥
 IsItemRight w earlier (items.Import name description) = IsImportRight earlier name description

@@ -2,5 +2,6 @@ pub mod Lookups
 pub mod Lowerings
 pub mod Uses
 pub mod Imported
+pub mod Typed
 pub mod Worlds
 pub mod Gathering

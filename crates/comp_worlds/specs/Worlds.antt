@@ -30,6 +30,7 @@ use Rattle.comp_worlds.specs.Imported.{Imported, imported}
 use Rattle.comp_roles.specs.Lookups.{imported_memory}
 use Rattle.world_values.specs.Items.{no_items, root_export}
 use Rattle.world_values.specs.Mentions.{live_type_imports, exports_used}
+use Rattle.comp_worlds.specs.Typed.{FitsImport, FitsExport}
 use Rattle.comp_worlds.specs.Uses.{used_by, all_imports}
 
 -- ---- its contents
@@ -59,10 +60,13 @@ abbrev pub imported_name : Import → Option (List ℕ)
 imported_name (imports.WorldFunc (keys.Name text) function abi) = Some text
 imported_name role = None
 
--- the core export that implements the root function of this key
+-- the core export that implements the root function of this key, among those of a module, and of main
+abbrev pub core_name_in : List (List ℕ × Export) → WorldKey → Option (List ℕ)
+core_name_in exports (keys.Name text) = found text (flat_map root_export exports)
+core_name_in exports (keys.Interface id) = None
+
 abbrev pub core_name_of : ComponentWorld → WorldKey → Option (List ℕ)
-core_name_of w (keys.Name text) = found text (flat_map root_export w.main.exports.exports)
-core_name_of w (keys.Interface id) = None
+core_name_of w key = core_name_in w.main.exports.exports key
 
 -- ---- what holds of it
 
@@ -92,10 +96,21 @@ abbrev pub IsExportRole : ComponentWorld → Export → Type 0
 IsExportRole w (exports.WorldFunc (keys.Name text) function abi) = Contains (exported_functions w) text × (function ≡ text) × (abi ≡ GuestExport)
 IsExportRole w role = ⊥
 
--- a required export is one of the world's, and main has a core export for it
-pub record IsRequired (w : ComponentWorld) (key : WorldKey) : Type 0 where
+-- a required export is one of the world's, and the module has a core export for it
+pub record IsRequired (w : ComponentWorld) (m : ValidatedModule) (key : WorldKey) : Type 0 where
   pub exported : Contains (map (λ e. e.0) (items_of w).exports) key
-  pub present : IsSome (core_name_of w key)
+  pub present : IsSome (core_name_in m.exports.exports key)
+
+-- What holds of each user module, main and adapters alike: its imports and exports have the roles and the types that are
+-- said of them, and these exports are required of it.
+pub record IsUserModule (w : ComponentWorld) (m : ValidatedModule) (keys : List WorldKey) : Type 0 where
+  pub core : IsCoreModule m.bytes
+  pub modules_apart : IsDistinct bytes_eq (map (λ g. g.0) m.imports.modules)
+  pub import_roles : AllByRecursion (IsImportGroup w) m.imports.modules
+  pub imported : AllByRecursion (FitsImport w.resolve (items_of w) m) m.imported
+  pub export_roles : AllByRecursion (λ e. IsExportRole w e.1) m.exports.exports
+  pub exported : AllByRecursion (FitsExport w.resolve (items_of w) m) m.exports.exports
+  pub required : AllByRecursion (IsRequired w m) keys
 
 -- ---- what follows from it
 
@@ -124,15 +139,12 @@ whole_of p = whole_with p (get_or p.resolve.worlds p.world.index no_items)
 pub record IsWorld (w : ComponentWorld) : Type 0 where
   pub sound : IsSound w.resolve
   pub present : w.world.index < length w.resolve.worlds
-  pub core : IsCoreModule w.main.bytes
   pub imports : AllByRecursion IsItem (items_of w).imports
   pub exports : AllByRecursion IsItem (items_of w).exports
   pub import_names_apart : IsDistinct bytes_eq (imported_functions w)
   pub export_names_apart : IsDistinct bytes_eq (exported_functions w)
-  pub modules_apart : IsDistinct bytes_eq (map (λ g. g.0) w.main.imports.modules)
-  pub import_roles : AllByRecursion (IsImportGroup w) w.main.imports.modules
-  pub export_roles : AllByRecursion (λ e. IsExportRole w e.1) w.main.exports.exports
-  pub required : AllByRecursion (IsRequired w) w.main_exports
+  pub main : IsUserModule w w.main w.main_exports
+  pub adapters : AllByRecursion (λ a. IsUserModule w a.1.info a.1.required_exports) w.adapters
   pub alone : w.adapters ≡ []
   pub import_map : w.import_map ≡ import_map w.resolve (items_of w) w.main w.adapters
   pub live_type_imports : w.live_type_imports ≡ live_type_imports (all_imports w.main w.adapters) w.resolve (items_of w)

@@ -5,14 +5,16 @@ ghost use Rattle.comp_worlds.specs.Worlds.{items_of};
 
 use crate::lowerings::ImportedInterface;
 use comp_lists::{Bytes, Keyed, Seq, Text};
-use comp_roles::{ExportMap, ExternType, ImportMap, LibraryInfo, ModuleMetadata};
+use comp_roles::{ExportMap, ExternType, ImportMap, ImportType, LibraryInfo, ModuleMetadata};
 use wit_data::{InterfaceId, Resolve, TypeId, World, WorldId, WorldKey};
 
-/// A core module, and the roles of its imports and exports.
+/// A core module: its bytes, the types of its imports and exports as validation found them, and the roles of these.
 pub struct ValidatedModule {
     pub bytes: Bytes,
     pub imports: ImportMap,
     pub exports: ExportMap,
+    /// The core imports with their types, in the module's order.
+    pub imported: Seq<ImportType>,
     /// The types of the core exports that others may use, by their names: those whose types are made of the
     /// four number types, references to any function, and tables and memories with limits below 2^32.
     pub offered: Keyed<Text, ExternType>,
@@ -25,6 +27,7 @@ impl Drop for ValidatedModule {
             bytes: _,
             imports: _,
             exports: _,
+            imported: _,
             offered: _,
             metadata: _,
         } = self;

@@ -1,5 +1,5 @@
 -- A worked example: the list whose first two lowerings are swapped runs to its end, but it isn't linked.
-use Rattle.std.proofs.Common.{◌≡◌, ◌∙◌, ℕ, zero, suc, List, [], ◌∷◌, refl, sym, ap, map, subst, Option, Some, None, IsTrue, arith}
+use Rattle.std.proofs.Common.{◌≡◌, ◌∙◌, ℕ, zero, suc, List, [], ◌∷◌, refl, sym, ap, subst, Option, Some, None, IsTrue, arith}
 use Rattle.std.proofs.lemmas.Option.{none-some, same_Some}
 use Rattle.std.specs.List.{slice_get}
 use Rattle.comp_bytes.proofs.Worked.{f, g}
@@ -12,16 +12,11 @@ use Rattle.core_runs.specs.Store as core
 use Rattle.core_runs.specs.Execution.{exec, acts}
 use Rattle.core_runs.specs.Expected.{expected}
 use Rattle.wit_data.specs.declared.ids.TypeId.{TypeId}
-use Rattle.comp_links.specs.Targets.{Main, OfRoot}
-use Rattle.wit_data.specs.declared.functions.AbiVariant.TheVariants.{GuestImport}
-use Rattle.wit_data.specs.declared.worlds.WorldKey.TheVariants as keys
-use Rattle.comp_roles.specs.declared.imports.Import.TheVariants as imports
+use Rattle.comp_links.specs.Targets.{Main, OfRoot, Lowered}
 use Rattle.comp_roles.specs.declared.offered.ExternType.TheVariants as externs
-use Rattle.comp_worlds.specs.Worlds.{core_imports}
-use Rattle.comp_links.specs.Modules.{WorldModule, import_type, export_type}
-use Rattle.comp_links.specs.Links.{link_of}
+use Rattle.comp_roles.specs.declared.offered.ImportType.{ImportType}
+use Rattle.comp_links.specs.Modules.{WorldModule}
 use Rattle.comp_links.specs.Lists.{ImportEntry, RootFunction, import_entries}
-use Rattle.comp_runs.specs.Instances.{ImportType}
 use Rattle.comp_runs.specs.Store.{CoreItem, Lowering, ExportedBy, Function, Imported}
 use Rattle.comp_runs.specs.Machine.{Machine}
 use Rattle.link_laws.specs.Meeting.{CoreMeets, ItemIsLowering, IsImport, Meets}
@@ -36,16 +31,10 @@ m = machine_of crossed
 
 -- main, and its first import
 abbrev main_module : WorldModule
-main_module = record {
-  of = Main;
-  bytes = two_twice.main.bytes;
-  imports = map (import_type two_twice) (core_imports two_twice);
-  exports = map (export_type two_twice) two_twice.main.exports.exports;
-  roles = two_twice.main.imports.modules;
-}
+main_module = record { of = Main; found = two_twice.main }
 
 abbrev first_import : ImportType
-first_import = record { module_name = a; field = f; type = externs.Func plain_core }
+first_import = record { module_name = a; field = f; ty = externs.Func plain_core }
 
 -- a moment at which the outside traps
 abbrev pub traps_next : Now
@@ -125,7 +114,7 @@ no_lowering_of_f origins c =
 
 -- the first import is to be f
 first_meets : (origins : TypeId → ℕ) → IsServed two_twice m origins main_module (core_function 0) first_import → CoreMeets two_twice m None 0 (ItemIsLowering two_twice m origins (OfRoot f) [])
-first_meets origins s = subst (λ r. Meets two_twice m origins (core_function 0) (link_of two_twice Main r)) (same_Some s.role (imports.WorldFunc (keys.Name f) f GuestImport) (sym s.has_role)) s.meets
+first_meets origins s = subst (Meets two_twice m origins (core_function 0)) (same_Some s.target (Lowered (OfRoot f) []) (sym s.said)) s.meets
 
 pub crossed_is_not_linked : IsLinked two_twice no_modules (machine_of crossed) → ⊥
 crossed_is_not_linked l = no_lowering_of_f l.origins (first_meets l.origins (l.imports.each 0 _ _ refl refl).0)

@@ -1,7 +1,9 @@
 mod Zips
 mod Stores
-mod Given
+mod Numbering
 mod Plain
+mod Given
+mod UserExports
 pub mod Steps
 mod Marks
 mod Served
@@ -12,3 +14,6 @@ mod WorkedShims
 mod ShimsLinked
 mod ShimsLink
 mod ShimsComposed
+mod WorkedAdapter
+mod WorkedAdapterLinked
+mod NotComposed

@@ -1,12 +1,15 @@
 -- The functions of a world, and the types of what main imports and exports: all are plain.
-use Rattle.std.proofs.Common.{◌≡◌, ◌∙◌, ℕ, zero, suc, Bool, true, false, ◌&&◌, List, [], ◌∷◌, map, refl, sym, ap, Option, Some, None, cond, inl, inr, ◌⊎◌, arith}
+use Rattle.std.proofs.Common.{◌≡◌, ◌∙◌, ℕ, zero, suc, Bool, true, false, ◌&&◌, List, [], ◌∷◌, map, refl, sym, ap, subst, Option, Some, None, cond, inl, inr, ◌⊎◌, arith}
 use Rattle.std.proofs.lemmas.List.Elements.{Contains-append_cases}
+use Rattle.std.proofs.lemmas.Option.{none-some, same_Some}
 use Rattle.std.proofs.lemmas.Slice.Eq.{bytes_eq-Decides}
 use Rattle.std.specs.Prelude.{Contains}
-use Rattle.std.specs.List.{flat_map, AllByRecursion}
+use Rattle.std.specs.List.{slice_get, flat_map, AllByRecursion}
 use Rattle.std.specs.Map.{lookup}
 use Rattle.std.specs.Option.{option_and_then}
 use Rattle.std.specs.Str.{bytes_eq}
+use Rattle.comp_lists.specs.Found.{found}
+use Rattle.comp_lists.proofs.Lists.{AllByRecursion-weaker}
 use Rattle.wit_data.specs.Keys.{is_same_key}
 use Rattle.wit_data.specs.declared.functions.AbiVariant.TheVariants.{GuestImport, GuestExport}
 use Rattle.wit_data.specs.declared.functions.Function.{Function}
@@ -15,7 +18,8 @@ use Rattle.wit_data.specs.declared.worlds.WorldItem.{WorldItem}
 use Rattle.wit_data.specs.declared.worlds.WorldItem.TheVariants as items
 use Rattle.wit_data.specs.declared.worlds.WorldKey.{WorldKey}
 use Rattle.wit_data.specs.declared.worlds.WorldKey.TheVariants as keys
-use Rattle.comp_roles.specs.CoreImports.{imports_from}
+use Rattle.comp_roles.specs.CoreImports.{fields_of, role_at}
+use Rattle.comp_roles.specs.CoreTypes.{called_type}
 use Rattle.comp_roles.specs.declared.exports.Export.{Export as WorldExport}
 use Rattle.comp_roles.specs.declared.exports.Export.TheVariants as exports
 use Rattle.comp_roles.specs.declared.imports.Import.{Import}
@@ -23,16 +27,19 @@ use Rattle.comp_roles.specs.declared.imports.Import.TheVariants as imports
 use Rattle.comp_roles.specs.declared.imports.ImportInstance.{ImportInstance}
 use Rattle.comp_roles.specs.declared.imports.ImportInstance.TheVariants as instances
 use Rattle.comp_roles.specs.declared.offered.ExternType.TheVariants as externs
+use Rattle.comp_roles.specs.declared.offered.ImportType.{ImportType}
 use Rattle.comp_roles.specs.Lookups.{first_export, is_initialize, is_task_hook}
+use Rattle.world_values.specs.Items.{root_export}
 use Rattle.world_values.specs.Mentions.{function_in, root_function_at}
-use Rattle.comp_worlds.specs.Worlds.{IsWorld, IsItem, IsPlain, IsImportRole, IsImportGroup, IsExportRole, items_of, root_function, core_imports}
+use Rattle.comp_worlds.proofs.Roles.{role_right}
+use Rattle.comp_worlds.specs.Typed.{type_of_import, type_of_export, FitsImport, FitsExport}
+use Rattle.comp_worlds.specs.Worlds.{IsWorld, IsItem, IsPlain, IsImportRole, IsImportGroup, IsExportRole, items_of, root_function, core_name_of}
 use Rattle.comp_worlds.specs.declared.world.ComponentWorld.{ComponentWorld}
+use Rattle.comp_worlds.specs.declared.world.WorldAdapter.{WorldAdapter}
+use Rattle.comp_links.specs.Targets.{UserModule}
+use Rattle.comp_links.specs.Modules.{WorldModule, adapter_module, user_modules, IsModule}
 use Rattle.comp_trees.specs.WitTrees.{wit_function_tree}
-use Rattle.comp_links.specs.Modules.{import_type, export_type, called_type}
-use Rattle.comp_runs.specs.Instances.{ExportType}
-use Rattle.link_laws.proofs.Stores.{plain_tree, plain_core}
-use Rattle.link_laws.proofs.Zips.{AllByRecursion-join}
-use Rattle.link_laws.proofs.Given.{plain_import}
+use Rattle.link_laws.proofs.Stores.{plain_tree, plain_core, main_module}
 
 abbrev Entries : Type 0
 Entries = List (WorldKey × WorldItem)
@@ -100,51 +107,77 @@ imported_plain w f h = rw (h.params, h.result) refl
 exported_plain : (w : ComponentWorld) (f : Function) → IsPlain f → called_type w.resolve GuestExport f ≡ externs.Func plain_core
 exported_plain w f h = rw (h.params, h.result) refl
 
+-- main is the only user module
+pub only_main : (w : ComponentWorld) → IsWorld w → user_modules w ≡ main_module w ∷ []
+only_main w ok = ap (λ (as_list : List (List ℕ × WorldAdapter)). main_module w ∷ map adapter_module as_list) ok.alone
+
+-- a user module that is listed is main
+pub listed_main : (w : ComponentWorld) → IsWorld w → (number : ℕ) (of : WorldModule) → slice_get (user_modules w) number ≡ Some of → (number ≡ 0) × (main_module w ≡ of)
+listed_main w ok number of e = by number (ap (λ l. slice_get l number) (sym (only_main w ok)) ∙ e)
+  where
+    by : (number : ℕ) → slice_get (main_module w ∷ []) number ≡ Some of → (number ≡ 0) × (main_module w ≡ of)
+    by zero e = (refl, same_Some (main_module w) of e)
+    by (suc n) e = absurd (none-some of e)
+
+pub only_main_is : (w : ComponentWorld) → IsWorld w → (number : ℕ) {of : UserModule} → IsModule w number of → number ≡ 0
+only_main_is w ok number m = (listed_main w ok number m.world_module m.listed).0
+
 -- ---- what main imports
 
-import_plain : (w : ComponentWorld) → IsWorld w → (module_name field : List ℕ) (role : Import) → IsImportRole w role →
-    import_type w (record { module_name = module_name; field = field; role = role }) ≡ plain_import (record { module_name = module_name; field = field; role = role })
-import_plain w ok module_name field (imports.WorldFunc (keys.Name text) function abi) h =
+-- the roles of a group
+pub fields_right : (w : ComponentWorld) (group : List ℕ × ImportInstance) → IsImportGroup w group → AllByRecursion (λ f. IsImportRole w f.1) (fields_of group.1)
+fields_right w (name, instances.Names fields) h = h.1
+fields_right w (name, instances.Whole which) h = absurd h
+
+-- an import that has the role of a plain function
+pub record IsPlainImport (roles : List (List ℕ × ImportInstance)) (i : ImportType) : Type 0 where
+  pub role : Import
+  pub has_role : role_at roles i.module_name i.field ≡ Some role
+  pub plain : i.ty ≡ externs.Func plain_core
+
+-- the role of a root function requires the plain core type
+import_plain : (w : ComponentWorld) → IsWorld w → (role : Import) → IsImportRole w role → type_of_import w.resolve (items_of w) role ≡ Some (externs.Func plain_core)
+import_plain w ok (imports.WorldFunc (keys.Name text) function abi) h =
     let at : IsFoundPlain (items_of w).imports text = name_found text (items_of w).imports ok.imports h.0 in
     rw (root_found at, h.2, imported_plain w at.function at.plain) refl
-import_plain w ok module_name field role h = absurd h
+import_plain w ok role h = absurd h
 
-fields_plain : (w : ComponentWorld) → IsWorld w → (module_name : List ℕ) (fs : List (List ℕ × Import)) → AllByRecursion (λ f. IsImportRole w f.1) fs →
-    AllByRecursion (λ i. import_type w i ≡ plain_import i) (map (λ f. record { module_name = module_name; field = f.0; role = f.1 }) fs)
-fields_plain w ok module_name [] h = tt
-fields_plain w ok module_name (f ∷ fs) h = (import_plain w ok module_name f.0 f.1 h.0, fields_plain w ok module_name fs h.1)
-
-groups_plain : (w : ComponentWorld) → IsWorld w → (gs : List (List ℕ × ImportInstance)) → AllByRecursion (IsImportGroup w) gs → AllByRecursion (λ i. import_type w i ≡ plain_import i) (flat_map imports_from gs)
-groups_plain w ok [] h = tt
-groups_plain w ok ((name, instances.Names fields) ∷ gs) h =
-    AllByRecursion-join (λ i. import_type w i ≡ plain_import i) (map (λ f. record { module_name = name; field = f.0; role = f.1 }) fields) (flat_map imports_from gs) (fields_plain w ok name fields h.0.1) (groups_plain w ok gs h.1)
-groups_plain w ok ((name, instances.Whole which) ∷ gs) h = absurd h.0
-
-map_same : {A B : Type 0} (f g : A → B) (xs : List A) → AllByRecursion (λ x. f x ≡ g x) xs → map f xs ≡ map g xs
-map_same f g [] h = refl
-map_same f g (x ∷ xs) h = rw (h.0, map_same f g xs h.1) refl
+one_import_plain : (w : ComponentWorld) → IsWorld w → (i : ImportType) → FitsImport w.resolve (items_of w) w.main i → IsPlainImport w.main.imports.modules i
+one_import_plain w ok i h =
+    let right : IsImportRole w h.role = role_right w w.main.imports.modules i.module_name i.field h.role ok.main.import_roles h.has_role in
+    record { role = h.role; has_role = h.has_role; plain = same_Some i.ty (externs.Func plain_core) (sym h.fits ∙ import_plain w ok h.role right) }
 
 -- main imports plain functions
-pub imports_plain : (w : ComponentWorld) → IsWorld w → map (import_type w) (core_imports w) ≡ map plain_import (core_imports w)
-imports_plain w ok = map_same (import_type w) plain_import (core_imports w) (groups_plain w ok w.main.imports.modules ok.import_roles)
+pub imports_plain : (w : ComponentWorld) → IsWorld w → AllByRecursion (IsPlainImport w.main.imports.modules) w.main.imported
+imports_plain w ok = AllByRecursion-weaker (one_import_plain w ok) w.main.imported ok.main.imported
 
 -- ---- what main exports
 
-abbrev pub plain_export : List ℕ × WorldExport → ExportType
-plain_export e = record { name = e.0; type = externs.Func plain_core }
-
-export_plain : (w : ComponentWorld) → IsWorld w → (name : List ℕ) (role : WorldExport) → IsExportRole w role → export_type w (name, role) ≡ plain_export (name, role)
-export_plain w ok name (exports.WorldFunc (keys.Name text) function abi) h =
+export_plain : (w : ComponentWorld) → IsWorld w → (role : WorldExport) → IsExportRole w role → type_of_export w.resolve (items_of w) role ≡ Some (externs.Func plain_core)
+export_plain w ok (exports.WorldFunc (keys.Name text) function abi) h =
     let at : IsFoundPlain (items_of w).exports text = name_found text (items_of w).exports ok.exports h.0 in
     rw (root_found at, h.2, exported_plain w at.function at.plain) refl
-export_plain w ok name role h = absurd h
+export_plain w ok role h = absurd h
 
-each_plain : (w : ComponentWorld) → IsWorld w → (es : List (List ℕ × WorldExport)) → AllByRecursion (λ e. IsExportRole w e.1) es → AllByRecursion (λ e. export_type w e ≡ plain_export e) es
-each_plain w ok [] h = tt
-each_plain w ok ((name, role) ∷ es) h = (export_plain w ok name role h.0, each_plain w ok es h.1)
+-- a root function that is found among the root exports is a plain function that main offers
+root_offered : (w : ComponentWorld) → IsWorld w → (text name : List ℕ) (es : List (List ℕ × WorldExport)) → AllByRecursion (λ e. IsExportRole w e.1) es → AllByRecursion (FitsExport w.resolve (items_of w) w.main) es →
+    found text (flat_map root_export es) ≡ Some name → found name w.main.offered ≡ Some (externs.Func plain_core)
+root_offered w ok text name [] r f h = absurd (none-some name h)
+root_offered w ok text name ((n, exports.WorldFunc (keys.Name t) function abi) ∷ es) r f h = by (bytes_eq text t) h (root_offered w ok text name es r.1 f.1)
+  where
+    here : found n w.main.offered ≡ Some (externs.Func plain_core)
+    here = f.0.offered ∙ (sym f.0.fits ∙ export_plain w ok (exports.WorldFunc (keys.Name t) function abi) r.0)
 
-pub exports_plain : (w : ComponentWorld) → IsWorld w → map (export_type w) w.main.exports.exports ≡ map plain_export w.main.exports.exports
-exports_plain w ok = map_same (export_type w) plain_export w.main.exports.exports (each_plain w ok w.main.exports.exports ok.export_roles)
+    by : (b : Bool) → cond b (Some n) (found text (flat_map root_export es)) ≡ Some name → (found text (flat_map root_export es) ≡ Some name → found name w.main.offered ≡ Some (externs.Func plain_core)) →
+        found name w.main.offered ≡ Some (externs.Func plain_core)
+    by true same rest = subst (λ x. found x w.main.offered ≡ Some (externs.Func plain_core)) (same_Some n name same) here
+    by false same rest = rest same
+root_offered w ok text name ((n, role) ∷ es) r f h = absurd r.0
+
+-- main offers the core export of a key, a plain function
+pub core_offered : (w : ComponentWorld) → IsWorld w → (key : WorldKey) (name : List ℕ) → core_name_of w key ≡ Some name → found name w.main.offered ≡ Some (externs.Func plain_core)
+core_offered w ok (keys.Name text) name h = root_offered w ok text name w.main.exports.exports ok.main.export_roles ok.main.exported h
+core_offered w ok (keys.Interface id) name h = absurd (none-some name h)
 
 -- main has no task hook, and no initialization
 pub no_hook : (w : ComponentWorld) (es : List (List ℕ × WorldExport)) → AllByRecursion (λ e. IsExportRole w e.1) es → first_export is_task_hook es ≡ None

@@ -1,8 +1,8 @@
 -- A list of right definitions runs, and the final state is linked.
-use Rattle.std.proofs.Common.{◌≡◌, ◌∙◌, ◌≤◌, ℕ, false, List, [], ◌∷◌, ◌++◌, length, map, refl, sym, ap, subst, append-nil, append_assoc, Some, None, arith, IsTrue}
+use Rattle.std.proofs.Common.{◌≡◌, ◌∙◌, ◌≤◌, ◌+◌, ℕ, false, List, [], ◌∷◌, ◌++◌, length, map, refl, sym, ap, ap₂, subst, append-nil, append_assoc, Some, None, arith, IsTrue}
 use Rattle.std.proofs.lemmas.List.{map-append}
 use Rattle.std.proofs.lemmas.Option.{slice_get_within}
-use Rattle.std.specs.List.{slice_get, flat_map, AllByRecursion}
+use Rattle.std.specs.List.{slice_get, flat_map}
 use Rattle.standard_kinds.specs.declared.kinds.ExportKind.TheVariants as kinds
 use Rattle.comp_bytes.specs.declared.space.Sort.TheVariants as sorts
 use Rattle.comp_bytes.specs.declared.types.Alias.TheVariants as aliases
@@ -16,6 +16,7 @@ use Rattle.wit_data.specs.Keys.{name_of_key}
 use Rattle.wit_data.specs.declared.ids.TypeId.{TypeId}
 use Rattle.comp_worlds.specs.Worlds.{IsWorld}
 use Rattle.comp_worlds.specs.declared.world.ComponentWorld.{ComponentWorld}
+use Rattle.comp_links.specs.Modules.{WorldModule}
 use Rattle.comp_links.specs.Lists.{RootFunction, stated_import}
 use Rattle.comp_links.specs.Roles.{used_functions}
 use Rattle.core_types.specs.declared.types.ValType.{ValType}
@@ -25,45 +26,46 @@ use Rattle.comp_runs.specs.Machine.{Scope, Machine, Outcome, Done, Trapped, Open
 use Rattle.comp_runs.specs.Running.{run, fresh_machine}
 use Rattle.comp_terms.specs.Rules.{IsRight, RightAfter, IsBuilt}
 use Rattle.link_laws.specs.Meeting.{task_hook}
-use Rattle.link_laws.specs.Composition.{IsComposed, at_root, item_instantiates}
-use Rattle.link_laws.specs.Linking.{module_meanings, outcome, EndsAt, start_calls, initialization, questions, LetsRun, IsLinked, Links}
+use Rattle.link_laws.specs.Composition.{IsComposed, numbers_from, instance_order, at_root, item_instantiates}
+use Rattle.link_laws.specs.Linking.{module_meanings, outcome, EndsAt, StartCall, start_calls, initialization, questions, LetsRun, IsLinked, Links}
 use Rattle.link_laws.proofs.Zips.{each_listed, map-map}
-use Rattle.link_laws.proofs.Stores.{IsPlannedUser, Agrees}
-use Rattle.link_laws.proofs.Plain.{no_initialize}
+use Rattle.link_laws.proofs.Stores.{Agrees}
+use Rattle.link_laws.proofs.Plain.{only_main, no_initialize}
 use Rattle.link_laws.proofs.Steps.{no_modules, machine, IsNow, IsGood, asks, events_of, seen_by, Steps, step_type, step_import, step_lower, step_lift, step_inline_instance, step_alias, step_export, step_module, step_custom, step_instantiate}
 use Rattle.link_laws.proofs.Marks.{root_imports, root_modules, root_instances, root_exports, root_export_names, no_customs}
 use Rattle.link_laws.proofs.Served.{users_served, stated_all, each_provided}
 
-module _ {w : ComponentWorld} {earlier : List Def} {c : Scope} {s : Store} (a : Agrees w earlier c s) where
-  step : IsWorld w → (d : Def) → IsRight w earlier d → Steps w earlier c s d
-  step ok (defs.Item (items.CoreModule bytes)) h = step_module a bytes
-  step ok (defs.Item (items.CoreInstantiate number arguments)) h = step_instantiate a ok number arguments h
-  step ok (defs.Item (items.CoreExports entries)) h = step_inline_instance a entries h
-  step ok (defs.Item (items.Alias (aliases.CoreExport kinds.Func instance name))) h = step_alias a instance name h
-  step ok (defs.Item (items.Type t)) h = subst (λ (t : TypeDef). Steps w earlier c s (defs.Item (items.Type t))) (sym h) (step_type a)
+module _ {w : ComponentWorld} {earlier : List Def} {c : Scope} {s : Store} (a : Agrees w earlier c s) (g : ℕ) where
+  step : IsWorld w → (d : Def) → IsRight w earlier d → Steps w earlier c s g d
+  step ok (defs.Item (items.CoreModule bytes)) h = step_module a g bytes
+  step ok (defs.Item (items.CoreInstantiate number arguments)) h = step_instantiate a g ok number arguments h
+  step ok (defs.Item (items.CoreExports entries)) h = step_inline_instance a g entries h
+  step ok (defs.Item (items.Alias (aliases.CoreExport kinds.Func instance name))) h = step_alias a g ok instance name h
+  step ok (defs.Item (items.Type t)) h = subst (λ (t : TypeDef). Steps w earlier c s g (defs.Item (items.Type t))) (sym h) (step_type a g)
   step ok (defs.Item (items.Lift core options kind)) h =
-      subst (λ (o : List CanonicalOption). Steps w earlier c s (defs.Item (items.Lift core o kind))) (sym h.1) (step_lift a core kind h.0 h.2)
-  step ok (defs.Item (items.Lower function options)) h = subst (λ (o : List CanonicalOption). Steps w earlier c s (defs.Item (items.Lower function o))) (sym h.1) (step_lower a function h.0)
-  step ok (defs.Item (items.Import name (descriptions.Func kind))) h = step_import a name kind h.0 h.1
-  step ok (defs.Item (items.Export name sorts.Func index None)) h = step_export a name index h
-  step ok (defs.Item (items.Custom name contents)) h = step_custom a name contents
+      subst (λ (o : List CanonicalOption). Steps w earlier c s g (defs.Item (items.Lift core o kind))) (sym h.1) (step_lift a g core kind h.0 h.2)
+  step ok (defs.Item (items.Lower function options)) h = subst (λ (o : List CanonicalOption). Steps w earlier c s g (defs.Item (items.Lower function o))) (sym h.1) (step_lower a g function h.0)
+  step ok (defs.Item (items.Import name (descriptions.Func kind))) h = step_import a g name kind h.1
+  step ok (defs.Item (items.Export name sorts.Func index None)) h = step_export a g ok name index h
+  step ok (defs.Item (items.Custom name contents)) h = step_custom a g name contents
   step ok _ h = absurd h
 
 -- the calls of the outside that a list makes, in order, by their result types
 abbrev asked_by : List Def → List (List ValType)
 asked_by ds = flat_map asks ds
 
-abbrev Resolves : ComponentWorld → List Def → List Def → Scope → Store → Type 0
-Resolves w earlier rest c s =
-    (e : Scope) × (t : Store) × ((es : List Event) (now : Now) → IsNow es now → IsGood e t (es ++ seen_by rest) (asked_by rest) now.answers (run (module_meanings w no_modules) rest (machine c s now)))
+abbrev Resolves : ComponentWorld → List Def → List Def → Scope → Store → ℕ → Type 0
+Resolves w earlier rest c s g =
+    (e : Scope) × (t : Store) × (k : ℕ)
+    × ((es : List Event) (now : Now) → IsNow es g now → IsGood e t k (es ++ seen_by rest) (asked_by rest) now.answers (run (module_meanings w no_modules) rest (machine c s now)))
     × Agrees w (earlier ++ rest) e t
 
-resolves : (w : ComponentWorld) → IsWorld w → (earlier rest : List Def) (c : Scope) (s : Store) → Agrees w earlier c s → RightAfter w earlier rest → Resolves w earlier rest c s
-resolves w ok earlier [] c s a h = (c, s, λ es now at. (refl, refl, subst (λ l. IsNow l now) (sym (append-nil es)) at), rw append-nil a)
-resolves w ok earlier (d ∷ ds) c s a h =
-    let one : Steps w earlier c s d = step a ok d h.0 in
-    let all : Resolves w (earlier ++ d ∷ []) ds one.0 one.1 = resolves w ok (earlier ++ d ∷ []) ds one.0 one.1 one.3 h.1 in
-    (all.0, all.1, λ es now at. one.2.continues all.0 all.1 es (asked_by ds) ds (λ n k. all.2 (es ++ events_of d) n k) now at, subst (λ l. Agrees w l all.0 all.1) (append_assoc earlier (d ∷ []) ds) all.3)
+resolves : (w : ComponentWorld) → IsWorld w → (earlier rest : List Def) (c : Scope) (s : Store) (g : ℕ) → Agrees w earlier c s → RightAfter w earlier rest → Resolves w earlier rest c s g
+resolves w ok earlier [] c s g a h = (c, s, g, λ es now at. (refl, refl, subst (λ l. IsNow l g now) (sym (append-nil es)) at), rw append-nil a)
+resolves w ok earlier (d ∷ ds) c s g a h =
+    let one : Steps w earlier c s g d = step a g ok d h.0 in
+    let all : Resolves w (earlier ++ d ∷ []) ds one.0 one.1 one.2 = resolves w ok (earlier ++ d ∷ []) ds one.0 one.1 one.2 one.4 h.1 in
+    (all.0, all.1, all.2, λ es now at. one.3.continues all.0 all.1 all.2 es (asked_by ds) ds (λ n k. all.3 (es ++ events_of d) n k) now at, subst (λ l. Agrees w l all.0 all.1) (append_assoc earlier (d ∷ []) ds) all.4)
 
 -- such lists have one entry for each instantiation
 asked-each : (ds : List Def) → asked_by ds ≡ map (λ (n : ℕ). []) (flat_map (at_root item_instantiates) ds)
@@ -80,18 +82,18 @@ seen-each (d ∷ ds) = rw (seen-each ds) (sym (map-append (λ (n : ℕ). Instant
 pub composed : (w : ComponentWorld) (ds : List Def) → IsWorld w → IsBuilt w ds → IsComposed w no_modules ds
 composed w ds ok built = record {
   generated = [];
-  modules = root_modules w ds built;
+  modules = root_modules w ds built ∙ sym (ap (λ us. map (λ (u : WorldModule). u.found.bytes) us ++ []) (only_main w ok));
   encoded = tt;
   imports = root_imports w ds built ∙ sym (map-map stated_import RootFunction (used_functions w));
-  exports = root_exports w ds built ∙ stated_all w ok w.main_exports ok.required;
-  instances = root_instances w ds built;
+  exports = root_exports w ds built ∙ stated_all w ok w.main_exports ok.main.required;
+  instances = root_instances w ds built ∙ sym (ap (λ (us : List WorldModule). instance_order (length us) no_modules) (only_main w ok));
   customs = record { front = built.front; names = built.names; whole = built.whole; none_before = no_customs w ds built; named = built.named };
 }
 
 -- ---- as a run
 
 no_calls : (w : ComponentWorld) → IsWorld w → start_calls w ≡ []
-no_calls w ok = ap (initialization (task_hook w)) (no_initialize w w.main.exports.exports ok.export_roles)
+no_calls w ok = ap (initialization (task_hook w)) (no_initialize w w.main.exports.exports ok.main.export_roles)
 
 start : (w : ComponentWorld) → Agrees w [] (fresh_machine []).scope (fresh_machine []).store
 start w = record { means = tt; modules = refl; instances = refl; served = tt; exports = refl; lifted = tt; imports = refl }
@@ -103,28 +105,28 @@ linked_at_end w ds m ok built a events =
     record {
       origins = origins;
       start_events = [];
-      instances = a.instances ∙ root_instances w ds built;
-      imports = users_served w ok m origins (subst (λ is. AllByRecursion (IsPlannedUser w is m.store) m.store.module_instances) (root_imports w ds built) a.served);
-      exports = each_provided w ok m origins (a.exports ∙ root_export_names w ds built) a.lifted w.main_exports ok.required (each_listed name_of_key w.main_exports);
-      events = events;
+      instances = a.instances ∙ (root_instances w ds built ∙ sym (ap (λ (us : List WorldModule). instance_order (length us) no_modules) (only_main w ok)));
+      imports = users_served w ok m origins a.served;
+      exports = each_provided w ok m origins (a.exports ∙ root_export_names w ds built) a.lifted w.main_exports ok.main.required (each_listed name_of_key w.main_exports);
+      events = events ∙ sym (ap (λ (us : List WorldModule). map (λ n. Instantiated n) (numbers_from 0 (length us)) ++ []) (only_main w ok));
       started = rw (no_calls w ok) tt;
     }
 
-module _ (e : Scope) (t : Store) (es : List Event) (questions : List (List ValType)) (answers : List Answer) where
-  not_stuck : (o : Outcome) → IsGood e t es questions answers o → o ≡ Stuck → ⊥
-  not_stuck o h same = subst (IsGood e t es questions answers) same h
+module _ (e : Scope) (t : Store) (g : ℕ) (es : List Event) (questions : List (List ValType)) (answers : List Answer) where
+  not_stuck : (o : Outcome) → IsGood e t g es questions answers o → o ≡ Stuck → ⊥
+  not_stuck o h same = subst (IsGood e t g es questions answers) same h
 
-  is_done : (o : Outcome) → IsGood e t es questions answers o → LetsRun questions answers → (m : Machine) × (o ≡ Done m)
+  is_done : (o : Outcome) → IsGood e t g es questions answers o → LetsRun questions answers → (m : Machine) × (o ≡ Done m)
   is_done (Done m) h l = (m, refl)
   is_done (Trapped m) h l = absurd (h.0 l)
   is_done (Open m) h l = absurd (h.0 l)
   is_done Stuck h l = absurd h
 
-  done_with : (o : Outcome) (m : Machine) → IsGood e t es questions answers o → o ≡ Done m → (m.scope ≡ e) × (m.store ≡ t) × IsNow es m.now
-  done_with o m h same = subst (IsGood e t es questions answers) same h
+  done_with : (o : Outcome) (m : Machine) → IsGood e t g es questions answers o → o ≡ Done m → (m.scope ≡ e) × (m.store ≡ t) × IsNow es g m.now
+  done_with o m h same = subst (IsGood e t g es questions answers) same h
 
   -- nothing is seen after all events
-  few_moments : (o : Outcome) (m : Machine) → IsGood e t es questions answers o → EndsAt m o → length m.now.moments ≤ length es
+  few_moments : (o : Outcome) (m : Machine) → IsGood e t g es questions answers o → EndsAt m o → length m.now.moments ≤ length es
   few_moments (Done n) m h same = let l : length n.now.moments ≡ length es = h.2.moments in subst (λ (x : Machine). length x.now.moments ≤ length es) same (omega (arith, l))
   few_moments (Trapped n) m h same = subst (λ (x : Machine). length x.now.moments ≤ length es) same h.1
   few_moments (Open n) m h same = subst (λ (x : Machine). length x.now.moments ≤ length es) same h.1
@@ -136,23 +138,26 @@ no_later xs n x few late e = let within = slice_get_within xs n x e in omega (ar
 -- what was built links, whatever the outside returns
 pub links : (w : ComponentWorld) (ds : List Def) → IsWorld w → IsBuilt w ds → Links w no_modules ds
 links w ds ok built =
-    let all : Resolves w [] ds (fresh_machine []).scope (fresh_machine []).store = resolves w ok [] ds (fresh_machine []).scope (fresh_machine []).store (start w) built.right in
-    let asked : asked_by ds ≡ questions w = asked-each ds ∙ (ap (map (λ (n : ℕ). [])) (root_instances w ds built) ∙ sym (ap (λ cs. ([] ∷ []) ++ map (λ c. []) cs) (no_calls w ok))) in
+    let all : Resolves w [] ds (fresh_machine []).scope (fresh_machine []).store 0 = resolves w ok [] ds (fresh_machine []).scope (fresh_machine []).store 0 (start w) built.right in
+    let asked : asked_by ds ≡ questions w =
+    asked-each ds
+    ∙ (ap (map (λ (n : ℕ). [])) (root_instances w ds built)
+    ∙ sym (ap₂ (λ (us : List WorldModule) (cs : List StartCall). map (λ m. []) us ++ map (λ c. []) cs) (only_main w ok) (no_calls w ok))) in
     let seen : seen_by ds ≡ Instantiated 0 ∷ [] = seen-each ds ∙ ap (map (λ (n : ℕ). Instantiated n)) (root_instances w ds built) in
     let one : List Event = Instantiated 0 ∷ [] in
-    let good : (answers : List Answer) → IsGood all.0 all.1 one (questions w) answers (outcome w no_modules ds answers) =
-    λ answers. subst (λ q. IsGood all.0 all.1 one q answers (outcome w no_modules ds answers)) asked
-    (subst (λ es. IsGood all.0 all.1 es (asked_by ds) answers (outcome w no_modules ds answers)) seen (all.2 [] (fresh_machine answers).now (record { events = refl; moments = refl }))) in
+    let good : (answers : List Answer) → IsGood all.0 all.1 all.2 one (questions w) answers (outcome w no_modules ds answers) =
+    λ answers. subst (λ q. IsGood all.0 all.1 all.2 one q answers (outcome w no_modules ds answers)) asked
+    (subst (λ es. IsGood all.0 all.1 all.2 es (asked_by ds) answers (outcome w no_modules ds answers)) seen (all.3 [] (fresh_machine answers).now (record { events = refl; moments = refl; globals = refl }))) in
     record {
-      never_stuck = λ answers. not_stuck all.0 all.1 one (questions w) answers (outcome w no_modules ds answers) (good answers);
-      ends = λ answers. is_done all.0 all.1 one (questions w) answers (outcome w no_modules ds answers) (good answers);
+      never_stuck = λ answers. not_stuck all.0 all.1 all.2 one (questions w) answers (outcome w no_modules ds answers) (good answers);
+      ends = λ answers. is_done all.0 all.1 all.2 one (questions w) answers (outcome w no_modules ds answers) (good answers);
       linked = λ answers m done.
-          let is : (m.scope ≡ all.0) × (m.store ≡ all.1) × IsNow one m.now = done_with all.0 all.1 one (questions w) answers (outcome w no_modules ds answers) m (good answers) done in
-          linked_at_end w ds m ok built (subst (λ s. Agrees w ds m.scope s) (sym is.1) (subst (λ c. Agrees w ds c all.1) (sym is.0) all.3)) is.2.events;
+          let is : (m.scope ≡ all.0) × (m.store ≡ all.1) × IsNow one all.2 m.now = done_with all.0 all.1 all.2 one (questions w) answers (outcome w no_modules ds answers) m (good answers) done in
+          linked_at_end w ds m ok built (subst (λ s. Agrees w ds m.scope s) (sym is.1) (subst (λ c. Agrees w ds c all.1) (sym is.0) all.4)) is.2.events;
       traps_before = record { each = λ before after whole quiet there answers m done address shim. absurd (no there) };
       served_throughout = record {
         each = λ answers m ends event globals late at.
-            absurd (no_later m.now.moments event globals (few_moments all.0 all.1 one (questions w) answers (outcome w no_modules ds answers) m (good answers) ends) late at);
+            absurd (no_later m.now.moments event globals (few_moments all.0 all.1 all.2 one (questions w) answers (outcome w no_modules ds answers) m (good answers) ends) (subst (λ (us : List WorldModule). length us + 0 ≤ event) (only_main w ok) late) at);
       };
     }
   where

@@ -21,24 +21,22 @@ use Rattle.wit_data.specs.Keys.{name_of_key}
 use Rattle.wit_data.specs.declared.ids.TypeId.{TypeId}
 use Rattle.wit_data.specs.declared.worlds.WorldKey.{WorldKey}
 use Rattle.wit_data.specs.declared.worlds.WorldKey.TheVariants as keys
-use Rattle.comp_roles.specs.declared.imports.Import.{Import}
-use Rattle.comp_roles.specs.declared.imports.Import.TheVariants as imports
-use Rattle.comp_worlds.specs.Worlds.{IsWorld, IsRequired, items_of, imported_functions, core_imports, core_name_of, imported_name}
+use Rattle.comp_roles.specs.declared.offered.ImportType.{ImportType}
+use Rattle.comp_worlds.specs.Worlds.{IsWorld, IsRequired, items_of, imported_functions, core_name_of}
 use Rattle.comp_worlds.specs.declared.world.ComponentWorld.{ComponentWorld}
+use Rattle.comp_worlds.specs.declared.world.WorldAdapter.{WorldAdapter}
 use Rattle.comp_trees.specs.Trees.{FunctionTree}
 use Rattle.comp_trees.specs.WitTrees.{wit_function_tree}
-use Rattle.comp_links.specs.Targets.{Main, OfRoot, Lowered, Lifted}
-use Rattle.comp_links.specs.Modules.{WorldModule, user_modules, import_type, export_type}
+use Rattle.comp_links.specs.Targets.{Main, OfRoot, OfInterface, Target, Lowered, Lifted}
+use Rattle.comp_links.specs.Modules.{WorldModule, adapter_module, user_modules}
 use Rattle.comp_links.specs.Roles.{is_used, used_functions}
-use Rattle.comp_links.specs.Lists.{Stated, RootFunction, root_function, stated_export, functions_required, functions_in}
-use Rattle.comp_links.specs.Links.{link_of}
-use Rattle.comp_runs.specs.Store.{Thing, Export, CoreItem, Lowering, ExportedBy, Imported, Lifting, ModuleInstance}
+use Rattle.comp_links.specs.Lists.{ImportEntry, RootFunction, import_entries, IsOriginOf, root_function, stated_export, functions_required, functions_in}
+use Rattle.comp_runs.specs.Store.{Thing, Export, Origin, CoreItem, Lowering, ExportedBy, Imported, Lifting, ModuleInstance}
 use Rattle.comp_runs.specs.Machine.{Machine, export_named, export_in, export_of}
-use Rattle.comp_runs.specs.Instances.{ImportType}
 use Rattle.link_laws.specs.Meeting.{CoreMeets, task_hook, hooks_round, ItemIsExport, ItemIsLowering, Meets, MeetsIn, entry_kind}
 use Rattle.link_laws.specs.Linking.{IsServed, AreServed, UsersServed, IsProvided, exports_at, function_in}
 use Rattle.link_laws.proofs.Zips.{filter-all, found-each, found-listed, mapped_some, AllByRecursion-join}
-use Rattle.link_laws.proofs.Stores.{plain_tree, plain_core, IsOpaque, IsServedAs, IsServedBy, IsPlanned, IsPlannedUser, IsMainExport, IsLiftedExport}
+use Rattle.link_laws.proofs.Stores.{plain_tree, plain_core, IsOpaque, IsLoweringOf, IsServedAs, main_module, IsPlanned, IsPlannedUser, IsMainExport, IsLiftedExport}
 use Rattle.link_laws.proofs.Plain.{IsFoundPlain, key_found, name_found, root_found, plain_type_of, no_hook}
 
 -- ---- opaque functions
@@ -57,7 +55,7 @@ acts_alone store address what signature hook e arguments now = rw e (sym (return
 
 module _ (w : ComponentWorld) (ok : IsWorld w) (m : Machine) where
   main_has_no_hook : task_hook w ≡ None
-  main_has_no_hook = no_hook w w.main.exports.exports ok.export_roles
+  main_has_no_hook = no_hook w w.main.exports.exports ok.main.export_roles
 
   no_hooks : (kind : Option Bracketed) → hooks_round w kind ≡ around None Nothing
   no_hooks None = refl
@@ -96,60 +94,48 @@ from_filter p (y ∷ xs) i x e = by (λ j f. from_filter p xs j x f) (p y) i e
     by rest true (suc j) f = later (rest j f)
     by rest false j f = later (rest j f)
 
--- a stated import under the name of a root function is that function
-stated_text : (w : ComponentWorld) (number : ℕ) (text : List ℕ) → slice_get (map root_function (used_functions w)) number ≡ Some (root_function text) → slice_get (used_functions w) number ≡ Some text
-stated_text w number text e =
-    let x : (t : List ℕ) × (slice_get (used_functions w) number ≡ Some t) × (root_function t ≡ root_function text) =
-    mapped_some root_function (slice_get (used_functions w) number) (root_function text) (sym (slice_get-map root_function (used_functions w) number) ∙ e) in
-    x.1 ∙ ap (λ t. Some t) (ap (λ (s : Stated). s.name.name) x.2)
+-- the used function of an origin
+used_text : (w : ComponentWorld) (number : ℕ) (text : List ℕ) → slice_get (import_entries w) number ≡ Some (RootFunction text) → slice_get (used_functions w) number ≡ Some text
+used_text w number text e =
+    let x : (t : List ℕ) × (slice_get (used_functions w) number ≡ Some t) × (RootFunction t ≡ RootFunction text) =
+    mapped_some RootFunction (slice_get (used_functions w) number) (RootFunction text) (sym (slice_get-map RootFunction (used_functions w) number) ∙ e) in
+    x.1 ∙ ap (λ t. Some t) (ap text_of x.2)
+  where
+    text_of : ImportEntry → List ℕ
+    text_of (RootFunction name) = name
 
 module _ (w : ComponentWorld) (ok : IsWorld w) (m : Machine) (origins : TypeId → ℕ) where
-  -- main, as a user module
-  abbrev main_module : WorldModule
-  main_module = record {
-    of = Main;
-    bytes = w.main.bytes;
-    imports = map (import_type w) (core_imports w);
-    exports = map (export_type w) w.main.exports.exports;
-    roles = w.main.imports.modules;
-  }
-
-  import_meets : (address : ℕ) (text : List ℕ) → IsServedBy (map root_function (used_functions w)) m.store address text → CoreMeets w m None address (ItemIsLowering w m origins (OfRoot text) [])
-  import_meets address text h =
-      let used : slice_get (used_functions w) h.imported.number ≡ Some text = stated_text w h.imported.number text h.imported.at in
-      let at : IsFoundPlain (items_of w).imports text = name_found text (items_of w).imports ok.imports (from_filter (is_used w) (imported_functions w) h.imported.number text used) in
+  import_meets : (address : ℕ) (text : List ℕ) (origin : Origin) → IsOriginOf w (OfRoot text) origin → IsLoweringOf m.store address origin → CoreMeets w m None address (ItemIsLowering w m origins (OfRoot text) [])
+  import_meets address text origin of h =
+      let used : slice_get (used_functions w) origin.number ≡ Some text = used_text w origin.number text of.0 in
+      let at : IsFoundPlain (items_of w).imports text = name_found text (items_of w).imports ok.imports (from_filter (is_used w) (imported_functions w) origin.number text used) in
       let typed : wit_function_tree origins w.resolve.types at.function ≡ plain_tree = plain_type_of w origins at.function at.plain in
       opaque_meets w ok m None address (Lowering h.of []) (ItemIsLowering w m origins (OfRoot text) []) h.is (
-        record {
-          origin = record { number = h.imported.number; inner = None };
-          wit = at.function;
-          is = h.imported.is ∙ ap (λ (f : FunctionTree). Some (Imported (record { number = h.imported.number; inner = None }) f)) (sym typed);
-          from = (slice_get-map RootFunction (used_functions w) h.imported.number ∙ ap (option_map RootFunction) used, refl);
-          type_of = root_found at;
-        },
+        record { origin = origin; wit = at.function; is = h.imported ∙ ap (λ (f : FunctionTree). Some (Imported origin f)) (sym typed); from = of; type_of = root_found at },
         tt,
       )
 
-  thing_meets : (t : Thing) (role : Import) → t.space ≡ spaces.CoreFunc → IsServedAs (map root_function (used_functions w)) m.store t.address (imported_name role) → Meets w m origins t (link_of w Main role)
-  thing_meets t (imports.WorldFunc (keys.Name text) function abi) space h =
-      subst (λ space. MeetsIn w m origins space t.address (Lowered (OfRoot text) [])) (sym space) (import_meets t.address text h)
-  thing_meets t role space h = absurd h
+  thing_meets : (t : Thing) (target : Target) → t.space ≡ spaces.CoreFunc → IsServedAs w m.store t.address target → Meets w m origins t target
+  thing_meets t (Lowered (OfRoot text) []) space h =
+      subst (λ space. MeetsIn w m origins space t.address (Lowered (OfRoot text) [])) (sym space) (import_meets t.address text h.0 h.1 h.2)
+  thing_meets t (Lowered (OfInterface interface name) []) space h = absurd h.1
+  thing_meets t target space h = absurd h
 
-  planned_served : (t : Thing) (i : ImportType) → IsPlanned w.main.imports.modules (map root_function (used_functions w)) m.store t i → IsServed w m origins main_module t i
-  planned_served t i h = record { role = h.role; has_role = h.has_role; meets = thing_meets t h.role h.space h.serves }
+  planned_served : (t : Thing) (i : ImportType) → IsPlanned w m.store t i → IsServed w m origins (main_module w) t i
+  planned_served t i h = record { target = h.target; said = h.said; meets = thing_meets t h.target h.space h.serves }
 
-  instance_served : (i : ModuleInstance) (of : WorldModule) (number : ℕ) → slice_get (user_modules w) number ≡ Some of → IsPlannedUser w (map root_function (used_functions w)) m.store i → AreServed w m origins of i
+  instance_served : (i : ModuleInstance) (of : WorldModule) (number : ℕ) → slice_get (user_modules w) number ≡ Some of → IsPlannedUser w m.store i → AreServed w m origins of i
   instance_served i of zero e h =
-      subst (λ (o : WorldModule). AreServed w m origins o i) (same_Some main_module of e) (AllZip-weaker planned_served i.given (map (import_type w) (core_imports w)) h)
-  instance_served i of (suc number) e h = absurd (none-some of e)
+      subst (λ (o : WorldModule). AreServed w m origins o i) (same_Some (main_module w) of e) (AllZip-weaker planned_served i.given w.main.imported h)
+  instance_served i of (suc number) e h = absurd (none-some of (subst (λ (as_list : List (List ℕ × WorldAdapter)). slice_get (map adapter_module as_list) number ≡ Some of) ok.alone e))
 
   -- each import of main is served
-  pub users_served : AllByRecursion (IsPlannedUser w (map root_function (used_functions w)) m.store) m.store.module_instances → UsersServed w m origins
+  pub users_served : AllByRecursion (IsPlannedUser w m.store) m.store.module_instances → UsersServed w m origins
   users_served all = record { each = λ instance i of present listed. instance_served i of i.module_number listed (at_index m.store.module_instances instance i all present) }
     where
-      at_index : (is : List ModuleInstance) (n : ℕ) (i : ModuleInstance) → AllByRecursion (IsPlannedUser w (map root_function (used_functions w)) m.store) is → slice_get is n ≡ Some i → IsPlannedUser w (map root_function (used_functions w)) m.store i
+      at_index : (is : List ModuleInstance) (n : ℕ) (i : ModuleInstance) → AllByRecursion (IsPlannedUser w m.store) is → slice_get is n ≡ Some i → IsPlannedUser w m.store i
       at_index [] n i h e = absurd (none-some i e)
-      at_index (x ∷ is) zero i h e = subst (IsPlannedUser w (map root_function (used_functions w)) m.store) (same_Some x i e) h.0
+      at_index (x ∷ is) zero i h e = subst (IsPlannedUser w m.store) (same_Some x i e) h.0
       at_index (x ∷ is) (suc n) i h e = at_index is n i h.1 e
 
 -- ---- exports
@@ -166,7 +152,7 @@ pub record IsPlainKey (w : ComponentWorld) (key : WorldKey) : Type 0 where
   pub role : core_name_of w (keys.Name text) ≡ Some core
   pub found : IsFoundPlain (items_of w).exports text
 
-pub plain_key : (w : ComponentWorld) → IsWorld w → (key : WorldKey) → IsRequired w key → IsPlainKey w key
+pub plain_key : (w : ComponentWorld) → IsWorld w → (key : WorldKey) → IsRequired w w.main key → IsPlainKey w key
 plain_key w ok (keys.Name text) h = by (core_name_of w (keys.Name text)) refl h.present
   where
     by : (o : Option (List ℕ)) → core_name_of w (keys.Name text) ≡ o → IsSome o → IsPlainKey w (keys.Name text)
@@ -178,7 +164,7 @@ plain_key w ok (keys.Interface id) h = let no = h.present in cc
 stated_plain : (w : ComponentWorld) (key : WorldKey) → IsPlainKey w key → stated_export w (record { of = Main; key = key }) ≡ root_function (name_of_key key)
 stated_plain w key h = rw (h.is, h.found.present) refl
 
-pub stated_all : (w : ComponentWorld) → IsWorld w → (required : List WorldKey) → AllByRecursion (IsRequired w) required →
+pub stated_all : (w : ComponentWorld) → IsWorld w → (required : List WorldKey) → AllByRecursion (IsRequired w w.main) required →
     map (λ key. root_function (name_of_key key)) required ≡ map (stated_export w) (map (λ key. record { of = Main; key = key }) required)
 stated_all w ok [] h = refl
 stated_all w ok (key ∷ required) h = rw (stated_plain w key (plain_key w ok key h.0), stated_all w ok required h.1) refl
@@ -194,7 +180,7 @@ module _ (w : ComponentWorld) (ok : IsWorld w) (m : Machine) (origins : TypeId �
     record {
       number = 0;
       is = record { made = h.of.instance; present = h.of.present; of = h.of.of };
-      of = record { world_module = main_module w ok m origins; listed = refl; same = refl };
+      of = record { world_module = main_module w; listed = refl; same = refl };
       same_name = refl;
     },
   )
@@ -236,7 +222,7 @@ module _ (w : ComponentWorld) (ok : IsWorld w) (m : Machine) (origins : TypeId �
       (subst (λ o. AllByRecursion (IsProvided w m origins) (map (λ name. record { of = Main; key = keys.Name k.text; function = name }) (functions_in w.resolve o))) (sym k.found.present)
       (provided k.text k.core k.role k.found (subst (λ key. list_any (bytes_eq (name_of_key key)) (map name_of_key w.main_exports) ≡ true) k.is h), tt))
 
-  pub each_provided : (required : List WorldKey) → AllByRecursion (IsRequired w) required → AllByRecursion (λ key. list_any (bytes_eq (name_of_key key)) (map name_of_key w.main_exports) ≡ true) required →
+  pub each_provided : (required : List WorldKey) → AllByRecursion (IsRequired w w.main) required → AllByRecursion (λ key. list_any (bytes_eq (name_of_key key)) (map name_of_key w.main_exports) ≡ true) required →
       AllByRecursion (IsProvided w m origins) (flat_map (functions_required w) (map (λ key. record { of = Main; key = key }) required))
   each_provided [] r h = tt
   each_provided (key ∷ required) r h =

@@ -1,5 +1,5 @@
 -- A worked example: the list with shims is linked, whatever the outside returns, and with the slots crossed it isn't.
-use Rattle.std.proofs.Common.{◌≡◌, ◌∙◌, ℕ, zero, suc, true≢false, List, [], ◌∷◌, refl, sym, ap, map, subst, Option, Some, None, IsTrue, arith}
+use Rattle.std.proofs.Common.{◌≡◌, ◌∙◌, ℕ, zero, suc, true≢false, List, [], ◌∷◌, refl, sym, ap, subst, Option, Some, None, IsTrue, arith}
 use Rattle.std.proofs.lemmas.Option.{none-some, same_Some}
 use Rattle.std.specs.List.{slice_get}
 use Rattle.comp_bytes.proofs.Worked.{f, root}
@@ -11,19 +11,13 @@ use Rattle.core_runs.specs.Store.{Func, Generated, Opaque, Answer, Gives, Now}
 use Rattle.core_runs.specs.Execution.{exec, acts}
 use Rattle.core_runs.specs.Expected.{expected}
 use Rattle.wit_data.specs.declared.ids.TypeId.{TypeId}
-use Rattle.wit_data.specs.declared.functions.AbiVariant.TheVariants.{GuestImport}
 use Rattle.wit_data.specs.declared.functions.Function.{Function as WitFunction}
 use Rattle.wit_data.specs.declared.functions.FunctionKind.TheVariants.{Freestanding}
-use Rattle.wit_data.specs.declared.worlds.WorldKey.TheVariants as keys
-use Rattle.comp_roles.specs.declared.imports.Import.{Import}
-use Rattle.comp_roles.specs.declared.imports.Import.TheVariants as imports
 use Rattle.comp_roles.specs.declared.offered.ExternType.TheVariants as externs
-use Rattle.comp_worlds.specs.Worlds.{core_imports}
-use Rattle.comp_links.specs.Targets.{Main, OfRoot}
-use Rattle.comp_links.specs.Modules.{WorldModule, user_modules, import_type, export_type}
-use Rattle.comp_links.specs.Links.{link_of}
+use Rattle.comp_roles.specs.declared.offered.ImportType.{ImportType}
+use Rattle.comp_links.specs.Targets.{Main, OfRoot, Lowered}
+use Rattle.comp_links.specs.Modules.{WorldModule, user_modules}
 use Rattle.comp_links.specs.Lists.{RootFunction, import_entries}
-use Rattle.comp_runs.specs.Instances.{ImportType}
 use Rattle.comp_runs.specs.Store.{CoreItem, Lowering, ModuleInstance}
 use Rattle.comp_runs.specs.Machine.{Machine}
 use Rattle.link_laws.specs.Meeting.{CoreMeets, ItemIsLowering, IsImport, Meets}
@@ -37,16 +31,7 @@ use Rattle.link_laws.proofs.WorkedShims.{world, generated, whole, shims_instance
 
 -- main, as a user module
 abbrev main_module : WorldModule
-main_module = record {
-  of = Main;
-  bytes = world.main.bytes;
-  imports = map (import_type world) (core_imports world);
-  exports = map (export_type world) world.main.exports.exports;
-  roles = world.main.imports.modules;
-}
-
-abbrev role_of : List ℕ → Import
-role_of name = imports.WorldFunc (keys.Name name) name GuestImport
+main_module = record { of = Main; found = world.main }
 
 abbrev wit_of : List ℕ → WitFunction
 wit_of name = record { name = name; kind = Freestanding; params = []; result = None }
@@ -97,7 +82,7 @@ module _ (number : ℕ) (rest : List Answer) where
   }
 
   main_served : AreServed world m no_origins main_module main_instance
-  main_served = (record { role = role_of f; has_role = refl; meets = meets_f }, (record { role = role_of h; has_role = refl; meets = meets_h }, tt))
+  main_served = (record { target = Lowered (OfRoot f) []; said = refl; meets = meets_f }, (record { target = Lowered (OfRoot h) []; said = refl; meets = meets_h }, tt))
 
   -- an instance of a generated module is none of a user module
   of_no_user : (i j : ModuleInstance) (of : WorldModule) → i ≡ j → slice_get (user_modules world) i.module_number ≡ None → slice_get (user_modules world) j.module_number ≡ Some of → ⊥
@@ -170,10 +155,10 @@ no_lowering_of_f origins x =
 
 -- main's first import, which is to be f
 abbrev first_import : ImportType
-first_import = record { module_name = root; field = f; type = externs.Func plain_core }
+first_import = record { module_name = root; field = f; ty = externs.Func plain_core }
 
 first_meets : (origins : TypeId → ℕ) → IsServed world c origins main_module (core_function 0) first_import → CoreMeets world c None 0 (ItemIsLowering world c origins (OfRoot f) [])
-first_meets origins s = subst (λ r. Meets world c origins (core_function 0) (link_of world Main r)) (same_Some s.role (role_of f) (sym s.has_role)) s.meets
+first_meets origins s = subst (Meets world c origins (core_function 0)) (same_Some s.target (Lowered (OfRoot f) []) (sym s.said)) s.meets
 
 pub crossed_is_not_linked : IsLinked world (generated (1 ∷ 0 ∷ [])) (machine_of crossed) → ⊥
 crossed_is_not_linked l = no_lowering_of_f l.origins (first_meets l.origins (l.imports.each 1 _ _ refl refl).0)

@@ -1,7 +1,7 @@
 -- Worked examples: worlds, lists of definitions, and how running them ends.
-use Rattle.std.proofs.Common.{◌≡◌, ℕ, zero, suc, List, [], ◌∷◌, refl, true, false, Option, Some, None, map, take, arith}
+use Rattle.std.proofs.Common.{◌≡◌, ℕ, zero, suc, List, [], ◌∷◌, refl, true, false, Option, Some, None, map, take, drop, arith}
 use Rattle.std.specs.Option.{option_map}
-use Rattle.std.specs.List.{slice_get}
+use Rattle.std.specs.List.{slice_get, flat_map}
 use Rattle.std.specs.Str.{bytes_eq}
 use Rattle.comp_bytes.proofs.Worked.{plain, f, g, root, core, one_import_one_export}
 use Rattle.standard_kinds.specs.declared.kinds.ExportKind.TheVariants as kinds
@@ -40,19 +40,23 @@ use Rattle.core_types.specs.declared.types.RefType.TheVariants.{FuncRef}
 use Rattle.core_types.specs.declared.types.MemoryType.{MemoryType}
 use Rattle.comp_roles.specs.declared.offered.ExternType.{ExternType}
 use Rattle.comp_roles.specs.declared.offered.ExternType.TheVariants as externs
+use Rattle.comp_roles.specs.declared.offered.ImportType.{ImportType}
+use Rattle.comp_roles.specs.CoreTypes.{function_type}
 use Rattle.core_runs.specs.Values.{I32Value}
 use Rattle.core_runs.specs.Store.{Store as CodeStore, Func, Opaque, Cell, Foreign, Answer, Gives, Traps, Event, Instantiated, Called}
 use Rattle.core_runs.specs.Execution.{exec, acts}
 use Rattle.comp_runs.specs.Store.{Thing, Export, Origin, CoreItem, Lowering, IntrinsicOf, ExportedBy, Function, Imported, Lifting, ModuleInstance}
 use Rattle.comp_bytes.specs.ItemIndices.{in_space}
-use Rattle.comp_terms.specs.Facts.{IsFunctionType, IsImported, IsLowered, IsArgumentFor, IsMain, IsLiftFor}
+use Rattle.comp_terms.specs.Terms.{IsFunctionType, IsLowering, IsInstanceOf}
+use Rattle.comp_terms.specs.Terms as terms
+use Rattle.comp_terms.specs.Planned.{IsItemFor, IsArgumentFor}
+use Rattle.comp_links.specs.Targets.{Main, Lifted as LiftedFrom}
 use Rattle.std.specs.List.{IsDistinct}
-use Rattle.comp_terms.specs.Rules.{IsBuilt}
+use Rattle.comp_terms.specs.Rules.{plain_function, IsBuilt}
 use Rattle.comp_runs.specs.Machine.{Machine, Outcome, Done, Trapped, Open, Stuck, new_core_function, resumed}
-use Rattle.comp_runs.specs.Instances.{ExportType, new_user}
-use Rattle.comp_runs.specs.Signatures.{function_type}
+use Rattle.comp_runs.specs.Instances.{ExportTypes, new_user}
 use Rattle.link_laws.specs.Linking.{outcome}
-use Rattle.link_laws.proofs.Stores.{plain_tree, plain_core}
+use Rattle.link_laws.proofs.Stores.{plain_tree, plain_core, main_module}
 use Rattle.link_laws.proofs.Steps.{no_modules}
 use Rattle.comp_runs.specs.Running.{fresh_machine}
 
@@ -72,6 +76,13 @@ group g = (g.0, instances.Names (map imported_as g.1))
 abbrev exported_as : List ℕ × List ℕ → List ℕ × WorldExport
 exported_as e = (e.0, exports.WorldFunc (keys.Name e.1) e.1 GuestExport)
 
+-- what validation finds: imports and exports of plain functions
+abbrev imports_found : List ℕ × List (List ℕ × List ℕ) → List ImportType
+imports_found g = map (λ field. record { module_name = g.0; field = field.0; ty = externs.Func plain_core }) g.1
+
+abbrev export_found : List ℕ × List ℕ → List ℕ × ExternType
+export_found e = (e.0, externs.Func plain_core)
+
 abbrev pub root_world : (bytes : List ℕ) (imported exported : List (List ℕ)) (groups : List (List ℕ × List (List ℕ × List ℕ))) (core_exports : List (List ℕ × List ℕ)) → ComponentWorld
 root_world bytes imported exported groups core_exports = whole_of (record {
   resolve = record { interfaces = []; types = []; worlds = record { imports = map entry imported; exports = map entry exported } ∷ [] };
@@ -80,7 +91,8 @@ root_world bytes imported exported groups core_exports = whole_of (record {
     bytes = bytes;
     imports = record { modules = map group groups };
     exports = record { exports = map exported_as core_exports };
-    offered = [];
+    imported = flat_map imports_found groups;
+    offered = map export_found core_exports;
     metadata = record { import_encodings = map encoded imported; export_encodings = map encoded exported };
   };
   main_exports = map keys.Name exported;
@@ -266,19 +278,16 @@ pub two_twice_ends : ended (outcome two_twice no_modules (two_twice_defs 0 1) ma
 two_twice_ends = refl
 
 -- a user instance with exports of each kind: each item has an address of its own, after one that was added before
-abbrev export_of_type : List ℕ → ExternType → ExportType
-export_of_type name type = record { name = name; type = type }
-
 abbrev one_page : MemoryType
 one_page = record { minimum = 1; maximum = None }
 
-abbrev each_kind : List ExportType
+abbrev each_kind : ExportTypes
 each_kind =
-    export_of_type f (externs.Func plain_core)
-    ∷ export_of_type g (externs.Memory one_page)
-    ∷ export_of_type h (externs.Global (record { val_type = I64; mutable = true }))
-    ∷ export_of_type k (externs.Table (record { element_type = FuncRef; minimum = 2; maximum = None }))
-    ∷ export_of_type a (externs.Func (function_type (I32 ∷ []) []))
+    (f, externs.Func plain_core)
+    ∷ (g, externs.Memory one_page)
+    ∷ (h, externs.Global (record { val_type = I64; mutable = true }))
+    ∷ (k, externs.Table (record { element_type = FuncRef; minimum = 2; maximum = None }))
+    ∷ (a, externs.Func (function_type (I32 ∷ []) []))
     ∷ []
 
 abbrev core_items : Machine → List (List Export) × CodeStore × List CoreItem × List Cell
@@ -325,41 +334,48 @@ crossed_ends = refl
 abbrev ds : ℕ → List Def
 ds n = take n one_import_one_export
 
-function_typed : IsFunctionType (ds 1) 0
+function_typed : IsFunctionType (ds 1) 0 plain_function
 function_typed = record { made = record { made = refl } }
 
-function_typed_later : IsFunctionType (ds 7) 0
+function_typed_later : IsFunctionType (ds 7) 0 plain_function
 function_typed_later = record { made = record { made = refl } }
 
-f_imported : IsImported (ds 2) 0 f
-f_imported = record { kind = 0; made = record { made = refl }; typed = record { made = record { made = refl } } }
+f_lowered : IsLowering (ds 5) 0 (root_import 0) []
+f_lowered = record {
+  function = 0;
+  written = [];
+  made = record { made = refl };
+  of = record { name = plain f; kind = 0; before = ds 1; made = record { after = drop 2 (ds 5); split = refl; at = refl }; numbered = refl };
+  with_options = tt;
+}
 
-f_lowered : IsLowered (ds 4) 0 f
-f_lowered = record { function = 0; made = record { made = refl }; of = record { kind = 0; made = record { made = refl }; typed = record { made = record { made = refl } } } }
-
-f_offered : IsArgumentFor one_each (ds 5) (record { name = root; instance = 0 }) (group (root, (f, f) ∷ []))
+f_offered : IsArgumentFor one_each Main (ds 5) (record { name = root; instance = 0 }) (group (root, (f, f) ∷ []))
 f_offered = record {
   named = refl;
   serves = record {
     entries = record { name = f; kind = kinds.Func; index = 0 } ∷ [];
     made = record { made = refl };
-    each = (record { named = refl; serves = record { function = 0; made = record { made = refl }; of = record { kind = 0; made = record { made = refl }; typed = record { made = record { made = refl } } } }; encoded = refl }, tt);
+    each = (record { named = refl; serves = record { term = terms.Lowering (root_import 0) []; is = f_lowered; asked = ((refl, refl), tt) }; encoded = refl }, tt);
   };
 }
 
-main_made : (n : ℕ) → slice_get (in_space spaces.CoreInstance (ds n)) 1 ≡ Some (defs.Item (items.CoreInstantiate 0 (record { name = root; instance = 0 } ∷ []))) → IsMain (ds n) 1
+main_made : (n : ℕ) → slice_get (in_space spaces.CoreInstance (ds n)) 1 ≡ Some (defs.Item (items.CoreInstantiate 0 (record { name = root; instance = 0 } ∷ []))) → IsInstanceOf (ds n) 1 0
 main_made n at = record { arguments = record { name = root; instance = 0 } ∷ []; made = record { made = at } }
 
-g_lifted : IsLiftFor one_each (ds 8) 1 (keys.Name g)
+g_lifted : IsItemFor one_each (ds 8) spaces.Func 1 (LiftedFrom (record { of = Main; name = g }) [])
 g_lifted = record {
-  core = 1;
-  kind = 0;
-  name = g;
-  made = record { made = refl };
-  typed = record { made = record { made = refl } };
-  aliased = record { instance = 1; made = record { made = refl }; of = main_made 8 refl };
-  role = refl;
-  encoded = refl;
+  term = terms.Lifting (record { of = 0; kind = kinds.Func; name = g }) [] plain_function;
+  is = record {
+    core = 1;
+    kind = 0;
+    written = [];
+    made = record { made = refl };
+    of = record { instance = 1; made = record { made = refl }; of = main_made 8 refl };
+    function = refl;
+    with_options = tt;
+    typed = record { made = record { made = refl } };
+  };
+  asked = (record { of = record { world_module = main_module one_each; listed = refl; same = refl }; named = refl }, tt);
 }
 
 one_apart : (name : List ℕ) → IsDistinct bytes_eq (name ∷ [])
@@ -382,8 +398,14 @@ keeps_the_rules = record {
           (
             record { each = (record { kind = refl; scoped = omega arith }, tt); apart = one_apart f },
             (
-              record { main = refl; scoped = omega arith; each = (f_offered, tt) },
-              (record { of = main_made 6 refl; key = keys.Name g; role = refl }, ((omega arith, refl, function_typed_later), (record { key = keys.Name g; named = refl; lifted = g_lifted }, tt))),
+              record { of = main_module one_each; listed = refl; scoped = omega arith; each = (f_offered, tt) },
+              (
+                record { number = 0; of = main_module one_each; type = plain_core; is = main_made 6 refl; listed = refl; offered = refl },
+                (
+                  (omega arith, refl, function_typed_later),
+                  (record { key = keys.Name g; target = LiftedFrom (record { of = Main; name = g }) []; named = refl; said = refl; lifted = g_lifted }, tt),
+                ),
+              ),
             ),
           ),
         ),

@@ -63,12 +63,24 @@ map-map f g [] = refl
 map-map f g (x ∷ xs) = ap (λ l. f (g x) ∷ l) (map-map f g xs)
 
 -- where each is found, all are, and each is related to its own
-pub all_some-each : {A B C : Type 0} (R : C → A → Type 0) (f : A → Option C) (g : B → A) (xs : List B) →
-    AllByRecursion (λ x. (y : C) × (f (g x) ≡ Some y) × R y (g x)) xs → (ys : List C) × (all_some (map f (map g xs)) ≡ Some ys) × AllZip R ys (map g xs)
-all_some-each R f g [] h = ([], refl, tt)
-all_some-each R f g (x ∷ xs) h =
-    let rest = all_some-each R f g xs h.1 in
+pub all_some-each : {A C : Type 0} (R : C → A → Type 0) (f : A → Option C) (xs : List A) →
+    AllByRecursion (λ x. (y : C) × (f x ≡ Some y) × R y x) xs → (ys : List C) × (all_some (map f xs) ≡ Some ys) × AllZip R ys xs
+all_some-each R f [] h = ([], refl, tt)
+all_some-each R f (x ∷ xs) h =
+    let rest = all_some-each R f xs h.1 in
     (h.0.0 ∷ rest.0, rw (h.0.1, rest.1) refl, (h.0.2, rest.2))
+
+-- a look-up among entries with the names of others finds what is related to what is found among those
+pub found-zip : {A B : Type 0} (R : A → B → Type 0) (name : List ℕ) (xs : List (List ℕ × A)) (ys : List (List ℕ × B)) (y : B) → AllZip (λ x z. (x.0 ≡ z.0) × R x.1 z.1) xs ys → found name ys ≡ Some y →
+    (x : A) × (found name xs ≡ Some x) × R x y
+found-zip R name [] [] y h e = absurd (none-some y e)
+found-zip R name [] (z ∷ ys) y h e = absurd h
+found-zip R name (x ∷ xs) [] y h e = absurd h
+found-zip {A} {B} R name (x ∷ xs) (z ∷ ys) y h e = by (λ g. found-zip R name xs ys y h.1 g) (bytes_eq name z.0) refl e
+  where
+    by : (found name ys ≡ Some y → (a : A) × (found name xs ≡ Some a) × R a y) → (b : Bool) → bytes_eq name z.0 ≡ b → cond b (Some z.1) (found name ys) ≡ Some y → (a : A) × (cond (bytes_eq name x.0) (Some x.1) (found name xs) ≡ Some a) × R a y
+    by rest true t g = (x.1, rw (h.0.0, t) refl, subst (λ v. R x.1 v) (same_Some z.1 y g) h.0.1)
+    by rest false t g = let r = rest g in (r.0, rw (h.0.0, t) r.1, r.2)
 
 pub all_some-zip : {A B C : Type 0} (R : C → B → Type 0) (f : A → Option C) (S : A → B → Type 0) → ((x : A) (z : B) → S x z → (y : C) × (f x ≡ Some y) × R y z) → (xs : List A) (zs : List B) → AllZip S xs zs →
     (ys : List C) × (all_some (map f xs) ≡ Some ys) × AllZip R ys zs

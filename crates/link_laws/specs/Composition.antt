@@ -87,7 +87,7 @@ pub record EndsWithNames (ds : List Def) : Type 0 where
 -- exports are exactly the stated ones; each module is instantiated once, in order.
 pub record IsComposed (w : ComponentWorld) (g : GeneratedModules) (ds : List Def) : Type 0 where
   pub generated : List (List ℕ)
-  pub modules : flat_map (at_root item_module) ds ≡ map (λ m. m.bytes) (user_modules w) ++ generated
+  pub modules : flat_map (at_root item_module) ds ≡ map (λ m. m.found.bytes) (user_modules w) ++ generated
   pub encoded : AllZip Encodes generated (generated_sections g)
   pub imports : flat_map (at_root item_imports) ds ≡ stated_imports w
   pub exports : flat_map (at_root item_exports) ds ≡ stated_exports w

@@ -22,17 +22,17 @@ use Rattle.wit_data.specs.declared.functions.Function.{Function as WitFunction}
 use Rattle.wit_data.specs.declared.worlds.WorldItem.{WorldItem}
 use Rattle.wit_data.specs.declared.worlds.WorldItem.TheVariants as world_items
 use Rattle.comp_roles.specs.Lookups.{first_export, is_initialize}
-use Rattle.comp_roles.specs.declared.imports.Import.{Import}
+use Rattle.comp_roles.specs.declared.offered.ImportType.{ImportType}
 use Rattle.world_values.specs.Mentions.{functions_of}
 use Rattle.comp_worlds.specs.declared.world.ComponentWorld.{ComponentWorld}
 use Rattle.comp_trees.specs.WitTrees.{wit_function_tree}
 use Rattle.comp_links.specs.Targets.{Main, ExportRef, Target, Lifted}
-use Rattle.comp_links.specs.Modules.{WorldModule, user_modules, role_at}
+use Rattle.comp_links.specs.Modules.{WorldModule, user_modules}
 use Rattle.comp_links.specs.Lists.{RequiredFunction, required_functions, exported_item}
-use Rattle.comp_links.specs.Links.{link_of, lift_of}
+use Rattle.comp_links.specs.Links.{link_at, lift_of}
 use Rattle.comp_runs.specs.Store.{Thing, Export, CoreItem, ModuleInstance}
 use Rattle.comp_runs.specs.Machine.{Machine, Outcome, Done, Trapped, Open, Stuck, export_of}
-use Rattle.comp_runs.specs.Instances.{ModuleMeaning, OfUser, OfGenerated, ImportType}
+use Rattle.comp_runs.specs.Instances.{ModuleMeaning, OfUser, OfGenerated}
 use Rattle.comp_runs.specs.Running.{run, fresh_machine}
 use Rattle.link_laws.specs.Meeting.{KeepsReferences, ItemIsExport, IsLift, Meets, task_hook}
 use Rattle.link_laws.specs.Composition.{GeneratedModules, generated_sections, numbers_from, number_after, instance_order, at_root, item_instantiates}
@@ -41,7 +41,7 @@ use Rattle.link_laws.specs.Composition.{GeneratedModules, generated_sections, nu
 
 -- what the core modules of a list are: the user modules as validation found them, and the generated ones
 abbrev pub module_meanings : ComponentWorld → GeneratedModules → List ModuleMeaning
-module_meanings w g = map (λ m. OfUser m.imports m.exports) (user_modules w) ++ map (λ ss. OfGenerated ss) (generated_sections g)
+module_meanings w g = map (λ m. OfUser m.found.imported m.found.offered) (user_modules w) ++ map (λ ss. OfGenerated ss) (generated_sections g)
 
 -- how running the list ends, with these answers of the outside
 abbrev pub outcome : ComponentWorld → GeneratedModules → List Def → List Answer → Outcome
@@ -88,15 +88,15 @@ LetsRun (types ∷ rest) (Gives results cell ∷ answers) = IsTrue (fit types re
 
 -- ---- imports
 
--- what an import was given is what the link table says of its role
+-- what an import was given is what the link table says of it
 pub record IsServed (w : ComponentWorld) (m : Machine) (origins : TypeId → ℕ) (of : WorldModule) (thing : Thing) (i : ImportType) : Type 0 where
-  pub role : Import
-  pub has_role : role_at of.roles i.module_name i.field ≡ Some role
-  pub meets : Meets w m origins thing (link_of w of.of role)
+  pub target : Target
+  pub said : link_at w of i.module_name i.field ≡ Some target
+  pub meets : Meets w m origins thing target
 
 -- an instance of a module: each import is served
 abbrev pub AreServed : ComponentWorld → Machine → (TypeId → ℕ) → WorldModule → ModuleInstance → Type 0
-AreServed w m origins of i = AllZip (IsServed w m origins of) i.given of.imports
+AreServed w m origins of i = AllZip (IsServed w m origins of) i.given of.found.imported
 
 -- each instance of a user module
 pub record UsersServed (w : ComponentWorld) (m : Machine) (origins : TypeId → ℕ) : Type 0 where

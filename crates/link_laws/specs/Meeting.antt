@@ -21,9 +21,9 @@ use Rattle.comp_roles.specs.Lookups.{first_export, is_task_hook, imported_memory
 use Rattle.comp_worlds.specs.declared.world.ComponentWorld.{ComponentWorld}
 use Rattle.comp_trees.specs.Trees.{FunctionTree}
 use Rattle.comp_trees.specs.WitTrees.{wit_function_tree}
-use Rattle.comp_links.specs.Targets.{UserModule, Main, WorldFunction, OfRoot, OfInterface, ExportRef, TargetOption, Memory, Realloc, Encoding, Async, PostReturn, Callback, Target, Lowered, ExportOf, MainMemory}
-use Rattle.comp_links.specs.Modules.{WorldModule, user_modules, function_imported}
-use Rattle.comp_links.specs.Lists.{RootFunction, import_entries}
+use Rattle.comp_links.specs.Targets.{Main, WorldFunction, ExportRef, TargetOption, Memory, Realloc, Encoding, Async, PostReturn, Callback, Target, Lowered, ExportOf, MainMemory}
+use Rattle.comp_links.specs.Modules.{user_modules, IsModule, function_imported}
+use Rattle.comp_links.specs.Lists.{IsOriginOf}
 use Rattle.comp_runs.specs.Store.{Thing, Origin, HeldOption, HeldEncoding, HeldMemory, HeldRealloc, HeldPostReturn, HeldAsync, HeldCallback, CoreItem, Lowering, ExportedBy, Imported, Lifting, ModuleInstance}
 use Rattle.comp_runs.specs.Machine.{Machine, export_of}
 
@@ -44,12 +44,6 @@ KeepsReferences (old ∷ olds) (cell ∷ cells) = SameReference old cell × Keep
 pub record ActsAs (m : Machine) (address : ℕ) (bracket : Bracket) (hook : ℕ) (target : Known) : Type 0 where
   pub same : (arguments : List Value) (now : Now) → IsTrue (fit target.signature.params arguments) → KeepsReferences m.now.globals now.globals →
       acts m.store.code address arguments now ≡ expected bracket hook target arguments now
-
--- the user module of this number
-pub record IsModule (w : ComponentWorld) (number : ℕ) (of : UserModule) : Type 0 where
-  pub world_module : WorldModule
-  pub listed : slice_get (user_modules w) number ≡ Some world_module
-  pub same : world_module.of ≡ of
 
 -- an instance of a core module, by its number
 pub record IsInstance (m : Machine) (instance number : ℕ) : Type 0 where
@@ -160,11 +154,6 @@ entry_kind options =
     else (if list_any is_post_return options then brackets.SyncEntryWithPostReturn else brackets.SyncEntry))
 
 -- ---- targets; `origins` is the address of each resource of the world
-
--- where a function of the world is imported
-abbrev pub IsOriginOf : ComponentWorld → WorldFunction → Origin → Type 0
-IsOriginOf w (OfRoot name) o = (slice_get (import_entries w) o.number ≡ Some (RootFunction name)) × (o.inner ≡ None)
-IsOriginOf w (OfInterface interface name) o = ⊥
 
 -- the function at this address is imported as this function of the world, with its type
 pub record IsImport (w : ComponentWorld) (m : Machine) (origins : TypeId → ℕ) (function : ℕ) (of : WorldFunction) : Type 0 where

@@ -1,12 +1,14 @@
 -- Roles that were checked: what holds of them, and why they are refused.
-use Rattle.std.proofs.Common.{◌≡◌, ℕ, List, Result, Ok, Err, sym, subst}
+use Rattle.std.proofs.Common.{◌≡◌, ◌∙◌, ℕ, List, Result, Ok, Err, sym, ap, subst}
 use Rattle.std.specs.Prelude.{IfErr, IsOk}
 use Rattle.std.specs.Result.{IsErrAnd}
 use Rattle.std.specs.List.{flat_map, AllByRecursion}
 use Rattle.std.proofs.lemmas.List.{append-nil}
 use Rattle.core_types.specs.Core.{IsCoreModule}
+use Rattle.wit_data.specs.declared.worlds.WorldKey.{WorldKey}
 use Rattle.comp_roles.specs.CoreImports.{CoreImport, imports_from}
 use Rattle.comp_roles.specs.declared.exports.Export.{Export}
+use Rattle.comp_roles.specs.declared.imports.ImportInstance.{ImportInstance}
 use Rattle.world_values.specs.Mentions.{HasRole}
 use Rattle.world_values.specs.declared.gathered.Part.{Part}
 use Rattle.comp_worlds.specs.declared.world.ComponentWorld.{ComponentWorld}
@@ -17,19 +19,51 @@ use Rattle.supported_worlds.specs.Causes.{IsLeftOut}
 use Rattle.record_faults.specs.declared.fault.Failure.{Failure}
 use Rattle.record_faults.specs.declared.fault.Failure.TheVariants as failures
 use Rattle.record_faults.specs.declared.fault.Refusal.{Refusal}
+use Rattle.record_faults.specs.Faults.{◌>>=◌}
+use Rattle.record_faults.proofs.Chains.{bind_ok}
 use Rattle.record_merge.specs.declared.bindgen.Bindgen.{Bindgen}
 use Rattle.record_resolve.specs.declared.resolving.Resolved.{Resolved}
 use Rattle.record_exports.specs.Exporting.{exports_of}
+use Rattle.record_exports.specs.Requiring.{required_of}
 use Rattle.record_exports.specs.Causes.{ExportCause, RequiredCause}
+use Rattle.record_imports.specs.Importing.{imports_of}
 use Rattle.record_imports.specs.Causes.{ImportCause}
 use Rattle.plain_lower.specs.declared.checking.CheckedRoles.{CheckedRoles}
-use Rattle.plain_lower.specs.Preparing.{checked_roles, parts_of}
+use Rattle.plain_lower.specs.Preparing.{with_imports, checked_exports, checked_roles, parts_of}
 use Rattle.plain_lower.specs.Guarantees.{IsUsable, AreChecked}
 use Rattle.plain_lower.specs.Causes.{ExportsCause, unfit, missing, RolesCause, of_imports, of_exports, CoreCause, unmet, not_yet}
+use Rattle.plain_lower.proofs.FoundImports.{all_found}
+use Rattle.plain_lower.proofs.FoundExports.{all_offered}
+
+-- the roles of imports and of exports, of which the checked roles are made
+record AreRead (r : Resolved) (main : Part Bindgen) (core : CoreModule) (m : CheckedRoles) : Type 0 where
+  imports : imports_of r main.own.roles.import_roles core ≡ Ok m.imports.modules
+  exports : exports_of r main.own.roles.export_roles core ≡ Ok m.exports
+
+-- where all steps pass
+read_of : (r : Resolved) (main : Part Bindgen) (core : CoreModule) (m : CheckedRoles) (imported : List (List ℕ × ImportInstance)) (exported : List (List ℕ × Export)) (required : List WorldKey)
+    (checked : List (List ℕ × Export) × List WorldKey) → imports_of r main.own.roles.import_roles core ≡ Ok imported → exports_of r main.own.roles.export_roles core ≡ Ok exported
+    → (exported, required) ≡ checked → with_imports imported checked ≡ m → AreRead r main core m
+read_of r main core m imported exported required checked imports exports pair whole = record {
+  imports = imports ∙ ap (λ (x : CheckedRoles). Ok x.imports.modules) whole;
+  exports = exports ∙ ap (λ (x : List (List ℕ × Export) × List WorldKey). Ok x.0) pair ∙ ap (λ (x : CheckedRoles). Ok x.exports) whole;
+}
+
+are_read : (r : Resolved) (main : Part Bindgen) (core : CoreModule) (m : CheckedRoles) → checked_roles r main core ≡ Ok m → AreRead r main core m
+unfolding checked_roles checked_exports
+are_read r main core m e =
+    let with_exports : List (List ℕ × ImportInstance) → Result CheckedRoles Failure = λ imported. checked_exports r main core >>= λ exported. Ok (with_imports imported exported) in
+    let a = bind_ok (imports_of r main.own.roles.import_roles core) with_exports m e in
+    let b = bind_ok (checked_exports r main core) (λ exported. Ok (with_imports a.0 exported)) m a.2 in
+    let with_required : List (List ℕ × Export) → Result (List (List ℕ × Export) × List WorldKey) Failure = λ exported. required_of r exported main.required >>= λ required. Ok (exported, required) in
+    let c = bind_ok (exports_of r main.own.roles.export_roles core) with_required b.0 b.1 in
+    let d = bind_ok (required_of r c.0 main.required) (λ required. Ok (c.0, required)) b.0 c.2 in
+    read_of r main core m a.0 c.0 d.0 b.0 a.1 c.1 (cc (d.2)) (cc (b.2))
 
 -- what holds of the parts of main's world
-pub present : (r : Resolved) (main : Part Bindgen) (core : CoreModule) (m : CheckedRoles) (p : WorldParts) → IsUsable r → IsCoreModule main.bytes → AreChecked r m → p ≡ parts_of r main core m → HasSoundParts p
-present r main core m p u bytes h is = subst (λ (x : WorldParts). HasSoundParts x) (sym is) (record {
+pub present : (r : Resolved) (main : Part Bindgen) (core : CoreModule) (m : CheckedRoles) (p : WorldParts) → IsUsable r → IsCoreModule main.bytes → AreChecked r m → checked_roles r main core ≡ Ok m
+    → p ≡ parts_of r main core m → HasSoundParts p
+present r main core m p u bytes h checked is = subst (λ (x : WorldParts). HasSoundParts x) (sym is) (record {
   sound = u.sound;
   present = u.present;
   core = bytes;
@@ -37,6 +71,8 @@ present r main core m p u bytes h is = subst (λ (x : WorldParts). HasSoundParts
   roles = subst (λ (is : List CoreImport). AllByRecursion (λ i. HasRole r.resolve i.role) is) (sym (append-nil (flat_map imports_from m.imports.modules))) h.roles;
   called = h.called;
   lifted = h.lifted;
+  imported = all_found r main core m u.present (let read = are_read r main core m checked in read.imports);
+  exported = all_offered r main core m u.present (let read = are_read r main core m checked in read.exports);
   kept = h.kept;
 })
 

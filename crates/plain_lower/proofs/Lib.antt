@@ -2,6 +2,9 @@ pub mod Records
 pub mod Reporting
 mod Refusing
 mod CombinedCauses
+mod FoundTypes
+mod FoundImports
+mod FoundExports
 mod CheckingCauses
 mod Whole
 mod Modules

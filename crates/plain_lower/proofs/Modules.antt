@@ -1,15 +1,11 @@
 -- A world that was prepared has the modules that were gathered.
 use Rattle.std.proofs.Common.{◌≡◌, ◌∙◌, ℕ, Bool, true, false, List, [], ◌∷◌, map, refl, sym, ap, Option, Some, None, Result, Ok, Err, if◌then◌else◌}
 use Rattle.std.specs.Prelude.{⊤}
-use Rattle.std.specs.List.{list_any}
 use Rattle.std.specs.Option.{option_map}
-use Rattle.std.proofs.lemmas.Option.{none-some}
 use Rattle.comp_worlds.specs.Gathering.{gathered_module, world_module, HasModules}
 use Rattle.comp_worlds.specs.Worlds.{whole_of}
 use Rattle.comp_worlds.specs.declared.world.ComponentWorld.{ComponentWorld}
-use Rattle.comp_worlds.specs.declared.world.WorldAdapter.{WorldAdapter}
 use Rattle.comp_worlds.specs.declared.world.WorldParts.{WorldParts}
-use Rattle.core_sections.specs.declared.core_module.CoreModule.{CoreModule}
 use Rattle.core_sections.specs.Entries.{module_of}
 use Rattle.record_faults.specs.declared.fault.Failure.{Failure}
 use Rattle.record_faults.specs.declared.fault.Failure.TheVariants as failures
@@ -19,10 +15,8 @@ use Rattle.record_merge.specs.declared.bindgen.Bindgen.{Bindgen}
 use Rattle.record_resolve.specs.declared.resolving.Resolved.{Resolved}
 use Rattle.supported_worlds.specs.LeftOut.{left_out, unless_left_out, encoded}
 use Rattle.world_values.specs.declared.gathered.Gathered.{Gathered}
-use Rattle.world_values.specs.declared.gathered.GatheredAdapter.{GatheredAdapter}
 use Rattle.world_values.specs.declared.gathered.Part.{Part}
-use Rattle.plain_lower.specs.declared.checking.CheckedRoles.{CheckedRoles}
-use Rattle.plain_lower.specs.Preparing.{Adapters, is_plain, none_there, adapters_pass, combined, checked_roles, parts_of, preparing_core, preparing_main, preparing_if, preparing}
+use Rattle.plain_lower.specs.Preparing.{Adapters, none_there, adapters_pass, combined, checked_roles, parts_of, preparing_core, preparing_main, preparing_if, preparing}
 
 -- what comes first succeeds, where the whole does
 record Then {A B : Type 0} (r : Result A Failure) (go : A → Result B Failure) (y : B) : Type 0 where

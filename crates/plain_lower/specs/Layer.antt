@@ -31,6 +31,7 @@ no_world = whole_of (record {
     bytes = [];
     imports = record { modules = [] };
     exports = record { exports = [] };
+    imported = [];
     offered = [];
     metadata = record { import_encodings = []; export_encodings = [] };
   };

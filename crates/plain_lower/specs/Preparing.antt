@@ -8,12 +8,10 @@ use Rattle.std.specs.List.{list_any}
 use Rattle.wit_data.specs.declared.worlds.WorldKey.{WorldKey}
 use Rattle.comp_roles.specs.declared.exports.Export.{Export}
 use Rattle.comp_roles.specs.declared.imports.ImportInstance.{ImportInstance}
-use Rattle.comp_roles.specs.declared.offered.ExternType.{ExternType}
 use Rattle.world_values.specs.declared.gathered.Part.{Part}
 use Rattle.world_values.specs.declared.gathered.Gathered.{Gathered}
 use Rattle.world_values.specs.declared.gathered.GatheredAdapter.{GatheredAdapter}
 use Rattle.comp_worlds.specs.declared.world.ComponentWorld.{ComponentWorld}
-use Rattle.comp_roles.specs.declared.metadata.ModuleMetadata.{ModuleMetadata}
 use Rattle.wit_data.specs.declared.resolve.Resolve.{Resolve}
 use Rattle.comp_worlds.specs.declared.world.WorldParts.{WorldParts}
 use Rattle.core_sections.specs.declared.core_module.CoreModule.{CoreModule}
@@ -29,8 +27,9 @@ use Rattle.record_resolve.specs.declared.resolving.Resolved.{Resolved}
 use Rattle.record_resolve.specs.Resolved.{resolved}
 use Rattle.record_resolve.specs.OtherNames.{also_named}
 use Rattle.record_role_targets.specs.Metadata.{resolved_metadata}
-use Rattle.record_core_types.specs.Offered.{offered}
+use Rattle.record_core_types.specs.Offered.{imported, offered}
 use Rattle.plain_lower.specs.declared.checking.CheckedRoles.{CheckedRoles}
+use Rattle.plain_lower.specs.declared.preparing.Own.{Own}
 use Rattle.record_imports.specs.Importing.{imports_of}
 use Rattle.record_exports.specs.Exporting.{exports_of}
 use Rattle.record_exports.specs.Requiring.{required_of}
@@ -69,10 +68,6 @@ combined merging w = do
 
 -- ---- main
 
--- what a module offers to others
-abbrev pub Offered : Type 0
-Offered = List (List ℕ × ExternType)
-
 -- the roles of main's core exports, and the keys of those that are required of it
 unfoldable pub checked_exports : Resolved → Part Bindgen → CoreModule → Result (List (List ℕ × Export) × List WorldKey) Failure
 checked_exports r main core = do
@@ -90,19 +85,30 @@ checked_roles r main core = do
   exported ← checked_exports r main core
   Ok (with_imports imported exported)
 
--- a world of main alone, with these bytes, offers and encodings
-abbrev pub with_own : Resolve → List ℕ → Offered → ModuleMetadata → CheckedRoles → Bool → WorldParts
-with_own resolve bytes offers metadata m slot_1 = record {
+-- what main has besides its roles
+abbrev pub own_of : Resolved → Part Bindgen → CoreModule → Own
+own_of r main core = record { bytes = main.bytes; imported = imported core; offered = offered core; metadata = resolved_metadata r main.own.roles }
+
+-- a world of main alone, with its roles and what it has besides
+abbrev pub with_own : Resolve → Own → CheckedRoles → Bool → WorldParts
+with_own resolve own m slot_1 = record {
   resolve = resolve;
   world = record { index = 0 };
-  main = record { bytes = bytes; imports = m.imports; exports = record { exports = m.exports }; offered = offers; metadata = metadata };
+  main = record {
+    bytes = own.bytes;
+    imports = m.imports;
+    exports = record { exports = m.exports };
+    imported = own.imported;
+    offered = own.offered;
+    metadata = own.metadata;
+  };
   main_exports = m.required;
   adapters = [];
   can_use_context_slot_1 = slot_1;
 }
 
 abbrev pub parts_of : Resolved → Part Bindgen → CoreModule → CheckedRoles → WorldParts
-parts_of r main core m = with_own r.resolve main.bytes (offered core) (resolved_metadata r main.own.roles) m main.own.roles.context_slot_1
+parts_of r main core m = with_own r.resolve (own_of r main core) m main.own.roles.context_slot_1
 
 -- the world of main alone
 unfoldable pub preparing_core : Resolved → Part Bindgen → CoreModule → Result ComponentWorld Failure

@@ -3,26 +3,25 @@
 ghost use Rattle.std.specs.Prelude.{◌≡◌, ◌≢◌, IfOk, IfErr, IsOk, IsSome, Ok, Some};
 ghost use Rattle.core_types.specs.Core.{IsCoreModule};
 ghost use Rattle.comp_worlds.specs.Worlds.{IsWorld};
-ghost use Rattle.record_role_targets.specs.Metadata as targets;
 ghost use Rattle.record_faults.specs.Faults.{Gives, flat};
 ghost use Rattle.record_faults.specs.declared.fault.Failure.TheVariants as failures;
 ghost use Rattle.record_faults.specs.declared.fault.PlainFault.{PlainFault};
 ghost use Rattle.record_faults.specs.declared.fault.Refusal.{Refusal as RefusalRecord};
-ghost use Rattle.record_core_types.specs.Offered.{offered};
 ghost use Rattle.supported_worlds.specs.LeftOut.{encoded};
 ghost use Rattle.supported_worlds.specs.Causes.{IsLeftOut};
-ghost use Rattle.plain_lower.specs.Preparing.{with_own, parts_of, preparing_core, preparing_main, preparing_if, preparing};
+ghost use Rattle.plain_lower.specs.Preparing as worlds;
+ghost use Rattle.plain_lower.specs.Preparing.{own_of, with_own, parts_of, preparing_core, preparing_main, preparing_if, preparing};
 ghost use Rattle.plain_lower.specs.Guarantees.{IsUsable, AreChecked};
 ghost use Rattle.plain_lower.specs.Causes.{CoreCause, MainCause, PrepareCause};
 
 use crate::adapters::refuse_adapters;
 use crate::checking::{CheckedRoles, check_roles};
 use crate::combined::resolve_combined;
-use comp_lists::{Bytes, Keyed, Text};
-use comp_roles::{ExportMap, ExternType, ModuleMetadata};
+use comp_lists::{Bytes, Keyed, Seq, Text};
+use comp_roles::{ExportMap, ExternType, ImportType, ModuleMetadata};
 use comp_worlds::{ComponentWorld, ValidatedModule, WorldParts};
 use core_sections::{CoreModule, read_module};
-use record_core_types::offered;
+use record_core_types::{imported, offered};
 use record_faults::{Failure, Refusal};
 use record_merge::Bindgen;
 use record_resolve::Resolved;
@@ -32,8 +31,15 @@ use supported_worlds::encoded_world;
 use wit_data::{Resolve, WorldId};
 use world_values::{Gathered, Part};
 
-/// What a module has besides its roles: its bytes, what it offers, and its string encodings.
-type Own = (Bytes, Keyed<Text, ExternType>, ModuleMetadata);
+/// What a module has besides its roles: its bytes, the types of its imports, what it offers, and its
+/// string encodings.
+#[derive(Drop)]
+struct Own {
+    bytes: Bytes,
+    imported: Seq<ImportType>,
+    offered: Keyed<Text, ExternType>,
+    metadata: ModuleMetadata,
+}
 
 fn own_of(
     alloc: Global,
@@ -41,14 +47,18 @@ fn own_of(
     main: &Part<Bindgen>,
     core: &CoreModule,
 ) -> Result<Own, AllocError>
-    ensures bytes { IfOk result (λ o. o.0 ≡ main.now.bytes) }
-    ensures offered { IfOk result (λ o. o.1 ≡ offered core.now) }
-    ensures metadata { IfOk result (λ o. o.2 ≡ targets.resolved_metadata resolved.now main.now.own.roles) }
+    ensures { IfOk result (λ o. o ≡ own_of resolved.now main.now core.now) }
 {
     let bytes = main.bytes.clone(alloc)?;
+    let imported = imported(alloc, core)?;
     let offered = offered(alloc, core)?;
     let metadata = resolved_metadata(alloc, resolved, &main.own.roles)?;
-    Ok((bytes, offered, metadata))
+    Ok(Own {
+        bytes,
+        imported,
+        offered,
+        metadata,
+    })
 }
 
 /// The parts of a world of main alone.
@@ -59,9 +69,14 @@ fn put_together(
     checked_roles: CheckedRoles,
     can_use_context_slot_1: bool,
 ) -> WorldParts
-    ensures { result ≡ with_own resolve own.0 own.1 own.2 checked_roles can_use_context_slot_1 }
+    ensures { result ≡ with_own resolve own checked_roles can_use_context_slot_1 }
 {
-    let (bytes, offered, metadata) = own;
+    let Own {
+        bytes,
+        imported,
+        offered,
+        metadata,
+    } = own;
     let CheckedRoles {
         imports,
         exports,
@@ -74,6 +89,7 @@ fn put_together(
             bytes,
             imports,
             exports: ExportMap { exports },
+            imported,
             offered,
             metadata,
         },
@@ -110,6 +126,7 @@ fn world_of(
     requires usable { IsUsable resolved }
     requires bytes { IsCoreModule main.now.bytes }
     requires all_present { AreChecked resolved checked_roles }
+    requires checked { worlds.checked_roles resolved main.now core.now ≡ Ok checked_roles }
     ensures exact { Gives (λ w. w) result (encoded (parts_of resolved main.now core.now checked_roles)) }
     ensures valid { IfOk result IsWorld }
     ensures cause { IfErr result (λ e. (f : RefusalRecord) → e ≡ failures.Refused f → IsLeftOut (parts_of resolved main.now core.now checked_roles) f) }

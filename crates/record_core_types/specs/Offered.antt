@@ -1,5 +1,6 @@
--- What a core module offers to others: its exports by name, if their types are made of the four number types and references
--- to any function, with addresses of 32 bits (core standard, structure: external types, limits).
+-- What a core module imports, and what it offers to others: its imports in order, and its exports by name, if their types
+-- are made of the four number types and references to any function, with addresses of 32 bits (core standard, structure:
+-- external types, limits).
 use Rattle.std.specs.Prelude.{ℕ, ◌^◌, nat_lt, if◌then◌else◌, List, [], ◌∷◌, Option, Some, None, option_map}
 use Rattle.std.specs.List.{flat_map, slice_get}
 use Rattle.std.specs.Option.{option_to_list}
@@ -10,6 +11,7 @@ use Rattle.core_types.specs.declared.types.FuncType.{FuncType}
 use Rattle.core_types.specs.declared.types.MemoryType.{MemoryType}
 use Rattle.core_types.specs.declared.types.TableType.{TableType}
 use Rattle.core_sections.specs.declared.core_module.CoreModule.{CoreModule}
+use Rattle.core_sections.specs.declared.entries.CoreImport.{CoreImport}
 use Rattle.core_sections.specs.declared.entries.EntityType.{EntityType}
 use Rattle.core_sections.specs.declared.entries.EntityType.TheVariants as entities
 use Rattle.core_sections.specs.declared.entries.ExportedItem.{ExportedItem}
@@ -21,6 +23,7 @@ use Rattle.core_sections.specs.declared.entries.ValType.TheVariants as core
 use Rattle.core_sections.specs.Reading.{◌>>=◌}
 use Rattle.comp_roles.specs.declared.offered.ExternType.{ExternType}
 use Rattle.comp_roles.specs.declared.offered.ExternType.TheVariants as externs
+use Rattle.comp_roles.specs.declared.offered.ImportType.{ImportType}
 
 -- a number, or a reference to any function
 abbrev pub value_type : CoreVal → Option ValType
@@ -86,3 +89,11 @@ offered_export m e = option_to_list (option_map (λ t. (e.0, t)) (item_type m e.
 -- all exports that are offered, in the module's order
 abbrev pub offered : CoreModule → List (List ℕ × ExternType)
 offered m = flat_map (offered_export m) m.exports
+
+-- an import, if its type is such a one
+abbrev pub import_type : CoreModule → CoreImport → Option ImportType
+import_type m i = option_map (λ t. record { module_name = i.«module»; field = i.field; ty = t }) (extern_type m i.entity)
+
+-- all such imports, in the module's order
+abbrev pub imported : CoreModule → List ImportType
+imported m = flat_map (λ i. option_to_list (import_type m i)) m.imports

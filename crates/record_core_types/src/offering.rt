@@ -1,13 +1,13 @@
-//! The types of the exports that a core module offers to others.
+//! The types of the imports of a core module, and of the exports that it offers to others.
 
 ghost use Rattle.std.specs.Prelude.{◌≡◌, option_map, IfOk};
 ghost use Rattle.core_sections.specs.declared.entries.EntityType.TheVariants as entities;
 ghost use Rattle.comp_roles.specs.declared.offered.ExternType.TheVariants as externs;
-ghost use Rattle.record_core_types.specs.Offered.{value_type, value_types, func_type, size, most, memory_type, table_type, extern_type, item_type, offered};
+ghost use Rattle.record_core_types.specs.Offered.{value_type, value_types, func_type, size, most, memory_type, table_type, extern_type, item_type, offered, import_type, imported};
 
 use comp_lists::{Keyed, Seq, Text};
-use comp_roles::ExternType;
-use core_sections::{CoreModule, EntityType, ExportedItem, Limits};
+use comp_roles::{ExternType, ImportType};
+use core_sections::{CoreImport, CoreModule, EntityType, ExportedItem, Limits};
 use core_types::{FuncType, GlobalType, MemoryType, RefType, TableType, ValType};
 use std::alloc::{AllocError, Global};
 
@@ -182,4 +182,37 @@ pub fn offered(alloc: Global, core: &CoreModule) -> Result<Keyed<Text, ExternTyp
         }
     }
     Ok(table)
+}
+
+/// An import with its type, as [`extern_type`] gives it.
+fn import_type(
+    alloc: Global,
+    core: &CoreModule,
+    import: &CoreImport,
+) -> Result<Option<ImportType>, AllocError>
+    ensures { IfOk result (λ i. i ≡ import_type core.now import.now) }
+{
+    let Some(ty) = extern_type(alloc, core, &import.entity)? else {
+        return Ok(None);
+    };
+    Ok(Some(ImportType {
+        module_name: import.module.clone(alloc)?,
+        field: import.field.clone(alloc)?,
+        ty,
+    }))
+}
+
+/// The imports of a module, in its order, each with its type: those whose types are made of the four
+/// number types and references to any function; tables and memories are not shared, have addresses of
+/// 32 bits, and their limits fit in 32 bits. All others are left out. The only refusal is out of memory.
+pub fn imported(alloc: Global, core: &CoreModule) -> Result<Seq<ImportType>, AllocError>
+    ensures { IfOk result (λ list. list ≡ imported core.now) }
+{
+    let mut list = Seq::new(alloc);
+    for import in core.imports.as_slice() {
+        if let Some(import) = import_type(alloc, core, import)? {
+            list.push(import)?;
+        }
+    }
+    Ok(list)
 }

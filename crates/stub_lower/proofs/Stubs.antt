@@ -17,7 +17,7 @@ use Rattle.comp_encoder.specs.Encoder.{main_bytes}
 use Rattle.wit_data.specs.Values.{values_from}
 use Rattle.wit_data.specs.Sizes.{AreSmall}
 use Rattle.wit_data.specs.Sound.{IsSound}
-use Rattle.stub_lower.specs.Stub.{stub_resolve, stub_parts, stub_world, PrepareCause}
+use Rattle.stub_lower.specs.Stub.{stub_role, stub_resolve, stub_parts, stub_world, PrepareCause}
 use Rattle.stub_lower.specs.declared.stub.StubFault.{StubFault}
 use Rattle.stub_lower.specs.declared.stub.StubFault.TheVariants as faults
 use Rattle.stub_lower.specs.declared.stub.StubLower.TheVariants as layers
@@ -60,15 +60,20 @@ unfolding stub_parts stub_world
 valid_of bytes core = record {
   sound = sound;
   present = omega arith;
-  core = core;
   imports = ((refl, record { kind = refl; params = refl; result = refl }), tt);
   exports = tt;
   import_names_apart = alone (codes "f");
   export_names_apart = none;
-  modules_apart = alone (codes "$root");
-  import_roles = ((alone (codes "f"), (((0, omega arith, refl), refl, refl), tt)), tt);
-  export_roles = tt;
-  required = tt;
+  main = record {
+    core = core;
+    modules_apart = alone (codes "$root");
+    import_roles = ((alone (codes "f"), (((0, omega arith, refl), refl, refl), tt)), tt);
+    imported = (record { role = stub_role; has_role = refl; fits = refl }, tt);
+    export_roles = tt;
+    exported = tt;
+    required = tt;
+  };
+  adapters = tt;
   alone = refl;
   import_map = refl;
   live_type_imports = refl;

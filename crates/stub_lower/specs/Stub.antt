@@ -6,6 +6,8 @@ use Rattle.comp_roles.specs.declared.imports.ImportMap.{ImportMap}
 use Rattle.comp_roles.specs.declared.imports.ImportInstance.TheVariants.{Names}
 use Rattle.comp_roles.specs.declared.imports.Import.{Import}
 use Rattle.comp_roles.specs.declared.imports.Import.TheVariants as roles
+use Rattle.comp_roles.specs.declared.offered.ExternType.TheVariants.{Func}
+use Rattle.comp_roles.specs.declared.offered.ImportType.{ImportType}
 use Rattle.wit_data.specs.declared.worlds.World.{World}
 use Rattle.wit_data.specs.declared.worlds.WorldKey.TheVariants.{Name}
 use Rattle.wit_data.specs.declared.worlds.WorldItem.TheVariants as items
@@ -38,6 +40,10 @@ stub_fields = (codes "f", stub_role) ∷ []
 abbrev pub stub_imports : ImportMap
 stub_imports = record { modules = (codes "$root", Names stub_fields) ∷ [] }
 
+-- that import is a function with no parameter and no result
+abbrev pub stub_imported : List ImportType
+stub_imported = record { module_name = codes "$root"; field = codes "f"; ty = Func (record { params = []; results = [] }) } ∷ []
+
 -- the world imports the root function `f`, and exports nothing
 abbrev pub stub_items : World
 stub_items = record { imports = (Name (codes "f"), items.Function (record { name = codes "f"; kind = Freestanding; params = []; result = None })) ∷ []; exports = [] }
@@ -54,6 +60,7 @@ stub_parts bytes = record {
     bytes = bytes;
     imports = stub_imports;
     exports = record { exports = [] };
+    imported = stub_imported;
     offered = [];
     metadata = record { import_encodings = []; export_encodings = [] };
   };

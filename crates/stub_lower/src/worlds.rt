@@ -1,15 +1,17 @@
 //! The world that the stub returns.
 
 ghost use Rattle.std.specs.Prelude.{◌≡◌, IfOk, take};
-ghost use Rattle.stub_lower.specs.Stub.{stub_role, stub_fields, stub_imports, stub_items, stub_resolve, stub_parts, stub_world};
+ghost use Rattle.stub_lower.specs.Stub.{stub_role, stub_fields, stub_imports, stub_imported, stub_items, stub_resolve, stub_parts, stub_world};
 ghost use Rattle.core_types.specs.Core.{core_preamble};
 ghost use Rattle.comp_worlds.specs.Worlds.{IsWorld};
 
 use comp_lists::{Keyed, Seq, Text};
+use comp_roles::ImportType;
 use comp_worlds::{
-    ComponentWorld, ExportMap, Import, ImportInstance, ImportMap, ModuleMetadata, ValidatedModule,
-    WorldParts,
+    ComponentWorld, ExportMap, ExternType, Import, ImportInstance, ImportMap, ModuleMetadata,
+    ValidatedModule, WorldParts,
 };
+use core_types::FuncType;
 use std::alloc::{AllocError, Global};
 use wit_data::{AbiVariant, Function, FunctionKind, Resolve, World, WorldId, WorldItem, WorldKey};
 use world_tables::world_of_parts;
@@ -43,6 +45,26 @@ fn imports(alloc: Global) -> Result<ImportMap, AllocError>
     let mut modules = Keyed::new(alloc);
     modules.insert_if_absent(name, ImportInstance::Names(fields))?;
     Ok(ImportMap { modules })
+}
+
+/// That field is a function with no parameter and no result.
+fn imported(alloc: Global) -> Result<Seq<ImportType>, AllocError>
+    ensures { IfOk result (λ l. l ≡ stub_imported) }
+{
+    let module_name = Text::from_str(alloc, "$root")?;
+    let field = Text::from_str(alloc, "f")?;
+    let function = FuncType {
+        params: Seq::new(alloc),
+        results: Seq::new(alloc),
+    };
+    let ty = ExternType::Func(function);
+    let mut imported = Seq::new(alloc);
+    imported.push(ImportType {
+        module_name,
+        field,
+        ty,
+    })?;
+    Ok(imported)
 }
 
 /// The world imports the root function `f`, and exports nothing.
@@ -92,6 +114,7 @@ fn parts_of(alloc: Global, bytes: &[u8]) -> Result<WorldParts, AllocError>
             exports: ExportMap {
                 exports: Keyed::new(alloc),
             },
+            imported: imported(alloc)?,
             offered: Keyed::new(alloc),
             metadata: ModuleMetadata {
                 import_encodings: Keyed::new(alloc),

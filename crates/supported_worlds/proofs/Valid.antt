@@ -1,13 +1,14 @@
 -- A world of which nothing is left out keeps the invariant of worlds.
 use Rattle.std.proofs.Common.{arith, rules, ◌≡◌, ◌<◌, length, ℕ, zero, suc, Bool, true, false, cond, ◌&&◌, List, [], ◌∷◌, map, Option, Some, None, refl, sym, ap, subst, ◌∙◌, true≢false}
-use Rattle.std.specs.Prelude.{◌==◌, codes, is_some, slice_get, slice_index_or, Contains, IsSome, if◌then◌else◌}
+use Rattle.std.specs.Prelude.{◌==◌, codes, is_some, slice_get, slice_index_or, Contains, IsSome, if◌then◌else◌, option_map}
 use Rattle.std.specs.List.{IsDistinct, AllByRecursion, flat_map}
 use Rattle.std.specs.Map.{lookup, keys_of}
 use Rattle.std.specs.Option.{option_and_then}
 use Rattle.std.specs.Str.{bytes_eq}
 use Rattle.std.proofs.lemmas.Option.{slice_get-get_or}
 use Rattle.std.proofs.lemmas.Slice.Eq.{bytes_eq-Decides}
-use Rattle.comp_lists.proofs.Lists.{AllByRecursion-front, AllByRecursion-back}
+use Rattle.comp_lists.proofs.Lists.{AllByRecursion-front, AllByRecursion-back, AllByRecursion-weaker}
+use Rattle.comp_lists.proofs.Lookups.{some_of}
 use Rattle.wit_data.specs.Keys.{is_same_key}
 use Rattle.wit_data.specs.declared.functions.AbiVariant.TheVariants.{GuestImport, GuestExport, GuestImportAsync}
 use Rattle.wit_data.specs.declared.functions.Function.{Function}
@@ -23,23 +24,28 @@ use Rattle.wit_data.specs.declared.worlds.WorldItem.TheVariants as items
 use Rattle.wit_data.specs.declared.worlds.WorldKey.{WorldKey}
 use Rattle.wit_data.specs.declared.worlds.WorldKey.TheVariants as keys
 use Rattle.comp_roles.specs.CoreImports.{imports_from}
+use Rattle.comp_roles.specs.CoreTypes.{called_type}
 use Rattle.comp_roles.specs.declared.exports.Export.{Export}
 use Rattle.comp_roles.specs.declared.exports.Export.TheVariants as exports
 use Rattle.comp_roles.specs.declared.imports.Import.{Import}
 use Rattle.comp_roles.specs.declared.imports.Import.TheVariants as imports
 use Rattle.comp_roles.specs.declared.imports.ImportInstance.{ImportInstance}
 use Rattle.comp_roles.specs.declared.imports.ImportInstance.TheVariants as instances
+use Rattle.comp_roles.specs.declared.offered.ImportType.{ImportType}
 use Rattle.world_values.specs.Mentions.{function_in, root_function_at}
 use Rattle.world_values.specs.Items.{no_items}
-use Rattle.comp_worlds.specs.Worlds.{root_function, core_name_of, IsWorld, IsPlain, IsItem, IsImportRole, IsImportGroup, IsExportRole, IsRequired, whole_of}
+use Rattle.comp_worlds.specs.Typed.{type_of_import, type_of_export, FitsImport, FitsExport}
+use Rattle.comp_worlds.specs.Worlds.{root_function, core_name_in, IsWorld, IsUserModule, IsPlain, IsItem, IsImportRole, IsImportGroup, IsExportRole, IsRequired, whole_of}
+use Rattle.comp_worlds.specs.declared.world.WorldAdapter.{WorldAdapter}
 use Rattle.comp_worlds.specs.declared.world.ComponentWorld.{ComponentWorld}
 use Rattle.comp_worlds.specs.declared.world.WorldParts.{WorldParts}
+use Rattle.comp_worlds.proofs.Roles.{role_right}
 use Rattle.record_core_types.specs.Asked.{imported_function, exported_function}
 use Rattle.record_core_types.specs.Guarantees.{IsCalled, IsLifted, IsKept}
 use Rattle.record_resolve.specs.Resolved.{IsNamed}
 use Rattle.supported_worlds.specs.Apart.{FieldsApart, AreApart}
 use Rattle.supported_worlds.specs.LeftOut.{items_of, kind_left_out, function_left_out, item_left_out, import_left_out, export_left_out, group_left_out, left_out}
-use Rattle.supported_worlds.specs.Guarantees.{HasSoundParts}
+use Rattle.supported_worlds.specs.Guarantees.{HasFoundImport, OffersExport, HasSoundParts}
 use Rattle.supported_worlds.proofs.Lists.{nothing, at_front, after, none_picked}
 use Rattle.supported_worlds.proofs.Reporting.{IsEncoded, all_encoded}
 
@@ -116,6 +122,24 @@ name_there text ((keys.Name m, items.Function f) ∷ es) is h = by (bytes_eq tex
 name_there text ((keys.Interface id, items.Function f) ∷ es) is h = absurd is.0
 name_there text ((key, items.Interface id) ∷ es) is h = no_interface key id is.0
 name_there text ((key, items.NamedType id) ∷ es) is h = no_type key id is.0
+
+-- and a function of the items is looked up by its name
+name_at : (text : List ℕ) (es : Entries) (k : ℕ) → AllByRecursion IsItem es → k < length (flat_map root_function es) → slice_index_or (flat_map root_function es) k text ≡ text → IsSome (root_function_at es (keys.Name text))
+name_at text [] k is l e = absurd (omega arith)
+name_at text ((keys.Name m, items.Function f) ∷ es) zero is l e =
+    ap (λ b. is_some (option_and_then function_in (cond (b && true) (Some (items.Function f)) (lookup (is_same_key (keys.Name text)) es)))) ((bytes_eq-Decides text m).1 (sym e))
+name_at text ((keys.Name m, items.Function f) ∷ es) (suc k) is l e = by (bytes_eq text m) (name_at text es k is.1 (omega arith) e)
+  where
+    by : (b : Bool) → IsSome (root_function_at es (keys.Name text)) → IsSome (option_and_then function_in (cond (b && true) (Some (items.Function f)) (lookup (is_same_key (keys.Name text)) es)))
+    by true h = refl
+    by false h = h
+name_at text ((keys.Interface id, items.Function f) ∷ es) k is l e = absurd is.0
+name_at text ((key, items.Interface id) ∷ es) k is l e = no_interface key id is.0
+name_at text ((key, items.NamedType id) ∷ es) k is l e = no_type key id is.0
+
+mapped_there : {A B : Type 0} (f : A → B) (o : Option A) → IsSome o → IsSome (option_map f o)
+mapped_there f None h = h
+mapped_there f (Some x) h = refl
 
 -- the key of a function is a name, at which the function is found
 record IsRoot (es : Entries) (key : WorldKey) : Type 0 where
@@ -197,32 +221,67 @@ module _ (p : WorldParts) (present : HasSoundParts p) (encoded : IsEncoded p) (a
   export_roles [] h lifted = tt
   export_roles (e ∷ all) h lifted = (export_role e.1 h.0 lifted.0, export_roles all h.1 lifted.1)
 
-  required : (key : WorldKey) → IsKept p.resolve p.world p.main.exports.exports key → IsRequired (whole_of p) key
+  -- the role of an import or an export requires a type, which is that of the import or the export
+  import_typed : (role : Import) → IsImportRole (whole_of p) role → IsSome (type_of_import p.resolve (items_of p) role)
+  import_typed (imports.WorldFunc (keys.Name text) function abi) h =
+      mapped_there (called_type p.resolve abi) (root_function_at (items_of p).imports (keys.Name text)) (name_at text (items_of p).imports h.0.0 imports_are h.0.1 h.0.2)
+  import_typed role h = absurd h
+
+  found_import : AllByRecursion (IsImportGroup (whole_of p)) p.main.imports.modules → (i : ImportType) → HasFoundImport p i → FitsImport p.resolve (items_of p) p.main i
+  found_import groups i h =
+      let right = role_right (whole_of p) p.main.imports.modules i.module_name i.field h.role groups h.has_role in
+      let typed = some_of (type_of_import p.resolve (items_of p) h.role) (import_typed h.role right) in
+      record { role = h.role; has_role = h.has_role; fits = typed.1 ∙ ap Some (h.fits typed.0 typed.1) }
+
+  export_typed : (role : Export) → IsExportRole (whole_of p) role → IsSome (type_of_export p.resolve (items_of p) role)
+  export_typed (exports.WorldFunc (keys.Name text) function abi) h =
+      mapped_there (called_type p.resolve abi) (root_function_at (items_of p).exports (keys.Name text)) (name_at text (items_of p).exports h.0.0 exports_are h.0.1 h.0.2)
+  export_typed role h = absurd h
+
+  offered_exports : (all : List (List ℕ × Export)) → AllByRecursion (λ e. IsExportRole (whole_of p) e.1) all → AllByRecursion (OffersExport p) all
+      → AllByRecursion (FitsExport p.resolve (items_of p) p.main) all
+  offered_exports [] right h = tt
+  offered_exports (e ∷ all) right h =
+      let typed = some_of (type_of_export p.resolve (items_of p) e.1) (export_typed e.1 right.0) in
+      let here = h.0 in (record { type = typed.0; offered = here.offered typed.0 typed.1; fits = typed.1 }, offered_exports all right.1 h.1)
+
+  required : (key : WorldKey) → IsKept p.resolve p.world p.main.exports.exports key → IsRequired (whole_of p) p.main key
   required key kept =
       let root = root_at (items_of p).exports kept.exported.0 key exports_are kept.exported.1 kept.exported.2 in
       let is : exported_function p.resolve p.world key ≡ Some root.function = ap (exported_function p.resolve p.world) root.is ∙ (exported_is (keys.Name root.text) ∙ root.there) in
       record {
         exported = kept.exported;
-        present = subst (λ (k : WorldKey). IsSome (core_name_of (whole_of p) k)) (sym root.is) (kept.present root.text root.function root.is is);
+        present = subst (λ (k : WorldKey). IsSome (core_name_in p.main.exports.exports k)) (sym root.is) (kept.present root.text root.function root.is is);
       }
 
-  all_required : (ks : List WorldKey) → AllByRecursion (IsKept p.resolve p.world p.main.exports.exports) ks → AllByRecursion (IsRequired (whole_of p)) ks
+  all_required : (ks : List WorldKey) → AllByRecursion (IsKept p.resolve p.world p.main.exports.exports) ks → AllByRecursion (IsRequired (whole_of p) p.main) ks
   all_required [] h = tt
   all_required (k ∷ ks) h = (required k h.0, all_required ks h.1)
+
+  main_is : IsUserModule (whole_of p) p.main p.main_exports
+  main_is =
+      let groups = import_groups p.main.imports.modules encoded.groups apart.groups.fields present.called in
+      let roles = export_roles p.main.exports.exports encoded.export_roles present.lifted in
+      record {
+        core = present.core;
+        modules_apart = apart.groups.modules;
+        import_roles = groups;
+        imported = AllByRecursion-weaker (found_import groups) p.main.imported present.imported;
+        export_roles = roles;
+        exported = offered_exports p.main.exports.exports roles present.exported;
+        required = all_required p.main_exports present.kept;
+      }
 
   whole_is_world : IsWorld (whole_of p)
   whole_is_world = record {
     sound = present.sound;
     present = present.present;
-    core = present.core;
     imports = imports_are;
     exports = exports_are;
     import_names_apart = names_apart (items_of p).imports imports_are apart.items.imports;
     export_names_apart = names_apart (items_of p).exports exports_are apart.items.exports;
-    modules_apart = apart.groups.modules;
-    import_roles = import_groups p.main.imports.modules encoded.groups apart.groups.fields present.called;
-    export_roles = export_roles p.main.exports.exports encoded.export_roles present.lifted;
-    required = all_required p.main_exports present.kept;
+    main = main_is;
+    adapters = subst (λ (all : List (List ℕ × WorldAdapter)). AllByRecursion (λ a. IsUserModule (whole_of p) a.1.info a.1.required_exports) all) (sym encoded.alone) tt;
     alone = encoded.alone;
     import_map = refl;
     live_type_imports = refl;

@@ -218,6 +218,7 @@ fn main_module(alloc: Global, imports: ImportMap) -> ValidatedModule
         exports: ExportMap {
             exports: Keyed::new(alloc),
         },
+        imported: Seq::new(alloc),
         offered: Keyed::new(alloc),
         metadata: ModuleMetadata {
             import_encodings: Keyed::new(alloc),

@@ -29,6 +29,7 @@ fn module(alloc: Global, exports: ExportMap) -> ValidatedModule {
             modules: Keyed::new(alloc),
         },
         exports,
+        imported: Seq::new(alloc),
         offered: Keyed::new(alloc),
         metadata: ModuleMetadata {
             import_encodings,

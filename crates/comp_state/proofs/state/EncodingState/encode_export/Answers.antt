@@ -1,8 +1,7 @@
 use Rattle.std.proofs.Common.{◌≡◌, ◌∙◌, ◌∷◌, [], ap}
 use Rattle.comp_builder.specs.Built.{Built}
 use Rattle.wit_data.specs.Keys.{name_of_key}
-use Rattle.comp_state.specs.Encoding.{Encoding}
-use Rattle.comp_terms.specs.Facts.{IsLiftFor}
+use Rattle.comp_state.specs.Encoding.{Encoding, IsLiftFor}
 use Rattle.comp_terms.specs.Rules.{Grows, named_export}
 use Rattle.comp_state.proofs.Growth.{Grows-then, IsEncoding-kept}
 use Rattle.comp_state.proofs.Exporting.{adds_export}

@@ -1,11 +1,13 @@
-use Rattle.std.proofs.Common.{◌≡◌, ◌∙◌, ◌∷◌, [], ap}
+use Rattle.std.proofs.Common.{◌≡◌, ◌∙◌, ◌∷◌, [], ap, refl}
 use Rattle.std.specs.List.{AllZip}
 use Rattle.comp_builder.specs.Built.{Built}
 use Rattle.comp_bytes.proofs.ItemIndices.{in_range}
 use Rattle.comp_bytes.specs.declared.def.Def.TheVariants as defs
 use Rattle.comp_bytes.specs.declared.def.Item.TheVariants as items
 use Rattle.comp_state.specs.Encoding.{Encoding}
-use Rattle.comp_terms.specs.Facts.{IsArgumentFor}
+use Rattle.comp_links.specs.Targets.{Main}
+use Rattle.comp_terms.specs.Planned.{IsArgumentFor}
+use Rattle.comp_state.proofs.Exporting.{main_module}
 use Rattle.comp_terms.specs.Rules.{Grows, InstanceOf}
 use Rattle.comp_state.proofs.Growth.{Grows-by, Grows-then, IsEncoding-kept, IsEncoding-made, kept}
 use Rattle.comp_state.proofs.Serving.{groups_encoded}
@@ -19,11 +21,11 @@ world c = ap (λ (e : Encoding). e.world) c.self.view_is ∙ ap (λ (e : Encodin
 
 grows : (c : goal.After-self-1) → Grows c.self.inside.world.now c.self.inside.component.defs c.core_instantiate.new.self.defs (InstanceOf 0 ∷ [])
 grows c =
-    let each : AllZip (IsArgumentFor c.self.inside.world.now c.self.inside.component.defs) c.in_ok-arguments.arguments c.self.inside.world.now.main.imports.modules =
+    let each : AllZip (IsArgumentFor c.self.inside.world.now Main c.self.inside.component.defs) c.in_ok-arguments.arguments c.self.inside.world.now.main.imports.modules =
     rw (world c, built c) c.in_ok-arguments.ensures.serves in
     let first = kept c.in_ok-arguments.ensures.grows c.requires.first.made in
     let within = in_range first in
-    Grows-by (defs.Item (items.CoreInstantiate 0 c.in_ok-arguments.arguments)) (ap (λ (b : Built). b.defs) c.in_ok-index.ensures.adds.1) (record { main = cc; scoped = rw (built c) within; each = each })
+    Grows-by (defs.Item (items.CoreInstantiate 0 c.in_ok-arguments.arguments)) (ap (λ (b : Built). b.defs) c.in_ok-index.ensures.adds.1) (record { of = main_module c.self.inside.world.now; listed = refl; scoped = rw (built c) within; each = each })
 
 pub invariant_of-self-2 : goal.invariant_of-self-2
 invariant_of-self-2 c =

@@ -1,4 +1,4 @@
-use Rattle.std.proofs.Common.{rules, refl, ap, ◌≡◌}
+use Rattle.std.proofs.Common.{rules}
 use Rattle.comp_state.proofs.Refusals.{one_import_lacks}
 use Rattle.comp_state.proofs.state.EncodingState.materialize_import.Goals as goal
 

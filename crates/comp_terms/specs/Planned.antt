@@ -1,0 +1,70 @@
+-- Which terms the link table of a world asks for (Canonical ABI: `canon lower`, `canon lift`; component model, explainer:
+-- core instances), and what the instances of its modules are given.
+use Rattle.std.specs.Prelude.{◌≡◌, ℕ, List, IsSome}
+use Rattle.std.specs.List.{AllZip}
+use Rattle.comp_bytes.specs.ItemIndices.{IsAt}
+use Rattle.comp_bytes.specs.Spaces.{kind_space}
+use Rattle.comp_bytes.specs.declared.space.Space.{Space}
+use Rattle.comp_bytes.specs.declared.space.Space.TheVariants as spaces
+use Rattle.comp_bytes.specs.declared.def.CoreArgument.{CoreArgument}
+use Rattle.comp_bytes.specs.declared.def.CoreInlineExport.{CoreInlineExport}
+use Rattle.comp_bytes.specs.declared.def.Item.TheVariants as items
+use Rattle.comp_bytes.specs.declared.def.Def.{Def}
+use Rattle.comp_bytes.specs.declared.def.Def.TheVariants as defs
+use Rattle.comp_roles.specs.CoreImports.{fields_of}
+use Rattle.comp_roles.specs.declared.imports.Import.{Import}
+use Rattle.comp_roles.specs.declared.imports.ImportInstance.{ImportInstance}
+use Rattle.comp_worlds.specs.declared.world.ComponentWorld.{ComponentWorld}
+use Rattle.comp_links.specs.Targets.{UserModule, ExportRef, TargetOption, Target}
+use Rattle.comp_links.specs.Targets as targets
+use Rattle.comp_links.specs.Modules.{IsModule}
+use Rattle.comp_links.specs.Lists.{IsOriginOf}
+use Rattle.comp_links.specs.Links.{link_of}
+use Rattle.comp_links.specs.Roles.{import_encoding}
+use Rattle.comp_terms.specs.Terms.{CoreExport, TermOption, Term, Is}
+use Rattle.comp_terms.specs.Terms as terms
+
+-- an export of a user module
+pub record IsExportFor (w : ComponentWorld) (e : CoreExport) (export_ref : ExportRef) : Type 0 where
+  pub of : IsModule w e.of export_ref.of
+  pub named : e.name ≡ export_ref.name
+
+abbrev pub IsOptionFor : ComponentWorld → TermOption → TargetOption → Type 0
+IsOptionFor w (terms.Encoding e) (targets.Encoding e') = e ≡ e'
+IsOptionFor w (terms.Realloc e) (targets.Realloc export_ref) = IsExportFor w e export_ref
+IsOptionFor w (terms.PostReturn e) (targets.PostReturn export_ref) = IsExportFor w e export_ref
+IsOptionFor w terms.Async targets.Async = Unit {0}
+IsOptionFor w (terms.Callback e) (targets.Callback export_ref) = IsExportFor w e export_ref
+IsOptionFor w term option = ⊥
+
+-- the term is what the target names, where no shim and no wrapper is between them
+abbrev pub IsTermFor : ComponentWorld → Target → Term → Type 0
+IsTermFor w (targets.Lowered function options) (terms.Lowering origin written) = IsOriginOf w function origin × AllZip (IsOptionFor w) written options
+IsTermFor w (targets.ExportOf export_ref) (terms.Exported e) = IsExportFor w e export_ref
+IsTermFor w (targets.Lifted entry options) (terms.Lifting e written type) = IsExportFor w e entry × AllZip (IsOptionFor w) written options
+IsTermFor w target term = ⊥
+
+-- the item of this index in a space is a term that the target names
+pub record IsItemFor (w : ComponentWorld) (ds : List Def) (space : Space) (index : ℕ) (target : Target) : Type 0 where
+  pub term : Term
+  pub is : Is ds space index term
+  pub asked : IsTermFor w target term
+
+-- ---- what a user module is given
+
+-- the entry of an inline instance is what the import of this field is given
+pub record IsEntryFor (w : ComponentWorld) (of : UserModule) (ds : List Def) (e : CoreInlineExport) (field : List ℕ × Import) : Type 0 where
+  pub named : e.name ≡ field.0
+  pub serves : IsItemFor w ds (kind_space e.kind) e.index (link_of w of field.1)
+  pub encoded : IsSome (import_encoding w field.1)
+
+-- the core instance is an inline instance with an entry for each field, in order
+pub record IsInlineInstanceFor (w : ComponentWorld) (of : UserModule) (ds : List Def) (index : ℕ) (fields : List (List ℕ × Import)) : Type 0 where
+  pub entries : List CoreInlineExport
+  pub made : IsAt ds spaces.CoreInstance index (defs.Item (items.CoreExports entries))
+  pub each : AllZip (IsEntryFor w of ds) entries fields
+
+-- the argument has what the imports from this module are given
+pub record IsArgumentFor (w : ComponentWorld) (of : UserModule) (ds : List Def) (a : CoreArgument) (group : List ℕ × ImportInstance) : Type 0 where
+  pub named : a.name ≡ group.0
+  pub serves : IsInlineInstanceFor w of ds a.instance (fields_of group.1)

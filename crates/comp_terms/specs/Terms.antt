@@ -1,0 +1,126 @@
+-- What an item of a list of definitions is, as a value that holds no index (component model, explainer: core instances,
+-- aliases, `canon lower`, `canon lift`). Core modules and imports of the component are named by their numbers.
+use Rattle.std.specs.Prelude.{◌≡◌, ◌++◌, ℕ, Bool, true, false, List, [], ◌∷◌, None, filter, length}
+use Rattle.std.specs.List.{AllZip}
+use Rattle.comp_bytes.specs.ItemIndices.{IsAt}
+use Rattle.comp_bytes.specs.Spaces.{kind_space, items_in}
+use Rattle.comp_bytes.specs.declared.space.Space.{Space}
+use Rattle.comp_bytes.specs.declared.space.Space.TheVariants as spaces
+use Rattle.standard_kinds.specs.declared.kinds.ExportKind.{ExportKind}
+use Rattle.standard_kinds.specs.declared.kinds.ExportKind.TheVariants as kinds
+use Rattle.standard_kinds.specs.declared.kinds.StringEncoding.{StringEncoding}
+use Rattle.standard_kinds.specs.declared.kinds.StringEncoding.TheVariants as encodings
+use Rattle.comp_bytes.specs.declared.canon.CanonicalOption.{CanonicalOption}
+use Rattle.comp_bytes.specs.declared.canon.CanonicalOption.TheVariants as options
+use Rattle.comp_bytes.specs.declared.types.ExternName.{ExternName}
+use Rattle.comp_bytes.specs.declared.types.FuncTypeDef.{FuncTypeDef}
+use Rattle.comp_bytes.specs.declared.types.TypeDef.TheVariants as types
+use Rattle.comp_bytes.specs.declared.types.Alias.TheVariants as aliases
+use Rattle.comp_bytes.specs.declared.types.Description.TheVariants as descriptions
+use Rattle.comp_bytes.specs.declared.def.CoreArgument.{CoreArgument}
+use Rattle.comp_bytes.specs.declared.def.Item.{Item}
+use Rattle.comp_bytes.specs.declared.def.Item.TheVariants as items
+use Rattle.comp_bytes.specs.declared.def.Def.{Def}
+use Rattle.comp_bytes.specs.declared.def.Def.TheVariants as defs
+use Rattle.comp_runs.specs.Store.{Origin}
+
+-- what the instance of a core module exports, by the module's number, and by the kind and name of the export
+pub record CoreExport : Type 0 where
+  pub of : ℕ
+  pub kind : ExportKind
+  pub name : List ℕ
+
+-- an option of a lowering or a lift
+pub data TermOption : Type 0 where
+  Encoding : (encoding : StringEncoding) → TermOption
+  Memory : (memory : CoreExport) → TermOption
+  Realloc : (function : CoreExport) → TermOption
+  PostReturn : (function : CoreExport) → TermOption
+  Async : TermOption
+  Callback : (function : CoreExport) → TermOption
+
+pub data Term : Type 0 where
+  -- the type of functions
+  FunctionType : (type : FuncTypeDef) → Term
+  -- a function that is imported
+  ImportedFunction : (origin : Origin) → Term
+  -- the instance of a core module
+  InstanceOf : (number : ℕ) → Term
+  Exported : (export : CoreExport) → Term
+  -- a lowering of a function that is imported
+  Lowering : (origin : Origin) (options : List TermOption) → Term
+  -- a lift of a core function, with its type
+  Lifting : (entry : CoreExport) (options : List TermOption) (type : FuncTypeDef) → Term
+
+abbrev pub is_import : Def → Bool
+is_import (defs.Item (items.Import name description)) = true
+is_import d = false
+
+-- how many imports there are among these definitions
+abbrev pub imports_in : List Def → ℕ
+imports_in ds = length (filter is_import ds)
+
+-- the definition that made this item, with what comes before it
+pub record IsMade (ds : List Def) (space : Space) (index : ℕ) (d : Def) (before : List Def) : Type 0 where
+  pub after : List Def
+  pub split : ds ≡ before ++ d ∷ after
+  pub at : index ≡ items_in space before
+
+pub record IsFunctionType (ds : List Def) (index : ℕ) (type : FuncTypeDef) : Type 0 where
+  pub made : IsAt ds spaces.Type index (defs.Item (items.Type (types.Func type)))
+
+pub record IsImportedFunction (ds : List Def) (index : ℕ) (origin : Origin) : Type 0 where
+  pub name : ExternName
+  pub kind : ℕ
+  pub before : List Def
+  pub made : IsMade ds spaces.Func index (defs.Item (items.Import name (descriptions.Func kind))) before
+  pub numbered : origin ≡ record { number = imports_in before; inner = None }
+
+pub record IsInstanceOf (ds : List Def) (index number : ℕ) : Type 0 where
+  pub arguments : List CoreArgument
+  pub made : IsAt ds spaces.CoreInstance index (defs.Item (items.CoreInstantiate number arguments))
+
+-- an alias of an export of a core module's instance
+pub record IsExported (ds : List Def) (index : ℕ) (e : CoreExport) : Type 0 where
+  pub instance : ℕ
+  pub made : IsAt ds (kind_space e.kind) index (defs.Item (items.Alias (aliases.CoreExport e.kind instance e.name)))
+  pub of : IsInstanceOf ds instance e.of
+
+-- an option, by the item that it names
+abbrev pub IsOption : List Def → CanonicalOption → TermOption → Type 0
+IsOption ds options.Utf8 (Encoding e) = e ≡ encodings.UTF8
+IsOption ds options.Utf16 (Encoding e) = e ≡ encodings.UTF16
+IsOption ds options.CompactUtf16 (Encoding e) = e ≡ encodings.CompactUTF16
+IsOption ds (options.Memory index) (Memory e) = IsExported ds index e
+IsOption ds (options.Realloc index) (Realloc e) = IsExported ds index e
+IsOption ds (options.PostReturn index) (PostReturn e) = IsExported ds index e
+IsOption ds options.Async Async = Unit {0}
+IsOption ds (options.Callback index) (Callback e) = IsExported ds index e
+IsOption ds option term = ⊥
+
+pub record IsLowering (ds : List Def) (index : ℕ) (origin : Origin) (options : List TermOption) : Type 0 where
+  pub function : ℕ
+  pub written : List CanonicalOption
+  pub made : IsAt ds spaces.CoreFunc index (defs.Item (items.Lower function written))
+  pub of : IsImportedFunction ds function origin
+  pub with_options : AllZip (IsOption ds) written options
+
+pub record IsLifting (ds : List Def) (index : ℕ) (entry : CoreExport) (options : List TermOption) (type : FuncTypeDef) : Type 0 where
+  pub core : ℕ
+  pub kind : ℕ
+  pub written : List CanonicalOption
+  pub made : IsAt ds spaces.Func index (defs.Item (items.Lift core written kind))
+  pub of : IsExported ds core entry
+  pub function : entry.kind ≡ kinds.Func
+  pub with_options : AllZip (IsOption ds) written options
+  pub typed : IsFunctionType ds kind type
+
+-- the item of this index in a space is what the term says
+abbrev pub Is : List Def → Space → ℕ → Term → Type 0
+Is ds spaces.Type index (FunctionType type) = IsFunctionType ds index type
+Is ds spaces.Func index (ImportedFunction origin) = IsImportedFunction ds index origin
+Is ds spaces.CoreInstance index (InstanceOf number) = IsInstanceOf ds index number
+Is ds space index (Exported e) = (space ≡ kind_space e.kind) × IsExported ds index e
+Is ds spaces.CoreFunc index (Lowering origin options) = IsLowering ds index origin options
+Is ds spaces.Func index (Lifting entry options type) = IsLifting ds index entry options type
+Is ds space index term = ⊥

@@ -1,0 +1,39 @@
+-- The core types that roles require, and the types of a module's imports and exports as validation found them (Canonical
+-- ABI: `canon lower`, `canon lift`; core standard, validation: imports and exports).
+use Rattle.std.specs.Prelude.{◌≡◌, ℕ, List, Option, Some, None, option_map}
+use Rattle.comp_lists.specs.Found.{found}
+use Rattle.wit_data.specs.declared.functions.Function.{Function}
+use Rattle.wit_data.specs.declared.worlds.World.{World}
+use Rattle.wit_data.specs.declared.worlds.WorldKey.{WorldKey}
+use Rattle.wit_data.specs.declared.resolve.Resolve.{Resolve}
+use Rattle.comp_roles.specs.CoreImports.{role_at}
+use Rattle.comp_roles.specs.CoreTypes.{called_type}
+use Rattle.comp_roles.specs.declared.imports.Import.{Import}
+use Rattle.comp_roles.specs.declared.imports.Import.TheVariants as imports
+use Rattle.comp_roles.specs.declared.exports.Export.{Export}
+use Rattle.comp_roles.specs.declared.exports.Export.TheVariants as exports
+use Rattle.comp_roles.specs.declared.offered.ExternType.{ExternType}
+use Rattle.comp_roles.specs.declared.offered.ImportType.{ImportType}
+use Rattle.world_values.specs.Mentions.{root_function_at}
+use Rattle.comp_worlds.specs.declared.world.ValidatedModule.{ValidatedModule}
+
+-- the type that the role of an import, or of an export, requires, as far as such roles are encoded
+abbrev pub type_of_import : Resolve → World → Import → Option ExternType
+type_of_import r items (imports.WorldFunc key function abi) = option_map (called_type r abi) (root_function_at items.imports key)
+type_of_import r items role = None
+
+abbrev pub type_of_export : Resolve → World → Export → Option ExternType
+type_of_export r items (exports.WorldFunc key function abi) = option_map (called_type r abi) (root_function_at items.exports key)
+type_of_export r items role = None
+
+-- an import that validation found has a role, which requires its type
+pub record FitsImport (r : Resolve) (items : World) (m : ValidatedModule) (i : ImportType) : Type 0 where
+  pub role : Import
+  pub has_role : role_at m.imports.modules i.module_name i.field ≡ Some role
+  pub fits : type_of_import r items role ≡ Some i.ty
+
+-- an export that has a role is one that validation found, of the type that its role requires
+pub record FitsExport (r : Resolve) (items : World) (m : ValidatedModule) (e : List ℕ × Export) : Type 0 where
+  pub type : ExternType
+  pub offered : found e.0 m.offered ≡ Some type
+  pub fits : type_of_export r items e.1 ≡ Some type

@@ -1,0 +1,111 @@
+-- The type of an import or an export that fits its role, and the type that the role requires, are one.
+use Rattle.std.proofs.Common.{◌≡◌, ◌∙◌, ◌<◌, Bool, true, false, ◌&&◌, List, [], ◌∷◌, Option, Some, None, length, map, refl, sym, ap, true≢false}
+use Rattle.std.specs.Prelude.{get_or, option_map, slice_get}
+use Rattle.std.specs.Option.{option_and_then, option_map_or}
+use Rattle.std.proofs.lemmas.Option.{none-some, slice_get-get_or}
+use Rattle.core_sections.specs.declared.core_module.CoreModule.{CoreModule}
+use Rattle.core_sections.specs.declared.entries.EntityType.{EntityType}
+use Rattle.core_sections.specs.declared.entries.EntityType.TheVariants as entities
+use Rattle.core_sections.specs.declared.entries.ExportedItem.{ExportedItem}
+use Rattle.core_sections.specs.declared.entries.ExportedItem.TheVariants as items
+use Rattle.core_sections.specs.declared.entries.FuncType.{FuncType as CoreFunc}
+use Rattle.core_sections.specs.declared.entries.ValType.{ValType as CoreVal}
+use Rattle.core_sections.specs.declared.entries.ValType.TheVariants as core_values
+use Rattle.core_sections.specs.contracts.entries.ValTypePartialEq.TheImpl as same_value
+use Rattle.core_sections.specs.Reading.{◌>>=◌}
+use Rattle.core_types.specs.declared.types.FuncType.{FuncType}
+use Rattle.core_types.specs.declared.types.ValType.{ValType}
+use Rattle.wit_data.specs.Signatures.{signature}
+use Rattle.wit_data.specs.declared.functions.AbiVariant.{AbiVariant}
+use Rattle.wit_data.specs.declared.functions.Function.{Function}
+use Rattle.wit_data.specs.declared.resolve.Resolve.{Resolve}
+use Rattle.wit_data.specs.declared.signatures.WasmSignature.{WasmSignature}
+use Rattle.wit_data.specs.declared.signatures.WasmType.{WasmType}
+use Rattle.wit_data.specs.declared.signatures.WasmType.TheVariants as numbers
+use Rattle.wit_data.specs.declared.worlds.World.{World}
+use Rattle.world_values.specs.Items.{no_items}
+use Rattle.world_values.specs.Mentions.{root_function_at}
+use Rattle.comp_roles.specs.CoreTypes.{value_type as value_of, core_type, called_type}
+use Rattle.comp_roles.specs.declared.exports.Export.{Export}
+use Rattle.comp_roles.specs.declared.exports.Export.TheVariants as exports
+use Rattle.comp_roles.specs.declared.imports.Import.{Import}
+use Rattle.comp_roles.specs.declared.imports.Import.TheVariants as imports
+use Rattle.comp_roles.specs.declared.offered.ExternType.{ExternType}
+use Rattle.comp_roles.specs.declared.offered.ExternType.TheVariants as externs
+use Rattle.comp_worlds.specs.Typed.{type_of_import, type_of_export}
+use Rattle.record_core_types.specs.Asked.{function, number, called}
+use Rattle.record_core_types.specs.Fitting.{are_same, is_same, is_asked, is_function, fits_import, fits_export}
+use Rattle.record_core_types.specs.Offered.{value_type, value_types, func_type, extern_type, item_type}
+use Rattle.plain_lower.specs.Guarantees.{world_id}
+
+-- ---- functions
+
+both : (a b : Bool) → (a && b) ≡ true → (a ≡ true) × (b ≡ true)
+both true b e = (refl, e)
+both false b e = absurd (true≢false (sym e))
+
+one_value : (v : CoreVal) (n : WasmType) → same_value.eq-value.it v (number n) ≡ true → value_type v ≡ Some (value_of n)
+one_value core_values.I32 numbers.I32 e = refl
+one_value v numbers.I32 e = absurd (true≢false (sym e))
+one_value core_values.I64 numbers.I64 e = refl
+one_value v numbers.I64 e = absurd (true≢false (sym e))
+one_value core_values.F32 numbers.F32 e = refl
+one_value v numbers.F32 e = absurd (true≢false (sym e))
+one_value core_values.F64 numbers.F64 e = refl
+one_value v numbers.F64 e = absurd (true≢false (sym e))
+
+all_values : (vs : List CoreVal) (ns : List WasmType) → are_same vs (map number ns) ≡ true → value_types vs ≡ Some (map value_of ns)
+all_values [] [] e = refl
+all_values (v ∷ vs) (n ∷ ns) e =
+    let b = both (same_value.eq-value.it v (number n)) (are_same vs (map number ns)) e in
+    ap (λ (o : Option ValType). o >>= λ t. value_types vs >>= λ ts. Some (t ∷ ts)) (one_value v n b.0)
+    ∙ ap (λ (o : Option (List ValType)). o >>= λ ts. Some (value_of n ∷ ts)) (all_values vs ns b.1)
+all_values [] (n ∷ ns) e = absurd (true≢false (sym e))
+all_values (v ∷ vs) [] e = absurd (true≢false (sym e))
+
+-- a function of the type of a signature
+function_typed : (f : CoreFunc) (s : WasmSignature) → is_same f (function (map number s.params) (map number s.results)) ≡ true → func_type f ≡ Some (core_type s)
+function_typed f s e =
+    let b = both (are_same f.params (map number s.params)) (are_same f.results (map number s.results)) e in
+    let made : List ValType → List ValType → FuncType = λ ps rs. record { params = ps; results = rs } in
+    ap (λ (o : Option (List ValType)). o >>= λ ps. value_types f.results >>= λ rs. Some (made ps rs)) (all_values f.params s.params b.0)
+    ∙ ap (λ (o : Option (List ValType)). o >>= λ rs. Some (made (map value_of s.params) rs)) (all_values f.results s.results b.1)
+
+-- an entity that is a function of the type that is required
+entity_typed : (core : CoreModule) (r : Resolve) (abi : AbiVariant) (e : EntityType) (o : Option Function) (ty : ExternType) → is_function core e (option_map (called r abi) o) ≡ true
+    → option_map (called_type r abi) o ≡ Some ty → extern_type core e ≡ Some ty
+entity_typed core r abi (entities.Function n) (Some f) ty fits is = by (slice_get core.types n) refl fits
+  where
+    by : (t : Option CoreFunc) → slice_get core.types n ≡ t → option_map_or (λ g. is_asked g (Some (called r abi f))) t false ≡ true → extern_type core (entities.Function n) ≡ Some ty
+    by None at fits = absurd (true≢false (sym fits))
+    by (Some g) at fits =
+        ap (λ (t : Option CoreFunc). t >>= λ h. option_map externs.Func (func_type h)) at
+        ∙ ap (λ (t : Option FuncType). option_map externs.Func t) (function_typed g (signature abi r.types f) fits) ∙ is
+entity_typed core r abi (entities.Function n) None ty fits is = absurd (none-some ty is)
+entity_typed core r abi e o ty fits is = absurd (true≢false (sym fits))
+
+-- ---- roles
+
+module _ (r : Resolve) (present : 0 < length r.worlds) (core : CoreModule) where
+  abbrev the_items : World
+  the_items = get_or r.worlds 0 no_items
+
+  the_world : slice_get r.worlds 0 ≡ Some the_items
+  the_world = slice_get-get_or r.worlds 0 no_items present
+
+  -- an import that fits its role has the type that the role requires
+  pub import_typed : (role : Import) (e : EntityType) (ty : ExternType) → fits_import r world_id core role e ≡ true → type_of_import r the_items role ≡ Some ty → extern_type core e ≡ Some ty
+  import_typed (imports.WorldFunc key name abi) e ty fits is =
+      let asked : is_function core e (option_map (called r abi) (root_function_at the_items.imports key)) ≡ true =
+      ap (λ (o : Option World). is_function core e (option_map (called r abi) (option_and_then (λ w. root_function_at w.imports key) o))) (sym the_world) ∙ fits in
+      entity_typed core r abi e (root_function_at the_items.imports key) ty asked is
+  import_typed role e ty fits is = absurd (none-some ty is)
+
+  -- and so has an export
+  pub export_typed : (role : Export) (item : ExportedItem) (ty : ExternType) → fits_export r world_id core role item ≡ true → type_of_export r the_items role ≡ Some ty → item_type core item ≡ Some ty
+  export_typed (exports.WorldFunc key name abi) (items.Entity e) ty fits is =
+      let asked : is_function core e (option_map (called r abi) (root_function_at the_items.exports key)) ≡ true =
+      ap (λ (o : Option World). is_function core e (option_map (called r abi) (option_and_then (λ w. root_function_at w.exports key) o))) (sym the_world) ∙ fits in
+      entity_typed core r abi e (root_function_at the_items.exports key) ty asked is
+  export_typed (exports.WorldFunc key name abi) items.Tag ty fits is = absurd (true≢false (sym fits))
+  export_typed role item ty fits is = absurd (none-some ty is)
