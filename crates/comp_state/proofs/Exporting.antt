@@ -1,7 +1,7 @@
 -- The required exports: what is lifted for each, and that each is exported.
 use Rattle.std.proofs.Common.{◌+◌, ◌≡◌, ◌∙◌, ℕ, ◌<◌, List, [], ◌∷◌, ◌++◌, refl, sym, ap, subst, length, take, get_or, map, Some, None, Option, Bool, true, false, cond, IsSome, Contains, arith}
 use Rattle.std.proofs.lemmas.List.{map_more, take_more, take_all}
-use Rattle.std.specs.List.{AllByRecursion}
+use Rattle.std.specs.List.{AllByRecursion, AllZip}
 use Rattle.comp_lists.proofs.Lists.{AllByRecursion-push, AllByRecursion-at}
 use Rattle.comp_builder.specs.Built.{Built}
 use Rattle.comp_bytes.specs.ItemIndices.{IsAt}
@@ -20,7 +20,12 @@ use Rattle.wit_data.specs.declared.worlds.WorldKey.{WorldKey}
 use Rattle.comp_worlds.specs.declared.world.ComponentWorld.{ComponentWorld}
 use Rattle.comp_state.specs.declared.fault.StateFault.{StateFault}
 use Rattle.comp_state.specs.Causes.{IsCause, IsCauseAmong}
-use Rattle.comp_state.specs.Encoding.{Encoding, Extends, main_export, IsOffered, IsLiftFor}
+use Rattle.comp_items.specs.Items.{Extends, MayAdd}
+use Rattle.comp_items.proofs.Extending.{extends_none, extends_then}
+use Rattle.comp_state.specs.Encoding.{IsLiftFor}
+use Rattle.comp_state.proofs.Elements.{contains_one, contains_none}
+use Rattle.comp_bytes.specs.declared.types.FuncTypeDef.{FuncTypeDef}
+use Rattle.comp_bytes.specs.declared.types.TypeDef.TheVariants as types
 use Rattle.std.specs.Option.{option_map}
 use Rattle.comp_links.specs.Targets.{Main, Lifted}
 use Rattle.comp_links.specs.Lists.{plain_name}
@@ -40,13 +45,12 @@ use Rattle.comp_roles.specs.declared.exports.Export.{Export as WorldExport}
 use Rattle.comp_roles.specs.declared.exports.Export.TheVariants as exports
 use Rattle.comp_worlds.specs.Typed.{FitsExport}
 use Rattle.comp_links.specs.Modules.{WorldModule}
-use Rattle.comp_terms.specs.Terms.{IsFunctionType, IsInstanceOf, IsExported}
+use Rattle.comp_terms.specs.Terms.{CoreExport, TermOption, IsFunctionType, IsInstanceOf, IsExported, IsOption, IsLifting}
 use Rattle.comp_terms.specs.Terms as terms
 use Rattle.comp_links.specs.Roles.{export_encoding}
 use Rattle.comp_terms.specs.Rules.{plain_function, Grows, named_export}
-use Rattle.comp_state.proofs.Refusals.{among_more, contains_one, contains_none}
-use Rattle.comp_state.proofs.Extending.{extends_none, extends_then}
-use Rattle.comp_state.proofs.Growth.{Grows-none, Grows-by, Grows-then, IsFunctionType-kept, IsInstanceOf-kept, IsExported-kept}
+use Rattle.comp_state.proofs.Refusals.{among_more}
+use Rattle.comp_state.proofs.Growth.{Grows-none, Grows-by, Grows-may, Grows-then}
 
 -- ---- what main offers
 
@@ -70,7 +74,7 @@ role_offered w name (exports.WorldFunc (keys.Name text) function abi) r h = by (
     by (Some x) (externs.Global type) e f = cc
 role_offered w name role r h = absurd r
 
-root_offered : (w : ComponentWorld) (text name : List ℕ) (es : List (List ℕ × WorldExport)) → AllByRecursion (λ e. IsExportRole w e.1) es → AllByRecursion (FitsExport w.resolve (items_of w) w.main) es →
+pub root_offered : (w : ComponentWorld) (text name : List ℕ) (es : List (List ℕ × WorldExport)) → AllByRecursion (λ e. IsExportRole w e.1) es → AllByRecursion (FitsExport w.resolve (items_of w) w.main) es →
     found text (flat_map root_export es) ≡ Some name → OffersFunction w name
 root_offered w text name [] r f h = absurd (none-some name h)
 root_offered w text name ((n, exports.WorldFunc (keys.Name t) function abi) ∷ es) r f h = by (bytes_eq text t) h (root_offered w text name es r.1 f.1)
@@ -83,105 +87,76 @@ root_offered w text name ((n, exports.WorldFunc (keys.Name t) function abi) ∷ 
     by false same rest = rest same
 root_offered w text name ((n, role) ∷ es) r f h = absurd r.0
 
-pub core_offered : (w : ComponentWorld) → IsWorld w → (name : List ℕ) → IsOffered w name → OffersFunction w name
-core_offered w ok name h = by h.function h.role
-  where
-    by : (key : WorldKey) → core_name_of w key ≡ Some name → OffersFunction w name
-    by (keys.Name text) e = root_offered w text name w.main.exports.exports ok.main.export_roles ok.main.exported e
-    by (keys.Interface id) e = absurd (none-some name e)
-
 -- ---- what each call adds
 
-pub record AddsAlias (w : ComponentWorld) (old new : List Def) (index : ℕ) (name : List ℕ) : Type 0 where
-  pub grows : Grows w old new []
-  pub aliased : IsExported new index (main_export name)
+-- the core export that implements a root function
+abbrev pub main_export : List ℕ → CoreExport
+main_export name = record { of = 0; kind = kinds.Func; name = name }
 
-pub adds_alias : (w : ComponentWorld) (old new : Built) (main index : ℕ) (text name : List ℕ) → IsWorld w → text ≡ name → IsInstanceOf old.defs main 0 → IsOffered w name →
-    new.defs ≡ old.defs ++ defs.Item (items.Alias (aliases.CoreExport kinds.Func main text)) ∷ [] →
-    IsAt new.defs spaces.CoreFunc index (defs.Item (items.Alias (aliases.CoreExport kinds.Func main text))) → AddsAlias w old.defs new.defs index name
-adds_alias w old new main index text name ok same of offered appended at =
-    let o : OffersFunction w text = subst (OffersFunction w) (sym same) (core_offered w ok name offered) in
-    let g : Grows w old.defs new.defs [] =
-    Grows-by (defs.Item (items.Alias (aliases.CoreExport kinds.Func main text))) appended (record { number = 0; of = main_module w; type = o.0; is = of; listed = refl; offered = o.1 }) in
-    record {
-      grows = g;
-      aliased = record {
-        instance = main;
-        made = subst (λ n. IsAt new.defs spaces.CoreFunc index (defs.Item (items.Alias (aliases.CoreExport kinds.Func main n)))) same at;
-        of = IsInstanceOf-kept g of;
-      };
-    }
+-- an alias of a core export of main that implements a root function, or an earlier one
+pub grows_alias : (w : ComponentWorld) (old new : List Def) (instance : ℕ) (text name : List ℕ) → IsWorld w → IsInstanceOf old instance 0 → core_name_of w (keys.Name text) ≡ Some name →
+    MayAdd old new (defs.Item (items.Alias (aliases.CoreExport kinds.Func instance name))) → Grows w old new []
+grows_alias w old new instance text name ok of role adds =
+    let o : OffersFunction w name = root_offered w text name w.main.exports.exports ok.main.export_roles ok.main.exported role in
+    Grows-may (defs.Item (items.Alias (aliases.CoreExport kinds.Func instance name))) refl adds (record { number = 0; of = main_module w; type = o.0; is = of; listed = refl; offered = o.1 })
+
+-- the plain type of functions, or an earlier one
+pub grows_type : (w : ComponentWorld) (old new : List Def) → MayAdd old new (defs.Item (items.Type (types.Func plain_function))) → Grows w old new []
+grows_type w old new adds = Grows-may (defs.Item (items.Type (types.Func plain_function))) refl adds refl
 
 pub record AddsLift (w : ComponentWorld) (old new : List Def) (index : ℕ) (key : WorldKey) : Type 0 where
   pub grows : Grows w old new []
   pub lifted : IsLiftFor w new index key
 
-pub adds_lift : (w : ComponentWorld) (old new : Built) (core kind index : ℕ) (options : List CanonicalOption) (name : List ℕ) (key : WorldKey) → options ≡ [] →
-    IsExported old.defs core (main_export name) → IsFunctionType old.defs kind plain_function → core_name_of w key ≡ Some name → IsSome (export_encoding w key) →
-    new.defs ≡ old.defs ++ defs.Item (items.Lift core options kind) ∷ [] → IsAt new.defs spaces.Func index (defs.Item (items.Lift core options kind)) → AddsLift w old.defs new.defs index key
-adds_lift w old new core kind index options name key none alias type' role encoded appended at =
-    let g : Grows w old.defs new.defs [] = Grows-by (defs.Item (items.Lift core options kind)) appended (in_range alias.made, none, type') in
-    record {
-      grows = g;
-      lifted = record {
-        target = Lifted (record { of = Main; name = name }) [];
-        said = ap (option_map (λ n. Lifted (record { of = Main; name = n }) [])) role;
-        is = record {
-          term = terms.Lifting (main_export name) [] plain_function;
-          is = record {
-            core = core;
-            kind = kind;
-            written = [];
-            made = subst (λ o. IsAt new.defs spaces.Func index (defs.Item (items.Lift core o kind))) none at;
-            of = IsExported-kept g alias;
-            function = refl;
-            with_options = tt;
-            typed = IsFunctionType-kept g type';
-          };
-          asked = (record { of = record { world_module = main_module w; listed = refl; same = refl }; named = refl }, tt);
-        };
-        encoded = encoded;
-      };
-    }
+pub adds_lift : (w : ComponentWorld) (old new : List Def) (core kind index : ℕ) (options : List CanonicalOption) (name : List ℕ) (key : WorldKey) → options ≡ [] →
+    IsExported old core (main_export name) → IsFunctionType old kind plain_function → core_name_of w key ≡ Some name → IsSome (export_encoding w key) →
+    new ≡ old ++ defs.Item (items.Lift core options kind) ∷ [] →
+    ((entry : CoreExport) (written : List TermOption) (type : FuncTypeDef) → entry.kind ≡ kinds.Func → IsExported old core entry → AllZip (IsOption old) options written → IsFunctionType old kind type → IsLifting new index entry written type) →
+    AddsLift w old new index key
+adds_lift w old new core kind index options name key none alias type' role encoded appended lifts = record {
+  grows = Grows-by (defs.Item (items.Lift core options kind)) appended (in_range alias.made, none, type');
+  lifted = record {
+    target = Lifted (record { of = Main; name = name }) [];
+    said = ap (option_map (λ n. Lifted (record { of = Main; name = n }) [])) role;
+    is = record {
+      term = terms.Lifting (main_export name) [] plain_function;
+      is = lifts (main_export name) [] plain_function refl alias (subst (λ os. AllZip (IsOption old) os []) (sym none) tt) type';
+      asked = (record { of = record { world_module = main_module w; listed = refl; same = refl }; named = refl }, tt);
+    };
+    encoded = encoded;
+  };
+}
 
-pub adds_export : (w : ComponentWorld) (old new : Built) (index : ℕ) (name : List ℕ) (key : WorldKey) → name ≡ name_of_key key → IsLiftFor w old.defs index key →
-    new.defs ≡ old.defs ++ defs.Item (items.Export (plain_name name) sorts.Func index None) ∷ [] → Grows w old.defs new.defs (named_export (name_of_key key) ∷ [])
+pub adds_export : (w : ComponentWorld) (old new : List Def) (index : ℕ) (name : List ℕ) (key : WorldKey) → name ≡ name_of_key key → IsLiftFor w old index key →
+    new ≡ old ++ defs.Item (items.Export (plain_name name) sorts.Func index None) ∷ [] → Grows w old new (named_export (name_of_key key) ∷ [])
 adds_export w old new index name key same lifted appended =
-    subst (λ n. Grows w old.defs new.defs (named_export n ∷ [])) same
+    subst (λ n. Grows w old new (named_export n ∷ [])) same
     (Grows-by (defs.Item (items.Export (plain_name name) sorts.Func index None)) appended (record { key = key; target = lifted.target; named = ap plain_name same; said = lifted.said; lifted = lifted.is }))
 
 -- the keys that were exported so far
-pub record ExportsSoFar (old new : Encoding) (done : List WorldKey) : Type 0 where
-  pub same : new ≡ record old { built = new.built }
-  pub extends : Extends old.built new.built
-  pub grows : Grows old.world old.built.defs new.built.defs (map (λ key. named_export (name_of_key key)) done)
-  pub encoded : AllByRecursion (λ key. IsSome (export_encoding old.world key)) done
+pub record ExportsSoFar (w : ComponentWorld) (old new : Built) (done : List WorldKey) : Type 0 where
+  pub extends : Extends old new
+  pub grows : Grows w old.defs new.defs (map (λ key. named_export (name_of_key key)) done)
+  pub encoded : AllByRecursion (λ key. IsSome (export_encoding w key)) done
 
-pub exports_start : (old : Encoding) → ExportsSoFar old old []
-exports_start old = record { same = refl; extends = extends_none old.built; grows = Grows-none old.world old.built.defs; encoded = tt }
+pub exports_start : (w : ComponentWorld) (old : Built) → ExportsSoFar w old old []
+exports_start w old = record { extends = extends_none old; grows = Grows-none w old.defs; encoded = tt }
 
-pub exports_step : (old mid new : Encoding) (keys : List WorldKey) (i : ℕ) (key : WorldKey) → ExportsSoFar old mid (take i keys) → i < length keys → key ≡ get_or keys i key →
-    new ≡ record mid { built = new.built } → Extends mid.built new.built → Grows mid.world mid.built.defs new.built.defs (named_export (name_of_key key) ∷ []) →
-    IsSome (export_encoding mid.world key) → ExportsSoFar old new (take (i + 1) keys)
-exports_step old mid new keys i key h l is same extends grows encoded =
-    let world : mid.world ≡ old.world = ap (λ (s : Encoding). s.world) h.same in
+pub exports_step : (w : ComponentWorld) (old mid new : Built) (keys : List WorldKey) (i : ℕ) (key : WorldKey) → ExportsSoFar w old mid (take i keys) → i < length keys → key ≡ get_or keys i key →
+    Extends mid new → Grows w mid.defs new.defs (named_export (name_of_key key) ∷ []) → IsSome (export_encoding w key) → ExportsSoFar w old new (take (i + 1) keys)
+exports_step w old mid new keys i key h l is extends grows encoded =
     let more : take (i + 1) keys ≡ take i keys ++ key ∷ [] = take_more keys i key l ∙ ap (λ k. take i keys ++ k ∷ []) (sym is) in
     let marks : map (λ k. named_export (name_of_key k)) (take (i + 1) keys) ≡ map (λ k. named_export (name_of_key k)) (take i keys) ++ named_export (name_of_key key) ∷ [] =
     map_more (λ k. named_export (name_of_key k)) keys i key l ∙ ap (λ k. map (λ j. named_export (name_of_key j)) (take i keys) ++ named_export (name_of_key k) ∷ []) (sym is) in
     record {
-      same = same ∙ ap (λ (s : Encoding). record s { built = new.built }) h.same;
-      extends = extends_then old.built mid.built new.built h.extends extends;
-      grows =
-          subst (λ m. Grows old.world old.built.defs new.built.defs m) (sym marks)
-          (Grows-then h.grows (subst (λ w. Grows w mid.built.defs new.built.defs (named_export (name_of_key key) ∷ [])) world grows));
-      encoded =
-          subst (λ ks. AllByRecursion (λ k. IsSome (export_encoding old.world k)) ks) (sym more)
-          (AllByRecursion-push (λ k. IsSome (export_encoding old.world k)) (take i keys) key h.encoded (subst (λ w. IsSome (export_encoding w key)) world encoded));
+      extends = extends_then old mid new h.extends extends;
+      grows = subst (λ m. Grows w old.defs new.defs m) (sym marks) (Grows-then h.grows grows);
+      encoded = subst (λ ks. AllByRecursion (λ k. IsSome (export_encoding w k)) ks) (sym more) (AllByRecursion-push (λ k. IsSome (export_encoding w k)) (take i keys) key h.encoded encoded);
     }
 
 -- all keys were exported
-pub exports_done : (old new : Encoding) (keys : List WorldKey) (i : ℕ) → length keys ≡ i → ExportsSoFar old new (take i keys) → ExportsSoFar old new keys
-exports_done old new keys i e h = subst (λ ks. ExportsSoFar old new ks) (take_all i keys (omega (arith, e))) h
+pub exports_done : (w : ComponentWorld) (old new : Built) (keys : List WorldKey) (i : ℕ) → length keys ≡ i → ExportsSoFar w old new (take i keys) → ExportsSoFar w old new keys
+exports_done w old new keys i e h = subst (λ ks. ExportsSoFar w old new ks) (take_all i keys (omega (arith, e))) h
 
 -- a required key has a core export in main
 pub key_has_core_name : (w : ComponentWorld) (keys : List WorldKey) → IsWorld w → keys ≡ w.main_exports → (i : ℕ) (key : WorldKey) → i < length keys → key ≡ get_or keys i key → IsSome (core_name_of w key)

@@ -4,10 +4,8 @@ use Rattle.std.proofs.lemmas.Slice.Eq.{bytes_eq-Decides}
 use Rattle.std.specs.Str.{bytes_eq}
 use Rattle.std.specs.List.{AllByRecursion, flat_map, list_any}
 use Rattle.comp_lists.specs.Found.{found}
-use Rattle.comp_lists.specs.Tables.{with_first}
 use Rattle.std.proofs.lemmas.Grind.{flat_map-append}
 use Rattle.comp_lists.proofs.Lists.{AllByRecursion-contains, AllByRecursion-weaker}
-use Rattle.comp_lists.proofs.Lookups.{IsSome-found-append, found-pushed}
 use Rattle.comp_worlds.specs.Worlds.{items_of, root_function, imported_functions, imported_name, IsImportRole, IsImportGroup, IsWorld}
 use Rattle.wit_data.specs.declared.worlds.WorldKey.{WorldKey}
 use Rattle.wit_data.specs.declared.worlds.WorldItem.{WorldItem}
@@ -17,7 +15,10 @@ use Rattle.wit_data.specs.declared.worlds.WorldKey.TheVariants as keys
 use Rattle.comp_roles.specs.declared.imports.ImportInstance.{ImportInstance}
 use Rattle.comp_roles.specs.declared.imports.ImportInstance.TheVariants as instances
 use Rattle.comp_worlds.specs.declared.world.ComponentWorld.{ComponentWorld}
-use Rattle.comp_state.specs.Encoding.{Encoding, Extends, FindsMore, FindsUsed}
+use Rattle.comp_builder.specs.Built.{Built}
+use Rattle.comp_items.specs.Items.{Extends}
+use Rattle.comp_items.proofs.Extending.{extends_none, extends_then}
+use Rattle.comp_state.specs.Tables.{FindsImports, FindsMore, FindsUsed}
 use Rattle.comp_links.specs.Roles.{is_named, is_any_import, uses_from, is_used, used_functions}
 use Rattle.comp_terms.specs.Terms.{is_import, imports_in}
 use Rattle.comp_terms.specs.Rules.{Grows, Landmark, Imported, landmarks, named_import, names_marked, imports_marked}
@@ -28,17 +29,8 @@ use Rattle.comp_bytes.specs.declared.def.Def.TheVariants as defs
 use Rattle.std.specs.List.{slice_get}
 use Rattle.comp_lists.proofs.Lists.{slice_get-append, slice_get-end}
 use Rattle.std.proofs.lemmas.List.Elements.{filter-append}
-use Rattle.comp_state.proofs.Extending.{extends_none, extends_then}
-use Rattle.comp_state.proofs.Serving.{AllByRecursion-join}
-use Rattle.comp_state.proofs.Growth.{Grows-none, Grows-then, found_first}
-
--- adding an entry loses none
-pub finds_more : (names : List (List ℕ × ℕ)) (k : List ℕ) (v : ℕ) → FindsMore names (with_first bytes_eq names k v)
-finds_more names k v = record { each = λ t h. subst (λ o. IsSome o) (sym (found_first t k v names)) (IsSome-found-append t names ((k, v) ∷ []) h) }
-
--- an entry that was added is found, or one before it
-pub finds_added : (names : List (List ℕ × ℕ)) (k : List ℕ) (v : ℕ) → IsSome (found k (with_first bytes_eq names k v))
-finds_added names k v = subst (λ o. IsSome o) (sym (found_first k k v names)) (found-pushed k v names)
+use Rattle.comp_state.proofs.Elements.{AllByRecursion-join}
+use Rattle.comp_state.proofs.Growth.{Grows-none, Grows-then}
 
 abbrev IsWorldImport : ComponentWorld → List ℕ → Type 0
 IsWorldImport w text = Contains (imported_functions w) text
@@ -128,23 +120,23 @@ next_in p xs ys t e =
 -- ---- the loop
 
 -- the items of the world that were passed so far, and what was made for them
-pub record ImportsSoFar (old new : Encoding) (rest : List (WorldKey × WorldItem)) : Type 0 where
+pub record ImportsSoFar (w : ComponentWorld) (old new : Built) (functions : List (List ℕ × ℕ)) (rest : List (WorldKey × WorldItem)) : Type 0 where
   pub done : List (WorldKey × WorldItem)
-  pub split : done ++ rest ≡ (items_of old.world).imports
-  pub same : new ≡ record old { built = new.built; functions = new.functions }
-  pub extends : Extends old.built new.built
-  pub grows : Grows old.world old.built.defs new.built.defs (names_marked old.world (flat_map root_function done))
-  pub count : imports_in new.built.defs ≡ length (filter (is_used old.world) (flat_map root_function done))
-  pub finds : AllByRecursion (λ t. IsTrue (is_used old.world t) → IsSome (found t new.functions)) (flat_map root_function done)
+  pub split : done ++ rest ≡ (items_of w).imports
+  pub extends : Extends old new
+  pub grows : Grows w old.defs new.defs (names_marked w (flat_map root_function done))
+  pub count : imports_in new.defs ≡ length (filter (is_used w) (flat_map root_function done))
+  pub imports : FindsImports w new.defs functions
+  pub finds : AllByRecursion (λ t. IsTrue (is_used w t) → IsSome (found t functions)) (flat_map root_function done)
 
-pub imports_start : (old : Encoding) → old.built.defs ≡ [] → ImportsSoFar old old (items_of old.world).imports
-imports_start old empty = record {
+pub imports_start : (w : ComponentWorld) (old : Built) → old.defs ≡ [] → ImportsSoFar w old old [] (items_of w).imports
+imports_start w old empty = record {
   done = [];
   split = refl;
-  same = refl;
-  extends = extends_none old.built;
-  grows = Grows-none old.world old.built.defs;
+  extends = extends_none old;
+  grows = Grows-none w old.defs;
   count = ap imports_in empty;
+  imports = record { each = λ t i e. cc };
   finds = tt;
 }
 
@@ -170,65 +162,52 @@ finds_push : (done : List (WorldKey × WorldItem)) (e : WorldKey × WorldItem) (
 finds_push done e P h k = subst (λ ns. AllByRecursion P ns) (sym (functions_push done e)) (AllByRecursion-join P (flat_map root_function done) (root_function e) h k)
 
 -- one more item, whose function was imported where it is used
-pub imports_step : (old mid new : Encoding) (e : WorldKey × WorldItem) (rest : List (WorldKey × WorldItem)) → ImportsSoFar old mid (e ∷ rest) →
-    new ≡ record mid { built = new.built; functions = new.functions } → Extends mid.built new.built →
-    Grows mid.world mid.built.defs new.built.defs (names_marked mid.world (root_function e)) → FindsMore mid.functions new.functions →
-    AllByRecursion (λ t. IsTrue (is_used mid.world t) → IsSome (found t new.functions)) (root_function e) → ImportsSoFar old new rest
-imports_step old mid new e rest h same extends grows more here =
-    let world : mid.world ≡ old.world = ap (λ (s : Encoding). s.world) h.same in
-    record {
-      done = h.done ++ e ∷ [];
-      split = append_assoc h.done (e ∷ []) rest ∙ h.split;
-      same = same ∙ ap (λ (s : Encoding). record s { built = new.built; functions = new.functions }) h.same;
-      extends = extends_then old.built mid.built new.built h.extends extends;
-      grows =
-          subst (λ m. Grows old.world old.built.defs new.built.defs m) (sym (marked_push old.world h.done e))
-          (Grows-then h.grows (subst (λ w. Grows w mid.built.defs new.built.defs (names_marked w (root_function e))) world grows));
-      count =
-          grown_imports grows
-          ∙ (ap₂ (λ n w. n + length (filter is_imported (names_marked w (root_function e)))) h.count world
-          ∙ (used_more old.world (flat_map root_function h.done) (root_function e) ∙ ap (λ l. length (filter (is_used old.world) l)) (sym (functions_push h.done e))));
-      finds =
-          finds_push h.done e (λ t. IsTrue (is_used old.world t) → IsSome (found t new.functions))
-          (AllByRecursion-weaker (λ t k u. more.each t (k u)) (flat_map root_function h.done) h.finds)
-          (subst (λ w. AllByRecursion (λ t. IsTrue (is_used w t) → IsSome (found t new.functions)) (root_function e)) world here);
-    }
+pub imports_step : (w : ComponentWorld) (old mid new : Built) (before after : List (List ℕ × ℕ)) (e : WorldKey × WorldItem) (rest : List (WorldKey × WorldItem)) → ImportsSoFar w old mid before (e ∷ rest) →
+    Extends mid new → Grows w mid.defs new.defs (names_marked w (root_function e)) → FindsImports w new.defs after → FindsMore before after →
+    AllByRecursion (λ t. IsTrue (is_used w t) → IsSome (found t after)) (root_function e) → ImportsSoFar w old new after rest
+imports_step w old mid new before after e rest h extends grows imports more here = record {
+  done = h.done ++ e ∷ [];
+  split = append_assoc h.done (e ∷ []) rest ∙ h.split;
+  extends = extends_then old mid new h.extends extends;
+  grows = subst (λ m. Grows w old.defs new.defs m) (sym (marked_push w h.done e)) (Grows-then h.grows grows);
+  count =
+      grown_imports grows
+      ∙ (ap (λ n. n + length (filter is_imported (names_marked w (root_function e)))) h.count
+      ∙ (used_more w (flat_map root_function h.done) (root_function e) ∙ ap (λ l. length (filter (is_used w) l)) (sym (functions_push h.done e))));
+  imports = imports;
+  finds =
+      finds_push h.done e (λ t. IsTrue (is_used w t) → IsSome (found t after)) (AllByRecursion-weaker (λ t k u. more.each t (k u)) (flat_map root_function h.done) h.finds) here;
+}
 
 -- the function of the next item, where it is used, is the next used one
-pub next_used : (old mid : Encoding) (e : WorldKey × WorldItem) (rest : List (WorldKey × WorldItem)) → ImportsSoFar old mid (e ∷ rest) →
-    AllByRecursion (λ t. IsTrue (is_used mid.world t) → slice_get (used_functions mid.world) (imports_in mid.built.defs) ≡ Some t) (root_function e)
-next_used old mid e rest h = by e refl
+pub next_used : (w : ComponentWorld) (old mid : Built) (functions : List (List ℕ × ℕ)) (e : WorldKey × WorldItem) (rest : List (WorldKey × WorldItem)) → ImportsSoFar w old mid functions (e ∷ rest) →
+    AllByRecursion (λ t. IsTrue (is_used w t) → slice_get (used_functions w) (imports_in mid.defs) ≡ Some t) (root_function e)
+next_used w old mid functions e rest h = by e refl
   where
-    world : mid.world ≡ old.world
-    world = ap (λ (s : Encoding). s.world) h.same
-
-    all : flat_map root_function h.done ++ (root_function e ++ flat_map root_function rest) ≡ imported_functions old.world
+    all : flat_map root_function h.done ++ (root_function e ++ flat_map root_function rest) ≡ imported_functions w
     all = sym (flat_map-append root_function h.done (e ∷ rest)) ∙ ap (flat_map root_function) h.split
 
-    by : (x : WorldKey × WorldItem) → x ≡ e → AllByRecursion (λ t. IsTrue (is_used mid.world t) → slice_get (used_functions mid.world) (imports_in mid.built.defs) ≡ Some t) (root_function x)
+    by : (x : WorldKey × WorldItem) → x ≡ e → AllByRecursion (λ t. IsTrue (is_used w t) → slice_get (used_functions w) (imports_in mid.defs) ≡ Some t) (root_function x)
     by (keys.Name text, world_items.Function f) same = (
       λ used.
-          let here : flat_map root_function h.done ++ text ∷ flat_map root_function rest ≡ imported_functions old.world =
-          subst (λ (x : WorldKey × WorldItem). flat_map root_function h.done ++ (root_function x ++ flat_map root_function rest) ≡ imported_functions old.world) (sym same) all in
-          let one : slice_get (used_functions old.world) (imports_in mid.built.defs) ≡ Some text =
-          ap₂ (λ l n. slice_get (filter (is_used old.world) l) n) (sym here) h.count
-          ∙ next_in (is_used old.world) (flat_map root_function h.done) (flat_map root_function rest) text (subst (λ w. is_used w text ≡ true) world used) in
-          subst (λ w. slice_get (used_functions w) (imports_in mid.built.defs) ≡ Some text) (sym world) one,
+          let here : flat_map root_function h.done ++ text ∷ flat_map root_function rest ≡ imported_functions w =
+          subst (λ (x : WorldKey × WorldItem). flat_map root_function h.done ++ (root_function x ++ flat_map root_function rest) ≡ imported_functions w) (sym same) all in
+          ap₂ (λ l n. slice_get (filter (is_used w) l) n) (sym here) h.count ∙ next_in (is_used w) (flat_map root_function h.done) (flat_map root_function rest) text used,
       tt,
     )
     by x same = tt
 
 -- no item is left
-pub imports_marks : (old new : Encoding) → ImportsSoFar old new [] → Grows old.world old.built.defs new.built.defs (imports_marked old.world)
-imports_marks old new h =
-    let all : h.done ≡ (items_of old.world).imports = sym (append-nil h.done) ∙ h.split in
-    subst (λ es. Grows old.world old.built.defs new.built.defs (names_marked old.world (flat_map root_function es))) all h.grows
+pub imports_marks : (w : ComponentWorld) (old new : Built) (functions : List (List ℕ × ℕ)) → ImportsSoFar w old new functions [] → Grows w old.defs new.defs (imports_marked w)
+imports_marks w old new functions h =
+    let all : h.done ≡ (items_of w).imports = sym (append-nil h.done) ∙ h.split in
+    subst (λ es. Grows w old.defs new.defs (names_marked w (flat_map root_function es))) all h.grows
 
-pub imports_found : (old new : Encoding) → IsWorld old.world → ImportsSoFar old new [] → FindsUsed old.world new.functions
-imports_found old new valid h = record {
+pub imports_found : (w : ComponentWorld) (old new : Built) (functions : List (List ℕ × ℕ)) → IsWorld w → ImportsSoFar w old new functions [] → FindsUsed w functions
+imports_found w old new functions valid h = record {
   each = λ t u.
-      let all : h.done ≡ (items_of old.world).imports = sym (append-nil h.done) ∙ h.split in
-      let P : List ℕ → Type 0 = λ t. IsTrue (is_used old.world t) → IsSome (found t new.functions) in
-      let finds : AllByRecursion P (flat_map root_function (items_of old.world).imports) = subst (λ es. AllByRecursion P (flat_map root_function es)) all h.finds in
-      AllByRecursion-contains P (flat_map root_function (items_of old.world).imports) t finds (used_is_imported old.world valid t u) u;
+      let all : h.done ≡ (items_of w).imports = sym (append-nil h.done) ∙ h.split in
+      let P : List ℕ → Type 0 = λ t. IsTrue (is_used w t) → IsSome (found t functions) in
+      let finds : AllByRecursion P (flat_map root_function (items_of w).imports) = subst (λ es. AllByRecursion P (flat_map root_function es)) all h.finds in
+      AllByRecursion-contains P (flat_map root_function (items_of w).imports) t finds (used_is_imported w valid t u) u;
 }

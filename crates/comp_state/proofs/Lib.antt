@@ -1,7 +1,8 @@
 pub mod Refusals
 pub mod Building
+pub mod Elements
 pub mod Exporting
-pub mod Extending
+pub mod Finding
 pub mod Growth
 pub mod Importing
 pub mod Indexing

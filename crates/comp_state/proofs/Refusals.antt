@@ -1,5 +1,5 @@
 -- The cause of a fault among some imports and exports is one among more of them.
-use Rattle.std.proofs.Common.{◌≡◌, ◌⊎◌, ℕ, zero, suc, List, [], ◌∷◌, None, Contains, IsTrue, inl, inr, refl, arith}
+use Rattle.std.proofs.Common.{◌≡◌, ◌⊎◌, ℕ, List, [], ◌∷◌, None, Contains, IsTrue, inl, inr, refl, arith}
 use Rattle.wit_data.specs.Keys.{name_of_key}
 use Rattle.comp_links.specs.Roles.{needs_encoding, import_encoding, export_encoding, field_path}
 use Rattle.comp_roles.specs.CoreImports.{CoreImport}
@@ -8,13 +8,6 @@ use Rattle.comp_worlds.specs.declared.world.ComponentWorld.{ComponentWorld}
 use Rattle.comp_state.specs.Causes.{IsCauseAmong, LacksImportEncoding, LacksExportEncoding}
 use Rattle.comp_state.specs.declared.fault.StateFault.{StateFault}
 use Rattle.comp_state.specs.declared.fault.StateFault.TheVariants as faults
-
-pub contains_one : {X : Type 0} (x i : X) → Contains (x ∷ []) i → x ≡ i
-contains_one x i (zero, l, same) = same
-contains_one x i (suc n, l, same) = absurd (omega (arith, l))
-
-pub contains_none : {X : Type 0} {A : Type 0} (i : X) → Contains [] i → A
-contains_none i (n, l, same) = absurd (omega (arith, l))
 
 pub among_more : (w : ComponentWorld) (some all : List CoreImport) (few keys : List WorldKey) → ((i : CoreImport) → Contains some i → Contains all i) →
     ((k : WorldKey) → Contains few k → Contains keys k) → (e : StateFault) → IsCauseAmong w some few e → IsCauseAmong w all keys e

@@ -22,7 +22,7 @@ use Rattle.comp_roles.specs.declared.imports.ImportInstance.{ImportInstance}
 use Rattle.comp_worlds.specs.declared.world.ComponentWorld.{ComponentWorld}
 use Rattle.comp_links.specs.Targets.{UserModule}
 use Rattle.comp_terms.specs.Planned.{IsArgumentFor}
-use Rattle.comp_state.proofs.Growth.{term_in_range}
+use Rattle.comp_items.proofs.Kept.{term_in_range}
 use Rattle.comp_terms.specs.Rules.{plain_function, IsRight, RightAfter, IsEntry, IsBuilt}
 
 abbrev Within : List Def → Reference → Type 0

@@ -5,10 +5,10 @@ use Rattle.comp_lists.specs.Found.{found}
 use Rattle.std.proofs.lemmas.Slice.Eq.{bytes_eq-Decides}
 use Rattle.std.proofs.lemmas.Grind.{flat_map-append}
 use Rattle.std.proofs.lemmas.List.Sums.{length-filter}
-use Rattle.std.proofs.lemmas.List.Elements.{Contains-append_left, Contains-append_right}
+use Rattle.std.proofs.lemmas.List.Elements.{Contains-append_left, Contains-append_right, Contains-append_cases}
 use Rattle.std.specs.Result.{IsErrAnd, IfErr}
 use Rattle.std.specs.Str.{bytes_eq}
-use Rattle.comp_lists.proofs.Lists.{Contains-map, AllZip-weaker, AllZip-end}
+use Rattle.comp_lists.proofs.Lists.{Contains-map, AllByRecursion-contains, AllZip-weaker, AllZip-end}
 use Rattle.comp_bytes.specs.declared.def.CoreInlineExport.{CoreInlineExport}
 use Rattle.comp_bytes.specs.declared.def.CoreArgument.{CoreArgument}
 use Rattle.comp_bytes.specs.declared.def.Def.{Def}
@@ -27,63 +27,117 @@ use Rattle.comp_bytes.specs.declared.types.Description.TheVariants as descriptio
 use Rattle.comp_bytes.specs.ItemIndices.{IsAt, in_space}
 use Rattle.comp_bytes.specs.Spaces.{items_in, is_space, space_of, sort_space, alias_space, description_space}
 use Rattle.comp_roles.specs.CoreImports.{CoreImport, imports_from, fields_of}
-use Rattle.comp_worlds.specs.Worlds.{imported_name, IsImportRole, IsImportGroup, IsWorld}
+use Rattle.comp_worlds.specs.Worlds.{core_imports, imported_name, IsImportRole, IsImportGroup, IsWorld}
 use Rattle.comp_roles.specs.declared.imports.Import.{Import}
 use Rattle.comp_roles.specs.declared.imports.Import.TheVariants as imports
 use Rattle.wit_data.specs.declared.worlds.WorldKey.TheVariants as keys
 use Rattle.comp_roles.specs.declared.imports.ImportInstance.{ImportInstance}
 use Rattle.comp_roles.specs.declared.imports.ImportInstance.TheVariants as instances
 use Rattle.comp_worlds.specs.declared.world.ComponentWorld.{ComponentWorld}
-use Rattle.comp_state.specs.Encoding.{Encoding, Extends, FindsRole, FindsFields, FindsGroup, FindsUsed}
+use Rattle.comp_items.specs.Items.{Extends}
+use Rattle.comp_items.proofs.Extending.{extends_none, extends_then}
+use Rattle.wit_data.specs.declared.functions.AbiVariant.{AbiVariant}
 use Rattle.comp_state.specs.Causes.{IsCauseAmong, IsCause}
 use Rattle.comp_state.specs.declared.fault.StateFault.{StateFault}
 use Rattle.comp_links.specs.Targets.{Main}
 use Rattle.comp_terms.specs.Planned.{IsEntryFor, IsArgumentFor}
-use Rattle.comp_links.specs.Roles.{import_encoding, is_named, is_any_import, uses_from}
+use Rattle.comp_links.specs.Roles.{import_encoding, is_named, is_any_import, uses_from, is_used}
 use Rattle.comp_terms.specs.Rules.{Grows, named_import, landmarks}
-use Rattle.comp_state.proofs.Refusals.{among_more, contains_one, contains_none}
-use Rattle.comp_state.proofs.Extending.{extends_none, extends_then}
+use Rattle.comp_state.proofs.Elements.{contains_one, contains_none, contains_cons, contains_flat, AllByRecursion-join}
+use Rattle.comp_state.proofs.Refusals.{among_more}
 use Rattle.comp_state.proofs.Growth.{Grows-none, Grows-by, Grows-then, IsEntryFor-kept, IsArgumentFor-kept, entries_in_range}
 
+pub AllByRecursion-join : {X : Type 0} (P : X → Type 0) (xs ys : List X) → AllByRecursion P xs → AllByRecursion P ys → AllByRecursion P (xs ++ ys)
+AllByRecursion-join P [] ys h k = k
+AllByRecursion-join P (x ∷ xs) ys h k = (h.0, AllByRecursion-join P xs ys h.1 k)
+
+-- a core import of the world has a role of the world
+pub import_role : (w : ComponentWorld) → IsWorld w → (name field : List ℕ) (role : Import) → Contains (core_imports w) (record { module_name = name; field = field; role = role }) → IsImportRole w role
+import_role w valid name field role present =
+    AllByRecursion-contains (λ (i : CoreImport). IsImportRole w i.role) (core_imports w) (record { module_name = name; field = field; role = role }) (groups w.main.imports.modules valid.main.import_roles) present
+  where
+    fields : (name : List ℕ) (fs : List (List ℕ × Import)) → AllByRecursion (λ f. IsImportRole w f.1) fs →
+        AllByRecursion (λ (i : CoreImport). IsImportRole w i.role) (map (λ f. record { module_name = name; field = f.0; role = f.1 }) fs)
+    fields name [] h = tt
+    fields name (f ∷ fs) h = (h.0, fields name fs h.1)
+
+    group : (g : List ℕ × ImportInstance) → IsImportGroup w g → AllByRecursion (λ (i : CoreImport). IsImportRole w i.role) (imports_from g)
+    group (name, instances.Names fs) h = fields name fs h.1
+    group (name, instances.Whole which) h = absurd h
+
+    groups : (gs : List (List ℕ × ImportInstance)) → AllByRecursion (IsImportGroup w) gs → AllByRecursion (λ (i : CoreImport). IsImportRole w i.role) (flat_map imports_from gs)
+    groups [] h = tt
+    groups (g ∷ gs) h = AllByRecursion-join (λ (i : CoreImport). IsImportRole w i.role) (imports_from g) (flat_map imports_from gs) (group g h.0) (groups gs h.1)
+
+-- the function of a core import is one that is used
+pub used_by_import : (w : ComponentWorld) (name field text : List ℕ) (function : List ℕ) (abi : AbiVariant) →
+    Contains (core_imports w) (record { module_name = name; field = field; role = imports.WorldFunc (keys.Name text) function abi }) → IsTrue (is_used w text)
+used_by_import w name field text function abi present = groups w.main.imports.modules present
+  where
+    the : CoreImport
+    the = record { module_name = name; field = field; role = imports.WorldFunc (keys.Name text) function abi }
+
+    or_left : (b c : Bool) → b ≡ true → (b || c) ≡ true
+    or_left true c e = refl
+    or_left false c e = cc
+
+    or_right : (b c : Bool) → c ≡ true → (b || c) ≡ true
+    or_right true c e = refl
+    or_right false c e = e
+
+    in_fields : (n : List ℕ) (fs : List (List ℕ × Import)) → Contains (map (λ f. record { module_name = n; field = f.0; role = f.1 }) fs) the → is_any_import text fs ≡ true
+    in_fields n [] c = contains_none the c
+    in_fields n (f ∷ fs) c = elim (contains_cons (record { module_name = n; field = f.0; role = f.1 }) (map (λ f. record { module_name = n; field = f.0; role = f.1 }) fs) the c) [
+      | inl same ↦ or_left (is_named text (imported_name f.1)) (is_any_import text fs)
+          (subst (λ (i : CoreImport). is_named text (imported_name i.role) ≡ true) (sym same) ((bytes_eq-Decides text text).1 refl))
+      | inr later ↦ or_right (is_named text (imported_name f.1)) (is_any_import text fs) (in_fields n fs later)
+    ]
+
+    in_group : (g : List ℕ × ImportInstance) → Contains (imports_from g) the → uses_from text g ≡ true
+    in_group (n, instances.Names fs) c = in_fields n fs c
+    in_group (n, instances.Whole which) c = contains_none the c
+
+    groups : (gs : List (List ℕ × ImportInstance)) → Contains (flat_map imports_from gs) the → list_any (uses_from text) gs ≡ true
+    groups [] c = contains_none the c
+    groups (g ∷ gs) c = elim (Contains-append_cases (imports_from g) (flat_map imports_from gs) the c) [
+      | inl here ↦ or_left (uses_from text g) (list_any (uses_from text) gs) (in_group g here)
+      | inr later ↦ or_right (uses_from text g) (list_any (uses_from text) gs) (groups gs later)
+    ]
+
+-- the field with this name and role of an import from a module
+abbrev import_of : List ℕ → List ℕ × Import → CoreImport
+import_of name f = record { module_name = name; field = f.0; role = f.1 }
+
+-- a field of the imports from a module of main is a core import of the world
+pub field_present : (w : ComponentWorld) (name : List ℕ) (all done rest : List (List ℕ × Import)) (f : List ℕ × Import) → Contains w.main.imports.modules (name, instances.Names all) → done ++ f ∷ rest ≡ all →
+    Contains (core_imports w) (import_of name f)
+field_present w name all done rest f present split =
+    contains_flat (λ g. imports_from g) w.main.imports.modules (name, instances.Names all) (import_of name f) present
+    (subst (λ fs. Contains (map (import_of name) fs) (import_of name f)) split
+    (Contains-map (import_of name) (done ++ f ∷ rest) f (Contains-append_right done (f ∷ rest) f (0, omega arith, refl))))
+
 -- the fields that have an entry so far, in order, and those that are left
-pub record FieldsSoFar (old new : Encoding) (entries : List CoreInlineExport) (all rest : List (List ℕ × Import)) : Type 0 where
+pub record FieldsSoFar (w : ComponentWorld) (old new : Built) (entries : List CoreInlineExport) (all rest : List (List ℕ × Import)) : Type 0 where
   pub done : List (List ℕ × Import)
   pub split : done ++ rest ≡ all
-  pub same : new ≡ record old { built = new.built }
-  pub extends : Extends old.built new.built
-  pub grows : Grows old.world old.built.defs new.built.defs []
-  pub serves : AllZip (IsEntryFor old.world Main new.built.defs) entries done
-  pub finds : FindsFields old.functions rest
+  pub extends : Extends old new
+  pub grows : Grows w old.defs new.defs []
+  pub serves : AllZip (IsEntryFor w Main new.defs) entries done
 
-pub fields_start : (old : Encoding) (all : List (List ℕ × Import)) → FindsFields old.functions all → FieldsSoFar old old [] all all
-fields_start old all finds = record {
-  done = [];
-  split = refl;
-  same = refl;
-  extends = extends_none old.built;
-  grows = Grows-none old.world old.built.defs;
-  serves = tt;
-  finds = finds;
+pub fields_start : (w : ComponentWorld) (old : Built) (all : List (List ℕ × Import)) → FieldsSoFar w old old [] all all
+fields_start w old all = record { done = []; split = refl; extends = extends_none old; grows = Grows-none w old.defs; serves = tt }
+
+pub fields_step : (w : ComponentWorld) (old mid new : Built) (before after : List CoreInlineExport) (entry : CoreInlineExport) (all rest : List (List ℕ × Import)) (f : List ℕ × Import) →
+    FieldsSoFar w old mid before all (f ∷ rest) → Extends mid new → Grows w mid.defs new.defs [] → IsEntryFor w Main new.defs entry f → after ≡ before ++ entry ∷ [] → FieldsSoFar w old new after all rest
+fields_step w old mid new before after entry all rest f h extends grows serves pushed = record {
+  done = h.done ++ f ∷ [];
+  split = append_assoc h.done (f ∷ []) rest ∙ h.split;
+  extends = extends_then old mid new h.extends extends;
+  grows = Grows-then h.grows grows;
+  serves =
+      subst (λ es. AllZip (IsEntryFor w Main new.defs) es (h.done ++ f ∷ [])) (sym pushed)
+      (AllZip-end (IsEntryFor w Main new.defs) before h.done entry f (AllZip-weaker (λ x y. IsEntryFor-kept grows.extended) before h.done h.serves) serves);
 }
-
-pub fields_step : (old mid new : Encoding) (before after : List CoreInlineExport) (entry : CoreInlineExport) (all rest : List (List ℕ × Import)) (f : List ℕ × Import) →
-    FieldsSoFar old mid before all (f ∷ rest) → new ≡ record mid { built = new.built } → Extends mid.built new.built →
-    Grows mid.world mid.built.defs new.built.defs [] → IsEntryFor mid.world Main new.built.defs entry f → after ≡ before ++ entry ∷ [] → FieldsSoFar old new after all rest
-fields_step old mid new before after entry all rest f h same extends grows serves pushed =
-    let world : mid.world ≡ old.world = ap (λ (s : Encoding). s.world) h.same in
-    let g : Grows old.world mid.built.defs new.built.defs [] = subst (λ w. Grows w mid.built.defs new.built.defs []) world grows in
-    let s : IsEntryFor old.world Main new.built.defs entry f = subst (λ w. IsEntryFor w Main new.built.defs entry f) world serves in
-    record {
-      done = h.done ++ f ∷ [];
-      split = append_assoc h.done (f ∷ []) rest ∙ h.split;
-      same = same ∙ ap (λ (s : Encoding). record s { built = new.built }) h.same;
-      extends = extends_then old.built mid.built new.built h.extends extends;
-      grows = Grows-then h.grows g;
-      serves =
-          subst (λ es. AllZip (IsEntryFor old.world Main new.built.defs) es (h.done ++ f ∷ [])) (sym pushed)
-          (AllZip-end (IsEntryFor old.world Main new.built.defs) before h.done entry f (AllZip-weaker (λ x y. IsEntryFor-kept g) before h.done h.serves) s);
-      finds = h.finds.1;
-    }
 
 -- entries have the names of their fields
 entry_names : (w : ComponentWorld) (ds : List Def) (es : List CoreInlineExport) (fs : List (List ℕ × Import)) → AllZip (IsEntryFor w Main ds) es fs → map (λ e. e.name) es ≡ map (λ f. f.0) fs
@@ -93,116 +147,64 @@ entry_names w ds [] (f ∷ fs) h = absurd h
 entry_names w ds (e ∷ es) [] h = absurd h
 
 -- when all fields have an entry, the names of the entries are distinct as those of the fields are
-pub entries_apart : (old new : Encoding) (entries : List CoreInlineExport) (all rest : List (List ℕ × Import)) → FieldsSoFar old new entries all rest → rest ≡ [] →
+pub entries_apart : (w : ComponentWorld) (old new : Built) (entries : List CoreInlineExport) (all rest : List (List ℕ × Import)) → FieldsSoFar w old new entries all rest → rest ≡ [] →
     IsDistinct bytes_eq (map (λ f. f.0) all) → IsDistinct bytes_eq (map (λ e. e.name) entries)
-entries_apart old new entries all rest h ended apart =
+entries_apart w old new entries all rest h ended apart =
     let done : h.done ≡ all = sym (append-nil h.done) ∙ (ap (λ r. h.done ++ r) (sym ended) ∙ h.split) in
-    let names : map (λ e. e.name) entries ≡ map (λ f. f.0) all = entry_names old.world new.built.defs entries h.done h.serves ∙ ap (λ fs. map (λ f. f.0) fs) done in
+    let names : map (λ e. e.name) entries ≡ map (λ f. f.0) all = entry_names w new.defs entries h.done h.serves ∙ ap (λ fs. map (λ f. f.0) fs) done in
     subst (λ (ns : List (List ℕ)). IsDistinct bytes_eq ns) (sym names) apart
 
 -- the modules whose imports have an argument so far, in order, and those that are left
-pub record GroupsSoFar (old new : Encoding) (arguments : List CoreArgument) (all rest : List (List ℕ × ImportInstance)) : Type 0 where
+pub record GroupsSoFar (w : ComponentWorld) (old new : Built) (arguments : List CoreArgument) (rest : List (List ℕ × ImportInstance)) : Type 0 where
   pub done : List (List ℕ × ImportInstance)
-  pub split : done ++ rest ≡ all
-  pub same : new ≡ record old { built = new.built }
-  pub extends : Extends old.built new.built
-  pub grows : Grows old.world old.built.defs new.built.defs []
-  pub serves : AllZip (IsArgumentFor old.world Main new.built.defs) arguments done
-  pub finds : AllByRecursion (λ g. FindsGroup old.functions g.1) rest
+  pub split : done ++ rest ≡ w.main.imports.modules
+  pub extends : Extends old new
+  pub grows : Grows w old.defs new.defs []
+  pub serves : AllZip (IsArgumentFor w Main new.defs) arguments done
 
-pub groups_start : (old : Encoding) (all : List (List ℕ × ImportInstance)) → AllByRecursion (λ g. FindsGroup old.functions g.1) all → GroupsSoFar old old [] all all
-groups_start old all finds = record {
-  done = [];
-  split = refl;
-  same = refl;
-  extends = extends_none old.built;
-  grows = Grows-none old.world old.built.defs;
-  serves = tt;
-  finds = finds;
+pub groups_start : (w : ComponentWorld) (old : Built) → GroupsSoFar w old old [] w.main.imports.modules
+groups_start w old = record { done = []; split = refl; extends = extends_none old; grows = Grows-none w old.defs; serves = tt }
+
+pub groups_step : (w : ComponentWorld) (old mid new : Built) (before after : List CoreArgument) (argument : CoreArgument) (rest : List (List ℕ × ImportInstance)) (g : List ℕ × ImportInstance) →
+    GroupsSoFar w old mid before (g ∷ rest) → Extends mid new → Grows w mid.defs new.defs [] → IsArgumentFor w Main new.defs argument g → after ≡ before ++ argument ∷ [] → GroupsSoFar w old new after rest
+groups_step w old mid new before after argument rest g h extends grows serves pushed = record {
+  done = h.done ++ g ∷ [];
+  split = append_assoc h.done (g ∷ []) rest ∙ h.split;
+  extends = extends_then old mid new h.extends extends;
+  grows = Grows-then h.grows grows;
+  serves =
+      subst (λ es. AllZip (IsArgumentFor w Main new.defs) es (h.done ++ g ∷ [])) (sym pushed)
+      (AllZip-end (IsArgumentFor w Main new.defs) before h.done argument g (AllZip-weaker (λ x y. IsArgumentFor-kept grows.extended) before h.done h.serves) serves);
 }
 
-pub groups_step : (old mid new : Encoding) (before after : List CoreArgument) (argument : CoreArgument) (all rest : List (List ℕ × ImportInstance)) (g : List ℕ × ImportInstance) →
-    GroupsSoFar old mid before all (g ∷ rest) → new ≡ record mid { built = new.built } → Extends mid.built new.built →
-    Grows mid.world mid.built.defs new.built.defs [] → IsArgumentFor mid.world Main new.built.defs argument g → after ≡ before ++ argument ∷ [] → GroupsSoFar old new after all rest
-groups_step old mid new before after argument all rest g h same extends grows serves pushed =
-    let world : mid.world ≡ old.world = ap (λ (s : Encoding). s.world) h.same in
-    let more : Grows old.world mid.built.defs new.built.defs [] = subst (λ w. Grows w mid.built.defs new.built.defs []) world grows in
-    let s : IsArgumentFor old.world Main new.built.defs argument g = subst (λ w. IsArgumentFor w Main new.built.defs argument g) world serves in
-    record {
-      done = h.done ++ g ∷ [];
-      split = append_assoc h.done (g ∷ []) rest ∙ h.split;
-      same = same ∙ ap (λ (s : Encoding). record s { built = new.built }) h.same;
-      extends = extends_then old.built mid.built new.built h.extends extends;
-      grows = Grows-then h.grows more;
-      serves =
-          subst (λ es. AllZip (IsArgumentFor old.world Main new.built.defs) es (h.done ++ g ∷ [])) (sym pushed)
-          (AllZip-end (IsArgumentFor old.world Main new.built.defs) before h.done argument g (AllZip-weaker (λ x y. IsArgumentFor-kept more) before h.done h.serves) s);
-      finds = h.finds.1;
-    }
+-- the next module is one that main imports from
+pub group_present : (w : ComponentWorld) (old mid : Built) (arguments : List CoreArgument) (g : List ℕ × ImportInstance) (rest : List (List ℕ × ImportInstance)) → GroupsSoFar w old mid arguments (g ∷ rest) →
+    Contains w.main.imports.modules g
+group_present w old mid arguments g rest h = subst (λ gs. Contains gs g) h.split (Contains-append_right h.done (g ∷ rest) g (0, omega arith, refl))
 
 -- an inline instance for the imports from one module
 pub record ServesGroup (w : ComponentWorld) (mid new : List Def) (argument : CoreArgument) (group : List ℕ × ImportInstance) : Type 0 where
   pub grows : Grows w mid new []
   pub serves : IsArgumentFor w Main new argument group
 
-pub serve_group : (w : ComponentWorld) (functions : List (List ℕ × ℕ)) (mid new : Built) (index : ℕ) (entries : List CoreInlineExport) (name : List ℕ) (group : List ℕ × ImportInstance) → FindsFields functions (fields_of group.1) →
-    AllZip (IsEntryFor w Main mid.defs) entries (fields_of group.1) → IsDistinct bytes_eq (map (λ e. e.name) entries) → new.defs ≡ mid.defs ++ defs.Item (items.CoreExports entries) ∷ [] →
-    IsAt new.defs spaces.CoreInstance index (defs.Item (items.CoreExports entries)) → name ≡ group.0 →
-    ServesGroup w mid.defs new.defs (record { name = name; instance = index }) group
-serve_group w functions mid new index entries name group finds each apart appended at named =
-    let g : Grows w mid.defs new.defs [] = Grows-by (defs.Item (items.CoreExports entries)) appended (record { each = entries_in_range w mid.defs functions entries (fields_of group.1) finds each; apart = apart }) in
+group_roles : (w : ComponentWorld) → IsWorld w → (name : List ℕ) (fields : List (List ℕ × Import)) → Contains w.main.imports.modules (name, instances.Names fields) → AllByRecursion (λ f. IsImportRole w f.1) fields
+group_roles w valid name fields present =
+    let g : IsImportGroup w (name, instances.Names fields) = AllByRecursion-contains (IsImportGroup w) w.main.imports.modules (name, instances.Names fields) valid.main.import_roles present in g.1
+
+pub serve_group : (w : ComponentWorld) → IsWorld w → (mid new : Built) (index : ℕ) (entries : List CoreInlineExport) (name : List ℕ) (fields : List (List ℕ × Import)) → Contains w.main.imports.modules (name, instances.Names fields) →
+    AllZip (IsEntryFor w Main mid.defs) entries fields → IsDistinct bytes_eq (map (λ e. e.name) entries) → new.defs ≡ mid.defs ++ defs.Item (items.CoreExports entries) ∷ [] →
+    IsAt new.defs spaces.CoreInstance index (defs.Item (items.CoreExports entries)) → ServesGroup w mid.defs new.defs (record { name = name; instance = index }) (name, instances.Names fields)
+serve_group w valid mid new index entries name fields present each apart appended at =
+    let g : Grows w mid.defs new.defs [] = Grows-by (defs.Item (items.CoreExports entries)) appended (record { each = entries_in_range w mid.defs entries fields (group_roles w valid name fields present) each; apart = apart }) in
     record {
       grows = g;
-      serves = record { named = named; serves = record { entries = entries; made = at; each = AllZip-weaker (λ x y. IsEntryFor-kept g) entries (fields_of group.1) each } };
+      serves = record { named = refl; serves = record { entries = entries; made = at; each = AllZip-weaker (λ x y. IsEntryFor-kept g.extended) entries fields each } };
     }
-
--- the role of an import of the world has a name
-role_named : (w : ComponentWorld) (functions : List (List ℕ × ℕ)) (role : Import) → IsImportRole w role → ((t : List ℕ) → is_named t (imported_name role) ≡ true → IsSome (found t functions)) → FindsRole functions role
-role_named w functions (imports.WorldFunc (keys.Name name) function abi) h k = k name ((bytes_eq-Decides name name).1 refl)
-role_named w functions role h k = absurd h
-
-finds_fields : (w : ComponentWorld) (functions : List (List ℕ × ℕ)) (fs : List (List ℕ × Import)) → AllByRecursion (λ f. IsImportRole w f.1) fs → ((t : List ℕ) → is_any_import t fs ≡ true → IsSome (found t functions)) → FindsFields functions fs
-finds_fields w functions [] roles h = tt
-finds_fields w functions (f ∷ fs) roles h =
-    (role_named w functions f.1 roles.0 (λ t e. h t (here t (is_named t (imported_name f.1)) e)), finds_fields w functions fs roles.1 (λ t e. h t (later t (is_named t (imported_name f.1)) e)))
-  where
-    here : (t : List ℕ) (b : Bool) → b ≡ true → (b || is_any_import t fs) ≡ true
-    here t true e = refl
-    here t false e = cc
-
-    later : (t : List ℕ) (b : Bool) → is_any_import t fs ≡ true → (b || is_any_import t fs) ≡ true
-    later t true e = refl
-    later t false e = e
-
-finds_group : (w : ComponentWorld) (functions : List (List ℕ × ℕ)) (g : List ℕ × ImportInstance) → IsImportGroup w g → ((t : List ℕ) → uses_from t g ≡ true → IsSome (found t functions)) → FindsGroup functions g.1
-finds_group w functions (name, instances.Names fields) valid h = finds_fields w functions fields valid.1 h
-finds_group w functions (name, instances.Whole which) valid h = absurd valid
-
-finds_all : (w : ComponentWorld) (functions : List (List ℕ × ℕ)) (gs : List (List ℕ × ImportInstance)) → AllByRecursion (IsImportGroup w) gs → ((t : List ℕ) → list_any (uses_from t) gs ≡ true → IsSome (found t functions)) →
-    AllByRecursion (λ g. FindsGroup functions g.1) gs
-finds_all w functions [] valid h = tt
-finds_all w functions (g ∷ gs) valid h = (finds_group w functions g valid.0 (λ t e. h t (here t (uses_from t g) e)), finds_all w functions gs valid.1 (λ t e. h t (later t (uses_from t g) e)))
-  where
-    here : (t : List ℕ) (b : Bool) → b ≡ true → (b || list_any (uses_from t) gs) ≡ true
-    here t true e = refl
-    here t false e = cc
-
-    later : (t : List ℕ) (b : Bool) → list_any (uses_from t) gs ≡ true → (b || list_any (uses_from t) gs) ≡ true
-    later t true e = refl
-    later t false e = e
-
--- where each used function is found, those of each module are
-pub finds_groups : (w : ComponentWorld) (functions : List (List ℕ × ℕ)) → IsWorld w → FindsUsed w functions → AllByRecursion (λ g. FindsGroup functions g.1) w.main.imports.modules
-finds_groups w functions valid h = finds_all w functions w.main.imports.modules valid.main.import_roles h.each
 
 -- a property of an error that is passed on
 pub handed_on : {T E : Type 0} (r : Result T E) (e : E) (Q : E → Type 0) → IsErrAnd r (λ y. y ≡ e) → Q e → IfErr r Q
 handed_on (Ok x) e Q h q = tt
 handed_on (Err y) e Q h q = subst Q (sym h) q
-
--- the field with this name and role of an import from a module
-abbrev import_of : List ℕ → List ℕ × Import → CoreImport
-import_of name f = record { module_name = name; field = f.0; role = f.1 }
 
 -- a refusal of one import from a module is one of the imports from it
 pub field_refused : (w : ComponentWorld) (name : List ℕ) (done rest all : List (List ℕ × Import)) (f : List ℕ × Import) → done ++ f ∷ rest ≡ all →
@@ -284,10 +286,6 @@ fields_encoded w ds name [] [] h = tt
 fields_encoded w ds name (e ∷ es) (f ∷ fs) h = (h.0.encoded, fields_encoded w ds name es fs h.1)
 fields_encoded w ds name [] (f ∷ fs) h = absurd h
 fields_encoded w ds name (e ∷ es) [] h = absurd h
-
-pub AllByRecursion-join : {X : Type 0} (P : X → Type 0) (xs ys : List X) → AllByRecursion P xs → AllByRecursion P ys → AllByRecursion P (xs ++ ys)
-AllByRecursion-join P [] ys h k = k
-AllByRecursion-join P (x ∷ xs) ys h k = (h.0, AllByRecursion-join P xs ys h.1 k)
 
 -- where each import is given its item, each has an encoding
 pub groups_encoded : (w : ComponentWorld) (ds : List Def) (as' : List CoreArgument) (gs : List (List ℕ × ImportInstance)) → AllZip (IsArgumentFor w Main ds) as' gs →

@@ -1,12 +1,11 @@
 //! The steps in their order.
-#![tactic(auto, using(crate::proofs::Extending::extending))]
+#![tactic(auto, using(crate::proofs::Growth::growing))]
 
 ghost use Rattle.std.specs.Prelude.{◌≡◌, [], ◌∷◌, ◌++◌, List, ℕ, IfOk, IfErr, OnOk, IsOk};
 ghost use Rattle.comp_builder.specs.Naming.{with_names};
 ghost use Rattle.comp_bytes.specs.Scopes.{Scoped};
 ghost use Rattle.comp_worlds.specs.Worlds.{IsWorld};
 ghost use Rattle.comp_state.specs.Causes.{IsCause, IsBuildRefusal, LacksEncoding, IsEncoded};
-ghost use Rattle.comp_state.specs.Encoding.{Extends};
 ghost use Rattle.comp_terms.specs.Rules.{Grows, IsUnnamed, IsBuilt, expected};
 
 use crate::fault::StateFault;
@@ -31,7 +30,7 @@ impl EncodingState<'_> {
         ensures ok { IfOk result (λ component. component ≡ with_names self.entry.built) }
         ensures cause { IfErr result (IsCause self.entry.world) }
     {
-        let component = name_items(self.into_component())?;
+        let component = name_items(self.into_component().into_component())?;
         Ok(component)
     }
 

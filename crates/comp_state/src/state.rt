@@ -1,29 +1,57 @@
-//! The state while a world is encoded.
+//! The state while a world is encoded, and the steps in it.
+#![tactic(auto, using(crate::proofs::Growth::growing))]
 
-ghost use Rattle.std.specs.Prelude.{◌≡◌, [], IfOk, None};
+ghost use Rattle.std.specs.Prelude.{◌≡◌, [], ◌∷◌, IfOk, IfErr, OnOk, IsSome, Contains};
+ghost use Rattle.std.specs.List.{AllByRecursion};
 ghost use Rattle.comp_builder.specs.Built.{nothing_built};
-ghost use Rattle.comp_worlds.specs.Worlds.{IsWorld};
+ghost use Rattle.comp_bytes.specs.Spaces.{kind_space};
+ghost use Rattle.comp_items.specs.Items.{Extends};
+ghost use Rattle.comp_links.specs.Links.{link_of};
+ghost use Rattle.comp_links.specs.Roles.{import_encoding, export_encoding};
+ghost use Rattle.comp_links.specs.Targets.{Main};
+ghost use Rattle.comp_state.specs.Causes.{IsCause, IsCauseAmong};
+ghost use Rattle.comp_state.specs.Encoding.{AreImported, IsFirstModule, IsLiftFor};
+ghost use Rattle.comp_state.specs.declared.state.Step.TheVariants.{Started, Imported, Instantiated};
+ghost use Rattle.comp_terms.specs.Planned.{IsItemFor};
+ghost use Rattle.comp_terms.specs.Rules.{Grows, ModuleIs, InstanceOf, imports_marked, exports_marked, landmarks};
+ghost use Rattle.comp_worlds.specs.Worlds.{IsWorld, core_imports, core_name_of};
 
+use crate::exports::MainExports;
+use crate::fault::StateFault;
+use crate::imports::import_functions;
 use crate::indexes::core_names;
-use comp_builder::ComponentBuilder;
+use crate::instances::ImportSources;
+use comp_items::ComponentItems;
 use comp_lists::{Keyed, Text};
-use comp_worlds::ComponentWorld;
+use comp_worlds::{ComponentWorld, Import};
+use standard_kinds::ExportKind;
 use std::alloc::{AllocError, Global};
 use std::marker::Model;
+use wit_data::WorldKey;
+
+/// The index of main's module: it is the first core module of a component.
+const MAIN_MODULE: u32 = 0;
+
+/// How far an encoding has come.
+#[derive(Clone, Copy, Debug, PartialEq, Eq)]
+pub enum Step {
+    /// Nothing is imported yet.
+    Started,
+    /// The functions that the world imports are there.
+    Imported,
+    /// Main's instance is there too.
+    Instantiated,
+}
 
 /// A world that is being encoded: the component under construction, and the items made so far.
 ///
 /// After a refused step the component has only grown at its end, and is to be dropped.
 pub struct EncodingState<'a> {
-    pub(crate) alloc: Global,
     pub(crate) world: &'a ComponentWorld,
-    pub(crate) component: ComponentBuilder,
-    /// The type of functions with no parameter and no result.
-    pub(crate) function_type: Option<u32>,
+    pub(crate) component: ComponentItems,
+    pub(crate) step: Step,
     /// The root functions that were imported.
     pub(crate) functions: Keyed<Text, u32>,
-    /// The exports of main's instance that were aliased.
-    pub(crate) aliases: Keyed<Text, u32>,
     /// The names of main's exports that implement root functions, by the function.
     pub(crate) core_names: Keyed<Text, Text>,
     /// Main's instance.
@@ -33,63 +61,174 @@ pub struct EncodingState<'a> {
 impl Drop for EncodingState<'_> {
     fn drop(self) {
         let EncodingState {
-            alloc: _,
             world: _,
             component: _,
-            function_type: _,
+            step: _,
             functions: _,
-            aliases: _,
             core_names: _,
             main: _,
         } = self;
-    }
-}
-
-impl EncodingState<'_> {
-    /// The component as far as it was built.
-    pub(crate) fn into_component(self) -> ComponentBuilder
-        ensures { result ≡ self.entry.built }
-    {
-        let EncodingState {
-            alloc: _,
-            world: _,
-            component,
-            function_type: _,
-            functions: _,
-            aliases: _,
-            core_names: _,
-            main: _,
-        } = self;
-        component
     }
 }
 
 impl<'a> Model for EncodingState<'a> {
-    ghost use Rattle.comp_state.specs.Encoding.{Encoding, IsEncoding};
+    ghost use Rattle.comp_state.specs.Encoding.{Encoding};
+    ghost use Rattle.comp_state.specs.Tables.{IsEncoding};
 
     ghost Value = { Encoding };
 
-    ghost view = { λ s. record { world = s.world.now; built = s.component; functions = s.functions; main = s.main } };
+    ghost view = { λ s. record { world = s.world.now; built = s.component; step = s.step } };
 
-    ghost invariant = { λ s. IsEncoding s.world.now s.component.defs s.function_type s.functions s.aliases s.core_names s.main };
+    ghost invariant = { λ s. IsEncoding s.world.now s.component.defs s.step s.functions s.core_names s.main };
 }
 
 impl<'a> EncodingState<'a> {
     /// The state before the first step: no item is made yet.
     pub fn new(alloc: Global, world: &'a ComponentWorld) -> Result<EncodingState<'a>, AllocError>
         requires { IsWorld world.now }
-        ensures { IfOk result (λ s. s ≡ record { world = world.entry.now; built = nothing_built; functions = []; main = None }) }
+        ensures { IfOk result (λ s. s ≡ record { world = world.entry.now; built = nothing_built; step = Started }) }
     {
         let core_names = core_names(alloc, &world.main.exports.exports)?;
         Ok(EncodingState {
-            alloc,
             world,
-            component: ComponentBuilder::new(alloc),
-            function_type: None,
+            component: ComponentItems::new(alloc),
+            step: Step::Started,
             functions: Keyed::new(alloc),
-            aliases: Keyed::new(alloc),
             core_names,
             main: None,
         })
+    }
+}
+
+impl EncodingState<'_> {
+    /// The component as far as it was built.
+    pub(crate) fn into_component(self) -> ComponentItems
+        ensures { result ≡ self.entry.built }
+    {
+        let EncodingState {
+            world: _,
+            component,
+            step: _,
+            functions: _,
+            core_names: _,
+            main: _,
+        } = self;
+        component
+    }
+
+    /// Imports the root functions that imports of main use, in the order of the world.
+    pub fn encode_imports(&mut self) -> Result<(), StateFault>
+        requires { self.old.built.defs ≡ [] }
+        ensures world { self.new.world ≡ self.old.world }
+        ensures step { OnOk result (self.new.step ≡ Imported) }
+        ensures extends { Extends self.old.built self.new.built }
+        ensures grows { OnOk result (Grows self.old.world self.old.built.defs self.new.built.defs (imports_marked self.old.world)) }
+        ensures cause { IfErr result (IsCause self.old.world) }
+    {
+        let functions = import_functions(&mut self.component, self.world)?;
+        self.functions = functions;
+        self.step = Step::Imported;
+        Ok(())
+    }
+
+    /// Appends main's core module, the first one of the component.
+    pub fn encode_core_modules(&mut self) -> Result<(), StateFault>
+        requires { landmarks self.old.built.defs ≡ imports_marked self.old.world }
+        ensures same { self.new ≡ record self.old { built = self.new.built } }
+        ensures extends { Extends self.old.built self.new.built }
+        ensures grows { OnOk result (Grows self.old.world self.old.built.defs self.new.built.defs (ModuleIs self.old.world.main.bytes ∷ [])) }
+        ensures first { OnOk result (IsFirstModule self.old.world self.new.built.defs) }
+        ensures cause { IfErr result (IsCause self.old.world) }
+    {
+        let world = self.world;
+        self.component
+            .core_module(Some("main"), world.main.bytes.as_slice())?;
+        Ok(())
+    }
+
+    /// What an import of main is given: the kind and the index of a core item.
+    ///
+    /// `E9` where the function of the import has no string encoding.
+    pub fn materialize_import(
+        &mut self,
+        module: &Text,
+        field: &Text,
+        import: &Import,
+    ) -> Result<(ExportKind, u32), StateFault>
+        requires imported { AreImported self.old.step }
+        requires present { Contains (core_imports self.old.world) (record { module_name = «module».now; field = field.now; role = import.now }) }
+        ensures same { self.new ≡ record self.old { built = self.new.built } }
+        ensures extends { Extends self.old.built self.new.built }
+        ensures grows { OnOk result (Grows self.old.world self.old.built.defs self.new.built.defs []) }
+        ensures made { IfOk result (λ item. IsItemFor self.old.world self.new.built.defs (kind_space item.0) item.1 (link_of self.old.world Main import.now)) }
+        ensures encoded { OnOk result (IsSome (import_encoding self.old.world import.now)) }
+        ensures cause { IfErr result (IsCauseAmong self.old.world (record { module_name = «module».now; field = field.now; role = import.now } ∷ []) []) }
+    {
+        let sources = ImportSources {
+            world: self.world,
+            functions: &self.functions,
+        };
+        sources.materialize(&mut self.component, module, field, import)
+    }
+
+    /// Makes main's instance.
+    pub fn instantiate(&mut self) -> Result<(), StateFault>
+        requires first { IsFirstModule self.old.world self.old.built.defs }
+        requires imported { AreImported self.old.step }
+        ensures world { self.new.world ≡ self.old.world }
+        ensures step { OnOk result (self.new.step ≡ Instantiated) }
+        ensures extends { Extends self.old.built self.new.built }
+        ensures grows { OnOk result (Grows self.old.world self.old.built.defs self.new.built.defs (InstanceOf 0 ∷ [])) }
+        ensures encoded { OnOk result (AllByRecursion (λ i. IsSome (import_encoding self.old.world i.role)) (core_imports self.old.world)) }
+        ensures cause { IfErr result (IsCause self.old.world) }
+    {
+        let sources = ImportSources {
+            world: self.world,
+            functions: &self.functions,
+        };
+        let arguments = sources.arguments(&mut self.component)?;
+        let index = self
+            .component
+            .core_instance(Some("main"), MAIN_MODULE, arguments)?;
+        self.main = Some(index);
+        self.step = Step::Instantiated;
+        Ok(())
+    }
+
+    /// Lifts a required function.
+    ///
+    /// `E9` where it has no string encoding.
+    pub fn encode_lift(&mut self, key: &WorldKey) -> Result<u32, StateFault>
+        requires instantiated { self.old.step ≡ Instantiated }
+        requires present { IsSome (core_name_of self.old.world key.now) }
+        ensures same { self.new ≡ record self.old { built = self.new.built } }
+        ensures extends { Extends self.old.built self.new.built }
+        ensures grows { OnOk result (Grows self.old.world self.old.built.defs self.new.built.defs []) }
+        ensures lifted { IfOk result (λ index. IsLiftFor self.old.world self.new.built.defs index key.now) }
+        ensures cause { IfErr result (IsCauseAmong self.old.world [] (key.now ∷ [])) }
+    {
+        let exports = MainExports {
+            world: self.world,
+            core_names: &self.core_names,
+            instance: self.main.unwrap(),
+        };
+        exports.lift(&mut self.component, key)
+    }
+
+    /// Lifts and exports the required exports of main, in order.
+    pub fn encode_exports(&mut self) -> Result<(), StateFault>
+        requires { self.old.step ≡ Instantiated }
+        ensures same { self.new ≡ record self.old { built = self.new.built } }
+        ensures extends { Extends self.old.built self.new.built }
+        ensures grows { OnOk result (Grows self.old.world self.old.built.defs self.new.built.defs (exports_marked self.old.world)) }
+        ensures encoded { OnOk result (AllByRecursion (λ key. IsSome (export_encoding self.old.world key)) self.old.world.main_exports) }
+        ensures cause { IfErr result (IsCause self.old.world) }
+    {
+        let exports = MainExports {
+            world: self.world,
+            core_names: &self.core_names,
+            instance: self.main.unwrap(),
+        };
+        exports.export_all(&mut self.component)
     }
 }

@@ -5,7 +5,7 @@ use Rattle.comp_bytes.specs.Spaces.{items_in}
 use Rattle.comp_bytes.specs.declared.def.Def.{Def}
 use Rattle.comp_bytes.specs.declared.space.Space.{Space}
 use Rattle.byte_encoding.specs.declared.fault.BuildFault.{BuildFault}
-use Rattle.comp_state.specs.Encoding.{Extends}
+use Rattle.comp_items.specs.Items.{Extends}
 
 pub extends_none : (b : Built) → Extends b b
 extends_none b = record { more_defs = []; more_names = []; defs = sym (append-nil b.defs); names = sym (append-nil b.names) }

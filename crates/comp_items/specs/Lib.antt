@@ -1,0 +1,2 @@
+pub mod AliasKeys
+pub mod Items
