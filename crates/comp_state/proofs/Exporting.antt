@@ -4,10 +4,8 @@ use Rattle.std.proofs.lemmas.List.{map_more, take_more, take_all}
 use Rattle.std.specs.List.{AllByRecursion, AllZip}
 use Rattle.comp_lists.proofs.Lists.{AllByRecursion-push, AllByRecursion-at}
 use Rattle.comp_builder.specs.Built.{Built}
-use Rattle.comp_bytes.specs.ItemIndices.{IsAt}
 use Rattle.comp_bytes.proofs.ItemIndices.{in_range}
 use Rattle.comp_bytes.specs.declared.canon.CanonicalOption.{CanonicalOption}
-use Rattle.comp_bytes.specs.declared.space.Space.TheVariants as spaces
 use Rattle.standard_kinds.specs.declared.kinds.ExportKind.TheVariants as kinds
 use Rattle.comp_bytes.specs.declared.space.Sort.TheVariants as sorts
 use Rattle.comp_bytes.specs.declared.types.Alias.TheVariants as aliases
@@ -74,7 +72,7 @@ role_offered w name (exports.WorldFunc (keys.Name text) function abi) r h = by (
     by (Some x) (externs.Global type) e f = cc
 role_offered w name role r h = absurd r
 
-pub root_offered : (w : ComponentWorld) (text name : List ℕ) (es : List (List ℕ × WorldExport)) → AllByRecursion (λ e. IsExportRole w e.1) es → AllByRecursion (FitsExport w.resolve (items_of w) w.main) es →
+root_offered : (w : ComponentWorld) (text name : List ℕ) (es : List (List ℕ × WorldExport)) → AllByRecursion (λ e. IsExportRole w e.1) es → AllByRecursion (FitsExport w.resolve (items_of w) w.main) es →
     found text (flat_map root_export es) ≡ Some name → OffersFunction w name
 root_offered w text name [] r f h = absurd (none-some name h)
 root_offered w text name ((n, exports.WorldFunc (keys.Name t) function abi) ∷ es) r f h = by (bytes_eq text t) h (root_offered w text name es r.1 f.1)
@@ -94,11 +92,15 @@ abbrev pub main_export : List ℕ → CoreExport
 main_export name = record { of = 0; kind = kinds.Func; name = name }
 
 -- an alias of a core export of main that implements a root function, or an earlier one
-pub grows_alias : (w : ComponentWorld) (old new : List Def) (instance : ℕ) (text name : List ℕ) → IsWorld w → IsInstanceOf old instance 0 → core_name_of w (keys.Name text) ≡ Some name →
+pub grows_alias : (w : ComponentWorld) (old new : List Def) (instance : ℕ) (key : WorldKey) (name : List ℕ) → IsWorld w → IsInstanceOf old instance 0 → core_name_of w key ≡ Some name →
     MayAdd old new (defs.Item (items.Alias (aliases.CoreExport kinds.Func instance name))) → Grows w old new []
-grows_alias w old new instance text name ok of role adds =
-    let o : OffersFunction w name = root_offered w text name w.main.exports.exports ok.main.export_roles ok.main.exported role in
+grows_alias w old new instance key name ok of role adds =
+    let o : OffersFunction w name = by key role in
     Grows-may (defs.Item (items.Alias (aliases.CoreExport kinds.Func instance name))) refl adds (record { number = 0; of = main_module w; type = o.0; is = of; listed = refl; offered = o.1 })
+  where
+    by : (key : WorldKey) → core_name_of w key ≡ Some name → OffersFunction w name
+    by (keys.Name text) e = root_offered w text name w.main.exports.exports ok.main.export_roles ok.main.exported e
+    by (keys.Interface id) e = absurd (none-some name e)
 
 -- the plain type of functions, or an earlier one
 pub grows_type : (w : ComponentWorld) (old new : List Def) → MayAdd old new (defs.Item (items.Type (types.Func plain_function))) → Grows w old new []

@@ -1,5 +1,5 @@
 -- A list of definitions that grows at its end: earlier items are unchanged, and rules and landmarks add up.
-use Rattle.std.proofs.Common.{◌≡◌, ◌∙◌, ◌<◌, ℕ, Option, List, [], ◌∷◌, ◌++◌, refl, sym, ap, subst, append_assoc, append-nil, inl, inr}
+use Rattle.std.proofs.Common.{◌≡◌, ◌∙◌, ◌<◌, ℕ, Some, IsSome, Option, List, [], ◌∷◌, ◌++◌, refl, sym, ap, subst, append_assoc, append-nil, inl, inr}
 use Rattle.std.proofs.lemmas.List.Elements.{filter_map-append}
 use Rattle.std.specs.List.{AllZip, AllByRecursion}
 use Rattle.comp_lists.proofs.Lists.{AllZip-weaker}
@@ -24,21 +24,22 @@ use Rattle.comp_links.specs.Links.{link_of}
 use Rattle.comp_terms.specs.Terms.{CoreExport, Term, IsFunctionType, IsImportedFunction, IsInstanceOf, IsExported, Is}
 use Rattle.comp_terms.specs.Terms as terms
 use Rattle.comp_terms.specs.Planned.{IsTermFor, IsItemFor, IsEntryFor, IsInlineInstanceFor, IsArgumentFor}
-use Rattle.comp_runs.specs.Store.{Origin}
-use Rattle.comp_bytes.specs.declared.types.FuncTypeDef.{FuncTypeDef}
 use Rattle.wit_data.specs.declared.worlds.WorldKey.TheVariants as keys
 use Rattle.comp_roles.specs.declared.imports.Import.TheVariants as imports
 use Rattle.comp_terms.specs.Rules.{IsRight, RightAfter, Landmark, landmark, landmarks, Grows, IsEntry}
 use Rattle.comp_items.specs.Items.{Extends, MayAdd}
-use Rattle.comp_items.proofs.Extending.{extends_none, extends_same, extends_then, extends_adds}
-use Rattle.comp_items.proofs.Kept.{at-kept, function_type-kept, imported_function-kept, instance-kept, exported-kept, term-kept}
+use Rattle.comp_items.proofs.Extending.{extends_none, extends_same, extends_then}
+use Rattle.comp_items.proofs.Remembering.{longer}
+use Rattle.comp_items.proofs.Kept.{Longer, at-kept, imported_function-kept, instance-kept, term-kept}
+use Rattle.std.proofs.lemmas.Option.{same_Some}
 use Rattle.comp_state.specs.declared.state.Step.{Step}
+use Rattle.comp_state.specs.declared.state.Step.TheVariants.{Imported, Instantiated}
 use Rattle.comp_state.specs.declared.instances.ImportSources.{ImportSources}
 use Rattle.comp_state.specs.declared.exports.MainExports.{MainExports}
-use Rattle.comp_state.specs.Encoding.{IsLiftFor}
-use Rattle.comp_state.specs.Tables.{IsRootImport, FindsImports, IsMain, AreSources, AreExports, IsEncoding}
+use Rattle.comp_state.specs.Encoding.{AreImported, IsLiftFor}
+use Rattle.comp_state.specs.Tables.{IsRootImport, FindsImports, FindsUsed, IsMain, AreSources, AreExports, IsEncoding}
 
-pub ruleset growing = (extends_none, extends_same, extends_then, extends_adds)
+pub ruleset growing = (extends_none, extends_same, extends_then)
 
 RightAfter-append : (w : ComponentWorld) (old a b : List Def) → RightAfter w old a → RightAfter w (old ++ a) b → RightAfter w old (a ++ b)
 RightAfter-append w old [] b h k = rw append-nil at k
@@ -65,22 +66,25 @@ Grows-then {w} {a} {b} {c} {m} {n} g h = record {
   marked = filter_map-append landmark g.more h.more ∙ (ap (λ l. l ++ landmarks h.more) g.marked ∙ ap (λ l. m ++ l) h.marked);
 }
 
+pub longer_by : {w : ComponentWorld} {old new : List Def} {m : List Landmark} → Grows w old new m → Longer old new
+longer_by g = record { more = g.more; grown = g.extended }
+
 -- earlier definitions keep their indexes
 pub kept : {w : ComponentWorld} {old new : List Def} {m : List Landmark} → Grows w old new m →
     {space : Space} {i : ℕ} {d : Def} → IsAt old space i d → IsAt new space i d
-kept g h = at-kept g.extended h
+kept g h = at-kept (longer_by g) h
 
 -- ---- what the link table names stays what it is, whatever is added
 
-module _ {w : ComponentWorld} {old new more : List Def} (grown : new ≡ old ++ more) where
+module _ {w : ComponentWorld} {old new : List Def} (g : Longer old new) where
   pub IsItemFor-kept : {space : Space} {i : ℕ} {target : Target} → IsItemFor w old space i target → IsItemFor w new space i target
-  IsItemFor-kept {space} {i} {target} h = record { term = h.term; is = term-kept grown space i h.term h.is; asked = h.asked }
+  IsItemFor-kept {space} {i} {target} h = record { term = h.term; is = term-kept old new g space i h.term h.is; asked = h.asked }
 
   pub IsEntryFor-kept : {of : UserModule} {e : CoreInlineExport} {f : List ℕ × Import} → IsEntryFor w of old e f → IsEntryFor w of new e f
   IsEntryFor-kept {of} {e} {f} h = record { named = h.named; serves = IsItemFor-kept h.serves; encoded = h.encoded }
 
   pub IsInlineInstanceFor-kept : {of : UserModule} {b : ℕ} {fields : List (List ℕ × Import)} → IsInlineInstanceFor w of old b fields → IsInlineInstanceFor w of new b fields
-  IsInlineInstanceFor-kept {of} {b} {fields} h = record { entries = h.entries; made = at-kept grown h.made; each = AllZip-weaker (λ x y. IsEntryFor-kept) h.entries fields h.each }
+  IsInlineInstanceFor-kept {of} {b} {fields} h = record { entries = h.entries; made = at-kept g h.made; each = AllZip-weaker (λ x y. IsEntryFor-kept) h.entries fields h.each }
 
   pub IsArgumentFor-kept : {of : UserModule} {a : CoreArgument} {group : List ℕ × ImportInstance} → IsArgumentFor w of old a group → IsArgumentFor w of new a group
   IsArgumentFor-kept h = record { named = h.named; serves = IsInlineInstanceFor-kept h.serves }
@@ -89,7 +93,7 @@ module _ {w : ComponentWorld} {old new more : List Def} (grown : new ≡ old ++ 
   IsLiftFor-kept h = record { target = h.target; said = h.said; is = IsItemFor-kept h.is; encoded = h.encoded }
 
   IsRootImport-kept : {i : ℕ} {text : List ℕ} → IsRootImport w old i text → IsRootImport w new i text
-  IsRootImport-kept h = record { origin = h.origin; of = h.of; is = imported_function-kept grown h.is }
+  IsRootImport-kept h = record { origin = h.origin; of = h.of; is = imported_function-kept g h.is }
 
   pub FindsImports-kept : {functions : List (List ℕ × ℕ)} → FindsImports w old functions → FindsImports w new functions
   FindsImports-kept h = record { each = λ t i e. IsRootImport-kept (h.each t i e) }
@@ -97,17 +101,43 @@ module _ {w : ComponentWorld} {old new more : List Def} (grown : new ≡ old ++ 
 -- ---- the look-ups hold what they held
 
 pub sources-kept : {s : ImportSources} {old new : Built} → Extends old new → AreSources s old.defs → AreSources s new.defs
-sources-kept g h = record { valid = h.valid; imports = FindsImports-kept g.defs h.imports; used = h.used }
+sources-kept g h = record { valid = h.valid; imports = FindsImports-kept (longer g) h.imports; used = h.used }
 
 pub exports-kept : {e : MainExports} {old new : Built} → Extends old new → AreExports e old.defs → AreExports e new.defs
-exports-kept g h = record { valid = h.valid; named = h.named; made = instance-kept g.defs h.made }
+exports-kept g h = record { valid = h.valid; named = h.named; made = instance-kept (longer g) h.made }
 
 main-kept : {old new : Built} {main : Option ℕ} → Extends old new → IsMain old.defs main → IsMain new.defs main
-main-kept g h = record { index = h.index; known = h.known; made = instance-kept g.defs h.made }
+main-kept g h = record { index = h.index; known = h.known; made = instance-kept (longer g) h.made }
 
 pub encoding-kept : {w : ComponentWorld} {old new : Built} {step : Step} {functions : List (List ℕ × ℕ)} {core_names : List (List ℕ × List ℕ)} {main : Option ℕ} → Extends old new →
     IsEncoding w old.defs step functions core_names main → IsEncoding w new.defs step functions core_names main
-encoding-kept g h = record { valid = h.valid; named = h.named; imports = λ s. FindsImports-kept g.defs (h.imports s); used = h.used; made = λ s. main-kept g (h.made s) }
+encoding-kept g h = record { valid = h.valid; named = h.named; imports = λ s. FindsImports-kept (longer g) (h.imports s); used = h.used; made = λ s. main-kept g (h.made s) }
+
+-- after the imports, and after the instance of main
+pub encoding-imported : {w : ComponentWorld} {old new : List Def} {step : Step} {before functions : List (List ℕ × ℕ)} {core_names : List (List ℕ × List ℕ)} {main : Option ℕ} → FindsImports w new functions → FindsUsed w functions →
+    IsEncoding w old step before core_names main → IsEncoding w new Imported functions core_names main
+encoding-imported i u h = record { valid = h.valid; named = h.named; imports = λ _. i; used = λ _. u; made = λ e. cc }
+
+pub encoding-instantiated : {w : ComponentWorld} {old new : Built} {step : Step} {functions : List (List ℕ × ℕ)} {core_names : List (List ℕ × List ℕ)} {main : Option ℕ} (index : ℕ) → Extends old new → AreImported step →
+    IsInstanceOf new.defs index 0 → IsEncoding w old.defs step functions core_names main → IsEncoding w new.defs Instantiated functions core_names (Some index)
+encoding-instantiated index g s made h = record {
+  valid = h.valid;
+  named = h.named;
+  imports = λ _. FindsImports-kept (longer g) (h.imports s);
+  used = λ _. h.used s;
+  made = λ _. record { index = index; known = refl; made = made };
+}
+
+-- what the steps read of a state
+pub sources_of : (s : ImportSources) {ds : List Def} {step : Step} {core_names : List (List ℕ × List ℕ)} {main : Option ℕ} → IsEncoding s.world.now ds step s.functions.now core_names main → AreImported step → AreSources s ds
+sources_of s h i = record { valid = h.valid; imports = h.imports i; used = h.used i }
+
+pub exports_of : (e : MainExports) {ds : List Def} {step : Step} {functions : List (List ℕ × ℕ)} {main : Option ℕ} → IsEncoding e.world.now ds step functions e.core_names.now main → step ≡ Instantiated → main ≡ Some e.instance → AreExports e ds
+exports_of e {ds} h i known =
+    let m = h.made i in record { valid = h.valid; named = h.named; made = subst (λ n. IsInstanceOf ds n 0) (same_Some m.index e.instance (sym m.known ∙ known)) m.made }
+
+pub main_known : {w : ComponentWorld} {ds : List Def} {step : Step} {functions : List (List ℕ × ℕ)} {core_names : List (List ℕ × List ℕ)} {main : Option ℕ} → IsEncoding w ds step functions core_names main → step ≡ Instantiated → IsSome main
+main_known h i = let m = h.made i in subst (λ o. IsSome o) (sym m.known) refl
 
 -- ---- the entries of an inline instance are core functions
 

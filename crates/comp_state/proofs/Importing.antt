@@ -1,7 +1,6 @@
 -- The root functions that imports of main use: all of them are imported, in the order of the world.
 use Rattle.std.proofs.Common.{if◌then◌else◌, ◌≡◌, ◌∙◌, ◌+◌, ap₂, suc, length, length-append, add-zero, Some, ℕ, Bool, true, false, ◌||◌, List, [], ◌∷◌, ◌++◌, refl, sym, ap, subst, append_assoc, append-nil, map, filter, IsTrue, IsSome, Contains}
 use Rattle.std.proofs.lemmas.Slice.Eq.{bytes_eq-Decides}
-use Rattle.std.specs.Str.{bytes_eq}
 use Rattle.std.specs.List.{AllByRecursion, flat_map, list_any}
 use Rattle.comp_lists.specs.Found.{found}
 use Rattle.std.proofs.lemmas.Grind.{flat_map-append}

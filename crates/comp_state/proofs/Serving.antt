@@ -1,7 +1,6 @@
 -- The imports of main: each is given what its role needs, in order.
-use Rattle.std.proofs.Common.{Bool, true, false, ◌||◌, Some, Result, Ok, Err, ◌≡◌, ◌∙◌, ℕ, List, [], ◌∷◌, ◌++◌, refl, sym, ap, ap₂, subst, append_assoc, append-nil, map, length, IsSome, Contains, arith}
+use Rattle.std.proofs.Common.{inl, inr, Bool, true, false, ◌||◌, Some, Result, Ok, Err, ◌≡◌, ◌∙◌, ℕ, List, [], ◌∷◌, ◌++◌, refl, sym, ap, ap₂, subst, append_assoc, append-nil, map, length, IsSome, IsTrue, Contains, arith}
 use Rattle.std.specs.List.{AllByRecursion, AllZip, IsDistinct, list_any, flat_map}
-use Rattle.comp_lists.specs.Found.{found}
 use Rattle.std.proofs.lemmas.Slice.Eq.{bytes_eq-Decides}
 use Rattle.std.proofs.lemmas.Grind.{flat_map-append}
 use Rattle.std.proofs.lemmas.List.Sums.{length-filter}
@@ -29,14 +28,11 @@ use Rattle.comp_bytes.specs.Spaces.{items_in, is_space, space_of, sort_space, al
 use Rattle.comp_roles.specs.CoreImports.{CoreImport, imports_from, fields_of}
 use Rattle.comp_worlds.specs.Worlds.{core_imports, imported_name, IsImportRole, IsImportGroup, IsWorld}
 use Rattle.comp_roles.specs.declared.imports.Import.{Import}
-use Rattle.comp_roles.specs.declared.imports.Import.TheVariants as imports
-use Rattle.wit_data.specs.declared.worlds.WorldKey.TheVariants as keys
 use Rattle.comp_roles.specs.declared.imports.ImportInstance.{ImportInstance}
 use Rattle.comp_roles.specs.declared.imports.ImportInstance.TheVariants as instances
 use Rattle.comp_worlds.specs.declared.world.ComponentWorld.{ComponentWorld}
 use Rattle.comp_items.specs.Items.{Extends}
 use Rattle.comp_items.proofs.Extending.{extends_none, extends_then}
-use Rattle.wit_data.specs.declared.functions.AbiVariant.{AbiVariant}
 use Rattle.comp_state.specs.Causes.{IsCauseAmong, IsCause}
 use Rattle.comp_state.specs.declared.fault.StateFault.{StateFault}
 use Rattle.comp_links.specs.Targets.{Main}
@@ -45,11 +41,7 @@ use Rattle.comp_links.specs.Roles.{import_encoding, is_named, is_any_import, use
 use Rattle.comp_terms.specs.Rules.{Grows, named_import, landmarks}
 use Rattle.comp_state.proofs.Elements.{contains_one, contains_none, contains_cons, contains_flat, AllByRecursion-join}
 use Rattle.comp_state.proofs.Refusals.{among_more}
-use Rattle.comp_state.proofs.Growth.{Grows-none, Grows-by, Grows-then, IsEntryFor-kept, IsArgumentFor-kept, entries_in_range}
-
-pub AllByRecursion-join : {X : Type 0} (P : X → Type 0) (xs ys : List X) → AllByRecursion P xs → AllByRecursion P ys → AllByRecursion P (xs ++ ys)
-AllByRecursion-join P [] ys h k = k
-AllByRecursion-join P (x ∷ xs) ys h k = (h.0, AllByRecursion-join P xs ys h.1 k)
+use Rattle.comp_state.proofs.Growth.{longer_by, Grows-none, Grows-by, Grows-then, IsEntryFor-kept, IsArgumentFor-kept, entries_in_range}
 
 -- a core import of the world has a role of the world
 pub import_role : (w : ComponentWorld) → IsWorld w → (name field : List ℕ) (role : Import) → Contains (core_imports w) (record { module_name = name; field = field; role = role }) → IsImportRole w role
@@ -70,12 +62,11 @@ import_role w valid name field role present =
     groups (g ∷ gs) h = AllByRecursion-join (λ (i : CoreImport). IsImportRole w i.role) (imports_from g) (flat_map imports_from gs) (group g h.0) (groups gs h.1)
 
 -- the function of a core import is one that is used
-pub used_by_import : (w : ComponentWorld) (name field text : List ℕ) (function : List ℕ) (abi : AbiVariant) →
-    Contains (core_imports w) (record { module_name = name; field = field; role = imports.WorldFunc (keys.Name text) function abi }) → IsTrue (is_used w text)
-used_by_import w name field text function abi present = groups w.main.imports.modules present
+pub used_by_import : (w : ComponentWorld) (name field text : List ℕ) (role : Import) → imported_name role ≡ Some text → Contains (core_imports w) (record { module_name = name; field = field; role = role }) → IsTrue (is_used w text)
+used_by_import w name field text role named present = groups w.main.imports.modules present
   where
     the : CoreImport
-    the = record { module_name = name; field = field; role = imports.WorldFunc (keys.Name text) function abi }
+    the = record { module_name = name; field = field; role = role }
 
     or_left : (b c : Bool) → b ≡ true → (b || c) ≡ true
     or_left true c e = refl
@@ -89,7 +80,7 @@ used_by_import w name field text function abi present = groups w.main.imports.mo
     in_fields n [] c = contains_none the c
     in_fields n (f ∷ fs) c = elim (contains_cons (record { module_name = n; field = f.0; role = f.1 }) (map (λ f. record { module_name = n; field = f.0; role = f.1 }) fs) the c) [
       | inl same ↦ or_left (is_named text (imported_name f.1)) (is_any_import text fs)
-          (subst (λ (i : CoreImport). is_named text (imported_name i.role) ≡ true) (sym same) ((bytes_eq-Decides text text).1 refl))
+          (subst (λ (i : CoreImport). is_named text (imported_name i.role) ≡ true) (sym same) (ap (is_named text) named ∙ (bytes_eq-Decides text text).1 refl))
       | inr later ↦ or_right (is_named text (imported_name f.1)) (is_any_import text fs) (in_fields n fs later)
     ]
 
@@ -136,7 +127,7 @@ fields_step w old mid new before after entry all rest f h extends grows serves p
   grows = Grows-then h.grows grows;
   serves =
       subst (λ es. AllZip (IsEntryFor w Main new.defs) es (h.done ++ f ∷ [])) (sym pushed)
-      (AllZip-end (IsEntryFor w Main new.defs) before h.done entry f (AllZip-weaker (λ x y. IsEntryFor-kept grows.extended) before h.done h.serves) serves);
+      (AllZip-end (IsEntryFor w Main new.defs) before h.done entry f (AllZip-weaker (λ x y. IsEntryFor-kept (longer_by grows)) before h.done h.serves) serves);
 }
 
 -- entries have the names of their fields
@@ -174,7 +165,7 @@ groups_step w old mid new before after argument rest g h extends grows serves pu
   grows = Grows-then h.grows grows;
   serves =
       subst (λ es. AllZip (IsArgumentFor w Main new.defs) es (h.done ++ g ∷ [])) (sym pushed)
-      (AllZip-end (IsArgumentFor w Main new.defs) before h.done argument g (AllZip-weaker (λ x y. IsArgumentFor-kept grows.extended) before h.done h.serves) serves);
+      (AllZip-end (IsArgumentFor w Main new.defs) before h.done argument g (AllZip-weaker (λ x y. IsArgumentFor-kept (longer_by grows)) before h.done h.serves) serves);
 }
 
 -- the next module is one that main imports from
@@ -198,7 +189,7 @@ serve_group w valid mid new index entries name fields present each apart appende
     let g : Grows w mid.defs new.defs [] = Grows-by (defs.Item (items.CoreExports entries)) appended (record { each = entries_in_range w mid.defs entries fields (group_roles w valid name fields present) each; apart = apart }) in
     record {
       grows = g;
-      serves = record { named = refl; serves = record { entries = entries; made = at; each = AllZip-weaker (λ x y. IsEntryFor-kept g.extended) entries fields each } };
+      serves = record { named = refl; serves = record { entries = entries; made = at; each = AllZip-weaker (λ x y. IsEntryFor-kept (longer_by g)) entries fields each } };
     }
 
 -- a property of an error that is passed on

@@ -7,7 +7,7 @@ ghost use Rattle.comp_items.specs.Items.{Extends};
 ghost use Rattle.comp_links.specs.Roles.{export_encoding};
 ghost use Rattle.comp_state.specs.Causes.{IsCause, IsCauseAmong, IsBuildRefusal};
 ghost use Rattle.comp_state.specs.Encoding.{IsLiftFor};
-ghost use Rattle.comp_state.specs.Tables.{AreExports};
+ghost use Rattle.comp_state.specs.Tables.{AreExports, FindsCoreNames};
 ghost use Rattle.comp_terms.specs.Rules.{Grows, named_export, exports_marked};
 ghost use Rattle.comp_worlds.specs.Worlds.{core_name_of};
 ghost use Rattle.wit_data.specs.Keys.{name_of_key};
@@ -24,6 +24,7 @@ use std::alloc::Global;
 use wit_data::WorldKey;
 
 /// What root functions are lifted from: main's instance, and the names of its exports by the functions that they implement.
+#[derive(Clone, Copy)]
 pub(crate) struct MainExports<'a> {
     pub(crate) world: &'a ComponentWorld,
     pub(crate) core_names: &'a Keyed<Text, Text>,
@@ -38,6 +39,18 @@ impl MainExports<'_> {
     {
         match key {
             WorldKey::Name(function) => function,
+            WorldKey::Interface(_) => unreachable!(),
+        }
+    }
+
+    /// The name of the core export that implements a root function.
+    fn core_name(&self, key: &WorldKey) -> &Text
+        requires named { FindsCoreNames self.now.world.now self.now.core_names.now }
+        requires present { IsSome (core_name_of self.now.world.now key.now) }
+        ensures { core_name_of self.now.world.now key.now ≡ Some result.now }
+    {
+        match key {
+            WorldKey::Name(function) => self.core_names.get(function).unwrap(),
             WorldKey::Interface(_) => unreachable!(),
         }
     }
@@ -73,10 +86,11 @@ impl MainExports<'_> {
     {
         let function = self.function_name(key);
         let ty = component.plain_function_type()?;
-        let name = self.core_names.get(function).unwrap();
-        let core = component.core_export(self.instance, ExportKind::Func, name)?;
+        let core_name = self.core_name(key);
+        let core = component.core_export(self.instance, ExportKind::Func, core_name)?;
         let options = Seq::new(component.allocator());
-        component.lift_function(Some(function.as_str()), core, ty, options)
+        let index = component.lift_function(Some(function.as_str()), core, ty, options)?;
+        Ok(index)
     }
 
     /// Lifts a required function.

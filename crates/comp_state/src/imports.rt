@@ -33,7 +33,8 @@ fn import_function(component: &mut ComponentItems, name: &Text) -> Result<u32, B
         version_suffix: None,
     };
     let ty = component.plain_function_type()?;
-    component.import_function(name, ty)
+    let index = component.import_function(name, ty)?;
+    Ok(index)
 }
 
 /// Imports a root function, if an import of main uses it.
@@ -69,19 +70,20 @@ fn import_item(
     world: &ComponentWorld,
     used: &Keyed<Text, ()>,
     functions: &mut Keyed<Text, u32>,
-    item: (&WorldKey, &WorldItem),
+    key: &WorldKey,
+    item: &WorldItem,
 ) -> Result<(), BuildFault>
     requires used { (text : List ℕ) → is_some (found text used.now) ≡ is_used world.now text }
-    requires next { AllByRecursion (λ name. IsTrue (is_used world.now name) → slice_get (used_functions world.now) (imports_in component.old.defs) ≡ Some name) (root_function (item.0.now, item.1.now)) }
+    requires next { AllByRecursion (λ name. IsTrue (is_used world.now name) → slice_get (used_functions world.now) (imports_in component.old.defs) ≡ Some name) (root_function (key.now, item.now)) }
     requires imports { FindsImports world.now component.old.defs functions.old }
     ensures extends { Extends component.old component.new }
-    ensures grows { OnOk result (Grows world.now component.old.defs component.new.defs (names_marked world.now (root_function (item.0.now, item.1.now)))) }
+    ensures grows { OnOk result (Grows world.now component.old.defs component.new.defs (names_marked world.now (root_function (key.now, item.now)))) }
     ensures imports { OnOk result (FindsImports world.now component.new.defs functions.new) }
     ensures finds { FindsMore functions.old functions.new }
-    ensures found { OnOk result (AllByRecursion (λ name. IsTrue (is_used world.now name) → IsSome (found name functions.new)) (root_function (item.0.now, item.1.now))) }
+    ensures found { OnOk result (AllByRecursion (λ name. IsTrue (is_used world.now name) → IsSome (found name functions.new)) (root_function (key.now, item.now))) }
     ensures cause { IfErr result IsBuildRefusal }
 {
-    match item {
+    match (key, item) {
         (WorldKey::Name(name), WorldItem::Function(_)) => {
             import_used(component, world, used, functions, name)
         }
@@ -105,8 +107,8 @@ pub(crate) fn import_functions(
 {
     let used = used_functions(component.allocator(), world)?;
     let mut functions = Keyed::new(component.allocator());
-    for item in world.items().imports.iter() {
-        import_item(component, world, &used, &mut functions, item)?;
+    for (key, item) in world.items().imports.iter() {
+        import_item(component, world, &used, &mut functions, key, item)?;
     }
     Ok(functions)
 }

@@ -58,6 +58,7 @@ fn path_of_import(alloc: Global, module: &Text, field: &Text) -> Result<Text, Al
 }
 
 /// What the imports of main are given: functions of the world, and the root functions that were imported, by their names.
+#[derive(Clone, Copy)]
 pub(crate) struct ImportSources<'a> {
     pub(crate) world: &'a ComponentWorld,
     pub(crate) functions: &'a Keyed<Text, u32>,
@@ -65,11 +66,7 @@ pub(crate) struct ImportSources<'a> {
 
 impl ImportSources<'_> {
     /// Lowers a root function that was imported.
-    fn lower_function(
-        &self,
-        component: &mut ComponentItems,
-        name: &Text,
-    ) -> Result<u32, BuildFault>
+    fn lower_function(&self, component: &mut ComponentItems, name: &Text) -> Result<u32, BuildFault>
         requires sources { AreSources self.now component.old.defs }
         requires used { IsSome (found name.now self.now.functions.now) }
         ensures extends { Extends component.old component.new }
@@ -79,7 +76,8 @@ impl ImportSources<'_> {
     {
         let function = *self.functions.get(name).unwrap();
         let options = Seq::new(component.allocator());
-        component.lower_function(Some(name.as_str()), function, options)
+        let index = component.lower_function(Some(name.as_str()), function, options)?;
+        Ok(index)
     }
 
     /// What an import of main is given: the kind and the index of a core item.

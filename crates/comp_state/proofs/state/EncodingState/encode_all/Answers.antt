@@ -1,16 +1,16 @@
 use Rattle.std.proofs.Common.{◌≡◌, ◌∙◌, ◌∷◌, [], ap}
 use Rattle.comp_worlds.specs.declared.world.ComponentWorld.{ComponentWorld}
-use Rattle.comp_state.specs.Encoding.{Encoding}
 use Rattle.comp_terms.specs.Rules.{Grows, ModuleIs, InstanceOf, exports_marked}
+use Rattle.comp_state.specs.Encoding.{Encoding}
 use Rattle.comp_state.proofs.Building.{built_by_steps}
 use Rattle.comp_state.proofs.state.EncodingState.encode_all.Goals as goal
 
 pub returns-clause-built : goal.returns-clause-built
 returns-clause-built c =
     let w : ComponentWorld = c.args.self.now.world in
-    let first : c.encode_imports.new.self.world ≡ w = ap (λ (e : Encoding). e.world) c.in_ok-encode_imports.ensures.same in
+    let first : c.encode_imports.new.self.world ≡ w = c.in_ok-encode_imports.ensures.world in
     let second : c.encode_core_modules.new.self.world ≡ w = ap (λ (e : Encoding). e.world) c.in_ok-encode_core_modules.ensures.same ∙ first in
-    let third : c.instantiate.new.self.world ≡ w = ap (λ (e : Encoding). e.world) c.in_ok-instantiate.ensures.same ∙ second in
+    let third : c.instantiate.new.self.world ≡ w = c.in_ok-instantiate.ensures.world ∙ second in
     let main : Grows w c.encode_imports.new.self.built.defs c.encode_core_modules.new.self.built.defs (ModuleIs w.main.bytes ∷ []) = rw (← first) c.in_ok-encode_core_modules.ensures.grows in
     let instance : Grows w c.encode_core_modules.new.self.built.defs c.instantiate.new.self.built.defs (InstanceOf 0 ∷ []) = rw (← second) c.in_ok-instantiate.ensures.grows in
     let exports : Grows w c.instantiate.new.self.built.defs c.encode_exports.new.self.built.defs (exports_marked w) = rw (← third) c.in_ok-encode_exports.ensures.grows in
@@ -20,7 +20,7 @@ returns-clause-built c =
 pub returns-clause-encoded : goal.returns-clause-encoded
 returns-clause-encoded c =
     let w : ComponentWorld = c.args.self.now.world in
-    let first : c.encode_imports.new.self.world ≡ w = ap (λ (e : Encoding). e.world) c.in_ok-encode_imports.ensures.same in
+    let first : c.encode_imports.new.self.world ≡ w = c.in_ok-encode_imports.ensures.world in
     let second : c.encode_core_modules.new.self.world ≡ w = ap (λ (e : Encoding). e.world) c.in_ok-encode_core_modules.ensures.same ∙ first in
-    let third : c.instantiate.new.self.world ≡ w = ap (λ (e : Encoding). e.world) c.in_ok-instantiate.ensures.same ∙ second in
+    let third : c.instantiate.new.self.world ≡ w = c.in_ok-instantiate.ensures.world ∙ second in
     record { imports = rw (← second) c.in_ok-instantiate.ensures.encoded; exports = rw (← third) c.in_ok-encode_exports.ensures.encoded }

@@ -1,11 +1,28 @@
-use Rattle.std.proofs.Common.{arith}
-use Rattle.comp_state.proofs.Exporting.{exports_start, exports_step}
+use Rattle.std.proofs.Common.{◌∙◌, ap, subst, IsSome}
+use Rattle.std.specs.List.{AllByRecursion}
+use Rattle.std.specs.Result.{OnOk, IfErr}
+use Rattle.comp_links.specs.Roles.{export_encoding}
+use Rattle.comp_terms.specs.Rules.{Grows, exports_marked}
+use Rattle.comp_state.specs.Causes.{IsCause}
+use Rattle.comp_state.specs.Encoding.{Encoding}
+use Rattle.comp_state.proofs.Growth.{encoding-kept, exports_of, main_known}
 use Rattle.comp_state.proofs.state.EncodingState.encode_exports.Goals as goal
 
-pub loop-key-init : goal.loop-key-init
-loop-key-init c = exports_start c.args.self.now
+pub export_all-requires : goal.export_all-requires
+export_all-requires c = exports_of _ c.self.invariant (ap (λ (e : Encoding). e.step) c.self.view_is ∙ c.requires) c.unwrap.ensures
 
-pub loop-key-preserved : goal.loop-key-preserved
-loop-key-preserved c =
-    exports_step c.args.self.now c.loop-key.self c.encode_export.new.self c.as_slice-key-items.result.now c.loop-key.key-index c.key-item.result c.loop-key.invariant (omega arith) c.key-item.is
-    c.in_ok-encode_export.ensures.same c.in_ok-encode_export.ensures.extends c.in_ok-encode_export.ensures.grows c.in_ok-encode_export.ensures.encoded
+pub invariant_of-self : goal.invariant_of-self
+invariant_of-self c = encoding-kept c.export_all.ensures.extends c.self.invariant
+
+pub unwrap-requires : goal.unwrap-requires
+unwrap-requires c = main_known c.self.invariant (ap (λ (e : Encoding). e.step) c.self.view_is ∙ c.requires)
+
+pub returns-clause-grows : goal.returns-clause-grows
+returns-clause-grows c = subst (λ (e : Encoding). OnOk c.export_all.result (Grows e.world e.built.defs c.export_all.new.component.defs (exports_marked e.world))) c.self.view_is c.export_all.ensures.grows
+
+pub returns-clause-encoded : goal.returns-clause-encoded
+returns-clause-encoded c =
+    subst (λ (e : Encoding). OnOk c.export_all.result (AllByRecursion (λ key. IsSome (export_encoding e.world key)) e.world.main_exports)) c.self.view_is c.export_all.ensures.encoded
+
+pub returns-clause-cause : goal.returns-clause-cause
+returns-clause-cause c = subst (λ (e : Encoding). IfErr c.export_all.result (IsCause e.world)) c.self.view_is c.export_all.ensures.cause

@@ -1,39 +1,48 @@
-use Rattle.std.proofs.Common.{◌≡◌, ◌∙◌, ◌∷◌, [], ap, refl}
-use Rattle.std.specs.List.{AllZip}
+use Rattle.std.proofs.Common.{rules, [], ◌∷◌, ap, refl, subst, sym, IsSome}
+use Rattle.std.specs.List.{AllByRecursion}
 use Rattle.comp_builder.specs.Built.{Built}
 use Rattle.comp_bytes.proofs.ItemIndices.{in_range}
 use Rattle.comp_bytes.specs.declared.def.Def.TheVariants as defs
 use Rattle.comp_bytes.specs.declared.def.Item.TheVariants as items
-use Rattle.comp_state.specs.Encoding.{Encoding}
-use Rattle.comp_links.specs.Targets.{Main}
-use Rattle.comp_terms.specs.Planned.{IsArgumentFor}
-use Rattle.comp_state.proofs.Exporting.{main_module}
+use Rattle.comp_items.specs.Items.{Extends}
+use Rattle.comp_items.proofs.Extending.{extends_same, extends_then}
+use Rattle.comp_links.specs.Roles.{import_encoding}
 use Rattle.comp_terms.specs.Rules.{Grows, InstanceOf}
-use Rattle.comp_state.proofs.Growth.{Grows-by, Grows-then, IsEncoding-kept, IsEncoding-made, kept}
+use Rattle.comp_worlds.specs.Worlds.{core_imports}
+use Rattle.comp_state.specs.Encoding.{Encoding, AreImported, IsFirstModule}
+use Rattle.comp_state.proofs.Exporting.{main_module}
+use Rattle.comp_state.proofs.Growth.{Grows-by, Grows-then, kept, encoding-kept, encoding-instantiated, sources_of}
 use Rattle.comp_state.proofs.Serving.{groups_encoded}
 use Rattle.comp_state.proofs.state.EncodingState.instantiate.Goals as goal
 
-built : (c : goal.After-self-1) → c.self.inside.component ≡ c.encode_arguments.new.self.built
-built c = ap (λ (e : Encoding). e.built) c.self.view_is
+pub arguments-requires : goal.arguments-requires
+arguments-requires c = record { sources = sources_of _ c.self.invariant (subst (λ (e : Encoding). AreImported e.step) (sym c.self.view_is) c.requires.imported) }
 
-world : (c : goal.After-self-1) → c.self.inside.world.now ≡ c.args.self.now.world
-world c = ap (λ (e : Encoding). e.world) c.self.view_is ∙ ap (λ (e : Encoding). e.world) c.in_ok-arguments.ensures.same
+pub invariant_of-self : goal.invariant_of-self
+invariant_of-self c = encoding-kept c.in_err-arguments.ensures.extends c.self.invariant
 
-grows : (c : goal.After-self-1) → Grows c.self.inside.world.now c.self.inside.component.defs c.core_instantiate.new.self.defs (InstanceOf 0 ∷ [])
-grows c =
-    let each : AllZip (IsArgumentFor c.self.inside.world.now Main c.self.inside.component.defs) c.in_ok-arguments.arguments c.self.inside.world.now.main.imports.modules =
-    rw (world c, built c) c.in_ok-arguments.ensures.serves in
-    let first = kept c.in_ok-arguments.ensures.grows c.requires.first.made in
-    let within = in_range first in
-    Grows-by (defs.Item (items.CoreInstantiate 0 c.in_ok-arguments.arguments)) (ap (λ (b : Built). b.defs) c.in_ok-index.ensures.adds.1) (record { of = main_module c.self.inside.world.now; listed = refl; scoped = rw (built c) within; each = each })
+pub invariant_of-self-in_err-index : goal.invariant_of-self-in_err-index
+invariant_of-self-in_err-index c =
+    let last : Extends c.arguments.new.component c.core_instance.new.self = extends_same c.arguments.new.component c.core_instance.new.self c.in_err-index.ensures.adds.0 in
+    encoding-kept (extends_then c.self.inside.component c.arguments.new.component c.core_instance.new.self c.in_ok-arguments.ensures.extends last) c.self.invariant
 
 pub invariant_of-self-2 : goal.invariant_of-self-2
 invariant_of-self-2 c =
-    IsEncoding-made (IsEncoding-kept (grows c) c.self.invariant) c.in_ok-index.index (record { arguments = c.in_ok-arguments.arguments; made = c.in_ok-index.ensures.at })
+    let last : Extends c.arguments.new.component c.core_instance.new.self = search rules in
+    let all : Extends c.self.inside.component c.core_instance.new.self = extends_then c.self.inside.component c.arguments.new.component c.core_instance.new.self c.in_ok-arguments.ensures.extends last in
+    encoding-instantiated c.in_ok-index.index all (subst (λ (e : Encoding). AreImported e.step) (sym c.self.view_is) c.requires.imported) c.in_ok-index.ensures.instance c.self.invariant
 
 pub returns-clause-grows : goal.returns-clause-grows
-returns-clause-grows c = Grows-then c.in_ok-arguments.ensures.grows (rw (← world c, ← built c) (grows c))
+returns-clause-grows c =
+    let w = c.self.inside.world.now in
+    let first : IsFirstModule w c.self.inside.component.defs = subst (λ (e : Encoding). IsFirstModule e.world e.built.defs) (sym c.self.view_is) c.requires.first in
+    let scoped = in_range (kept c.in_ok-arguments.ensures.grows first.made) in
+    let last : Grows w c.arguments.new.component.defs c.core_instance.new.self.defs (InstanceOf 0 ∷ []) =
+    Grows-by (defs.Item (items.CoreInstantiate 0 c.in_ok-arguments.arguments)) (ap (λ (b : Built). b.defs) c.in_ok-index.ensures.adds.1)
+    (record { of = main_module w; listed = refl; scoped = scoped; each = c.in_ok-arguments.ensures.serves }) in
+    subst (λ (e : Encoding). Grows e.world e.built.defs c.core_instance.new.self.defs (InstanceOf 0 ∷ [])) c.self.view_is (Grows-then c.in_ok-arguments.ensures.grows last)
 
 pub returns-clause-encoded : goal.returns-clause-encoded
 returns-clause-encoded c =
-    groups_encoded c.args.self.now.world c.encode_arguments.new.self.built.defs c.in_ok-arguments.arguments c.args.self.now.world.main.imports.modules c.in_ok-arguments.ensures.serves
+    subst (λ (e : Encoding). AllByRecursion (λ i. IsSome (import_encoding e.world i.role)) (core_imports e.world)) c.self.view_is
+    (groups_encoded c.self.inside.world.now c.arguments.new.component.defs c.in_ok-arguments.arguments c.self.inside.world.now.main.imports.modules c.in_ok-arguments.ensures.serves)
