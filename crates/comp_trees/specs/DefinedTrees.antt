@@ -6,7 +6,7 @@ use Rattle.comp_bytes.specs.declared.types.ComponentValType.TheVariants as value
 use Rattle.comp_bytes.specs.declared.types.DefinedType.{DefinedType}
 use Rattle.comp_bytes.specs.declared.types.DefinedType.TheVariants as defined
 use Rattle.comp_bytes.specs.declared.types.FuncTypeDef.{FuncTypeDef}
-use Rattle.comp_trees.specs.Trees.{Tree, Absent, PrimitiveOf, RecordOf, TupleOf, VariantOf, EnumOf, FlagsOf, ListOf, OptionOf, ResultOf, OwnOf, BorrowOf, StreamOf, FutureOf, ResourceAt, Unknown, trees_of, FunctionTree}
+use Rattle.comp_trees.specs.Trees.{Tree, Absent, PrimitiveOf, RecordOf, TupleOf, VariantOf, EnumOf, FlagsOf, ListOf, OptionOf, ResultOf, OwnOf, BorrowOf, StreamOf, FutureOf, Unknown, trees_of, FunctionTree}
 
 -- what a type index denotes
 pub data TypeTree : Type 0 where
