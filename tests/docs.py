@@ -2,9 +2,10 @@
 """What the documents say of files and codes, compared with the code.
 
     docs.py --check    each file of a crate that a document names exists; docs/LINKING.md lists the files of definitions that the
-                       linking theorem uses, directly or not, and no others but those of refusals; docs/ERRORS.md has each code of
-                       an error. The last line is 'N passed, M failed', and the exit status is 1 where M is not 0.
-    docs.py --write    fills the numbers of lines in docs/LINKING.md.
+                       linking theorem uses, directly or not, and no others but those of refusals; the numbers of lines there are
+                       right, and in all no more than MOST_LINES; docs/ERRORS.md has each code of an error. The last line is
+                       'N passed, M failed', and the exit status is 1 where M is not 0.
+    docs.py --write    fills the numbers of lines in docs/LINKING.md. They count definitions: no imports, comments or blank lines.
 """
 import glob
 import os
@@ -15,8 +16,11 @@ TOP = os.path.dirname(os.path.dirname(os.path.realpath(__file__)))
 LINKING = f"{TOP}/docs/LINKING.md"
 THEOREM = "comp_encoder/specs/Component"
 REFUSALS = {"comp_encoder/specs/Refusals", "comp_encoder/specs/Outputs", "comp_state/specs/Causes"}
+MOST_LINES = 2600
 USE = re.compile(r"^use Rattle\.(\w+)\.specs\.([\w.]+?)(?:\.\{| as|$)", re.M)
 ROW = re.compile(r"^(\| .* \| )(`.*`)( \| )(\d+)( \|)$", re.M)
+TOTAL = re.compile(r"(lines of definitions, )([\d,]+)( in all)")
+NO_DEFINITION = re.compile(r"\s*(use |--|$)")
 QUOTED = re.compile(r"`([^`]+)`")
 CODE = re.compile(r'#\[error\("([A-Z]\d+) (\w+)')
 
@@ -56,11 +60,38 @@ def files_of(cell):
     return files
 
 
-def faults_of_linking():
+def lines_of(names):
+    """The lines of definitions of these files."""
+    return sum(not NO_DEFINITION.match(line) for name in names for line in text_of(spec_file(name)).splitlines())
+
+
+def with_lines(text):
+    """The text of docs/LINKING.md with the numbers of lines of each row, and of all."""
+    listed = [it for row in ROW.finditer(text) for it in files_of(row[2])]
+    text = ROW.sub(lambda row: f"{row[1]}{row[2]}{row[3]}{lines_of(files_of(row[2]))}{row[5]}", text)
+    return TOTAL.sub(lambda total: f"{total[1]}{lines_of(listed):,}{total[3]}", text)
+
+
+def faults_of_list():
     listed = {it for row in ROW.finditer(text_of(LINKING)) for it in files_of(row[2])}
     used = used_at_all(THEOREM) | REFUSALS
     faults = [f"docs/LINKING.md: {it} is not listed" for it in sorted(used - listed)]
     return faults + [f"docs/LINKING.md: {it} is listed, and the theorem doesn't use it" for it in sorted(listed - used)]
+
+
+def faults_of_lines():
+    text, faults = text_of(LINKING), []
+    total = lines_of(it for row in ROW.finditer(text) for it in files_of(row[2]))
+    if total > MOST_LINES:
+        faults.append(f"docs/LINKING.md: {total} lines of definitions are listed, and {MOST_LINES} are the most")
+    if not TOTAL.search(text) or with_lines(text) != text:
+        faults.append("docs/LINKING.md: the numbers of lines are not right; docs.py --write fills them")
+    return faults
+
+
+def faults_of_linking():
+    faults = faults_of_list()
+    return faults or faults_of_lines()
 
 
 def exists(name):
@@ -100,11 +131,7 @@ def check():
 
 
 def write():
-    def with_lines(row):
-        lines = sum(text_of(spec_file(it)).count("\n") for it in files_of(row[2]))
-        return f"{row[1]}{row[2]}{row[3]}{lines}{row[5]}"
-
-    text = ROW.sub(with_lines, text_of(LINKING))
+    text = with_lines(text_of(LINKING))
     with open(LINKING, "w", encoding="utf-8") as file:
         file.write(text)
 

@@ -2,7 +2,8 @@
 -- bytes are the module's component is said by the encoder's definitions.)
 use Rattle.std.specs.Prelude.{◌≡◌, ℕ, Bool, List, [], ◌∷◌, ⊤, ◌⊎◌, Result, Ok, Err}
 use Rattle.comp_worlds.specs.declared.lower.Lower as lower
-use Rattle.comp_encoder.specs.Encoder.{Encoder, fresh, validating, after_module}
+use Rattle.comp_encoder.specs.Encoder.{Encoder}
+use Rattle.comp_encoder.specs.Calls.{fresh, validating, after_module}
 use Rattle.comp_encoder.specs.Refusals.{ModuleCause, IsModuleRefusal, NoEncodeCause, IsEncodeRefusal}
 use Rattle.comp_encoder.specs.Component.{IsEncoding}
 use Rattle.comp_encoder.specs.declared.fault.EncodeFault.{EncodeFault}

@@ -4,7 +4,10 @@ ghost use Rattle.std.specs.Prelude.{◌≡◌, ℕ, List, map, IfOk};
 ghost use Rattle.comp_roles.specs.declared.exports.Export.{Export};
 ghost use Rattle.std.specs.Option.{option_copied};
 ghost use Rattle.std.specs.Map.Iter.{ShowsInOrder, deref_pair};
-ghost use Rattle.comp_roles.specs.Lookups.{first_export, first_memory, first_abi, realloc_names, realloc_for, lent_pair, is_initialize, is_task_hook, is_general_realloc, is_import_realloc, is_export_realloc, is_post_return, is_callback, is_dtor, is_realloc, abi_of};
+ghost use Rattle.comp_roles.specs.Lookups.{first_export, first_memory, is_initialize, is_task_hook};
+ghost use Rattle.comp_roles.specs.FunctionExports.{first_abi, is_post_return, is_callback, is_dtor, abi_of};
+ghost use Rattle.comp_roles.specs.Reallocs.{realloc_names, realloc_for, is_general_realloc, is_import_realloc, is_export_realloc, is_realloc};
+ghost use Rattle.comp_roles.specs.Borrowed.{lent_pair};
 
 use crate::roles::{
     Callback, Destructor, ExportRealloc, GeneralRealloc, ImportRealloc, Initialize, PostReturn,

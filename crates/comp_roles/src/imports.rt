@@ -3,7 +3,8 @@
 ghost use Rattle.std.specs.Prelude.{◌≡◌, ◌++◌, map, IfOk, OnOk};
 ghost use Rattle.std.specs.List.{flat_map};
 ghost use Rattle.comp_roles.specs.CoreImports.{imports_from};
-ghost use Rattle.comp_roles.specs.Lookups.{memory_of_fields, imported_memory, core_import, field_imports};
+ghost use Rattle.comp_roles.specs.Lookups.{memory_of_fields, imported_memory};
+ghost use Rattle.comp_roles.specs.Borrowed.{core_import, field_imports};
 
 use crate::libraries::{Item, MainOrAdapter};
 use crate::payloads::PayloadInfo;

@@ -64,7 +64,7 @@ impl Role for TaskHook {
 pub(crate) struct GeneralRealloc;
 
 impl Role for GeneralRealloc {
-    ghost use Rattle.comp_roles.specs.Lookups.{is_general_realloc};
+    ghost use Rattle.comp_roles.specs.Reallocs.{is_general_realloc};
 
     ghost matching = { λ role. is_general_realloc };
 
@@ -78,7 +78,7 @@ impl Role for GeneralRealloc {
 pub(crate) struct ImportRealloc;
 
 impl Role for ImportRealloc {
-    ghost use Rattle.comp_roles.specs.Lookups.{is_import_realloc};
+    ghost use Rattle.comp_roles.specs.Reallocs.{is_import_realloc};
 
     ghost matching = { λ role. is_import_realloc };
 
@@ -92,7 +92,7 @@ impl Role for ImportRealloc {
 pub(crate) struct ExportRealloc;
 
 impl Role for ExportRealloc {
-    ghost use Rattle.comp_roles.specs.Lookups.{is_export_realloc};
+    ghost use Rattle.comp_roles.specs.Reallocs.{is_export_realloc};
 
     ghost matching = { λ role. is_export_realloc };
 
@@ -109,7 +109,7 @@ pub(crate) struct PostReturn<'a> {
 }
 
 impl Role for PostReturn<'_> {
-    ghost use Rattle.comp_roles.specs.Lookups.{is_post_return};
+    ghost use Rattle.comp_roles.specs.FunctionExports.{is_post_return};
 
     ghost matching = { λ role. is_post_return role.key.now role.function.now };
 
@@ -132,7 +132,7 @@ pub(crate) struct Callback<'a> {
 }
 
 impl Role for Callback<'_> {
-    ghost use Rattle.comp_roles.specs.Lookups.{is_callback};
+    ghost use Rattle.comp_roles.specs.FunctionExports.{is_callback};
 
     ghost matching = { λ role. is_callback role.key.now role.function.now };
 
@@ -154,7 +154,7 @@ pub(crate) struct Destructor {
 }
 
 impl Role for Destructor {
-    ghost use Rattle.comp_roles.specs.Lookups.{is_dtor};
+    ghost use Rattle.comp_roles.specs.FunctionExports.{is_dtor};
 
     ghost matching = { λ role. is_dtor role.resource };
 

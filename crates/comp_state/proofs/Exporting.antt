@@ -32,8 +32,7 @@ use Rattle.std.proofs.lemmas.Option.{none-some, same_Some}
 use Rattle.std.specs.Str.{bytes_eq}
 use Rattle.std.specs.List.{flat_map}
 use Rattle.comp_lists.specs.Found.{found}
-use Rattle.world_values.specs.Items.{root_export}
-use Rattle.world_values.specs.Mentions.{root_function_at}
+use Rattle.world_values.specs.Items.{root_function_at, root_export}
 use Rattle.wit_data.specs.declared.functions.Function.{Function}
 use Rattle.wit_data.specs.declared.worlds.WorldKey.TheVariants as keys
 use Rattle.comp_roles.specs.CoreTypes.{called_type}

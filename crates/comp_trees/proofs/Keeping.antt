@@ -14,7 +14,8 @@ use Rattle.comp_bytes.specs.declared.types.TypeDef.TheVariants as types
 use Rattle.comp_bytes.specs.References.{Reference, own, where_some, value_references, fields_references, defined_references, type_references}
 use Rattle.comp_bytes.specs.Scopes.{InScope}
 use Rattle.comp_trees.specs.Trees.{Tree, RecordOf, TupleOf, VariantOf, ListOf, OptionOf, ResultOf, OwnOf, BorrowOf, StreamOf, FutureOf, trees_of, ParamTree, FunctionTree}
-use Rattle.comp_trees.specs.DefinedTrees.{TypeTree, OfValues, OfFunctions, OfOthers, values_of, tree_at, value_tree, payload_tree, defined_tree, function_tree, type_tree}
+use Rattle.comp_trees.specs.DefinedTrees.{TypeTree, OfValues, OfFunctions, OfOthers, values_of, tree_at, value_tree, payload_tree, defined_tree, function_tree}
+use Rattle.comp_trees.specs.DefinedScopes.{type_tree}
 use Rattle.comp_trees.specs.Laws.{TreesAreKept}
 
 all_left : {X : Type 0} (P : X → Type 0) (xs ys : List X) → AllByRecursion P (xs ++ ys) → AllByRecursion P xs

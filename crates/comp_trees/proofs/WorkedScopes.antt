@@ -9,7 +9,8 @@ use Rattle.comp_bytes.specs.declared.types.TypeDef.{TypeDef}
 use Rattle.comp_bytes.specs.declared.types.TypeDef.TheVariants as types
 use Rattle.comp_trees.specs.Trees.{OptionOf, Unknown}
 use Rattle.comp_trees.specs.WitTrees.{wit_tree, wit_function_tree}
-use Rattle.comp_trees.specs.DefinedTrees.{OfFunctions, OfOthers, tree_at, defined_tree, type_trees}
+use Rattle.comp_trees.specs.DefinedTrees.{OfFunctions, OfOthers, tree_at, defined_tree}
+use Rattle.comp_trees.specs.DefinedScopes.{type_trees}
 use Rattle.comp_trees.proofs.Worked.{some_types, numbered, method}
 
 -- a type of other functions, a resource, its owned handle, an option of that, a record, and a function of it

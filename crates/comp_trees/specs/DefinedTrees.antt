@@ -1,14 +1,12 @@
 -- What the types of a component denote, by what the earlier types of their scope do (component model, explainer: type
 -- definitions; binary: `valtype`, `defvaltype`, `functype`).
-use Rattle.std.specs.Prelude.{ℕ, List, [], ◌∷◌, ◌++◌, length, map, get_or, Option, Some, None, option_map}
+use Rattle.std.specs.Prelude.{ℕ, List, map, get_or, Option, Some, None, option_map}
 use Rattle.comp_bytes.specs.declared.types.ComponentValType.{ComponentValType}
 use Rattle.comp_bytes.specs.declared.types.ComponentValType.TheVariants as values
 use Rattle.comp_bytes.specs.declared.types.DefinedType.{DefinedType}
 use Rattle.comp_bytes.specs.declared.types.DefinedType.TheVariants as defined
 use Rattle.comp_bytes.specs.declared.types.FuncTypeDef.{FuncTypeDef}
-use Rattle.comp_bytes.specs.declared.types.TypeDef.{TypeDef}
-use Rattle.comp_bytes.specs.declared.types.TypeDef.TheVariants as types
-use Rattle.comp_trees.specs.Trees.{Tree, Absent, PrimitiveOf, RecordOf, TupleOf, VariantOf, EnumOf, FlagsOf, ListOf, OptionOf, ResultOf, OwnOf, BorrowOf, StreamOf, FutureOf, ResourceAt, Unknown, trees_of, FunctionTree}
+use Rattle.comp_trees.specs.Trees.{Tree, Absent, PrimitiveOf, RecordOf, TupleOf, VariantOf, EnumOf, FlagsOf, ListOf, OptionOf, ResultOf, OwnOf, BorrowOf, StreamOf, FutureOf, Unknown, trees_of, FunctionTree}
 
 -- what a type index denotes
 pub data TypeTree : Type 0 where
@@ -57,15 +55,3 @@ function_tree scope f =
       params = map (λ p. record { name = p.name; tree = value_tree scope p.ty }) f.params;
       result = option_map (λ t. value_tree scope t) f.result;
     }
-
--- what the definition of a type makes, where `address` is that of the resource, if it makes one
-abbrev pub type_tree : List TypeTree → ℕ → TypeDef → TypeTree
-type_tree scope address (types.Func f) = OfFunctions (function_tree scope f)
-type_tree scope address (types.Resource destructor) = OfValues (ResourceAt address)
-type_tree scope address (types.Defined t) = OfValues (defined_tree scope t)
-
--- what the types denote that are defined one after the other behind those of a scope, each resource with the address
--- that belongs to its index
-abbrev pub type_trees : (ℕ → ℕ) → List TypeTree → List TypeDef → List TypeTree
-type_trees address_of scope [] = scope
-type_trees address_of scope (t ∷ ts) = type_trees address_of (scope ++ type_tree scope (address_of (length scope)) t ∷ []) ts

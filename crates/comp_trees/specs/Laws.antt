@@ -18,7 +18,8 @@ use Rattle.comp_bytes.specs.Scopes.{Scope, InScope}
 use Rattle.comp_trees.specs.Trees.{is_known}
 use Rattle.comp_trees.specs.WitTrees.{kind_tree, wit_tree, wit_function_tree}
 use Rattle.comp_trees.specs.Flattening.{flat_tree, tree_signature}
-use Rattle.comp_trees.specs.DefinedTrees.{TypeTree, type_tree}
+use Rattle.comp_trees.specs.DefinedTrees.{TypeTree}
+use Rattle.comp_trees.specs.DefinedScopes.{type_tree}
 
 -- The tree of a type is made of the trees of the types that it names.
 abbrev pub TreesOfParts : Type 0

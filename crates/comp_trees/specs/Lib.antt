@@ -2,4 +2,5 @@ pub mod Trees
 pub mod WitTrees
 pub mod Flattening
 pub mod DefinedTrees
+pub mod DefinedScopes
 pub mod Laws

@@ -6,8 +6,8 @@
 //!
 //! This crate holds definitions and their laws alone. In reading order: `specs/Trees.antt` (the trees of types and of
 //! functions), `specs/WitTrees.antt` (those of WIT), `specs/DefinedTrees.antt` (those that a component defines),
-//! `specs/Flattening.antt` (core values of types and core signatures of functions, by their trees), `laws` (what holds
-//! of them).
+//! `specs/DefinedScopes.antt` (those of definitions one after the other), `specs/Flattening.antt` (core values of types and
+//! core signatures of functions, by their trees), `laws` (what holds of them).
 //!
 //! Upward this crate promises: the tree of a type of a resolve is made of the trees of the types that it names
 //! ([`trees_of_parts`]), and nothing in it is unknown ([`trees_are_known`]); the core values of a type are those of its

@@ -3,7 +3,7 @@ use Rattle.std.specs.Prelude.{ℕ, Bool, ◌&&◌, if◌then◌else◌, List, []
 use Rattle.std.specs.Option.{option_eq}
 use Rattle.std.specs.List.{flat_map}
 use Rattle.world_values.specs.Tables.{with_all}
-use Rattle.world_values.specs.Mentions.{functions_of}
+use Rattle.world_values.specs.Items.{functions_of}
 use Rattle.wit_data.specs.Keys.{is_same_key, name_of_key}
 use Rattle.wit_data.specs.Live.{named_types}
 use Rattle.wit_data.specs.Signatures.{signature}

@@ -4,4 +4,5 @@ pub mod Uses
 pub mod Imported
 pub mod Typed
 pub mod Worlds
+pub mod WorldTables
 pub mod Gathering

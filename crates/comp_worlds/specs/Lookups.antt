@@ -3,7 +3,8 @@
 use Rattle.std.specs.Prelude.{ℕ, Bool, true, false, List, Option, Some, None, is_some, option_map}
 use denote.Ref.{Bor}
 use Rattle.comp_lists.specs.Found.{found}
-use Rattle.comp_roles.specs.Lookups.{Exports, first_export, is_general_realloc}
+use Rattle.comp_roles.specs.Lookups.{Exports, first_export}
+use Rattle.comp_roles.specs.Reallocs.{is_general_realloc}
 use Rattle.comp_worlds.specs.declared.modules.CustomModule.{CustomModule}
 use Rattle.comp_worlds.specs.declared.modules.CustomModule.TheVariants as modules
 use Rattle.comp_worlds.specs.declared.world.ComponentWorld.{ComponentWorld}

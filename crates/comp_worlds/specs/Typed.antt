@@ -14,7 +14,7 @@ use Rattle.comp_roles.specs.declared.exports.Export.{Export}
 use Rattle.comp_roles.specs.declared.exports.Export.TheVariants as exports
 use Rattle.comp_roles.specs.declared.offered.ExternType.{ExternType}
 use Rattle.comp_roles.specs.declared.offered.ImportType.{ImportType}
-use Rattle.world_values.specs.Mentions.{root_function_at}
+use Rattle.world_values.specs.Items.{root_function_at}
 use Rattle.comp_worlds.specs.declared.world.ValidatedModule.{ValidatedModule}
 
 -- the type that the role of an import, or of an export, requires, as far as such roles are encoded

@@ -1,6 +1,6 @@
 -- What a validated world contains, and what holds of it (component model: the imports and exports of a
 -- world; core standard, binary format: the preamble of a module).
-use Rattle.std.specs.Prelude.{◌≡◌, ◌<◌, ℕ, List, [], ◌∷◌, Option, Some, None, map, get_or, length, Contains, IsSome, is_some}
+use Rattle.std.specs.Prelude.{◌≡◌, ◌<◌, ℕ, List, [], ◌∷◌, Option, Some, None, map, get_or, length, Contains, IsSome}
 use Rattle.std.specs.List.{flat_map, IsDistinct, AllByRecursion}
 use Rattle.std.specs.Str.{bytes_eq}
 use Rattle.comp_lists.specs.Found.{found}
@@ -22,16 +22,9 @@ use Rattle.comp_roles.specs.declared.exports.Export.{Export}
 use Rattle.comp_roles.specs.declared.exports.Export.TheVariants as exports
 use Rattle.comp_worlds.specs.declared.world.ComponentWorld.{ComponentWorld}
 use Rattle.comp_worlds.specs.declared.world.ValidatedModule.{ValidatedModule}
-use Rattle.comp_worlds.specs.declared.world.WorldAdapter.{WorldAdapter}
-use Rattle.comp_worlds.specs.declared.world.WorldParts.{WorldParts}
-use Rattle.wit_data.specs.declared.resolve.Resolve.{Resolve}
 use Rattle.comp_roles.specs.CoreImports.{CoreImport, imports_from}
-use Rattle.comp_worlds.specs.Imported.{Imported, imported}
-use Rattle.comp_roles.specs.Lookups.{imported_memory}
 use Rattle.world_values.specs.Items.{no_items, root_export}
-use Rattle.world_values.specs.Mentions.{live_type_imports, exports_used}
 use Rattle.comp_worlds.specs.Typed.{FitsImport, FitsExport}
-use Rattle.comp_worlds.specs.Uses.{used_by, all_imports}
 
 -- ---- its contents
 
@@ -112,29 +105,6 @@ pub record IsUserModule (w : ComponentWorld) (m : ValidatedModule) (keys : List 
   pub exported : AllByRecursion (FitsExport w.resolve (items_of w) m) m.exports.exports
   pub required : AllByRecursion (IsRequired w m) keys
 
--- ---- what follows from it
-
--- what is lowered of what it imports
-abbrev pub import_map : Resolve → World → ValidatedModule → List (List ℕ × WorldAdapter) → Imported
-import_map r items main adapters = imported (used_by (all_imports main adapters) (is_some (imported_memory main.imports.modules))) r items.imports
-
--- a world of these parts
-abbrev pub whole_with : WorldParts → World → ComponentWorld
-whole_with p items = record {
-  resolve = p.resolve;
-  world = p.world;
-  main = p.main;
-  main_exports = p.main_exports;
-  adapters = p.adapters;
-  import_map = import_map p.resolve items p.main p.adapters;
-  live_type_imports = live_type_imports (all_imports p.main p.adapters) p.resolve items;
-  exports_used = exports_used p.resolve items;
-  can_use_context_slot_1 = p.can_use_context_slot_1;
-}
-
-abbrev pub whole_of : WorldParts → ComponentWorld
-whole_of p = whole_with p (get_or p.resolve.worlds p.world.index no_items)
-
 -- what holds of every validated world
 pub record IsWorld (w : ComponentWorld) : Type 0 where
   pub sound : IsSound w.resolve
@@ -146,6 +116,3 @@ pub record IsWorld (w : ComponentWorld) : Type 0 where
   pub main : IsUserModule w w.main w.main_exports
   pub adapters : AllByRecursion (λ a. IsUserModule w a.1.info a.1.required_exports) w.adapters
   pub alone : w.adapters ≡ []
-  pub import_map : w.import_map ≡ import_map w.resolve (items_of w) w.main w.adapters
-  pub live_type_imports : w.live_type_imports ≡ live_type_imports (all_imports w.main w.adapters) w.resolve (items_of w)
-  pub exports_used : w.exports_used ≡ exports_used w.resolve (items_of w)

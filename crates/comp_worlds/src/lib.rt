@@ -2,8 +2,8 @@
 //! from these.
 //!
 //! Data alone, and the trait [`Lower`] by which a lower layer makes it; how it is encoded is up to the crates
-//! above. The guarantee is `IsWorld` of `specs/Worlds.antt`, which holds of every world that a lower layer
-//! returns. The roles of imports and exports of core modules come from `comp_roles`, the options that a call
+//! above. The guarantees are `IsWorld` of `specs/Worlds.antt` and `HasTables` of `specs/WorldTables.antt`, which hold of
+//! every world that a lower layer returns; the encoder needs the first alone, as yet. The roles of imports and exports of core modules come from `comp_roles`, the options that a call
 //! needs from `comp_options`; this crate re-exports their names, so that its users need no other crate.
 //!
 //! In reading order: `lowerings` (how imported functions are lowered), `calls` (what core imports use), `world` (the

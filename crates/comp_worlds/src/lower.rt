@@ -3,6 +3,7 @@
 
 ghost use Rattle.std.specs.Prelude.{◌≡◌, ℕ, List, Bool, false, IfOk, IfErr, IsSome, IsOk};
 ghost use Rattle.comp_worlds.specs.Worlds.{IsWorld};
+ghost use Rattle.comp_worlds.specs.WorldTables.{HasTables};
 ghost use Rattle.comp_worlds.specs.Gathering.{HasModules};
 ghost use Rattle.comp_worlds.specs.declared.world.ComponentWorld.{ComponentWorld};
 ghost use Rattle.world_values.specs.declared.gathered.Gathered.{Gathered};
@@ -64,7 +65,8 @@ pub trait Lower {
         ensures refused { IsOk result → (f : Self.Fault) → ¬ merge_cause self.now first.now second.now f }
         ensures cause { IfErr result (λ f. memory_fault self.now f ≡ false → merge_cause self.now first.now second.now f) };
 
-    /// The validated world of what was gathered: its modules are the gathered ones, byte for byte.
+    /// The validated world of what was gathered: its modules are the gathered ones, byte for byte, and its tables are
+    /// those that follow from its parts.
     fn prepare(
         &self,
         alloc: Global,
@@ -73,6 +75,7 @@ pub trait Lower {
         requires { IsSome gathered.now.main }
         ensures ok { IfOk result (λ w. w ≡ prepared self.now gathered.now) }
         ensures valid { IfOk result IsWorld }
+        ensures tables { IfOk result HasTables }
         ensures modules { IfOk result (HasModules gathered.now) }
         ensures refused { IsOk result → (f : Self.Fault) → ¬ prepare_cause self.now gathered.now f }
         ensures cause { IfErr result (λ f. memory_fault self.now f ≡ false → prepare_cause self.now gathered.now f) };

@@ -29,8 +29,7 @@ use Rattle.comp_roles.specs.declared.imports.ImportInstance.TheVariants as insta
 use Rattle.comp_roles.specs.declared.offered.ExternType.TheVariants as externs
 use Rattle.comp_roles.specs.declared.offered.ImportType.{ImportType}
 use Rattle.comp_roles.specs.Lookups.{first_export, is_initialize, is_task_hook}
-use Rattle.world_values.specs.Items.{root_export}
-use Rattle.world_values.specs.Mentions.{function_in, root_function_at}
+use Rattle.world_values.specs.Items.{function_in, root_function_at, root_export}
 use Rattle.comp_worlds.proofs.Roles.{role_right}
 use Rattle.comp_worlds.specs.Typed.{type_of_import, type_of_export, FitsImport, FitsExport}
 use Rattle.comp_worlds.specs.Worlds.{IsWorld, IsItem, IsPlain, IsImportRole, IsImportGroup, IsExportRole, items_of, root_function, core_name_of}

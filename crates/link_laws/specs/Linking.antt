@@ -23,7 +23,7 @@ use Rattle.wit_data.specs.declared.worlds.WorldItem.{WorldItem}
 use Rattle.wit_data.specs.declared.worlds.WorldItem.TheVariants as world_items
 use Rattle.comp_roles.specs.Lookups.{first_export, is_initialize}
 use Rattle.comp_roles.specs.declared.offered.ImportType.{ImportType}
-use Rattle.world_values.specs.Mentions.{functions_of}
+use Rattle.world_values.specs.Items.{functions_of}
 use Rattle.comp_worlds.specs.declared.world.ComponentWorld.{ComponentWorld}
 use Rattle.comp_trees.specs.WitTrees.{wit_function_tree}
 use Rattle.comp_links.specs.Targets.{Main, ExportRef, Target, Lifted}

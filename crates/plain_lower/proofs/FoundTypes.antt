@@ -23,8 +23,7 @@ use Rattle.wit_data.specs.declared.signatures.WasmSignature.{WasmSignature}
 use Rattle.wit_data.specs.declared.signatures.WasmType.{WasmType}
 use Rattle.wit_data.specs.declared.signatures.WasmType.TheVariants as numbers
 use Rattle.wit_data.specs.declared.worlds.World.{World}
-use Rattle.world_values.specs.Items.{no_items}
-use Rattle.world_values.specs.Mentions.{root_function_at}
+use Rattle.world_values.specs.Items.{no_items, root_function_at}
 use Rattle.comp_roles.specs.CoreTypes.{value_type as value_of, core_type, called_type}
 use Rattle.comp_roles.specs.declared.exports.Export.{Export}
 use Rattle.comp_roles.specs.declared.exports.Export.TheVariants as exports

@@ -3,7 +3,7 @@ use Rattle.std.proofs.Common.{◌≡◌, ◌∙◌, ℕ, Bool, true, false, List
 use Rattle.std.specs.Prelude.{⊤}
 use Rattle.std.specs.Option.{option_map}
 use Rattle.comp_worlds.specs.Gathering.{gathered_module, world_module, HasModules}
-use Rattle.comp_worlds.specs.Worlds.{whole_of}
+use Rattle.comp_worlds.specs.WorldTables.{whole_of}
 use Rattle.comp_worlds.specs.declared.world.ComponentWorld.{ComponentWorld}
 use Rattle.comp_worlds.specs.declared.world.WorldParts.{WorldParts}
 use Rattle.core_sections.specs.Entries.{module_of}

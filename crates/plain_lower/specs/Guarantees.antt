@@ -4,8 +4,8 @@ use Rattle.std.specs.List.{flat_map, AllByRecursion}
 use Rattle.wit_data.specs.Sound.{IsSound}
 use Rattle.wit_data.specs.declared.ids.WorldId.{WorldId}
 use Rattle.comp_roles.specs.CoreImports.{imports_from}
-use Rattle.world_values.specs.Mentions.{HasRole}
 use Rattle.world_values.specs.Items.{no_items}
+use Rattle.world_values.specs.Mentions.{HasRole}
 use Rattle.record_versions.specs.declared.versions.MergedVersions.{MergedVersions}
 use Rattle.record_resolve.specs.declared.resolving.Resolved.{Resolved}
 use Rattle.record_resolve.specs.Resolved.{resolved, AreNamed, IsWhole}

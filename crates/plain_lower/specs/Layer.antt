@@ -4,7 +4,7 @@ use Rattle.std.specs.Prelude.{ℕ, Bool, true, false, List, [], ◌∷◌}
 use Rattle.std.specs.Result.{result_unwrap_or}
 use Rattle.world_values.specs.declared.gathered.Gathered.{Gathered}
 use Rattle.world_values.specs.declared.gathered.Merged.{Merged}
-use Rattle.comp_worlds.specs.Worlds.{whole_of}
+use Rattle.comp_worlds.specs.WorldTables.{whole_of}
 use Rattle.comp_worlds.specs.declared.world.ComponentWorld.{ComponentWorld}
 use Rattle.record_faults.specs.declared.fault.PlainFault.{PlainFault}
 use Rattle.record_faults.specs.declared.fault.PlainFault.TheVariants as faults

@@ -18,8 +18,7 @@ use Rattle.wit_data.specs.declared.worlds.World.{World}
 use Rattle.wit_data.specs.declared.worlds.WorldItem.{WorldItem}
 use Rattle.wit_data.specs.declared.worlds.WorldItem.TheVariants as items
 use Rattle.wit_data.specs.declared.worlds.WorldKey.{WorldKey}
-use Rattle.world_values.specs.Mentions.{functions_of}
-use Rattle.world_values.specs.Mentions.{function_in, root_function_at}
+use Rattle.world_values.specs.Items.{functions_of, function_in, root_function_at}
 use Rattle.record_core_types.specs.Asked.{imported_function, exported_function, function_of, returning}
 use Rattle.record_core_types.specs.Fitting.{HasFound}
 

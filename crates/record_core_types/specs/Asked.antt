@@ -22,8 +22,8 @@ use Rattle.wit_data.specs.declared.resolve.Resolve.{Resolve}
 use Rattle.wit_data.specs.declared.signatures.WasmType.{WasmType}
 use Rattle.wit_data.specs.declared.signatures.WasmType.TheVariants as numbers
 use Rattle.wit_data.specs.declared.worlds.WorldKey.{WorldKey}
-use Rattle.world_values.specs.Mentions.{functions_of}
-use Rattle.world_values.specs.Mentions.{root_function_at, interface_in}
+use Rattle.world_values.specs.Items.{functions_of, root_function_at}
+use Rattle.world_values.specs.Mentions.{interface_in}
 use Rattle.comp_roles.specs.declared.exports.Export.{Export}
 use Rattle.comp_roles.specs.declared.exports.Export.TheVariants as exports
 use Rattle.comp_roles.specs.declared.imports.Import.{Import}

@@ -2,7 +2,7 @@
 
 ghost use Rattle.std.specs.Prelude.{◌≡◌};
 ghost use Rattle.std.specs.Option.{option_copied};
-ghost use Rattle.world_values.specs.Mentions.{root_function_at};
+ghost use Rattle.world_values.specs.Items.{root_function_at};
 ghost use Rattle.record_core_types.specs.Asked.{imported_function, exported_function, function_of, exported_interface};
 
 use comp_lists::{Keyed, Text};

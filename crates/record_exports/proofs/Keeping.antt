@@ -23,8 +23,7 @@ use Rattle.wit_data.specs.declared.worlds.WorldKey.TheVariants as keys
 use Rattle.comp_roles.specs.Functions.{is_same_function}
 use Rattle.comp_roles.specs.declared.exports.Export.TheVariants as exports
 use Rattle.comp_roles.specs.declared.metadata.FunctionKey.{FunctionKey}
-use Rattle.world_values.specs.Mentions.{function_in}
-use Rattle.world_values.specs.Items.{no_items, root_export}
+use Rattle.world_values.specs.Items.{no_items, function_in, root_export}
 use Rattle.world_values.specs.declared.gathered.ExportKey.{ExportKey}
 use Rattle.world_values.specs.declared.gathered.ExportKey.TheVariants as export_keys
 use Rattle.record_values.specs.declared.names.InterfaceName.TheVariants as names

@@ -23,7 +23,7 @@ use Rattle.wit_data.specs.declared.worlds.WorldKey.TheVariants as keys
 use Rattle.comp_roles.specs.declared.exports.Export.{Export}
 use Rattle.comp_roles.specs.declared.exports.Export.TheVariants as exports
 use Rattle.comp_roles.specs.declared.offered.ExternType.{ExternType}
-use Rattle.world_values.specs.Mentions.{function_in, root_function_at}
+use Rattle.world_values.specs.Items.{function_in, root_function_at}
 use Rattle.record_values.specs.declared.names.Owner.{Owner}
 use Rattle.record_values.specs.declared.names.Owner.TheVariants as owners
 use Rattle.record_values.specs.declared.roles.ExportRole.{ExportRole}

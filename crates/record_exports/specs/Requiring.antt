@@ -8,7 +8,7 @@ use Rattle.wit_data.specs.declared.worlds.WorldItem.{WorldItem}
 use Rattle.wit_data.specs.declared.worlds.WorldItem.TheVariants as items
 use Rattle.wit_data.specs.declared.worlds.WorldKey.{WorldKey}
 use Rattle.comp_roles.specs.declared.metadata.FunctionKey.{FunctionKey}
-use Rattle.world_values.specs.Mentions.{functions_of}
+use Rattle.world_values.specs.Items.{functions_of}
 use Rattle.world_values.specs.declared.gathered.ExportKey.{ExportKey}
 use Rattle.world_values.specs.declared.gathered.ExportKey.TheVariants as export_keys
 use Rattle.record_resolve.specs.declared.resolving.Resolved.{Resolved}

@@ -4,7 +4,7 @@ ghost use Rattle.std.specs.Prelude.{◌≡◌, ◌≢◌, [], IfOk, IfErr, IsOk}
 ghost use Rattle.std.specs.List.{AllByRecursion};
 ghost use Rattle.std.specs.Option.{option_copied};
 ghost use Rattle.wit_data.specs.Sound.{IsSound};
-ghost use Rattle.world_values.specs.Mentions.{functions_of};
+ghost use Rattle.world_values.specs.Items.{functions_of};
 ghost use Rattle.record_role_targets.specs.Sides.{item_at};
 ghost use Rattle.record_role_targets.specs.declared.sides.Side.TheVariants as sides;
 ghost use Rattle.record_faults.specs.Faults.{Gives};

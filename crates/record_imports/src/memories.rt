@@ -1,7 +1,8 @@
 //! Whether all imports of the memory accept the one that is given to the first.
 
 ghost use Rattle.std.specs.Prelude.{◌≡◌, map, Err};
-ghost use Rattle.comp_roles.specs.Lookups.{core_import, memory_of_import};
+ghost use Rattle.comp_roles.specs.Borrowed.{core_import};
+ghost use Rattle.comp_roles.specs.Lookups.{memory_of_import};
 ghost use Rattle.record_faults.specs.Faults.{Gives};
 ghost use Rattle.record_imports.specs.Memories.{fits_maximum, fits_memory, takes, unfit_memory, all_take, memories_fit};
 

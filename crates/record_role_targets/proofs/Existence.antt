@@ -15,8 +15,7 @@ use Rattle.wit_data.specs.declared.worlds.World.{World}
 use Rattle.wit_data.specs.declared.worlds.WorldItem.{WorldItem}
 use Rattle.wit_data.specs.declared.worlds.WorldItem.TheVariants as items
 use Rattle.wit_data.specs.declared.worlds.WorldKey.{WorldKey}
-use Rattle.world_values.specs.Mentions.{functions_of}
-use Rattle.world_values.specs.Mentions.{function_in}
+use Rattle.world_values.specs.Items.{functions_of, function_in}
 use Rattle.record_resolve.specs.declared.resolving.Resolved.{Resolved}
 use Rattle.record_role_targets.specs.declared.sides.Side.{Side}
 use Rattle.record_role_targets.specs.declared.sides.Side.TheVariants as sides

@@ -3,8 +3,7 @@
 use Rattle.std.specs.Prelude.{ℕ, List, Option, Some, None, option_map}
 use Rattle.std.specs.Option.{option_and_then}
 use Rattle.comp_lists.specs.Found.{found}
-use Rattle.world_values.specs.Mentions.{functions_of}
-use Rattle.world_values.specs.Mentions.{function_in}
+use Rattle.world_values.specs.Items.{functions_of, function_in}
 use Rattle.wit_data.specs.Live.{named_types}
 use Rattle.wit_data.specs.declared.functions.Function.{Function}
 use Rattle.wit_data.specs.declared.ids.InterfaceId.{InterfaceId}

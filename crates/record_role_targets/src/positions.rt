@@ -3,8 +3,7 @@
 ghost use Rattle.std.specs.Prelude.{◌≡◌, IfOk, Some, option_map};
 ghost use Rattle.std.specs.Option.{option_copied, option_and_then};
 ghost use Rattle.comp_lists.specs.Found.{found};
-ghost use Rattle.world_values.specs.Mentions.{functions_of};
-ghost use Rattle.world_values.specs.Mentions.{function_in};
+ghost use Rattle.world_values.specs.Items.{functions_of, function_in};
 ghost use Rattle.wit_data.specs.Live.{named_types};
 ghost use Rattle.record_role_targets.specs.Sides.{item_at, interface_of};
 ghost use Rattle.record_role_targets.specs.Keys.{interface_key};

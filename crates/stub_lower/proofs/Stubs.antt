@@ -13,6 +13,8 @@ use Rattle.world_values.specs.Mentions.{HasRole}
 use Rattle.comp_worlds.specs.Uses.{all_imports}
 use Rattle.core_types.specs.Core.{core_preamble}
 use Rattle.comp_worlds.specs.Worlds.{IsWorld}
+use Rattle.comp_worlds.specs.WorldTables.{HasTables}
+use Rattle.comp_worlds.proofs.WholeTables.{whole_has_tables}
 use Rattle.comp_encoder.specs.Encoder.{main_bytes}
 use Rattle.wit_data.specs.Values.{values_from}
 use Rattle.wit_data.specs.Sizes.{AreSmall}
@@ -75,13 +77,14 @@ valid_of bytes core = record {
   };
   adapters = tt;
   alone = refl;
-  import_map = refl;
-  live_type_imports = refl;
-  exports_used = refl;
 }
 
 pub valid : (w : ComponentWorld) (bytes : List ℕ) → w ≡ stub_world bytes → take 8 bytes ≡ core_preamble → IsWorld w
 valid w bytes is core = subst IsWorld (sym is) (valid_of bytes core)
+
+pub tables : (w : ComponentWorld) (bytes : List ℕ) → w ≡ stub_world bytes → HasTables w
+unfolding stub_world
+tables w bytes is = whole_has_tables (stub_parts bytes) w is
 
 pub no_cause : (g : Gathered ⊤) (f : StubFault) → (take 8 (main_bytes g.main) ≡ core_preamble) × (g.adapters ≡ []) → ¬ PrepareCause layers.NoEncoding g f
 no_cause g faults.Memory core h = h

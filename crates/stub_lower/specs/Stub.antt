@@ -17,7 +17,7 @@ use Rattle.wit_data.specs.declared.functions.AbiVariant.TheVariants.{GuestImport
 use Rattle.comp_worlds.specs.declared.world.ComponentWorld.{ComponentWorld}
 use Rattle.comp_worlds.specs.declared.world.WorldParts.{WorldParts}
 use Rattle.core_types.specs.Core.{core_preamble}
-use Rattle.comp_worlds.specs.Worlds.{whole_of}
+use Rattle.comp_worlds.specs.WorldTables.{whole_of}
 use Rattle.comp_encoder.specs.Encoder.{main_bytes}
 use Rattle.stub_lower.specs.declared.stub.StubLower.{StubLower}
 use Rattle.stub_lower.specs.declared.stub.StubLower.TheVariants as layers

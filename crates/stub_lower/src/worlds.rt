@@ -4,6 +4,7 @@ ghost use Rattle.std.specs.Prelude.{◌≡◌, IfOk, take};
 ghost use Rattle.stub_lower.specs.Stub.{stub_role, stub_fields, stub_imports, stub_imported, stub_items, stub_resolve, stub_parts, stub_world};
 ghost use Rattle.core_types.specs.Core.{core_preamble};
 ghost use Rattle.comp_worlds.specs.Worlds.{IsWorld};
+ghost use Rattle.comp_worlds.specs.WorldTables.{HasTables};
 
 use comp_lists::{Keyed, Seq, Text};
 use comp_roles::ImportType;
@@ -141,6 +142,7 @@ pub(crate) fn world(alloc: Global, bytes: &[u8]) -> Result<ComponentWorld, Alloc
     requires { take 8 bytes.now ≡ core_preamble }
     ensures ok { IfOk result (λ w. w ≡ stub_world bytes.now) }
     ensures valid { IfOk result IsWorld }
+    ensures tables { IfOk result HasTables }
 {
     world_of(alloc, bytes)
 }

@@ -32,10 +32,10 @@ use Rattle.comp_roles.specs.declared.imports.Import.TheVariants as imports
 use Rattle.comp_roles.specs.declared.imports.ImportInstance.{ImportInstance}
 use Rattle.comp_roles.specs.declared.imports.ImportInstance.TheVariants as instances
 use Rattle.comp_roles.specs.declared.offered.ImportType.{ImportType}
-use Rattle.world_values.specs.Mentions.{function_in, root_function_at}
-use Rattle.world_values.specs.Items.{no_items}
+use Rattle.world_values.specs.Items.{no_items, function_in, root_function_at}
 use Rattle.comp_worlds.specs.Typed.{type_of_import, type_of_export, FitsImport, FitsExport}
-use Rattle.comp_worlds.specs.Worlds.{root_function, core_name_in, IsWorld, IsUserModule, IsPlain, IsItem, IsImportRole, IsImportGroup, IsExportRole, IsRequired, whole_of}
+use Rattle.comp_worlds.specs.Worlds.{root_function, core_name_in, IsWorld, IsUserModule, IsPlain, IsItem, IsImportRole, IsImportGroup, IsExportRole, IsRequired}
+use Rattle.comp_worlds.specs.WorldTables.{whole_of}
 use Rattle.comp_worlds.specs.declared.world.WorldAdapter.{WorldAdapter}
 use Rattle.comp_worlds.specs.declared.world.ComponentWorld.{ComponentWorld}
 use Rattle.comp_worlds.specs.declared.world.WorldParts.{WorldParts}
@@ -283,9 +283,6 @@ module _ (p : WorldParts) (present : HasSoundParts p) (encoded : IsEncoded p) (a
     main = main_is;
     adapters = subst (λ (all : List (List ℕ × WorldAdapter)). AllByRecursion (λ a. IsUserModule (whole_of p) a.1.info a.1.required_exports) all) (sym encoded.alone) tt;
     alone = encoded.alone;
-    import_map = refl;
-    live_type_imports = refl;
-    exports_used = refl;
   }
 
 -- the world of these parts is a world

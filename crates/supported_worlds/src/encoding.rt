@@ -3,6 +3,7 @@
 ghost use Rattle.std.specs.Prelude.{◌≡◌, ◌≢◌, ◌<◌, length, IfOk, IfErr, IsOk, None};
 ghost use Rattle.std.specs.Option.{option_copied};
 ghost use Rattle.comp_worlds.specs.Worlds.{IsWorld};
+ghost use Rattle.comp_worlds.specs.WorldTables.{HasTables};
 ghost use Rattle.record_faults.specs.Faults.{Gives};
 ghost use Rattle.record_faults.specs.declared.fault.Failure.TheVariants as failures;
 ghost use Rattle.record_faults.specs.declared.fault.Refusal.{Refusal as RefusalValue};
@@ -57,11 +58,12 @@ fn left_out(parts: &WorldParts) -> Option<&'static str>
 }
 
 /// The world of these parts, unless something of it is left out.
-#[tactic(auto, unfolding(crate::specs::LeftOut::encoded), using(crate::proofs::Valid::is_world))]
+#[tactic(auto, unfolding(crate::specs::LeftOut::encoded), using(crate::proofs::Valid::is_world, comp_worlds::proofs::WholeTables::whole_has_tables))]
 fn unless_left_out(alloc: Global, parts: WorldParts) -> Result<ComponentWorld, Failure>
     requires { HasSoundParts parts }
     ensures exact { Gives (λ w. w) result (encoded parts) }
     ensures valid { IfOk result IsWorld }
+    ensures tables { IfOk result HasTables }
 {
     match left_out(&parts) {
         Some(what) => {
@@ -87,6 +89,7 @@ pub fn encoded_world(alloc: Global, parts: WorldParts) -> Result<ComponentWorld,
     requires { HasSoundParts parts }
     ensures exact { Gives (λ w. w) result (encoded parts) }
     ensures valid { IfOk result IsWorld }
+    ensures tables { IfOk result HasTables }
     ensures refused { IsOk result → (f : RefusalValue) → IsLeftOut parts f → ⊥ }
     ensures cause { IfErr result (λ e. (f : RefusalValue) → e ≡ failures.Refused f → IsLeftOut parts f) }
 {

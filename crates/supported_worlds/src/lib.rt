@@ -6,7 +6,7 @@
 //! Everything else is refused by the name of its kind (`specs/LeftOut.antt` and `specs/Kinds.antt` are
 //! the tables, `specs/Causes.antt` says when a refusal is right).
 //!
-//! Every world that is returned satisfies `comp_worlds`' `IsWorld`. What must be known of the parts for
+//! Every world that is returned satisfies `comp_worlds`' `IsWorld` and `HasTables`. What must be known of the parts for
 //! that is `specs/Guarantees.antt`; that no key occurs twice follows from the tables themselves. When the
 //! encoder can build more, only this crate changes.
 //!

@@ -25,8 +25,8 @@ use Rattle.wit_data.specs.declared.worlds.WorldItem.TheVariants as items
 use Rattle.wit_data.specs.declared.worlds.WorldKey.{WorldKey}
 use Rattle.wit_data.proofs.Values.{all_at}
 use Rattle.comp_roles.specs.CoreImports.{CoreImport}
-use Rattle.world_values.specs.Mentions.{functions_of}
-use Rattle.world_values.specs.Mentions.{at_most_one, resource_of, function_types, types_of_function, interface_types, imported_payload, payload_in, function_in, root_function_at, role_types, HasRole, import_types, export_types, used_types}
+use Rattle.world_values.specs.Items.{functions_of, function_in, root_function_at}
+use Rattle.world_values.specs.Mentions.{at_most_one, resource_of, function_types, types_of_function, interface_types, imported_payload, payload_in, role_types, HasRole, import_types, export_types, used_types}
 use Rattle.comp_roles.specs.declared.imports.Import.{Import}
 use Rattle.comp_roles.specs.declared.imports.Import.TheVariants as imports
 

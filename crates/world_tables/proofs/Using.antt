@@ -19,7 +19,7 @@ use Rattle.wit_data.specs.declared.worlds.WorldItem.TheVariants as items
 use Rattle.wit_data.specs.declared.worlds.WorldKey.{WorldKey}
 use Rattle.comp_roles.specs.CoreImports.{CoreImport}
 use Rattle.comp_worlds.specs.Imported.{Imported, lowering_of, called_as, function_lowerings, drop_lowerings, root_lowerings, interface_lowerings, root_entry, interface_entry, imported, is_same_import_key}
-use Rattle.world_values.specs.Mentions.{functions_of}
+use Rattle.world_values.specs.Items.{functions_of}
 use Rattle.comp_worlds.specs.Lowerings.{is_same_lowering}
 use Rattle.world_values.specs.Tables.{with_all}
 use Rattle.comp_worlds.specs.Uses.{Used, IsUsed, used_in, used_by, call_at, calls_in, drops_in, is_same_call}

@@ -7,9 +7,9 @@ ghost use Rattle.comp_lists.specs.Found.{found};
 ghost use Rattle.wit_data.specs.Live.{named_types};
 ghost use Rattle.wit_data.specs.Sound.{IsSound, HasInterface, HasAll, HasItem, HasEntry, HasType, HasWorld};
 ghost use Rattle.wit_data.specs.declared.types.Type.TheVariants.{Id};
-ghost use Rattle.world_values.specs.Mentions.{functions_of};
-ghost use Rattle.comp_roles.specs.Lookups.{core_import};
-ghost use Rattle.world_values.specs.Mentions.{at_most_one, resource_of, function_types, types_of_function, interface_types, payload_in, payload_type, imported_payload, function_in, root_function_at, role_types, import_types, export_types, used_types, HasRole};
+ghost use Rattle.world_values.specs.Items.{functions_of, function_in, root_function_at};
+ghost use Rattle.world_values.specs.Mentions.{at_most_one, resource_of, function_types, types_of_function, interface_types, payload_in, payload_type, imported_payload, role_types, import_types, export_types, used_types, HasRole};
+ghost use Rattle.comp_roles.specs.Borrowed.{core_import};
 
 use comp_lists::{Keyed, Text};
 use comp_roles::{Import, NamedImport, PayloadInfo, PayloadType};

@@ -4,7 +4,8 @@ ghost use Rattle.std.specs.Prelude.{◌≡◌, is_some, map, get_or, false, IfOk
 ghost use Rattle.std.specs.List.{flat_map, AllByRecursion};
 ghost use Rattle.wit_data.specs.Sound.{IsSound, HasWorld};
 ghost use Rattle.comp_worlds.specs.Imported.{imported};
-ghost use Rattle.comp_roles.specs.Lookups.{core_import, imported_memory};
+ghost use Rattle.comp_roles.specs.Borrowed.{core_import};
+ghost use Rattle.comp_roles.specs.Lookups.{imported_memory};
 ghost use Rattle.world_values.specs.Mentions.{HasRole, live_type_imports, exports_used};
 ghost use Rattle.comp_worlds.specs.Uses.{used_by, all_imports};
 

@@ -4,7 +4,7 @@ ghost use Rattle.std.specs.Prelude.{◌≡◌, [], nat_eq, map, IfOk, OnOk};
 ghost use Rattle.std.specs.List.{flat_map};
 ghost use Rattle.world_values.specs.Tables.{with_all};
 ghost use Rattle.comp_worlds.specs.Uses.{all_imports, call_at, calls_in, drops_in, is_same_call, IsUsed, used_in, used_by};
-ghost use Rattle.comp_roles.specs.Lookups.{core_import};
+ghost use Rattle.comp_roles.specs.Borrowed.{core_import};
 
 use comp_lists::{Keyed, Text, TryClone};
 use comp_roles::{Import, NamedImport};

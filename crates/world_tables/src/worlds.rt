@@ -4,9 +4,9 @@ ghost use Rattle.std.specs.Prelude.{◌≡◌, ◌<◌, length, get_or, IfOk};
 ghost use Rattle.std.specs.List.{AllByRecursion};
 ghost use Rattle.wit_data.specs.Sound.{IsSound, HasWorld};
 ghost use Rattle.comp_worlds.specs.Uses.{all_imports};
-ghost use Rattle.world_values.specs.Mentions.{HasRole};
 ghost use Rattle.world_values.specs.Items.{no_items};
-ghost use Rattle.comp_worlds.specs.Worlds.{whole_of};
+ghost use Rattle.world_values.specs.Mentions.{HasRole};
+ghost use Rattle.comp_worlds.specs.WorldTables.{whole_of};
 
 use crate::tables::tables_of;
 use comp_worlds::{ComponentWorld, WorldParts};

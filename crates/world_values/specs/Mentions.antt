@@ -1,12 +1,11 @@
 -- The types that functions, interfaces and core imports name, and the tables that follow from them (component model,
 -- binary format: an instance type declares each type that its functions and types name).
-use Rattle.std.specs.Prelude.{ℕ, suc, Bool, ◌&&◌, ◌==◌, not, if◌then◌else◌, List, [], ◌∷◌, ◌++◌, map, filter, Option, Some, None, is_some, unwrap_or, option_map, slice_get}
+use Rattle.std.specs.Prelude.{ℕ, suc, Bool, ◌&&◌, ◌==◌, not, if◌then◌else◌, List, [], ◌∷◌, ◌++◌, map, filter, Option, Some, None, is_some}
 use Rattle.std.specs.List.{flat_map, filter_map}
 use Rattle.std.specs.Map.{lookup}
-use Rattle.std.specs.Option.{option_and_then}
 use Rattle.comp_lists.specs.Found.{found}
+use Rattle.world_values.specs.Items.{functions_of, root_function_at}
 use Rattle.world_values.specs.Tables.{with_all}
-use Rattle.wit_data.specs.Keys.{is_same_key}
 use Rattle.wit_data.specs.Live.{is_live, named_types}
 use Rattle.wit_data.specs.Sound.{HasType, HasTypeId, HasFunction}
 use Rattle.wit_data.specs.declared.functions.Function.{Function}
@@ -56,10 +55,6 @@ abbrev pub types_of_function : Option Function → List Ty
 types_of_function None = []
 types_of_function (Some f) = function_types f
 
--- the functions of an interface by name, in its order
-abbrev pub functions_of : Resolve → InterfaceId → List (List ℕ × Function)
-functions_of r id = unwrap_or (option_map (λ i. i.functions) (slice_get r.interfaces id.index)) []
-
 -- an interface: its types, and what its functions name
 abbrev pub interface_types : Resolve → InterfaceId → List Ty
 interface_types r id = map (λ t. Id t.1) (named_types r id) ++ flat_map (λ f. function_types f.1) (functions_of r id)
@@ -90,14 +85,6 @@ payload_type unit = None
 abbrev pub imported_payload : Option PayloadInfo → Option Ty
 imported_payload None = None
 imported_payload (Some p) = if p.imported then payload_type p.ty else None
-
-abbrev pub function_in : WorldItem → Option Function
-function_in (items.Function f) = Some f
-function_in item = None
-
--- the function that the world imports at its root at a key
-abbrev pub root_function_at : List (WorldKey × WorldItem) → WorldKey → Option Function
-root_function_at entries key = option_and_then function_in (lookup (is_same_key key) entries)
 
 -- a core import: the imported function or resource drop that is its role, or the imported stream or future
 abbrev pub role_types : Resolve → List (WorldKey × WorldItem) → Import → List Ty

@@ -1,5 +1,5 @@
 use Rattle.std.proofs.Common.{◌≡◌, ◌++◌, map}
-use Rattle.comp_roles.specs.Lookups.{core_import, field_imports}
+use Rattle.comp_roles.specs.Borrowed.{core_import, field_imports}
 use Rattle.comp_roles.proofs.imports.add_fields.Given as goal
 
 abbrev pub invariant-loop-field : goal.invariant-loop-field

@@ -1,5 +1,5 @@
 use Rattle.std.proofs.Common.{◌≡◌, drop, map}
-use Rattle.comp_roles.specs.Lookups.{core_import}
+use Rattle.comp_roles.specs.Borrowed.{core_import}
 use Rattle.record_imports.specs.Memories.{all_take}
 use Rattle.record_imports.proofs.memories.all_take.Given as goal
 

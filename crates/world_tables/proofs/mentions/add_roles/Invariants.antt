@@ -1,6 +1,6 @@
 use Rattle.std.proofs.Common.{◌≡◌, ◌++◌, map, drop}
 use Rattle.std.specs.List.{flat_map}
-use Rattle.comp_roles.specs.Lookups.{core_import}
+use Rattle.comp_roles.specs.Borrowed.{core_import}
 use Rattle.world_values.specs.Mentions.{role_types}
 use Rattle.world_tables.proofs.mentions.add_roles.Given as goal
 

@@ -1,5 +1,5 @@
 use Rattle.std.proofs.Common.{map}
-use Rattle.comp_roles.specs.Lookups.{core_import}
+use Rattle.comp_roles.specs.Borrowed.{core_import}
 use Rattle.world_tables.proofs.Exists.{used_listed_exist}
 use Rattle.world_tables.proofs.mentions.used_types.Goals as goal
 

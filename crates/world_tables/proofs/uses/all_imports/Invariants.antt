@@ -1,6 +1,6 @@
 use Rattle.std.proofs.Common.{◌≡◌, ◌++◌, map}
 use Rattle.std.specs.List.{flat_map}
-use Rattle.comp_roles.specs.Lookups.{core_import}
+use Rattle.comp_roles.specs.Borrowed.{core_import}
 use Rattle.comp_worlds.specs.Uses.{imports_of, all_imports}
 use Rattle.world_tables.proofs.uses.all_imports.Given as goal
 

@@ -1,7 +1,7 @@
 use Rattle.std.proofs.Common.{◌≡◌, [], map, drop}
 use Rattle.std.specs.List.{flat_map}
 use Rattle.world_values.specs.Tables.{with_all}
-use Rattle.comp_roles.specs.Lookups.{core_import}
+use Rattle.comp_roles.specs.Borrowed.{core_import}
 use Rattle.comp_worlds.specs.Uses.{calls_in, is_same_call}
 use Rattle.world_tables.proofs.uses.calls_of.Given as goal
 

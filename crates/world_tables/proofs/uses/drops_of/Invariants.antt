@@ -1,7 +1,7 @@
 use Rattle.std.proofs.Common.{◌≡◌, [], map, drop, nat_eq}
 use Rattle.std.specs.List.{flat_map}
 use Rattle.world_values.specs.Tables.{with_all}
-use Rattle.comp_roles.specs.Lookups.{core_import}
+use Rattle.comp_roles.specs.Borrowed.{core_import}
 use Rattle.comp_worlds.specs.Uses.{drops_in}
 use Rattle.world_tables.proofs.uses.drops_of.Given as goal
 

@@ -1,5 +1,5 @@
 use Rattle.std.proofs.Common.{rules, map, refl}
-use Rattle.comp_roles.specs.Lookups.{core_import}
+use Rattle.comp_roles.specs.Borrowed.{core_import}
 use Rattle.world_tables.proofs.Using.{uses_are}
 use Rattle.world_tables.proofs.uses.uses_of.Goals as goal
 

@@ -1,5 +1,5 @@
 use Rattle.std.proofs.Common.{◌≡◌}
-use Rattle.comp_roles.specs.Lookups.{first_abi}
+use Rattle.comp_roles.specs.FunctionExports.{first_abi}
 use Rattle.comp_roles.proofs.exports.ExportMap.abi.Given as goal
 
 abbrev pub invariant-loop-export : goal.invariant-loop-export

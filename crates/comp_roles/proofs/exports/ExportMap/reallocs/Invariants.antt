@@ -1,5 +1,5 @@
 use Rattle.std.proofs.Common.{◌≡◌, ◌++◌, map}
-use Rattle.comp_roles.specs.Lookups.{realloc_names}
+use Rattle.comp_roles.specs.Reallocs.{realloc_names}
 use Rattle.comp_roles.proofs.exports.ExportMap.reallocs.Given as goal
 
 abbrev pub invariant-loop-name : goal.invariant-loop-name

@@ -1,7 +1,7 @@
 use Rattle.std.proofs.Common.{◌≡◌, ◌++◌, map}
 use Rattle.std.specs.List.{flat_map}
 use Rattle.comp_roles.specs.CoreImports.{imports_from}
-use Rattle.comp_roles.specs.Lookups.{core_import}
+use Rattle.comp_roles.specs.Borrowed.{core_import}
 use Rattle.comp_roles.proofs.imports.ImportMap.add_imports.Given as goal
 
 abbrev pub invariant-loop-from : goal.invariant-loop-from
