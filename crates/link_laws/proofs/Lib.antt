@@ -16,4 +16,5 @@ mod ShimsLink
 mod ShimsComposed
 mod WorkedAdapter
 mod WorkedAdapterLinked
+mod WorkedInstances
 mod NotComposed

@@ -109,7 +109,7 @@ pub record Ended : Type 0 where
   pub exported : List Export
   pub events : List Event
 
-abbrev ended : Outcome → Option Ended
+abbrev pub ended : Outcome → Option Ended
 ended (Done m) = Some (record { code = m.store.code.functions; known = m.store.known; functions = m.store.functions; users = m.store.module_instances; exported = m.scope.exports; events = m.now.events })
 ended _ = None
 
