@@ -13,7 +13,7 @@ pub struct ValidatedModule {
     pub bytes: Bytes,
     pub imports: ImportMap,
     pub exports: ExportMap,
-    /// The core imports with their types, in the module's order.
+    /// The core imports with their types, in the module's order; those of types that can't be given are left out.
     pub imported: Seq<ImportType>,
     /// The types of the core exports that others may use, by their names: those whose types are made of the
     /// four number types, references to any function, and tables and memories with limits below 2^32.
