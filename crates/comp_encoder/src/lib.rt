@@ -3,11 +3,11 @@
 //! An encoder is generic in its lower layer, the trait [`Lower`] of `comp_worlds`: that reads a module's
 //! metadata, merges the metadata of several modules, and prepares the validated world.
 //!
-//! The guarantees: the state of an encoder after each call (`specs/Encoder.antt`), when a call
+//! The guarantees: the state of an encoder after each call (`specs/Calls.antt`), when a call
 //! refuses (`specs/Refusals.antt`), and what the bytes that `encode` returns are to the validated
-//! world (`IsComponentOf` in `specs/Component.antt`): they encode a list of definitions that links when
-//! it is run (`specs/Linking.antt`; the machine is in `specs/Machine.antt`, `Instances`, `Signatures`
-//! and `Running`, over the core code of `core_runs`). A refusal leaves the encoder unchanged.
+//! world (`IsComponentOf` in `specs/Component.antt`): they encode a list of definitions that is composed as
+//! the world says, and links when it is run (`link_laws`; the machine is in `comp_runs`, over the core code
+//! of `core_runs`). A refusal leaves the encoder unchanged.
 //!
 //! In reading order: `fault` (why a call refuses), `output` (the component of a world, as bytes),
 //! `encoder` (the calls). Nothing here depends on files, nor on how a lower layer gets its results.
