@@ -1,0 +1,124 @@
+-- What holds in a scope holds after it grew, and what is found in a table keeps what its entries keep.
+use Rattle.std.proofs.Common.{◌≡◌, ℕ, Bool, true, false, ◌+◌, ◌<◌, List, [], ◌∷◌, ◌++◌, length, get_or, map, refl, ap, subst, ◌∙◌, sym, arith, append_assoc, append-nil, Option, Some, None, cond, if◌then◌else◌, is_some}
+use Rattle.std.specs.List.{AllByRecursion}
+use Rattle.std.specs.Option.{IfSome}
+use Rattle.std.specs.Prelude.{IfOk, Result, Ok, Err}
+use Rattle.byte_encoding.specs.declared.fault.BuildFault.{BuildFault}
+use Rattle.std.specs.Map.{lookup}
+use Rattle.std.proofs.lemmas.List.{length-append, get_or_append_left}
+use Rattle.comp_lists.specs.Tables.{with_first}
+use Rattle.comp_lists.proofs.Lists.{AllByRecursion-push, AllByRecursion-weaker}
+use Rattle.comp_bytes.specs.References.{Reference, own, value_references}
+use Rattle.comp_bytes.specs.declared.space.Space.TheVariants as spaces
+use Rattle.comp_bytes.specs.declared.types.ComponentValType.{ComponentValType}
+use Rattle.comp_bytes.specs.declared.types.ComponentValType.TheVariants as values
+use Rattle.comp_trees.specs.Trees.{Tree}
+use Rattle.comp_trees.specs.DefinedTrees.{TypeTree, OfValues, OfOthers, values_of, value_tree}
+use Rattle.wit_data.specs.declared.ids.TypeId.{TypeId}
+use Rattle.wit_data.specs.declared.types.Type.TheVariants.{Id}
+use Rattle.wit_types.specs.declared.maps.TypeEncodingMaps.{TypeEncodingMaps}
+use Rattle.wit_types.specs.Settings.{Setting, tree_in}
+use Rattle.wit_types.specs.Denoting.{Longer, Denotes, ValueDenotes, Makes, MayMake}
+use Rattle.wit_types.specs.Maps.{Faithful}
+use Rattle.wit_types.proofs.SameKeys.{IsOne, one_id, one_kind, one_key}
+use Rattle.wit_data.specs.declared.types.TypeDefKind.{TypeDefKind}
+use Rattle.wit_data.specs.Parts.{parts}
+use Rattle.comp_trees.specs.WitTrees.{kind_tree}
+use Rattle.wit_data.specs.contracts.ids.TypeIdPartialEq.TheImpl as id_eq
+use Rattle.wit_data.specs.contracts.types.TypeDefKindPartialEq.TheImpl as kind_eq
+
+pub longer_none : (ts : List TypeTree) → Longer ts ts
+longer_none ts = record { more = []; longer = sym (append-nil ts) }
+
+pub longer_on : {a b c : List TypeTree} → Longer a b → Longer b c → Longer a c
+longer_on {a = a} g h = record { more = g.more ++ h.more; longer = h.longer ∙ (ap (λ m. m ++ h.more) g.longer ∙ append_assoc a g.more h.more) }
+
+pub denotes_on : {old new : List TypeTree} {i : ℕ} {t : TypeTree} → Longer old new → Denotes old i t → Denotes new i t
+denotes_on {old = old} {new = new} {i = i} {t = t} g d =
+    subst (λ ts. Denotes ts i t) (sym g.longer)
+      (record { stands = let s = d.stands in omega (arith, s, length-append old g.more)
+              ; tree = get_or_append_left old g.more OfOthers i d.stands ∙ d.tree })
+
+pub denotes_as : {old new : List TypeTree} {i : ℕ} {t u : TypeTree} → Denotes old i t → new ≡ old → t ≡ u → Denotes new i u
+denotes_as {old = old} {new = new} {i = i} {t = t} {u = u} d e f = subst (λ ts. Denotes ts i u) (sym e) (subst (λ v. Denotes old i v) f d)
+
+pub value_of_index : {scope : List TypeTree} {i : ℕ} {t : Tree} → Denotes scope i (OfValues t) → ValueDenotes scope (values.Defined i) t
+value_of_index d = record { is = d }
+
+pub value_on : {old new : List TypeTree} {v : ComponentValType} {t : Tree} → Longer old new → ValueDenotes old v t → ValueDenotes new v t
+value_on {v = values.Primitive p} g d = record { is = d.is }
+value_on {v = values.Defined i} g d = record { is = denotes_on g d.is }
+
+pub faithful_on : {s : Setting} {old new : List TypeTree} {maps : TypeEncodingMaps} → Longer old new → Faithful s old maps → Faithful s new maps
+faithful_on {maps = maps} g f =
+    record {
+      ids = AllByRecursion-weaker (λ e d. denotes_on g d) maps.id_to_index f.ids;
+      kinds = AllByRecursion-weaker (λ e d n. denotes_on g (d n)) maps.def_to_index f.kinds;
+      functions = AllByRecursion-weaker (λ e d. denotes_on g d) maps.func_type_map f.functions;
+    }
+
+pub value_as : {scope : List TypeTree} {v : ComponentValType} {t u : Tree} → ValueDenotes scope v t → t ≡ u → ValueDenotes scope v u
+value_as {scope = scope} {v = v} d e = subst (λ x. ValueDenotes scope v x) e d
+
+pub result_as : (scope : List TypeTree) (r : Result ComponentValType BuildFault) (t u : Tree) → IfOk r (λ v. ValueDenotes scope v t) → t ≡ u → IfOk r (λ v. ValueDenotes scope v u)
+result_as scope r t u h e = subst (λ x. IfOk r (λ v. ValueDenotes scope v x)) e h
+
+-- tables that stay the same are faithful in a scope that grew
+pub faithful_after : (s t : Setting) (old new : List TypeTree) (maps now : TypeEncodingMaps) → Faithful s old maps → Longer old new → t ≡ s → now ≡ maps → Faithful t new now
+faithful_after s t old new maps now f g same kept = subst (λ r. Faithful r new now) (sym same) (subst (λ m. Faithful s new m) (sym kept) (faithful_on g f))
+
+-- the same of what a call that defines a type leaves
+pub faithful_then : (s t : Setting) (old new : List TypeTree) (maps now : TypeEncodingMaps) (r : Result ℕ BuildFault) (made : TypeTree) → Faithful s old maps → Makes old new r made → t ≡ s → now ≡ maps → Faithful t new now
+faithful_then s t old new maps now (Ok i) made f m same kept = faithful_after s t old new maps now f m.0 same kept
+faithful_then s t old new maps now (Err e) made f m same kept = faithful_after s t old new maps now f m same kept
+
+pub faithful_maybe : (s t : Setting) (old new : List TypeTree) (maps now : TypeEncodingMaps) (r : Result (Option ℕ) BuildFault) (made : TypeTree) → Faithful s old maps → MayMake old new r made → t ≡ s → now ≡ maps → Faithful t new now
+faithful_maybe s t old new maps now (Ok (Some i)) made f m same kept = faithful_after s t old new maps now f m.0 same kept
+faithful_maybe s t old new maps now (Ok None) made f m same kept = faithful_after s t old new maps now f m same kept
+faithful_maybe s t old new maps now (Err e) made f m same kept = faithful_after s t old new maps now f m same kept
+
+value_there : {X : Type 0} (x y : X) → Some x ≡ Some y → x ≡ y
+value_there x y h = cc
+
+module _ {K X : Type 0} (eq : K → K → Bool) (one : IsOne eq) (P : K × X → Type 0) (k : K) where
+  pub holds_of_found : (es : List (K × X)) (x : X) → AllByRecursion P es → lookup (eq k) es ≡ Some x → P (k, x)
+  holds_of_found [] x all h = cc
+  holds_of_found (e ∷ es) x all h = by (eq k e.0) refl (holds_of_found es x all.1) h
+    where
+      by : (b : Bool) → eq k e.0 ≡ b → (lookup (eq k) es ≡ Some x → P (k, x)) → cond b (Some e.1) (lookup (eq k) es) ≡ Some x → P (k, x)
+      by true same later h = subst P (sym (ap (λ z. (z, e.1)) (one k e.0 same)) ∙ ap (λ z. (k, z)) (value_there e.1 x h)) all.0
+      by false same later h = later h
+
+pub holds_of_added : {K X : Type 0} (eq : K → K → Bool) (P : K × X → Type 0) (es : List (K × X)) (k : K) (x : X) → AllByRecursion P es → P (k, x) → AllByRecursion P (with_first eq es k x)
+holds_of_added eq P es k x all h = by (is_some (lookup (eq k) es))
+  where
+    by : (b : Bool) → AllByRecursion P (if b then es else es ++ (k, x) ∷ [])
+    by true = all
+    by false = AllByRecursion-push P es (k, x) all h
+
+-- what the tables of a scope have denotes the types of their keys
+pub id_found : {s : Setting} {scope : List TypeTree} {maps : TypeEncodingMaps} (id : TypeId) (o : Option ℕ) → Faithful s scope maps → o ≡ lookup (id_eq.eq-value.it id) maps.id_to_index → IfSome o (λ index. Denotes scope index (OfValues (tree_in s (Some (Id id)))))
+id_found id None f e = tt
+id_found {s = s} {scope = scope} {maps = maps} id (Some i) f e =
+    holds_of_found id_eq.eq-value.it one_id (λ p. Denotes scope p.1 (OfValues (tree_in s (Some (Id p.0))))) id maps.id_to_index i f.ids (sym e)
+
+pub kind_found : {s : Setting} {scope : List TypeTree} {maps : TypeEncodingMaps} (kind : TypeDefKind) (o : Option ℕ) → Faithful s scope maps → o ≡ lookup (kind_eq.eq-value.it kind) maps.def_to_index → IfSome o (λ index. (n : ℕ) → Denotes scope index (OfValues (kind_tree s.origin n kind (map (tree_in s) (parts kind)))))
+kind_found kind None f e = tt
+kind_found {s = s} {scope = scope} {maps = maps} kind (Some i) f e =
+    holds_of_found kind_eq.eq-value.it one_kind (λ p. (n : ℕ) → Denotes scope p.1 (OfValues (kind_tree s.origin n p.0 (map (tree_in s) (parts p.0))))) kind maps.def_to_index i f.kinds (sym e)
+
+pub id_added : {s : Setting} {scope : List TypeTree} {maps : TypeEncodingMaps} (id : TypeId) (index : ℕ) → Faithful s scope maps → Denotes scope index (OfValues (tree_in s (Some (Id id)))) → Faithful s scope (record maps { id_to_index = with_first id_eq.eq-value.it maps.id_to_index id index })
+id_added {s = s} {scope = scope} {maps = maps} id index f d =
+    record {
+      ids = holds_of_added id_eq.eq-value.it (λ p. Denotes scope p.1 (OfValues (tree_in s (Some (Id p.0))))) maps.id_to_index id index f.ids d;
+      kinds = f.kinds;
+      functions = f.functions;
+    }
+
+pub kind_added : {s : Setting} {scope : List TypeTree} {maps : TypeEncodingMaps} (kind : TypeDefKind) (index : ℕ) → Faithful s scope maps → ((n : ℕ) → Denotes scope index (OfValues (kind_tree s.origin n kind (map (tree_in s) (parts kind))))) → Faithful s scope (record maps { def_to_index = with_first kind_eq.eq-value.it maps.def_to_index kind index })
+kind_added {s = s} {scope = scope} {maps = maps} kind index f d =
+    record {
+      ids = f.ids;
+      kinds = holds_of_added kind_eq.eq-value.it (λ p. (n : ℕ) → Denotes scope p.1 (OfValues (kind_tree s.origin n p.0 (map (tree_in s) (parts p.0))))) maps.def_to_index kind index f.kinds d;
+      functions = f.functions;
+    }

@@ -1,0 +1,5 @@
+pub mod SameKeys
+pub mod Growing
+pub mod Owning
+pub mod Permitting
+pub mod Defining

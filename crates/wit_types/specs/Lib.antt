@@ -1,0 +1,5 @@
+pub mod Settings
+pub mod Denoting
+pub mod Maps
+pub mod Allowing
+pub mod Definitions

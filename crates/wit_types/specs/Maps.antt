@@ -1,0 +1,32 @@
+-- What the tables of a scope say of the types that were met (component model, explainer: type definitions).
+use Rattle.std.specs.Prelude.{ℕ, List, [], ◌∷◌, Bool, map, Option, Some, option_map}
+use Rattle.std.specs.List.{AllByRecursion}
+use Rattle.wit_data.specs.declared.ids.TypeId.{TypeId}
+use Rattle.wit_data.specs.declared.types.Type.TheVariants.{Id}
+use Rattle.wit_data.specs.declared.types.TypeDefKind.{TypeDefKind}
+use Rattle.wit_data.specs.Parts.{parts}
+use Rattle.comp_trees.specs.Trees.{Tree, FunctionTree}
+use Rattle.comp_trees.specs.WitTrees.{kind_tree}
+use Rattle.comp_trees.specs.DefinedTrees.{TypeTree, OfValues, OfFunctions}
+use Rattle.wit_types.specs.declared.maps.TypeEncodingMaps.{TypeEncodingMaps}
+use Rattle.wit_types.specs.declared.maps.FuncTypeKey.{FuncTypeKey}
+use Rattle.wit_types.specs.Settings.{Setting, tree_in}
+use Rattle.wit_types.specs.Denoting.{Denotes}
+
+abbrev pub no_maps : TypeEncodingMaps
+no_maps = record { id_to_index = []; def_to_index = []; func_type_map = [] }
+
+-- the type of the functions of a key
+abbrev pub key_tree : Setting → FuncTypeKey → FunctionTree
+key_tree s key =
+    record {
+      is_async = key.is_async;
+      params = map (λ p. record { name = p.name; tree = tree_in s (Some p.ty) }) key.params;
+      result = option_map (λ t. tree_in s (Some t)) key.result;
+    }
+
+-- each index of the tables denotes the type of its key; what a kind is doesn't depend on the index of the type that has it
+pub record Faithful (s : Setting) (scope : List TypeTree) (maps : TypeEncodingMaps) : Type 0 where
+  pub ids : AllByRecursion (λ e. Denotes scope e.1 (OfValues (tree_in s (Some (Id e.0))))) maps.id_to_index
+  pub kinds : AllByRecursion (λ e. (n : ℕ) → Denotes scope e.1 (OfValues (kind_tree s.origin n e.0 (map (tree_in s) (parts e.0))))) maps.def_to_index
+  pub functions : AllByRecursion (λ e. Denotes scope e.1 (OfFunctions (key_tree s e.0))) maps.func_type_map
