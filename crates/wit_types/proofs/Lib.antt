@@ -3,3 +3,4 @@ pub mod Growing
 pub mod Owning
 pub mod Permitting
 pub mod Defining
+pub mod Parting

@@ -3,6 +3,7 @@
 
 mod definitions;
 mod encoder;
+mod encoding;
 mod finding;
 mod making;
 mod maps;
