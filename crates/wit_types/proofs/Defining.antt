@@ -24,11 +24,11 @@ pub value_is : (scope : List TypeTree) (v : ComponentValType) (t : Tree) → Val
 value_is scope (values.Primitive p) t d = d.is
 value_is scope (values.Defined i) t d = ap values_of d.is.tree
 
-value_stands : (scope : List TypeTree) (v : ComponentValType) (t : Tree) → ValueDenotes scope v t → AreTypes (length scope) (value_references v)
+pub value_stands : (scope : List TypeTree) (v : ComponentValType) (t : Tree) → ValueDenotes scope v t → AreTypes (length scope) (value_references v)
 value_stands scope (values.Primitive p) t d = tt
 value_stands scope (values.Defined i) t d = ((refl, d.is.stands), tt)
 
-all_both : (count : ℕ) (xs ys : List Reference) → AreTypes count xs → AreTypes count ys → AreTypes count (xs ++ ys)
+pub all_both : (count : ℕ) (xs ys : List Reference) → AreTypes count xs → AreTypes count ys → AreTypes count (xs ++ ys)
 all_both count [] ys a b = b
 all_both count (x ∷ xs) ys a b = (a.0, all_both count xs ys a.1 b)
 
@@ -42,7 +42,7 @@ module _ (s : Setting) (scope : List TypeTree) where
   payload_is absent None (Some t) h = absurd h
   payload_is absent (Some v) None h = absurd h
 
-  payload_stands : (v : Option ComponentValType) (t : Option Ty) → PartDenotes s scope v t → AreTypes (length scope) (where_some value_references v)
+  pub payload_stands : (v : Option ComponentValType) (t : Option Ty) → PartDenotes s scope v t → AreTypes (length scope) (where_some value_references v)
   payload_stands None None h = tt
   payload_stands (Some v) (Some t) h = value_stands scope v (tree_in s (Some t)) h
   payload_stands None (Some t) h = absurd h

@@ -13,19 +13,21 @@ use Rattle.comp_bytes.specs.declared.space.Space.TheVariants as spaces
 use Rattle.comp_bytes.specs.declared.types.ComponentValType.{ComponentValType}
 use Rattle.comp_bytes.specs.declared.types.ComponentValType.TheVariants as values
 use Rattle.comp_trees.specs.Trees.{Tree}
-use Rattle.comp_trees.specs.DefinedTrees.{TypeTree, OfValues, OfOthers, values_of, value_tree}
+use Rattle.comp_trees.specs.DefinedTrees.{TypeTree, OfValues, OfFunctions, OfOthers}
 use Rattle.wit_data.specs.declared.ids.TypeId.{TypeId}
 use Rattle.wit_data.specs.declared.types.Type.TheVariants.{Id}
 use Rattle.wit_types.specs.declared.maps.TypeEncodingMaps.{TypeEncodingMaps}
 use Rattle.wit_types.specs.Settings.{Setting, tree_in}
 use Rattle.wit_types.specs.Denoting.{Longer, Denotes, ValueDenotes, Makes, MayMake}
-use Rattle.wit_types.specs.Maps.{Faithful}
+use Rattle.wit_types.specs.Maps.{Faithful, key_tree}
 use Rattle.wit_types.proofs.SameKeys.{IsOne, one_id, one_kind, one_key}
 use Rattle.wit_data.specs.declared.types.TypeDefKind.{TypeDefKind}
 use Rattle.wit_data.specs.Parts.{parts}
 use Rattle.comp_trees.specs.WitTrees.{kind_tree}
 use Rattle.wit_data.specs.contracts.ids.TypeIdPartialEq.TheImpl as id_eq
 use Rattle.wit_data.specs.contracts.types.TypeDefKindPartialEq.TheImpl as kind_eq
+use Rattle.wit_types.specs.declared.maps.FuncTypeKey.{FuncTypeKey}
+use Rattle.wit_types.specs.contracts.maps.FuncTypeKeyPartialEq.TheImpl as key_eq
 
 pub longer_none : (ts : List TypeTree) → Longer ts ts
 longer_none ts = record { more = []; longer = sym (append-nil ts) }
@@ -77,6 +79,10 @@ faithful_maybe s t old new maps now (Ok (Some i)) made f m same kept = faithful_
 faithful_maybe s t old new maps now (Ok None) made f m same kept = faithful_after s t old new maps now f m same kept
 faithful_maybe s t old new maps now (Err e) made f m same kept = faithful_after s t old new maps now f m same kept
 
+pub made_as : (old new : List TypeTree) (r : Result ℕ BuildFault) (t u : TypeTree) → Makes old new r t → t ≡ u → IfOk r (λ i. Denotes new i u)
+made_as old new (Ok i) t u m e = denotes_as m.1 refl e
+made_as old new (Err x) t u m e = tt
+
 value_there : {X : Type 0} (x y : X) → Some x ≡ Some y → x ≡ y
 value_there x y h = cc
 
@@ -122,3 +128,8 @@ kind_added {s = s} {scope = scope} {maps = maps} kind index f d =
       kinds = holds_of_added kind_eq.eq-value.it (λ p. (n : ℕ) → Denotes scope p.1 (OfValues (kind_tree s.origin n p.0 (map (tree_in s) (parts p.0))))) maps.def_to_index kind index f.kinds d;
       functions = f.functions;
     }
+
+pub function_found : {s : Setting} {scope : List TypeTree} {maps : TypeEncodingMaps} (key : FuncTypeKey) (o : Option ℕ) → Faithful s scope maps → o ≡ lookup (key_eq.eq-value.it key) maps.func_type_map → IfSome o (λ index. Denotes scope index (OfFunctions (key_tree s key)))
+function_found key None f e = tt
+function_found {s = s} {scope = scope} {maps = maps} key (Some i) f e =
+    holds_of_found key_eq.eq-value.it one_key (λ p. Denotes scope p.1 (OfFunctions (key_tree s p.0))) key maps.func_type_map i f.functions (sym e)

@@ -4,3 +4,4 @@ pub mod Owning
 pub mod Permitting
 pub mod Defining
 pub mod Parting
+pub mod Calling

@@ -38,7 +38,7 @@ parts_more s old new given now kind n v g l is h p =
             (AllZip-weaker {R = PartDenotes s old} {S = PartDenotes s new} (λ x y k. part_on s old new x y g k) given (take n (parts kind)) h.each) p));
     }
 
-take_whole : {X : Type 0} (xs : List X) (n : ℕ) → length xs ≤ n → take n xs ≡ xs
+pub take_whole : {X : Type 0} (xs : List X) (n : ℕ) → length xs ≤ n → take n xs ≡ xs
 take_whole [] zero l = refl
 take_whole [] (suc n) l = refl
 take_whole (x ∷ xs) zero l = absurd (omega (arith, l))

@@ -1,6 +1,6 @@
 -- Which types may be encoded in a scope: all that they are made of is defined there, or may be imported or exported
 -- (component model, WIT: `use`, resources).
-use Rattle.std.specs.Prelude.{ℕ, ◌≡◌, ◌==◌, Bool, true, false, ◌&&◌, List, Option, Some, None, if◌then◌else◌}
+use Rattle.std.specs.Prelude.{ℕ, ◌≡◌, ◌==◌, Bool, true, false, ◌&&◌, List, Option, Some, None, if◌then◌else◌, length}
 use Rattle.std.specs.List.{list_all}
 use Rattle.wit_data.specs.declared.ids.InterfaceId.{InterfaceId}
 use Rattle.wit_data.specs.declared.types.Type.{«Type» as Ty}
@@ -8,7 +8,8 @@ use Rattle.wit_data.specs.declared.types.TypeOwner.{TypeOwner}
 use Rattle.wit_data.specs.declared.types.TypeOwner.TheVariants as owners
 use Rattle.wit_data.specs.declared.types.TypeDefKind.{TypeDefKind}
 use Rattle.wit_data.specs.declared.types.TypeDefKind.TheVariants as kinds
-use Rattle.wit_data.specs.Parts.{parts}
+use Rattle.wit_data.specs.declared.types.TypeDef.{TypeDef}
+use Rattle.wit_data.specs.Parts.{parts, IsBelow}
 use Rattle.wit_data.specs.Values.{Making, value}
 use Rattle.wit_types.specs.Settings.{Setting, owner_at, name_at}
 
@@ -52,3 +53,8 @@ is_allowed s part = value (allowing s) s.types part
 pub record IsDefinedHere (s : Setting) (kind : TypeDefKind) : Type 0 where
   pub values : is_resource kind ≡ false
   pub allowed : list_all (is_allowed s) (parts kind) ≡ true
+
+-- the type is one of these, and may be encoded
+pub record MayEncode (s : Setting) (types : List TypeDef) (part : Option Ty) : Type 0 where
+  pub present : IsBelow (length types) part
+  pub allowed : is_allowed s part ≡ true

@@ -3,3 +3,4 @@ pub mod Denoting
 pub mod Maps
 pub mod Allowing
 pub mod Definitions
+pub mod Functions

@@ -6,7 +6,8 @@ use Rattle.wit_data.specs.declared.types.Type.TheVariants.{Id}
 use Rattle.wit_data.specs.declared.types.TypeDefKind.{TypeDefKind}
 use Rattle.wit_data.specs.Parts.{parts}
 use Rattle.comp_trees.specs.Trees.{Tree, FunctionTree}
-use Rattle.comp_trees.specs.WitTrees.{kind_tree}
+use Rattle.wit_data.specs.declared.functions.Function.{Function}
+use Rattle.comp_trees.specs.WitTrees.{kind_tree, is_async}
 use Rattle.comp_trees.specs.DefinedTrees.{TypeTree, OfValues, OfFunctions}
 use Rattle.wit_types.specs.declared.maps.TypeEncodingMaps.{TypeEncodingMaps}
 use Rattle.wit_types.specs.declared.maps.FuncTypeKey.{FuncTypeKey}
@@ -15,6 +16,10 @@ use Rattle.wit_types.specs.Denoting.{Denotes}
 
 abbrev pub no_maps : TypeEncodingMaps
 no_maps = record { id_to_index = []; def_to_index = []; func_type_map = [] }
+
+-- what the type of a function is made of
+abbrev pub key_of : Function → FuncTypeKey
+key_of f = record { params = f.params; result = f.result; is_async = is_async f.kind }
 
 -- the type of the functions of a key
 abbrev pub key_tree : Setting → FuncTypeKey → FunctionTree

@@ -54,7 +54,7 @@ pub(crate) fn find_type<E: ValtypeEncoder>(
 }
 
 /// Imports a type of another interface.
-#[tactic(auto, using(crate::proofs::Growing::faithful_after, crate::proofs::Permitting::may_import))]
+#[tactic(auto, using(crate::proofs::Permitting::may_import))]
 fn import_type<E: ValtypeEncoder>(
     encoder: &mut E,
     types: &[TypeDef],
@@ -79,7 +79,6 @@ fn import_type<E: ValtypeEncoder>(
 }
 
 /// Exports a resource under its name.
-#[tactic(auto, using(crate::proofs::Permitting::may_export, crate::proofs::Permitting::unnamed_resource))]
 fn export_resource<E: ValtypeEncoder>(
     alloc: Global,
     encoder: &mut E,
@@ -133,7 +132,6 @@ fn export_resource_as<E: ValtypeEncoder>(
 }
 
 /// The index of a type without a name that was met and is equal.
-#[tactic(auto, using(crate::proofs::Permitting::equal_found))]
 fn equal_type<E: ValtypeEncoder>(encoder: &mut E, types: &[TypeDef], id: TypeId) -> Option<u32>
     requires back { RefersBack types.now }
     requires same { (E.setting encoder.old).types ≡ types.now }

@@ -5,6 +5,7 @@ mod definitions;
 mod encoder;
 mod encoding;
 mod finding;
+mod functions;
 mod making;
 mod maps;
 mod reading;

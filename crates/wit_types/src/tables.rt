@@ -3,19 +3,19 @@
 ghost use Rattle.std.specs.Prelude.{◌≡◌, ℕ, map, Some, OnOk};
 ghost use Rattle.std.specs.Option.{IfSome};
 ghost use Rattle.comp_trees.specs.WitTrees.{kind_tree};
-ghost use Rattle.comp_trees.specs.DefinedTrees.{OfValues};
+ghost use Rattle.comp_trees.specs.DefinedTrees.{OfValues, OfFunctions};
 ghost use Rattle.wit_data.specs.Parts.{parts};
 ghost use Rattle.wit_data.specs.declared.types.Type.TheVariants.{Id};
 ghost use Rattle.wit_types.specs.Settings.{tree_in};
 ghost use Rattle.wit_types.specs.Denoting.{Denotes};
-ghost use Rattle.wit_types.specs.Maps.{Faithful};
+ghost use Rattle.wit_types.specs.Maps.{Faithful, key_tree};
 
 use crate::encoder::ValtypeEncoder;
+use crate::maps::FuncTypeKey;
 use std::alloc::AllocError;
 use wit_data::{TypeDefKind, TypeId};
 
 /// The index of a type that was met.
-#[tactic(auto, using(crate::proofs::Growing::id_found))]
 pub(crate) fn met_type<E: ValtypeEncoder>(encoder: &mut E, id: TypeId) -> Option<u32>
     requires faithful { Faithful (E.setting encoder.old) (E.scope encoder.old) (E.maps encoder.old) }
     ensures denotes { IfSome result (λ index. Denotes (E.scope encoder.old) index (OfValues (tree_in (E.setting encoder.old) (Some (Id id))))) }
@@ -44,7 +44,6 @@ pub(crate) fn record_type<E: ValtypeEncoder>(
 }
 
 /// The index of a type without a name of this kind that was met.
-#[tactic(auto, using(crate::proofs::Growing::kind_found))]
 pub(crate) fn met_kind<E: ValtypeEncoder>(encoder: &mut E, kind: &TypeDefKind) -> Option<u32>
     requires faithful { Faithful (E.setting encoder.old) (E.scope encoder.old) (E.maps encoder.old) }
     ensures denotes { IfSome result (λ index. (n : ℕ) → Denotes (E.scope encoder.old) index (OfValues (kind_tree (E.setting encoder.old).origin n kind.now (map (tree_in (E.setting encoder.old)) (parts kind.now))))) }
@@ -70,4 +69,32 @@ pub(crate) fn record_kind<E: ValtypeEncoder>(
     ensures follows { E.follows encoder.old encoder.new }
 {
     encoder.type_encoding_maps().record_kind(kind, index)
+}
+
+/// The index of the type of functions of this key that was met.
+pub(crate) fn met_function<E: ValtypeEncoder>(encoder: &mut E, key: &FuncTypeKey) -> Option<u32>
+    requires faithful { Faithful (E.setting encoder.old) (E.scope encoder.old) (E.maps encoder.old) }
+    ensures denotes { IfSome result (λ index. Denotes (E.scope encoder.old) index (OfFunctions (key_tree (E.setting encoder.old) key.now))) }
+    ensures scope { E.scope encoder.new ≡ E.scope encoder.old }
+    ensures setting { E.setting encoder.new ≡ E.setting encoder.old }
+    ensures faithful { Faithful (E.setting encoder.new) (E.scope encoder.new) (E.maps encoder.new) }
+    ensures follows { E.follows encoder.old encoder.new }
+{
+    encoder.type_encoding_maps().function_index(key)
+}
+
+/// Records the index of the type of functions that was met, by its key.
+pub(crate) fn record_function<E: ValtypeEncoder>(
+    encoder: &mut E,
+    key: FuncTypeKey,
+    index: u32,
+) -> Result<(), AllocError>
+    requires faithful { Faithful (E.setting encoder.old) (E.scope encoder.old) (E.maps encoder.old) }
+    requires denotes { Denotes (E.scope encoder.old) index (OfFunctions (key_tree (E.setting encoder.old) key)) }
+    ensures scope { E.scope encoder.new ≡ E.scope encoder.old }
+    ensures setting { E.setting encoder.new ≡ E.setting encoder.old }
+    ensures faithful { Faithful (E.setting encoder.new) (E.scope encoder.new) (E.maps encoder.new) }
+    ensures follows { E.follows encoder.old encoder.new }
+{
+    encoder.type_encoding_maps().record_function(key, index)
 }
