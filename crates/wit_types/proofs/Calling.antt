@@ -7,6 +7,8 @@ use Rattle.comp_lists.proofs.Lists.{AllZip-weaker, AllZip-end}
 use Rattle.wit_data.specs.declared.types.Type.{«Type» as Ty}
 use Rattle.wit_data.specs.declared.types.TypeDef.{TypeDef}
 use Rattle.wit_data.specs.declared.functions.Param.{Param}
+use Rattle.wit_data.specs.declared.functions.Function.{Function}
+use Rattle.comp_trees.specs.WitTrees.{wit_function_tree}
 use Rattle.comp_bytes.specs.References.{value_references, where_some, fields_references, type_references}
 use Rattle.comp_bytes.specs.declared.types.ComponentValType.{ComponentValType}
 use Rattle.comp_bytes.specs.declared.types.Field.{Field}
@@ -19,7 +21,7 @@ use Rattle.wit_types.specs.Settings.{Setting, tree_in}
 use Rattle.wit_types.specs.Denoting.{Longer, AreTypes, ValueDenotes}
 use Rattle.wit_types.specs.Definitions.{PartDenotes}
 use Rattle.wit_types.specs.Functions.{FieldDenotes, FieldsDenote}
-use Rattle.wit_types.specs.Maps.{key_tree}
+use Rattle.wit_types.specs.Maps.{key_of, key_tree}
 use Rattle.wit_types.specs.Allowing.{MayEncode}
 use Rattle.wit_types.proofs.Growing.{value_on}
 use Rattle.wit_types.proofs.Parting.{take_whole}
@@ -101,3 +103,7 @@ pub function_is : (s : Setting) (scope : List TypeTree) (key : FuncTypeKey) (par
 function_is s scope key params returned f r =
     ap (λ ps. with_parts key.is_async ps (option_map (λ w. value_tree scope w) returned)) (fields_trees s scope params key.params f.each)
     ∙ ap (λ t. with_parts key.is_async (map (λ p. with_name p.name (tree_in s (Some p.ty))) key.params) t) (returned_tree s scope returned key.result r)
+
+pub key_is : (s : Setting) (types : List TypeDef) (f : Function) → s.types ≡ types → key_tree s (key_of f) ≡ wit_function_tree s.origin types f
+unfolding tree_in
+key_is s types f same = ap (λ ts. wit_function_tree s.origin ts f) same

@@ -79,6 +79,9 @@ faithful_maybe s t old new maps now (Ok (Some i)) made f m same kept = faithful_
 faithful_maybe s t old new maps now (Ok None) made f m same kept = faithful_after s t old new maps now f m same kept
 faithful_maybe s t old new maps now (Err e) made f m same kept = faithful_after s t old new maps now f m same kept
 
+pub index_as : (scope : List TypeTree) (r : Result ℕ BuildFault) (t u : TypeTree) → IfOk r (λ i. Denotes scope i t) → t ≡ u → IfOk r (λ i. Denotes scope i u)
+index_as scope r t u h e = subst (λ x. IfOk r (λ i. Denotes scope i x)) e h
+
 pub made_as : (old new : List TypeTree) (r : Result ℕ BuildFault) (t u : TypeTree) → Makes old new r t → t ≡ u → IfOk r (λ i. Denotes new i u)
 made_as old new (Ok i) t u m e = denotes_as m.1 refl e
 made_as old new (Err x) t u m e = tt

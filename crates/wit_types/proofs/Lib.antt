@@ -5,3 +5,4 @@ pub mod Permitting
 pub mod Defining
 pub mod Parting
 pub mod Calling
+pub mod Listing

@@ -1,6 +1,7 @@
 -- What may be encoded is made of what may be.
 use Rattle.std.proofs.Common.{◌≡◌, ℕ, zero, suc, Bool, true, false, ◌+◌, ◌<◌, ◌&&◌, List, [], ◌∷◌, length, get_or, map, refl, sym, ap, subst, ◌∙◌, arith, true≢false, Option, Some, None, IsTrue}
-use Rattle.std.specs.List.{list_all}
+use Rattle.std.specs.List.{AllByRecursion, list_all}
+use Rattle.wit_data.specs.declared.functions.Param.{Param}
 use Rattle.std.specs.Option.{IfSome}
 use Rattle.std.proofs.lemmas.List.Folds.{list_all-map}
 use Rattle.wit_data.specs.declared.ids.TypeId.{TypeId}
@@ -10,20 +11,20 @@ use Rattle.wit_data.specs.declared.types.Type.TheVariants.{Id}
 use Rattle.wit_data.specs.declared.types.TypeDef.{TypeDef}
 use Rattle.wit_data.specs.declared.types.TypeDefKind.{TypeDefKind}
 use Rattle.wit_data.specs.declared.types.TypeDefKind.TheVariants as kinds
-use Rattle.wit_data.specs.Parts.{parts, RefersBack}
+use Rattle.wit_data.specs.Parts.{parts, IsBelow, RefersBack}
 use Rattle.wit_data.specs.Values.{kind_at}
 use Rattle.wit_data.proofs.Values.{made_whole}
 use Rattle.std.proofs.lemmas.Bool.Decides.{Decides-eqb}
 use Rattle.std.specs.Prelude.{◌==◌}
 use Rattle.comp_trees.specs.Trees.{Tree, ResourceAt}
 use Rattle.comp_trees.specs.DefinedTrees.{TypeTree, OfValues}
-use Rattle.comp_trees.specs.WitTrees.{kind_tree, making_trees}
+use Rattle.comp_trees.specs.WitTrees.{kind_tree, making_trees, wit_tree}
 use Rattle.wit_types.specs.Settings.{Setting, tree_in, owner_at, name_at}
 use Rattle.comp_bytes.specs.declared.types.ComponentValType.{ComponentValType}
 use Rattle.comp_bytes.specs.declared.types.ComponentValType.TheVariants as values
 use Rattle.wit_types.specs.Denoting.{Denotes, ValueDenotes}
 use Rattle.wit_types.proofs.Growing.{denotes_as}
-use Rattle.wit_types.specs.Allowing.{foreign, is_resource, is_allowed, may_make, may_define, may_export_as, allowing, IsDefinedHere}
+use Rattle.wit_types.specs.Allowing.{foreign, is_resource, is_allowed, may_make, may_define, may_export_as, allowing, IsDefinedHere, MayEncode}
 
 -- the tree of a type, and whether it may be encoded, from those of its parts
 tree_inside : (s : Setting) (id : TypeId) → RefersBack s.types → id.index < length s.types → tree_in s (Some (Id id)) ≡ kind_tree s.origin id.index (kind_at s.types id.index) (map (tree_in s) (parts (kind_at s.types id.index)))
@@ -138,3 +139,19 @@ kind_recorded s t types id kind scope new v index same back within resource deno
     denotes_as (index_denotes scope v index (tree_in s (Some (Id id))) denotes is) kept
     (ap OfValues (tree_of_id s types id same back within ∙ kind_anywhere s k id.index n resource ∙ ap (λ j. kind_tree s.origin n j (map (tree_in s) (parts j))) (sym of_kind))
     ∙ ap (λ (r : Setting). OfValues (kind_tree r.origin n kind (map (tree_in r) (parts kind)))) (sym setting))
+
+-- the tree of a type of the scope's types
+pub same_tree : (s : Setting) (types : List TypeDef) (part : Option Ty) → s.types ≡ types → tree_in s part ≡ wit_tree s.origin types part
+unfolding tree_in
+same_tree s types part same = ap (λ ts. wit_tree s.origin ts part) same
+
+-- the parameters and the result of a function may be encoded
+pub params_may : (s : Setting) (types : List TypeDef) (params : List Param) (rest : Bool) → AllByRecursion (λ p. IsBelow (length types) (Some p.ty)) params → (list_all (λ p. is_allowed s (Some p.ty)) params && rest) ≡ true → AllByRecursion (λ p. MayEncode s types (Some p.ty)) params
+params_may s types [] rest present allowed = tt
+params_may s types (p ∷ ps) rest present allowed =
+    let a = both (is_allowed s (Some p.ty) && list_all (λ q. is_allowed s (Some q.ty)) ps) rest allowed in
+    let b = both (is_allowed s (Some p.ty)) (list_all (λ q. is_allowed s (Some q.ty)) ps) a.0 in
+    (record { present = present.0; allowed = b.0 }, params_may s types ps true present.1 (ap (λ c. c && true) b.1))
+
+pub result_may : (s : Setting) (types : List TypeDef) (part : Option Ty) (rest : Bool) → IsBelow (length types) part → (rest && is_allowed s part) ≡ true → MayEncode s types part
+result_may s types part rest present allowed = record { present = present; allowed = (both rest (is_allowed s part) allowed).1 }

@@ -9,6 +9,7 @@ use Rattle.wit_data.specs.declared.types.TypeOwner.TheVariants as owners
 use Rattle.wit_data.specs.declared.types.TypeDefKind.{TypeDefKind}
 use Rattle.wit_data.specs.declared.types.TypeDefKind.TheVariants as kinds
 use Rattle.wit_data.specs.declared.types.TypeDef.{TypeDef}
+use Rattle.wit_data.specs.declared.functions.Function.{Function}
 use Rattle.wit_data.specs.Parts.{parts, IsBelow}
 use Rattle.wit_data.specs.Values.{Making, value}
 use Rattle.wit_types.specs.Settings.{Setting, owner_at, name_at}
@@ -58,3 +59,7 @@ pub record IsDefinedHere (s : Setting) (kind : TypeDefKind) : Type 0 where
 pub record MayEncode (s : Setting) (types : List TypeDef) (part : Option Ty) : Type 0 where
   pub present : IsBelow (length types) part
   pub allowed : is_allowed s part ≡ true
+
+-- so are the types of the parameters and of the result of a function
+abbrev pub allows_function : Setting → Function → Bool
+allows_function s f = list_all (λ p. is_allowed s (Some p.ty)) f.params && is_allowed s f.result

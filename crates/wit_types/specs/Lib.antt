@@ -4,3 +4,4 @@ pub mod Maps
 pub mod Allowing
 pub mod Definitions
 pub mod Functions
+pub mod Listing

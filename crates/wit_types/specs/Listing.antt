@@ -1,0 +1,41 @@
+-- What the types of a list that stands alone denote (component model, explainer: type definitions).
+use Rattle.std.specs.Prelude.{ℕ, ◌≡◌, false, List, [], ◌∷◌, ◌++◌, get_or, None}
+use Rattle.std.proofs.Common.{sym, ap, ◌∙◌, append_assoc, append-nil}
+use Rattle.wit_data.specs.declared.types.TypeDef.{TypeDef}
+use Rattle.comp_trees.specs.DefinedTrees.{TypeTree, OfValues, OfFunctions, OfOthers, defined_tree, function_tree}
+use Rattle.wit_types.specs.declared.type_list.ListedType.{ListedType}
+use Rattle.wit_types.specs.declared.type_list.ListedType.TheVariants as listed
+use Rattle.wit_types.specs.Settings.{Setting}
+
+abbrev pub listed_tree : List TypeTree → ListedType → TypeTree
+listed_tree scope (listed.Defined d) = OfValues (defined_tree scope d)
+listed_tree scope (listed.Func f) = OfFunctions (function_tree scope f)
+listed_tree scope (listed.Export name index) = get_or scope index OfOthers
+
+-- what they denote, behind those of a scope
+abbrev pub listed_trees : List TypeTree → List ListedType → List TypeTree
+listed_trees scope [] = scope
+listed_trees scope (t ∷ ts) = listed_trees (scope ++ listed_tree scope t ∷ []) ts
+
+-- nothing is imported, and no resource exported; the address of a resource is its number in the resolve
+abbrev pub standing_alone : List TypeDef → Setting
+standing_alone types =
+    record {
+      types = types;
+      interface = None;
+      origin = λ id. id.index;
+      may_import = λ other id. false;
+      may_export = λ name. false;
+      address = λ name. 0;
+    }
+
+-- a list that has grown at its end
+pub record ListGrows (old new : List ListedType) : Type 0 where
+  pub more : List ListedType
+  pub grown : new ≡ old ++ more
+
+pub list_same : (listed : List ListedType) → ListGrows listed listed
+list_same listed = record { more = []; grown = sym (append-nil listed) }
+
+pub list_on : (a b c : List ListedType) → ListGrows a b → ListGrows b c → ListGrows a c
+list_on a b c g h = record { more = g.more ++ h.more; grown = h.grown ∙ (ap (λ m. m ++ h.more) g.grown ∙ append_assoc a g.more h.more) }
