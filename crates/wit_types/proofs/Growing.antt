@@ -2,7 +2,8 @@
 use Rattle.std.proofs.Common.{◌≡◌, ℕ, Bool, true, false, ◌+◌, ◌<◌, List, [], ◌∷◌, ◌++◌, length, get_or, map, refl, ap, subst, ◌∙◌, sym, arith, append_assoc, append-nil, Option, Some, None, cond, if◌then◌else◌, is_some}
 use Rattle.std.specs.List.{AllByRecursion}
 use Rattle.std.specs.Option.{IfSome}
-use Rattle.std.specs.Prelude.{IfOk, Result, Ok, Err}
+use Rattle.std.specs.Prelude.{IfOk, OnOk, OnErr, Result, Ok, Err}
+use Rattle.std.proofs.lemmas.Bool.Decides.{Decides-eqb}
 use Rattle.byte_encoding.specs.declared.fault.BuildFault.{BuildFault}
 use Rattle.std.specs.Map.{lookup}
 use Rattle.std.proofs.lemmas.List.{length-append, get_or_append_left}
@@ -19,7 +20,7 @@ use Rattle.wit_data.specs.declared.types.Type.TheVariants.{Id}
 use Rattle.wit_types.specs.declared.maps.TypeEncodingMaps.{TypeEncodingMaps}
 use Rattle.wit_types.specs.Settings.{Setting, tree_in}
 use Rattle.wit_types.specs.Denoting.{Longer, Denotes, ValueDenotes, Makes, MayMake}
-use Rattle.wit_types.specs.Maps.{Faithful, key_tree}
+use Rattle.wit_types.specs.Maps.{Faithful, HasIndex, key_tree}
 use Rattle.wit_types.proofs.SameKeys.{IsOne, one_id, one_kind, one_key}
 use Rattle.wit_data.specs.declared.types.TypeDefKind.{TypeDefKind}
 use Rattle.wit_data.specs.Parts.{parts}
@@ -136,3 +137,39 @@ pub function_found : {s : Setting} {scope : List TypeTree} {maps : TypeEncodingM
 function_found key None f e = tt
 function_found {s = s} {scope = scope} {maps = maps} key (Some i) f e =
     holds_of_found key_eq.eq-value.it one_key (λ p. Denotes scope p.1 (OfFunctions (key_tree s p.0))) key maps.func_type_map i f.functions (sym e)
+
+found_in : {K X : Type 0} (eq : K → K → Bool) (es : List (K × X)) (k : K) → eq k k ≡ true → (x : X) → is_some (lookup (eq k) (with_first eq es k x)) ≡ true
+found_in eq es k same x = by (is_some (lookup (eq k) es)) refl
+  where
+    at_end : (ds : List (_ × _)) → is_some (lookup (eq k) (ds ++ (k, x) ∷ [])) ≡ true
+    at_end [] = ap (λ b. is_some (cond b (Some x) None)) same
+    at_end (d ∷ ds) = later (eq k d.0) (at_end ds)
+      where
+        later : (b : Bool) → is_some (lookup (eq k) (ds ++ (k, x) ∷ [])) ≡ true → is_some (cond b (Some d.1) (lookup (eq k) (ds ++ (k, x) ∷ []))) ≡ true
+        later true h = refl
+        later false h = h
+
+    by : (b : Bool) → is_some (lookup (eq k) es) ≡ b → is_some (lookup (eq k) (if b then es else es ++ (k, x) ∷ [])) ≡ true
+    by true h = h
+    by false h = at_end es
+
+id_itself : (id : TypeId) → id_eq.eq-value.it id id ≡ true
+id_itself id = (Decides-eqb id.index id.index).1 refl
+
+pub id_there : (maps now : TypeEncodingMaps) (id : TypeId) (index : ℕ) → now ≡ record maps { id_to_index = with_first id_eq.eq-value.it maps.id_to_index id index } → HasIndex now id
+id_there maps now id index is = record { there = ap (λ (m : TypeEncodingMaps). is_some (lookup (id_eq.eq-value.it id) m.id_to_index)) is ∙ found_in id_eq.eq-value.it maps.id_to_index id (id_itself id) index }
+
+pub recorded_there : {A E : Type 0} (r : Result A E) (maps now view : TypeEncodingMaps) (id : TypeId) (index : ℕ) → OnOk r (now ≡ record maps { id_to_index = with_first id_eq.eq-value.it maps.id_to_index id index }) → view ≡ now → OnOk r (HasIndex view id)
+recorded_there (Ok u) maps now view id index is seen = id_there maps view id index (seen ∙ is)
+recorded_there (Err e) maps now view id index is seen = tt
+
+faithful_as : (s t : Setting) (scope new : List TypeTree) (maps now : TypeEncodingMaps) → Faithful s scope maps → t ≡ s → new ≡ scope → now ≡ maps → Faithful t new now
+faithful_as s t scope new maps now f same kept is =
+    subst (λ r. Faithful r new now) (sym same) (subst (λ ts. Faithful s ts now) (sym kept) (subst (λ m. Faithful s scope m) (sym is) f))
+
+pub recorded_faithful : {A E : Type 0} (r : Result A E) (s t : Setting) (scope new : List TypeTree) (first maps now view : TypeEncodingMaps) (id : TypeId) (index : ℕ) → Faithful s scope first → Denotes scope index (OfValues (tree_in s (Some (Id id)))) → maps ≡ first → OnOk r (now ≡ record maps { id_to_index = with_first id_eq.eq-value.it maps.id_to_index id index }) → OnErr r (now ≡ maps) → t ≡ s → new ≡ scope → view ≡ now → Faithful t new view
+recorded_faithful (Ok u) s t scope new first maps now view id index f d begun is failed same kept seen =
+    faithful_as s t scope new (record maps { id_to_index = with_first id_eq.eq-value.it maps.id_to_index id index }) view
+    (id_added id index (subst (λ m. Faithful s scope m) (sym begun) f) d) same kept (seen ∙ is)
+recorded_faithful (Err e) s t scope new first maps now view id index f d begun is failed same kept seen =
+    faithful_as s t scope new first view f same kept (seen ∙ (failed ∙ begun))

@@ -110,11 +110,9 @@ pub defined_here : (s : Setting) (types : List TypeDef) (id : TypeId) → s.type
 defined_here s types id same = subst (λ ts. RefersBack ts → id.index < length ts → is_allowed s (Some (Id id)) ≡ true → foreign s.interface (owner_at ts id.index) ≡ None → is_resource (kind_at ts id.index) ≡ false → IsDefinedHere s (kind_at ts id.index)) same (defined_inside s id)
 
 -- what is met of the kind of a type is the type
-pub equal_found : (s : Setting) (types : List TypeDef) (id : TypeId) (kind : TypeDefKind) (scope new : List TypeTree) (found : Option ℕ) → s.types ≡ types → RefersBack types → id.index < length types → kind ≡ kind_at types id.index → new ≡ scope → IfSome found (λ index. (n : ℕ) → Denotes scope index (OfValues (kind_tree s.origin n kind (map (tree_in s) (parts kind))))) → IfSome found (λ index. Denotes new index (OfValues (tree_in s (Some (Id id)))))
-equal_found s types id kind scope new None same back within is grown h = tt
-equal_found s types id kind scope new (Some index) same back within is grown h =
-    subst (λ ts. Denotes ts index (OfValues (tree_in s (Some (Id id))))) (sym grown)
-    (subst (λ t. Denotes scope index (OfValues t)) (ap (λ k. kind_tree s.origin id.index k (map (tree_in s) (parts k))) is ∙ sym (tree_of_id s types id same back within)) (h id.index))
+pub equal_found : (s : Setting) (types : List TypeDef) (id : TypeId) (kind : TypeDefKind) (scope : List TypeTree) (index : ℕ) → s.types ≡ types → RefersBack types → id.index < length types → kind ≡ kind_at types id.index → ((n : ℕ) → Denotes scope index (OfValues (kind_tree s.origin n kind (map (tree_in s) (parts kind))))) → Denotes scope index (OfValues (tree_in s (Some (Id id))))
+equal_found s types id kind scope index same back within is h =
+    denotes_as (h id.index) refl (ap OfValues (tree_of_kind s types id kind same back within is))
 
 pub named_resource : (s : Setting) (n : ℕ) (name : List ℕ) → may_export_as s n (Some name) ≡ true → (s.may_export name ≡ true) × (s.address name ≡ s.origin (record { index = n }))
 named_resource s n name e =
@@ -129,7 +127,7 @@ pub resource_tree : (s : Setting) (types : List TypeDef) (id : TypeId) (address 
 resource_tree s types id address same back within resource is =
     ap ResourceAt is ∙ sym (tree_of_id s types id same back within ∙ ap (λ k. kind_tree s.origin id.index k (map (tree_in s) (parts k))) (resource_is (kind_at types id.index) resource))
 
-index_denotes : (scope : List TypeTree) (v : ComponentValType) (index : ℕ) (t : Tree) → ValueDenotes scope v t → v ≡ values.Defined index → Denotes scope index (OfValues t)
+pub index_denotes : (scope : List TypeTree) (v : ComponentValType) (index : ℕ) (t : Tree) → ValueDenotes scope v t → v ≡ values.Defined index → Denotes scope index (OfValues t)
 index_denotes scope v index t d is = (subst (λ w. ValueDenotes scope w t) is d).is
 
 -- a type of a kind that is no resource is recorded by its kind

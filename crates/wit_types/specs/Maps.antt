@@ -1,11 +1,16 @@
 -- What the tables of a scope say of the types that were met (component model, explainer: type definitions).
-use Rattle.std.specs.Prelude.{ℕ, List, [], ◌∷◌, Bool, map, Option, Some, option_map}
+use Rattle.std.specs.Prelude.{ℕ, ◌≡◌, true, List, [], map, Some, option_map, is_some}
+use Rattle.std.specs.Map.{lookup}
 use Rattle.std.specs.List.{AllByRecursion}
 use Rattle.wit_data.specs.declared.ids.TypeId.{TypeId}
+use Rattle.wit_data.specs.contracts.ids.TypeIdPartialEq.TheImpl as same_id
+use Rattle.wit_data.specs.declared.types.Type.{«Type» as Ty}
 use Rattle.wit_data.specs.declared.types.Type.TheVariants.{Id}
 use Rattle.wit_data.specs.declared.types.TypeDefKind.{TypeDefKind}
 use Rattle.wit_data.specs.Parts.{parts}
-use Rattle.comp_trees.specs.Trees.{Tree, FunctionTree}
+use Rattle.comp_bytes.specs.declared.types.ComponentValType.{ComponentValType}
+use Rattle.comp_bytes.specs.declared.types.ComponentValType.TheVariants as values
+use Rattle.comp_trees.specs.Trees.{FunctionTree}
 use Rattle.wit_data.specs.declared.functions.Function.{Function}
 use Rattle.comp_trees.specs.WitTrees.{kind_tree, is_async}
 use Rattle.comp_trees.specs.DefinedTrees.{TypeTree, OfValues, OfFunctions}
@@ -29,6 +34,15 @@ key_tree s key =
       params = map (λ p. record { name = p.name; tree = tree_in s (Some p.ty) }) key.params;
       result = option_map (λ t. tree_in s (Some t)) key.result;
     }
+
+-- the type is in the tables under its number
+pub record HasIndex (maps : TypeEncodingMaps) (id : TypeId) : Type 0 where
+  pub there : is_some (lookup (same_id.eq-value.it id) maps.id_to_index) ≡ true
+
+-- a type of the resolve that is one of the scope is in the tables
+abbrev pub IsRecorded : TypeEncodingMaps → Ty → ComponentValType → Type 0
+IsRecorded maps (Id id) (values.Defined index) = HasIndex maps id
+IsRecorded maps ty v = Unit {0}
 
 -- each index of the tables denotes the type of its key; what a kind is doesn't depend on the index of the type that has it
 pub record Faithful (s : Setting) (scope : List TypeTree) (maps : TypeEncodingMaps) : Type 0 where

@@ -6,7 +6,7 @@ ghost use Rattle.comp_trees.specs.WitTrees.{wit_tree, wit_function_tree};
 ghost use Rattle.comp_trees.specs.DefinedTrees.{OfValues, OfFunctions};
 ghost use Rattle.wit_data.specs.Sound.{IsSound, HasType, HasFunction};
 ghost use Rattle.wit_types.specs.Denoting.{Longer, Denotes, ValueDenotes};
-ghost use Rattle.wit_types.specs.Maps.{Faithful};
+ghost use Rattle.wit_types.specs.Maps.{Faithful, IsRecorded};
 ghost use Rattle.wit_types.specs.Allowing.{is_allowed, allows_function};
 
 use crate::encoder::ValtypeEncoder;
@@ -31,6 +31,7 @@ pub fn encode_valtype<E: ValtypeEncoder>(
     requires allowed { IsTrue (is_allowed (E.setting encoder.old) (Some ty.now)) }
     requires faithful { Faithful (E.setting encoder.old) (E.scope encoder.old) (E.maps encoder.old) }
     ensures value { IfOk result (λ v. ValueDenotes (E.scope encoder.new) v (wit_tree (E.setting encoder.old).origin resolve.now.types (Some ty.now))) }
+    ensures recorded { IfOk result (λ v. IsRecorded (E.maps encoder.new) ty.now v) }
     ensures grows { Longer (E.scope encoder.old) (E.scope encoder.new) }
     ensures setting { E.setting encoder.new ≡ E.setting encoder.old }
     ensures faithful { Faithful (E.setting encoder.new) (E.scope encoder.new) (E.maps encoder.new) }

@@ -7,7 +7,7 @@ ghost use Rattle.wit_data.specs.declared.types.Type.TheVariants.{Id};
 ghost use Rattle.wit_types.specs.Settings.{tree_in};
 ghost use Rattle.wit_types.specs.Denoting.{Longer, ValueDenotes};
 ghost use Rattle.wit_types.specs.Definitions.{PartDenotes, PartsDenote};
-ghost use Rattle.wit_types.specs.Maps.{Faithful};
+ghost use Rattle.wit_types.specs.Maps.{Faithful, IsRecorded};
 ghost use Rattle.wit_types.specs.Allowing.{is_allowed, IsDefinedHere};
 
 use crate::encoder::ValtypeEncoder;
@@ -34,6 +34,7 @@ pub(crate) fn encode_type<E: ValtypeEncoder>(
     requires present { IsBelow (length types.now) (Some ty) }
     requires allowed { IsTrue (is_allowed (E.setting encoder.old) (Some ty)) }
     ensures value { IfOk result (λ v. ValueDenotes (E.scope encoder.new) v (tree_in (E.setting encoder.old) (Some ty))) }
+    ensures recorded { IfOk result (λ v. IsRecorded (E.maps encoder.new) ty v) }
     ensures grows { Longer (E.scope encoder.old) (E.scope encoder.new) }
     ensures setting { E.setting encoder.new ≡ E.setting encoder.old }
     ensures faithful { Faithful (E.setting encoder.new) (E.scope encoder.new) (E.maps encoder.new) }
@@ -59,6 +60,7 @@ fn encode_id<E: ValtypeEncoder>(
     requires present { id.index < length types.now }
     requires allowed { IsTrue (is_allowed (E.setting encoder.old) (Some (Id id))) }
     ensures value { IfOk result (λ v. ValueDenotes (E.scope encoder.new) v (tree_in (E.setting encoder.old) (Some (Id id)))) }
+    ensures recorded { IfOk result (λ v. IsRecorded (E.maps encoder.new) (Id id) v) }
     ensures grows { Longer (E.scope encoder.old) (E.scope encoder.new) }
     ensures setting { E.setting encoder.new ≡ E.setting encoder.old }
     ensures faithful { Faithful (E.setting encoder.new) (E.scope encoder.new) (E.maps encoder.new) }
@@ -139,6 +141,7 @@ fn make_type<E: ValtypeEncoder>(
     requires defined { IsDefinedHere (E.setting encoder.old) (kind_at types.now id.index) }
     requires parts { PartsDenote (E.setting encoder.old) (E.scope encoder.old) given.items (kind_at types.now id.index) }
     ensures value { IfOk result (λ v. ValueDenotes (E.scope encoder.new) v (tree_in (E.setting encoder.old) (Some (Id id)))) }
+    ensures recorded { IfOk result (λ v. IsRecorded (E.maps encoder.new) (Id id) v) }
     ensures grows { Longer (E.scope encoder.old) (E.scope encoder.new) }
     ensures setting { E.setting encoder.new ≡ E.setting encoder.old }
     ensures faithful { Faithful (E.setting encoder.new) (E.scope encoder.new) (E.maps encoder.new) }

@@ -8,7 +8,7 @@ ghost use Rattle.wit_data.specs.Values.{kind_at};
 ghost use Rattle.wit_data.specs.declared.types.Type.TheVariants.{Id};
 ghost use Rattle.wit_types.specs.Settings.{tree_in, owner_at, name_at};
 ghost use Rattle.wit_types.specs.Denoting.{Longer, Denotes};
-ghost use Rattle.wit_types.specs.Maps.{Faithful};
+ghost use Rattle.wit_types.specs.Maps.{Faithful, HasIndex};
 ghost use Rattle.wit_types.specs.Allowing.{foreign, is_resource, is_allowed, may_export_as, IsDefinedHere};
 
 use crate::encoder::ValtypeEncoder;
@@ -35,6 +35,7 @@ pub(crate) fn find_type<E: ValtypeEncoder>(
     requires present { id.index < length types.now }
     requires allowed { IsTrue (is_allowed (E.setting encoder.old) (Some (Id id))) }
     ensures denotes { IfOk result (λ found. IfSome found (λ index. Denotes (E.scope encoder.new) index (OfValues (tree_in (E.setting encoder.old) (Some (Id id)))))) }
+    ensures recorded { IfOk result (λ found. IfSome found (λ index. HasIndex (E.maps encoder.new) id)) }
     ensures defined { IfOk result (λ found. found ≡ None → IsDefinedHere (E.setting encoder.old) (kind_at types.now id.index)) }
     ensures grows { Longer (E.scope encoder.old) (E.scope encoder.new) }
     ensures setting { E.setting encoder.new ≡ E.setting encoder.old }
@@ -50,7 +51,7 @@ pub(crate) fn find_type<E: ValtypeEncoder>(
     if is_resource(kind_of(types, id.index)) {
         return Ok(Some(export_resource(alloc, encoder, types, id)?));
     }
-    Ok(equal_type(encoder, types, id))
+    equal_type(encoder, types, id)
 }
 
 /// Imports a type of another interface.
@@ -68,6 +69,7 @@ fn import_type<E: ValtypeEncoder>(
     requires allowed { IsTrue (is_allowed (E.setting encoder.old) (Some (Id id))) }
     requires foreign { foreign (E.setting encoder.old).interface (owner_at types.now id.index) ≡ Some interface }
     ensures denotes { IfOk result (λ index. Denotes (E.scope encoder.new) index (OfValues (tree_in (E.setting encoder.old) (Some (Id id))))) }
+    ensures recorded { IfOk result (λ index. HasIndex (E.maps encoder.new) id) }
     ensures grows { Longer (E.scope encoder.old) (E.scope encoder.new) }
     ensures setting { E.setting encoder.new ≡ E.setting encoder.old }
     ensures faithful { Faithful (E.setting encoder.new) (E.scope encoder.new) (E.maps encoder.new) }
@@ -93,6 +95,7 @@ fn export_resource<E: ValtypeEncoder>(
     requires own { foreign (E.setting encoder.old).interface (owner_at types.now id.index) ≡ None }
     requires resource { is_resource (kind_at types.now id.index) ≡ true }
     ensures denotes { IfOk result (λ index. Denotes (E.scope encoder.new) index (OfValues (tree_in (E.setting encoder.old) (Some (Id id))))) }
+    ensures recorded { IfOk result (λ index. HasIndex (E.maps encoder.new) id) }
     ensures grows { Longer (E.scope encoder.old) (E.scope encoder.new) }
     ensures setting { E.setting encoder.new ≡ E.setting encoder.old }
     ensures faithful { Faithful (E.setting encoder.new) (E.scope encoder.new) (E.maps encoder.new) }
@@ -118,6 +121,7 @@ fn export_resource_as<E: ValtypeEncoder>(
     requires named { IsTrue (may_export_as (E.setting encoder.old) id.index (Some name)) }
     requires resource { is_resource (kind_at types.now id.index) ≡ true }
     ensures denotes { IfOk result (λ index. Denotes (E.scope encoder.new) index (OfValues (tree_in (E.setting encoder.old) (Some (Id id))))) }
+    ensures recorded { IfOk result (λ index. HasIndex (E.maps encoder.new) id) }
     ensures grows { Longer (E.scope encoder.old) (E.scope encoder.new) }
     ensures setting { E.setting encoder.new ≡ E.setting encoder.old }
     ensures faithful { Faithful (E.setting encoder.new) (E.scope encoder.new) (E.maps encoder.new) }
@@ -132,19 +136,30 @@ fn export_resource_as<E: ValtypeEncoder>(
 }
 
 /// The index of a type without a name that was met and is equal.
-fn equal_type<E: ValtypeEncoder>(encoder: &mut E, types: &[TypeDef], id: TypeId) -> Option<u32>
+fn equal_type<E: ValtypeEncoder>(
+    encoder: &mut E,
+    types: &[TypeDef],
+    id: TypeId,
+) -> Result<Option<u32>, BuildFault>
     requires back { RefersBack types.now }
     requires same { (E.setting encoder.old).types ≡ types.now }
     requires faithful { Faithful (E.setting encoder.old) (E.scope encoder.old) (E.maps encoder.old) }
     requires present { id.index < length types.now }
-    ensures denotes { IfSome result (λ index. Denotes (E.scope encoder.new) index (OfValues (tree_in (E.setting encoder.old) (Some (Id id))))) }
+    ensures denotes { IfOk result (λ found. IfSome found (λ index. Denotes (E.scope encoder.new) index (OfValues (tree_in (E.setting encoder.old) (Some (Id id)))))) }
+    ensures recorded { IfOk result (λ found. IfSome found (λ index. HasIndex (E.maps encoder.new) id)) }
     ensures scope { E.scope encoder.new ≡ E.scope encoder.old }
     ensures setting { E.setting encoder.new ≡ E.setting encoder.old }
     ensures faithful { Faithful (E.setting encoder.new) (E.scope encoder.new) (E.maps encoder.new) }
     ensures follows { E.follows encoder.old encoder.new }
 {
     if has_name(types, id) {
-        return None;
+        return Ok(None);
     }
-    met_kind(encoder, kind_of(types, id.index))
+    match met_kind(encoder, kind_of(types, id.index)) {
+        Some(index) => {
+            record_type(encoder, id, index)?;
+            Ok(Some(index))
+        }
+        None => Ok(None),
+    }
 }

@@ -7,7 +7,7 @@ ghost use Rattle.wit_data.specs.Values.{kind_at};
 ghost use Rattle.wit_data.specs.declared.types.Type.TheVariants.{Id};
 ghost use Rattle.wit_types.specs.Settings.{tree_in, name_at};
 ghost use Rattle.wit_types.specs.Denoting.{Longer, Denotes, ValueDenotes};
-ghost use Rattle.wit_types.specs.Maps.{Faithful};
+ghost use Rattle.wit_types.specs.Maps.{Faithful, IsRecorded};
 ghost use Rattle.wit_types.specs.Allowing.{is_resource};
 
 use crate::encoder::ValtypeEncoder;
@@ -35,6 +35,7 @@ pub(crate) fn export_and_record<E: ValtypeEncoder>(
     requires values { is_resource (kind_at types.now id.index) ≡ false }
     requires value { ValueDenotes (E.scope encoder.old) value (tree_in (E.setting encoder.old) (Some (Id id))) }
     ensures value { IfOk result (λ v. ValueDenotes (E.scope encoder.new) v (tree_in (E.setting encoder.old) (Some (Id id)))) }
+    ensures recorded { IfOk result (λ v. IsRecorded (E.maps encoder.new) (Id id) v) }
     ensures grows { Longer (E.scope encoder.old) (E.scope encoder.new) }
     ensures setting { E.setting encoder.new ≡ E.setting encoder.old }
     ensures faithful { Faithful (E.setting encoder.new) (E.scope encoder.new) (E.maps encoder.new) }
@@ -61,6 +62,7 @@ fn record_named<E: ValtypeEncoder>(
     requires named { name_at types.now id.index ≡ Some name }
     requires value { ValueDenotes (E.scope encoder.old) value (tree_in (E.setting encoder.old) (Some (Id id))) }
     ensures value { IfOk result (λ v. ValueDenotes (E.scope encoder.new) v (tree_in (E.setting encoder.old) (Some (Id id)))) }
+    ensures recorded { IfOk result (λ v. IsRecorded (E.maps encoder.new) (Id id) v) }
     ensures grows { Longer (E.scope encoder.old) (E.scope encoder.new) }
     ensures setting { E.setting encoder.new ≡ E.setting encoder.old }
     ensures faithful { Faithful (E.setting encoder.new) (E.scope encoder.new) (E.maps encoder.new) }
@@ -117,6 +119,7 @@ fn record_unnamed<E: ValtypeEncoder>(
     requires values { is_resource (kind_at types.now id.index) ≡ false }
     requires value { ValueDenotes (E.scope encoder.old) value (tree_in (E.setting encoder.old) (Some (Id id))) }
     ensures value { IfOk result (λ v. ValueDenotes (E.scope encoder.new) v (tree_in (E.setting encoder.old) (Some (Id id)))) }
+    ensures recorded { IfOk result (λ v. IsRecorded (E.maps encoder.new) (Id id) v) }
     ensures grows { Longer (E.scope encoder.old) (E.scope encoder.new) }
     ensures setting { E.setting encoder.new ≡ E.setting encoder.old }
     ensures faithful { Faithful (E.setting encoder.new) (E.scope encoder.new) (E.maps encoder.new) }
@@ -126,8 +129,8 @@ fn record_unnamed<E: ValtypeEncoder>(
         ComponentValType::Primitive(primitive) => Ok(ComponentValType::Primitive(primitive)),
         ComponentValType::Defined(index) => {
             let kind = kind_of(types, id.index).try_clone(alloc)?;
-            record_type(encoder, id, index)?;
             record_kind(encoder, kind, index)?;
+            record_type(encoder, id, index)?;
             Ok(ComponentValType::Defined(index))
         }
     }

@@ -8,7 +8,7 @@ ghost use Rattle.wit_data.specs.Parts.{parts};
 ghost use Rattle.wit_data.specs.declared.types.Type.TheVariants.{Id};
 ghost use Rattle.wit_types.specs.Settings.{tree_in};
 ghost use Rattle.wit_types.specs.Denoting.{Denotes};
-ghost use Rattle.wit_types.specs.Maps.{Faithful, key_tree};
+ghost use Rattle.wit_types.specs.Maps.{Faithful, HasIndex, key_tree};
 
 use crate::encoder::ValtypeEncoder;
 use crate::maps::FuncTypeKey;
@@ -19,6 +19,7 @@ use wit_data::{TypeDefKind, TypeId};
 pub(crate) fn met_type<E: ValtypeEncoder>(encoder: &mut E, id: TypeId) -> Option<u32>
     requires faithful { Faithful (E.setting encoder.old) (E.scope encoder.old) (E.maps encoder.old) }
     ensures denotes { IfSome result (λ index. Denotes (E.scope encoder.old) index (OfValues (tree_in (E.setting encoder.old) (Some (Id id))))) }
+    ensures recorded { IfSome result (λ index. HasIndex (E.maps encoder.new) id) }
     ensures scope { E.scope encoder.new ≡ E.scope encoder.old }
     ensures setting { E.setting encoder.new ≡ E.setting encoder.old }
     ensures faithful { Faithful (E.setting encoder.new) (E.scope encoder.new) (E.maps encoder.new) }
@@ -35,6 +36,7 @@ pub(crate) fn record_type<E: ValtypeEncoder>(
 ) -> Result<(), AllocError>
     requires faithful { Faithful (E.setting encoder.old) (E.scope encoder.old) (E.maps encoder.old) }
     requires denotes { Denotes (E.scope encoder.old) index (OfValues (tree_in (E.setting encoder.old) (Some (Id id)))) }
+    ensures recorded { OnOk result (HasIndex (E.maps encoder.new) id) }
     ensures scope { E.scope encoder.new ≡ E.scope encoder.old }
     ensures setting { E.setting encoder.new ≡ E.setting encoder.old }
     ensures faithful { Faithful (E.setting encoder.new) (E.scope encoder.new) (E.maps encoder.new) }
