@@ -1,7 +1,7 @@
 -- The type of functions is that of a key, where its parameters and its result have the value types of the key's.
 use Rattle.std.proofs.Common.{◌≡◌, ℕ, zero, suc, ◌+◌, ◌<◌, ◌≤◌, Bool, List, [], ◌∷◌, ◌++◌, length, get_or, take, map, refl, subst, sym, ap, ◌∙◌, arith, Option, Some, None}
 use Rattle.std.specs.Prelude.{option_map}
-use Rattle.std.specs.List.{AllByRecursion, AllZip, flat_map}
+use Rattle.std.specs.List.{AllByRecursion, AllZip}
 use Rattle.std.proofs.lemmas.List.{take_more}
 use Rattle.comp_lists.proofs.Lists.{AllZip-weaker, AllZip-end}
 use Rattle.wit_data.specs.declared.types.Type.{«Type» as Ty}
@@ -18,7 +18,7 @@ use Rattle.comp_trees.specs.Trees.{Tree, ParamTree, FunctionTree}
 use Rattle.comp_trees.specs.DefinedTrees.{TypeTree, value_tree, function_tree}
 use Rattle.wit_types.specs.declared.maps.FuncTypeKey.{FuncTypeKey}
 use Rattle.wit_types.specs.Settings.{Setting, tree_in}
-use Rattle.wit_types.specs.Denoting.{Longer, AreTypes, ValueDenotes}
+use Rattle.wit_types.specs.Denoting.{Longer, AreTypes}
 use Rattle.wit_types.specs.Definitions.{PartDenotes}
 use Rattle.wit_types.specs.Functions.{FieldDenotes, FieldsDenote}
 use Rattle.wit_types.specs.Maps.{key_of, key_tree}
@@ -41,10 +41,10 @@ pub fields_more : (s : Setting) (old new : List TypeTree) (fields now : List Fie
 fields_more s old new fields now params n field param g l is h there p =
     record {
       each = subst (λ fs. AllZip (FieldDenotes s new) fs (take (n + 1) params)) (sym is)
-        (subst (λ ps. AllZip (FieldDenotes s new) (fields ++ field ∷ []) ps) (sym (take_more params n param l))
+          (subst (λ ps. AllZip (FieldDenotes s new) (fields ++ field ∷ []) ps) (sym (take_more params n param l))
           (AllZip-end (FieldDenotes s new) fields (take n params) field (get_or params n param)
-            (AllZip-weaker {R = FieldDenotes s old} {S = FieldDenotes s new} (λ x y k. field_on s old new x y g k) fields (take n params) h.each)
-            (subst (λ q. FieldDenotes s new field q) there p)));
+          (AllZip-weaker {R = FieldDenotes s old} {S = FieldDenotes s new} (λ x y k. field_on s old new x y g k) fields (take n params) h.each)
+          (subst (λ q. FieldDenotes s new field q) there p)));
     }
 
 pub fields_whole : (s : Setting) (scope : List TypeTree) (fields : List Field) (params : List Param) (n : ℕ) → length params ≤ n → FieldsSoFar s scope fields params n → FieldsDenote s scope fields params

@@ -1,14 +1,13 @@
 -- The definition of a kind is the tree of the kind, where the value types of its parts are their trees.
-use Rattle.std.proofs.Common.{◌≡◌, ℕ, ◌<◌, Bool, true, false, List, [], ◌∷◌, ◌++◌, length, get_or, map, refl, ap, subst, ◌∙◌, sym, true≢false, Option, Some, None}
-use Rattle.std.specs.List.{AllByRecursion, AllZip, flat_map}
+use Rattle.std.proofs.Common.{◌≡◌, ℕ, List, [], ◌∷◌, ◌++◌, length, map, refl, ap, subst, ◌∙◌, sym, Option, Some, None}
+use Rattle.std.specs.List.{AllZip, flat_map}
 use Rattle.comp_bytes.specs.References.{Reference, value_references, where_some, defined_references}
 use Rattle.comp_bytes.specs.declared.types.ComponentValType.{ComponentValType}
 use Rattle.comp_bytes.specs.declared.types.ComponentValType.TheVariants as values
 use Rattle.comp_bytes.specs.declared.types.DefinedType.{DefinedType}
-use Rattle.comp_bytes.specs.declared.types.DefinedType.TheVariants as defined
-use Rattle.comp_trees.specs.Trees.{Tree, Trees, Absent, RecordOf, TupleOf, VariantOf, ListOf, OptionOf, ResultOf, OwnOf, BorrowOf, StreamOf, FutureOf, trees_of}
+use Rattle.comp_trees.specs.Trees.{Tree, Absent, RecordOf, TupleOf, VariantOf, ListOf, OptionOf, ResultOf, StreamOf, FutureOf, trees_of}
 use Rattle.comp_trees.specs.WitTrees.{kind_tree}
-use Rattle.comp_trees.specs.DefinedTrees.{TypeTree, OfValues, values_of, tree_at, value_tree, payload_tree, defined_tree}
+use Rattle.comp_trees.specs.DefinedTrees.{TypeTree, values_of, value_tree, payload_tree, defined_tree}
 use Rattle.wit_data.specs.declared.types.Type.{«Type» as Ty}
 use Rattle.wit_data.specs.declared.types.Field.{Field as WitField}
 use Rattle.wit_data.specs.declared.types.Case.{Case as WitCase}
@@ -16,9 +15,8 @@ use Rattle.wit_data.specs.declared.types.TypeDefKind.{TypeDefKind}
 use Rattle.wit_data.specs.declared.types.TypeDefKind.TheVariants as kinds
 use Rattle.wit_data.specs.Parts.{parts}
 use Rattle.wit_types.specs.Settings.{Setting, tree_in}
-use Rattle.wit_types.specs.Denoting.{Denotes, AreTypes, ValueDenotes}
-use Rattle.wit_types.specs.Definitions.{PartDenotes, PartsDenote, OnlyPart, IsDefined, fields_of, cases_of, members_of, first, second, definition}
-use Rattle.wit_types.specs.Allowing.{is_resource}
+use Rattle.wit_types.specs.Denoting.{AreTypes, ValueDenotes}
+use Rattle.wit_types.specs.Definitions.{PartDenotes, PartsDenote, IsDefined, fields_of, cases_of, members_of, definition}
 
 pub value_is : (scope : List TypeTree) (v : ComponentValType) (t : Tree) → ValueDenotes scope v t → value_tree scope v ≡ t
 value_is scope (values.Primitive p) t d = d.is
@@ -125,13 +123,13 @@ of_kind s scope vs (kinds.Record fields) i h =
     record {
       stands = fields_stand s scope fields vs h;
       tree = λ n. ap (λ ns. RecordOf ns (trees_of (map (λ f. value_tree scope f.ty) (fields_of fields vs)))) (fields_names s scope fields vs h)
-        ∙ ap (λ ts. RecordOf (map (λ f. f.name) fields) (trees_of ts)) (fields_trees s scope fields vs h);
+          ∙ ap (λ ts. RecordOf (map (λ f. f.name) fields) (trees_of ts)) (fields_trees s scope fields vs h);
     }
 of_kind s scope vs (kinds.Variant cases) i h =
     record {
       stands = cases_stand s scope cases vs h;
       tree = λ n. ap (λ ns. VariantOf ns (trees_of (map (λ c. payload_tree scope c.ty) (cases_of cases vs)))) (cases_names s scope cases vs h)
-        ∙ ap (λ ts. VariantOf (map (λ c. c.name) cases) (trees_of ts)) (cases_trees s scope (absent_is s) cases vs h);
+          ∙ ap (λ ts. VariantOf (map (λ c. c.name) cases) (trees_of ts)) (cases_trees s scope (absent_is s) cases vs h);
     }
 of_kind s scope vs (kinds.Enum names) i h = record { stands = tt; tree = λ n. refl }
 of_kind s scope vs (kinds.Flags names) i h = record { stands = tt; tree = λ n. refl }

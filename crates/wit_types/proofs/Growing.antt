@@ -1,5 +1,5 @@
 -- What holds in a scope holds after it grew, and what is found in a table keeps what its entries keep.
-use Rattle.std.proofs.Common.{◌≡◌, ℕ, Bool, true, false, ◌+◌, ◌<◌, List, [], ◌∷◌, ◌++◌, length, get_or, map, refl, ap, subst, ◌∙◌, sym, arith, append_assoc, append-nil, Option, Some, None, cond, if◌then◌else◌, is_some}
+use Rattle.std.proofs.Common.{◌≡◌, ℕ, Bool, true, false, List, [], ◌∷◌, ◌++◌, map, refl, ap, subst, ◌∙◌, sym, arith, append_assoc, append-nil, Option, Some, None, cond, if◌then◌else◌, is_some}
 use Rattle.std.specs.List.{AllByRecursion}
 use Rattle.std.specs.Option.{IfSome}
 use Rattle.std.specs.Prelude.{IfOk, OnOk, OnErr, Result, Ok, Err}
@@ -9,8 +9,6 @@ use Rattle.std.specs.Map.{lookup}
 use Rattle.std.proofs.lemmas.List.{length-append, get_or_append_left}
 use Rattle.comp_lists.specs.Tables.{with_first}
 use Rattle.comp_lists.proofs.Lists.{AllByRecursion-push, AllByRecursion-weaker}
-use Rattle.comp_bytes.specs.References.{Reference, own, value_references}
-use Rattle.comp_bytes.specs.declared.space.Space.TheVariants as spaces
 use Rattle.comp_bytes.specs.declared.types.ComponentValType.{ComponentValType}
 use Rattle.comp_bytes.specs.declared.types.ComponentValType.TheVariants as values
 use Rattle.comp_trees.specs.Trees.{Tree}
@@ -39,8 +37,10 @@ longer_on {a = a} g h = record { more = g.more ++ h.more; longer = h.longer ∙ 
 pub denotes_on : {old new : List TypeTree} {i : ℕ} {t : TypeTree} → Longer old new → Denotes old i t → Denotes new i t
 denotes_on {old = old} {new = new} {i = i} {t = t} g d =
     subst (λ ts. Denotes ts i t) (sym g.longer)
-      (record { stands = let s = d.stands in omega (arith, s, length-append old g.more)
-              ; tree = get_or_append_left old g.more OfOthers i d.stands ∙ d.tree })
+    (record {
+      stands = let s = d.stands in omega (arith, s, length-append old g.more);
+      tree = get_or_append_left old g.more OfOthers i d.stands ∙ d.tree;
+    })
 
 pub denotes_as : {old new : List TypeTree} {i : ℕ} {t u : TypeTree} → Denotes old i t → new ≡ old → t ≡ u → Denotes new i u
 denotes_as {old = old} {new = new} {i = i} {t = t} {u = u} d e f = subst (λ ts. Denotes ts i u) (sym e) (subst (λ v. Denotes old i v) f d)

@@ -1,5 +1,5 @@
 -- What the types of a list denote, after one more.
-use Rattle.std.proofs.Common.{◌≡◌, ℕ, ◌+◌, ◌<◌, List, [], ◌∷◌, ◌++◌, length, refl, ap, ◌∙◌, sym, subst, arith}
+use Rattle.std.proofs.Common.{◌≡◌, ℕ, ◌+◌, List, [], ◌∷◌, ◌++◌, length, refl, ap, ◌∙◌, sym, subst, arith}
 use Rattle.std.specs.Prelude.{Result, Ok, Err, IfOk, OnOk, OnErr}
 use Rattle.byte_encoding.specs.declared.fault.BuildFault.{BuildFault}
 use Rattle.std.proofs.lemmas.List.{length-append}
@@ -30,7 +30,7 @@ denotes_new old new t index at is =
     let u = listed_tree (listed_trees [] old) t in
     subst (λ ts. Denotes ts index u) (sym (ap (listed_trees []) is ∙ list_more [] old t))
     (subst (λ k. Denotes (listed_trees [] old ++ u ∷ []) k u) (length_list old ∙ sym at)
-      (record { stands = omega (arith, length-append (listed_trees [] old) (u ∷ [])); tree = get_or-append_seam (listed_trees [] old) u [] OfOthers }))
+    (record { stands = omega (arith, length-append (listed_trees [] old) (u ∷ [])); tree = get_or-append_seam (listed_trees [] old) u [] OfOthers }))
 
 pub added : (old new : List ListedType) (t : ListedType) (r : Result ℕ BuildFault) → IfOk r (λ i. i ≡ length old) → OnOk r (new ≡ old ++ t ∷ []) → OnErr r (new ≡ old) → Makes (listed_trees [] old) (listed_trees [] new) r (listed_tree (listed_trees [] old) t)
 added old new t (Ok i) at is same = (grows_by old new t is, denotes_new old new t i at is)

@@ -1,5 +1,5 @@
 -- The value types of the parts of a kind, part by part.
-use Rattle.std.proofs.Common.{◌≡◌, ℕ, zero, suc, ◌+◌, ◌<◌, ◌≤◌, List, [], ◌∷◌, ◌++◌, length, get_or, take, refl, subst, sym, ap, ◌∙◌, arith, Option, Some, None}
+use Rattle.std.proofs.Common.{◌≡◌, ℕ, zero, suc, ◌+◌, ◌<◌, ◌≤◌, List, [], ◌∷◌, ◌++◌, length, get_or, take, refl, subst, sym, ap, arith, Option, Some, None}
 use Rattle.std.specs.List.{AllZip}
 use Rattle.std.proofs.lemmas.List.{take_more}
 use Rattle.comp_lists.proofs.Lists.{AllZip-weaker, AllZip-end}
@@ -33,9 +33,9 @@ pub parts_more : (s : Setting) (old new : List TypeTree) (given now : List (Opti
 parts_more s old new given now kind n v g l is h p =
     record {
       each = subst (λ vs. AllZip (PartDenotes s new) vs (take (n + 1) (parts kind))) (sym is)
-        (subst (λ ps. AllZip (PartDenotes s new) (given ++ v ∷ []) ps) (sym (take_more (parts kind) n None l))
+          (subst (λ ps. AllZip (PartDenotes s new) (given ++ v ∷ []) ps) (sym (take_more (parts kind) n None l))
           (AllZip-end (PartDenotes s new) given (take n (parts kind)) v (get_or (parts kind) n None)
-            (AllZip-weaker {R = PartDenotes s old} {S = PartDenotes s new} (λ x y k. part_on s old new x y g k) given (take n (parts kind)) h.each) p));
+          (AllZip-weaker {R = PartDenotes s old} {S = PartDenotes s new} (λ x y k. part_on s old new x y g k) given (take n (parts kind)) h.each) p));
     }
 
 pub take_whole : {X : Type 0} (xs : List X) (n : ℕ) → length xs ≤ n → take n xs ≡ xs

@@ -10,7 +10,6 @@ use Rattle.wit_data.specs.declared.types.Type.{«Type» as Ty}
 use Rattle.wit_data.specs.declared.types.Field.{Field}
 use Rattle.wit_data.specs.declared.types.Case.{Case}
 use Rattle.wit_data.specs.declared.types.ResultType.{ResultType}
-use Rattle.wit_data.specs.declared.types.TypeDefKind.{TypeDefKind}
 use Rattle.wit_data.specs.declared.types.TypeDefKind.TheVariants as kinds
 use Rattle.wit_data.specs.declared.functions.Param.{Param}
 use Rattle.wit_data.specs.contracts.ids.TypeIdPartialEq.TheImpl as id_eq

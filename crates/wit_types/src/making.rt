@@ -147,7 +147,10 @@ pub(crate) fn index_of<E: ValtypeEncoder>(
 }
 
 /// Defines a type of values.
-pub(crate) fn define_type<E: ValtypeEncoder>(encoder: &mut E, ty: DefinedType) -> Result<u32, BuildFault>
+pub(crate) fn define_type<E: ValtypeEncoder>(
+    encoder: &mut E,
+    ty: DefinedType,
+) -> Result<u32, BuildFault>
     requires faithful { Faithful (E.setting encoder.old) (E.scope encoder.old) (E.maps encoder.old) }
     requires present { AreTypes (length (E.scope encoder.old)) (defined_references ty) }
     ensures denotes { IfOk result (λ index. Denotes (E.scope encoder.new) index (OfValues (defined_tree (E.scope encoder.old) ty))) }

@@ -42,7 +42,11 @@ pub(crate) fn owner_of(types: &[TypeDef], id: TypeId) -> TypeOwner
 
 /// The name of the type with an index, where it has one.
 #[tactic(auto, using(crate::proofs::Owning::name_there))]
-pub(crate) fn name_of(alloc: Global, types: &[TypeDef], id: TypeId) -> Result<Option<Text>, AllocError>
+pub(crate) fn name_of(
+    alloc: Global,
+    types: &[TypeDef],
+    id: TypeId,
+) -> Result<Option<Text>, AllocError>
     requires { id.index < length types.now }
     ensures { IfOk result (λ name. name ≡ name_at types.now id.index) }
 {

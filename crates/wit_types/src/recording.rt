@@ -94,10 +94,13 @@ fn export_index<E: ValtypeEncoder>(
     ensures faithful { Faithful (E.setting encoder.new) (E.scope encoder.new) (E.maps encoder.new) }
     ensures follows { E.follows encoder.old encoder.new }
 {
-    let exported = encoder.export_type(defined, ExternName {
-        name,
-        version_suffix: None,
-    })?;
+    let exported = encoder.export_type(
+        defined,
+        ExternName {
+            name,
+            version_suffix: None,
+        },
+    )?;
     match exported {
         Some(index) => Ok(index),
         None => Ok(defined),

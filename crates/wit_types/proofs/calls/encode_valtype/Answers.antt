@@ -1,4 +1,4 @@
-use Rattle.std.proofs.Common.{Some, ◌∙◌}
+use Rattle.std.proofs.Common.{Some}
 use Rattle.wit_types.proofs.Growing.{result_as}
 use Rattle.wit_types.proofs.Permitting.{same_tree}
 use Rattle.wit_types.proofs.calls.encode_valtype.Goals as goal

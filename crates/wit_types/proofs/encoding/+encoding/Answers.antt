@@ -29,8 +29,8 @@ encode_parts-loop-n-preserved g t c =
     let within : c.loop-n.n < length (parts (kind_at c.args.types.now c.args.id.index)) = omega (arith, c.loop-n-test.true, c.part_count_of-n-end.ensures) in
     record {
       parts = parts_more (g.E.ValtypeEncoder.setting c.args.encoder.now) (g.E.ValtypeEncoder.scope c.loop-n.encoder) (g.E.ValtypeEncoder.scope c.encode_part.new.encoder)
-        c.loop-n.given.items c.push.new.self.items kind c.loop-n.n c.in_ok-encode_part.field-0 e.grows within c.in_ok-push.ensures.items i.parts
-        (subst (λ (s : Setting). PartDenotes s (g.E.ValtypeEncoder.scope c.encode_part.new.encoder) c.in_ok-encode_part.field-0 (get_or (parts kind) c.loop-n.n None)) i.setting e.part);
+          c.loop-n.given.items c.push.new.self.items kind c.loop-n.n c.in_ok-encode_part.field-0 e.grows within c.in_ok-push.ensures.items i.parts
+          (subst (λ (s : Setting). PartDenotes s (g.E.ValtypeEncoder.scope c.encode_part.new.encoder) c.in_ok-encode_part.field-0 (get_or (parts kind) c.loop-n.n None)) i.setting e.part);
       same = ap (λ (s : Setting). s.types) e.setting ∙ i.same;
       defined = subst (λ (s : Setting). IsDefinedHere s kind) (sym e.setting) i.defined;
       grows = longer_on i.grows e.grows;

@@ -10,12 +10,12 @@ pub record_type-requires-clause-denotes : goal.record_type-requires-clause-denot
 record_type-requires-clause-denotes g c =
     denotes_as
     (equal_found (g.E.ValtypeEncoder.setting c.args.encoder.now) c.args.types.now c.args.id c.kind_of.result.now (g.E.ValtypeEncoder.scope c.args.encoder.now) c.in-Some.index
-      c.requires.same c.requires.back c.requires.present c.kind_of.ensures c.in-Some.ensures.denotes)
+    c.requires.same c.requires.back c.requires.present c.kind_of.ensures c.in-Some.ensures.denotes)
     c.met_kind.ensures.scope (ap (λ (s : Setting). OfValues (tree_in s (Some (Id c.args.id)))) (sym c.met_kind.ensures.setting))
 
 pub returns-in_ok-record_type-in-Some-clause-denotes : goal.returns-in_ok-record_type-in-Some-clause-denotes
 returns-in_ok-record_type-in-Some-clause-denotes g c =
     denotes_as
     (equal_found (g.E.ValtypeEncoder.setting c.args.encoder.now) c.args.types.now c.args.id c.kind_of.result.now (g.E.ValtypeEncoder.scope c.args.encoder.now) c.in-Some.index
-      c.requires.same c.requires.back c.requires.present c.kind_of.ensures c.in-Some.ensures.denotes)
+    c.requires.same c.requires.back c.requires.present c.kind_of.ensures c.in-Some.ensures.denotes)
     (c.record_type.ensures.scope ∙ c.met_kind.ensures.scope) refl

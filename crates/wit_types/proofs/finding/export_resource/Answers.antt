@@ -1,4 +1,4 @@
-use Rattle.std.proofs.Common.{◌≡◌, true, sym, ap, ◌∙◌, List, ℕ, Option, Some, None}
+use Rattle.std.proofs.Common.{sym, ap, ◌∙◌, List, ℕ, Option}
 use Rattle.wit_types.specs.Allowing.{may_export_as}
 use Rattle.wit_types.proofs.Permitting.{may_export, unnamed_resource}
 use Rattle.wit_types.proofs.finding.export_resource.Goals as goal

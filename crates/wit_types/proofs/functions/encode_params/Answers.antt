@@ -14,8 +14,8 @@ loop-n-preserved g c =
     let within : c.loop-n.n < length c.args.params.now = omega (arith, c.loop-n-test.true) in
     record {
       fields = fields_more (g.E.ValtypeEncoder.setting c.args.encoder.now) (g.E.ValtypeEncoder.scope c.loop-n.encoder) (g.E.ValtypeEncoder.scope c.encode_param.new.encoder)
-        c.loop-n.fields c.push.new.self c.args.params.now c.loop-n.n c.in_ok-encode_param.field-0 c.index-params-n.result e.grows within c.in_ok-push.ensures.ok i.fields c.index-params-n.is
-        (subst (λ (s : Setting). FieldDenotes s (g.E.ValtypeEncoder.scope c.encode_param.new.encoder) c.in_ok-encode_param.field-0 c.index-params-n.result) i.setting e.field);
+          c.loop-n.fields c.push.new.self c.args.params.now c.loop-n.n c.in_ok-encode_param.field-0 c.index-params-n.result e.grows within c.in_ok-push.ensures.ok i.fields c.index-params-n.is
+          (subst (λ (s : Setting). FieldDenotes s (g.E.ValtypeEncoder.scope c.encode_param.new.encoder) c.in_ok-encode_param.field-0 c.index-params-n.result) i.setting e.field);
       same = ap (λ (s : Setting). s.types) e.setting ∙ i.same;
       params = subst (λ (s : Setting). AllByRecursion (λ p. MayEncode s c.args.types.now (Some p.ty)) c.args.params.now) (sym e.setting) i.params;
       grows = longer_on i.grows e.grows;

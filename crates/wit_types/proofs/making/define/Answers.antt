@@ -1,4 +1,4 @@
-use Rattle.std.proofs.Common.{ap, sym, ◌∙◌}
+use Rattle.std.proofs.Common.{sym, ◌∙◌}
 use Rattle.wit_data.specs.declared.types.TypeDefKind.TheVariants as kinds
 use Rattle.wit_types.proofs.Growing.{value_as, result_as}
 use Rattle.wit_types.proofs.Permitting.{tree_of_kind}

@@ -1,6 +1,5 @@
-use Rattle.std.proofs.Common.{ap, sym, ◌∙◌}
-use Rattle.comp_trees.specs.DefinedTrees.{OfValues}
-use Rattle.wit_types.proofs.Growing.{denotes_as, value_of_index, value_as}
+use Rattle.std.proofs.Common.{sym, ◌∙◌}
+use Rattle.wit_types.proofs.Growing.{value_of_index, value_as}
 use Rattle.wit_types.proofs.Defining.{defined_as}
 use Rattle.wit_types.proofs.making.define_kind.Goals as goal
 
