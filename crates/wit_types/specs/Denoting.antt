@@ -3,6 +3,7 @@
 use Rattle.std.specs.Prelude.{ℕ, ◌≡◌, ◌<◌, List, ◌++◌, length, get_or, Option, Some, None, Result, Ok, Err}
 use Rattle.std.specs.List.{AllByRecursion}
 use Rattle.byte_encoding.specs.declared.fault.BuildFault.{BuildFault}
+use Rattle.byte_encoding.specs.declared.fault.BuildFault.TheVariants.{Memory, TooMany}
 use Rattle.comp_bytes.specs.declared.space.Space.TheVariants as spaces
 use Rattle.comp_bytes.specs.declared.types.ComponentValType.{ComponentValType}
 use Rattle.comp_bytes.specs.declared.types.ComponentValType.TheVariants as values
@@ -42,3 +43,8 @@ abbrev pub MayMake : List TypeTree → List TypeTree → Result (Option ℕ) Bui
 MayMake old new (Ok (Some index)) t = Longer old new × Denotes new index t
 MayMake old new (Ok None) t = Longer old new
 MayMake old new (Err e) t = Longer old new
+
+-- Out of memory, or a count for which a call of the scope may have refused, which left the scope so.
+abbrev pub IsCause : {S : Type 0} → (S → ℕ → Type 0) → S → BuildFault → Type 0
+IsCause refuses scope Memory = Unit {0}
+IsCause refuses scope (TooMany count) = refuses scope count

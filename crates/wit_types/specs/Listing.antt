@@ -1,5 +1,5 @@
 -- What the types of a list that stands alone denote (component model, explainer: type definitions).
-use Rattle.std.specs.Prelude.{◌≡◌, false, List, [], ◌∷◌, ◌++◌, get_or, None}
+use Rattle.std.specs.Prelude.{ℕ, ◌≡◌, ◌≤◌, ◌^◌, length, false, List, [], ◌∷◌, ◌++◌, get_or, None}
 use Rattle.std.proofs.Common.{sym, ap, ◌∙◌, append_assoc, append-nil}
 use Rattle.wit_data.specs.declared.types.TypeDef.{TypeDef}
 use Rattle.comp_trees.specs.DefinedTrees.{TypeTree, OfValues, OfFunctions, OfOthers, defined_tree, function_tree}
@@ -28,6 +28,10 @@ standing_alone types =
       may_export = λ name. false;
       address = λ name. 0;
     }
+
+-- the count of a list that has more types than an index can name
+abbrev pub is_full : List ListedType → ℕ → Type 0
+is_full listed count = (2 ^ 32 ≤ count) × (count ≡ length listed)
 
 -- a list that has grown at its end
 pub record ListGrows (old new : List ListedType) : Type 0 where

@@ -1,11 +1,11 @@
 //! Types of a resolve in a scope: the calls of this crate.
 
-ghost use Rattle.std.specs.Prelude.{◌≡◌, IfOk, IsTrue, Some};
+ghost use Rattle.std.specs.Prelude.{◌≡◌, IfOk, IfErr, IsTrue, Some};
 ghost use Rattle.comp_trees.specs.Trees.{Absent, StreamOf, FutureOf};
 ghost use Rattle.comp_trees.specs.WitTrees.{wit_tree, wit_function_tree};
 ghost use Rattle.comp_trees.specs.DefinedTrees.{OfValues, OfFunctions};
 ghost use Rattle.wit_data.specs.Sound.{IsSound, HasType, HasFunction};
-ghost use Rattle.wit_types.specs.Denoting.{Longer, Denotes, ValueDenotes};
+ghost use Rattle.wit_types.specs.Denoting.{Longer, Denotes, ValueDenotes, IsCause};
 ghost use Rattle.wit_types.specs.Maps.{Faithful, IsRecorded};
 ghost use Rattle.wit_types.specs.Allowing.{is_allowed, allows_function};
 
@@ -36,6 +36,7 @@ pub fn encode_valtype<E: ValtypeEncoder>(
     ensures setting { E.setting encoder.new ≡ E.setting encoder.old }
     ensures faithful { Faithful (E.setting encoder.new) (E.scope encoder.new) (E.maps encoder.new) }
     ensures follows { E.follows encoder.old encoder.new }
+    ensures cause { IfErr result (IsCause E.refuses encoder.new) }
 {
     encode_type(alloc, encoder, resolve.types.as_slice(), *ty)
 }
@@ -57,6 +58,7 @@ pub fn encode_func_type<E: ValtypeEncoder>(
     ensures setting { E.setting encoder.new ≡ E.setting encoder.old }
     ensures faithful { Faithful (E.setting encoder.new) (E.scope encoder.new) (E.maps encoder.new) }
     ensures follows { E.follows encoder.old encoder.new }
+    ensures cause { IfErr result (IsCause E.refuses encoder.new) }
 {
     encode_function(alloc, encoder, resolve.types.as_slice(), function)
 }
@@ -69,6 +71,7 @@ pub fn encode_unit_stream<E: ValtypeEncoder>(encoder: &mut E) -> Result<u32, Bui
     ensures setting { E.setting encoder.new ≡ E.setting encoder.old }
     ensures faithful { Faithful (E.setting encoder.new) (E.scope encoder.new) (E.maps encoder.new) }
     ensures follows { E.follows encoder.old encoder.new }
+    ensures cause { IfErr result (IsCause E.refuses encoder.new) }
 {
     define_type(encoder, DefinedType::Stream(None))
 }
@@ -81,6 +84,7 @@ pub fn encode_unit_future<E: ValtypeEncoder>(encoder: &mut E) -> Result<u32, Bui
     ensures setting { E.setting encoder.new ≡ E.setting encoder.old }
     ensures faithful { Faithful (E.setting encoder.new) (E.scope encoder.new) (E.maps encoder.new) }
     ensures follows { E.follows encoder.old encoder.new }
+    ensures cause { IfErr result (IsCause E.refuses encoder.new) }
 {
     define_type(encoder, DefinedType::Future(None))
 }

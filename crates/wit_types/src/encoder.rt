@@ -1,6 +1,6 @@
 //! A scope in which types are defined.
 
-ghost use Rattle.std.specs.Prelude.{◌≡◌, ◌<◌, ℕ, List, length, get_or, Some, IsTrue};
+ghost use Rattle.std.specs.Prelude.{◌≡◌, ◌<◌, ℕ, List, length, get_or, Some, IsTrue, IfErr};
 ghost use Rattle.std.specs.Borrow.{sem, Lends};
 ghost use Rattle.comp_bytes.specs.References.{defined_references, type_references};
 ghost use Rattle.comp_bytes.specs.declared.types.TypeDef.TheVariants as definitions;
@@ -8,7 +8,7 @@ ghost use Rattle.comp_trees.specs.Trees.{ResourceAt};
 ghost use Rattle.comp_trees.specs.DefinedTrees.{TypeTree, OfValues, OfFunctions, OfOthers, defined_tree, function_tree};
 ghost use Rattle.wit_data.specs.declared.types.Type.TheVariants.{Id};
 ghost use Rattle.wit_types.specs.Settings.{Setting, tree_in, NamesType};
-ghost use Rattle.wit_types.specs.Denoting.{AreTypes, Makes, MayMake};
+ghost use Rattle.wit_types.specs.Denoting.{AreTypes, Makes, MayMake, IsCause};
 ghost use Rattle.wit_types.specs.contracts.maps.TypeEncodingMaps.{the_row as maps_row};
 
 use crate::maps::TypeEncodingMaps;
@@ -34,6 +34,9 @@ pub trait ValtypeEncoder {
     /// What else holds between a scope and one that it has become.
     ghost follows: { Self → Self → Type 0 };
 
+    /// The counts for which a call may refuse, and leave the scope so.
+    ghost refuses: { Self → ℕ → Type 0 };
+
     ghost follows_itself: { (e : Self) → follows e e };
 
     ghost follows_on: { (a b c : Self) → follows a b → follows b c → follows a c };
@@ -52,7 +55,8 @@ pub trait ValtypeEncoder {
         ensures makes { Makes (scope self.old) (scope self.new) result (OfValues (defined_tree (scope self.old) ty)) }
         ensures setting { setting self.new ≡ setting self.old }
         ensures maps { maps self.new ≡ maps self.old }
-        ensures follows { follows self.old self.new };
+        ensures follows { follows self.old self.new }
+        ensures cause { IfErr result (IsCause refuses self.new) };
 
     /// Defines a type of functions.
     fn define_function_type(&mut self, ty: FuncTypeDef) -> Result<u32, BuildFault>
@@ -60,7 +64,8 @@ pub trait ValtypeEncoder {
         ensures makes { Makes (scope self.old) (scope self.new) result (OfFunctions (function_tree (scope self.old) ty)) }
         ensures setting { setting self.new ≡ setting self.old }
         ensures maps { maps self.new ≡ maps self.old }
-        ensures follows { follows self.old self.new };
+        ensures follows { follows self.old self.new }
+        ensures cause { IfErr result (IsCause refuses self.new) };
 
     /// Exports a type under its name, where the scope exports its types, and returns the index of the export.
     fn export_type(&mut self, index: u32, name: ExternName) -> Result<Option<u32>, BuildFault>
@@ -69,7 +74,8 @@ pub trait ValtypeEncoder {
         ensures makes { MayMake (scope self.old) (scope self.new) result (get_or (scope self.old) index OfOthers) }
         ensures setting { setting self.new ≡ setting self.old }
         ensures maps { maps self.new ≡ maps self.old }
-        ensures follows { follows self.old self.new };
+        ensures follows { follows self.old self.new }
+        ensures cause { IfErr result (IsCause refuses self.new) };
 
     /// Exports the resource that is known by a name.
     fn export_resource(&mut self, name: ExternName) -> Result<u32, BuildFault>
@@ -77,7 +83,8 @@ pub trait ValtypeEncoder {
         ensures makes { Makes (scope self.old) (scope self.new) result (OfValues (ResourceAt ((setting self.old).address name.name))) }
         ensures setting { setting self.new ≡ setting self.old }
         ensures maps { maps self.new ≡ maps self.old }
-        ensures follows { follows self.old self.new };
+        ensures follows { follows self.old self.new }
+        ensures cause { IfErr result (IsCause refuses self.new) };
 
     /// Imports a type of another interface.
     fn import_type(&mut self, interface: InterfaceId, id: TypeId) -> Result<u32, BuildFault>
@@ -85,7 +92,8 @@ pub trait ValtypeEncoder {
         ensures makes { Makes (scope self.old) (scope self.new) result (OfValues (tree_in (setting self.old) (Some (Id id)))) }
         ensures setting { setting self.new ≡ setting self.old }
         ensures maps { maps self.new ≡ maps self.old }
-        ensures follows { follows self.old self.new };
+        ensures follows { follows self.old self.new }
+        ensures cause { IfErr result (IsCause refuses self.new) };
 
     /// The tables of the types that were met.
     fn type_encoding_maps(&mut self) -> &mut TypeEncodingMaps

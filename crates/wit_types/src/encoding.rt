@@ -1,11 +1,11 @@
 //! A type of the resolve as a value type of a scope: it, and all that it is made of, is defined there.
 
-ghost use Rattle.std.specs.Prelude.{◌≡◌, ◌<◌, length, get_or, IfOk, IsTrue, Some, None};
+ghost use Rattle.std.specs.Prelude.{◌≡◌, ◌<◌, length, get_or, IfOk, IfErr, IsTrue, Some, None};
 ghost use Rattle.wit_data.specs.Parts.{RefersBack, IsBelow, parts};
 ghost use Rattle.wit_data.specs.Values.{kind_at};
 ghost use Rattle.wit_data.specs.declared.types.Type.TheVariants.{Id};
 ghost use Rattle.wit_types.specs.Settings.{tree_in};
-ghost use Rattle.wit_types.specs.Denoting.{Longer, ValueDenotes};
+ghost use Rattle.wit_types.specs.Denoting.{Longer, ValueDenotes, IsCause};
 ghost use Rattle.wit_types.specs.Definitions.{PartDenotes, PartsDenote};
 ghost use Rattle.wit_types.specs.Maps.{Faithful, IsRecorded};
 ghost use Rattle.wit_types.specs.Allowing.{is_allowed, IsDefinedHere};
@@ -39,6 +39,7 @@ pub(crate) fn encode_type<E: ValtypeEncoder>(
     ensures setting { E.setting encoder.new ≡ E.setting encoder.old }
     ensures faithful { Faithful (E.setting encoder.new) (E.scope encoder.new) (E.maps encoder.new) }
     ensures follows { E.follows encoder.old encoder.new }
+    ensures cause { IfErr result (IsCause E.refuses encoder.new) }
 {
     match ty {
         Type::Primitive(primitive) => Ok(ComponentValType::Primitive(primitive)),
@@ -65,6 +66,7 @@ fn encode_id<E: ValtypeEncoder>(
     ensures setting { E.setting encoder.new ≡ E.setting encoder.old }
     ensures faithful { Faithful (E.setting encoder.new) (E.scope encoder.new) (E.maps encoder.new) }
     ensures follows { E.follows encoder.old encoder.new }
+    ensures cause { IfErr result (IsCause E.refuses encoder.new) }
 {
     if let Some(index) = find_type(alloc, encoder, types, id)? {
         return Ok(ComponentValType::Defined(index));
@@ -91,6 +93,7 @@ fn encode_parts<E: ValtypeEncoder>(
     ensures setting { E.setting encoder.new ≡ E.setting encoder.old }
     ensures faithful { Faithful (E.setting encoder.new) (E.scope encoder.new) (E.maps encoder.new) }
     ensures follows { E.follows encoder.old encoder.new }
+    ensures cause { IfErr result (IsCause E.refuses encoder.new) }
 {
     let mut given = Vec::new(alloc);
     for n in 0..part_count_of(types, id.index) {
@@ -119,6 +122,7 @@ fn encode_part<E: ValtypeEncoder>(
     ensures setting { E.setting encoder.new ≡ E.setting encoder.old }
     ensures faithful { Faithful (E.setting encoder.new) (E.scope encoder.new) (E.maps encoder.new) }
     ensures follows { E.follows encoder.old encoder.new }
+    ensures cause { IfErr result (IsCause E.refuses encoder.new) }
 {
     match part_in(encoder, types, id, n) {
         None => Ok(None),
@@ -146,6 +150,7 @@ fn make_type<E: ValtypeEncoder>(
     ensures setting { E.setting encoder.new ≡ E.setting encoder.old }
     ensures faithful { Faithful (E.setting encoder.new) (E.scope encoder.new) (E.maps encoder.new) }
     ensures follows { E.follows encoder.old encoder.new }
+    ensures cause { IfErr result (IsCause E.refuses encoder.new) }
 {
     let value = define(alloc, encoder, types, id, given.as_slice())?;
     export_and_record(alloc, encoder, types, id, value)

@@ -1,13 +1,13 @@
 //! Types that need no definition of their own.
 
-ghost use Rattle.std.specs.Prelude.{◌≡◌, ◌<◌, length, IfOk, IsTrue, Some, None, true};
+ghost use Rattle.std.specs.Prelude.{◌≡◌, ◌<◌, length, IfOk, IfErr, IsTrue, Some, None, true};
 ghost use Rattle.std.specs.Option.{IfSome};
 ghost use Rattle.comp_trees.specs.DefinedTrees.{OfValues};
 ghost use Rattle.wit_data.specs.Parts.{RefersBack};
 ghost use Rattle.wit_data.specs.Values.{kind_at};
 ghost use Rattle.wit_data.specs.declared.types.Type.TheVariants.{Id};
 ghost use Rattle.wit_types.specs.Settings.{tree_in, owner_at, name_at};
-ghost use Rattle.wit_types.specs.Denoting.{Longer, Denotes};
+ghost use Rattle.wit_types.specs.Denoting.{Longer, Denotes, IsCause};
 ghost use Rattle.wit_types.specs.Maps.{Faithful, HasIndex};
 ghost use Rattle.wit_types.specs.Allowing.{foreign, is_resource, is_allowed, may_export_as, IsDefinedHere};
 
@@ -41,6 +41,7 @@ pub(crate) fn find_type<E: ValtypeEncoder>(
     ensures setting { E.setting encoder.new ≡ E.setting encoder.old }
     ensures faithful { Faithful (E.setting encoder.new) (E.scope encoder.new) (E.maps encoder.new) }
     ensures follows { E.follows encoder.old encoder.new }
+    ensures cause { IfErr result (IsCause E.refuses encoder.new) }
 {
     if let Some(index) = met_type(encoder, id) {
         return Ok(Some(index));
@@ -74,6 +75,7 @@ fn import_type<E: ValtypeEncoder>(
     ensures setting { E.setting encoder.new ≡ E.setting encoder.old }
     ensures faithful { Faithful (E.setting encoder.new) (E.scope encoder.new) (E.maps encoder.new) }
     ensures follows { E.follows encoder.old encoder.new }
+    ensures cause { IfErr result (IsCause E.refuses encoder.new) }
 {
     let index = encoder.import_type(interface, id)?;
     record_type(encoder, id, index)?;
@@ -100,6 +102,7 @@ fn export_resource<E: ValtypeEncoder>(
     ensures setting { E.setting encoder.new ≡ E.setting encoder.old }
     ensures faithful { Faithful (E.setting encoder.new) (E.scope encoder.new) (E.maps encoder.new) }
     ensures follows { E.follows encoder.old encoder.new }
+    ensures cause { IfErr result (IsCause E.refuses encoder.new) }
 {
     match name_of(alloc, types, id)? {
         Some(name) => export_resource_as(encoder, types, id, name),
@@ -126,6 +129,7 @@ fn export_resource_as<E: ValtypeEncoder>(
     ensures setting { E.setting encoder.new ≡ E.setting encoder.old }
     ensures faithful { Faithful (E.setting encoder.new) (E.scope encoder.new) (E.maps encoder.new) }
     ensures follows { E.follows encoder.old encoder.new }
+    ensures cause { IfErr result (IsCause E.refuses encoder.new) }
 {
     let index = encoder.export_resource(ExternName {
         name,
@@ -151,6 +155,7 @@ fn equal_type<E: ValtypeEncoder>(
     ensures setting { E.setting encoder.new ≡ E.setting encoder.old }
     ensures faithful { Faithful (E.setting encoder.new) (E.scope encoder.new) (E.maps encoder.new) }
     ensures follows { E.follows encoder.old encoder.new }
+    ensures cause { IfErr result (IsCause E.refuses encoder.new) }
 {
     if has_name(types, id) {
         return Ok(None);

@@ -1,6 +1,6 @@
 //! Types of functions in a scope.
 
-ghost use Rattle.std.specs.Prelude.{◌≡◌, IfOk, IsTrue, Some, length, true};
+ghost use Rattle.std.specs.Prelude.{◌≡◌, IfOk, IfErr, IsTrue, Some, length, true};
 ghost use Rattle.std.specs.List.{AllByRecursion};
 ghost use Rattle.comp_bytes.specs.References.{type_references};
 ghost use Rattle.comp_bytes.specs.declared.types.TypeDef.TheVariants as definitions;
@@ -8,7 +8,7 @@ ghost use Rattle.comp_trees.specs.WitTrees.{is_async};
 ghost use Rattle.comp_trees.specs.DefinedTrees.{OfFunctions, function_tree};
 ghost use Rattle.wit_data.specs.Parts.{RefersBack, IsBelow};
 ghost use Rattle.wit_types.specs.Settings.{tree_in};
-ghost use Rattle.wit_types.specs.Denoting.{Longer, Denotes, AreTypes};
+ghost use Rattle.wit_types.specs.Denoting.{Longer, Denotes, AreTypes, IsCause};
 ghost use Rattle.wit_types.specs.Definitions.{PartDenotes};
 ghost use Rattle.wit_types.specs.Maps.{Faithful, key_of, key_tree};
 ghost use Rattle.wit_types.specs.Functions.{FieldDenotes, FieldsDenote};
@@ -41,6 +41,7 @@ pub(crate) fn encode_function<E: ValtypeEncoder>(
     ensures setting { E.setting encoder.new ≡ E.setting encoder.old }
     ensures faithful { Faithful (E.setting encoder.new) (E.scope encoder.new) (E.maps encoder.new) }
     ensures follows { E.follows encoder.old encoder.new }
+    ensures cause { IfErr result (IsCause E.refuses encoder.new) }
 {
     let key = function_key(alloc, function)?;
     match met_function(encoder, &key) {
@@ -104,6 +105,7 @@ fn encode_key<E: ValtypeEncoder>(
     ensures setting { E.setting encoder.new ≡ E.setting encoder.old }
     ensures faithful { Faithful (E.setting encoder.new) (E.scope encoder.new) (E.maps encoder.new) }
     ensures follows { E.follows encoder.old encoder.new }
+    ensures cause { IfErr result (IsCause E.refuses encoder.new) }
 {
     let index = define_function(alloc, encoder, types, &key)?;
     record_function(encoder, key, index)?;
@@ -127,6 +129,7 @@ fn define_function<E: ValtypeEncoder>(
     ensures setting { E.setting encoder.new ≡ E.setting encoder.old }
     ensures faithful { Faithful (E.setting encoder.new) (E.scope encoder.new) (E.maps encoder.new) }
     ensures follows { E.follows encoder.old encoder.new }
+    ensures cause { IfErr result (IsCause E.refuses encoder.new) }
 {
     let params = encode_params(alloc, encoder, types, key.params.as_slice())?;
     let returned = encode_payload(alloc, encoder, types, key.result)?;
@@ -148,6 +151,7 @@ fn define_made<E: ValtypeEncoder>(
     ensures setting { E.setting encoder.new ≡ E.setting encoder.old }
     ensures faithful { Faithful (E.setting encoder.new) (E.scope encoder.new) (E.maps encoder.new) }
     ensures follows { E.follows encoder.old encoder.new }
+    ensures cause { IfErr result (IsCause E.refuses encoder.new) }
 {
     encoder.define_function_type(FuncTypeDef {
         async_: key.is_async,
@@ -172,6 +176,7 @@ fn encode_params<E: ValtypeEncoder>(
     ensures setting { E.setting encoder.new ≡ E.setting encoder.old }
     ensures faithful { Faithful (E.setting encoder.new) (E.scope encoder.new) (E.maps encoder.new) }
     ensures follows { E.follows encoder.old encoder.new }
+    ensures cause { IfErr result (IsCause E.refuses encoder.new) }
 {
     let mut fields = Seq::new(alloc);
     for n in 0..params.len() {
@@ -196,6 +201,7 @@ fn encode_param<E: ValtypeEncoder>(
     ensures setting { E.setting encoder.new ≡ E.setting encoder.old }
     ensures faithful { Faithful (E.setting encoder.new) (E.scope encoder.new) (E.maps encoder.new) }
     ensures follows { E.follows encoder.old encoder.new }
+    ensures cause { IfErr result (IsCause E.refuses encoder.new) }
 {
     let name = param.name.clone(alloc)?;
     let ty = encode_type(alloc, encoder, types, param.ty)?;
@@ -218,6 +224,7 @@ fn encode_payload<E: ValtypeEncoder>(
     ensures setting { E.setting encoder.new ≡ E.setting encoder.old }
     ensures faithful { Faithful (E.setting encoder.new) (E.scope encoder.new) (E.maps encoder.new) }
     ensures follows { E.follows encoder.old encoder.new }
+    ensures cause { IfErr result (IsCause E.refuses encoder.new) }
 {
     match part {
         None => Ok(None),

@@ -1,6 +1,6 @@
 //! A type that is defined of the value types of its parts.
 
-ghost use Rattle.std.specs.Prelude.{◌≡◌, ◌<◌, ℕ, length, map, IfOk, Some, None};
+ghost use Rattle.std.specs.Prelude.{◌≡◌, ◌<◌, ℕ, length, map, IfOk, IfErr, Some, None};
 ghost use Rattle.comp_bytes.specs.References.{defined_references};
 ghost use Rattle.comp_trees.specs.Trees.{Tree, OwnOf, BorrowOf};
 ghost use Rattle.comp_trees.specs.WitTrees.{kind_tree};
@@ -9,7 +9,7 @@ ghost use Rattle.wit_data.specs.Parts.{RefersBack, parts};
 ghost use Rattle.wit_data.specs.Values.{kind_at};
 ghost use Rattle.wit_data.specs.declared.types.Type.TheVariants.{Id};
 ghost use Rattle.wit_types.specs.Settings.{tree_in};
-ghost use Rattle.wit_types.specs.Denoting.{Longer, Denotes, AreTypes, ValueDenotes};
+ghost use Rattle.wit_types.specs.Denoting.{Longer, Denotes, AreTypes, ValueDenotes, IsCause};
 ghost use Rattle.wit_types.specs.Definitions.{PartsDenote, OnlyPart, IsDefined};
 ghost use Rattle.wit_types.specs.Maps.{Faithful};
 ghost use Rattle.wit_types.specs.Allowing.{IsDefinedHere};
@@ -40,6 +40,7 @@ pub(crate) fn define<E: ValtypeEncoder>(
     ensures setting { E.setting encoder.new ≡ E.setting encoder.old }
     ensures faithful { Faithful (E.setting encoder.new) (E.scope encoder.new) (E.maps encoder.new) }
     ensures follows { E.follows encoder.old encoder.new }
+    ensures cause { IfErr result (IsCause E.refuses encoder.new) }
 {
     match kind_of(types, id.index) {
         TypeDefKind::Alias(ty) => Ok(only_value(encoder, given, *ty)),
@@ -77,6 +78,7 @@ fn define_own<E: ValtypeEncoder>(
     ensures setting { E.setting encoder.new ≡ E.setting encoder.old }
     ensures faithful { Faithful (E.setting encoder.new) (E.scope encoder.new) (E.maps encoder.new) }
     ensures follows { E.follows encoder.old encoder.new }
+    ensures cause { IfErr result (IsCause E.refuses encoder.new) }
 {
     let value = only_value(encoder, given, Type::Id(resource));
     let named = index_of(encoder, value)?;
@@ -97,6 +99,7 @@ fn define_borrow<E: ValtypeEncoder>(
     ensures setting { E.setting encoder.new ≡ E.setting encoder.old }
     ensures faithful { Faithful (E.setting encoder.new) (E.scope encoder.new) (E.maps encoder.new) }
     ensures follows { E.follows encoder.old encoder.new }
+    ensures cause { IfErr result (IsCause E.refuses encoder.new) }
 {
     let value = only_value(encoder, given, Type::Id(resource));
     let named = index_of(encoder, value)?;
@@ -119,6 +122,7 @@ fn define_kind<E: ValtypeEncoder>(
     ensures setting { E.setting encoder.new ≡ E.setting encoder.old }
     ensures faithful { Faithful (E.setting encoder.new) (E.scope encoder.new) (E.maps encoder.new) }
     ensures follows { E.follows encoder.old encoder.new }
+    ensures cause { IfErr result (IsCause E.refuses encoder.new) }
 {
     match definition(alloc, kind, given)? {
         Some(ty) => Ok(ComponentValType::Defined(define_type(encoder, ty)?)),
@@ -137,6 +141,7 @@ pub(crate) fn index_of<E: ValtypeEncoder>(
     ensures setting { E.setting encoder.new ≡ E.setting encoder.old }
     ensures faithful { Faithful (E.setting encoder.new) (E.scope encoder.new) (E.maps encoder.new) }
     ensures follows { E.follows encoder.old encoder.new }
+    ensures cause { IfErr result (IsCause E.refuses encoder.new) }
 {
     match value {
         ComponentValType::Defined(index) => Ok(index),
@@ -158,6 +163,7 @@ pub(crate) fn define_type<E: ValtypeEncoder>(
     ensures setting { E.setting encoder.new ≡ E.setting encoder.old }
     ensures faithful { Faithful (E.setting encoder.new) (E.scope encoder.new) (E.maps encoder.new) }
     ensures follows { E.follows encoder.old encoder.new }
+    ensures cause { IfErr result (IsCause E.refuses encoder.new) }
 {
     encoder.defined_type(ty)
 }

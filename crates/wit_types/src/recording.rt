@@ -1,12 +1,12 @@
 //! A type that was defined is exported where it has a name, and recorded in the tables.
 
-ghost use Rattle.std.specs.Prelude.{◌≡◌, ◌<◌, length, IfOk, Some, false};
+ghost use Rattle.std.specs.Prelude.{◌≡◌, ◌<◌, length, IfOk, IfErr, Some, false};
 ghost use Rattle.comp_trees.specs.DefinedTrees.{OfValues};
 ghost use Rattle.wit_data.specs.Parts.{RefersBack};
 ghost use Rattle.wit_data.specs.Values.{kind_at};
 ghost use Rattle.wit_data.specs.declared.types.Type.TheVariants.{Id};
 ghost use Rattle.wit_types.specs.Settings.{tree_in, name_at};
-ghost use Rattle.wit_types.specs.Denoting.{Longer, Denotes, ValueDenotes};
+ghost use Rattle.wit_types.specs.Denoting.{Longer, Denotes, ValueDenotes, IsCause};
 ghost use Rattle.wit_types.specs.Maps.{Faithful, IsRecorded};
 ghost use Rattle.wit_types.specs.Allowing.{is_resource};
 
@@ -40,6 +40,7 @@ pub(crate) fn export_and_record<E: ValtypeEncoder>(
     ensures setting { E.setting encoder.new ≡ E.setting encoder.old }
     ensures faithful { Faithful (E.setting encoder.new) (E.scope encoder.new) (E.maps encoder.new) }
     ensures follows { E.follows encoder.old encoder.new }
+    ensures cause { IfErr result (IsCause E.refuses encoder.new) }
 {
     match name_of(alloc, types, id)? {
         Some(name) => record_named(encoder, types, id, value, name),
@@ -67,6 +68,7 @@ fn record_named<E: ValtypeEncoder>(
     ensures setting { E.setting encoder.new ≡ E.setting encoder.old }
     ensures faithful { Faithful (E.setting encoder.new) (E.scope encoder.new) (E.maps encoder.new) }
     ensures follows { E.follows encoder.old encoder.new }
+    ensures cause { IfErr result (IsCause E.refuses encoder.new) }
 {
     let defined = index_of(encoder, value)?;
     let index = export_index(encoder, types, id, defined, name)?;
@@ -93,6 +95,7 @@ fn export_index<E: ValtypeEncoder>(
     ensures setting { E.setting encoder.new ≡ E.setting encoder.old }
     ensures faithful { Faithful (E.setting encoder.new) (E.scope encoder.new) (E.maps encoder.new) }
     ensures follows { E.follows encoder.old encoder.new }
+    ensures cause { IfErr result (IsCause E.refuses encoder.new) }
 {
     let exported = encoder.export_type(
         defined,
@@ -127,6 +130,7 @@ fn record_unnamed<E: ValtypeEncoder>(
     ensures setting { E.setting encoder.new ≡ E.setting encoder.old }
     ensures faithful { Faithful (E.setting encoder.new) (E.scope encoder.new) (E.maps encoder.new) }
     ensures follows { E.follows encoder.old encoder.new }
+    ensures cause { IfErr result (IsCause E.refuses encoder.new) }
 {
     match value {
         ComponentValType::Primitive(primitive) => Ok(ComponentValType::Primitive(primitive)),

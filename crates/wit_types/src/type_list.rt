@@ -1,12 +1,13 @@
 //! A list of types that stands alone: it imports nothing and has no resource, and shows what a type is made of.
 
-ghost use Rattle.std.specs.Prelude.{◌≡◌, ◌++◌, ◌∷◌, [], length, IfOk, IsTrue, OnOk, OnErr, Some};
+ghost use Rattle.std.specs.Prelude.{◌≡◌, ◌++◌, ◌∷◌, [], length, IfOk, IfErr, IsTrue, OnOk, OnErr, Some};
 ghost use Rattle.std.proofs.Common.{refl};
 ghost use Rattle.comp_trees.specs.WitTrees.{wit_tree};
 ghost use Rattle.comp_trees.specs.DefinedTrees.{value_tree};
 ghost use Rattle.wit_data.specs.Sound.{IsSound, HasType};
 ghost use Rattle.wit_types.specs.Allowing.{is_allowed};
-ghost use Rattle.wit_types.specs.Listing.{listed_trees, standing_alone, ListGrows, list_same, list_on};
+ghost use Rattle.wit_types.specs.Denoting.{IsCause};
+ghost use Rattle.wit_types.specs.Listing.{listed_trees, is_full, standing_alone, ListGrows, list_same, list_on};
 ghost use Rattle.wit_types.specs.Maps.{no_maps};
 
 use crate::calls::encode_valtype;
@@ -76,6 +77,7 @@ fn add(listed: &mut Seq<ListedType>, ty: ListedType) -> Result<u32, BuildFault>
     ensures index { IfOk result (λ index. index ≡ length listed.old) }
     ensures ok { OnOk result (listed.new ≡ listed.old ++ ty ∷ []) }
     ensures err { OnErr result (listed.new ≡ listed.old) }
+    ensures cause { IfErr result (IsCause is_full listed.new) }
 {
     let none: &[u8] = &[];
     let index = count_of(listed.as_slice(), none)?;
@@ -93,6 +95,8 @@ impl<'a> ValtypeEncoder for TypeList<'a> {
     ghost with_maps = { λ l m. record l { maps = m } };
 
     ghost follows = { λ old new. ListGrows old.listed new.listed };
+
+    ghost refuses = { λ l count. is_full l.listed count };
 
     ghost follows_itself = { λ l. list_same l.listed };
 
