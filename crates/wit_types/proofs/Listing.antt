@@ -8,7 +8,11 @@ use Rattle.comp_trees.specs.DefinedTrees.{TypeTree, OfOthers}
 use Rattle.wit_types.specs.declared.type_list.ListedType.{ListedType}
 use Rattle.wit_types.specs.Denoting.{Longer, Denotes, Makes}
 use Rattle.wit_types.proofs.Growing.{longer_none}
-use Rattle.wit_types.specs.Listing.{listed_tree, listed_trees}
+use Rattle.wit_types.specs.Listing.{listed_tree, listed_trees, IsExported}
+use Rattle.wit_types.specs.declared.type_list.ListedType.TheVariants as listed
+use Rattle.comp_bytes.specs.declared.types.ExternName.{ExternName}
+use Rattle.std.specs.List.{slice_get}
+use Rattle.comp_lists.proofs.Lists.{slice_get-end}
 
 list_more : (scope : List TypeTree) (ts : List ListedType) (t : ListedType) → listed_trees scope (ts ++ t ∷ []) ≡ listed_trees scope ts ++ listed_tree (listed_trees scope ts) t ∷ []
 list_more scope [] t = refl
@@ -35,3 +39,12 @@ denotes_new old new t index at is =
 pub added : (old new : List ListedType) (t : ListedType) (r : Result ℕ BuildFault) → IfOk r (λ i. i ≡ length old) → OnOk r (new ≡ old ++ t ∷ []) → OnErr r (new ≡ old) → Makes (listed_trees [] old) (listed_trees [] new) r (listed_tree (listed_trees [] old) t)
 added old new t (Ok i) at is same = (grows_by old new t is, denotes_new old new t i at is)
 added old new t (Err e) at is same = subst (λ ts. Longer (listed_trees [] old) (listed_trees [] ts)) (sym same) (longer_none (listed_trees [] old))
+
+pub exported_new : (old new : List ListedType) (title : ExternName) (of index : ℕ) → index ≡ length old → new ≡ old ++ listed.Export title of ∷ [] → IsExported new title.name index
+exported_new old new title of index at is =
+    record {
+      title = title;
+      exported = of;
+      is_name = refl;
+      there = ap (λ ts. slice_get ts index) is ∙ (ap (λ k. slice_get (old ++ listed.Export title of ∷ []) k) at ∙ slice_get-end old (listed.Export title of));
+    }

@@ -48,3 +48,8 @@ MayMake old new (Err e) t = Longer old new
 abbrev pub IsCause : {S : Type 0} → (S → ℕ → Type 0) → S → BuildFault → Type 0
 IsCause refuses scope Memory = Unit {0}
 IsCause refuses scope (TooMany count) = refuses scope count
+
+-- the index of an export, or that of the type that is not exported
+abbrev pub exported_or : Option ℕ → ℕ → ℕ
+exported_or None index = index
+exported_or (Some export) index = export

@@ -1,6 +1,9 @@
 -- What the types of a list that stands alone denote (component model, explainer: type definitions).
-use Rattle.std.specs.Prelude.{ℕ, ◌≡◌, ◌≤◌, ◌^◌, length, false, List, [], ◌∷◌, ◌++◌, get_or, None}
+use Rattle.std.specs.Prelude.{ℕ, ◌≡◌, ◌≤◌, ◌^◌, length, false, List, [], ◌∷◌, ◌++◌, get_or, Some, None}
 use Rattle.std.proofs.Common.{sym, ap, ◌∙◌, append_assoc, append-nil}
+use Rattle.std.specs.List.{slice_get}
+use Rattle.comp_lists.proofs.Lists.{slice_get-append}
+use Rattle.comp_bytes.specs.declared.types.ExternName.{ExternName}
 use Rattle.wit_data.specs.declared.types.TypeDef.{TypeDef}
 use Rattle.comp_trees.specs.DefinedTrees.{TypeTree, OfValues, OfFunctions, OfOthers, defined_tree, function_tree}
 use Rattle.wit_types.specs.declared.type_list.ListedType.{ListedType}
@@ -37,6 +40,22 @@ is_full listed count = (2 ^ 32 ≤ count) × (count ≡ length listed)
 pub record ListGrows (old new : List ListedType) : Type 0 where
   pub more : List ListedType
   pub grown : new ≡ old ++ more
+
+-- the list has an export of this name at the index
+pub record IsExported (types : List ListedType) (name : List ℕ) (index : ℕ) : Type 0 where
+  pub title : ExternName
+  pub exported : ℕ
+  pub is_name : title.name ≡ name
+  pub there : slice_get types index ≡ Some (listed.Export title exported)
+
+pub exported_on : (a b : List ListedType) → ListGrows a b → (name : List ℕ) (index : ℕ) → IsExported a name index → IsExported b name index
+exported_on a b g name index h =
+    record {
+      title = h.title;
+      exported = h.exported;
+      is_name = h.is_name;
+      there = ap (λ ts. slice_get ts index) g.grown ∙ slice_get-append a g.more index (listed.Export h.title h.exported) h.there;
+    }
 
 pub list_same : (listed : List ListedType) → ListGrows listed listed
 list_same listed = record { more = []; grown = sym (append-nil listed) }

@@ -1,5 +1,5 @@
 -- What the tables of a scope say of the types that were met (component model, explainer: type definitions).
-use Rattle.std.specs.Prelude.{ℕ, ◌≡◌, true, List, [], map, Some, option_map, is_some}
+use Rattle.std.specs.Prelude.{ℕ, ◌≡◌, true, List, [], map, Option, Some, None, option_map, is_some}
 use Rattle.std.specs.Map.{lookup}
 use Rattle.std.specs.List.{AllByRecursion}
 use Rattle.wit_data.specs.declared.ids.TypeId.{TypeId}
@@ -15,7 +15,9 @@ use Rattle.comp_trees.specs.WitTrees.{kind_tree, is_async}
 use Rattle.comp_trees.specs.DefinedTrees.{TypeTree, OfValues, OfFunctions}
 use Rattle.wit_types.specs.declared.maps.TypeEncodingMaps.{TypeEncodingMaps}
 use Rattle.wit_types.specs.declared.maps.FuncTypeKey.{FuncTypeKey}
-use Rattle.wit_types.specs.Settings.{Setting, tree_in}
+use Rattle.wit_types.specs.Settings.{Setting, tree_in, owner_at, name_at}
+use Rattle.wit_types.specs.Allowing.{foreign}
+use Rattle.wit_data.specs.declared.ids.InterfaceId.{InterfaceId}
 use Rattle.wit_types.specs.Denoting.{Denotes}
 
 abbrev pub no_maps : TypeEncodingMaps
@@ -43,8 +45,22 @@ abbrev pub IsRecorded : TypeEncodingMaps → Ty → ComponentValType → Type 0
 IsRecorded maps (Id id) (values.Defined index) = HasIndex maps id
 IsRecorded maps ty v = Unit {0}
 
+-- a type of the own interface or of none has its index under its name, if it has one
+abbrev pub NamedAs : (List ℕ → ℕ → Type 0) → Option InterfaceId → Option (List ℕ) → ℕ → Type 0
+NamedAs names (Some other) name index = Unit {0}
+NamedAs names None None index = Unit {0}
+NamedAs names None (Some name) index = names name index
+
+pub record IsNamed (s : Setting) (names : List ℕ → ℕ → Type 0) (id : TypeId) (index : ℕ) : Type 0 where
+  pub as_own : NamedAs names (foreign s.interface (owner_at s.types id.index)) (name_at s.types id.index) index
+
+abbrev pub IsNamedValue : Setting → (List ℕ → ℕ → Type 0) → Ty → ComponentValType → Type 0
+IsNamedValue s names (Id id) (values.Defined index) = IsNamed s names id index
+IsNamedValue s names ty v = Unit {0}
+
 -- each index of the tables denotes the type of its key; what a kind is doesn't depend on the index of the type that has it
-pub record Faithful (s : Setting) (scope : List TypeTree) (maps : TypeEncodingMaps) : Type 0 where
+pub record Faithful (s : Setting) (scope : List TypeTree) (names : List ℕ → ℕ → Type 0) (maps : TypeEncodingMaps) : Type 0 where
   pub ids : AllByRecursion (λ e. Denotes scope e.1 (OfValues (tree_in s (Some (Id e.0))))) maps.id_to_index
+  pub named : AllByRecursion (λ e. IsNamed s names e.0 e.1) maps.id_to_index
   pub kinds : AllByRecursion (λ e. (n : ℕ) → Denotes scope e.1 (OfValues (kind_tree s.origin n e.0 (map (tree_in s) (parts e.0))))) maps.def_to_index
   pub functions : AllByRecursion (λ e. Denotes scope e.1 (OfFunctions (key_tree s e.0))) maps.func_type_map

@@ -6,7 +6,7 @@ ghost use Rattle.comp_trees.specs.WitTrees.{wit_tree, wit_function_tree};
 ghost use Rattle.comp_trees.specs.DefinedTrees.{OfValues, OfFunctions};
 ghost use Rattle.wit_data.specs.Sound.{IsSound, HasType, HasFunction};
 ghost use Rattle.wit_types.specs.Denoting.{Longer, Denotes, ValueDenotes, IsCause};
-ghost use Rattle.wit_types.specs.Maps.{Faithful, IsRecorded};
+ghost use Rattle.wit_types.specs.Maps.{Faithful, IsRecorded, IsNamedValue};
 ghost use Rattle.wit_types.specs.Allowing.{is_allowed, allows_function};
 
 use crate::encoder::ValtypeEncoder;
@@ -29,12 +29,13 @@ pub fn encode_valtype<E: ValtypeEncoder>(
     requires same { (E.setting encoder.old).types ≡ resolve.now.types }
     requires present { HasType resolve.now (Some ty.now) }
     requires allowed { IsTrue (is_allowed (E.setting encoder.old) (Some ty.now)) }
-    requires faithful { Faithful (E.setting encoder.old) (E.scope encoder.old) (E.maps encoder.old) }
+    requires faithful { Faithful (E.setting encoder.old) (E.scope encoder.old) (E.names encoder.old) (E.maps encoder.old) }
     ensures value { IfOk result (λ v. ValueDenotes (E.scope encoder.new) v (wit_tree (E.setting encoder.old).origin resolve.now.types (Some ty.now))) }
     ensures recorded { IfOk result (λ v. IsRecorded (E.maps encoder.new) ty.now v) }
+    ensures named { IfOk result (λ v. IsNamedValue (E.setting encoder.old) (E.names encoder.new) ty.now v) }
     ensures grows { Longer (E.scope encoder.old) (E.scope encoder.new) }
     ensures setting { E.setting encoder.new ≡ E.setting encoder.old }
-    ensures faithful { Faithful (E.setting encoder.new) (E.scope encoder.new) (E.maps encoder.new) }
+    ensures faithful { Faithful (E.setting encoder.new) (E.scope encoder.new) (E.names encoder.new) (E.maps encoder.new) }
     ensures follows { E.follows encoder.old encoder.new }
     ensures cause { IfErr result (IsCause E.refuses encoder.new) }
 {
@@ -52,11 +53,11 @@ pub fn encode_func_type<E: ValtypeEncoder>(
     requires same { (E.setting encoder.old).types ≡ resolve.now.types }
     requires present { HasFunction resolve.now function.now }
     requires allowed { IsTrue (allows_function (E.setting encoder.old) function.now) }
-    requires faithful { Faithful (E.setting encoder.old) (E.scope encoder.old) (E.maps encoder.old) }
+    requires faithful { Faithful (E.setting encoder.old) (E.scope encoder.old) (E.names encoder.old) (E.maps encoder.old) }
     ensures denotes { IfOk result (λ index. Denotes (E.scope encoder.new) index (OfFunctions (wit_function_tree (E.setting encoder.old).origin resolve.now.types function.now))) }
     ensures grows { Longer (E.scope encoder.old) (E.scope encoder.new) }
     ensures setting { E.setting encoder.new ≡ E.setting encoder.old }
-    ensures faithful { Faithful (E.setting encoder.new) (E.scope encoder.new) (E.maps encoder.new) }
+    ensures faithful { Faithful (E.setting encoder.new) (E.scope encoder.new) (E.names encoder.new) (E.maps encoder.new) }
     ensures follows { E.follows encoder.old encoder.new }
     ensures cause { IfErr result (IsCause E.refuses encoder.new) }
 {
@@ -65,11 +66,11 @@ pub fn encode_func_type<E: ValtypeEncoder>(
 
 /// The index of a new type of streams that carry nothing.
 pub fn encode_unit_stream<E: ValtypeEncoder>(encoder: &mut E) -> Result<u32, BuildFault>
-    requires faithful { Faithful (E.setting encoder.old) (E.scope encoder.old) (E.maps encoder.old) }
+    requires faithful { Faithful (E.setting encoder.old) (E.scope encoder.old) (E.names encoder.old) (E.maps encoder.old) }
     ensures denotes { IfOk result (λ index. Denotes (E.scope encoder.new) index (OfValues (StreamOf Absent))) }
     ensures grows { Longer (E.scope encoder.old) (E.scope encoder.new) }
     ensures setting { E.setting encoder.new ≡ E.setting encoder.old }
-    ensures faithful { Faithful (E.setting encoder.new) (E.scope encoder.new) (E.maps encoder.new) }
+    ensures faithful { Faithful (E.setting encoder.new) (E.scope encoder.new) (E.names encoder.new) (E.maps encoder.new) }
     ensures follows { E.follows encoder.old encoder.new }
     ensures cause { IfErr result (IsCause E.refuses encoder.new) }
 {
@@ -78,11 +79,11 @@ pub fn encode_unit_stream<E: ValtypeEncoder>(encoder: &mut E) -> Result<u32, Bui
 
 /// The index of a new type of futures that carry nothing.
 pub fn encode_unit_future<E: ValtypeEncoder>(encoder: &mut E) -> Result<u32, BuildFault>
-    requires faithful { Faithful (E.setting encoder.old) (E.scope encoder.old) (E.maps encoder.old) }
+    requires faithful { Faithful (E.setting encoder.old) (E.scope encoder.old) (E.names encoder.old) (E.maps encoder.old) }
     ensures denotes { IfOk result (λ index. Denotes (E.scope encoder.new) index (OfValues (FutureOf Absent))) }
     ensures grows { Longer (E.scope encoder.old) (E.scope encoder.new) }
     ensures setting { E.setting encoder.new ≡ E.setting encoder.old }
-    ensures faithful { Faithful (E.setting encoder.new) (E.scope encoder.new) (E.maps encoder.new) }
+    ensures faithful { Faithful (E.setting encoder.new) (E.scope encoder.new) (E.names encoder.new) (E.maps encoder.new) }
     ensures follows { E.follows encoder.old encoder.new }
     ensures cause { IfErr result (IsCause E.refuses encoder.new) }
 {

@@ -1,6 +1,6 @@
 //! A scope in which types are defined.
 
-ghost use Rattle.std.specs.Prelude.{◌≡◌, ◌<◌, ℕ, List, length, get_or, Some, IsTrue, IfErr};
+ghost use Rattle.std.specs.Prelude.{◌≡◌, ◌<◌, ℕ, List, length, get_or, Some, IsTrue, IfOk, IfErr};
 ghost use Rattle.std.specs.Borrow.{sem, Lends};
 ghost use Rattle.comp_bytes.specs.References.{defined_references, type_references};
 ghost use Rattle.comp_bytes.specs.declared.types.TypeDef.TheVariants as definitions;
@@ -8,7 +8,7 @@ ghost use Rattle.comp_trees.specs.Trees.{ResourceAt};
 ghost use Rattle.comp_trees.specs.DefinedTrees.{TypeTree, OfValues, OfFunctions, OfOthers, defined_tree, function_tree};
 ghost use Rattle.wit_data.specs.declared.types.Type.TheVariants.{Id};
 ghost use Rattle.wit_types.specs.Settings.{Setting, tree_in, NamesType};
-ghost use Rattle.wit_types.specs.Denoting.{AreTypes, Makes, MayMake, IsCause};
+ghost use Rattle.wit_types.specs.Denoting.{AreTypes, Makes, MayMake, IsCause, exported_or};
 ghost use Rattle.wit_types.specs.contracts.maps.TypeEncodingMaps.{the_row as maps_row};
 
 use crate::maps::TypeEncodingMaps;
@@ -34,12 +34,17 @@ pub trait ValtypeEncoder {
     /// What else holds between a scope and one that it has become.
     ghost follows: { Self → Self → Type 0 };
 
+    /// Which index a name has: that of the export, or that of the type in a scope that doesn't export it.
+    ghost names: { Self → List ℕ → ℕ → Type 0 };
+
     /// The counts for which a call may refuse, and leave the scope so.
     ghost refuses: { Self → ℕ → Type 0 };
 
     ghost follows_itself: { (e : Self) → follows e e };
 
     ghost follows_on: { (a b c : Self) → follows a b → follows b c → follows a c };
+
+    ghost names_kept: { (a b : Self) → follows a b → (name : List ℕ) → (index : ℕ) → names a name index → names b name index };
 
     ghost follows_maps: { (e : Self) → (m : TypeEncodingMaps) → follows e (with_maps e m) };
 
@@ -71,6 +76,7 @@ pub trait ValtypeEncoder {
     fn export_type(&mut self, index: u32, name: ExternName) -> Result<Option<u32>, BuildFault>
         requires present { index < length (scope self.old) }
         requires named { NamesType (setting self.old) name (get_or (scope self.old) index OfOthers) }
+        ensures names { IfOk result (λ exported. names self.new name.name (exported_or exported index)) }
         ensures makes { MayMake (scope self.old) (scope self.new) result (get_or (scope self.old) index OfOthers) }
         ensures setting { setting self.new ≡ setting self.old }
         ensures maps { maps self.new ≡ maps self.old }
@@ -80,6 +86,7 @@ pub trait ValtypeEncoder {
     /// Exports the resource that is known by a name.
     fn export_resource(&mut self, name: ExternName) -> Result<u32, BuildFault>
         requires { IsTrue ((setting self.old).may_export name.name) }
+        ensures names { IfOk result (λ index. names self.new name.name index) }
         ensures makes { Makes (scope self.old) (scope self.new) result (OfValues (ResourceAt ((setting self.old).address name.name))) }
         ensures setting { setting self.new ≡ setting self.old }
         ensures maps { maps self.new ≡ maps self.old }

@@ -8,7 +8,7 @@ ghost use Rattle.wit_data.specs.Values.{kind_at};
 ghost use Rattle.wit_data.specs.declared.types.Type.TheVariants.{Id};
 ghost use Rattle.wit_types.specs.Settings.{tree_in, owner_at, name_at};
 ghost use Rattle.wit_types.specs.Denoting.{Longer, Denotes, IsCause};
-ghost use Rattle.wit_types.specs.Maps.{Faithful, HasIndex};
+ghost use Rattle.wit_types.specs.Maps.{Faithful, HasIndex, IsNamed};
 ghost use Rattle.wit_types.specs.Allowing.{foreign, is_resource, is_allowed, may_export_as, IsDefinedHere};
 
 use crate::encoder::ValtypeEncoder;
@@ -31,15 +31,16 @@ pub(crate) fn find_type<E: ValtypeEncoder>(
 ) -> Result<Option<u32>, BuildFault>
     requires back { RefersBack types.now }
     requires same { (E.setting encoder.old).types ≡ types.now }
-    requires faithful { Faithful (E.setting encoder.old) (E.scope encoder.old) (E.maps encoder.old) }
+    requires faithful { Faithful (E.setting encoder.old) (E.scope encoder.old) (E.names encoder.old) (E.maps encoder.old) }
     requires present { id.index < length types.now }
     requires allowed { IsTrue (is_allowed (E.setting encoder.old) (Some (Id id))) }
     ensures denotes { IfOk result (λ found. IfSome found (λ index. Denotes (E.scope encoder.new) index (OfValues (tree_in (E.setting encoder.old) (Some (Id id)))))) }
     ensures recorded { IfOk result (λ found. IfSome found (λ index. HasIndex (E.maps encoder.new) id)) }
+    ensures named { IfOk result (λ found. IfSome found (λ index. IsNamed (E.setting encoder.old) (E.names encoder.new) id index)) }
     ensures defined { IfOk result (λ found. found ≡ None → IsDefinedHere (E.setting encoder.old) (kind_at types.now id.index)) }
     ensures grows { Longer (E.scope encoder.old) (E.scope encoder.new) }
     ensures setting { E.setting encoder.new ≡ E.setting encoder.old }
-    ensures faithful { Faithful (E.setting encoder.new) (E.scope encoder.new) (E.maps encoder.new) }
+    ensures faithful { Faithful (E.setting encoder.new) (E.scope encoder.new) (E.names encoder.new) (E.maps encoder.new) }
     ensures follows { E.follows encoder.old encoder.new }
     ensures cause { IfErr result (IsCause E.refuses encoder.new) }
 {
@@ -65,15 +66,16 @@ fn import_type<E: ValtypeEncoder>(
 ) -> Result<u32, BuildFault>
     requires back { RefersBack types.now }
     requires same { (E.setting encoder.old).types ≡ types.now }
-    requires faithful { Faithful (E.setting encoder.old) (E.scope encoder.old) (E.maps encoder.old) }
+    requires faithful { Faithful (E.setting encoder.old) (E.scope encoder.old) (E.names encoder.old) (E.maps encoder.old) }
     requires present { id.index < length types.now }
     requires allowed { IsTrue (is_allowed (E.setting encoder.old) (Some (Id id))) }
     requires foreign { foreign (E.setting encoder.old).interface (owner_at types.now id.index) ≡ Some interface }
     ensures denotes { IfOk result (λ index. Denotes (E.scope encoder.new) index (OfValues (tree_in (E.setting encoder.old) (Some (Id id))))) }
     ensures recorded { IfOk result (λ index. HasIndex (E.maps encoder.new) id) }
+    ensures named { IfOk result (λ index. IsNamed (E.setting encoder.old) (E.names encoder.new) id index) }
     ensures grows { Longer (E.scope encoder.old) (E.scope encoder.new) }
     ensures setting { E.setting encoder.new ≡ E.setting encoder.old }
-    ensures faithful { Faithful (E.setting encoder.new) (E.scope encoder.new) (E.maps encoder.new) }
+    ensures faithful { Faithful (E.setting encoder.new) (E.scope encoder.new) (E.names encoder.new) (E.maps encoder.new) }
     ensures follows { E.follows encoder.old encoder.new }
     ensures cause { IfErr result (IsCause E.refuses encoder.new) }
 {
@@ -91,16 +93,17 @@ fn export_resource<E: ValtypeEncoder>(
 ) -> Result<u32, BuildFault>
     requires back { RefersBack types.now }
     requires same { (E.setting encoder.old).types ≡ types.now }
-    requires faithful { Faithful (E.setting encoder.old) (E.scope encoder.old) (E.maps encoder.old) }
+    requires faithful { Faithful (E.setting encoder.old) (E.scope encoder.old) (E.names encoder.old) (E.maps encoder.old) }
     requires present { id.index < length types.now }
     requires allowed { IsTrue (is_allowed (E.setting encoder.old) (Some (Id id))) }
     requires own { foreign (E.setting encoder.old).interface (owner_at types.now id.index) ≡ None }
     requires resource { is_resource (kind_at types.now id.index) ≡ true }
     ensures denotes { IfOk result (λ index. Denotes (E.scope encoder.new) index (OfValues (tree_in (E.setting encoder.old) (Some (Id id))))) }
     ensures recorded { IfOk result (λ index. HasIndex (E.maps encoder.new) id) }
+    ensures named { IfOk result (λ index. IsNamed (E.setting encoder.old) (E.names encoder.new) id index) }
     ensures grows { Longer (E.scope encoder.old) (E.scope encoder.new) }
     ensures setting { E.setting encoder.new ≡ E.setting encoder.old }
-    ensures faithful { Faithful (E.setting encoder.new) (E.scope encoder.new) (E.maps encoder.new) }
+    ensures faithful { Faithful (E.setting encoder.new) (E.scope encoder.new) (E.names encoder.new) (E.maps encoder.new) }
     ensures follows { E.follows encoder.old encoder.new }
     ensures cause { IfErr result (IsCause E.refuses encoder.new) }
 {
@@ -119,15 +122,17 @@ fn export_resource_as<E: ValtypeEncoder>(
 ) -> Result<u32, BuildFault>
     requires back { RefersBack types.now }
     requires same { (E.setting encoder.old).types ≡ types.now }
-    requires faithful { Faithful (E.setting encoder.old) (E.scope encoder.old) (E.maps encoder.old) }
+    requires faithful { Faithful (E.setting encoder.old) (E.scope encoder.old) (E.names encoder.old) (E.maps encoder.old) }
     requires present { id.index < length types.now }
+    requires title { name_at types.now id.index ≡ Some name }
     requires named { IsTrue (may_export_as (E.setting encoder.old) id.index (Some name)) }
     requires resource { is_resource (kind_at types.now id.index) ≡ true }
     ensures denotes { IfOk result (λ index. Denotes (E.scope encoder.new) index (OfValues (tree_in (E.setting encoder.old) (Some (Id id))))) }
     ensures recorded { IfOk result (λ index. HasIndex (E.maps encoder.new) id) }
+    ensures named { IfOk result (λ index. IsNamed (E.setting encoder.old) (E.names encoder.new) id index) }
     ensures grows { Longer (E.scope encoder.old) (E.scope encoder.new) }
     ensures setting { E.setting encoder.new ≡ E.setting encoder.old }
-    ensures faithful { Faithful (E.setting encoder.new) (E.scope encoder.new) (E.maps encoder.new) }
+    ensures faithful { Faithful (E.setting encoder.new) (E.scope encoder.new) (E.names encoder.new) (E.maps encoder.new) }
     ensures follows { E.follows encoder.old encoder.new }
     ensures cause { IfErr result (IsCause E.refuses encoder.new) }
 {
@@ -147,13 +152,14 @@ fn equal_type<E: ValtypeEncoder>(
 ) -> Result<Option<u32>, BuildFault>
     requires back { RefersBack types.now }
     requires same { (E.setting encoder.old).types ≡ types.now }
-    requires faithful { Faithful (E.setting encoder.old) (E.scope encoder.old) (E.maps encoder.old) }
+    requires faithful { Faithful (E.setting encoder.old) (E.scope encoder.old) (E.names encoder.old) (E.maps encoder.old) }
     requires present { id.index < length types.now }
     ensures denotes { IfOk result (λ found. IfSome found (λ index. Denotes (E.scope encoder.new) index (OfValues (tree_in (E.setting encoder.old) (Some (Id id)))))) }
     ensures recorded { IfOk result (λ found. IfSome found (λ index. HasIndex (E.maps encoder.new) id)) }
+    ensures named { IfOk result (λ found. IfSome found (λ index. IsNamed (E.setting encoder.old) (E.names encoder.new) id index)) }
     ensures scope { E.scope encoder.new ≡ E.scope encoder.old }
     ensures setting { E.setting encoder.new ≡ E.setting encoder.old }
-    ensures faithful { Faithful (E.setting encoder.new) (E.scope encoder.new) (E.maps encoder.new) }
+    ensures faithful { Faithful (E.setting encoder.new) (E.scope encoder.new) (E.names encoder.new) (E.maps encoder.new) }
     ensures follows { E.follows encoder.old encoder.new }
     ensures cause { IfErr result (IsCause E.refuses encoder.new) }
 {

@@ -21,11 +21,12 @@
 //! grows), `Maps` (what the tables say), `Allowing` (which types may be encoded in a scope), `Definitions` and `Functions`
 //! (definitions from the value types of parts), `Listing` (the list that stands alone).
 //!
-//! Upward this crate promises: where [`encode_valtype`] succeeds, its result denotes the tree of the WIT type, and a type
-//! that is one of the scope is in the tables; the index that [`encode_func_type`] returns denotes the tree of the
-//! function, and those of [`encode_unit_stream`] and [`encode_unit_future`] a stream and a future that carry nothing.
-//! Whatever the result, definitions were added at the end alone, the tables are still right, and the scope has become
-//! one that its implementation allows (`follows`). A refusal is one of the scope's calls, or out of memory.
+//! Upward this crate promises: where [`encode_valtype`] succeeds, its result denotes the tree of the WIT type; a type
+//! that is one of the scope is in the tables, and its index is that of its export where it has a name and the scope
+//! exports its types; the index that [`encode_func_type`] returns denotes the tree of the function, and those of
+//! [`encode_unit_stream`] and [`encode_unit_future`] a stream and a future that carry nothing. Whatever the result, types
+//! were added at the end of the scope alone, the tables are right, and the scope has become one that its implementation
+//! allows (`follows`). A refusal is out of memory, or that of a call of the scope (`IsCause`).
 #![tactic(auto)]
 
 mod calls;

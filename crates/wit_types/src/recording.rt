@@ -1,13 +1,13 @@
 //! A type that was defined is exported where it has a name, and recorded in the tables.
 
-ghost use Rattle.std.specs.Prelude.{◌≡◌, ◌<◌, length, IfOk, IfErr, Some, false};
+ghost use Rattle.std.specs.Prelude.{◌≡◌, ◌<◌, length, IfOk, IfErr, Some, None, false};
 ghost use Rattle.comp_trees.specs.DefinedTrees.{OfValues};
 ghost use Rattle.wit_data.specs.Parts.{RefersBack};
 ghost use Rattle.wit_data.specs.Values.{kind_at};
 ghost use Rattle.wit_data.specs.declared.types.Type.TheVariants.{Id};
 ghost use Rattle.wit_types.specs.Settings.{tree_in, name_at};
 ghost use Rattle.wit_types.specs.Denoting.{Longer, Denotes, ValueDenotes, IsCause};
-ghost use Rattle.wit_types.specs.Maps.{Faithful, IsRecorded};
+ghost use Rattle.wit_types.specs.Maps.{Faithful, IsRecorded, IsNamed, IsNamedValue};
 ghost use Rattle.wit_types.specs.Allowing.{is_resource};
 
 use crate::encoder::ValtypeEncoder;
@@ -30,15 +30,16 @@ pub(crate) fn export_and_record<E: ValtypeEncoder>(
 ) -> Result<ComponentValType, BuildFault>
     requires back { RefersBack types.now }
     requires same { (E.setting encoder.old).types ≡ types.now }
-    requires faithful { Faithful (E.setting encoder.old) (E.scope encoder.old) (E.maps encoder.old) }
+    requires faithful { Faithful (E.setting encoder.old) (E.scope encoder.old) (E.names encoder.old) (E.maps encoder.old) }
     requires present { id.index < length types.now }
     requires values { is_resource (kind_at types.now id.index) ≡ false }
     requires value { ValueDenotes (E.scope encoder.old) value (tree_in (E.setting encoder.old) (Some (Id id))) }
     ensures value { IfOk result (λ v. ValueDenotes (E.scope encoder.new) v (tree_in (E.setting encoder.old) (Some (Id id)))) }
     ensures recorded { IfOk result (λ v. IsRecorded (E.maps encoder.new) (Id id) v) }
+    ensures named { IfOk result (λ v. IsNamedValue (E.setting encoder.old) (E.names encoder.new) (Id id) v) }
     ensures grows { Longer (E.scope encoder.old) (E.scope encoder.new) }
     ensures setting { E.setting encoder.new ≡ E.setting encoder.old }
-    ensures faithful { Faithful (E.setting encoder.new) (E.scope encoder.new) (E.maps encoder.new) }
+    ensures faithful { Faithful (E.setting encoder.new) (E.scope encoder.new) (E.names encoder.new) (E.maps encoder.new) }
     ensures follows { E.follows encoder.old encoder.new }
     ensures cause { IfErr result (IsCause E.refuses encoder.new) }
 {
@@ -58,15 +59,16 @@ fn record_named<E: ValtypeEncoder>(
 ) -> Result<ComponentValType, BuildFault>
     requires back { RefersBack types.now }
     requires same { (E.setting encoder.old).types ≡ types.now }
-    requires faithful { Faithful (E.setting encoder.old) (E.scope encoder.old) (E.maps encoder.old) }
+    requires faithful { Faithful (E.setting encoder.old) (E.scope encoder.old) (E.names encoder.old) (E.maps encoder.old) }
     requires present { id.index < length types.now }
     requires named { name_at types.now id.index ≡ Some name }
     requires value { ValueDenotes (E.scope encoder.old) value (tree_in (E.setting encoder.old) (Some (Id id))) }
     ensures value { IfOk result (λ v. ValueDenotes (E.scope encoder.new) v (tree_in (E.setting encoder.old) (Some (Id id)))) }
     ensures recorded { IfOk result (λ v. IsRecorded (E.maps encoder.new) (Id id) v) }
+    ensures named { IfOk result (λ v. IsNamedValue (E.setting encoder.old) (E.names encoder.new) (Id id) v) }
     ensures grows { Longer (E.scope encoder.old) (E.scope encoder.new) }
     ensures setting { E.setting encoder.new ≡ E.setting encoder.old }
-    ensures faithful { Faithful (E.setting encoder.new) (E.scope encoder.new) (E.maps encoder.new) }
+    ensures faithful { Faithful (E.setting encoder.new) (E.scope encoder.new) (E.names encoder.new) (E.maps encoder.new) }
     ensures follows { E.follows encoder.old encoder.new }
     ensures cause { IfErr result (IsCause E.refuses encoder.new) }
 {
@@ -86,14 +88,15 @@ fn export_index<E: ValtypeEncoder>(
 ) -> Result<u32, BuildFault>
     requires back { RefersBack types.now }
     requires same { (E.setting encoder.old).types ≡ types.now }
-    requires faithful { Faithful (E.setting encoder.old) (E.scope encoder.old) (E.maps encoder.old) }
+    requires faithful { Faithful (E.setting encoder.old) (E.scope encoder.old) (E.names encoder.old) (E.maps encoder.old) }
     requires present { id.index < length types.now }
     requires named { name_at types.now id.index ≡ Some name }
     requires denotes { Denotes (E.scope encoder.old) defined (OfValues (tree_in (E.setting encoder.old) (Some (Id id)))) }
+    ensures named { IfOk result (λ index. IsNamed (E.setting encoder.old) (E.names encoder.new) id index) }
     ensures denotes { IfOk result (λ index. Denotes (E.scope encoder.new) index (OfValues (tree_in (E.setting encoder.old) (Some (Id id))))) }
     ensures grows { Longer (E.scope encoder.old) (E.scope encoder.new) }
     ensures setting { E.setting encoder.new ≡ E.setting encoder.old }
-    ensures faithful { Faithful (E.setting encoder.new) (E.scope encoder.new) (E.maps encoder.new) }
+    ensures faithful { Faithful (E.setting encoder.new) (E.scope encoder.new) (E.names encoder.new) (E.maps encoder.new) }
     ensures follows { E.follows encoder.old encoder.new }
     ensures cause { IfErr result (IsCause E.refuses encoder.new) }
 {
@@ -120,15 +123,17 @@ fn record_unnamed<E: ValtypeEncoder>(
 ) -> Result<ComponentValType, BuildFault>
     requires back { RefersBack types.now }
     requires same { (E.setting encoder.old).types ≡ types.now }
-    requires faithful { Faithful (E.setting encoder.old) (E.scope encoder.old) (E.maps encoder.old) }
+    requires faithful { Faithful (E.setting encoder.old) (E.scope encoder.old) (E.names encoder.old) (E.maps encoder.old) }
     requires present { id.index < length types.now }
+    requires unnamed { name_at types.now id.index ≡ None }
     requires values { is_resource (kind_at types.now id.index) ≡ false }
     requires value { ValueDenotes (E.scope encoder.old) value (tree_in (E.setting encoder.old) (Some (Id id))) }
     ensures value { IfOk result (λ v. ValueDenotes (E.scope encoder.new) v (tree_in (E.setting encoder.old) (Some (Id id)))) }
     ensures recorded { IfOk result (λ v. IsRecorded (E.maps encoder.new) (Id id) v) }
+    ensures named { IfOk result (λ v. IsNamedValue (E.setting encoder.old) (E.names encoder.new) (Id id) v) }
     ensures grows { Longer (E.scope encoder.old) (E.scope encoder.new) }
     ensures setting { E.setting encoder.new ≡ E.setting encoder.old }
-    ensures faithful { Faithful (E.setting encoder.new) (E.scope encoder.new) (E.maps encoder.new) }
+    ensures faithful { Faithful (E.setting encoder.new) (E.scope encoder.new) (E.names encoder.new) (E.maps encoder.new) }
     ensures follows { E.follows encoder.old encoder.new }
     ensures cause { IfErr result (IsCause E.refuses encoder.new) }
 {

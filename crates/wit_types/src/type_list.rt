@@ -7,7 +7,7 @@ ghost use Rattle.comp_trees.specs.DefinedTrees.{value_tree};
 ghost use Rattle.wit_data.specs.Sound.{IsSound, HasType};
 ghost use Rattle.wit_types.specs.Allowing.{is_allowed};
 ghost use Rattle.wit_types.specs.Denoting.{IsCause};
-ghost use Rattle.wit_types.specs.Listing.{listed_trees, is_full, standing_alone, ListGrows, list_same, list_on};
+ghost use Rattle.wit_types.specs.Listing.{listed_trees, is_full, standing_alone, ListGrows, IsExported, exported_on, list_same, list_on};
 ghost use Rattle.wit_types.specs.Maps.{no_maps};
 
 use crate::calls::encode_valtype;
@@ -96,11 +96,15 @@ impl<'a> ValtypeEncoder for TypeList<'a> {
 
     ghost follows = { λ old new. ListGrows old.listed new.listed };
 
+    ghost names = { λ l name index. IsExported l.listed name index };
+
     ghost refuses = { λ l count. is_full l.listed count };
 
     ghost follows_itself = { λ l. list_same l.listed };
 
     ghost follows_on = { λ a b c g h. list_on a.listed b.listed c.listed g h };
+
+    ghost names_kept = { λ a b g name index h. exported_on a.listed b.listed g name index h };
 
     ghost follows_maps = { λ l m. list_same l.listed };
 

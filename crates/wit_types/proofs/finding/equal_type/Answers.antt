@@ -1,8 +1,8 @@
 use Rattle.std.proofs.Common.{ap, sym, refl, ◌∙◌, Some}
 use Rattle.comp_trees.specs.DefinedTrees.{OfValues}
 use Rattle.wit_data.specs.declared.types.Type.TheVariants.{Id}
-use Rattle.wit_types.specs.Settings.{Setting, tree_in}
-use Rattle.wit_types.proofs.Growing.{denotes_as}
+use Rattle.wit_types.specs.Settings.{Setting, tree_in, name_at}
+use Rattle.wit_types.proofs.Growing.{denotes_as, named_none, no_name}
 use Rattle.wit_types.proofs.Permitting.{equal_found}
 use Rattle.wit_types.proofs.finding.equal_type.Goals as goal
 
@@ -19,3 +19,8 @@ returns-in_ok-record_type-in-Some-clause-denotes g c =
     (equal_found (g.E.ValtypeEncoder.setting c.args.encoder.now) c.args.types.now c.args.id c.kind_of.result.now (g.E.ValtypeEncoder.scope c.args.encoder.now) c.in-Some.index
     c.requires.same c.requires.back c.requires.present c.kind_of.ensures c.in-Some.ensures.denotes)
     (c.record_type.ensures.scope ∙ c.met_kind.ensures.scope) refl
+
+pub record_type-requires-clause-named : goal.record_type-requires-clause-named
+record_type-requires-clause-named g c =
+    named_none _ c.args.types.now _ c.args.id c.in-Some.index (ap (λ (s : Setting). s.types) c.met_kind.ensures.setting ∙ c.requires.same)
+    (no_name (name_at c.args.types.now c.args.id.index) (sym c.has_name.ensures ∙ c.if-has_name.false))

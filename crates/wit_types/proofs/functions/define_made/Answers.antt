@@ -9,7 +9,7 @@ define_function_type-requires g c =
     function_stands (g.E.ValtypeEncoder.setting c.args.encoder.now) (g.E.ValtypeEncoder.scope c.args.encoder.now) c.args.key.now c.args.params c.args.returned c.requires.params c.requires.result
 
 pub returns-clause-faithful : goal.returns-clause-faithful
-returns-clause-faithful g c = faithful_then _ _ _ _ _ _ c.define_function_type.result _ c.requires.faithful c.define_function_type.ensures.makes c.define_function_type.ensures.setting c.define_function_type.ensures.maps
+returns-clause-faithful g c = faithful_then _ _ _ _ _ _ _ _ c.define_function_type.result _ c.requires.faithful c.define_function_type.ensures.makes c.define_function_type.ensures.setting c.define_function_type.ensures.maps (g.E.ValtypeEncoder.names_kept _ _ c.define_function_type.ensures.follows)
 
 pub returns-clause-denotes : goal.returns-clause-denotes
 returns-clause-denotes g c =
