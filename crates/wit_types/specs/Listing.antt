@@ -1,36 +1,54 @@
 -- What the types of a list that stands alone denote (component model, explainer: type definitions).
-use Rattle.std.specs.Prelude.{ℕ, ◌≡◌, ◌≤◌, ◌^◌, length, false, List, [], ◌∷◌, ◌++◌, get_or, Some, None}
+use Rattle.std.specs.Prelude.{ℕ, suc, ◌≡◌, ◌≤◌, ◌^◌, length, true, List, [], ◌∷◌, ◌++◌, get_or, Option, Some, None, is_some, if◌then◌else◌}
+use Rattle.std.specs.Str.{bytes_eq}
+use Rattle.std.specs.Option.{option_eq}
+use Rattle.wit_data.specs.declared.types.Type.TheVariants.{Id}
+use Rattle.comp_trees.specs.Trees.{ResourceAt}
 use Rattle.std.proofs.Common.{sym, ap, ◌∙◌, append_assoc, append-nil}
 use Rattle.std.specs.List.{slice_get}
 use Rattle.comp_lists.proofs.Lists.{slice_get-append}
-use Rattle.comp_bytes.specs.declared.types.ExternName.{ExternName}
 use Rattle.wit_data.specs.declared.types.TypeDef.{TypeDef}
 use Rattle.comp_trees.specs.DefinedTrees.{TypeTree, OfValues, OfFunctions, OfOthers, defined_tree, function_tree}
 use Rattle.wit_types.specs.declared.type_list.ListedType.{ListedType}
 use Rattle.wit_types.specs.declared.type_list.ListedType.TheVariants as listed
-use Rattle.wit_types.specs.Settings.{Setting}
+use Rattle.wit_types.specs.Settings.{Setting, tree_in}
 
-abbrev pub listed_tree : List TypeTree → ListedType → TypeTree
-listed_tree scope (listed.Defined d) = OfValues (defined_tree scope d)
-listed_tree scope (listed.Func f) = OfFunctions (function_tree scope f)
-listed_tree scope (listed.Export name index) = get_or scope index OfOthers
+-- the number of the first type of a name, where the first type has the given number
+abbrev pub number_from : ℕ → List ℕ → List TypeDef → Option ℕ
+number_from n name [] = None
+number_from n name (t ∷ ts) = if option_eq bytes_eq t.name (Some name) then Some n else number_from (suc n) name ts
 
--- what they denote, behind those of a scope
-abbrev pub listed_trees : List TypeTree → List ListedType → List TypeTree
-listed_trees scope [] = scope
-listed_trees scope (t ∷ ts) = listed_trees (scope ++ listed_tree scope t ∷ []) ts
+-- a resource is known by its name: its address is its number in the resolve
+abbrev pub number_or : ℕ → Option ℕ → ℕ
+number_or other None = other
+number_or other (Some n) = n
 
--- nothing is imported, and no resource exported; the address of a resource is its number in the resolve
+abbrev pub address_named : List TypeDef → List ℕ → ℕ
+address_named types name = number_or 0 (number_from 0 name types)
+
+-- what the list takes as given: a type of an interface is imported, and a resource exported under the name of a type
 abbrev pub standing_alone : List TypeDef → Setting
 standing_alone types =
     record {
       types = types;
       interface = None;
       origin = λ id. id.index;
-      may_import = λ other id. false;
-      may_export = λ name. false;
-      address = λ name. 0;
+      may_import = λ other id. true;
+      may_export = λ name. is_some (number_from 0 name types);
+      address = address_named types;
     }
+
+abbrev pub listed_tree : List TypeDef → List TypeTree → ListedType → TypeTree
+listed_tree types scope (listed.Defined d) = OfValues (defined_tree scope d)
+listed_tree types scope (listed.Func f) = OfFunctions (function_tree scope f)
+listed_tree types scope (listed.Export name index) = get_or scope index OfOthers
+listed_tree types scope (listed.Resource name) = OfValues (ResourceAt (address_named types name.name))
+listed_tree types scope (listed.Import interface id) = OfValues (tree_in (standing_alone types) (Some (Id id)))
+
+-- what they denote, behind those of a scope
+abbrev pub listed_trees : List TypeDef → List TypeTree → List ListedType → List TypeTree
+listed_trees types scope [] = scope
+listed_trees types scope (t ∷ ts) = listed_trees types (scope ++ listed_tree types scope t ∷ []) ts
 
 -- the count of a list that has more types than an index can name
 abbrev pub is_full : List ListedType → ℕ → Type 0
@@ -41,20 +59,23 @@ pub record ListGrows (old new : List ListedType) : Type 0 where
   pub more : List ListedType
   pub grown : new ≡ old ++ more
 
+abbrev pub title_of : ListedType → Option (List ℕ)
+title_of (listed.Export name index) = Some name.name
+title_of (listed.Resource name) = Some name.name
+title_of ty = None
+
 -- the list has an export of this name at the index
 pub record IsExported (types : List ListedType) (name : List ℕ) (index : ℕ) : Type 0 where
-  pub title : ExternName
-  pub exported : ℕ
-  pub is_name : title.name ≡ name
-  pub there : slice_get types index ≡ Some (listed.Export title exported)
+  pub ty : ListedType
+  pub titled : title_of ty ≡ Some name
+  pub there : slice_get types index ≡ Some ty
 
 pub exported_on : (a b : List ListedType) → ListGrows a b → (name : List ℕ) (index : ℕ) → IsExported a name index → IsExported b name index
 exported_on a b g name index h =
     record {
-      title = h.title;
-      exported = h.exported;
-      is_name = h.is_name;
-      there = ap (λ ts. slice_get ts index) g.grown ∙ slice_get-append a g.more index (listed.Export h.title h.exported) h.there;
+      ty = h.ty;
+      titled = h.titled;
+      there = ap (λ ts. slice_get ts index) g.grown ∙ slice_get-append a g.more index h.ty h.there;
     }
 
 pub list_same : (listed : List ListedType) → ListGrows listed listed

@@ -1,4 +1,5 @@
-//! A list of types that stands alone: it imports nothing and has no resource, and shows what a type is made of.
+//! A list of types that stands alone, which shows what a type is made of: a type of an interface is imported there, and a
+//! resource is known by its name.
 
 ghost use Rattle.std.specs.Prelude.{◌≡◌, ◌++◌, ◌∷◌, [], length, IfOk, IfErr, IsTrue, OnOk, OnErr, Some};
 ghost use Rattle.std.proofs.Common.{refl};
@@ -26,6 +27,10 @@ pub enum ListedType {
     Func(FuncTypeDef),
     /// An export of the type with an index.
     Export { name: ExternName, index: u32 },
+    /// An export of a resource.
+    Resource { name: ExternName },
+    /// A type of an interface.
+    Import { interface: InterfaceId, id: TypeId },
 }
 
 /// A list of types that stands alone.
@@ -88,7 +93,7 @@ fn add(listed: &mut Seq<ListedType>, ty: ListedType) -> Result<u32, BuildFault>
 impl<'a> ValtypeEncoder for TypeList<'a> {
     ghost setting = { λ l. standing_alone l.resolve.now.types };
 
-    ghost scope = { λ l. listed_trees [] l.listed };
+    ghost scope = { λ l. listed_trees l.resolve.now.types [] l.listed };
 
     ghost maps = { λ l. l.maps };
 
@@ -126,12 +131,12 @@ impl<'a> ValtypeEncoder for TypeList<'a> {
         Ok(Some(add(&mut self.listed, ListedType::Export { name, index })?))
     }
 
-    fn export_resource(&mut self, _name: ExternName) -> Result<u32, BuildFault> {
-        unreachable!()
+    fn export_resource(&mut self, name: ExternName) -> Result<u32, BuildFault> {
+        add(&mut self.listed, ListedType::Resource { name })
     }
 
-    fn import_type(&mut self, _interface: InterfaceId, _id: TypeId) -> Result<u32, BuildFault> {
-        unreachable!()
+    fn import_type(&mut self, interface: InterfaceId, id: TypeId) -> Result<u32, BuildFault> {
+        add(&mut self.listed, ListedType::Import { interface, id })
     }
 
     fn type_encoding_maps(&mut self) -> &mut TypeEncodingMaps {
@@ -150,12 +155,12 @@ pub struct AloneType {
     pub value: ComponentValType,
 }
 
-/// The types that a type is made of, which reaches no resource and no type of an interface.
+/// The types that a type is made of. Each resource that it reaches is the first type of its name.
 pub fn encode_alone(alloc: Global, resolve: &Resolve, ty: &Type) -> Result<AloneType, BuildFault>
     requires sound { IsSound resolve.now }
     requires present { HasType resolve.now (Some ty.now) }
     requires allowed { IsTrue (is_allowed (standing_alone resolve.now.types) (Some ty.now)) }
-    ensures { IfOk result (λ alone. value_tree (listed_trees [] alone.listed) alone.value ≡ wit_tree (λ id. id.index) resolve.now.types (Some ty.now)) }
+    ensures { IfOk result (λ alone. value_tree (listed_trees resolve.now.types [] alone.listed) alone.value ≡ wit_tree (λ id. id.index) resolve.now.types (Some ty.now)) }
 {
     let mut list = TypeList::new(alloc, resolve);
     let value = encode_valtype(alloc, &mut list, resolve, ty)?;
