@@ -20,7 +20,7 @@ pub enum FunctionKind {
 }
 
 /// A parameter: its name and its type.
-#[derive(Debug, Drop, PartialEq, Eq, Hash)]
+#[derive(Debug, Drop, PartialEq, Eq)]
 pub struct Param {
     pub name: Text,
     pub ty: Type,

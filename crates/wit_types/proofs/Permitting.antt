@@ -2,6 +2,7 @@
 use Rattle.std.proofs.Common.{◌≡◌, ℕ, zero, suc, Bool, true, false, ◌<◌, ◌&&◌, List, [], ◌∷◌, length, get_or, map, refl, sym, ap, subst, ◌∙◌, arith, true≢false, Option, Some, None}
 use Rattle.std.specs.List.{AllByRecursion, list_all}
 use Rattle.wit_data.specs.declared.functions.Param.{Param}
+use Rattle.wit_types.specs.Maps.{key_params}
 use Rattle.std.proofs.lemmas.List.Folds.{list_all-map}
 use Rattle.wit_data.specs.declared.ids.TypeId.{TypeId}
 use Rattle.wit_data.specs.declared.ids.InterfaceId.{InterfaceId}
@@ -143,7 +144,7 @@ unfolding tree_in
 same_tree s types part same = ap (λ ts. wit_tree s.origin ts part) same
 
 -- the parameters and the result of a function may be encoded
-pub params_may : (s : Setting) (types : List TypeDef) (params : List Param) (rest : Bool) → AllByRecursion (λ p. IsBelow (length types) (Some p.ty)) params → (list_all (λ p. is_allowed s (Some p.ty)) params && rest) ≡ true → AllByRecursion (λ p. MayEncode s types (Some p.ty)) params
+pub params_may : (s : Setting) (types : List TypeDef) (params : List Param) (rest : Bool) → AllByRecursion (λ p. IsBelow (length types) (Some p.ty)) params → (list_all (λ p. is_allowed s (Some p.ty)) params && rest) ≡ true → AllByRecursion (λ p. MayEncode s types (Some p.ty)) (key_params params)
 params_may s types [] rest present allowed = tt
 params_may s types (p ∷ ps) rest present allowed =
     let a = both (is_allowed s (Some p.ty) && list_all (λ q. is_allowed s (Some q.ty)) ps) rest allowed in

@@ -11,14 +11,12 @@ use Rattle.wit_data.specs.declared.types.Field.{Field}
 use Rattle.wit_data.specs.declared.types.Case.{Case}
 use Rattle.wit_data.specs.declared.types.ResultType.{ResultType}
 use Rattle.wit_data.specs.declared.types.TypeDefKind.TheVariants as kinds
-use Rattle.wit_data.specs.declared.functions.Param.{Param}
 use Rattle.wit_data.specs.contracts.ids.TypeIdPartialEq.TheImpl as id_eq
 use Rattle.wit_data.specs.contracts.types.TypePartialEq.TheImpl as type_eq
 use Rattle.wit_data.specs.contracts.types.FieldPartialEq.TheImpl as field_eq
 use Rattle.wit_data.specs.contracts.types.CasePartialEq.TheImpl as case_eq
 use Rattle.wit_data.specs.contracts.types.ResultTypePartialEq.TheImpl as result_eq
 use Rattle.wit_data.specs.contracts.types.TypeDefKindPartialEq.TheImpl as kind_eq
-use Rattle.wit_data.specs.contracts.functions.ParamPartialEq.TheImpl as param_eq
 use Rattle.wit_types.specs.declared.maps.FuncTypeKey.{FuncTypeKey}
 use Rattle.wit_types.specs.contracts.maps.FuncTypeKeyPartialEq.TheImpl as key_eq
 
@@ -103,23 +101,13 @@ one_kind (kinds.Future a) (kinds.Future b) e = ap kinds.Future (one_option type_
 one_kind (kinds.Alias a) (kinds.Alias b) e = ap kinds.Alias (one_type a b e)
 one_kind x y e = absurd (true≢false (sym e))
 
-param_by : (x y : Param) → x.name ≡ y.name → x.ty ≡ y.ty → x ≡ y
-param_by x y n t =
-    let build : List ℕ → Ty → Param = λ a b. record { name = a; ty = b } in
-    ap (λ z. build z x.ty) n ∙ ap (λ z. build y.name z) t
-
-one_param : IsOne param_eq.eq-value.it
-one_param x y e =
-    let b = both (bytes_eq x.name y.name) (type_eq.eq-value.it x.ty y.ty) e in
-    param_by x y (one_text x.name y.name b.0) (one_type x.ty y.ty b.1)
-
 key_by : (x y : FuncTypeKey) → x.params ≡ y.params → x.result ≡ y.result → x.is_async ≡ y.is_async → x ≡ y
 key_by x y p r a =
-    let build : List Param → Option Ty → Bool → FuncTypeKey = λ s t u. record { params = s; result = t; is_async = u } in
+    let build : List Field → Option Ty → Bool → FuncTypeKey = λ s t u. record { params = s; result = t; is_async = u } in
     ap (λ z. build z x.result x.is_async) p ∙ ap (λ z. build y.params z x.is_async) r ∙ ap (λ z. build y.params y.result z) a
 
 pub one_key : IsOne key_eq.eq-value.it
 one_key x y e =
-    let b = both (pointwise param_eq.eq-value.it x.params y.params) (option_eq type_eq.eq-value.it x.result y.result && beq x.is_async y.is_async) e in
+    let b = both (pointwise field_eq.eq-value.it x.params y.params) (option_eq type_eq.eq-value.it x.result y.result && beq x.is_async y.is_async) e in
     let c = both (option_eq type_eq.eq-value.it x.result y.result) (beq x.is_async y.is_async) b.1 in
-    key_by x y (one_list param_eq.eq-value.it one_param x.params y.params b.0) (one_option type_eq.eq-value.it one_type x.result y.result c.0) (one_truth x.is_async y.is_async c.1)
+    key_by x y (one_list field_eq.eq-value.it one_field x.params y.params b.0) (one_option type_eq.eq-value.it one_type x.result y.result c.0) (one_truth x.is_async y.is_async c.1)

@@ -18,14 +18,20 @@ use Rattle.wit_types.specs.declared.maps.FuncTypeKey.{FuncTypeKey}
 use Rattle.wit_types.specs.Settings.{Setting, tree_in, owner_at, name_at}
 use Rattle.wit_types.specs.Allowing.{foreign}
 use Rattle.wit_data.specs.declared.ids.InterfaceId.{InterfaceId}
+use Rattle.wit_data.specs.declared.functions.Param.{Param}
+use Rattle.wit_data.specs.declared.types.Field.{Field as WitField}
 use Rattle.wit_types.specs.Denoting.{Denotes}
 
 abbrev pub no_maps : TypeEncodingMaps
 no_maps = record { id_to_index = []; def_to_index = []; func_type_map = [] }
 
+-- the names and types of parameters
+abbrev pub key_params : List Param → List WitField
+key_params params = map (λ p. record { name = p.name; ty = p.ty }) params
+
 -- what the type of a function is made of
 abbrev pub key_of : Function → FuncTypeKey
-key_of f = record { params = f.params; result = f.result; is_async = is_async f.kind }
+key_of f = record { params = key_params f.params; result = f.result; is_async = is_async f.kind }
 
 -- the type of the functions of a key
 abbrev pub key_tree : Setting → FuncTypeKey → FunctionTree

@@ -10,7 +10,7 @@ ghost use Rattle.wit_data.specs.Parts.{RefersBack, IsBelow};
 ghost use Rattle.wit_types.specs.Settings.{tree_in};
 ghost use Rattle.wit_types.specs.Denoting.{Longer, Denotes, AreTypes, IsCause};
 ghost use Rattle.wit_types.specs.Definitions.{PartDenotes};
-ghost use Rattle.wit_types.specs.Maps.{Faithful, key_of, key_tree};
+ghost use Rattle.wit_types.specs.Maps.{Faithful, key_params, key_of, key_tree};
 ghost use Rattle.wit_types.specs.Functions.{FieldDenotes, FieldsDenote};
 ghost use Rattle.wit_types.specs.Allowing.{is_allowed, MayEncode};
 
@@ -22,7 +22,7 @@ use byte_encoding::BuildFault;
 use comp_bytes::{ComponentValType, Field, FuncTypeDef};
 use comp_lists::Seq;
 use std::alloc::{AllocError, Global};
-use wit_data::{Function, FunctionKind, Param, Type, TypeDef};
+use wit_data::{Field as WitField, Function, FunctionKind, Param, Type, TypeDef};
 
 /// The index of the type of a function.
 pub(crate) fn encode_function<E: ValtypeEncoder>(
@@ -34,7 +34,7 @@ pub(crate) fn encode_function<E: ValtypeEncoder>(
     requires back { RefersBack types.now }
     requires same { (E.setting encoder.old).types ≡ types.now }
     requires faithful { Faithful (E.setting encoder.old) (E.scope encoder.old) (E.names encoder.old) (E.maps encoder.old) }
-    requires params { AllByRecursion (λ p. MayEncode (E.setting encoder.old) types.now (Some p.ty)) function.now.params }
+    requires params { AllByRecursion (λ p. MayEncode (E.setting encoder.old) types.now (Some p.ty)) (key_of function.now).params }
     requires result { MayEncode (E.setting encoder.old) types.now function.now.result }
     ensures denotes { IfOk result (λ index. Denotes (E.scope encoder.new) index (OfFunctions (key_tree (E.setting encoder.old) (key_of function.now)))) }
     ensures grows { Longer (E.scope encoder.old) (E.scope encoder.new) }
@@ -55,22 +55,22 @@ fn function_key(alloc: Global, function: &Function) -> Result<FuncTypeKey, Alloc
     ensures { IfOk result (λ key. key ≡ key_of function.now) }
 {
     Ok(FuncTypeKey {
-        params: copied(alloc, function.params.as_slice())?,
+        params: key_params(alloc, function.params.as_slice())?,
         result: function.result,
         is_async: is_async(function.kind),
     })
 }
 
-/// Equal parameters.
-fn copied(alloc: Global, params: &[Param]) -> Result<Seq<Param>, AllocError>
-    ensures { IfOk result (λ copies. copies ≡ params.now) }
+/// The names and types of parameters.
+fn key_params(alloc: Global, params: &[Param]) -> Result<Seq<WitField>, AllocError>
+    ensures { IfOk result (λ fields. fields ≡ key_params params.now) }
 {
-    let mut copies = Seq::new(alloc);
+    let mut fields = Seq::new(alloc);
     for param in params {
         let name = param.name.clone(alloc)?;
-        copies.push(Param { name, ty: param.ty })?;
+        fields.push(WitField { name, ty: param.ty })?;
     }
-    Ok(copies)
+    Ok(fields)
 }
 
 /// Whether a function of this kind is asynchronous.
@@ -165,7 +165,7 @@ fn encode_params<E: ValtypeEncoder>(
     alloc: Global,
     encoder: &mut E,
     types: &[TypeDef],
-    params: &[Param],
+    params: &[WitField],
 ) -> Result<Seq<Field>, BuildFault>
     requires back { RefersBack types.now }
     requires same { (E.setting encoder.old).types ≡ types.now }
@@ -190,7 +190,7 @@ fn encode_param<E: ValtypeEncoder>(
     alloc: Global,
     encoder: &mut E,
     types: &[TypeDef],
-    param: &Param,
+    param: &WitField,
 ) -> Result<Field, BuildFault>
     requires back { RefersBack types.now }
     requires same { (E.setting encoder.old).types ≡ types.now }

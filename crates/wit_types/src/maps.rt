@@ -7,12 +7,13 @@ ghost use Rattle.wit_types.specs.Maps.{no_maps};
 
 use comp_lists::{Keyed, Seq};
 use std::alloc::{AllocError, Global};
-use wit_data::{Param, Type, TypeDefKind, TypeId};
+use wit_data::{Field, Type, TypeDefKind, TypeId};
 
 /// What the type of a function is made of: functions with equal keys have one type.
 #[derive(Debug, PartialEq, Eq, Hash)]
 pub struct FuncTypeKey {
-    pub params: Seq<Param>,
+    /// The names and types of the parameters.
+    pub params: Seq<Field>,
     pub result: Option<Type>,
     pub is_async: bool,
 }
