@@ -1,0 +1,36 @@
+use Rattle.std.proofs.Common.{ap, sym, refl, ◌∙◌, Some}
+use Rattle.comp_trees.specs.DefinedTrees.{OfValues}
+use Rattle.wit_data.specs.declared.types.Type.TheVariants.{Id}
+use Rattle.wit_types.specs.Settings.{Setting, tree_in}
+use Rattle.wit_types.proofs.Growing.{faithful_after, denotes_as, named_by}
+use Rattle.wit_types.proofs.Permitting.{named_resource, resource_tree}
+use Rattle.wit_types.proofs.finding.export_resource_as.Goals as goal
+
+pub export_resource-requires : goal.export_resource-requires
+export_resource-requires g c = (named_resource (g.E.ValtypeEncoder.setting c.args.encoder.now) c.args.id.index c.args.name c.requires.named).0
+
+pub returns-in_err-index-clause-faithful : goal.returns-in_err-index-clause-faithful
+returns-in_err-index-clause-faithful g c = faithful_after _ _ _ _ _ _ _ _ c.requires.faithful c.in_err-index.ensures.makes c.in_err-index.ensures.setting c.in_err-index.ensures.maps (g.E.ValtypeEncoder.names_kept _ _ c.in_err-index.ensures.follows)
+
+pub record_type-requires-clause-faithful : goal.record_type-requires-clause-faithful
+record_type-requires-clause-faithful g c = faithful_after _ _ _ _ _ _ _ _ c.requires.faithful c.in_ok-index.ensures.makes.0 c.in_ok-index.ensures.setting c.in_ok-index.ensures.maps (g.E.ValtypeEncoder.names_kept _ _ c.in_ok-index.ensures.follows)
+
+pub record_type-requires-clause-denotes : goal.record_type-requires-clause-denotes
+record_type-requires-clause-denotes g c =
+    let s = g.E.ValtypeEncoder.setting c.args.encoder.now in
+    denotes_as c.in_ok-index.ensures.makes.1 refl
+    (ap OfValues (resource_tree s c.args.types.now c.args.id (s.address c.args.name) c.requires.same c.requires.back c.requires.present c.requires.resource (named_resource s c.args.id.index c.args.name c.requires.named).1)
+    ∙ ap (λ (r : Setting). OfValues (tree_in r (Some (Id c.args.id)))) (sym c.in_ok-index.ensures.setting))
+
+pub returns-clause-denotes : goal.returns-clause-denotes
+returns-clause-denotes g c =
+    let s = g.E.ValtypeEncoder.setting c.args.encoder.now in
+    denotes_as c.in_ok-index.ensures.makes.1 c.record_type.ensures.scope
+    (ap OfValues (resource_tree s c.args.types.now c.args.id (s.address c.args.name) c.requires.same c.requires.back c.requires.present c.requires.resource (named_resource s c.args.id.index c.args.name c.requires.named).1))
+
+pub record_type-requires-clause-named : goal.record_type-requires-clause-named
+record_type-requires-clause-named g c =
+    named_by _ c.args.types.now _ c.args.id c.args.name c.in_ok-index.index (ap (λ (s : Setting). s.types) c.in_ok-index.ensures.setting ∙ c.requires.same) c.requires.title c.in_ok-index.ensures.names
+
+pub returns-in_err-record_type-clause-follows : goal.returns-in_err-record_type-clause-follows
+returns-in_err-record_type-clause-follows g c = g.E.ValtypeEncoder.follows_on _ _ _ c.in_ok-index.ensures.follows c.record_type.ensures.follows

@@ -1,0 +1,13 @@
+use Rattle.std.proofs.Common.{◌∙◌}
+use Rattle.wit_types.proofs.Calling.{fields_on}
+use Rattle.wit_types.proofs.functions.define_function.Goals as goal
+
+pub define_made-requires-clause-params : goal.define_made-requires-clause-params
+define_made-requires-clause-params g c =
+    fields_on (g.E.ValtypeEncoder.setting c.args.encoder.now) (g.E.ValtypeEncoder.setting c.encode_payload.new.encoder) _ _ c.in_ok-params.params c.as_slice.result.now c.args.key.now.params
+    c.in_ok-returned.ensures.grows (c.in_ok-returned.ensures.setting ∙ c.in_ok-params.ensures.setting) c.as_slice.ensures c.in_ok-params.ensures.fields
+
+pub returns-clause-follows : goal.returns-clause-follows
+returns-clause-follows g c =
+    g.E.ValtypeEncoder.follows_on _ _ _ c.in_ok-params.ensures.follows
+    (g.E.ValtypeEncoder.follows_on _ _ _ c.in_ok-returned.ensures.follows c.define_made.ensures.follows)

@@ -1,0 +1,25 @@
+use Rattle.std.proofs.Common.{◌<◌, length, sym, ap, subst, ◌∙◌, arith, Some}
+use Rattle.std.specs.List.{AllByRecursion}
+use Rattle.wit_types.specs.Settings.{Setting}
+use Rattle.wit_types.specs.Functions.{FieldDenotes}
+use Rattle.wit_types.specs.Allowing.{MayEncode}
+use Rattle.wit_types.proofs.Growing.{longer_on}
+use Rattle.wit_types.proofs.Calling.{fields_more}
+use Rattle.wit_types.proofs.functions.encode_params.Goals as goal
+
+pub loop-n-preserved : goal.loop-n-preserved
+loop-n-preserved g c =
+    let i = c.loop-n.invariant in
+    let e = c.in_ok-encode_param.ensures in
+    let within : c.loop-n.n < length c.args.params.now = omega (arith, c.loop-n-test.true) in
+    record {
+      fields = fields_more (g.E.ValtypeEncoder.setting c.args.encoder.now) (g.E.ValtypeEncoder.scope c.loop-n.encoder) (g.E.ValtypeEncoder.scope c.encode_param.new.encoder)
+          c.loop-n.fields c.push.new.self c.args.params.now c.loop-n.n c.in_ok-encode_param.field-0 c.index-params-n.result e.grows within c.in_ok-push.ensures.ok i.fields c.index-params-n.is
+          (subst (λ (s : Setting). FieldDenotes s (g.E.ValtypeEncoder.scope c.encode_param.new.encoder) c.in_ok-encode_param.field-0 c.index-params-n.result) i.setting e.field);
+      same = ap (λ (s : Setting). s.types) e.setting ∙ i.same;
+      params = subst (λ (s : Setting). AllByRecursion (λ p. MayEncode s c.args.types.now (Some p.ty)) c.args.params.now) (sym e.setting) i.params;
+      grows = longer_on i.grows e.grows;
+      setting = e.setting ∙ i.setting;
+      faithful = e.faithful;
+      follows = g.E.ValtypeEncoder.follows_on _ _ _ i.follows e.follows;
+    }

@@ -1,0 +1,13 @@
+use Rattle.std.proofs.Common.{sym, ◌∙◌}
+use Rattle.wit_types.proofs.Growing.{value_of_index, value_as}
+use Rattle.wit_types.proofs.Defining.{defined_as}
+use Rattle.wit_types.proofs.making.define_kind.Goals as goal
+
+pub define_type-requires-clause-present : goal.define_type-requires-clause-present
+define_type-requires-clause-present g c =
+    (defined_as (g.E.ValtypeEncoder.setting c.args.encoder.now) (g.E.ValtypeEncoder.scope c.args.encoder.now) c.args.given.now c.args.kind.now c.in-Some.ty c.requires.defined c.requires.parts (sym c.in-Some.is ∙ c.in_ok-ty.ensures)).stands
+
+pub returns-clause-value : goal.returns-clause-value
+returns-clause-value g c n =
+    value_as (value_of_index c.in_ok-define_type-in-Some.ensures.denotes)
+    ((defined_as (g.E.ValtypeEncoder.setting c.args.encoder.now) (g.E.ValtypeEncoder.scope c.args.encoder.now) c.args.given.now c.args.kind.now c.in-Some.ty c.requires.defined c.requires.parts (sym c.in-Some.is ∙ c.in_ok-ty.ensures)).tree n)

@@ -1,0 +1,23 @@
+use Rattle.std.proofs.Common.{Option, ℕ, subst}
+use Rattle.wit_types.specs.Denoting.{exported_or}
+use Rattle.wit_types.proofs.Growing.{faithful_maybe, named_by}
+use Rattle.wit_types.proofs.recording.export_index.Goals as goal
+
+pub returns-in_err-exported-clause-faithful : goal.returns-in_err-exported-clause-faithful
+returns-in_err-exported-clause-faithful g c = faithful_maybe _ _ _ _ _ _ _ _ c.export_type.result _ c.requires.faithful c.export_type.ensures.makes c.export_type.ensures.setting c.export_type.ensures.maps (g.E.ValtypeEncoder.names_kept _ _ c.export_type.ensures.follows)
+
+pub returns-in-Some-clause-faithful : goal.returns-in-Some-clause-faithful
+returns-in-Some-clause-faithful g c = faithful_maybe _ _ _ _ _ _ _ _ c.export_type.result _ c.requires.faithful c.export_type.ensures.makes c.export_type.ensures.setting c.export_type.ensures.maps (g.E.ValtypeEncoder.names_kept _ _ c.export_type.ensures.follows)
+
+pub returns-in-None-clause-faithful : goal.returns-in-None-clause-faithful
+returns-in-None-clause-faithful g c = faithful_maybe _ _ _ _ _ _ _ _ c.export_type.result _ c.requires.faithful c.export_type.ensures.makes c.export_type.ensures.setting c.export_type.ensures.maps (g.E.ValtypeEncoder.names_kept _ _ c.export_type.ensures.follows)
+
+pub returns-in-Some-clause-named : goal.returns-in-Some-clause-named
+returns-in-Some-clause-named g c =
+    named_by _ c.args.types.now _ c.args.id c.args.name c.in-Some.index c.requires.same c.requires.named
+    (subst (λ (o : Option ℕ). g.E.ValtypeEncoder.names c.export_type.new.self c.args.name (exported_or o c.args.defined)) c.in-Some.is c.in_ok-exported.ensures.names)
+
+pub returns-in-None-clause-named : goal.returns-in-None-clause-named
+returns-in-None-clause-named g c =
+    named_by _ c.args.types.now _ c.args.id c.args.name c.args.defined c.requires.same c.requires.named
+    (subst (λ (o : Option ℕ). g.E.ValtypeEncoder.names c.export_type.new.self c.args.name (exported_or o c.args.defined)) c.in-None.is c.in_ok-exported.ensures.names)

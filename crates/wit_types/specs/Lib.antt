@@ -1,0 +1,7 @@
+pub mod Settings
+pub mod Denoting
+pub mod Maps
+pub mod Allowing
+pub mod Definitions
+pub mod Functions
+pub mod Listing
