@@ -1,5 +1,7 @@
 -- The type of functions is that of a key, where its parameters and its result have the value types of the key's.
-use Rattle.std.proofs.Common.{◌≡◌, ℕ, zero, suc, ◌+◌, ◌<◌, ◌≤◌, Bool, List, [], ◌∷◌, ◌++◌, length, get_or, take, map, refl, subst, sym, ap, ◌∙◌, arith, Option, Some, None}
+use Rattle.std.proofs.Common.{◌≡◌, ℕ, zero, suc, ◌+◌, ◌<◌, ◌≤◌, Bool, List, [], ◌∷◌, ◌++◌, length, get_or, take, drop, append_assoc, map, refl, subst, sym, ap, ◌∙◌, arith, Option, Some, None}
+use Rattle.std.proofs.Math.Seq.{drop-cons}
+use Rattle.std.proofs.Math.Numerals.{add-one}
 use Rattle.std.specs.Prelude.{option_map}
 use Rattle.std.specs.List.{AllByRecursion, AllZip}
 use Rattle.std.proofs.lemmas.List.{take_more}
@@ -104,6 +106,15 @@ pub function_is : (s : Setting) (scope : List TypeTree) (key : FuncTypeKey) (par
 function_is s scope key params returned f r =
     ap (λ ps. with_parts key.is_async ps (option_map (λ w. value_tree scope w) returned)) (fields_trees s scope params key.params f.each)
     ∙ ap (λ t. with_parts key.is_async (map (λ p. with_name p.name (tree_in s (Some p.ty))) key.params) t) (returned_tree s scope returned key.result r)
+
+-- one more parameter
+pub key_params_more : (params : List Param) (i : ℕ) (p : Param) (fields now : List WitField) (name : List ℕ) → i < length params → p ≡ get_or params i p → name ≡ p.name →
+    now ≡ fields ++ record { name = name; ty = p.ty } ∷ [] → fields ++ key_params (drop i params) ≡ key_params params → now ++ key_params (drop (i + 1) params) ≡ key_params params
+key_params_more params i p fields now name l is named pushed h =
+    let here : drop i params ≡ p ∷ drop (i + 1) params = rw (drop-cons params i p l, ← is, add-one) refl in
+    ap (λ fs. fs ++ key_params (drop (i + 1) params)) pushed
+    ∙ (append_assoc fields (record { name = name; ty = p.ty } ∷ []) (key_params (drop (i + 1) params))
+    ∙ (ap (λ n. fields ++ record { name = n; ty = p.ty } ∷ key_params (drop (i + 1) params)) named ∙ (sym (ap (λ ps. fields ++ key_params ps) here) ∙ h)))
 
 params_trees : (s : Setting) (params : List Param) → map (λ p. with_name p.name (tree_in s (Some p.ty))) (key_params params) ≡ map (λ p. with_name p.name (wit_tree s.origin s.types (Some p.ty))) params
 unfolding tree_in
