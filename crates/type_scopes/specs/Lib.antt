@@ -1,0 +1,4 @@
+pub mod Surroundings
+pub mod Members
+pub mod Exports
+pub mod Offers

@@ -1,0 +1,14 @@
+//! The instance type of an interface, as a scope in which types are defined.
+#![tactic(auto)]
+
+mod instance_type;
+mod member_list;
+mod outer_type;
+mod outer_types;
+mod placement;
+
+pub use instance_type::InstanceTypeEncoder;
+pub use member_list::MemberList;
+pub use outer_type::OuterType;
+pub use outer_types::OuterTypes;
+pub use placement::Placement;
