@@ -14,7 +14,7 @@ use Rattle.wit_types.specs.Denoting.{Longer, Denotes, Makes}
 use Rattle.wit_types.proofs.Growing.{longer_none}
 use Rattle.type_scopes.specs.Surroundings.{Surroundings}
 use Rattle.type_scopes.specs.Members.{makes_type, types_in, member_tree, with_member, member_trees}
-use Rattle.type_scopes.specs.Exports.{IsExport}
+use Rattle.type_scopes.specs.Exports.{IsExport, MembersGrow, exported_function, members_same}
 
 one_of : Member → ℕ
 one_of m = cond (makes_type m) 1 0
@@ -70,3 +70,11 @@ exported_new old new name description index makes at is =
 pub exported_if : (old new : List Member) (name : ExternName) (description : Description) (r : Result ℕ BuildFault) → makes_type (members.Export name description) ≡ true → IfOk r (λ i. i ≡ types_in old) → OnOk r (new ≡ old ++ members.Export name description ∷ []) → IfOk r (λ i. IsExport new name.name i)
 exported_if old new name description (Ok i) makes at is = exported_new old new name description i makes at is
 exported_if old new name description (Err e) makes at is = tt
+
+-- members with one more, which exports no function
+pub grown_by : (old new : List Member) (m : Member) → exported_function m ≡ [] → new ≡ old ++ m ∷ [] → MembersGrow old new
+grown_by old new m none is = record { more = m ∷ []; grown = is; types = ap (λ es. es ++ []) none }
+
+pub grown_if : {A E : Type 0} (old new : List Member) (m : Member) (r : Result A E) → exported_function m ≡ [] → OnOk r (new ≡ old ++ m ∷ []) → OnErr r (new ≡ old) → MembersGrow old new
+grown_if old new m (Ok i) none is same = grown_by old new m none is
+grown_if old new m (Err e) none is same = subst (λ ms. MembersGrow old ms) (sym same) (members_same old)

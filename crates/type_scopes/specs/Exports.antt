@@ -1,9 +1,12 @@
 -- Which members of an instance type export what under a name, and how its members grow (component model, explainer:
 -- `instancedecl`, `exportdecl`).
 use Rattle.std.specs.Prelude.{ℕ, ◌≡◌, true, List, [], ◌∷◌, ◌++◌}
-use Rattle.std.proofs.Common.{sym, ap, ◌∙◌, append_assoc, append-nil}
+use Rattle.std.specs.List.{flat_map}
+use Rattle.std.proofs.Common.{refl, sym, ap, ◌∙◌, append_assoc, append-nil}
+use Rattle.std.proofs.lemmas.Grind.{flat_map-append}
 use Rattle.comp_bytes.specs.declared.types.ExternName.{ExternName}
 use Rattle.comp_bytes.specs.declared.types.Description.{Description}
+use Rattle.comp_bytes.specs.declared.types.Description.TheVariants as descriptions
 use Rattle.comp_bytes.specs.declared.types.Member.{Member}
 use Rattle.comp_bytes.specs.declared.types.Member.TheVariants as members
 use Rattle.type_scopes.specs.Members.{makes_type, types_in}
@@ -19,10 +22,19 @@ pub record IsExport (ms : List Member) (name : List ℕ) (index : ℕ) : Type 0 
   pub makes : makes_type (members.Export extern_name description) ≡ true
   pub counted : index ≡ types_in before
 
--- members that have grown at their end
+-- the functions that are exported, each with the index of its type
+abbrev pub exported_function : Member → List (List ℕ × ℕ)
+exported_function (members.Export name (descriptions.Func index)) = (name.name, index) ∷ []
+exported_function other = []
+
+abbrev pub function_exports : List Member → List (List ℕ × ℕ)
+function_exports ms = flat_map exported_function ms
+
+-- members that have grown at their end, with no further function
 pub record MembersGrow (old new : List Member) : Type 0 where
   pub more : List Member
   pub grown : new ≡ old ++ more
+  pub types : function_exports more ≡ []
 
 pub export_on : (a b : List Member) → MembersGrow a b → (name : List ℕ) (index : ℕ) → IsExport a name index → IsExport b name index
 export_on a b g name index h =
@@ -38,7 +50,12 @@ export_on a b g name index h =
     }
 
 pub members_same : (ms : List Member) → MembersGrow ms ms
-members_same ms = record { more = []; grown = sym (append-nil ms) }
+members_same ms = record { more = []; grown = sym (append-nil ms); types = refl }
 
 pub members_on : (a b c : List Member) → MembersGrow a b → MembersGrow b c → MembersGrow a c
-members_on a b c g h = record { more = g.more ++ h.more; grown = h.grown ∙ (ap (λ m. m ++ h.more) g.grown ∙ append_assoc a g.more h.more) }
+members_on a b c g h =
+    record {
+      more = g.more ++ h.more;
+      grown = h.grown ∙ (ap (λ m. m ++ h.more) g.grown ∙ append_assoc a g.more h.more);
+      types = flat_map-append exported_function g.more h.more ∙ (ap (λ es. es ++ function_exports h.more) g.types ∙ h.types);
+    }
