@@ -30,6 +30,11 @@ exported_function other = []
 abbrev pub function_exports : List Member → List (List ℕ × ℕ)
 function_exports ms = flat_map exported_function ms
 
+-- members that have grown at their end
+pub record MembersExtend (old new : List Member) : Type 0 where
+  pub more : List Member
+  pub grown : new ≡ old ++ more
+
 -- members that have grown at their end, with no further function
 pub record MembersGrow (old new : List Member) : Type 0 where
   pub more : List Member

@@ -1,8 +1,10 @@
 //! The instance type of an interface, as a scope in which types are defined.
 #![tactic(auto)]
 
+mod functions;
 mod instance_type;
 mod member_list;
+mod named_types;
 mod outer_type;
 mod outer_types;
 mod placement;
