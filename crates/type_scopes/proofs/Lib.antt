@@ -1,3 +1,4 @@
 pub mod Offering
 pub mod Scoping
 pub mod Naming
+pub mod Exporting

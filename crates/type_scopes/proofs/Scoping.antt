@@ -11,10 +11,10 @@ use Rattle.comp_bytes.specs.declared.types.ExternName.{ExternName}
 use Rattle.comp_bytes.specs.declared.types.Description.{Description}
 use Rattle.comp_trees.specs.DefinedTrees.{TypeTree, OfOthers}
 use Rattle.wit_types.specs.Denoting.{Longer, Denotes, Makes}
-use Rattle.wit_types.proofs.Growing.{longer_none}
+use Rattle.wit_types.proofs.Growing.{longer_none, longer_on}
 use Rattle.type_scopes.specs.Surroundings.{Surroundings}
 use Rattle.type_scopes.specs.Members.{makes_type, types_in, member_tree, with_member, member_trees}
-use Rattle.type_scopes.specs.Exports.{IsExport, MembersGrow, exported_function, members_same}
+use Rattle.type_scopes.specs.Exports.{IsExport, MembersExtend, MembersGrow, exported_function, members_same}
 
 one_of : Member → ℕ
 one_of m = cond (makes_type m) 1 0
@@ -22,9 +22,26 @@ one_of m = cond (makes_type m) 1 0
 pub types_more : (ms : List Member) (m : Member) → makes_type m ≡ true → types_in (ms ++ m ∷ []) ≡ types_in ms + 1
 types_more ms m makes = sum_by_push (λ x. cond (makes_type x) 1 0) ms m ∙ ap (λ b. types_in ms + cond b 1 0) makes
 
-members_more : (s : Surroundings) (scope : List TypeTree) (ms : List Member) (m : Member) → member_trees s scope (ms ++ m ∷ []) ≡ with_member s (member_trees s scope ms) m
+pub members_more : (s : Surroundings) (scope : List TypeTree) (ms : List Member) (m : Member) → member_trees s scope (ms ++ m ∷ []) ≡ with_member s (member_trees s scope ms) m
 members_more s scope [] m = refl
 members_more s scope (x ∷ ms) m = members_more s (with_member s scope x) ms m
+
+members_append : (s : Surroundings) (scope : List TypeTree) (ms more : List Member) → member_trees s scope (ms ++ more) ≡ member_trees s (member_trees s scope ms) more
+members_append s scope [] more = refl
+members_append s scope (x ∷ ms) more = members_append s (with_member s scope x) ms more
+
+longer_with : (scope : List TypeTree) (t : TypeTree) (b : Bool) → Longer scope (if b then scope ++ t ∷ [] else scope)
+longer_with scope t true = record { more = t ∷ []; longer = refl }
+longer_with scope t false = longer_none scope
+
+longer_after : (s : Surroundings) (scope : List TypeTree) (ms : List Member) → Longer scope (member_trees s scope ms)
+longer_after s scope [] = longer_none scope
+longer_after s scope (m ∷ ms) = longer_on (longer_with scope (member_tree s scope m) (makes_type m)) (longer_after s (with_member s scope m) ms)
+
+-- more members make a longer scope
+pub trees_extend : (s : Surroundings) (old new : List Member) → MembersExtend old new → Longer (member_trees s [] old) (member_trees s [] new)
+trees_extend s old new g =
+    subst (λ ts. Longer (member_trees s [] old) ts) (sym (ap (member_trees s []) g.grown ∙ members_append s [] old g.more)) (longer_after s (member_trees s [] old) g.more)
 
 one_more : (s : Surroundings) (ms : List Member) (m : Member) → makes_type m ≡ true → member_trees s [] (ms ++ m ∷ []) ≡ member_trees s [] ms ++ member_tree s (member_trees s [] ms) m ∷ []
 one_more s ms m makes =

@@ -4,7 +4,6 @@ use Rattle.wit_data.specs.declared.types.Type.TheVariants.{Id}
 use Rattle.wit_types.specs.Settings.{Setting}
 use Rattle.wit_types.specs.Allowing.{is_allowed}
 use Rattle.wit_types.proofs.Growing.{longer_on}
-use Rattle.type_scopes.specs.Interfaces.{TypeIn}
 use Rattle.type_scopes.proofs.Naming.{types_more}
 use Rattle.type_scopes.proofs.named_types.encode_types.Goals as goal
 
