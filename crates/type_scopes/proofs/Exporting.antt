@@ -1,10 +1,11 @@
 -- Functions that are exported, one after the other.
-use Rattle.std.proofs.Common.{◌≡◌, ℕ, true, List, [], ◌∷◌, ◌++◌, map, refl, sym, ap, subst, ◌∙◌, append_assoc, append-nil, Option, Some, None}
-use Rattle.std.specs.List.{AllZip, flat_map}
+use Rattle.std.proofs.Common.{◌≡◌, ℕ, List, [], ◌∷◌, ◌++◌, map, refl, sym, ap, subst, ◌∙◌, append_assoc, append-nil}
+use Rattle.std.specs.List.{AllZip}
 use Rattle.std.proofs.lemmas.Grind.{flat_map-append}
 use Rattle.std.proofs.lemmas.List.{map-append}
 use Rattle.comp_lists.proofs.Lists.{AllZip-weaker, AllZip-end}
 use Rattle.wit_data.specs.declared.ids.InterfaceId.{InterfaceId}
+use Rattle.wit_data.specs.declared.ids.TypeId.{TypeId}
 use Rattle.wit_data.specs.declared.types.TypeDef.{TypeDef}
 use Rattle.wit_data.specs.declared.functions.Function.{Function}
 use Rattle.comp_bytes.specs.declared.types.ExternName.{ExternName}
@@ -16,12 +17,13 @@ use Rattle.comp_trees.specs.DefinedTrees.{TypeTree, OfFunctions}
 use Rattle.wit_types.specs.Settings.{Setting}
 use Rattle.wit_types.specs.Denoting.{Longer, Denotes}
 use Rattle.wit_types.specs.declared.maps.TypeEncodingMaps.{TypeEncodingMaps}
-use Rattle.wit_types.proofs.Growing.{longer_none, longer_on, denotes_as, denotes_on, faithful_after}
+use Rattle.wit_types.proofs.Growing.{longer_none, denotes_as, denotes_on, faithful_after}
 use Rattle.type_scopes.specs.Surroundings.{Surroundings}
 use Rattle.type_scopes.specs.Members.{member_trees}
 use Rattle.type_scopes.specs.Exports.{IsExport, MembersExtend, MembersGrow, function_exports, exported_function}
 use Rattle.type_scopes.specs.Offers.{Offer, placed}
-use Rattle.type_scopes.specs.Interfaces.{FunctionIn, FunctionsIn, AddsFunction, IsRight}
+use Rattle.type_scopes.specs.Interfaces.{TypesIn, FunctionIn, FunctionsIn, AddsFunction, IsRight}
+use Rattle.type_scopes.proofs.Naming.{types_on}
 use Rattle.type_scopes.proofs.Scoping.{members_more, trees_extend}
 
 pub export_extends : (a b : List Member) → MembersExtend a b → (name : List ℕ) (index : ℕ) → IsExport a name index → IsExport b name index
@@ -106,3 +108,10 @@ functions_step t s first ms new all entry rest h g a =
 
 pub functions_whole : (t : Setting) (s : Surroundings) (first ms : List Member) (all : List (List ℕ × Function)) → FunctionsSoFar t s first ms all [] → FunctionsIn t (member_trees s [] ms) (function_exports ms) (map (λ e. e.1) all)
 functions_whole t s first ms all h = subst (λ es. FunctionsIn t (member_trees s [] ms) (function_exports ms) (map (λ e. e.1) es)) (sym (append-nil h.done) ∙ h.whole) h.each
+
+-- the types of an interface after its functions
+pub types_later : (s : Surroundings) (o p : Offer) (here there : InterfaceId) (ms new out : List Member) (ids : List TypeId) → p ≡ o → there ≡ here → MembersExtend ms new → out ≡ new → TypesIn (placed s p there) (member_trees s [] ms) (IsExport ms) ids → TypesIn (placed s o here) (member_trees s [] out) (IsExport out) ids
+types_later s o p here there ms new out ids outer interface g is h =
+    subst (λ t. TypesIn t (member_trees s [] out) (IsExport out) ids) (ap (λ q. placed s q there) outer ∙ ap (placed s o) interface)
+    (subst (λ xs. TypesIn (placed s p there) (member_trees s [] xs) (IsExport xs) ids) (sym is)
+    (types_on (placed s p there) (member_trees s [] ms) (member_trees s [] new) (IsExport ms) (IsExport new) ids (trees_extend s ms new g) (export_extends ms new g) h))

@@ -1,5 +1,7 @@
 -- What the type indices of an instance type denote (component model, explainer: `instancedecl`; binary: type indices).
 use Rattle.std.specs.Prelude.{ℕ, ◌+◌, ◌≤◌, ◌^◌, ◌≡◌, Bool, List, [], ◌∷◌, ◌++◌, get_or, count_by, if◌then◌else◌}
+use Rattle.byte_encoding.specs.declared.fault.BuildFault.{BuildFault}
+use Rattle.byte_encoding.specs.declared.fault.BuildFault.TheVariants.{Memory, TooMany}
 use Rattle.comp_bytes.specs.Spaces.{is_space, member_space}
 use Rattle.comp_bytes.specs.declared.space.Space.TheVariants as spaces
 use Rattle.comp_bytes.specs.declared.types.Member.{Member}
@@ -41,3 +43,8 @@ member_trees s scope (m ∷ ms) = member_trees s (with_member s scope m) ms
 -- the count of type indices with one more, which is more than there can be
 abbrev pub is_full : List Member → ℕ → Type 0
 is_full ms count = (2 ^ 32 ≤ count) × (count ≡ types_in ms + 1)
+
+-- out of memory, or a count that is more than there can be
+abbrev pub IsExcess : BuildFault → Type 0
+IsExcess Memory = Unit {0}
+IsExcess (TooMany count) = 2 ^ 32 ≤ count
