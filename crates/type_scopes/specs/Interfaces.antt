@@ -1,7 +1,9 @@
 -- What the types and functions of an interface are in a scope (component model, WIT: interfaces; explainer: instance
 -- types).
-use Rattle.std.specs.Prelude.{ℕ, ◌≡◌, List, [], ◌∷◌, ◌++◌, Some}
-use Rattle.std.specs.List.{AllByRecursion, AllZip}
+use Rattle.std.specs.Prelude.{ℕ, ◌≡◌, List, [], ◌∷◌, ◌++◌, Some, is_some, if◌then◌else◌}
+use Rattle.std.specs.Str.{bytes_eq}
+use Rattle.std.specs.Map.{lookup}
+use Rattle.std.specs.List.{AllByRecursion, AllZip, flat_map}
 use Rattle.wit_data.specs.declared.ids.TypeId.{TypeId}
 use Rattle.wit_data.specs.declared.ids.InterfaceId.{InterfaceId}
 use Rattle.wit_data.specs.declared.types.Type.TheVariants.{Id}
@@ -37,11 +39,19 @@ pub record FunctionIn (s : Setting) (scope : List TypeTree) (export : List ℕ �
 pub record FunctionsIn (s : Setting) (scope : List TypeTree) (exports : List (List ℕ × ℕ)) (fs : List Function) : Type 0 where
   pub each : AllZip (FunctionIn s scope) exports fs
 
--- one more function is exported, which is this
-pub record AddsFunction (s : Setting) (scope : List TypeTree) (old new : List (List ℕ × ℕ)) (f : Function) : Type 0 where
-  pub export : List ℕ × ℕ
-  pub added : new ≡ old ++ export ∷ []
-  pub is : FunctionIn s scope export f
+-- the function of an entry, where it is one of the used names
+abbrev pub used_function : List (List ℕ × Unit {0}) → List ℕ × Function → List Function
+used_function used (name, f) = if is_some (lookup (bytes_eq name) used) then f ∷ [] else []
+
+-- the functions of an interface that are used, in its order
+abbrev pub used_among : List (List ℕ × Unit {0}) → List (List ℕ × Function) → List Function
+used_among used fs = flat_map (used_function used) fs
+
+-- further functions are exported, which are these
+pub record AddsFunctions (s : Setting) (scope : List TypeTree) (old new : List (List ℕ × ℕ)) (fs : List Function) : Type 0 where
+  pub exports : List (List ℕ × ℕ)
+  pub added : new ≡ old ++ exports
+  pub are : FunctionsIn s scope exports fs
 
 -- the tables of an instance type are right
 abbrev pub IsRight : Surroundings → Offer → InterfaceId → List Member → TypeEncodingMaps → Type 0

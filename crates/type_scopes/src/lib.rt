@@ -18,9 +18,9 @@
 //!
 //! Upward this crate promises: each call of [`InstanceTypeEncoder`] adds the one member that it names, or none and says
 //! why; and where [`encode_interface_type`] succeeds, each given type has a value type in the instance type that denotes
-//! its tree, which is that of its export where it is a type of the scope with a name, and the functions that are exported are the given
-//! ones in their order, each of a type that denotes the function's. A refusal is out of memory, or more type indices than
-//! there can be.
+//! its tree, which is that of its export where it is a type of the scope that has a name and belongs to the interface, and
+//! the functions that are exported are those of the given ones whose names are used, in their order, each of a type that
+//! denotes the function's. A refusal is out of memory, or more type indices than there can be.
 #![tactic(auto)]
 
 mod functions;
