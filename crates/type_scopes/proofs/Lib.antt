@@ -1,0 +1,4 @@
+pub mod Offering
+pub mod Scoping
+pub mod Naming
+pub mod Exporting

@@ -1,0 +1,9 @@
+use Rattle.std.proofs.Common.{rules, subst}
+use Rattle.type_scopes.specs.Offers.{IsOffered}
+use Rattle.type_scopes.proofs.Offering.{offered_denotes}
+use Rattle.type_scopes.proofs.outer_types.OuterTypes.index_of.Goals as goal
+
+pub returns-clause-denotes : goal.returns-clause-denotes
+returns-clause-denotes g c =
+    let s = g.P.Placement.surroundings in
+    offered_denotes s c.args.self.now c.args.interface c.args.id c.copied.result (subst (λ o. IsOffered s o) c.self.view_is c.self.invariant) (search rules)

@@ -1,0 +1,58 @@
+-- What the types and functions of an interface are in a scope (component model, WIT: interfaces; explainer: instance
+-- types).
+use Rattle.std.specs.Prelude.{ℕ, ◌≡◌, List, [], ◌∷◌, ◌++◌, Some, is_some, if◌then◌else◌}
+use Rattle.std.specs.Str.{bytes_eq}
+use Rattle.std.specs.Map.{lookup}
+use Rattle.std.specs.List.{AllByRecursion, AllZip, flat_map}
+use Rattle.wit_data.specs.declared.ids.TypeId.{TypeId}
+use Rattle.wit_data.specs.declared.ids.InterfaceId.{InterfaceId}
+use Rattle.wit_data.specs.declared.types.Type.TheVariants.{Id}
+use Rattle.wit_data.specs.declared.functions.Function.{Function}
+use Rattle.comp_bytes.specs.declared.types.ComponentValType.{ComponentValType}
+use Rattle.comp_bytes.specs.declared.types.Member.{Member}
+use Rattle.comp_trees.specs.WitTrees.{wit_tree, wit_function_tree}
+use Rattle.comp_trees.specs.DefinedTrees.{TypeTree, OfFunctions}
+use Rattle.wit_types.specs.Settings.{Setting}
+use Rattle.wit_types.specs.Denoting.{Denotes, ValueDenotes}
+use Rattle.wit_types.specs.declared.maps.TypeEncodingMaps.{TypeEncodingMaps}
+use Rattle.wit_types.specs.Maps.{IsNamedValue, Faithful}
+use Rattle.type_scopes.specs.Surroundings.{Surroundings}
+use Rattle.type_scopes.specs.Members.{member_trees}
+use Rattle.type_scopes.specs.Exports.{IsExport}
+use Rattle.type_scopes.specs.Offers.{Offer, placed}
+
+-- A type has a value type in the scope. Where that is a type of the scope, it is the one that the type's name stands for.
+pub record TypeIn (s : Setting) (scope : List TypeTree) (names : List ℕ → ℕ → Type 0) (id : TypeId) : Type 0 where
+  pub value : ComponentValType
+  pub denotes : ValueDenotes scope value (wit_tree s.origin s.types (Some (Id id)))
+  pub named : IsNamedValue s names (Id id) value
+
+pub record TypesIn (s : Setting) (scope : List TypeTree) (names : List ℕ → ℕ → Type 0) (ids : List TypeId) : Type 0 where
+  pub each : AllByRecursion (TypeIn s scope names) ids
+
+-- a function is exported under its name, and its type is this one of the scope
+pub record FunctionIn (s : Setting) (scope : List TypeTree) (export : List ℕ × ℕ) (f : Function) : Type 0 where
+  pub name : export.0 ≡ f.name
+  pub denotes : Denotes scope export.1 (OfFunctions (wit_function_tree s.origin s.types f))
+
+-- these are exported, in their order
+pub record FunctionsIn (s : Setting) (scope : List TypeTree) (exports : List (List ℕ × ℕ)) (fs : List Function) : Type 0 where
+  pub each : AllZip (FunctionIn s scope) exports fs
+
+-- the function of an entry, where it is one of the used names
+abbrev pub used_function : List (List ℕ × Unit {0}) → List ℕ × Function → List Function
+used_function used (name, f) = if is_some (lookup (bytes_eq name) used) then f ∷ [] else []
+
+-- the functions of an interface that are used, in its order
+abbrev pub used_among : List (List ℕ × Unit {0}) → List (List ℕ × Function) → List Function
+used_among used fs = flat_map (used_function used) fs
+
+-- further functions are exported, which are these
+pub record AddsFunctions (s : Setting) (scope : List TypeTree) (old new : List (List ℕ × ℕ)) (fs : List Function) : Type 0 where
+  pub exports : List (List ℕ × ℕ)
+  pub added : new ≡ old ++ exports
+  pub are : FunctionsIn s scope exports fs
+
+-- the tables of an instance type are right
+abbrev pub IsRight : Surroundings → Offer → InterfaceId → List Member → TypeEncodingMaps → Type 0
+IsRight s o here ms maps = Faithful (placed s o here) (member_trees s [] ms) (IsExport ms) maps

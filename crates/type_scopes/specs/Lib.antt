@@ -1,0 +1,5 @@
+pub mod Surroundings
+pub mod Members
+pub mod Exports
+pub mod Offers
+pub mod Interfaces

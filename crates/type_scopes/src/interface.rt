@@ -1,0 +1,51 @@
+//! The instance type of an interface.
+
+ghost use Rattle.std.specs.Prelude.{◌≡◌, [], Some, true, IfOk, IfErr};
+ghost use Rattle.std.specs.List.{AllByRecursion};
+ghost use Rattle.wit_data.specs.declared.types.Type.TheVariants.{Id};
+ghost use Rattle.wit_data.specs.Sound.{IsSound, HasTypeId, HasFunction};
+ghost use Rattle.wit_types.specs.Allowing.{is_allowed, allows_function};
+ghost use Rattle.type_scopes.specs.Members.{member_trees, IsExcess};
+ghost use Rattle.type_scopes.specs.Exports.{IsExport, function_exports};
+ghost use Rattle.type_scopes.specs.Offers.{IsOffered, placed};
+ghost use Rattle.type_scopes.specs.Interfaces.{TypesIn, FunctionsIn, used_among};
+
+use crate::functions::encode_functions;
+use crate::instance_type::InstanceTypeEncoder;
+use crate::named_types::encode_types;
+use crate::outer_type::OuterType;
+use crate::outer_types::OuterTypes;
+use crate::placement::Placement;
+use byte_encoding::BuildFault;
+use comp_bytes::InstanceType;
+use comp_lists::{Keyed, Text};
+use std::alloc::Global;
+use wit_data::{Function, InterfaceId, Resolve, TypeId};
+
+/// The instance type of an interface that has these types, and then those of these functions whose names are used. Types
+/// of other interfaces are those of the outer scope, whose indices there the table has.
+pub fn encode_interface_type<P: Placement>(
+    alloc: Global,
+    resolve: &Resolve,
+    table: &Keyed<OuterType, u32>,
+    interface: InterfaceId,
+    types: &[TypeId],
+    used: &Keyed<Text, ()>,
+    functions: &Keyed<Text, Function>,
+) -> Result<InstanceType, BuildFault>
+    requires sound { IsSound resolve.now }
+    requires offered { IsOffered P.surroundings (record { types = resolve.now.types; table = table.now }) }
+    requires types { AllByRecursion (λ id. HasTypeId resolve.now id) types.now }
+    requires functions { AllByRecursion (λ e. HasFunction resolve.now e.1) functions.now }
+    requires allowed { AllByRecursion (λ id. is_allowed (placed P.surroundings (record { types = resolve.now.types; table = table.now }) interface) (Some (Id id)) ≡ true) types.now }
+    requires allows { AllByRecursion (λ f. allows_function (placed P.surroundings (record { types = resolve.now.types; table = table.now }) interface) f ≡ true) (used_among used.now functions.now) }
+    ensures types { IfOk result (λ ty. TypesIn (placed P.surroundings (record { types = resolve.now.types; table = table.now }) interface) (member_trees P.surroundings [] ty.members) (IsExport ty.members) types.now) }
+    ensures functions { IfOk result (λ ty. FunctionsIn (placed P.surroundings (record { types = resolve.now.types; table = table.now }) interface) (member_trees P.surroundings [] ty.members) (function_exports ty.members) (used_among used.now functions.now)) }
+    ensures cause { IfErr result IsExcess }
+{
+    let outer: OuterTypes<'_, P> = OuterTypes::new(resolve, table);
+    let mut encoder = InstanceTypeEncoder::new(alloc, outer, interface);
+    encode_types(alloc, &mut encoder, resolve, types)?;
+    encode_functions(alloc, &mut encoder, resolve, used, functions)?;
+    Ok(encoder.into_type())
+}

@@ -1,0 +1,40 @@
+//! The instance type of an interface is a scope in which types are defined.
+//!
+//! The members of an instance type are listed one after the other, and some of them make a type index: a type that is
+//! defined, an alias of a type of the outer scope, an export of a type or of a resource. `specs/Members.antt` says what
+//! each of these indices denotes, from what the indices of the outer scope denote and where the resources are that are
+//! exported. No code knows either: a caller picks both in its proofs, by a type with the trait [`Placement`].
+//!
+//! No encoder holds its parent. What the instance type needs of the outer scope is aliased there before, and a table has
+//! the index of each such type ([`OuterTypes`]).
+//!
+//! In reading order: `outer_type` (the key of that table), `placement` (what proofs know of the outer scope),
+//! `outer_types` (the table), `member_list` (the members, and the number of their type indices), `instance_type` (the scope),
+//! `named_types` (types, one after the other), `functions` (functions, one after the other), `interface` (both).
+//!
+//! In `specs/`: `Surroundings` (what an instance type is defined in), `Members` (what type indices denote), `Exports` (what
+//! is exported, and how members grow), `Offers` (what the outer scope offers, and what definitions take as given),
+//! `Interfaces` (what the types and functions of an interface are in a scope).
+//!
+//! Upward this crate promises: each call of [`InstanceTypeEncoder`] adds the one member that it names, or none and says
+//! why; and where [`encode_interface_type`] succeeds, each given type has a value type in the instance type that denotes
+//! its tree, which is that of its export where it is a type of the scope that has a name and belongs to the interface, and
+//! the functions that are exported are those of the given ones whose names are used, in their order, each of a type that
+//! denotes the function's. A refusal is out of memory, or more type indices than there can be.
+#![tactic(auto)]
+
+mod functions;
+mod instance_type;
+mod interface;
+mod member_list;
+mod named_types;
+mod outer_type;
+mod outer_types;
+mod placement;
+
+pub use instance_type::InstanceTypeEncoder;
+pub use interface::encode_interface_type;
+pub use member_list::MemberList;
+pub use outer_type::OuterType;
+pub use outer_types::OuterTypes;
+pub use placement::Placement;
