@@ -5,6 +5,7 @@ ghost use Rattle.std.specs.List.{AllByRecursion};
 ghost use Rattle.wit_data.specs.declared.types.Type.TheVariants.{Id};
 ghost use Rattle.wit_data.specs.Sound.{IsSound, HasTypeId, HasFunction};
 ghost use Rattle.wit_types.specs.Allowing.{is_allowed, allows_function};
+ghost use Rattle.type_scopes.specs.Surroundings.{Surroundings};
 ghost use Rattle.type_scopes.specs.Members.{member_trees, IsExcess};
 ghost use Rattle.type_scopes.specs.Exports.{IsExport, function_exports};
 ghost use Rattle.type_scopes.specs.Offers.{IsOffered, placed};
@@ -20,11 +21,36 @@ use byte_encoding::BuildFault;
 use comp_bytes::InstanceType;
 use comp_lists::{Keyed, Text};
 use std::alloc::Global;
+use std::marker::Brand;
 use wit_data::{Function, InterfaceId, Resolve, TypeId};
 
 /// The instance type of an interface that has these types, and then those of these functions whose names are used. Types
 /// of other interfaces are those of the outer scope, whose indices there the table has.
-pub fn encode_interface_type<P: Placement>(
+pub fn encode_interface_type(
+    alloc: Global,
+    resolve: &Resolve,
+    table: &Keyed<OuterType, u32>,
+    interface: InterfaceId,
+    types: &[TypeId],
+    used: &Keyed<Text, ()>,
+    functions: &Keyed<Text, Function>,
+) -> Result<InstanceType, BuildFault>
+    ghost surroundings: { Surroundings }
+    requires sound { IsSound resolve.now }
+    requires offered { IsOffered surroundings (record { types = resolve.now.types; table = table.now }) }
+    requires types { AllByRecursion (λ id. HasTypeId resolve.now id) types.now }
+    requires functions { AllByRecursion (λ e. HasFunction resolve.now e.1) functions.now }
+    requires allowed { AllByRecursion (λ id. is_allowed (placed surroundings (record { types = resolve.now.types; table = table.now }) interface) (Some (Id id)) ≡ true) types.now }
+    requires allows { AllByRecursion (λ f. allows_function (placed surroundings (record { types = resolve.now.types; table = table.now }) interface) f ≡ true) (used_among used.now functions.now) }
+    ensures types { IfOk result (λ ty. TypesIn (placed surroundings (record { types = resolve.now.types; table = table.now }) interface) (member_trees surroundings [] ty.members) (IsExport ty.members) types.now) }
+    ensures functions { IfOk result (λ ty. FunctionsIn (placed surroundings (record { types = resolve.now.types; table = table.now }) interface) (member_trees surroundings [] ty.members) (function_exports ty.members) (used_among used.now functions.now)) }
+    ensures cause { IfErr result IsExcess }
+{
+    encode_placed::<Brand>(alloc, resolve, table, interface, types, used, functions)
+}
+
+/// The same at a placement, which says what the surroundings are.
+fn encode_placed<P: Placement>(
     alloc: Global,
     resolve: &Resolve,
     table: &Keyed<OuterType, u32>,

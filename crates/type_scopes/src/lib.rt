@@ -3,7 +3,8 @@
 //! The members of an instance type are listed one after the other, and some of them make a type index: a type that is
 //! defined, an alias of a type of the outer scope, an export of a type or of a resource. `specs/Members.antt` says what
 //! each of these indices denotes, from what the indices of the outer scope denote and where the resources are that are
-//! exported. No code knows either: a caller picks both in its proofs, by a type with the trait [`Placement`].
+//! exported. No code knows either: the contract of [`encode_interface_type`] holds whatever they are, and its caller picks
+//! them by its ghost value. [`InstanceTypeEncoder`] has them by a type parameter, a [`Placement`].
 //!
 //! No encoder holds its parent. What the instance type needs of the outer scope is aliased there before, and a table has
 //! the index of each such type ([`OuterTypes`]).

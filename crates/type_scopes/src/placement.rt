@@ -2,7 +2,8 @@
 
 use std::marker::Brand;
 
-/// Where an instance type is defined. No code knows more of it: a caller of this crate picks what its proofs say there.
+/// Where an instance type is defined. No code knows more of it: a caller that passes `Brand` picks in its proofs what the
+/// surroundings are.
 pub trait Placement {
     ghost use Rattle.type_scopes.specs.Surroundings.{Surroundings};
 

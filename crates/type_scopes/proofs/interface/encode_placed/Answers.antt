@@ -1,6 +1,6 @@
 use Rattle.std.proofs.Common.{◌∙◌}
 use Rattle.type_scopes.proofs.Exporting.{types_later}
-use Rattle.type_scopes.proofs.interface.encode_interface_type.Goals as goal
+use Rattle.type_scopes.proofs.interface.encode_placed.Goals as goal
 
 pub returns-clause-types : goal.returns-clause-types
 returns-clause-types g c =
