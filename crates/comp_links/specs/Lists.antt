@@ -1,6 +1,6 @@
 -- What a component imports and exports, in order, and the section of its names (component model: the imports and exports
 -- of a component; binary format: name section).
-use Rattle.std.specs.Prelude.{◌≡◌, ℕ, List, [], ◌∷◌, codes, map, Option, Some, None, slice_get}
+use Rattle.std.specs.Prelude.{◌≡◌, ◌==◌, ◌++◌, ℕ, suc, List, [], ◌∷◌, codes, map, Option, Some, None, slice_get, if◌then◌else◌}
 use Rattle.std.specs.List.{flat_map}
 use Rattle.std.specs.Map.{lookup}
 use Rattle.comp_bytes.specs.declared.space.Sort.{Sort}
@@ -18,9 +18,10 @@ use Rattle.wit_data.specs.declared.worlds.WorldItem.{WorldItem}
 use Rattle.wit_data.specs.declared.worlds.WorldItem.TheVariants as items
 use Rattle.wit_data.specs.declared.worlds.WorldKey.{WorldKey}
 use Rattle.world_values.specs.Items.{functions_of}
-use Rattle.comp_worlds.specs.Worlds.{items_of}
+use Rattle.wit_data.specs.declared.ids.TypeId.{TypeId}
+use Rattle.comp_worlds.specs.Worlds.{items_of, imported_types}
 use Rattle.comp_worlds.specs.declared.world.ComponentWorld.{ComponentWorld}
-use Rattle.comp_runs.specs.Store.{Origin}
+use Rattle.comp_trees.specs.Trees.{Origin, Resource, ImportedAt}
 use Rattle.comp_links.specs.Targets.{UserModule, Main, WorldFunction, OfRoot, OfInterface}
 use Rattle.comp_links.specs.Roles.{used_functions}
 
@@ -44,13 +45,28 @@ plain_name text = record { name = text; version_suffix = None }
 abbrev pub root_function : List ℕ → Stated
 root_function name = record { name = plain_name name; sort = sorts.Func }
 
--- an import of the component: so far, a function at the world's root
+-- a type at the root
+abbrev pub root_type : List ℕ → Stated
+root_type name = record { name = plain_name name; sort = sorts.Type }
+
+-- an import of the component: so far, a type of the world, or a function at its root
 pub data ImportEntry : Type 0 where
+  WorldType : (name : List ℕ) (id : TypeId) → ImportEntry
   RootFunction : (name : List ℕ) → ImportEntry
 
 -- the imports of the component, by what of the world they are
 abbrev pub import_entries : ComponentWorld → List ImportEntry
-import_entries w = map RootFunction (used_functions w)
+import_entries w = map (λ t. WorldType t.0 t.1) (imported_types w) ++ map RootFunction (used_functions w)
+
+-- the number of the import of a type
+abbrev pub number_of_type : TypeId → List ImportEntry → ℕ
+number_of_type id [] = 0
+number_of_type id (WorldType name of ∷ entries) = if id.index == of.index then 0 else suc (number_of_type id entries)
+number_of_type id (e ∷ entries) = suc (number_of_type id entries)
+
+-- the resource that a type of the world is, where it is one
+abbrev pub resource_of : ComponentWorld → TypeId → Resource
+resource_of w id = ImportedAt (record { number = number_of_type id (import_entries w); inner = None })
 
 -- where a function of the world is imported
 abbrev pub IsOriginOf : ComponentWorld → WorldFunction → Origin → Type 0
@@ -58,6 +74,7 @@ IsOriginOf w (OfRoot name) o = (slice_get (import_entries w) o.number ≡ Some (
 IsOriginOf w (OfInterface interface name) o = ⊥
 
 abbrev pub stated_import : ImportEntry → Stated
+stated_import (WorldType name id) = root_type name
 stated_import (RootFunction name) = root_function name
 
 abbrev pub stated_imports : ComponentWorld → List Stated

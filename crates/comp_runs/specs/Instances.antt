@@ -1,7 +1,7 @@
 -- What is made where a module is instantiated, or an instance is imported (core standard: instantiation;
 -- component model, explainer: instance definitions, instance types).
-use Rattle.std.specs.Prelude.{ℕ, true, ◌&&◌, List, [], ◌∷◌, ◌++◌, Option, Some, None, length, map, filter, slice_get, if◌then◌else◌}
-use Rattle.std.specs.List.{flat_map, list_all}
+use Rattle.std.specs.Prelude.{ℕ, List, [], ◌∷◌, ◌++◌, Option, Some, None, length, map, filter, slice_get, if◌then◌else◌}
+use Rattle.std.specs.List.{flat_map}
 use Rattle.std.specs.Option.{option_map, option_and_then}
 use Rattle.comp_lists.specs.Found.{found}
 use Rattle.comp_bytes.specs.Spaces.{kind_space, export_space, description_space}
@@ -28,12 +28,12 @@ use Rattle.core_runs.specs.Store.{Frame, Foreign, Instantiated}
 use Rattle.core_runs.specs.Execution.{answered, seen}
 use Rattle.core_runs.specs.Instances.{Given, FunctionAt, TableAt, MemoryAt, GlobalAt, Made, matches, empty_table, instance_of, started}
 use Rattle.core_runs.specs.Sections.{parts_of}
-use Rattle.comp_trees.specs.Trees.{is_known, FunctionTree}
+use Rattle.comp_trees.specs.Trees.{Origin, is_known, is_known_function, FunctionTree}
 use Rattle.comp_trees.specs.DefinedTrees.{TypeTree, OfValues, OfFunctions, function_tree, defined_tree}
 use Rattle.comp_roles.specs.declared.offered.ExternType.{ExternType}
 use Rattle.comp_roles.specs.declared.offered.ExternType.TheVariants as externs
 use Rattle.comp_roles.specs.declared.offered.ImportType.{ImportType}
-use Rattle.comp_runs.specs.Store.{Thing, Export, Origin, CoreItem, ExportedBy, Imported, TypeItem, TreeOf, ImportedResource, OwnResource, InstanceTypeOf, tree_held, ModuleInstance}
+use Rattle.comp_runs.specs.Store.{Thing, Export, CoreItem, ExportedBy, Imported, TypeItem, TreeOf, ImportedResource, OwnResource, InstanceTypeOf, tree_held, ModuleInstance}
 use Rattle.comp_runs.specs.Machine.{Machine, Outcome, Stuck, Next, with_some, all_some, address_at, is_of, export_named, export_in, export_of, with_item, with_opaque, new_core_instance, new_function, new_type, new_instance, resumed}
 
 -- the exports of a core module by their names, each with its type
@@ -202,8 +202,7 @@ type_scope m = map (λ (t : Thing). tree_held m.store.types t.address) (filter (
 
 -- the type of a function whose parts are all types of values
 abbrev pub known_function : FunctionTree → Option TypeTree
-known_function f =
-    if list_all (λ p. is_known p.tree) f.params && (elim f.result [ None ↦ true | Some t ↦ is_known t ]) then Some (OfFunctions f) else None
+known_function f = if is_known_function f then Some (OfFunctions f) else None
 
 -- the type as a run holds it
 abbrev pub type_item : TypeDef → Machine → Option TypeItem

@@ -8,7 +8,7 @@ use Rattle.comp_bytes.specs.declared.canon.Intrinsic.{Intrinsic}
 use Rattle.comp_bytes.specs.declared.def.Item.{Item}
 use Rattle.standard_kinds.specs.declared.kinds.StringEncoding.{StringEncoding}
 use Rattle.core_runs.specs.Store.{Store as CodeStore}
-use Rattle.comp_trees.specs.Trees.{ResourceAt, FunctionTree}
+use Rattle.comp_trees.specs.Trees.{Origin, ImportedAt, DefinedAt, ResourceAt, FunctionTree}
 use Rattle.comp_trees.specs.DefinedTrees.{TypeTree, OfValues, OfOthers}
 
 -- an item of an index space: the address of its entry in the store
@@ -21,12 +21,6 @@ pub record Export : Type 0 where
   pub space : Space
   pub name : List ℕ
   pub address : ℕ
-
--- where something is imported: the number of the import of the component and, where that is an instance, the name
--- inside of it
-pub record Origin : Type 0 where
-  pub number : ℕ
-  pub inner : Option (List ℕ)
 
 -- an option of a canonical function, with the addresses of what it names
 pub data HeldOption : Type 0 where
@@ -49,8 +43,8 @@ pub data Function : Type 0 where
   Imported : (origin : Origin) (type : FunctionTree) → Function
   Lifting : (core : ℕ) (options : List HeldOption) (type : FunctionTree) → Function
 
--- A type of values or of functions is a tree. Resource types are distinguished by their own addresses, and an instance
--- type says what an import of it exports.
+-- A type of values or of functions is a tree. An imported resource is known by where it is imported, one of
+-- the component's own by its address, and an instance type says what an import of it exports.
 pub data TypeItem : Type 0 where
   TreeOf : (tree : TypeTree) → TypeItem
   ImportedResource : (origin : Origin) → TypeItem
@@ -60,8 +54,8 @@ pub data TypeItem : Type 0 where
 -- what the type at an address denotes
 abbrev pub item_tree : ℕ → TypeItem → TypeTree
 item_tree address (TreeOf tree) = tree
-item_tree address (ImportedResource origin) = OfValues (ResourceAt address)
-item_tree address (OwnResource destructor) = OfValues (ResourceAt address)
+item_tree address (ImportedResource origin) = OfValues (ResourceAt (ImportedAt origin))
+item_tree address (OwnResource destructor) = OfValues (ResourceAt (DefinedAt address))
 item_tree address (InstanceTypeOf members around) = OfOthers
 
 abbrev pub tree_held : List TypeItem → ℕ → TypeTree

@@ -1,6 +1,6 @@
 -- Which terms the link table of a world asks for (Canonical ABI: `canon lower`, `canon lift`; component model, explainer:
 -- core instances), and what the instances of its modules are given.
-use Rattle.std.specs.Prelude.{◌≡◌, ℕ, List, IsSome}
+use Rattle.std.specs.Prelude.{◌≡◌, ℕ, List, Some, IsSome}
 use Rattle.std.specs.List.{AllZip}
 use Rattle.comp_bytes.specs.ItemIndices.{IsAt}
 use Rattle.comp_bytes.specs.Spaces.{kind_space}
@@ -15,13 +15,16 @@ use Rattle.comp_roles.specs.CoreImports.{fields_of}
 use Rattle.comp_roles.specs.declared.imports.Import.{Import}
 use Rattle.comp_roles.specs.declared.imports.ImportInstance.{ImportInstance}
 use Rattle.comp_worlds.specs.declared.world.ComponentWorld.{ComponentWorld}
-use Rattle.comp_links.specs.Targets.{UserModule, ExportRef, TargetOption, Target}
+use Rattle.wit_data.specs.declared.functions.Function.{Function as WitFunction}
+use Rattle.comp_trees.specs.Trees.{FunctionTree}
+use Rattle.comp_trees.specs.WitTrees.{wit_function_tree}
+use Rattle.comp_links.specs.Targets.{UserModule, ExportRef, WorldFunction, TargetOption, Target}
 use Rattle.comp_links.specs.Targets as targets
-use Rattle.comp_links.specs.Modules.{IsModule}
-use Rattle.comp_links.specs.Lists.{IsOriginOf}
+use Rattle.comp_links.specs.Modules.{IsModule, function_imported}
+use Rattle.comp_links.specs.Lists.{IsOriginOf, resource_of}
 use Rattle.comp_links.specs.Links.{link_of}
 use Rattle.comp_links.specs.Roles.{import_encoding}
-use Rattle.comp_terms.specs.Terms.{CoreExport, TermOption, Term, Is}
+use Rattle.comp_terms.specs.Terms.{CoreExport, TermOption, Term, IsLifting, Is}
 use Rattle.comp_terms.specs.Terms as terms
 
 -- an export of a user module
@@ -37,9 +40,19 @@ IsOptionFor w terms.Async targets.Async = Unit {0}
 IsOptionFor w (terms.Callback e) (targets.Callback export_ref) = IsExportFor w e export_ref
 IsOptionFor w term option = ⊥
 
+-- the type of a function of the world
+abbrev pub type_of_function : ComponentWorld → WitFunction → FunctionTree
+type_of_function w f = wit_function_tree (resource_of w) w.resolve.types f
+
+-- this is the type of a function that the world imports
+pub record IsTypeOf (w : ComponentWorld) (function : WorldFunction) (type : FunctionTree) : Type 0 where
+  pub wit : WitFunction
+  pub imported : function_imported w function ≡ Some wit
+  pub typed : type ≡ type_of_function w wit
+
 -- the term is what the target names, where no shim and no wrapper is between them
 abbrev pub IsTermFor : ComponentWorld → Target → Term → Type 0
-IsTermFor w (targets.Lowered function options) (terms.Lowering origin written) = IsOriginOf w function origin × AllZip (IsOptionFor w) written options
+IsTermFor w (targets.Lowered function options) (terms.Lowering origin type written) = IsOriginOf w function origin × IsTypeOf w function type × AllZip (IsOptionFor w) written options
 IsTermFor w (targets.ExportOf export_ref) (terms.Exported e) = IsExportFor w e export_ref
 IsTermFor w (targets.Lifted entry options) (terms.Lifting e written type) = IsExportFor w e entry × AllZip (IsOptionFor w) written options
 IsTermFor w target term = ⊥
@@ -49,6 +62,13 @@ pub record IsItemFor (w : ComponentWorld) (ds : List Def) (space : Space) (index
   pub term : Term
   pub is : Is ds space index term
   pub asked : IsTermFor w target term
+
+-- the function of this index is a lift of this type that the target names
+pub record IsLiftFor (w : ComponentWorld) (ds : List Def) (index : ℕ) (target : Target) (type : FunctionTree) : Type 0 where
+  pub entry : CoreExport
+  pub options : List TermOption
+  pub is : IsLifting ds index entry options type
+  pub asked : IsTermFor w target (terms.Lifting entry options type)
 
 -- ---- what a user module is given
 

@@ -1,7 +1,7 @@
 -- Rules that each definition keeps at its index, and the landmarks of the whole list (component model,
 -- explainer: component definitions). They are what the steps guarantee to the proof that the list runs; no rule is
 -- part of a public guarantee.
-use Rattle.std.specs.Prelude.{◌≡◌, ◌<◌, ℕ, List, [], ◌∷◌, ◌++◌, Option, Some, None, false, map, filter, slice_get}
+use Rattle.std.specs.Prelude.{◌≡◌, ◌<◌, ℕ, List, [], ◌∷◌, ◌++◌, Option, Some, None, true, length, map, filter, slice_get}
 use Rattle.std.specs.List.{AllByRecursion, AllZip, IsDistinct, filter_map}
 use Rattle.std.specs.Str.{bytes_eq}
 use Rattle.comp_bytes.specs.Spaces.{items_in}
@@ -10,7 +10,7 @@ use Rattle.standard_kinds.specs.declared.kinds.ExportKind.TheVariants as kinds
 use Rattle.comp_bytes.specs.declared.space.Sort.{Sort}
 use Rattle.comp_bytes.specs.declared.space.Sort.TheVariants as sorts
 use Rattle.comp_bytes.specs.declared.types.ExternName.{ExternName}
-use Rattle.comp_bytes.specs.declared.types.FuncTypeDef.{FuncTypeDef}
+use Rattle.comp_bytes.specs.declared.types.TypeDef.{TypeDef}
 use Rattle.comp_bytes.specs.declared.types.TypeDef.TheVariants as types
 use Rattle.comp_bytes.specs.declared.types.Alias.{Alias}
 use Rattle.comp_bytes.specs.declared.types.Alias.TheVariants as aliases
@@ -24,6 +24,12 @@ use Rattle.comp_bytes.specs.declared.def.Def.{Def}
 use Rattle.comp_bytes.specs.declared.def.Def.TheVariants as defs
 use Rattle.core_types.specs.declared.types.FuncType.{FuncType}
 use Rattle.comp_lists.specs.Found.{found}
+use Rattle.wit_data.specs.declared.functions.Function.{Function as WitFunction}
+use Rattle.world_values.specs.Items.{root_function_at}
+use Rattle.comp_trees.specs.Trees.{Origin, FunctionTree, is_known, is_known_function}
+use Rattle.comp_trees.specs.DefinedTrees.{TypeTree, defined_tree, function_tree}
+use Rattle.comp_trees.specs.Inventories.{scope_of}
+use Rattle.comp_worlds.specs.Worlds.{items_of, imported_types}
 use Rattle.wit_data.specs.Keys.{name_of_key}
 use Rattle.comp_roles.specs.declared.offered.ExternType.TheVariants as externs
 use Rattle.wit_data.specs.declared.worlds.WorldKey.{WorldKey}
@@ -31,14 +37,10 @@ use Rattle.comp_worlds.specs.declared.world.ComponentWorld.{ComponentWorld}
 use Rattle.comp_links.specs.Roles.{is_used, used_functions}
 use Rattle.comp_links.specs.Targets.{Main, Target}
 use Rattle.comp_links.specs.Modules.{WorldModule, user_modules}
-use Rattle.comp_links.specs.Lists.{Stated, plain_name, root_function, described_sort, AreNames}
+use Rattle.comp_links.specs.Lists.{Stated, plain_name, root_function, root_type, described_sort, stated_imports, AreNames}
 use Rattle.comp_links.specs.Links.{lift_of}
-use Rattle.comp_terms.specs.Terms.{FunctionType, InstanceOf as InstanceTerm, Is}
-use Rattle.comp_terms.specs.Planned.{IsItemFor, IsArgumentFor}
-
--- the type of synchronous functions with no parameter and no result
-abbrev pub plain_function : FuncTypeDef
-plain_function = record { async_ = false; params = []; result = None }
+use Rattle.comp_terms.specs.Terms.{InstanceOf as InstanceTerm, IsFunctionType, IsImportedFunction, Is}
+use Rattle.comp_terms.specs.Planned.{type_of_function, IsLiftFor, IsArgumentFor}
 
 -- a user module is instantiated: an argument for each module of its imports, in order
 pub record InstantiatesUser (w : ComponentWorld) (earlier : List Def) (number : ℕ) (arguments : List CoreArgument) : Type 0 where
@@ -56,13 +58,15 @@ pub record AliasesUser (w : ComponentWorld) (earlier : List Def) (instance : ℕ
   pub listed : slice_get (user_modules w) number ≡ Some of
   pub offered : found name of.found.offered ≡ Some (externs.Func type)
 
--- an export: a required one, under its name, lifted as the link table says
+-- an export: a required one, under its name, lifted as the link table says, with the function's type
 pub record ExportsRequired (w : ComponentWorld) (earlier : List Def) (name : ExternName) (index : ℕ) : Type 0 where
   pub key : WorldKey
   pub target : Target
+  pub wit : WitFunction
   pub named : name ≡ plain_name (name_of_key key)
   pub said : lift_of w (record { of = Main; key = key; function = name_of_key key }) ≡ Some target
-  pub lifted : IsItemFor w earlier spaces.Func index target
+  pub exported : root_function_at (items_of w).exports key ≡ Some wit
+  pub lifted : IsLiftFor w earlier index target (type_of_function w wit)
 
 -- an entry of an inline instance is a core function
 pub record IsEntry (earlier : List Def) (e : CoreInlineExport) : Type 0 where
@@ -78,9 +82,31 @@ abbrev pub IsAliasRight : ComponentWorld → List Def → Alias → Type 0
 IsAliasRight w earlier (aliases.CoreExport kinds.Func instance name) = AliasesUser w earlier instance name
 IsAliasRight w earlier _ = ⊥
 
+-- a type of functions
+pub record HasFunctionType (earlier : List Def) (kind : ℕ) : Type 0 where
+  pub type : FunctionTree
+  pub is : IsFunctionType earlier kind type
+
+-- a function that is imported
+pub record HasImportedFunction (earlier : List Def) (index : ℕ) : Type 0 where
+  pub origin : Origin
+  pub type : FunctionTree
+  pub is : IsImportedFunction earlier index origin type
+
+abbrev pub IsDescriptionRight : List Def → Description → Type 0
+IsDescriptionRight earlier (descriptions.Func kind) = HasFunctionType earlier kind
+IsDescriptionRight earlier (descriptions.TypeEqual index) = index < length (scope_of earlier)
+IsDescriptionRight earlier descriptions.SubResource = Unit {0}
+IsDescriptionRight earlier (descriptions.Instance index) = ⊥
+
 abbrev pub IsImportRight : List Def → ExternName → Description → Type 0
-IsImportRight earlier name (descriptions.Func kind) = (name ≡ plain_name name.name) × Is earlier spaces.Type kind (FunctionType plain_function)
-IsImportRight earlier name _ = ⊥
+IsImportRight earlier name description = (name ≡ plain_name name.name) × IsDescriptionRight earlier description
+
+-- a type of values or functions whose parts are types of values
+abbrev pub IsTypeRight : List TypeTree → TypeDef → Type 0
+IsTypeRight scope (types.Func f) = is_known_function (function_tree scope f) ≡ true
+IsTypeRight scope (types.Defined t) = is_known (defined_tree scope t) ≡ true
+IsTypeRight scope (types.Resource destructor) = ⊥
 
 abbrev pub IsExportRight : ComponentWorld → List Def → ExternName → Sort → ℕ → Option Description → Type 0
 IsExportRight w earlier name sorts.Func index None = ExportsRequired w earlier name index
@@ -93,10 +119,10 @@ IsItemRight w earlier (items.CoreInstantiate number arguments) = InstantiatesUse
 IsItemRight w earlier (items.CoreExports entries) = AreEntries earlier entries
 IsItemRight w earlier (items.Instantiate component arguments) = ⊥
 IsItemRight w earlier (items.Alias a) = IsAliasRight w earlier a
-IsItemRight w earlier (items.Type t) = t ≡ types.Func plain_function
+IsItemRight w earlier (items.Type t) = IsTypeRight (scope_of earlier) t
 IsItemRight w earlier (items.InstanceType t) = ⊥
-IsItemRight w earlier (items.Lift core options kind) = (core < items_in spaces.CoreFunc earlier) × (options ≡ []) × Is earlier spaces.Type kind (FunctionType plain_function)
-IsItemRight w earlier (items.Lower function options) = (function < items_in spaces.Func earlier) × (options ≡ [])
+IsItemRight w earlier (items.Lift core options kind) = (core < items_in spaces.CoreFunc earlier) × (options ≡ []) × HasFunctionType earlier kind
+IsItemRight w earlier (items.Lower function options) = HasImportedFunction earlier function × (options ≡ [])
 IsItemRight w earlier (items.Intrinsic i) = ⊥
 IsItemRight w earlier (items.Import name description) = IsImportRight earlier name description
 IsItemRight w earlier (items.Export name sort index description) = IsExportRight w earlier name sort index description
@@ -154,7 +180,7 @@ names_marked w names = map named_import (filter (is_used w) names)
 
 -- the landmarks of the imports, and of the exports
 abbrev pub imports_marked : ComponentWorld → List Landmark
-imports_marked w = map named_import (used_functions w)
+imports_marked w = map Imported (stated_imports w)
 
 abbrev pub exports_marked : ComponentWorld → List Landmark
 exports_marked w = map (λ key. named_export (name_of_key key)) w.main_exports

@@ -1,9 +1,9 @@
 -- What an item of a list of definitions is, as a value that holds no index (component model, explainer: core instances,
 -- aliases, `canon lower`, `canon lift`). Core modules and imports of the component are named by their numbers.
-use Rattle.std.specs.Prelude.{◌≡◌, ◌++◌, ℕ, Bool, true, false, List, [], ◌∷◌, None, filter, length}
+use Rattle.std.specs.Prelude.{◌≡◌, ℕ, List, Some, slice_get}
 use Rattle.std.specs.List.{AllZip}
 use Rattle.comp_bytes.specs.ItemIndices.{IsAt}
-use Rattle.comp_bytes.specs.Spaces.{kind_space, items_in}
+use Rattle.comp_bytes.specs.Spaces.{kind_space}
 use Rattle.comp_bytes.specs.declared.space.Space.{Space}
 use Rattle.comp_bytes.specs.declared.space.Space.TheVariants as spaces
 use Rattle.standard_kinds.specs.declared.kinds.ExportKind.{ExportKind}
@@ -12,17 +12,15 @@ use Rattle.standard_kinds.specs.declared.kinds.StringEncoding.{StringEncoding}
 use Rattle.standard_kinds.specs.declared.kinds.StringEncoding.TheVariants as encodings
 use Rattle.comp_bytes.specs.declared.canon.CanonicalOption.{CanonicalOption}
 use Rattle.comp_bytes.specs.declared.canon.CanonicalOption.TheVariants as options
-use Rattle.comp_bytes.specs.declared.types.ExternName.{ExternName}
-use Rattle.comp_bytes.specs.declared.types.FuncTypeDef.{FuncTypeDef}
-use Rattle.comp_bytes.specs.declared.types.TypeDef.TheVariants as types
 use Rattle.comp_bytes.specs.declared.types.Alias.TheVariants as aliases
-use Rattle.comp_bytes.specs.declared.types.Description.TheVariants as descriptions
 use Rattle.comp_bytes.specs.declared.def.CoreArgument.{CoreArgument}
-use Rattle.comp_bytes.specs.declared.def.Item.{Item}
 use Rattle.comp_bytes.specs.declared.def.Item.TheVariants as items
 use Rattle.comp_bytes.specs.declared.def.Def.{Def}
 use Rattle.comp_bytes.specs.declared.def.Def.TheVariants as defs
-use Rattle.comp_runs.specs.Store.{Origin}
+use Rattle.comp_trees.specs.Trees.{Origin, FunctionTree}
+use Rattle.comp_trees.specs.DefinedTrees.{OfFunctions}
+use Rattle.comp_trees.specs.DefinedScopes.{Denotes}
+use Rattle.comp_trees.specs.Inventories.{inventory, scope_of}
 
 -- what the instance of a core module exports, by the module's number, and by the kind and name of the export
 pub record CoreExport : Type 0 where
@@ -41,40 +39,26 @@ pub data TermOption : Type 0 where
 
 pub data Term : Type 0 where
   -- the type of functions
-  FunctionType : (type : FuncTypeDef) → Term
-  -- a function that is imported
-  ImportedFunction : (origin : Origin) → Term
+  FunctionType : (type : FunctionTree) → Term
+  -- a function that is imported, with its type
+  ImportedFunction : (origin : Origin) (type : FunctionTree) → Term
   -- the instance of a core module
   InstanceOf : (number : ℕ) → Term
   Exported : (export : CoreExport) → Term
   -- a lowering of a function that is imported
-  Lowering : (origin : Origin) (options : List TermOption) → Term
+  Lowering : (origin : Origin) (type : FunctionTree) (options : List TermOption) → Term
   -- a lift of a core function, with its type
-  Lifting : (entry : CoreExport) (options : List TermOption) (type : FuncTypeDef) → Term
-
-abbrev pub is_import : Def → Bool
-is_import (defs.Item (items.Import name description)) = true
-is_import d = false
+  Lifting : (entry : CoreExport) (options : List TermOption) (type : FunctionTree) → Term
 
 -- how many imports there are among these definitions
 abbrev pub imports_in : List Def → ℕ
-imports_in ds = length (filter is_import ds)
+imports_in ds = (inventory ds).imports
 
--- the definition that made this item, with what comes before it
-pub record IsMade (ds : List Def) (space : Space) (index : ℕ) (d : Def) (before : List Def) : Type 0 where
-  pub after : List Def
-  pub split : ds ≡ before ++ d ∷ after
-  pub at : index ≡ items_in space before
+pub record IsFunctionType (ds : List Def) (index : ℕ) (type : FunctionTree) : Type 0 where
+  pub denotes : Denotes (scope_of ds) index (OfFunctions type)
 
-pub record IsFunctionType (ds : List Def) (index : ℕ) (type : FuncTypeDef) : Type 0 where
-  pub made : IsAt ds spaces.Type index (defs.Item (items.Type (types.Func type)))
-
-pub record IsImportedFunction (ds : List Def) (index : ℕ) (origin : Origin) : Type 0 where
-  pub name : ExternName
-  pub kind : ℕ
-  pub before : List Def
-  pub made : IsMade ds spaces.Func index (defs.Item (items.Import name (descriptions.Func kind))) before
-  pub numbered : origin ≡ record { number = imports_in before; inner = None }
+pub record IsImportedFunction (ds : List Def) (index : ℕ) (origin : Origin) (type : FunctionTree) : Type 0 where
+  pub is : slice_get (inventory ds).functions index ≡ Some (record { origin = Some origin; type = OfFunctions type })
 
 pub record IsInstanceOf (ds : List Def) (index number : ℕ) : Type 0 where
   pub arguments : List CoreArgument
@@ -98,14 +82,14 @@ IsOption ds options.Async Async = Unit {0}
 IsOption ds (options.Callback index) (Callback e) = IsExported ds index e
 IsOption ds option term = ⊥
 
-pub record IsLowering (ds : List Def) (index : ℕ) (origin : Origin) (options : List TermOption) : Type 0 where
+pub record IsLowering (ds : List Def) (index : ℕ) (origin : Origin) (type : FunctionTree) (options : List TermOption) : Type 0 where
   pub function : ℕ
   pub written : List CanonicalOption
   pub made : IsAt ds spaces.CoreFunc index (defs.Item (items.Lower function written))
-  pub of : IsImportedFunction ds function origin
+  pub of : IsImportedFunction ds function origin type
   pub with_options : AllZip (IsOption ds) written options
 
-pub record IsLifting (ds : List Def) (index : ℕ) (entry : CoreExport) (options : List TermOption) (type : FuncTypeDef) : Type 0 where
+pub record IsLifting (ds : List Def) (index : ℕ) (entry : CoreExport) (options : List TermOption) (type : FunctionTree) : Type 0 where
   pub core : ℕ
   pub kind : ℕ
   pub written : List CanonicalOption
@@ -118,9 +102,9 @@ pub record IsLifting (ds : List Def) (index : ℕ) (entry : CoreExport) (options
 -- the item of this index in a space is what the term says
 abbrev pub Is : List Def → Space → ℕ → Term → Type 0
 Is ds spaces.Type index (FunctionType type) = IsFunctionType ds index type
-Is ds spaces.Func index (ImportedFunction origin) = IsImportedFunction ds index origin
+Is ds spaces.Func index (ImportedFunction origin type) = IsImportedFunction ds index origin type
 Is ds spaces.CoreInstance index (InstanceOf number) = IsInstanceOf ds index number
 Is ds space index (Exported e) = (space ≡ kind_space e.kind) × IsExported ds index e
-Is ds spaces.CoreFunc index (Lowering origin options) = IsLowering ds index origin options
+Is ds spaces.CoreFunc index (Lowering origin type options) = IsLowering ds index origin type options
 Is ds spaces.Func index (Lifting entry options type) = IsLifting ds index entry options type
 Is ds space index term = ⊥

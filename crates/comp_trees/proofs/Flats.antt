@@ -10,7 +10,7 @@ use Rattle.wit_data.specs.declared.signatures.WasmType.TheVariants.{I32, F32, F6
 use Rattle.wit_data.specs.Parts.{parts}
 use Rattle.wit_data.specs.Flat.{join, join_lists, joined, flattening}
 use Rattle.wit_data.proofs.Values.{made_whole}
-use Rattle.comp_trees.specs.Trees.{Tree, Absent, trees_of}
+use Rattle.comp_trees.specs.Trees.{Resource, Tree, Absent, trees_of}
 use Rattle.comp_trees.specs.WitTrees.{making_trees}
 use Rattle.comp_trees.specs.Flattening.{flat_tree, flat_members, flat_cases}
 use Rattle.comp_trees.specs.Laws.{TreesOfParts, FlatOfTrees}
@@ -55,7 +55,7 @@ cases_after f (x ∷ xs) so_far =
 option_flat : (none some : Tree) → none ≡ Absent → flat_tree some ≡ joined [] (flat_tree none ∷ flat_tree some ∷ [])
 option_flat none some e = ap (λ t. joined [] (flat_tree t ∷ flat_tree some ∷ [])) (sym e)
 
-flat_kind : (origin : TypeId → ℕ) (index : ℕ) (kind : TypeDefKind) (f : Option Ty → Tree) → f None ≡ Absent → flat_tree ((making_trees origin).made index kind (map f (parts kind))) ≡ flattening.made index kind (map (λ p. flat_tree (f p)) (parts kind))
+flat_kind : (origin : TypeId → Resource) (index : ℕ) (kind : TypeDefKind) (f : Option Ty → Tree) → f None ≡ Absent → flat_tree ((making_trees origin).made index kind (map f (parts kind))) ≡ flattening.made index kind (map (λ p. flat_tree (f p)) (parts kind))
 flat_kind origin index (kinds.Record fields) f e = members f (parts (kinds.Record fields))
 flat_kind origin index (kinds.Variant cases) f e = ap (λ vs. I32 ∷ vs) (cases_after f (parts (kinds.Variant cases)) [])
 flat_kind origin index (kinds.Enum names) f e = refl

@@ -13,7 +13,7 @@ use Rattle.comp_bytes.specs.declared.types.TypeDef.{TypeDef}
 use Rattle.comp_bytes.specs.declared.types.TypeDef.TheVariants as types
 use Rattle.comp_bytes.specs.References.{Reference, own, where_some, value_references, fields_references, defined_references, type_references}
 use Rattle.comp_bytes.specs.Scopes.{InScope}
-use Rattle.comp_trees.specs.Trees.{Tree, RecordOf, TupleOf, VariantOf, ListOf, OptionOf, ResultOf, OwnOf, BorrowOf, StreamOf, FutureOf, trees_of, ParamTree, FunctionTree}
+use Rattle.comp_trees.specs.Trees.{Resource, Tree, RecordOf, TupleOf, VariantOf, ListOf, OptionOf, ResultOf, OwnOf, BorrowOf, StreamOf, FutureOf, trees_of, ParamTree, FunctionTree}
 use Rattle.comp_trees.specs.DefinedTrees.{TypeTree, OfValues, OfFunctions, OfOthers, values_of, tree_at, value_tree, payload_tree, defined_tree, function_tree}
 use Rattle.comp_trees.specs.DefinedScopes.{type_tree}
 use Rattle.comp_trees.specs.Laws.{TreesAreKept}
@@ -92,10 +92,10 @@ function_kept P trees more has f a =
     (each_kept P (λ p. value_references p.ty) (the_param (trees ++ more)) (the_param trees) (param_kept P trees more has) f.params (all_left P params result a))
     ∙ ap (λ r. with_parts f.async_ (map (the_param trees) f.params) r) (result_kept P trees more has f.result (all_right P params result a))
 
-type_kept : (P : Reference → Type 0) (trees more : List TypeTree) (address : ℕ) → HasTypes P trees → (t : TypeDef) → AllByRecursion P (type_references t) → type_tree (trees ++ more) address t ≡ type_tree trees address t
-type_kept P trees more address has (types.Func f) a = ap OfFunctions (function_kept P trees more has f a)
-type_kept P trees more address has (types.Resource destructor) a = refl
-type_kept P trees more address has (types.Defined t) a = ap OfValues (defined_kept P trees more has t a)
+type_kept : (P : Reference → Type 0) (trees more : List TypeTree) (resource : Resource) → HasTypes P trees → (t : TypeDef) → AllByRecursion P (type_references t) → type_tree (trees ++ more) resource t ≡ type_tree trees resource t
+type_kept P trees more resource has (types.Func f) a = ap OfFunctions (function_kept P trees more has f a)
+type_kept P trees more resource has (types.Resource destructor) a = refl
+type_kept P trees more resource has (types.Defined t) a = ap OfValues (defined_kept P trees more has t a)
 
 pub trees_are_kept : TreesAreKept
-trees_are_kept scope outer trees more address t e a = type_kept (InScope (scope ∷ outer)) trees more address (λ index p. subst (λ n. index < n) e p) t a
+trees_are_kept scope outer trees more resource t e a = type_kept (InScope (scope ∷ outer)) trees more resource (λ index p. subst (λ n. index < n) e p) t a

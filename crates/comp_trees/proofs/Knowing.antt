@@ -4,7 +4,7 @@ use Rattle.std.specs.List.{AllByRecursion}
 use Rattle.wit_data.specs.declared.ids.TypeId.{TypeId}
 use Rattle.wit_data.specs.declared.types.TypeDefKind.{TypeDefKind}
 use Rattle.wit_data.specs.declared.types.TypeDefKind.TheVariants as kinds
-use Rattle.comp_trees.specs.Trees.{Tree, trees_of, is_known, are_known}
+use Rattle.comp_trees.specs.Trees.{Resource, Tree, trees_of, is_known, are_known}
 use Rattle.comp_trees.specs.WitTrees.{first, second, kind_tree, making_trees}
 use Rattle.comp_trees.specs.Laws.{TreesAreKnown}
 use Rattle.comp_trees.proofs.Folds.{holds}
@@ -27,7 +27,7 @@ second_known : (ts : List Tree) → AllByRecursion IsKnown ts → IsKnown (secon
 second_known [] h = refl
 second_known (t ∷ ts) h = first_known ts h.1
 
-kind_known : (origin : TypeId → ℕ) (index : ℕ) (kind : TypeDefKind) (ts : List Tree) → AllByRecursion IsKnown ts → IsKnown (kind_tree origin index kind ts)
+kind_known : (origin : TypeId → Resource) (index : ℕ) (kind : TypeDefKind) (ts : List Tree) → AllByRecursion IsKnown ts → IsKnown (kind_tree origin index kind ts)
 kind_known origin index (kinds.Record fields) ts h = all_known ts h
 kind_known origin index (kinds.Variant cases) ts h = all_known ts h
 kind_known origin index (kinds.Enum names) ts h = refl

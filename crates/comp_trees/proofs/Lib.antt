@@ -3,5 +3,6 @@ pub mod Flats
 pub mod Signing
 pub mod Knowing
 pub mod Keeping
+pub mod Inventories
 mod Worked
 mod WorkedScopes

@@ -13,7 +13,7 @@ use Rattle.wit_data.specs.declared.signatures.WasmType.TheVariants.{I32}
 use Rattle.wit_data.specs.declared.signatures.WasmSignature.{WasmSignature}
 use Rattle.wit_data.specs.Flat.{flat}
 use Rattle.wit_data.specs.Signatures as wit
-use Rattle.comp_trees.specs.Trees.{FunctionTree}
+use Rattle.comp_trees.specs.Trees.{Resource, FunctionTree}
 use Rattle.comp_trees.specs.WitTrees.{wit_tree, wit_function_tree}
 use Rattle.comp_trees.specs.Flattening as trees
 use Rattle.comp_trees.specs.Laws.{SignaturesOfTrees}
@@ -50,13 +50,13 @@ of_wit abis.GuestImportAsync types f = refl
 of_wit abis.GuestExportAsync types f = refl
 of_wit abis.GuestExportAsyncStackful types f = refl
 
-same_params : (origin : TypeId → ℕ) (types : List TypeDef) (ps : List Param) → trees.flat_params (map (λ p. record { name = p.name; tree = wit_tree origin types (Some p.ty) }) ps) ≡ flat_map (λ p. flat types (Some p.ty)) ps
+same_params : (origin : TypeId → Resource) (types : List TypeDef) (ps : List Param) → trees.flat_params (map (λ p. record { name = p.name; tree = wit_tree origin types (Some p.ty) }) ps) ≡ flat_map (λ p. flat types (Some p.ty)) ps
 same_params origin types [] = refl
 same_params origin types (p ∷ ps) =
     ap (λ vs. vs ++ trees.flat_params (map (λ q. record { name = q.name; tree = wit_tree origin types (Some q.ty) }) ps)) (flat_of_trees origin types (Some p.ty))
     ∙ ap (λ vs. flat types (Some p.ty) ++ vs) (same_params origin types ps)
 
-same_result : (origin : TypeId → ℕ) (types : List TypeDef) (result : Option Ty) → trees.flat_result (option_map (λ t. wit_tree origin types (Some t)) result) ≡ flat types result
+same_result : (origin : TypeId → Resource) (types : List TypeDef) (result : Option Ty) → trees.flat_result (option_map (λ t. wit_tree origin types (Some t)) result) ≡ flat types result
 same_result origin types None = refl
 same_result origin types (Some t) = flat_of_trees origin types (Some t)
 

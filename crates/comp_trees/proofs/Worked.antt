@@ -14,7 +14,7 @@ use Rattle.wit_data.specs.declared.functions.FunctionKind.TheVariants as functio
 use Rattle.wit_data.specs.declared.functions.AbiVariant.TheVariants as abis
 use Rattle.wit_data.specs.declared.signatures.WasmType.TheVariants.{I32, I64}
 use Rattle.wit_data.specs.Values.{values_from}
-use Rattle.comp_trees.specs.Trees.{Tree, Absent, PrimitiveOf, RecordOf, TupleOf, VariantOf, OptionOf, OwnOf, ResourceAt, Nil, Cons, FunctionTree}
+use Rattle.comp_trees.specs.Trees.{Tree, Absent, PrimitiveOf, RecordOf, TupleOf, VariantOf, OptionOf, OwnOf, Resource, DefinedAt, ResourceAt, Nil, Cons, FunctionTree}
 use Rattle.comp_trees.specs.WitTrees.{wit_tree, wit_function_tree}
 use Rattle.comp_trees.specs.Flattening.{flat_tree, tree_signature}
 
@@ -67,16 +67,16 @@ some_types =
     ∷ unnamed (kinds.Alias (numbered 3))
     ∷ []
 
--- that record, where the resource has this address
-abbrev some_record : ℕ → Tree
-some_record address = RecordOf (codes "n" ∷ codes "h" ∷ []) (Cons (PrimitiveOf prims.U8) (Cons (OptionOf (OwnOf (ResourceAt address))) Nil))
+-- that record, where the resource is this one
+abbrev some_record : Resource → Tree
+some_record resource = RecordOf (codes "n" ∷ codes "h" ∷ []) (Cons (PrimitiveOf prims.U8) (Cons (OptionOf (OwnOf (ResourceAt resource))) Nil))
 
-by_another_name : wit_tree (λ id. 7) some_types (Some (numbered 4)) ≡ some_record 7
+by_another_name : wit_tree (λ id. DefinedAt 7) some_types (Some (numbered 4)) ≡ some_record (DefinedAt 7)
 unfolding values_from
 by_another_name = refl
 
 -- two resources make two types
-two_resources : some_record 7 ≢ some_record 8
+two_resources : some_record (DefinedAt 7) ≢ some_record (DefinedAt 8)
 two_resources e = cc
 
 -- a function of them
@@ -88,10 +88,10 @@ method = record {
   result = None;
 }
 
-method_tree : wit_function_tree (λ id. 7) some_types method ≡ record { is_async = true; params = record { name = codes "r"; tree = some_record 7 } ∷ []; result = None }
+method_tree : wit_function_tree (λ id. DefinedAt 7) some_types method ≡ record { is_async = true; params = record { name = codes "r"; tree = some_record (DefinedAt 7) } ∷ []; result = None }
 unfolding values_from
 method_tree = refl
 
-method_signature : tree_signature abis.GuestImportAsync (wit_function_tree (λ id. 7) some_types method) ≡ record { params = I32 ∷ I32 ∷ I32 ∷ []; results = I32 ∷ []; indirect_params = false; retptr = false }
+method_signature : tree_signature abis.GuestImportAsync (wit_function_tree (λ id. DefinedAt 7) some_types method) ≡ record { params = I32 ∷ I32 ∷ I32 ∷ []; results = I32 ∷ []; indirect_params = false; retptr = false }
 unfolding values_from
 method_signature = refl

@@ -7,7 +7,7 @@ use Rattle.comp_bytes.specs.declared.types.ComponentValType.TheVariants as value
 use Rattle.comp_bytes.specs.declared.types.DefinedType.TheVariants as defined
 use Rattle.comp_bytes.specs.declared.types.TypeDef.{TypeDef}
 use Rattle.comp_bytes.specs.declared.types.TypeDef.TheVariants as types
-use Rattle.comp_trees.specs.Trees.{OptionOf, Unknown}
+use Rattle.comp_trees.specs.Trees.{Resource, DefinedAt, OptionOf, Unknown}
 use Rattle.comp_trees.specs.WitTrees.{wit_tree, wit_function_tree}
 use Rattle.comp_trees.specs.DefinedTrees.{OfFunctions, OfOthers, tree_at, defined_tree}
 use Rattle.comp_trees.specs.DefinedScopes.{type_trees}
@@ -24,18 +24,18 @@ definitions =
     ∷ types.Func (record { async_ = true; params = record { name = codes "r"; ty = values.Defined 4 } ∷ []; result = None })
     ∷ []
 
--- the address of the resource with index 1 is that of WIT's resource
-abbrev address_of : ℕ → ℕ
-address_of index = index + 6
+-- the resource with index 1 is WIT's resource
+abbrev resource_of : ℕ → Resource
+resource_of index = DefinedAt (index + 6)
 
-same_record : tree_at (type_trees address_of [] definitions) 4 ≡ wit_tree (λ id. 7) some_types (Some (numbered 4))
+same_record : tree_at (type_trees resource_of [] definitions) 4 ≡ wit_tree (λ id. DefinedAt 7) some_types (Some (numbered 4))
 unfolding values_from
 same_record = refl
 
-same_function : get_or (type_trees address_of [] definitions) 5 OfOthers ≡ OfFunctions (wit_function_tree (λ id. 7) some_types method)
+same_function : get_or (type_trees resource_of [] definitions) 5 OfOthers ≡ OfFunctions (wit_function_tree (λ id. DefinedAt 7) some_types method)
 unfolding values_from
 same_function = refl
 
 -- an option of a type of functions is none of values
-no_option : defined_tree (type_trees address_of [] definitions) (defined.Option (values.Defined 0)) ≡ OptionOf Unknown
+no_option : defined_tree (type_trees resource_of [] definitions) (defined.Option (values.Defined 0)) ≡ OptionOf Unknown
 no_option = refl

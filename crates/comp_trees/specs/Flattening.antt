@@ -29,7 +29,7 @@ abbrev mutual
   flat_tree (BorrowOf t) = I32 ∷ []
   flat_tree (StreamOf t) = I32 ∷ []
   flat_tree (FutureOf t) = I32 ∷ []
-  flat_tree (ResourceAt address) = I32 ∷ []
+  flat_tree (ResourceAt resource) = I32 ∷ []
   flat_tree Unknown = []
 
   -- one after the other

@@ -3,4 +3,6 @@ pub mod WitTrees
 pub mod Flattening
 pub mod DefinedTrees
 pub mod DefinedScopes
+pub mod Members
+pub mod Inventories
 pub mod Laws

@@ -1,8 +1,20 @@
 -- Types as closed trees, and the types of functions (component model, explainer: `valtype`, `defvaltype`, `functype`).
--- A tree holds all that a type is made of, and no index: a resource is known by its address. So two types are the same
+-- A tree holds all that a type is made of, and no index: a resource is known by what it is. So two types are the same
 -- exactly where their trees are equal.
-use Rattle.std.specs.Prelude.{ℕ, Bool, true, false, ◌&&◌, List, [], ◌∷◌, Option}
+use Rattle.std.specs.Prelude.{ℕ, Bool, true, false, ◌&&◌, List, [], ◌∷◌, Option, Some, None}
+use Rattle.std.specs.List.{list_all}
 use Rattle.standard_kinds.specs.declared.kinds.Primitive.{Primitive}
+
+-- where something is imported: the number of the import of the component and, where that is an instance, the name
+-- inside of it
+pub record Origin : Type 0 where
+  pub number : ℕ
+  pub inner : Option (List ℕ)
+
+-- a resource: an imported one, by where it is imported; or one that the component defines, by its address
+pub data Resource : Type 0 where
+  ImportedAt : (origin : Origin) → Resource
+  DefinedAt : (address : ℕ) → Resource
 
 mutual
   pub data Tree : Type 0 where
@@ -25,8 +37,7 @@ mutual
     BorrowOf : Tree → Tree
     StreamOf : Tree → Tree
     FutureOf : Tree → Tree
-    -- a resource, by its address
-    ResourceAt : ℕ → Tree
+    ResourceAt : (resource : Resource) → Tree
     -- what an index has that names no type of values
     Unknown : Tree
 
@@ -56,7 +67,7 @@ abbrev mutual
   is_known (BorrowOf t) = is_known t
   is_known (StreamOf t) = is_known t
   is_known (FutureOf t) = is_known t
-  is_known (ResourceAt address) = true
+  is_known (ResourceAt resource) = true
   is_known Unknown = false
 
   pub are_known : Trees → Bool
@@ -73,3 +84,11 @@ pub record FunctionTree : Type 0 where
   pub is_async : Bool
   pub params : List ParamTree
   pub result : Option Tree
+
+-- whether all types of a function are known
+abbrev pub is_known_result : Option Tree → Bool
+is_known_result None = true
+is_known_result (Some t) = is_known t
+
+abbrev pub is_known_function : FunctionTree → Bool
+is_known_function f = list_all (λ p. is_known p.tree) f.params && is_known_result f.result

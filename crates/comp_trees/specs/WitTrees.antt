@@ -9,7 +9,7 @@ use Rattle.wit_data.specs.declared.functions.FunctionKind.{FunctionKind}
 use Rattle.wit_data.specs.declared.functions.FunctionKind.TheVariants as functions
 use Rattle.wit_data.specs.declared.functions.Function.{Function}
 use Rattle.wit_data.specs.Values.{Making, value}
-use Rattle.comp_trees.specs.Trees.{Tree, Absent, PrimitiveOf, RecordOf, TupleOf, VariantOf, EnumOf, FlagsOf, ListOf, OptionOf, ResultOf, OwnOf, BorrowOf, StreamOf, FutureOf, ResourceAt, trees_of, FunctionTree}
+use Rattle.comp_trees.specs.Trees.{Tree, Absent, PrimitiveOf, RecordOf, TupleOf, VariantOf, EnumOf, FlagsOf, ListOf, OptionOf, ResultOf, OwnOf, BorrowOf, StreamOf, FutureOf, Resource, ResourceAt, trees_of, FunctionTree}
 
 abbrev pub first : List Tree → Tree
 first [] = Absent
@@ -20,9 +20,9 @@ second [] = Absent
 second (t ∷ ts) = first ts
 
 -- The tree of the type with a given index, by its kind and the trees of its parts (`parts`; an option has two of
--- them, of which the first is none). `origin` is the address of each resource. Another name for a type has that
+-- them, of which the first is none). `origin` says what each resource is. Another name for a type has that
 -- type's tree.
-abbrev pub kind_tree : (TypeId → ℕ) → ℕ → TypeDefKind → List Tree → Tree
+abbrev pub kind_tree : (TypeId → Resource) → ℕ → TypeDefKind → List Tree → Tree
 kind_tree origin n (kinds.Record fields) ts = RecordOf (map (λ f. f.name) fields) (trees_of ts)
 kind_tree origin n (kinds.Variant cases) ts = VariantOf (map (λ c. c.name) cases) (trees_of ts)
 kind_tree origin n (kinds.Enum names) ts = EnumOf names
@@ -38,11 +38,11 @@ kind_tree origin n (kinds.Stream t) ts = StreamOf (first ts)
 kind_tree origin n (kinds.Future t) ts = FutureOf (first ts)
 kind_tree origin n (kinds.Alias t) ts = first ts
 
-abbrev pub making_trees : (TypeId → ℕ) → Making Tree
+abbrev pub making_trees : (TypeId → Resource) → Making Tree
 making_trees origin = record { absent = Absent; simple = PrimitiveOf; made = kind_tree origin }
 
 -- the tree of a type among these types
-abbrev pub wit_tree : (TypeId → ℕ) → List TypeDef → Option Ty → Tree
+abbrev pub wit_tree : (TypeId → Resource) → List TypeDef → Option Ty → Tree
 wit_tree origin types part = value (making_trees origin) types part
 
 abbrev pub is_async : FunctionKind → Bool
@@ -55,7 +55,7 @@ is_async (functions.AsyncStatic id) = true
 is_async (functions.Constructor id) = false
 
 -- the type of a function
-abbrev pub wit_function_tree : (TypeId → ℕ) → List TypeDef → Function → FunctionTree
+abbrev pub wit_function_tree : (TypeId → Resource) → List TypeDef → Function → FunctionTree
 wit_function_tree origin types f =
     record {
       is_async = is_async f.kind;

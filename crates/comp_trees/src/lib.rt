@@ -1,12 +1,13 @@
 //! Types as closed trees, by which types from different places are compared.
 //!
 //! A type of a [`Resolve`](wit_data::Resolve) and a type of a component name other types by their indices. Their trees
-//! name none: a tree holds all that the type is made of, and a resource is known by an address. So that two types are
+//! name none: a tree holds all that the type is made of, and a resource is known by what it is. So that two types are
 //! the same is an equation, and what follows from a type alone is plain recursion on its tree.
 //!
 //! This crate holds definitions and their laws alone. In reading order: `specs/Trees.antt` (the trees of types and of
 //! functions), `specs/WitTrees.antt` (those of WIT), `specs/DefinedTrees.antt` (those that a component defines),
-//! `specs/DefinedScopes.antt` (those of definitions one after the other), `specs/Flattening.antt` (core values of types and
+//! `specs/DefinedScopes.antt` (those of definitions one after the other), `specs/Members.antt` (those of instance types, and what
+//! an instance exports), `specs/Inventories.antt` (what the types, functions and instances of a component are), `specs/Flattening.antt` (core values of types and
 //! core signatures of functions, by their trees), `laws` (what holds of them).
 //!
 //! Upward this crate promises: the tree of a type of a resolve is made of the trees of the types that it names

@@ -1,6 +1,6 @@
 -- What a validated world contains, and what holds of it (component model: the imports and exports of a
 -- world; core standard, binary format: the preamble of a module).
-use Rattle.std.specs.Prelude.{◌≡◌, ◌<◌, ℕ, List, [], ◌∷◌, Option, Some, None, map, get_or, length, Contains, IsSome}
+use Rattle.std.specs.Prelude.{◌≡◌, ◌≢◌, ◌<◌, ℕ, List, [], ◌∷◌, Option, Some, None, map, get_or, length, Contains, IsSome}
 use Rattle.std.specs.List.{flat_map, IsDistinct, AllByRecursion}
 use Rattle.std.specs.Str.{bytes_eq}
 use Rattle.comp_lists.specs.Found.{found}
@@ -8,12 +8,18 @@ use Rattle.core_types.specs.Core.{IsCoreModule}
 use Rattle.wit_data.specs.declared.functions.Function.{Function}
 use Rattle.wit_data.specs.declared.functions.FunctionKind.TheVariants.{Freestanding}
 use Rattle.wit_data.specs.declared.functions.AbiVariant.TheVariants.{GuestImport, GuestExport}
+use Rattle.wit_data.specs.declared.ids.TypeId.{TypeId}
+use Rattle.wit_data.specs.declared.types.TypeDef.{TypeDef}
+use Rattle.wit_data.specs.declared.types.TypeDefKind.TheVariants as kinds
+use Rattle.wit_data.specs.declared.types.TypeOwner.{TypeOwner}
+use Rattle.wit_data.specs.declared.types.TypeOwner.TheVariants as owners
 use Rattle.wit_data.specs.declared.worlds.WorldKey.{WorldKey}
 use Rattle.wit_data.specs.declared.worlds.WorldKey.TheVariants as keys
 use Rattle.wit_data.specs.declared.worlds.WorldItem.{WorldItem}
 use Rattle.wit_data.specs.declared.worlds.WorldItem.TheVariants as items
 use Rattle.wit_data.specs.declared.worlds.World.{World}
 use Rattle.wit_data.specs.Sound.{IsSound}
+use Rattle.comp_options.specs.Options.{import_set, export_set}
 use Rattle.comp_roles.specs.declared.imports.Import.{Import}
 use Rattle.comp_roles.specs.declared.imports.Import.TheVariants as imports
 use Rattle.comp_roles.specs.declared.imports.ImportInstance.{ImportInstance}
@@ -36,6 +42,14 @@ items_of w = get_or w.resolve.worlds w.world.index no_items
 abbrev pub root_function : WorldKey × WorldItem → List (List ℕ)
 root_function (keys.Name text, items.Function f) = text ∷ []
 root_function entry = []
+
+-- the types that the world imports, each by its name, in order
+abbrev pub world_type : WorldKey × WorldItem → List (List ℕ × TypeId)
+world_type (keys.Name text, items.NamedType id) = (text, id) ∷ []
+world_type entry = []
+
+abbrev pub imported_types : ComponentWorld → List (List ℕ × TypeId)
+imported_types w = flat_map world_type (items_of w).imports
 
 -- the root functions that the world imports, and that it exports, in order
 abbrev pub imported_functions : ComponentWorld → List (List ℕ)
@@ -63,16 +77,31 @@ core_name_of w key = core_name_in w.main.exports.exports key
 
 -- ---- what holds of it
 
--- a synchronous function with no parameter and no result
-pub record IsPlain (f : Function) : Type 0 where
+-- a synchronous function whose calls, from a core module and into one, need no options (Canonical ABI: `canonopt`)
+pub record IsPlain (types : List TypeDef) (f : Function) : Type 0 where
   pub kind : f.kind ≡ Freestanding
-  pub params : f.params ≡ []
-  pub result : f.result ≡ None
+  pub imported : import_set GuestImport types f ≡ 0
+  pub exported : export_set GuestExport types f ≡ 0
 
--- what the world imports and exports are plain functions at its root, each under its name
-abbrev pub IsItem : WorldKey × WorldItem → Type 0
-IsItem (keys.Name text, items.Function f) = (text ≡ f.name) × IsPlain f
-IsItem entry = ⊥
+-- the world imports plain functions at its root, each under its name, and types
+abbrev pub IsImportItem : List TypeDef → WorldKey × WorldItem → Type 0
+IsImportItem types (keys.Name text, items.Function f) = (text ≡ f.name) × IsPlain types f
+IsImportItem types (keys.Name text, items.NamedType id) = Unit {0}
+IsImportItem types entry = ⊥
+
+-- it exports plain functions at its root, each under its name
+abbrev pub IsExportItem : List TypeDef → WorldKey × WorldItem → Type 0
+IsExportItem types (keys.Name text, items.Function f) = (text ≡ f.name) × IsPlain types f
+IsExportItem types entry = ⊥
+
+abbrev pub IsOwnerAtRoot : TypeOwner → Type 0
+IsOwnerAtRoot (owners.Interface id) = ⊥
+IsOwnerAtRoot owner = Unit {0}
+
+-- a type of values that belongs to no interface
+pub record IsRootType (t : TypeDef) : Type 0 where
+  pub owner : IsOwnerAtRoot t.owner
+  pub values : t.kind ≢ kinds.Resource
 
 -- the role of an import is a function that the world imports, called in the right form
 abbrev pub IsImportRole : ComponentWorld → Import → Type 0
@@ -109,8 +138,9 @@ pub record IsUserModule (w : ComponentWorld) (m : ValidatedModule) (keys : List 
 pub record IsWorld (w : ComponentWorld) : Type 0 where
   pub sound : IsSound w.resolve
   pub present : w.world.index < length w.resolve.worlds
-  pub imports : AllByRecursion IsItem (items_of w).imports
-  pub exports : AllByRecursion IsItem (items_of w).exports
+  pub types : AllByRecursion IsRootType w.resolve.types
+  pub imports : AllByRecursion (IsImportItem w.resolve.types) (items_of w).imports
+  pub exports : AllByRecursion (IsExportItem w.resolve.types) (items_of w).exports
   pub import_names_apart : IsDistinct bytes_eq (imported_functions w)
   pub export_names_apart : IsDistinct bytes_eq (exported_functions w)
   pub main : IsUserModule w w.main w.main_exports

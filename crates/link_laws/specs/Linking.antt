@@ -24,11 +24,13 @@ use Rattle.wit_data.specs.declared.worlds.WorldItem.TheVariants as world_items
 use Rattle.comp_roles.specs.Lookups.{first_export, is_initialize}
 use Rattle.comp_roles.specs.declared.offered.ImportType.{ImportType}
 use Rattle.world_values.specs.Items.{functions_of}
+use Rattle.comp_worlds.specs.Worlds.{imported_types}
 use Rattle.comp_worlds.specs.declared.world.ComponentWorld.{ComponentWorld}
+use Rattle.comp_trees.specs.Trees.{Resource}
 use Rattle.comp_trees.specs.WitTrees.{wit_function_tree}
 use Rattle.comp_links.specs.Targets.{Main, ExportRef, Target, Lifted}
 use Rattle.comp_links.specs.Modules.{WorldModule, user_modules}
-use Rattle.comp_links.specs.Lists.{RequiredFunction, required_functions, exported_item}
+use Rattle.comp_links.specs.Lists.{RequiredFunction, required_functions, exported_item, resource_of}
 use Rattle.comp_links.specs.Links.{link_at, lift_of}
 use Rattle.comp_runs.specs.Store.{Thing, Export, CoreItem, ModuleInstance}
 use Rattle.comp_runs.specs.Machine.{Machine, Outcome, Done, Trapped, Open, Stuck, export_of}
@@ -89,17 +91,18 @@ LetsRun (types ∷ rest) (Gives results cell ∷ answers) = IsTrue (fit types re
 -- ---- imports
 
 -- what an import was given is what the link table says of it
-pub record IsServed (w : ComponentWorld) (m : Machine) (origins : TypeId → ℕ) (of : WorldModule) (thing : Thing) (i : ImportType) : Type 0 where
+pub record IsServed (w : ComponentWorld) (m : Machine) (origins : TypeId → Resource) (of : WorldModule) (thing : Thing) (i : ImportType) : Type 0 where
   pub target : Target
   pub said : link_at w of i.module_name i.field ≡ Some target
   pub meets : Meets w m origins thing target
 
 -- an instance of a module: each import is served
-abbrev pub AreServed : ComponentWorld → Machine → (TypeId → ℕ) → WorldModule → ModuleInstance → Type 0
+abbrev pub AreServed : ComponentWorld → Machine → (TypeId → Resource) → WorldModule → ModuleInstance → Type 0
 AreServed w m origins of i = AllZip (IsServed w m origins of) i.given of.found.imported
 
--- each instance of a user module
-pub record UsersServed (w : ComponentWorld) (m : Machine) (origins : TypeId → ℕ) : Type 0 where
+-- each instance of a user module, where the types that the world imports are the resources that are imported for them
+pub record UsersServed (w : ComponentWorld) (m : Machine) (origins : TypeId → Resource) : Type 0 where
+  pub resources : AllByRecursion (λ t. origins t.1 ≡ resource_of w t.1) (imported_types w)
   pub each : (instance : ℕ) (i : ModuleInstance) (of : WorldModule) → slice_get m.store.module_instances instance ≡ Some i → slice_get (user_modules w) i.module_number ≡ Some of → AreServed w m origins of i
 
 -- ---- exports
@@ -116,12 +119,12 @@ function_in w name (Some (world_items.Interface id)) = found name (functions_of 
 function_in w name item = None
 
 -- the function at this address is a lift of this function of the world as the target says
-abbrev pub LiftMeets : ComponentWorld → Machine → (TypeId → ℕ) → ℕ → WitFunction → Target → Type 0
+abbrev pub LiftMeets : ComponentWorld → Machine → (TypeId → Resource) → ℕ → WitFunction → Target → Type 0
 LiftMeets w m origins address wit (Lifted entry options) = IsLift w m address (wit_function_tree origins w.resolve.types wit) entry options
 LiftMeets w m origins address wit target = ⊥
 
 -- a required function is found by its sort and name, and is what the link table says, with its type
-pub record IsProvided (w : ComponentWorld) (m : Machine) (origins : TypeId → ℕ) (r : RequiredFunction) : Type 0 where
+pub record IsProvided (w : ComponentWorld) (m : Machine) (origins : TypeId → Resource) (r : RequiredFunction) : Type 0 where
   pub address : ℕ
   pub target : Target
   pub wit : WitFunction
@@ -142,7 +145,7 @@ MakesCall w m event call = ⊥
 -- At the end: each module has one instance, in order; each import is served, and each required function is provided;
 -- and what was seen from outside is the instantiation of each user module, and then the start calls.
 pub record IsLinked (w : ComponentWorld) (g : GeneratedModules) (m : Machine) : Type 0 where
-  pub origins : TypeId → ℕ
+  pub origins : TypeId → Resource
   pub start_events : List Event
   pub instances : map (λ (i : ModuleInstance). i.module_number) m.store.module_instances ≡ instance_order (length (user_modules w)) g
   pub imports : UsersServed w m origins
@@ -187,7 +190,7 @@ events_before_start w g = length (user_modules w) + elim g.fixup [ None ↦ 0 | 
 -- From the first event of the fixup's start function on, each import is served, also in a run that ends early.
 pub record ServedThroughout (w : ComponentWorld) (g : GeneratedModules) (ds : List Def) : Type 0 where
   pub each : (answers : List Answer) (m : Machine) → EndsAt m (outcome w g ds answers) → (event : ℕ) (globals : List Cell) → events_before_start w g ≤ event → slice_get m.now.moments event ≡ Some globals →
-      (origins : TypeId → ℕ) × UsersServed w (record m { now = record m.now { globals = globals } }) origins
+      (origins : TypeId → Resource) × UsersServed w (record m { now = record m.now { globals = globals } }) origins
 
 -- When it is run, whatever the outside returns: it is never stuck; it is done where the answers let it; where it is done
 -- it is linked; shims trap before they are filled, and are filled before anything is called.

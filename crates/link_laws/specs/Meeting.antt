@@ -19,12 +19,12 @@ use Rattle.wit_data.specs.declared.ids.TypeId.{TypeId}
 use Rattle.wit_data.specs.declared.functions.Function.{Function as WitFunction}
 use Rattle.comp_roles.specs.Lookups.{first_export, is_task_hook, imported_memory, first_memory}
 use Rattle.comp_worlds.specs.declared.world.ComponentWorld.{ComponentWorld}
-use Rattle.comp_trees.specs.Trees.{FunctionTree}
+use Rattle.comp_trees.specs.Trees.{Origin, Resource, FunctionTree}
 use Rattle.comp_trees.specs.WitTrees.{wit_function_tree}
 use Rattle.comp_links.specs.Targets.{Main, WorldFunction, ExportRef, TargetOption, Memory, Realloc, Encoding, Async, PostReturn, Callback, Target, Lowered, ExportOf, MainMemory}
 use Rattle.comp_links.specs.Modules.{user_modules, IsModule, function_imported}
 use Rattle.comp_links.specs.Lists.{IsOriginOf}
-use Rattle.comp_runs.specs.Store.{Thing, Origin, HeldOption, HeldEncoding, HeldMemory, HeldRealloc, HeldPostReturn, HeldAsync, HeldCallback, CoreItem, Lowering, ExportedBy, Imported, Lifting, ModuleInstance}
+use Rattle.comp_runs.specs.Store.{Thing, HeldOption, HeldEncoding, HeldMemory, HeldRealloc, HeldPostReturn, HeldAsync, HeldCallback, CoreItem, Lowering, ExportedBy, Imported, Lifting, ModuleInstance}
 use Rattle.comp_runs.specs.Machine.{Machine, export_of}
 
 -- ---- core functions
@@ -153,17 +153,17 @@ entry_kind options =
     else (if list_any is_async options then brackets.StackfulEntry
     else (if list_any is_post_return options then brackets.SyncEntryWithPostReturn else brackets.SyncEntry))
 
--- ---- targets; `origins` is the address of each resource of the world
+-- ---- targets; `origins` says what each resource of the world is
 
 -- the function at this address is imported as this function of the world, with its type
-pub record IsImport (w : ComponentWorld) (m : Machine) (origins : TypeId → ℕ) (function : ℕ) (of : WorldFunction) : Type 0 where
+pub record IsImport (w : ComponentWorld) (m : Machine) (origins : TypeId → Resource) (function : ℕ) (of : WorldFunction) : Type 0 where
   pub origin : Origin
   pub wit : WitFunction
   pub is : slice_get m.store.functions function ≡ Some (Imported origin (wit_function_tree origins w.resolve.types wit))
   pub from : IsOriginOf w of origin
   pub type_of : function_imported w of ≡ Some wit
 
-abbrev pub ItemIsLowering : ComponentWorld → Machine → (TypeId → ℕ) → WorldFunction → List TargetOption → CoreItem → Type 0
+abbrev pub ItemIsLowering : ComponentWorld → Machine → (TypeId → Resource) → WorldFunction → List TargetOption → CoreItem → Type 0
 ItemIsLowering w m origins of options (Lowering function held) = IsImport w m origins function of × MeetOptions w m held options
 ItemIsLowering w m origins of options item = ⊥
 
@@ -176,7 +176,7 @@ pub record IsLift (w : ComponentWorld) (m : Machine) (address : ℕ) (type : Fun
   pub same : MeetOptions w m held options
 
 -- an item of a core module meets a target
-abbrev pub MeetsIn : ComponentWorld → Machine → (TypeId → ℕ) → Space → ℕ → Target → Type 0
+abbrev pub MeetsIn : ComponentWorld → Machine → (TypeId → Resource) → Space → ℕ → Target → Type 0
 MeetsIn w m origins spaces.CoreFunc address (Lowered of options) = CoreMeets w m None address (ItemIsLowering w m origins of options)
 MeetsIn w m origins spaces.CoreFunc address (ExportOf export_ref) = CoreExportMeets w m None address export_ref
 MeetsIn w m origins spaces.CoreTable address (ExportOf export_ref) = ItemMeets w m spaces.CoreTable address export_ref
@@ -185,5 +185,5 @@ MeetsIn w m origins spaces.CoreGlobal address (ExportOf export_ref) = ItemMeets 
 MeetsIn w m origins spaces.CoreMemory address MainMemory = IsMainMemory w m address
 MeetsIn w m origins space address target = ⊥
 
-abbrev pub Meets : ComponentWorld → Machine → (TypeId → ℕ) → Thing → Target → Type 0
+abbrev pub Meets : ComponentWorld → Machine → (TypeId → Resource) → Thing → Target → Type 0
 Meets w m origins thing target = MeetsIn w m origins thing.space thing.address target
