@@ -12,26 +12,22 @@ use Rattle.comp_bytes.specs.ItemIndices.{IsAt}
 use Rattle.comp_bytes.specs.Spaces.{kind_space}
 use Rattle.comp_bytes.specs.declared.def.Def.{Def}
 use Rattle.comp_builder.specs.Built.{Built}
-use Rattle.comp_terms.specs.Terms.{IsFunctionType, IsInstanceOf, IsExported}
-use Rattle.comp_terms.specs.Rules.{plain_function}
+use Rattle.comp_terms.specs.Terms.{IsInstanceOf, IsExported}
 use Rattle.comp_items.specs.AliasKeys.{kind_number, is_same_alias}
 use Rattle.comp_items.specs.Items.{Extends, alias_of, IsItems}
 use Rattle.comp_items.specs.declared.alias_key.AliasKey.{AliasKey}
-use Rattle.comp_items.proofs.Kept.{Longer, at-kept, function_type-kept, instance-kept}
+use Rattle.comp_items.proofs.Kept.{Longer, at-kept, instance-kept}
 
 pub longer : {old new : Built} → Extends old new → Longer old.defs new.defs
 longer g = record { more = g.more_defs; grown = g.defs }
 
-pub items-kept : {old new : Built} {plain_type : Option ℕ} {aliased : List (AliasKey × ℕ)} → Extends old new → IsItems old.defs plain_type aliased → IsItems new.defs plain_type aliased
-items-kept g h = record { typed = λ i e. function_type-kept (longer g) (h.typed i e); aliases = λ k i e. at-kept (longer g) (h.aliases k i e) }
+pub items-kept : {old new : Built} {aliased : List (AliasKey × ℕ)} → Extends old new → IsItems old.defs aliased → IsItems new.defs aliased
+items-kept g h = record { aliases = λ k i e. at-kept (longer g) (h.aliases k i e) }
 
 -- one definition more
-pub items-by : {old new : List Def} {plain_type : Option ℕ} {aliased : List (AliasKey × ℕ)} (d : Def) → new ≡ old ++ d ∷ [] → IsItems old plain_type aliased → IsItems new plain_type aliased
+pub items-by : {old new : List Def} {aliased : List (AliasKey × ℕ)} (d : Def) → new ≡ old ++ d ∷ [] → IsItems old aliased → IsItems new aliased
 items-by {old} {new} d grown h =
-    let g : Longer old new = record { more = d ∷ []; grown = grown } in record { typed = λ i e. function_type-kept g (h.typed i e); aliases = λ k i e. at-kept g (h.aliases k i e) }
-
-pub items-typed : {ds : List Def} {plain_type : Option ℕ} {aliased : List (AliasKey × ℕ)} (index : ℕ) → IsFunctionType ds index plain_function → IsItems ds plain_type aliased → IsItems ds (Some index) aliased
-items-typed {ds} index t h = record { typed = λ i e. subst (λ n. IsFunctionType ds n plain_function) (same_Some index i e) t; aliases = h.aliases }
+    let g : Longer old new = record { more = d ∷ []; grown = grown } in record { aliases = λ k i e. at-kept g (h.aliases k i e) }
 
 -- ---- aliases
 
@@ -94,10 +90,9 @@ found_cases q k v i es h = by (is_some (lookup (is_same_alias k) es)) h
     by true e = inl e
     by false e = found_last q k v i es e
 
-pub items-aliased : {ds : List Def} {plain_type : Option ℕ} {aliased : List (AliasKey × ℕ)} (new : List (AliasKey × ℕ)) (key : AliasKey) (index : ℕ) → new ≡ with_first is_same_alias aliased key index →
-    IsAt ds (kind_space key.kind) index (alias_of key) → IsItems ds plain_type aliased → IsItems ds plain_type new
-items-aliased {ds} {plain_type} {aliased} new key index pushed at h = record {
-  typed = h.typed;
+pub items-aliased : {ds : List Def} {aliased : List (AliasKey × ℕ)} (new : List (AliasKey × ℕ)) (key : AliasKey) (index : ℕ) → new ≡ with_first is_same_alias aliased key index →
+    IsAt ds (kind_space key.kind) index (alias_of key) → IsItems ds aliased → IsItems ds new
+items-aliased {ds} {aliased} new key index pushed at h = record {
   aliases = λ q i e. elim (found_cases q key index i aliased (subst (λ l. lookup (is_same_alias q) l ≡ Some i) pushed e)) [
     | inl before ↦ h.aliases q i before
     | inr p ↦ subst (λ (k : AliasKey). IsAt ds (kind_space k.kind) i (alias_of k)) (sym (same_key q key p.0)) (subst (λ n. IsAt ds (kind_space key.kind) n (alias_of key)) p.1 at)

@@ -1,6 +1,6 @@
 -- How a component under construction changes, and what it remembers of its items. (The rules are this project's own: the
 -- standard defines components, and not how they are made.)
-use Rattle.std.specs.Prelude.{◌≡◌, ◌++◌, [], ◌∷◌, ◌⊎◌, ℕ, List, Option, Some}
+use Rattle.std.specs.Prelude.{◌≡◌, ◌++◌, [], ◌∷◌, ◌⊎◌, ℕ, List, Some}
 use Rattle.std.specs.Map.{lookup}
 use Rattle.comp_bytes.specs.ItemIndices.{IsAt}
 use Rattle.comp_bytes.specs.Spaces.{kind_space}
@@ -10,8 +10,6 @@ use Rattle.comp_bytes.specs.declared.def.Item.TheVariants as items
 use Rattle.comp_bytes.specs.declared.def.Def.{Def}
 use Rattle.comp_bytes.specs.declared.def.Def.TheVariants as defs
 use Rattle.comp_builder.specs.Built.{Built}
-use Rattle.comp_terms.specs.Terms.{IsFunctionType}
-use Rattle.comp_terms.specs.Rules.{plain_function}
 use Rattle.comp_items.specs.AliasKeys.{is_same_alias}
 use Rattle.comp_items.specs.declared.alias_key.AliasKey.{AliasKey}
 
@@ -31,7 +29,6 @@ MayAdd old new d = (new ≡ old) ⊎ (new ≡ old ++ d ∷ [])
 abbrev pub alias_of : AliasKey → Def
 alias_of key = defs.Item (items.Alias (aliases.CoreExport key.kind key.instance key.name))
 
--- the type of functions with no parameter and no result, and each alias by what it names
-pub record IsItems (ds : List Def) (plain_type : Option ℕ) (aliased : List (AliasKey × ℕ)) : Type 0 where
-  pub typed : (index : ℕ) → plain_type ≡ Some index → IsFunctionType ds index plain_function
+-- each alias by what it names
+pub record IsItems (ds : List Def) (aliased : List (AliasKey × ℕ)) : Type 0 where
   pub aliases : (key : AliasKey) (index : ℕ) → lookup (is_same_alias key) aliased ≡ Some index → IsAt ds (kind_space key.kind) index (alias_of key)

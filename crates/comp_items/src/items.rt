@@ -13,8 +13,6 @@ use std::marker::Model;
 pub struct ComponentItems {
     pub(crate) alloc: Global,
     pub(crate) component: ComponentBuilder,
-    /// The type of functions with no parameter and no result.
-    pub(crate) plain_type: Option<u32>,
     /// The aliases of what core instances export.
     pub(crate) aliases: Keyed<AliasKey, u32>,
 }
@@ -24,7 +22,6 @@ impl Drop for ComponentItems {
         let ComponentItems {
             alloc: _,
             component: _,
-            plain_type: _,
             aliases: _,
         } = self;
     }
@@ -38,7 +35,7 @@ impl Model for ComponentItems {
 
     ghost view = { λ s. s.component };
 
-    ghost invariant = { λ s. IsItems s.component.defs s.plain_type s.aliases };
+    ghost invariant = { λ s. IsItems s.component.defs s.aliases };
 }
 
 impl ComponentItems {
@@ -49,7 +46,6 @@ impl ComponentItems {
         ComponentItems {
             alloc,
             component: ComponentBuilder::new(alloc),
-            plain_type: None,
             aliases: Keyed::new(alloc),
         }
     }
@@ -66,7 +62,6 @@ impl ComponentItems {
         let ComponentItems {
             alloc: _,
             component,
-            plain_type: _,
             aliases: _,
         } = self;
         component

@@ -2,20 +2,21 @@
 //!
 //! [`ComponentItems`] wraps the builder of `comp_builder`. Each call adds one definition, or finds the one that an
 //! earlier call added, and returns the index of its item; the contract says which term the index has (`specs/Terms.antt`
-//! of `comp_terms`). Nothing here knows a world. Two look-ups are private to it: the type of functions with no
-//! parameter and no result, and the aliases of what core instances export, by instance, kind and name.
+//! of `comp_terms`), and of a type, what it denotes (`specs/Inventories.antt` of `comp_trees`). Nothing here knows a world, and no type is found again: a scope of types does that
+//! (`comp_imports`). One look-up is private to it: the aliases of what core instances export, by instance, kind and name.
 //!
 //! The guarantees: definitions only grow at their end (`Extends`); an error other than out of memory comes
 //! only where a space is full (`Full` of `comp_builder`); a call that adds one definition leaves everything
 //! as it was where it is refused (`Adds` of `comp_builder`).
 //!
 //! In reading order: `alias_key` (by what aliases are found), `items` (the fields), `core_items` (core modules, core
-//! instances, and what these export), `functions` (types of functions, imports, lowerings, lifts and exports).
+//! instances, and what these export), `types` (types), `functions` (imports, lowerings, lifts and exports).
 #![tactic(auto)]
 
 mod alias_key;
 mod core_items;
 mod functions;
 mod items;
+mod types;
 
 pub use items::ComponentItems;

@@ -1,0 +1,49 @@
+//! Types: definitions, and imports.
+
+ghost use Rattle.std.specs.Prelude.{IfOk, None, get_or};
+ghost use Rattle.comp_builder.specs.Built.{Adds};
+ghost use Rattle.comp_trees.specs.Trees.{ResourceAt, ImportedAt};
+ghost use Rattle.comp_trees.specs.DefinedTrees.{OfValues, OfFunctions, OfOthers, defined_tree, function_tree};
+ghost use Rattle.comp_trees.specs.DefinedScopes.{Denotes};
+ghost use Rattle.comp_trees.specs.Inventories.{scope_of};
+ghost use Rattle.comp_terms.specs.Terms.{imports_in};
+
+use crate::items::ComponentItems;
+use byte_encoding::BuildFault;
+use comp_bytes::{Def, DefinedType, Description, ExternName, FuncTypeDef, Item, Space, TypeDef};
+
+impl ComponentItems {
+    /// Adds a type of values.
+    pub fn defined_type(&mut self, ty: DefinedType) -> Result<u32, BuildFault>
+        ensures adds { Adds self.old self.new result Space.Type (Def.Item (Item.Type (TypeDef.Defined ty))) None }
+        ensures denotes { IfOk result (λ index. Denotes (scope_of self.new.defs) index (OfValues (defined_tree (scope_of self.old.defs) ty))) }
+    {
+        let index = self.component.type_defined(None, ty)?;
+        Ok(index)
+    }
+
+    /// Adds a type of functions.
+    pub fn function_type(&mut self, ty: FuncTypeDef) -> Result<u32, BuildFault>
+        ensures adds { Adds self.old self.new result Space.Type (Def.Item (Item.Type (TypeDef.Func ty))) None }
+        ensures denotes { IfOk result (λ index. Denotes (scope_of self.new.defs) index (OfFunctions (function_tree (scope_of self.old.defs) ty))) }
+    {
+        let index = self.component.type_function(None, ty)?;
+        Ok(index)
+    }
+
+    /// Adds an import of the type with this index, under a name of its own.
+    pub fn import_type(&mut self, name: ExternName, ty: u32) -> Result<u32, BuildFault>
+        ensures adds { Adds self.old self.new result Space.Type (Def.Item (Item.Import name (Description.TypeEqual ty))) None }
+        ensures denotes { IfOk result (λ index. Denotes (scope_of self.new.defs) index (get_or (scope_of self.old.defs) ty OfOthers)) }
+    {
+        self.component.import(name, Description::TypeEqual(ty))
+    }
+
+    /// Adds an import of a resource. It is known by how many imports are before it.
+    pub fn import_resource(&mut self, name: ExternName) -> Result<u32, BuildFault>
+        ensures adds { Adds self.old self.new result Space.Type (Def.Item (Item.Import name Description.SubResource)) None }
+        ensures denotes { IfOk result (λ index. Denotes (scope_of self.new.defs) index (OfValues (ResourceAt (ImportedAt (record { number = imports_in self.old.defs; inner = None }))))) }
+    {
+        self.component.import(name, Description::SubResource)
+    }
+}
