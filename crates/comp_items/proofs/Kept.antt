@@ -1,5 +1,5 @@
 -- What an item is, it stays while definitions are added.
-use Rattle.std.proofs.Common.{◌≡◌, ◌∙◌, ℕ, ◌<◌, List, [], ◌∷◌, ◌++◌, refl, sym, ap, subst, append_assoc, Some, None}
+use Rattle.std.proofs.Common.{◌≡◌, ◌∙◌, ℕ, ◌<◌, List, [], ◌∷◌, ◌++◌, refl, sym, ap, subst, Option, Some, None}
 use Rattle.std.specs.Prelude.{get_or}
 use Rattle.std.specs.List.{AllZip, slice_get}
 use Rattle.std.proofs.lemmas.Option.{slice_get_within}
@@ -22,6 +22,7 @@ use Rattle.comp_trees.specs.DefinedTrees.{TypeTree, OfFunctions, OfOthers}
 use Rattle.comp_trees.specs.DefinedScopes.{Denotes}
 use Rattle.comp_trees.specs.Inventories.{TypeEntry, entry_tree, types_made, inventory, scope_of}
 use Rattle.comp_trees.proofs.InventoryGrowth.{denotes_kept, function_kept, scope_counted, functions_counted, denotes_made, function_made}
+use Rattle.comp_builder.specs.Built.{Built, and_then}
 use Rattle.comp_terms.specs.Terms.{CoreExport, TermOption, Term, IsFunctionType, IsImportedFunction, IsInstanceOf, IsExported, IsOption, IsLowering, IsLifting, Is, imports_in}
 use Rattle.comp_terms.specs.Terms as terms
 
@@ -87,14 +88,14 @@ module _ (old new : List Def) (g : Longer old new) where
 
 -- ---- the index of a term is in range
 
-type_in_range : {ds : List Def} {index : ℕ} {t : TypeTree} → Denotes (scope_of ds) index t → index < items_in spaces.Type ds
-type_in_range {ds} {index} h = subst (λ n. index < n) (scope_counted ds) h.within
+type_in_range : (ds : List Def) (index : ℕ) (t : TypeTree) → Denotes (scope_of ds) index t → index < items_in spaces.Type ds
+type_in_range ds index t h = subst (λ n. index < n) (scope_counted ds) h.within
 
 pub function_in_range : {ds : List Def} {index : ℕ} {origin : Origin} {type : FunctionTree} → IsImportedFunction ds index origin type → index < items_in spaces.Func ds
 function_in_range {ds} {index} {origin} {type} h = subst (λ n. index < n) (functions_counted ds) (slice_get_within (inventory ds).functions index (record { origin = Some origin; type = OfFunctions type }) h.is)
 
 pub term_in_range : (ds : List Def) (space : Space) (index : ℕ) (t : Term) → Is ds space index t → index < items_in space ds
-term_in_range ds spaces.Type index (terms.FunctionType type) h = type_in_range h.denotes
+term_in_range ds spaces.Type index (terms.FunctionType type) h = type_in_range ds index (OfFunctions type) h.denotes
 term_in_range ds spaces.Func index (terms.ImportedFunction origin type) h = function_in_range h
 term_in_range ds spaces.CoreInstance index (terms.InstanceOf number) h = in_range h.made
 term_in_range ds spaces.CoreFunc index (terms.Lowering origin type os) h = in_range h.made
@@ -143,3 +144,12 @@ imports_function old new index kind name at grown type typed =
           ∙ (function_made old d (record { origin = Some origin; type = get_or (scope_of old) kind OfOthers }) refl
           ∙ ap (λ t. Some (record { origin = Some origin; type = t })) typed.denotes.tree));
     }
+
+-- the same of what a builder's call added
+pub added_type : (old new : Built) (index : ℕ) (d : Def) (debug : Option (List ℕ)) (e : TypeEntry) → types_made (inventory old.defs) d ≡ e ∷ [] → (index ≡ items_in spaces.Type old.defs) × (new ≡ and_then old spaces.Type d debug) →
+    Denotes (scope_of new.defs) index (entry_tree e)
+added_type old new index d debug e made h = makes_type old.defs new.defs index d e made h.0 (ap (λ (b : Built). b.defs) h.1)
+
+pub added_function : (old new : Built) (index kind : ℕ) (name : ExternName) → (index ≡ items_in spaces.Func old.defs) × (new ≡ and_then old spaces.Func (defs.Item (items.Import name (descriptions.Func kind))) None) → (type : FunctionTree) →
+    IsFunctionType old.defs kind type → IsImportedFunction new.defs index (record { number = imports_in old.defs; inner = None }) type
+added_function old new index kind name h = imports_function old.defs new.defs index kind name h.0 (ap (λ (b : Built). b.defs) h.1)

@@ -21,7 +21,8 @@ impl ComponentItems {
         ensures adds { Adds self.old self.new result Space.Func (Def.Item (Item.Import name (Description.Func ty))) None }
         ensures imported { IfOk result (λ index. (type : FunctionTree) → IsFunctionType self.old.defs ty type → IsImportedFunction self.new.defs index (record { number = imports_in self.old.defs; inner = None }) type) }
     {
-        self.component.import(name, Description::Func(ty))
+        let index = self.component.import(name, Description::Func(ty))?;
+        Ok(index)
     }
 
     /// Adds a lowering of a function, with options.

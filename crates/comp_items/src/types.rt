@@ -36,7 +36,8 @@ impl ComponentItems {
         ensures adds { Adds self.old self.new result Space.Type (Def.Item (Item.Import name (Description.TypeEqual ty))) None }
         ensures denotes { IfOk result (λ index. Denotes (scope_of self.new.defs) index (get_or (scope_of self.old.defs) ty OfOthers)) }
     {
-        self.component.import(name, Description::TypeEqual(ty))
+        let index = self.component.import(name, Description::TypeEqual(ty))?;
+        Ok(index)
     }
 
     /// Adds an import of a resource. It is known by how many imports are before it.
@@ -44,6 +45,7 @@ impl ComponentItems {
         ensures adds { Adds self.old self.new result Space.Type (Def.Item (Item.Import name Description.SubResource)) None }
         ensures denotes { IfOk result (λ index. Denotes (scope_of self.new.defs) index (OfValues (ResourceAt (ImportedAt (record { number = imports_in self.old.defs; inner = None }))))) }
     {
-        self.component.import(name, Description::SubResource)
+        let index = self.component.import(name, Description::SubResource)?;
+        Ok(index)
     }
 }

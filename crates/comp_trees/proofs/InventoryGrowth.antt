@@ -1,5 +1,5 @@
 -- The inventory of a list has one entry for each item of its spaces, and a longer list keeps the entries.
-use Rattle.std.proofs.Common.{◌≡◌, ◌∙◌, ◌+◌, ◌<◌, ℕ, suc, true, false, Bool, List, [], ◌∷◌, ◌++◌, length, map, filter, refl, sym, ap, ap₂, subst, append-nil, append_assoc, length-append, arith, Option, Some, add-zero}
+use Rattle.std.proofs.Common.{◌≡◌, ◌∙◌, ◌+◌, ◌<◌, ℕ, zero, suc, true, false, Bool, List, [], ◌∷◌, ◌++◌, length, map, filter, refl, sym, ap, ap₂, subst, append-nil, append_assoc, length-append, arith, Option, Some, add-zero}
 use Rattle.std.specs.Prelude.{get_or, slice_get, if◌then◌else◌}
 use Rattle.std.proofs.lemmas.List.{map-append}
 use Rattle.std.proofs.lemmas.List.Sums.{length-filter}
@@ -19,7 +19,7 @@ use Rattle.comp_bytes.specs.declared.def.Def.{Def}
 use Rattle.comp_bytes.specs.declared.def.Def.TheVariants as defs
 use Rattle.comp_trees.specs.DefinedTrees.{TypeTree, OfOthers}
 use Rattle.comp_trees.specs.DefinedScopes.{Denotes}
-use Rattle.comp_trees.specs.Inventories.{Inventory, TypeEntry, FunctionEntry, entry_tree, trees_in, types_made, functions_made, with_def, inventory_after, inventory, scope_of, empty_inventory}
+use Rattle.comp_trees.specs.Inventories.{Inventory, TypeEntry, FunctionEntry, entry_tree, trees_in, types_made, functions_made, with_def, inventory_after, inventory, scope_of, empty_inventory, no_type}
 use Rattle.comp_trees.proofs.Inventories.{inventory-append, inventory-push}
 
 -- ---- one entry for each item
@@ -188,6 +188,12 @@ denotes_kept ds es index t h =
       within = omega (arith, longer, within);
       tree = ap (λ l. get_or l index OfOthers) g.grown ∙ (get_or-append (scope_of ds) g.more OfOthers index h.within ∙ h.tree);
     }
+
+-- what the entry of an index denotes
+pub entry_at : (es : List TypeEntry) (index : ℕ) → entry_tree (get_or es index no_type) ≡ get_or (map entry_tree es) index OfOthers
+entry_at [] index = refl
+entry_at (e ∷ es) zero = refl
+entry_at (e ∷ es) (suc n) = entry_at es n
 
 -- ---- what one more definition makes
 

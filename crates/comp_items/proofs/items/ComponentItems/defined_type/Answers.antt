@@ -1,0 +1,13 @@
+use Rattle.std.proofs.Common.{refl}
+use Rattle.std.specs.Prelude.{None}
+use Rattle.comp_bytes.specs.declared.types.TypeDef.TheVariants as types
+use Rattle.comp_bytes.specs.declared.def.Item.TheVariants as items
+use Rattle.comp_bytes.specs.declared.def.Def.TheVariants as defs
+use Rattle.comp_trees.specs.DefinedTrees.{OfValues, defined_tree}
+use Rattle.comp_trees.specs.Inventories.{Denoting, scope_of}
+use Rattle.comp_items.proofs.Kept.{added_type}
+use Rattle.comp_items.proofs.items.ComponentItems.defined_type.Goals as goal
+
+pub returns-clause-denotes : goal.returns-clause-denotes
+returns-clause-denotes c =
+    rw (← c.self.view_is) (added_type c.self.inside.component c.type_defined.new.self c.in_ok-index.index (defs.Item (items.Type (types.Defined c.args.ty))) None (Denoting (OfValues (defined_tree (scope_of c.self.inside.component.defs) c.args.ty))) refl c.in_ok-index.ensures.adds)
