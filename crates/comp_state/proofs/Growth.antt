@@ -41,39 +41,6 @@ use Rattle.comp_state.specs.Tables.{IsRootImport, FindsImports, FindsUsed, IsMai
 
 pub ruleset growing = (extends_none, extends_same, extends_then)
 
-RightAfter-append : (w : ComponentWorld) (old a b : List Def) → RightAfter w old a → RightAfter w (old ++ a) b → RightAfter w old (a ++ b)
-RightAfter-append w old [] b h k = rw append-nil at k
-RightAfter-append w old (d ∷ ds) b h k =
-    (h.0, RightAfter-append w (old ++ d ∷ []) ds b h.1 (let P : List Def → Type 0 = λ l. RightAfter w l b in subst P (sym (append_assoc old (d ∷ []) ds)) k))
-
-pub Grows-none : (w : ComponentWorld) (ds : List Def) → Grows w ds ds []
-Grows-none w ds = record { more = []; extended = sym (append-nil ds); right = tt; marked = refl }
-
--- one definition more
-pub Grows-by : {w : ComponentWorld} {old new : List Def} (d : Def) → new ≡ old ++ d ∷ [] → IsRight w old d → Grows w old new (landmarks (d ∷ []))
-Grows-by {w} {old} {new} d appended h = record { more = d ∷ []; extended = appended; right = (h, tt); marked = refl }
-
--- one definition more, or an earlier one that serves
-pub Grows-may : {w : ComponentWorld} {old new : List Def} (d : Def) → landmarks (d ∷ []) ≡ [] → MayAdd old new d → IsRight w old d → Grows w old new []
-Grows-may {w} {old} {new} d unmarked (inl same) h = subst (λ l. Grows w old l []) (sym same) (Grows-none w old)
-Grows-may {w} {old} {new} d unmarked (inr appended) h = subst (λ m. Grows w old new m) unmarked (Grows-by d appended h)
-
-pub Grows-then : {w : ComponentWorld} {a b c : List Def} {m n : List Landmark} → Grows w a b m → Grows w b c n → Grows w a c (m ++ n)
-Grows-then {w} {a} {b} {c} {m} {n} g h = record {
-  more = g.more ++ h.more;
-  extended = h.extended ∙ (ap (λ l. l ++ h.more) g.extended ∙ append_assoc a g.more h.more);
-  right = RightAfter-append w a g.more h.more g.right (let P : List Def → Type 0 = λ l. RightAfter w l h.more in subst P g.extended h.right);
-  marked = filter_map-append landmark g.more h.more ∙ (ap (λ l. l ++ landmarks h.more) g.marked ∙ ap (λ l. m ++ l) h.marked);
-}
-
-pub longer_by : {w : ComponentWorld} {old new : List Def} {m : List Landmark} → Grows w old new m → Longer old new
-longer_by g = record { more = g.more; grown = g.extended }
-
--- earlier definitions keep their indexes
-pub kept : {w : ComponentWorld} {old new : List Def} {m : List Landmark} → Grows w old new m →
-    {space : Space} {i : ℕ} {d : Def} → IsAt old space i d → IsAt new space i d
-kept g h = at-kept (longer_by g) h
-
 -- ---- what the link table names stays what it is, whatever is added
 
 module _ {w : ComponentWorld} {old new : List Def} (g : Longer old new) where

@@ -1,35 +1,44 @@
 -- The root functions that imports of main use: all of them are imported, in the order of the world.
-use Rattle.std.proofs.Common.{if◌then◌else◌, ◌≡◌, ◌∙◌, ◌+◌, ap₂, suc, length, length-append, add-zero, Some, ℕ, Bool, true, false, ◌||◌, List, [], ◌∷◌, ◌++◌, refl, sym, ap, subst, append_assoc, append-nil, map, filter, IsTrue, IsSome, Contains}
+use Rattle.std.proofs.Common.{if◌then◌else◌, ◌≡◌, ◌∙◌, ◌+◌, suc, length, length-append, add-zero, arith, Some, ℕ, Bool, true, false, ◌||◌, List, [], ◌∷◌, ◌++◌, refl, sym, ap, subst, append_assoc, append-nil, map, filter, IsTrue, IsSome, Contains}
 use Rattle.std.proofs.lemmas.Slice.Eq.{bytes_eq-Decides}
-use Rattle.std.specs.List.{AllByRecursion, flat_map, list_any}
+use Rattle.std.proofs.lemmas.Option.{slice_get-map}
+use Rattle.std.proofs.lemmas.List.{length-map}
+use Rattle.std.specs.List.{AllByRecursion, IsDistinct, flat_map, list_any, slice_get}
+use Rattle.std.specs.Map.{keys_of}
+use Rattle.std.specs.Option.{option_map}
 use Rattle.comp_lists.specs.Found.{found}
 use Rattle.std.proofs.lemmas.Grind.{flat_map-append}
-use Rattle.comp_lists.proofs.Lists.{AllByRecursion-contains, AllByRecursion-weaker}
-use Rattle.comp_worlds.specs.Worlds.{items_of, root_function, imported_functions, imported_name, IsImportRole, IsImportGroup, IsWorld}
-use Rattle.wit_data.specs.declared.worlds.WorldKey.{WorldKey}
-use Rattle.wit_data.specs.declared.worlds.WorldItem.{WorldItem}
-use Rattle.comp_roles.specs.declared.imports.Import.{Import}
-use Rattle.comp_roles.specs.declared.imports.Import.TheVariants as imports
-use Rattle.wit_data.specs.declared.worlds.WorldKey.TheVariants as keys
-use Rattle.comp_roles.specs.declared.imports.ImportInstance.{ImportInstance}
-use Rattle.comp_roles.specs.declared.imports.ImportInstance.TheVariants as instances
-use Rattle.comp_worlds.specs.declared.world.ComponentWorld.{ComponentWorld}
-use Rattle.comp_builder.specs.Built.{Built}
-use Rattle.comp_items.specs.Items.{Extends}
-use Rattle.comp_items.proofs.Extending.{extends_none, extends_then}
-use Rattle.comp_state.specs.Tables.{FindsImports, FindsMore, FindsUsed}
-use Rattle.comp_links.specs.Roles.{is_named, is_any_import, uses_from, is_used, used_functions}
-use Rattle.comp_terms.specs.Terms.{is_import, imports_in}
-use Rattle.comp_terms.specs.Rules.{Grows, Landmark, Imported, landmarks, named_import, names_marked, imports_marked}
-use Rattle.wit_data.specs.declared.worlds.WorldItem.TheVariants as world_items
+use Rattle.std.proofs.lemmas.List.Elements.{filter-append}
+use Rattle.comp_lists.proofs.Lists.{AllByRecursion-contains, AllByRecursion-weaker, slice_get-append, slice_get-end}
 use Rattle.comp_bytes.specs.declared.def.Item.TheVariants as items
 use Rattle.comp_bytes.specs.declared.def.Def.{Def}
 use Rattle.comp_bytes.specs.declared.def.Def.TheVariants as defs
-use Rattle.std.specs.List.{slice_get}
-use Rattle.comp_lists.proofs.Lists.{slice_get-append, slice_get-end}
-use Rattle.std.proofs.lemmas.List.Elements.{filter-append}
-use Rattle.comp_state.proofs.Elements.{AllByRecursion-join}
-use Rattle.comp_state.proofs.Growth.{Grows-none, Grows-then}
+use Rattle.comp_builder.specs.Built.{Built}
+use Rattle.comp_trees.specs.Inventories.{Inventory, with_def, inventory_after, inventory}
+use Rattle.comp_trees.proofs.Inventories.{inventory-append}
+use Rattle.wit_data.specs.Keys.{is_same_key}
+use Rattle.wit_data.specs.declared.ids.TypeId.{TypeId}
+use Rattle.wit_data.specs.declared.worlds.WorldKey.{WorldKey}
+use Rattle.wit_data.specs.declared.worlds.WorldKey.TheVariants as keys
+use Rattle.wit_data.specs.declared.worlds.WorldItem.{WorldItem}
+use Rattle.wit_data.specs.declared.worlds.WorldItem.TheVariants as world_items
+use Rattle.world_values.specs.Items.{root_function_at}
+use Rattle.comp_roles.specs.declared.imports.Import.{Import}
+use Rattle.comp_roles.specs.declared.imports.Import.TheVariants as imports
+use Rattle.comp_roles.specs.declared.imports.ImportInstance.{ImportInstance}
+use Rattle.comp_roles.specs.declared.imports.ImportInstance.TheVariants as instances
+use Rattle.comp_worlds.specs.Worlds.{items_of, root_function, imported_functions, imported_types, imported_name, IsImportRole, IsImportGroup, IsWorld}
+use Rattle.comp_worlds.specs.declared.world.ComponentWorld.{ComponentWorld}
+use Rattle.comp_links.specs.Lists.{ImportEntry, WorldType, RootFunction, import_entries, root_type}
+use Rattle.comp_links.specs.Roles.{is_named, is_any_import, uses_from, is_used, used_functions}
+use Rattle.comp_terms.specs.Terms.{imports_in}
+use Rattle.comp_terms.specs.Rules.{Grows, Landmark, Imported, landmarks, named_import, names_marked}
+use Rattle.comp_items.specs.Items.{Extends}
+use Rattle.comp_items.proofs.Extending.{extends_none, extends_then}
+use Rattle.comp_imports.specs.Imports.{FindsImports, FindsMore, FindsUsed, IsNextItem}
+use Rattle.comp_imports.proofs.Elements.{AllByRecursion-join}
+use Rattle.comp_imports.proofs.Growth.{Grows-none, Grows-then}
+use Rattle.comp_imports.proofs.Looking.{function_found, entry_sound}
 
 abbrev IsWorldImport : ComponentWorld → List ℕ → Type 0
 IsWorldImport w text = Contains (imported_functions w) text
@@ -69,34 +78,44 @@ is_imported (Imported stated) = true
 is_imported mark = false
 
 -- each import is a landmark
-counted : (ds : List Def) → imports_in ds ≡ length (filter is_imported (landmarks ds))
-counted [] = refl
-counted (defs.Component inner ∷ ds) = counted ds
-counted (defs.Item (items.CoreModule bytes) ∷ ds) = counted ds
-counted (defs.Item (items.CoreInstantiate number arguments) ∷ ds) = counted ds
-counted (defs.Item (items.CoreExports entries) ∷ ds) = counted ds
-counted (defs.Item (items.Instantiate component arguments) ∷ ds) = counted ds
-counted (defs.Item (items.Alias a) ∷ ds) = counted ds
-counted (defs.Item (items.Type t) ∷ ds) = counted ds
-counted (defs.Item (items.InstanceType t) ∷ ds) = counted ds
-counted (defs.Item (items.Lift core options kind) ∷ ds) = counted ds
-counted (defs.Item (items.Lower function options) ∷ ds) = counted ds
-counted (defs.Item (items.Intrinsic i) ∷ ds) = counted ds
-counted (defs.Item (items.Import name description) ∷ ds) = ap suc (counted ds)
-counted (defs.Item (items.Export name sort index description) ∷ ds) = counted ds
-counted (defs.Item (items.Custom name contents) ∷ ds) = counted ds
+counted : (v : Inventory) (ds : List Def) → (inventory_after v ds).imports ≡ v.imports + length (filter is_imported (landmarks ds))
+counted v [] = sym (add-zero v.imports)
+counted v (defs.Component inner ∷ ds) = counted (with_def v (defs.Component inner)) ds
+counted v (defs.Item (items.CoreModule bytes) ∷ ds) = counted (with_def v (defs.Item (items.CoreModule bytes))) ds
+counted v (defs.Item (items.CoreInstantiate number arguments) ∷ ds) = counted (with_def v (defs.Item (items.CoreInstantiate number arguments))) ds
+counted v (defs.Item (items.CoreExports entries) ∷ ds) = counted (with_def v (defs.Item (items.CoreExports entries))) ds
+counted v (defs.Item (items.Instantiate component arguments) ∷ ds) = counted (with_def v (defs.Item (items.Instantiate component arguments))) ds
+counted v (defs.Item (items.Alias a) ∷ ds) = counted (with_def v (defs.Item (items.Alias a))) ds
+counted v (defs.Item (items.Type t) ∷ ds) = counted (with_def v (defs.Item (items.Type t))) ds
+counted v (defs.Item (items.InstanceType t) ∷ ds) = counted (with_def v (defs.Item (items.InstanceType t))) ds
+counted v (defs.Item (items.Lift core options kind) ∷ ds) = counted (with_def v (defs.Item (items.Lift core options kind))) ds
+counted v (defs.Item (items.Lower function options) ∷ ds) = counted (with_def v (defs.Item (items.Lower function options))) ds
+counted v (defs.Item (items.Intrinsic i) ∷ ds) = counted (with_def v (defs.Item (items.Intrinsic i))) ds
+counted v (defs.Item (items.Import name description) ∷ ds) = let rest = counted (with_def v (defs.Item (items.Import name description))) ds in omega (arith, rest)
+counted v (defs.Item (items.Export name sort index description) ∷ ds) = counted (with_def v (defs.Item (items.Export name sort index description))) ds
+counted v (defs.Item (items.Custom name contents) ∷ ds) = counted (with_def v (defs.Item (items.Custom name contents))) ds
 
 -- a list that grew has as many imports more as its landmarks say
 pub grown_imports : {w : ComponentWorld} {old new : List Def} {m : List Landmark} → Grows w old new m → imports_in new ≡ imports_in old + length (filter is_imported m)
 grown_imports {w} {old} {new} {m} g =
     ap imports_in g.extended
-    ∙ (ap (λ (l : List Def). length l) (filter-append is_import old g.more)
-    ∙ (length-append (filter is_import old) (filter is_import g.more)
-    ∙ ap (λ n. imports_in old + n) (counted g.more ∙ ap (λ l. length (filter is_imported l)) g.marked)))
+    ∙ (ap (λ (v : Inventory). v.imports) (inventory-append old g.more)
+    ∙ (counted (inventory old) g.more ∙ ap (λ l. imports_in old + length (filter is_imported l)) g.marked))
 
 -- a list that grew by no landmark
 pub no_imports : {w : ComponentWorld} {old new : List Def} → Grows w old new [] → imports_in new ≡ imports_in old
 no_imports {w} {old} {new} g = grown_imports g ∙ add-zero (imports_in old)
+
+types_counted : (ts : List (List ℕ × TypeId)) → length (filter is_imported (map (λ t. Imported (root_type t.0)) ts)) ≡ length ts
+types_counted [] = refl
+types_counted (t ∷ ts) = ap suc (types_counted ts)
+
+-- after the types of the world, as many imports are there
+pub types_imported : (w : ComponentWorld) (old new : List Def) → imports_in old ≡ 0 → Grows w old new (map (λ t. Imported (root_type t.0)) (imported_types w)) → imports_in new ≡ length (imported_types w)
+types_imported w old new none g =
+    let more = grown_imports g in
+    let count = types_counted (imported_types w) in
+    omega (arith, none, more, count)
 
 all_imported : (names : List (List ℕ)) → length (filter is_imported (map named_import names)) ≡ length names
 all_imported [] = refl
@@ -124,17 +143,17 @@ pub record ImportsSoFar (w : ComponentWorld) (old new : Built) (functions : List
   pub split : done ++ rest ≡ (items_of w).imports
   pub extends : Extends old new
   pub grows : Grows w old.defs new.defs (names_marked w (flat_map root_function done))
-  pub count : imports_in new.defs ≡ length (filter (is_used w) (flat_map root_function done))
+  pub count : imports_in new.defs ≡ length (imported_types w) + length (filter (is_used w) (flat_map root_function done))
   pub imports : FindsImports w new.defs functions
   pub finds : AllByRecursion (λ t. IsTrue (is_used w t) → IsSome (found t functions)) (flat_map root_function done)
 
-pub imports_start : (w : ComponentWorld) (old : Built) → old.defs ≡ [] → ImportsSoFar w old old [] (items_of w).imports
-imports_start w old empty = record {
+pub imports_start : (w : ComponentWorld) (old : Built) → imports_in old.defs ≡ length (imported_types w) → ImportsSoFar w old old [] (items_of w).imports
+imports_start w old types = record {
   done = [];
   split = refl;
   extends = extends_none old;
   grows = Grows-none w old.defs;
-  count = ap imports_in empty;
+  count = types ∙ sym (add-zero (length (imported_types w)));
   imports = record { each = λ t i e. cc };
   finds = tt;
 }
@@ -170,34 +189,49 @@ imports_step w old mid new before after e rest h extends grows imports more here
   extends = extends_then old mid new h.extends extends;
   grows = subst (λ m. Grows w old.defs new.defs m) (sym (marked_push w h.done e)) (Grows-then h.grows grows);
   count =
-      grown_imports grows
-      ∙ (ap (λ n. n + length (filter is_imported (names_marked w (root_function e)))) h.count
-      ∙ (used_more w (flat_map root_function h.done) (root_function e) ∙ ap (λ l. length (filter (is_used w) l)) (sym (functions_push h.done e))));
+      let more = grown_imports grows in
+      let before = h.count in
+      let used = used_more w (flat_map root_function h.done) (root_function e) in
+      let all = ap (λ l. length (filter (is_used w) l)) (functions_push h.done e) in
+      omega (arith, more, before, used, all);
   imports = imports;
   finds =
       finds_push h.done e (λ t. IsTrue (is_used w t) → IsSome (found t after)) (AllByRecursion-weaker (λ t k u. more.each t (k u)) (flat_map root_function h.done) h.finds) here;
 }
 
--- the function of the next item, where it is used, is the next used one
-pub next_used : (w : ComponentWorld) (old mid : Built) (functions : List (List ℕ × ℕ)) (e : WorldKey × WorldItem) (rest : List (WorldKey × WorldItem)) → ImportsSoFar w old mid functions (e ∷ rest) →
-    AllByRecursion (λ t. IsTrue (is_used w t) → slice_get (used_functions w) (imports_in mid.defs) ≡ Some t) (root_function e)
-next_used w old mid functions e rest h = by e refl
+-- the entry of a used function, by how many are before it
+entry_at : (ts : List ImportEntry) (names : List (List ℕ)) (n : ℕ) (t : List ℕ) → slice_get names n ≡ Some t → slice_get (ts ++ map RootFunction names) (length ts + n) ≡ Some (RootFunction t)
+entry_at [] names n t h = subst (λ k. slice_get (map RootFunction names) k ≡ Some (RootFunction t)) (zero_more n) (slice_get-map RootFunction names n ∙ ap (option_map RootFunction) h)
   where
-    all : flat_map root_function h.done ++ (root_function e ++ flat_map root_function rest) ≡ imported_functions w
-    all = sym (flat_map-append root_function h.done (e ∷ rest)) ∙ ap (flat_map root_function) h.split
+    zero_more : (k : ℕ) → k ≡ 0 + k
+    zero_more k = omega arith
+entry_at (x ∷ ts) names n t h = subst (λ k. slice_get (x ∷ (ts ++ map RootFunction names)) k ≡ Some (RootFunction t)) (one_more (length ts)) (entry_at ts names n t h)
+  where
+    one_more : (k : ℕ) → suc (k + n) ≡ suc k + n
+    one_more k = omega arith
 
-    by : (x : WorldKey × WorldItem) → x ≡ e → AllByRecursion (λ t. IsTrue (is_used w t) → slice_get (used_functions w) (imports_in mid.defs) ≡ Some t) (root_function x)
-    by (keys.Name text, world_items.Function f) same = (
-      λ used.
+-- the function of the next item, where it is used, is the next one that is imported
+pub next_item : (w : ComponentWorld) (old mid : Built) (functions : List (List ℕ × ℕ)) (e : WorldKey × WorldItem) (rest : List (WorldKey × WorldItem)) → IsWorld w → IsDistinct is_same_key (keys_of (items_of w).imports) → ImportsSoFar w old mid functions (e ∷ rest) →
+    IsNextItem w mid.defs e
+next_item w old mid functions (keys.Interface id, item) rest ok apart h = tt
+next_item w old mid functions (keys.Name text, world_items.Interface id) rest ok apart h = tt
+next_item w old mid functions (keys.Name text, world_items.NamedType id) rest ok apart h = tt
+next_item w old mid functions (keys.Name text, world_items.Function f) rest ok apart h = (
+    record {
+      of = ap (λ es. root_function_at es (keys.Name text)) (sym h.split) ∙ function_found h.done rest text f (subst (λ es. IsDistinct is_same_key (keys_of es)) (sym h.split) apart);
+      number = λ used.
           let here : flat_map root_function h.done ++ text ∷ flat_map root_function rest ≡ imported_functions w =
-          subst (λ (x : WorldKey × WorldItem). flat_map root_function h.done ++ (root_function x ++ flat_map root_function rest) ≡ imported_functions w) (sym same) all in
-          ap₂ (λ l n. slice_get (filter (is_used w) l) n) (sym here) h.count ∙ next_in (is_used w) (flat_map root_function h.done) (flat_map root_function rest) text used,
-      tt,
-    )
-    by x same = tt
+          sym (flat_map-append root_function h.done ((keys.Name text, world_items.Function f) ∷ rest)) ∙ ap (flat_map root_function) h.split in
+          let next : slice_get (used_functions w) (length (filter (is_used w) (flat_map root_function h.done))) ≡ Some text =
+          ap (λ l. slice_get (filter (is_used w) l) (length (filter (is_used w) (flat_map root_function h.done)))) (sym here) ∙ next_in (is_used w) (flat_map root_function h.done) (flat_map root_function rest) text used in
+          ap (slice_get (import_entries w)) (h.count ∙ ap (λ n. n + length (filter (is_used w) (flat_map root_function h.done))) (sym (length-map (imported_types w) (λ (t : List ℕ × TypeId). WorldType t.0 t.1))))
+          ∙ entry_at (map (λ (t : List ℕ × TypeId). WorldType t.0 t.1) (imported_types w)) (used_functions w) (length (filter (is_used w) (flat_map root_function h.done))) text next;
+    },
+    (entry_sound w ok h.done rest (keys.Name text, world_items.Function f) h.split).1,
+  )
 
 -- no item is left
-pub imports_marks : (w : ComponentWorld) (old new : Built) (functions : List (List ℕ × ℕ)) → ImportsSoFar w old new functions [] → Grows w old.defs new.defs (imports_marked w)
+pub imports_marks : (w : ComponentWorld) (old new : Built) (functions : List (List ℕ × ℕ)) → ImportsSoFar w old new functions [] → Grows w old.defs new.defs (map named_import (used_functions w))
 imports_marks w old new functions h =
     let all : h.done ≡ (items_of w).imports = sym (append-nil h.done) ∙ h.split in
     subst (λ es. Grows w old.defs new.defs (names_marked w (flat_map root_function es))) all h.grows

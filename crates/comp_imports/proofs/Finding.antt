@@ -6,7 +6,8 @@ use Rattle.comp_lists.specs.Tables.{with_first}
 use Rattle.comp_lists.proofs.Lookups.{found-push_cases, found-with_first, found-pushed, IsSome-found-append}
 use Rattle.comp_bytes.specs.declared.def.Def.{Def}
 use Rattle.comp_worlds.specs.declared.world.ComponentWorld.{ComponentWorld}
-use Rattle.comp_state.specs.Tables.{IsRootImport, FindsImports, FindsMore}
+use Rattle.comp_items.proofs.Kept.{Longer, imported_function-kept}
+use Rattle.comp_imports.specs.Imports.{IsRootImport, FindsImports, FindsMore}
 
 -- an entry that is added only where its name has none is found as if it were appended
 found_first : (t k : List ℕ) (v : ℕ) (names : List (List ℕ × ℕ)) → found t (with_first bytes_eq names k v) ≡ found t (names ++ (k, v) ∷ [])
@@ -34,3 +35,9 @@ finds_added names new k v pushed = subst (λ l. IsSome (found k l)) (sym pushed)
 
 pub finds_same : (names : List (List ℕ × ℕ)) → FindsMore names names
 finds_same names = record { each = λ t h. h }
+
+-- a longer list of definitions has the functions that an earlier one has
+pub FindsImports-kept : {w : ComponentWorld} {old new : List Def} {functions : List (List ℕ × ℕ)} → Longer old new → FindsImports w old functions → FindsImports w new functions
+FindsImports-kept g h = record {
+  each = λ t i e. let r = h.each t i e in record { origin = r.origin; type = r.type; of = r.of; typed = r.typed; is = imported_function-kept g r.is };
+}

@@ -2,7 +2,7 @@ use Rattle.std.proofs.Common.{◌≡◌, ◌||◌, ℕ, List, is_some}
 use Rattle.std.specs.List.{list_any}
 use Rattle.comp_lists.specs.Found.{found}
 use Rattle.comp_links.specs.Roles.{is_used, uses_from}
-use Rattle.comp_state.proofs.indexes.used_functions.Given as goal
+use Rattle.comp_imports.proofs.used.used_functions.Given as goal
 
 abbrev pub invariant-loop-instance : goal.invariant-loop-instance
 invariant-loop-instance l =

@@ -1,7 +1,7 @@
 use Rattle.std.proofs.Common.{◌≡◌, ◌||◌, ℕ, List, is_some}
 use Rattle.comp_lists.specs.Found.{found}
 use Rattle.comp_links.specs.Roles.{is_any_import}
-use Rattle.comp_state.proofs.indexes.add_used.Given as goal
+use Rattle.comp_imports.proofs.used.add_used.Given as goal
 
 abbrev pub invariant-loop-import : goal.invariant-loop-import
 invariant-loop-import l =

@@ -1,0 +1,48 @@
+-- What is known of the functions that were imported. (The rules are this project's own.)
+use Rattle.std.specs.Prelude.{◌≡◌, ℕ, List, Some, IsSome, IsTrue, slice_get}
+use Rattle.comp_lists.specs.Found.{found}
+use Rattle.comp_bytes.specs.declared.def.Def.{Def}
+use Rattle.comp_trees.specs.Trees.{Origin, FunctionTree}
+use Rattle.wit_data.specs.Sound.{HasFunction}
+use Rattle.wit_data.specs.declared.functions.Function.{Function}
+use Rattle.wit_data.specs.declared.worlds.WorldItem.{WorldItem}
+use Rattle.wit_data.specs.declared.worlds.WorldItem.TheVariants as items
+use Rattle.wit_data.specs.declared.worlds.WorldKey.{WorldKey}
+use Rattle.wit_data.specs.declared.worlds.WorldKey.TheVariants as keys
+use Rattle.comp_worlds.specs.declared.world.ComponentWorld.{ComponentWorld}
+use Rattle.comp_links.specs.Modules.{function_imported}
+use Rattle.comp_links.specs.Targets.{OfRoot}
+use Rattle.comp_links.specs.Lists.{IsOriginOf, RootFunction, import_entries}
+use Rattle.comp_links.specs.Roles.{is_used}
+use Rattle.comp_terms.specs.Terms.{IsImportedFunction, imports_in}
+use Rattle.comp_terms.specs.Planned.{IsTypeOf}
+
+-- the function is the world's root function of this name, as it is imported, with its type
+pub record IsRootImport (w : ComponentWorld) (ds : List Def) (index : ℕ) (text : List ℕ) : Type 0 where
+  pub origin : Origin
+  pub type : FunctionTree
+  pub of : IsOriginOf w (OfRoot text) origin
+  pub typed : IsTypeOf w (OfRoot text) type
+  pub is : IsImportedFunction ds index origin type
+
+-- each name is that of a root function, as it is imported
+pub record FindsImports (w : ComponentWorld) (ds : List Def) (functions : List (List ℕ × ℕ)) : Type 0 where
+  pub each : (text : List ℕ) (index : ℕ) → found text functions ≡ Some index → IsRootImport w ds index text
+
+-- what was found before is still found
+pub record FindsMore (old new : List (List ℕ × ℕ)) : Type 0 where
+  pub each : (text : List ℕ) → IsSome (found text old) → IsSome (found text new)
+
+-- each root function that a core import uses is found
+pub record FindsUsed (w : ComponentWorld) (functions : List (List ℕ × ℕ)) : Type 0 where
+  pub each : (text : List ℕ) → IsTrue (is_used w text) → IsSome (found text functions)
+
+-- the root function is the next one that is imported, if an import of main uses it
+pub record IsNext (w : ComponentWorld) (ds : List Def) (text : List ℕ) (f : Function) : Type 0 where
+  pub of : function_imported w (OfRoot text) ≡ Some f
+  pub number : IsTrue (is_used w text) → slice_get (import_entries w) (imports_in ds) ≡ Some (RootFunction text)
+
+-- so is that of an item of the world, if it is one
+abbrev pub IsNextItem : ComponentWorld → List Def → WorldKey × WorldItem → Type 0
+IsNextItem w ds (keys.Name text, items.Function f) = IsNext w ds text f × HasFunction w.resolve f
+IsNextItem w ds entry = Unit {0}

@@ -1,0 +1,2 @@
+pub mod RootScopes
+pub mod Imports

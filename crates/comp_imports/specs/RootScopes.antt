@@ -1,0 +1,53 @@
+-- The root of a component as a scope of types (component model, explainer: type definitions, import definitions).
+use Rattle.std.specs.Prelude.{ℕ, ◌+◌, ◌≤◌, ◌^◌, ◌≡◌, false, List, [], None}
+use Rattle.byte_encoding.specs.declared.fault.BuildFault.{BuildFault}
+use Rattle.byte_encoding.specs.declared.fault.BuildFault.TheVariants.{Memory, TooMany}
+use Rattle.comp_bytes.specs.Spaces.{items_in}
+use Rattle.comp_bytes.specs.declared.space.Space.TheVariants as spaces
+use Rattle.comp_bytes.specs.declared.def.Def.{Def}
+use Rattle.comp_builder.specs.Built.{Built}
+use Rattle.comp_trees.specs.Trees.{ImportedAt}
+use Rattle.comp_trees.specs.Inventories.{scope_of}
+use Rattle.comp_worlds.specs.declared.world.ComponentWorld.{ComponentWorld}
+use Rattle.comp_links.specs.Lists.{resource_of}
+use Rattle.comp_terms.specs.Rules.{Grows}
+use Rattle.comp_items.specs.Items.{Extends}
+use Rattle.wit_types.specs.Settings.{Setting}
+use Rattle.wit_types.specs.Maps.{Faithful}
+use Rattle.wit_types.specs.declared.maps.TypeEncodingMaps.{TypeEncodingMaps}
+
+-- What definitions of types at the root take as given. The types of the world get their names where they are imported, and
+-- not while others are defined: so nothing is exported, or imported, there.
+abbrev pub root_setting : ComponentWorld → Setting
+root_setting w =
+    record {
+      types = w.resolve.types;
+      interface = None;
+      origin = resource_of w;
+      met = λ id. false;
+      may_import = λ other id. false;
+      may_export = λ name. false;
+      resource = λ name. ImportedAt (record { number = 0; inner = None });
+    }
+
+-- a type has any index under its name: that of its import, or one that was defined before it
+abbrev pub any_index : List ℕ → ℕ → Type 0
+any_index name index = Unit {0}
+
+-- definitions were added at the end that are right, and import and export nothing
+pub record RootGrows (w : ComponentWorld) (old new : Built) : Type 0 where
+  pub extends : Extends old new
+  pub grows : Grows w old.defs new.defs []
+
+-- the count of type indices with one more, which is more than there can be
+abbrev pub is_full : List Def → ℕ → Type 0
+is_full ds count = (2 ^ 32 ≤ count) × (count ≡ items_in spaces.Type ds + 1)
+
+-- each index in the tables denotes what it is the index of
+abbrev pub AreTablesRight : ComponentWorld → List Def → TypeEncodingMaps → Type 0
+AreTablesRight w ds maps = Faithful (root_setting w) (scope_of ds) any_index maps
+
+-- out of memory, or a count that is more than a space can have
+abbrev pub IsRefusal : BuildFault → Type 0
+IsRefusal Memory = Unit {0}
+IsRefusal (TooMany count) = 2 ^ 32 ≤ count

@@ -1,0 +1,198 @@
+//! The root of a component, as a scope of types.
+#![tactic(auto, using(crate::proofs::Growth::growing))]
+
+ghost use Rattle.std.specs.Prelude.{◌≡◌, ◌<◌, length, true, IsTrue, IfOk, IfErr, OnOk, [], get_or, Some, None};
+ghost use Rattle.std.specs.Borrow.{sem, Lends};
+ghost use Rattle.std.proofs.Common.{refl};
+ghost use Rattle.comp_bytes.specs.References.{defined_references, type_references};
+ghost use Rattle.comp_bytes.specs.declared.types.TypeDef.TheVariants as definitions;
+ghost use Rattle.comp_builder.specs.Built.{nothing_built};
+ghost use Rattle.comp_trees.specs.Trees.{ResourceAt, is_known, is_known_function};
+ghost use Rattle.comp_trees.specs.DefinedTrees.{OfValues, OfFunctions, OfOthers, defined_tree, function_tree};
+ghost use Rattle.comp_trees.specs.Inventories.{scope_of};
+ghost use Rattle.wit_data.specs.declared.types.Type.TheVariants.{Id};
+ghost use Rattle.wit_data.specs.Sound.{HasFunction};
+ghost use Rattle.wit_types.specs.Settings.{tree_in, NamesType};
+ghost use Rattle.wit_types.specs.Denoting.{AreTypes, Makes, MayMake, IsCause, exported_or};
+ghost use Rattle.wit_types.specs.Maps.{no_maps};
+ghost use Rattle.wit_types.specs.contracts.maps.TypeEncodingMaps.{the_row as maps_row};
+ghost use Rattle.comp_terms.specs.Planned.{type_of_function};
+ghost use Rattle.comp_terms.specs.Terms.{IsFunctionType};
+ghost use Rattle.comp_worlds.specs.Worlds.{IsWorld};
+ghost use Rattle.comp_imports.specs.RootScopes.{root_setting, any_index, RootGrows, is_full, AreTablesRight};
+ghost use Rattle.comp_imports.proofs.Growth.{root_same, root_on};
+
+use byte_encoding::BuildFault;
+use comp_bytes::{DefinedType, ExternName, FuncTypeDef};
+use comp_items::ComponentItems;
+use comp_worlds::ComponentWorld;
+use std::alloc::Global;
+use wit_data::{Function, InterfaceId, TypeId};
+use wit_types::{TypeEncodingMaps, ValtypeEncoder, encode_func_type};
+
+/// The root of a component under construction, as a scope of types: its items, and the tables of the types that were met.
+pub struct RootScope<'a> {
+    pub world: &'a ComponentWorld,
+    pub items: ComponentItems,
+    pub maps: TypeEncodingMaps,
+}
+
+impl<'a> Drop for RootScope<'a> {
+    fn drop(self) {
+        let RootScope {
+            world: _,
+            items: _,
+            maps: _,
+        } = self;
+    }
+}
+
+impl<'a> RootScope<'a> {
+    /// A component with no definition. It allocates nothing.
+    pub fn new(alloc: Global, world: &'a ComponentWorld) -> RootScope<'a>
+        ensures world { result.world ≡ world.entry }
+        ensures items { result.items ≡ nothing_built }
+        ensures maps { result.maps ≡ no_maps }
+    {
+        RootScope {
+            world,
+            items: ComponentItems::new(alloc),
+            maps: TypeEncodingMaps::new(alloc),
+        }
+    }
+
+    /// The component as far as it was built.
+    pub fn into_items(self) -> ComponentItems
+        ensures { result ≡ self.entry.items }
+    {
+        let RootScope {
+            world: _,
+            items,
+            maps: _,
+        } = self;
+        items
+    }
+
+    /// The index of the type of a function of the world, which is defined, where it is not yet.
+    pub fn function_type(&mut self, function: &Function) -> Result<u32, BuildFault>
+        requires valid { IsWorld self.old.world.now }
+        requires present { HasFunction self.old.world.now.resolve function.now }
+        requires tables { AreTablesRight self.old.world.now self.old.items.defs self.old.maps }
+        ensures typed { IfOk result (λ index. IsFunctionType self.new.items.defs index (type_of_function self.old.world.now function.now)) }
+        ensures world { self.new.world ≡ self.old.world }
+        ensures grows { RootGrows self.old.world.now self.old.items self.new.items }
+        ensures tables { AreTablesRight self.old.world.now self.new.items.defs self.new.maps }
+        ensures cause { IfErr result (IsCause is_full self.new.items.defs) }
+    {
+        let world = self.world;
+        let alloc = self.items.allocator();
+        encode_func_type(alloc, self, &world.resolve, function)
+    }
+}
+
+impl<'a> ValtypeEncoder for RootScope<'a> {
+    ghost setting = { λ e. root_setting e.world.now };
+
+    ghost scope = { λ e. scope_of e.items.defs };
+
+    ghost maps = { λ e. e.maps };
+
+    ghost with_maps = { λ e m. record e { maps = m } };
+
+    ghost follows = { λ old new. (new.world ≡ old.world) × RootGrows old.world.now old.items new.items };
+
+    ghost names = { λ e name index. any_index name index };
+
+    ghost refuses = { λ e count. is_full e.items.defs count };
+
+    ghost follows_itself = { λ e. (refl, root_same e.world.now e.items) };
+
+    ghost follows_on = { λ a b c g h. root_on a b c g h };
+
+    ghost names_kept = { λ a b g name index h. h };
+
+    ghost follows_maps = { λ e m. (refl, root_same e.world.now e.items) };
+
+    ghost maps_given = { λ e m. refl };
+
+    ghost scope_kept = { λ e m. refl };
+
+    ghost setting_kept = { λ e m. refl };
+
+    fn defined_type(&mut self, ty: DefinedType) -> Result<u32, BuildFault>
+        requires present { AreTypes (length (scope_of self.old.items.defs)) (defined_references ty) }
+        requires known { is_known (defined_tree (scope_of self.old.items.defs) ty) ≡ true }
+        ensures makes { Makes (scope_of self.old.items.defs) (scope_of self.new.items.defs) result (OfValues (defined_tree (scope_of self.old.items.defs) ty)) }
+        ensures setting { root_setting self.new.world.now ≡ root_setting self.old.world.now }
+        ensures maps { self.new.maps ≡ self.old.maps }
+        ensures follows { (self.new.world ≡ self.old.world) × RootGrows self.old.world.now self.old.items self.new.items }
+        ensures cause { IfErr result (IsCause is_full self.new.items.defs) }
+    {
+        self.items.defined_type(ty)
+    }
+
+    fn define_function_type(&mut self, ty: FuncTypeDef) -> Result<u32, BuildFault>
+        requires present { AreTypes (length (scope_of self.old.items.defs)) (type_references (definitions.Func ty)) }
+        requires known { is_known_function (function_tree (scope_of self.old.items.defs) ty) ≡ true }
+        ensures makes { Makes (scope_of self.old.items.defs) (scope_of self.new.items.defs) result (OfFunctions (function_tree (scope_of self.old.items.defs) ty)) }
+        ensures setting { root_setting self.new.world.now ≡ root_setting self.old.world.now }
+        ensures maps { self.new.maps ≡ self.old.maps }
+        ensures follows { (self.new.world ≡ self.old.world) × RootGrows self.old.world.now self.old.items self.new.items }
+        ensures cause { IfErr result (IsCause is_full self.new.items.defs) }
+    {
+        self.items.function_type(ty)
+    }
+
+    /// Nothing is exported: a named type is imported, before what names it.
+    fn export_type(&mut self, index: u32, name: ExternName) -> Result<Option<u32>, BuildFault>
+        ensures same { self.new ≡ self.old }
+        ensures none { IfOk result (λ exported. exported ≡ None) }
+        ensures names { IfOk result (λ exported. any_index name.name (exported_or exported index)) }
+        ensures makes { MayMake (scope_of self.old.items.defs) (scope_of self.new.items.defs) result (get_or (scope_of self.old.items.defs) index OfOthers) }
+        ensures setting { root_setting self.new.world.now ≡ root_setting self.old.world.now }
+        ensures maps { self.new.maps ≡ self.old.maps }
+        ensures follows { (self.new.world ≡ self.old.world) × RootGrows self.old.world.now self.old.items self.new.items }
+        ensures cause { IfErr result (IsCause is_full self.new.items.defs) }
+    {
+        let _ = (index, name);
+        Ok(None)
+    }
+
+    fn export_resource(&mut self, name: ExternName) -> Result<u32, BuildFault>
+        requires { IsTrue ((root_setting self.old.world.now).may_export name.name) }
+        ensures names { IfOk result (λ index. any_index name.name index) }
+        ensures makes { Makes (scope_of self.old.items.defs) (scope_of self.new.items.defs) result (OfValues (ResourceAt ((root_setting self.old.world.now).resource name.name))) }
+        ensures setting { root_setting self.new.world.now ≡ root_setting self.old.world.now }
+        ensures maps { self.new.maps ≡ self.old.maps }
+        ensures follows { (self.new.world ≡ self.old.world) × RootGrows self.old.world.now self.old.items self.new.items }
+        ensures cause { IfErr result (IsCause is_full self.new.items.defs) }
+    {
+        let _ = name;
+        unreachable!()
+    }
+
+    fn import_type(&mut self, interface: InterfaceId, id: TypeId) -> Result<u32, BuildFault>
+        requires { IsTrue ((root_setting self.old.world.now).may_import interface id) }
+        ensures makes { Makes (scope_of self.old.items.defs) (scope_of self.new.items.defs) result (OfValues (tree_in (root_setting self.old.world.now) (Some (Id id)))) }
+        ensures setting { root_setting self.new.world.now ≡ root_setting self.old.world.now }
+        ensures maps { self.new.maps ≡ self.old.maps }
+        ensures follows { (self.new.world ≡ self.old.world) × RootGrows self.old.world.now self.old.items self.new.items }
+        ensures cause { IfErr result (IsCause is_full self.new.items.defs) }
+    {
+        let _ = (interface, id);
+        unreachable!()
+    }
+
+    fn type_encoding_maps(&mut self) -> &mut TypeEncodingMaps
+        ensures now { result.now ≡ self.old.maps }
+        ensures* lends { sem 𝓛 (Lends Self.row maps_row self.entry result (λ m. record self.old { maps = m })) }
+    {
+        &mut self.maps
+    }
+
+    fn interface(&self) -> Option<InterfaceId>
+        ensures { result ≡ None }
+    {
+        None
+    }
+}
