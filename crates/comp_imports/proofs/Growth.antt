@@ -10,7 +10,12 @@ use Rattle.comp_terms.specs.Rules.{IsRight, RightAfter, Landmark, landmark, land
 use Rattle.comp_items.specs.Items.{Extends, MayAdd}
 use Rattle.comp_items.proofs.Extending.{extends_none, extends_same, extends_then}
 use Rattle.comp_items.proofs.Kept.{Longer, at-kept}
-use Rattle.comp_imports.specs.RootScopes.{RootGrows}
+use Rattle.comp_trees.specs.Inventories.{scope_of}
+use Rattle.comp_trees.proofs.InventoryGrowth.{scope_grows}
+use Rattle.wit_types.specs.Denoting.{Longer as LongerScope}
+use Rattle.wit_types.specs.declared.maps.TypeEncodingMaps.{TypeEncodingMaps}
+use Rattle.wit_types.proofs.Growing.{faithful_on}
+use Rattle.comp_imports.specs.RootScopes.{RootGrows, AreTablesRight}
 use Rattle.comp_imports.specs.declared.root_scope.RootScope.{RootScope}
 
 RightAfter-append : (w : ComponentWorld) (old a b : List Def) → RightAfter w old a → RightAfter w (old ++ a) b → RightAfter w old (a ++ b)
@@ -58,5 +63,16 @@ root_then a b c g h = record { extends = extends_then a b c g.extends h.extends;
 pub root_on : (a b c : RootScope) → (b.world ≡ a.world) × RootGrows a.world.now a.items b.items → (c.world ≡ b.world) × RootGrows b.world.now b.items c.items →
     (c.world ≡ a.world) × RootGrows a.world.now a.items c.items
 root_on a b c g h = (h.0 ∙ g.0, root_then a.items b.items c.items g.1 (subst (λ w. RootGrows w.now b.items c.items) g.0 h.1))
+
+-- ---- the tables of types
+
+-- what each type index denotes, in a longer list
+scope_longer : (old new : Built) → Extends old new → LongerScope (scope_of old.defs) (scope_of new.defs)
+scope_longer old new g =
+    let b = scope_grows old.defs g.more_defs in
+    subst (λ ds. LongerScope (scope_of old.defs) (scope_of ds)) (sym g.defs) (record { more = b.more; longer = b.grown })
+
+pub tables_kept : (w : ComponentWorld) (old new : Built) (maps : TypeEncodingMaps) → Extends old new → AreTablesRight w old.defs maps → AreTablesRight w new.defs maps
+tables_kept w old new maps g h = faithful_on (scope_longer old new g) (λ name i n. n) h
 
 pub ruleset growing = (extends_none, extends_same, extends_then)

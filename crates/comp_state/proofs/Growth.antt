@@ -1,9 +1,7 @@
--- A list of definitions that grows at its end: earlier items are unchanged, and rules and landmarks add up.
-use Rattle.std.proofs.Common.{◌≡◌, ◌∙◌, ◌<◌, ℕ, Some, IsSome, Option, List, [], ◌∷◌, ◌++◌, refl, sym, ap, subst, append_assoc, append-nil, inl, inr}
-use Rattle.std.proofs.lemmas.List.Elements.{filter_map-append}
+-- What was made stays what it is while definitions are added.
+use Rattle.std.proofs.Common.{◌≡◌, ◌∙◌, ◌<◌, ℕ, Some, IsSome, Option, List, [], ◌∷◌, refl, sym, subst}
 use Rattle.std.specs.List.{AllZip, AllByRecursion}
 use Rattle.comp_lists.proofs.Lists.{AllZip-weaker}
-use Rattle.comp_bytes.specs.ItemIndices.{IsAt}
 use Rattle.comp_bytes.proofs.ItemIndices.{in_range}
 use Rattle.comp_bytes.specs.declared.def.Def.{Def}
 use Rattle.comp_bytes.specs.declared.def.CoreInlineExport.{CoreInlineExport}
@@ -14,6 +12,7 @@ use Rattle.standard_kinds.specs.declared.kinds.ExportKind.{ExportKind}
 use Rattle.standard_kinds.specs.declared.kinds.ExportKind.TheVariants as kinds
 use Rattle.comp_bytes.specs.Spaces.{items_in, kind_space}
 use Rattle.comp_builder.specs.Built.{Built}
+use Rattle.comp_trees.specs.Trees.{FunctionTree}
 use Rattle.wit_data.specs.declared.worlds.WorldKey.{WorldKey}
 use Rattle.comp_roles.specs.declared.imports.Import.{Import}
 use Rattle.comp_roles.specs.declared.imports.ImportInstance.{ImportInstance}
@@ -21,23 +20,28 @@ use Rattle.comp_worlds.specs.Worlds.{IsImportRole}
 use Rattle.comp_worlds.specs.declared.world.ComponentWorld.{ComponentWorld}
 use Rattle.comp_links.specs.Targets.{Main, UserModule, Target, OfRoot, Lowered}
 use Rattle.comp_links.specs.Links.{link_of}
-use Rattle.comp_terms.specs.Terms.{CoreExport, Term, IsFunctionType, IsImportedFunction, IsInstanceOf, IsExported, Is}
+use Rattle.comp_terms.specs.Terms.{CoreExport, Term, IsInstanceOf, Is}
 use Rattle.comp_terms.specs.Terms as terms
-use Rattle.comp_terms.specs.Planned.{IsTermFor, IsItemFor, IsEntryFor, IsInlineInstanceFor, IsArgumentFor}
+use Rattle.comp_terms.specs.Planned.{IsTermFor, IsItemFor, IsLiftFor, IsEntryFor, IsInlineInstanceFor, IsArgumentFor}
 use Rattle.wit_data.specs.declared.worlds.WorldKey.TheVariants as keys
 use Rattle.comp_roles.specs.declared.imports.Import.TheVariants as imports
-use Rattle.comp_terms.specs.Rules.{IsRight, RightAfter, Landmark, landmark, landmarks, Grows, IsEntry}
-use Rattle.comp_items.specs.Items.{Extends, MayAdd}
+use Rattle.comp_terms.specs.Rules.{IsEntry}
+use Rattle.wit_types.specs.declared.maps.TypeEncodingMaps.{TypeEncodingMaps}
+use Rattle.comp_items.specs.Items.{Extends}
 use Rattle.comp_items.proofs.Extending.{extends_none, extends_same, extends_then}
 use Rattle.comp_items.proofs.Remembering.{longer}
-use Rattle.comp_items.proofs.Kept.{Longer, at-kept, imported_function-kept, instance-kept, term-kept}
+use Rattle.comp_items.proofs.Kept.{Longer, at-kept, instance-kept, term-kept}
+use Rattle.comp_imports.specs.RootScopes.{AreTablesRight}
+use Rattle.comp_imports.specs.Imports.{FindsImports, FindsUsed}
+use Rattle.comp_imports.proofs.Growth.{tables_kept}
+use Rattle.comp_imports.proofs.Finding.{FindsImports-kept}
 use Rattle.std.proofs.lemmas.Option.{same_Some}
 use Rattle.comp_state.specs.declared.state.Step.{Step}
 use Rattle.comp_state.specs.declared.state.Step.TheVariants.{Imported, Instantiated}
 use Rattle.comp_state.specs.declared.instances.ImportSources.{ImportSources}
 use Rattle.comp_state.specs.declared.exports.MainExports.{MainExports}
-use Rattle.comp_state.specs.Encoding.{AreImported, IsLiftFor}
-use Rattle.comp_state.specs.Tables.{IsRootImport, FindsImports, FindsUsed, IsMain, AreSources, AreExports, IsEncoding}
+use Rattle.comp_state.specs.Encoding.{AreImported, IsRequiredLift}
+use Rattle.comp_state.specs.Tables.{IsMain, AreSources, AreExports, IsEncoding}
 
 pub ruleset growing = (extends_none, extends_same, extends_then)
 
@@ -56,54 +60,60 @@ module _ {w : ComponentWorld} {old new : List Def} (g : Longer old new) where
   pub IsArgumentFor-kept : {of : UserModule} {a : CoreArgument} {group : List ℕ × ImportInstance} → IsArgumentFor w of old a group → IsArgumentFor w of new a group
   IsArgumentFor-kept h = record { named = h.named; serves = IsInlineInstanceFor-kept h.serves }
 
-  pub IsLiftFor-kept : {i : ℕ} {key : WorldKey} → IsLiftFor w old i key → IsLiftFor w new i key
-  IsLiftFor-kept h = record { target = h.target; said = h.said; is = IsItemFor-kept h.is; encoded = h.encoded }
+  lift_for-kept : {i : ℕ} {target : Target} {type : FunctionTree} → IsLiftFor w old i target type → IsLiftFor w new i target type
+  lift_for-kept {i} {target} {type} h = record { entry = h.entry; options = h.options; is = term-kept old new g spaces.Func i (terms.Lifting h.entry h.options type) h.is; asked = h.asked }
 
-  IsRootImport-kept : {i : ℕ} {text : List ℕ} → IsRootImport w old i text → IsRootImport w new i text
-  IsRootImport-kept h = record { origin = h.origin; of = h.of; is = imported_function-kept g h.is }
-
-  pub FindsImports-kept : {functions : List (List ℕ × ℕ)} → FindsImports w old functions → FindsImports w new functions
-  FindsImports-kept h = record { each = λ t i e. IsRootImport-kept (h.each t i e) }
+  pub IsRequiredLift-kept : {i : ℕ} {key : WorldKey} → IsRequiredLift w old i key → IsRequiredLift w new i key
+  IsRequiredLift-kept h = record { target = h.target; wit = h.wit; said = h.said; exported = h.exported; is = lift_for-kept h.is; encoded = h.encoded }
 
 -- ---- the look-ups hold what they held
 
 pub sources-kept : {s : ImportSources} {old new : Built} → Extends old new → AreSources s old.defs → AreSources s new.defs
 sources-kept g h = record { valid = h.valid; imports = FindsImports-kept (longer g) h.imports; used = h.used }
 
-pub exports-kept : {e : MainExports} {old new : Built} → Extends old new → AreExports e old.defs → AreExports e new.defs
-exports-kept g h = record { valid = h.valid; named = h.named; made = instance-kept (longer g) h.made }
+pub exports-kept : {w : ComponentWorld} {e : MainExports} {old new : Built} {maps now : TypeEncodingMaps} → Extends old new → AreTablesRight w new.defs now → AreExports w e old.defs maps → AreExports w e new.defs now
+exports-kept g t h = record { valid = h.valid; named = h.named; made = instance-kept (longer g) h.made; tables = t }
 
 main-kept : {old new : Built} {main : Option ℕ} → Extends old new → IsMain old.defs main → IsMain new.defs main
 main-kept g h = record { index = h.index; known = h.known; made = instance-kept (longer g) h.made }
 
-pub encoding-kept : {w : ComponentWorld} {old new : Built} {step : Step} {functions : List (List ℕ × ℕ)} {core_names : List (List ℕ × List ℕ)} {main : Option ℕ} → Extends old new →
-    IsEncoding w old.defs step functions core_names main → IsEncoding w new.defs step functions core_names main
-encoding-kept g h = record { valid = h.valid; named = h.named; imports = λ s. FindsImports-kept (longer g) (h.imports s); used = h.used; made = λ s. main-kept g (h.made s) }
+-- the root has grown, and its tables are right
+pub encoding-with : {w : ComponentWorld} {old new : Built} {maps now : TypeEncodingMaps} {step : Step} {functions : List (List ℕ × ℕ)} {core_names : List (List ℕ × List ℕ)} {main : Option ℕ} → Extends old new → AreTablesRight w new.defs now →
+    IsEncoding w old.defs maps step functions core_names main → IsEncoding w new.defs now step functions core_names main
+encoding-with g t h = record { valid = h.valid; named = h.named; tables = t; imports = λ s. FindsImports-kept (longer g) (h.imports s); used = h.used; made = λ s. main-kept g (h.made s) }
+
+-- the component has grown
+pub encoding-kept : {w : ComponentWorld} {old new : Built} {maps : TypeEncodingMaps} {step : Step} {functions : List (List ℕ × ℕ)} {core_names : List (List ℕ × List ℕ)} {main : Option ℕ} → Extends old new →
+    IsEncoding w old.defs maps step functions core_names main → IsEncoding w new.defs maps step functions core_names main
+encoding-kept {w} {old} {new} {maps} g h = encoding-with g (tables_kept w old new maps g h.tables) h
 
 -- after the imports, and after the instance of main
-pub encoding-imported : {w : ComponentWorld} {old new : List Def} {step : Step} {before functions : List (List ℕ × ℕ)} {core_names : List (List ℕ × List ℕ)} {main : Option ℕ} → FindsImports w new functions → FindsUsed w functions →
-    IsEncoding w old step before core_names main → IsEncoding w new Imported functions core_names main
-encoding-imported i u h = record { valid = h.valid; named = h.named; imports = λ _. i; used = λ _. u; made = λ e. cc }
+pub encoding-imported : {w : ComponentWorld} {old new : List Def} {maps now : TypeEncodingMaps} {step : Step} {before functions : List (List ℕ × ℕ)} {core_names : List (List ℕ × List ℕ)} {main : Option ℕ} → AreTablesRight w new now → FindsImports w new functions →
+    FindsUsed w functions → IsEncoding w old maps step before core_names main → IsEncoding w new now Imported functions core_names main
+encoding-imported t i u h = record { valid = h.valid; named = h.named; tables = t; imports = λ _. i; used = λ _. u; made = λ e. cc }
 
-pub encoding-instantiated : {w : ComponentWorld} {old new : Built} {step : Step} {functions : List (List ℕ × ℕ)} {core_names : List (List ℕ × List ℕ)} {main : Option ℕ} (index : ℕ) → Extends old new → AreImported step →
-    IsInstanceOf new.defs index 0 → IsEncoding w old.defs step functions core_names main → IsEncoding w new.defs Instantiated functions core_names (Some index)
-encoding-instantiated index g s made h = record {
+pub encoding-instantiated : {w : ComponentWorld} {old new : Built} {maps : TypeEncodingMaps} {step : Step} {functions : List (List ℕ × ℕ)} {core_names : List (List ℕ × List ℕ)} {main : Option ℕ} (index : ℕ) → Extends old new → AreImported step →
+    IsInstanceOf new.defs index 0 → IsEncoding w old.defs maps step functions core_names main → IsEncoding w new.defs maps Instantiated functions core_names (Some index)
+encoding-instantiated {w} {old} {new} {maps} index g s made h = record {
   valid = h.valid;
   named = h.named;
+  tables = tables_kept w old new maps g h.tables;
   imports = λ _. FindsImports-kept (longer g) (h.imports s);
   used = λ _. h.used s;
   made = λ _. record { index = index; known = refl; made = made };
 }
 
 -- what the steps read of a state
-pub sources_of : (s : ImportSources) {ds : List Def} {step : Step} {core_names : List (List ℕ × List ℕ)} {main : Option ℕ} → IsEncoding s.world.now ds step s.functions.now core_names main → AreImported step → AreSources s ds
+pub sources_of : (s : ImportSources) {ds : List Def} {maps : TypeEncodingMaps} {step : Step} {core_names : List (List ℕ × List ℕ)} {main : Option ℕ} → IsEncoding s.world.now ds maps step s.functions.now core_names main → AreImported step → AreSources s ds
 sources_of s h i = record { valid = h.valid; imports = h.imports i; used = h.used i }
 
-pub exports_of : (e : MainExports) {ds : List Def} {step : Step} {functions : List (List ℕ × ℕ)} {main : Option ℕ} → IsEncoding e.world.now ds step functions e.core_names.now main → step ≡ Instantiated → main ≡ Some e.instance → AreExports e ds
-exports_of e {ds} h i known =
-    let m = h.made i in record { valid = h.valid; named = h.named; made = subst (λ n. IsInstanceOf ds n 0) (same_Some m.index e.instance (sym m.known ∙ known)) m.made }
+pub exports_of : (w : ComponentWorld) (e : MainExports) {ds : List Def} {maps : TypeEncodingMaps} {step : Step} {functions : List (List ℕ × ℕ)} {main : Option ℕ} → IsEncoding w ds maps step functions e.core_names.now main → step ≡ Instantiated → main ≡ Some e.instance →
+    AreExports w e ds maps
+exports_of w e {ds} h i known =
+    let m = h.made i in
+    record { valid = h.valid; named = h.named; made = subst (λ n. IsInstanceOf ds n 0) (same_Some m.index e.instance (sym m.known ∙ known)) m.made; tables = h.tables }
 
-pub main_known : {w : ComponentWorld} {ds : List Def} {step : Step} {functions : List (List ℕ × ℕ)} {core_names : List (List ℕ × List ℕ)} {main : Option ℕ} → IsEncoding w ds step functions core_names main → step ≡ Instantiated → IsSome main
+pub main_known : {w : ComponentWorld} {ds : List Def} {maps : TypeEncodingMaps} {step : Step} {functions : List (List ℕ × ℕ)} {core_names : List (List ℕ × List ℕ)} {main : Option ℕ} → IsEncoding w ds maps step functions core_names main → step ≡ Instantiated → IsSome main
 main_known h i = let m = h.made i in subst (λ o. IsSome o) (sym m.known) refl
 
 -- ---- the entries of an inline instance are core functions
@@ -113,10 +123,10 @@ entries_in_range w ds [] [] r h = tt
 entries_in_range w ds (e ∷ es) (f ∷ fs) r h = (one e f.1 r.0 h.0.serves, entries_in_range w ds es fs r.1 h.1)
   where
     by_kind : (kind : ExportKind) (index : ℕ) (text : List ℕ) (t : Term) → Is ds (kind_space kind) index t → IsTermFor w (Lowered (OfRoot text) []) t → (kind ≡ kinds.Func) × (index < items_in spaces.CoreFunc ds)
-    by_kind kinds.Func index text (terms.Lowering origin os) is asked = (refl, in_range is.made)
-    by_kind kinds.Table index text (terms.Lowering origin os) is asked = absurd is
-    by_kind kinds.Memory index text (terms.Lowering origin os) is asked = absurd is
-    by_kind kinds.Global index text (terms.Lowering origin os) is asked = absurd is
+    by_kind kinds.Func index text (terms.Lowering origin type os) is asked = (refl, in_range is.made)
+    by_kind kinds.Table index text (terms.Lowering origin type os) is asked = absurd is
+    by_kind kinds.Memory index text (terms.Lowering origin type os) is asked = absurd is
+    by_kind kinds.Global index text (terms.Lowering origin type os) is asked = absurd is
     by_kind kind index text t is asked = absurd asked
 
     one : (e : CoreInlineExport) (role : Import) → IsImportRole w role → IsItemFor w ds (kind_space e.kind) e.index (link_of w Main role) → IsEntry ds e

@@ -1,5 +1,5 @@
 -- A list that keeps the rules names earlier items, each by its index and space.
-use Rattle.std.proofs.Common.{◌≡◌, ℕ, ◌<◌, List, [], ◌∷◌, ◌++◌, sym, subst, Some, None}
+use Rattle.std.proofs.Common.{◌≡◌, ℕ, ◌<◌, length, List, [], ◌∷◌, ◌++◌, sym, subst, Some, None}
 use Rattle.std.specs.List.{AllByRecursion, AllZip, flat_map}
 use Rattle.comp_bytes.specs.Spaces.{items_in, space_of, kind_space}
 use Rattle.comp_bytes.specs.References.{Reference, own, type_references, options_references, type_at}
@@ -22,13 +22,39 @@ use Rattle.comp_roles.specs.declared.imports.ImportInstance.{ImportInstance}
 use Rattle.comp_worlds.specs.declared.world.ComponentWorld.{ComponentWorld}
 use Rattle.comp_links.specs.Targets.{UserModule}
 use Rattle.comp_terms.specs.Planned.{IsArgumentFor}
-use Rattle.comp_items.proofs.Kept.{term_in_range}
-use Rattle.comp_terms.specs.Rules.{plain_function, IsRight, RightAfter, IsEntry, IsBuilt}
+use Rattle.comp_trees.specs.Inventories as inventory
+use Rattle.comp_trees.proofs.InventoryGrowth.{scope_counted}
+use Rattle.comp_trees.proofs.KnownScopes.{known_defined, known_function_names}
+use Rattle.comp_items.proofs.Kept.{function_in_range}
+use Rattle.comp_terms.specs.Rules.{IsTypeRight, IsRight, RightAfter, IsEntry, IsBuilt}
 
 abbrev Within : List Def → Reference → Type 0
 Within earlier = InScope (scope_of space_of earlier ∷ [])
 
 arguments_within : (w : ComponentWorld) (of : UserModule) (earlier : List Def) (as' : List CoreArgument) (gs : List (List ℕ × ImportInstance)) → AllZip (IsArgumentFor w of earlier) as' gs →
+    AllByRecursion (Within earlier) (flat_map (λ a. own spaces.CoreInstance a.instance ∷ []) as')
+arguments_within w of earlier [] [] h = tt
+arguments_within w of earlier (a ∷ as') (g ∷ gs) h = (in_range h.0.serves.made, arguments_within w of earlier as' gs h.1)
+arguments_within w of earlier [] (g ∷ gs) h = absurd h
+arguments_within w of earlier (a ∷ as') [] h = absurd h
+
+entries_within : (earlier : List Def) (es : List CoreInlineExport) → AllByRecursion (IsEntry earlier) es → AllByRecursion (Within earlier) (flat_map (λ e. own (kind_space e.kind) e.index ∷ []) es)
+entries_within earlier [] h = tt
+entries_within earlier (e ∷ es) h = (subst (λ k. e.index < items_in (kind_space k) earlier) (sym h.0.kind) h.0.scoped, entries_within earlier es h.1)
+
+no_options : (earlier : List Def) (options : List CanonicalOption) → options ≡ [] → AllByRecursion (Within earlier) (options_references options)
+no_options earlier options none = subst (λ o. AllByRecursion (Within earlier) (options_references o)) (sym none) tt
+
+type_named : (earlier : List Def) (index : ℕ) → index < length (inventory.scope_of earlier) → Within earlier (own spaces.Type index)
+type_named earlier index l = subst (λ n. index < n) (scope_counted earlier) l
+
+-- a type names types of the list, since nothing in it is unknown
+type_within : (earlier : List Def) (t : TypeDef) → IsTypeRight (inventory.scope_of earlier) t → AllByRecursion (Within earlier) (type_references t)
+type_within earlier (types.Func f) h = known_function_names (Within earlier) (inventory.scope_of earlier) (type_named earlier) f h
+type_within earlier (types.Defined t) h = known_defined (Within earlier) (inventory.scope_of earlier) (type_named earlier) t h
+type_within earlier (types.Resource destructor) h = absurd h
+
+within : (w : ComponentWorld) (of : UserModule) (earlier : List Def) (as' : List CoreArgument) (gs : List (List ℕ × ImportInstance)) → AllZip (IsArgumentFor w of earlier) as' gs →
     AllByRecursion (Within earlier) (flat_map (λ a. own spaces.CoreInstance a.instance ∷ []) as')
 arguments_within w of earlier [] [] h = tt
 arguments_within w of earlier (a ∷ as') (g ∷ gs) h = (in_range h.0.serves.made, arguments_within w of earlier as' gs h.1)
@@ -57,17 +83,17 @@ within w earlier (defs.Item (items.Alias (aliases.CoreExport kinds.Table instanc
 within w earlier (defs.Item (items.Alias (aliases.CoreExport kinds.Memory instance name))) h = absurd h
 within w earlier (defs.Item (items.Alias (aliases.CoreExport kinds.Global instance name))) h = absurd h
 within w earlier (defs.Item (items.Alias (aliases.Outer count index))) h = absurd h
-within w earlier (defs.Item (items.Type t)) h = (plain_within earlier t h, tt)
+within w earlier (defs.Item (items.Type t)) h = (type_within earlier t h, tt)
 within w earlier (defs.Item (items.InstanceType t)) h = absurd h
 within w earlier (defs.Item (items.Lift core options kind)) h =
-    ((h.0, subst (λ (o : List CanonicalOption). AllByRecursion (Within earlier) (options_references o ++ type_at kind)) (sym h.1) (in_range h.2.made, tt)), tt)
-within w earlier (defs.Item (items.Lower function options)) h = ((h.0, no_options earlier options h.1), tt)
+    ((h.0, subst (λ (o : List CanonicalOption). AllByRecursion (Within earlier) (options_references o ++ type_at kind)) (sym h.1) (type_named earlier kind h.2.is.denotes.within, tt)), tt)
+within w earlier (defs.Item (items.Lower function options)) h = ((function_in_range h.0.is, no_options earlier options h.1), tt)
 within w earlier (defs.Item (items.Intrinsic i)) h = absurd h
-within w earlier (defs.Item (items.Import name (descriptions.Func kind))) h = ((in_range h.1.made, tt), tt)
-within w earlier (defs.Item (items.Import name (descriptions.TypeEqual index))) h = absurd h
-within w earlier (defs.Item (items.Import name descriptions.SubResource)) h = absurd h
-within w earlier (defs.Item (items.Import name (descriptions.Instance index))) h = absurd h
-within w earlier (defs.Item (items.Export name sorts.Func index None)) h = ((term_in_range earlier spaces.Func index h.lifted.term h.lifted.is, tt), tt)
+within w earlier (defs.Item (items.Import name (descriptions.Func kind))) h = ((type_named earlier kind h.1.is.denotes.within, tt), tt)
+within w earlier (defs.Item (items.Import name (descriptions.TypeEqual index))) h = ((type_named earlier index h.1, tt), tt)
+within w earlier (defs.Item (items.Import name descriptions.SubResource)) h = (tt, tt)
+within w earlier (defs.Item (items.Import name (descriptions.Instance index))) h = absurd h.1
+within w earlier (defs.Item (items.Export name sorts.Func index None)) h = ((in_range h.lifted.is.made, tt), tt)
 within w earlier (defs.Item (items.Export name sorts.Func index (Some d))) h = absurd h
 within w earlier (defs.Item (items.Export name (sorts.Core kind) index None)) h = absurd h
 within w earlier (defs.Item (items.Export name (sorts.Core kind) index (Some d))) h = absurd h

@@ -47,11 +47,6 @@ LacksEncoding w place = LacksImportEncoding w (core_imports w) place ⊎ LacksEx
 abbrev pub IsCause : ComponentWorld → StateFault → Type 0
 IsCause w = IsCauseAmong w (core_imports w) w.main_exports
 
--- the cause of a fault of the builder
-abbrev pub IsBuildRefusal : BuildFault → Type 0
-IsBuildRefusal build.Memory = Unit {0}
-IsBuildRefusal (build.TooMany excess) = 2 ^ 32 ≤ excess
-
 -- each core import and each required export has a string encoding
 pub record IsEncoded (w : ComponentWorld) : Type 0 where
   pub imports : AllByRecursion (λ i. IsSome (import_encoding w i.role)) (core_imports w)

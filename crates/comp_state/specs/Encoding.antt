@@ -8,12 +8,15 @@ use Rattle.comp_bytes.specs.declared.def.Item.TheVariants as items
 use Rattle.comp_bytes.specs.declared.def.Def.{Def}
 use Rattle.comp_bytes.specs.declared.def.Def.TheVariants as defs
 use Rattle.wit_data.specs.Keys.{name_of_key}
+use Rattle.wit_data.specs.declared.functions.Function.{Function as WitFunction}
+use Rattle.world_values.specs.Items.{root_function_at}
+use Rattle.comp_worlds.specs.Worlds.{items_of}
 use Rattle.wit_data.specs.declared.worlds.WorldKey.{WorldKey}
 use Rattle.comp_worlds.specs.declared.world.ComponentWorld.{ComponentWorld}
 use Rattle.comp_links.specs.Targets.{Main, Target}
 use Rattle.comp_links.specs.Links.{lift_of}
 use Rattle.comp_links.specs.Roles.{export_encoding}
-use Rattle.comp_terms.specs.Planned.{IsItemFor}
+use Rattle.comp_terms.specs.Planned.{type_of_function, IsLiftFor}
 use Rattle.comp_state.specs.declared.state.Step.{Step}
 use Rattle.comp_state.specs.declared.state.Step.TheVariants.{Started, Imported, Instantiated}
 
@@ -33,9 +36,11 @@ AreImported Instantiated = Unit {0}
 pub record IsFirstModule (w : ComponentWorld) (ds : List Def) : Type 0 where
   pub made : IsAt ds spaces.CoreModule 0 (defs.Item (items.CoreModule w.main.bytes))
 
--- the function is the lift that the link table names for the required function of this key
-pub record IsLiftFor (w : ComponentWorld) (ds : List Def) (index : ℕ) (key : WorldKey) : Type 0 where
+-- the function is the lift that the link table names for the required function of this key, with its type
+pub record IsRequiredLift (w : ComponentWorld) (ds : List Def) (index : ℕ) (key : WorldKey) : Type 0 where
   pub target : Target
+  pub wit : WitFunction
   pub said : lift_of w (record { of = Main; key = key; function = name_of_key key }) ≡ Some target
-  pub is : IsItemFor w ds spaces.Func index target
+  pub exported : root_function_at (items_of w).exports key ≡ Some wit
+  pub is : IsLiftFor w ds index target (type_of_function w wit)
   pub encoded : IsSome (export_encoding w key)

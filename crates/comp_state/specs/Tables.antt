@@ -1,38 +1,19 @@
 -- What the look-ups of an encoding state hold. No public contract mentions them. (The rules are this project's own.)
-use Rattle.std.specs.Prelude.{◌≡◌, ℕ, List, Option, Some, IsSome, IsTrue}
+use Rattle.std.specs.Prelude.{◌≡◌, ℕ, List, Option, Some}
 use Rattle.comp_lists.specs.Found.{found}
 use Rattle.comp_bytes.specs.declared.def.Def.{Def}
 use Rattle.wit_data.specs.declared.worlds.WorldKey.TheVariants as keys
 use Rattle.comp_worlds.specs.Worlds.{IsWorld, core_name_of}
 use Rattle.comp_worlds.specs.declared.world.ComponentWorld.{ComponentWorld}
-use Rattle.comp_runs.specs.Store.{Origin}
-use Rattle.comp_links.specs.Targets.{OfRoot}
-use Rattle.comp_links.specs.Lists.{IsOriginOf}
-use Rattle.comp_links.specs.Roles.{is_used}
-use Rattle.comp_terms.specs.Terms.{IsImportedFunction, IsInstanceOf}
+use Rattle.comp_terms.specs.Terms.{IsInstanceOf}
+use Rattle.wit_types.specs.declared.maps.TypeEncodingMaps.{TypeEncodingMaps}
+use Rattle.comp_imports.specs.RootScopes.{AreTablesRight}
+use Rattle.comp_imports.specs.Imports.{FindsImports, FindsUsed}
 use Rattle.comp_state.specs.Encoding.{AreImported}
 use Rattle.comp_state.specs.declared.state.Step.{Step}
 use Rattle.comp_state.specs.declared.state.Step.TheVariants.{Instantiated}
 use Rattle.comp_state.specs.declared.instances.ImportSources.{ImportSources}
 use Rattle.comp_state.specs.declared.exports.MainExports.{MainExports}
-
--- the function is the world's root function of this name, as it is imported
-pub record IsRootImport (w : ComponentWorld) (ds : List Def) (index : ℕ) (text : List ℕ) : Type 0 where
-  pub origin : Origin
-  pub of : IsOriginOf w (OfRoot text) origin
-  pub is : IsImportedFunction ds index origin
-
--- each name is that of a root function, as it is imported
-pub record FindsImports (w : ComponentWorld) (ds : List Def) (functions : List (List ℕ × ℕ)) : Type 0 where
-  pub each : (text : List ℕ) (index : ℕ) → found text functions ≡ Some index → IsRootImport w ds index text
-
--- what was found before is still found
-pub record FindsMore (old new : List (List ℕ × ℕ)) : Type 0 where
-  pub each : (text : List ℕ) → IsSome (found text old) → IsSome (found text new)
-
--- each root function that a core import uses is found
-pub record FindsUsed (w : ComponentWorld) (functions : List (List ℕ × ℕ)) : Type 0 where
-  pub each : (text : List ℕ) → IsTrue (is_used w text) → IsSome (found text functions)
 
 -- each name of a root function has the name of the core export that implements it
 pub record FindsCoreNames (w : ComponentWorld) (core_names : List (List ℕ × List ℕ)) : Type 0 where
@@ -44,11 +25,12 @@ pub record AreSources (s : ImportSources) (ds : List Def) : Type 0 where
   pub imports : FindsImports s.world.now ds s.functions.now
   pub used : FindsUsed s.world.now s.functions.now
 
--- what root functions are lifted from is there
-pub record AreExports (e : MainExports) (ds : List Def) : Type 0 where
-  pub valid : IsWorld e.world.now
-  pub named : FindsCoreNames e.world.now e.core_names.now
+-- what root functions are lifted from is there, and the tables of types are right
+pub record AreExports (w : ComponentWorld) (e : MainExports) (ds : List Def) (maps : TypeEncodingMaps) : Type 0 where
+  pub valid : IsWorld w
+  pub named : FindsCoreNames w e.core_names.now
   pub made : IsInstanceOf ds e.instance 0
+  pub tables : AreTablesRight w ds maps
 
 -- main's instance
 pub record IsMain (ds : List Def) (main : Option ℕ) : Type 0 where
@@ -56,10 +38,11 @@ pub record IsMain (ds : List Def) (main : Option ℕ) : Type 0 where
   pub known : main ≡ Some index
   pub made : IsInstanceOf ds index 0
 
--- the world is a valid one, and the look-ups hold what the steps so far have made
-pub record IsEncoding (w : ComponentWorld) (ds : List Def) (step : Step) (functions : List (List ℕ × ℕ)) (core_names : List (List ℕ × List ℕ)) (main : Option ℕ) : Type 0 where
+-- the world is a valid one, and the tables and look-ups hold what the steps so far have made
+pub record IsEncoding (w : ComponentWorld) (ds : List Def) (maps : TypeEncodingMaps) (step : Step) (functions : List (List ℕ × ℕ)) (core_names : List (List ℕ × List ℕ)) (main : Option ℕ) : Type 0 where
   pub valid : IsWorld w
   pub named : FindsCoreNames w core_names
+  pub tables : AreTablesRight w ds maps
   pub imports : AreImported step → FindsImports w ds functions
   pub used : AreImported step → FindsUsed w functions
   pub made : step ≡ Instantiated → IsMain ds main

@@ -5,7 +5,8 @@ ghost use Rattle.std.specs.Prelude.{◌≡◌, [], ◌∷◌, ◌++◌, List, �
 ghost use Rattle.comp_builder.specs.Naming.{with_names};
 ghost use Rattle.comp_bytes.specs.Scopes.{Scoped};
 ghost use Rattle.comp_worlds.specs.Worlds.{IsWorld};
-ghost use Rattle.comp_state.specs.Causes.{IsCause, IsBuildRefusal, LacksEncoding, IsEncoded};
+ghost use Rattle.comp_imports.specs.RootScopes.{IsRefusal};
+ghost use Rattle.comp_state.specs.Causes.{IsCause, LacksEncoding, IsEncoded};
 ghost use Rattle.comp_terms.specs.Rules.{Grows, IsUnnamed, IsBuilt, expected};
 
 use crate::fault::StateFault;
@@ -18,7 +19,7 @@ use std::alloc::Global;
 /// A component, with the names of its items.
 fn name_items(mut component: ComponentBuilder) -> Result<ComponentBuilder, BuildFault>
     ensures ok { IfOk result (λ named. named ≡ with_names component) }
-    ensures cause { IfErr result IsBuildRefusal }
+    ensures cause { IfErr result IsRefusal }
 {
     component.append_names()?;
     Ok(component)

@@ -3,142 +3,169 @@
 
 ghost use Rattle.std.specs.Prelude.{◌≡◌, [], ◌∷◌, List, IfOk, IfErr, OnOk, IsSome, Some};
 ghost use Rattle.std.specs.List.{AllByRecursion};
+ghost use Rattle.comp_imports.specs.RootScopes.{AreTablesRight, IsRefusal};
 ghost use Rattle.comp_items.specs.Items.{Extends};
 ghost use Rattle.comp_links.specs.Roles.{export_encoding};
-ghost use Rattle.comp_state.specs.Causes.{IsCause, IsCauseAmong, IsBuildRefusal};
-ghost use Rattle.comp_state.specs.Encoding.{IsLiftFor};
+ghost use Rattle.comp_state.specs.Causes.{IsCause, IsCauseAmong};
+ghost use Rattle.comp_state.specs.Encoding.{IsRequiredLift};
 ghost use Rattle.comp_state.specs.Tables.{AreExports, FindsCoreNames};
 ghost use Rattle.comp_terms.specs.Rules.{Grows, named_export, exports_marked};
-ghost use Rattle.comp_worlds.specs.Worlds.{core_name_of};
+ghost use Rattle.comp_worlds.specs.Worlds.{IsWorld, items_of, core_name_of};
 ghost use Rattle.wit_data.specs.Keys.{name_of_key};
+ghost use Rattle.wit_data.specs.Sound.{HasFunction};
+ghost use Rattle.world_values.specs.Items.{root_function_at};
 
 use crate::fault::StateFault;
 use crate::instances::is_encoded;
 use byte_encoding::BuildFault;
 use comp_bytes::{ExternName, Sort};
-use comp_items::ComponentItems;
+use comp_imports::RootScope;
 use comp_lists::{Keyed, Seq, Text};
 use comp_worlds::ComponentWorld;
 use standard_kinds::ExportKind;
 use std::alloc::Global;
-use wit_data::WorldKey;
+use wit_data::{Function, WorldItem, WorldKey};
+
+/// The name of a root function.
+fn function_name<'k>(world: &ComponentWorld, key: &'k WorldKey) -> &'k Text
+    requires { IsSome (core_name_of world.now key.now) }
+    ensures { result.now ≡ name_of_key key.now }
+{
+    let _ = world;
+    match key {
+        WorldKey::Name(function) => function,
+        WorldKey::Interface(_) => unreachable!(),
+    }
+}
+
+/// The function that the world exports at a key.
+fn exported_function<'w>(world: &'w ComponentWorld, key: &WorldKey) -> &'w Function
+    requires valid { IsWorld world.now }
+    requires present { IsSome (core_name_of world.now key.now) }
+    ensures found { root_function_at (items_of world.now).exports key.now ≡ Some result.now }
+    ensures sound { HasFunction world.now.resolve result.now }
+{
+    match world.items().exports.get(key) {
+        Some(WorldItem::Function(function)) => function,
+        _ => unreachable!(),
+    }
+}
+
+/// Checks that a root function that is lifted has a string encoding.
+fn check_encoding(
+    alloc: Global,
+    world: &ComponentWorld,
+    key: &WorldKey,
+) -> Result<(), StateFault>
+    requires { IsSome (core_name_of world.now key.now) }
+    ensures ok { OnOk result (IsSome (export_encoding world.now key.now)) }
+    ensures cause { IfErr result (IsCauseAmong world.now [] (key.now ∷ [])) }
+{
+    let function = function_name(world, key);
+    let encodings = &world.main.metadata.export_encodings;
+    if !is_encoded(alloc, encodings, function, function)? {
+        let place = function.clone(alloc)?;
+        return Err(StateFault::NoEncoding { place });
+    }
+    Ok(())
+}
 
 /// What root functions are lifted from: main's instance, and the names of its exports by the functions that they implement.
 #[derive(Clone, Copy)]
 pub(crate) struct MainExports<'a> {
-    pub(crate) world: &'a ComponentWorld,
     pub(crate) core_names: &'a Keyed<Text, Text>,
     pub(crate) instance: u32,
 }
 
 impl MainExports<'_> {
-    /// The name of a root function.
-    fn function_name<'k>(&self, key: &'k WorldKey) -> &'k Text
-        requires { IsSome (core_name_of self.now.world.now key.now) }
-        ensures { result.now ≡ name_of_key key.now }
-    {
-        match key {
-            WorldKey::Name(function) => function,
-            WorldKey::Interface(_) => unreachable!(),
-        }
-    }
-
     /// The name of the core export that implements a root function.
-    fn core_name(&self, key: &WorldKey) -> &Text
-        requires named { FindsCoreNames self.now.world.now self.now.core_names.now }
-        requires present { IsSome (core_name_of self.now.world.now key.now) }
-        ensures { core_name_of self.now.world.now key.now ≡ Some result.now }
+    fn core_name(&self, world: &ComponentWorld, key: &WorldKey) -> &Text
+        requires named { FindsCoreNames world.now self.now.core_names.now }
+        requires present { IsSome (core_name_of world.now key.now) }
+        ensures { core_name_of world.now key.now ≡ Some result.now }
     {
+        let _ = world;
         match key {
             WorldKey::Name(function) => self.core_names.get(function).unwrap(),
             WorldKey::Interface(_) => unreachable!(),
         }
     }
 
-    /// Checks that a root function that is lifted has a string encoding.
-    fn check_encoding(&self, alloc: Global, key: &WorldKey) -> Result<(), StateFault>
-        requires { IsSome (core_name_of self.now.world.now key.now) }
-        ensures ok { OnOk result (IsSome (export_encoding self.now.world.now key.now)) }
-        ensures cause { IfErr result (IsCauseAmong self.now.world.now [] (key.now ∷ [])) }
-    {
-        let function = self.function_name(key);
-        let encodings = &self.world.main.metadata.export_encodings;
-        if !is_encoded(alloc, encodings, function, function)? {
-            let place = function.clone(alloc)?;
-            return Err(StateFault::NoEncoding { place });
-        }
-        Ok(())
-    }
-
     /// Lifts a root function from the core export that implements it.
-    fn lift_function(
-        &self,
-        component: &mut ComponentItems,
-        key: &WorldKey,
-    ) -> Result<u32, BuildFault>
-        requires exports { AreExports self.now component.old.defs }
-        requires present { IsSome (core_name_of self.now.world.now key.now) }
-        requires encoded { IsSome (export_encoding self.now.world.now key.now) }
-        ensures extends { Extends component.old component.new }
-        ensures grows { OnOk result (Grows self.now.world.now component.old.defs component.new.defs []) }
-        ensures lifted { IfOk result (λ index. IsLiftFor self.now.world.now component.new.defs index key.now) }
-        ensures cause { IfErr result IsBuildRefusal }
+    fn lift_function(&self, root: &mut RootScope<'_>, key: &WorldKey) -> Result<u32, BuildFault>
+        requires exports { AreExports root.old.world.now self.now root.old.items.defs root.old.maps }
+        requires present { IsSome (core_name_of root.old.world.now key.now) }
+        requires encoded { IsSome (export_encoding root.old.world.now key.now) }
+        ensures world { root.new.world ≡ root.old.world }
+        ensures extends { Extends root.old.items root.new.items }
+        ensures tables { AreTablesRight root.old.world.now root.new.items.defs root.new.maps }
+        ensures grows { OnOk result (Grows root.old.world.now root.old.items.defs root.new.items.defs []) }
+        ensures lifted { IfOk result (λ index. IsRequiredLift root.old.world.now root.new.items.defs index key.now) }
+        ensures cause { IfErr result IsRefusal }
     {
-        let function = self.function_name(key);
-        let ty = component.plain_function_type()?;
-        let core_name = self.core_name(key);
-        let core = component.core_export(self.instance, ExportKind::Func, core_name)?;
-        let options = Seq::new(component.allocator());
-        let index = component.lift_function(Some(function.as_str()), core, ty, options)?;
+        let world = root.world;
+        let ty = root.function_type(exported_function(world, key))?;
+        let core_name = self.core_name(world, key);
+        let core = root
+            .items
+            .core_export(self.instance, ExportKind::Func, core_name)?;
+        let name = function_name(world, key);
+        let options = Seq::new(root.items.allocator());
+        let index = root
+            .items
+            .lift_function(Some(name.as_str()), core, ty, options)?;
         Ok(index)
     }
 
     /// Lifts a required function.
-    pub(crate) fn lift(
-        &self,
-        component: &mut ComponentItems,
-        key: &WorldKey,
-    ) -> Result<u32, StateFault>
-        requires exports { AreExports self.now component.old.defs }
-        requires present { IsSome (core_name_of self.now.world.now key.now) }
-        ensures extends { Extends component.old component.new }
-        ensures grows { OnOk result (Grows self.now.world.now component.old.defs component.new.defs []) }
-        ensures lifted { IfOk result (λ index. IsLiftFor self.now.world.now component.new.defs index key.now) }
-        ensures cause { IfErr result (IsCauseAmong self.now.world.now [] (key.now ∷ [])) }
+    pub(crate) fn lift(&self, root: &mut RootScope<'_>, key: &WorldKey) -> Result<u32, StateFault>
+        requires exports { AreExports root.old.world.now self.now root.old.items.defs root.old.maps }
+        requires present { IsSome (core_name_of root.old.world.now key.now) }
+        ensures world { root.new.world ≡ root.old.world }
+        ensures extends { Extends root.old.items root.new.items }
+        ensures tables { AreTablesRight root.old.world.now root.new.items.defs root.new.maps }
+        ensures grows { OnOk result (Grows root.old.world.now root.old.items.defs root.new.items.defs []) }
+        ensures lifted { IfOk result (λ index. IsRequiredLift root.old.world.now root.new.items.defs index key.now) }
+        ensures cause { IfErr result (IsCauseAmong root.old.world.now [] (key.now ∷ [])) }
     {
-        self.check_encoding(component.allocator(), key)?;
-        let index = self.lift_function(component, key)?;
+        check_encoding(root.items.allocator(), root.world, key)?;
+        let index = self.lift_function(root, key)?;
         Ok(index)
     }
 
     /// Lifts a required function, and exports it under its name.
-    fn export(&self, component: &mut ComponentItems, key: &WorldKey) -> Result<(), StateFault>
-        requires exports { AreExports self.now component.old.defs }
-        requires present { IsSome (core_name_of self.now.world.now key.now) }
-        ensures extends { Extends component.old component.new }
-        ensures grows { OnOk result (Grows self.now.world.now component.old.defs component.new.defs (named_export (name_of_key key.now) ∷ [])) }
-        ensures encoded { OnOk result (IsSome (export_encoding self.now.world.now key.now)) }
-        ensures cause { IfErr result (IsCauseAmong self.now.world.now [] (key.now ∷ [])) }
+    fn export(&self, root: &mut RootScope<'_>, key: &WorldKey) -> Result<(), StateFault>
+        requires exports { AreExports root.old.world.now self.now root.old.items.defs root.old.maps }
+        requires present { IsSome (core_name_of root.old.world.now key.now) }
+        ensures world { root.new.world ≡ root.old.world }
+        ensures extends { Extends root.old.items root.new.items }
+        ensures tables { AreTablesRight root.old.world.now root.new.items.defs root.new.maps }
+        ensures grows { OnOk result (Grows root.old.world.now root.old.items.defs root.new.items.defs (named_export (name_of_key key.now) ∷ [])) }
+        ensures encoded { OnOk result (IsSome (export_encoding root.old.world.now key.now)) }
+        ensures cause { IfErr result (IsCauseAmong root.old.world.now [] (key.now ∷ [])) }
     {
         let name = ExternName {
-            name: self.function_name(key).clone(component.allocator())?,
+            name: function_name(root.world, key).clone(root.items.allocator())?,
             version_suffix: None,
         };
-        let lifted = self.lift(component, key)?;
-        component.export(name, Sort::Func, lifted)?;
+        let lifted = self.lift(root, key)?;
+        root.items.export(name, Sort::Func, lifted)?;
         Ok(())
     }
 
     /// Lifts and exports the required exports of main, in order.
-    pub(crate) fn export_all(&self, component: &mut ComponentItems) -> Result<(), StateFault>
-        requires { AreExports self.now component.old.defs }
-        ensures extends { Extends component.old component.new }
-        ensures grows { OnOk result (Grows self.now.world.now component.old.defs component.new.defs (exports_marked self.now.world.now)) }
-        ensures encoded { OnOk result (AllByRecursion (λ key. IsSome (export_encoding self.now.world.now key)) self.now.world.now.main_exports) }
-        ensures cause { IfErr result (IsCause self.now.world.now) }
+    pub(crate) fn export_all(&self, root: &mut RootScope<'_>) -> Result<(), StateFault>
+        requires { AreExports root.old.world.now self.now root.old.items.defs root.old.maps }
+        ensures world { root.new.world ≡ root.old.world }
+        ensures extends { Extends root.old.items root.new.items }
+        ensures tables { AreTablesRight root.old.world.now root.new.items.defs root.new.maps }
+        ensures grows { OnOk result (Grows root.old.world.now root.old.items.defs root.new.items.defs (exports_marked root.old.world.now)) }
+        ensures encoded { OnOk result (AllByRecursion (λ key. IsSome (export_encoding root.old.world.now key)) root.old.world.now.main_exports) }
+        ensures cause { IfErr result (IsCause root.old.world.now) }
     {
-        for key in self.world.main_exports.as_slice() {
-            self.export(component, key)?;
+        let world = root.world;
+        for key in world.main_exports.as_slice() {
+            self.export(root, key)?;
         }
         Ok(())
     }

@@ -14,7 +14,8 @@ ghost use Rattle.comp_lists.specs.Found.{found};
 ghost use Rattle.comp_roles.specs.CoreImports.{imports_from};
 ghost use Rattle.comp_roles.specs.Functions.{of_function};
 ghost use Rattle.comp_roles.specs.declared.imports.ImportInstance.TheVariants.{Names};
-ghost use Rattle.comp_state.specs.Causes.{IsCause, IsCauseAmong, IsBuildRefusal};
+ghost use Rattle.comp_imports.specs.RootScopes.{IsRefusal};
+ghost use Rattle.comp_state.specs.Causes.{IsCause, IsCauseAmong};
 ghost use Rattle.comp_state.specs.Tables.{AreSources};
 ghost use Rattle.comp_terms.specs.Planned.{IsItemFor, IsEntryFor, IsInlineInstanceFor, IsArgumentFor};
 ghost use Rattle.comp_terms.specs.Rules.{Grows};
@@ -72,7 +73,7 @@ impl ImportSources<'_> {
         ensures extends { Extends component.old component.new }
         ensures grows { OnOk result (Grows self.now.world.now component.old.defs component.new.defs []) }
         ensures lowered { IfOk result (λ index. IsItemFor self.now.world.now component.new.defs CoreFunc index (Lowered (OfRoot name.now) [])) }
-        ensures cause { IfErr result IsBuildRefusal }
+        ensures cause { IfErr result IsRefusal }
     {
         let function = *self.functions.get(name).unwrap();
         let options = Seq::new(component.allocator());

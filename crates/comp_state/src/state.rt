@@ -10,7 +10,7 @@ ghost use Rattle.comp_links.specs.Links.{link_of};
 ghost use Rattle.comp_links.specs.Roles.{import_encoding, export_encoding};
 ghost use Rattle.comp_links.specs.Targets.{Main};
 ghost use Rattle.comp_state.specs.Causes.{IsCause, IsCauseAmong};
-ghost use Rattle.comp_state.specs.Encoding.{AreImported, IsFirstModule, IsLiftFor};
+ghost use Rattle.comp_state.specs.Encoding.{AreImported, IsFirstModule, IsRequiredLift};
 ghost use Rattle.comp_state.specs.declared.state.Step.TheVariants.{Started, Imported, Instantiated};
 ghost use Rattle.comp_terms.specs.Planned.{IsItemFor};
 ghost use Rattle.comp_terms.specs.Rules.{Grows, ModuleIs, InstanceOf, imports_marked, exports_marked, landmarks};
@@ -18,9 +18,9 @@ ghost use Rattle.comp_worlds.specs.Worlds.{IsWorld, core_imports, core_name_of};
 
 use crate::exports::MainExports;
 use crate::fault::StateFault;
-use crate::imports::import_functions;
 use crate::indexes::core_names;
 use crate::instances::ImportSources;
+use comp_imports::RootScope;
 use comp_items::ComponentItems;
 use comp_lists::{Keyed, Text};
 use comp_worlds::{ComponentWorld, Import};
@@ -47,8 +47,8 @@ pub enum Step {
 ///
 /// After a refused step the component has only grown at its end, and is to be dropped.
 pub struct EncodingState<'a> {
-    pub(crate) world: &'a ComponentWorld,
-    pub(crate) component: ComponentItems,
+    /// The world, the component under construction, and the types that were met.
+    pub(crate) root: RootScope<'a>,
     pub(crate) step: Step,
     /// The root functions that were imported.
     pub(crate) functions: Keyed<Text, u32>,
@@ -61,8 +61,7 @@ pub struct EncodingState<'a> {
 impl Drop for EncodingState<'_> {
     fn drop(self) {
         let EncodingState {
-            world: _,
-            component: _,
+            root: _,
             step: _,
             functions: _,
             core_names: _,
@@ -77,9 +76,9 @@ impl<'a> Model for EncodingState<'a> {
 
     ghost Value = { Encoding };
 
-    ghost view = { λ s. record { world = s.world.now; built = s.component; step = s.step } };
+    ghost view = { λ s. record { world = s.root.world.now; built = s.root.items; step = s.step } };
 
-    ghost invariant = { λ s. IsEncoding s.world.now s.component.defs s.step s.functions s.core_names s.main };
+    ghost invariant = { λ s. IsEncoding s.root.world.now s.root.items.defs s.root.maps s.step s.functions s.core_names s.main };
 }
 
 impl<'a> EncodingState<'a> {
@@ -90,8 +89,7 @@ impl<'a> EncodingState<'a> {
     {
         let core_names = core_names(alloc, &world.main.exports.exports)?;
         Ok(EncodingState {
-            world,
-            component: ComponentItems::new(alloc),
+            root: RootScope::new(alloc, world),
             step: Step::Started,
             functions: Keyed::new(alloc),
             core_names,
@@ -106,17 +104,16 @@ impl EncodingState<'_> {
         ensures { result ≡ self.entry.built }
     {
         let EncodingState {
-            world: _,
-            component,
+            root,
             step: _,
             functions: _,
             core_names: _,
             main: _,
         } = self;
-        component
+        root.into_items()
     }
 
-    /// Imports the root functions that imports of main use, in the order of the world.
+    /// Imports the types of the world, and then the root functions that imports of main use, in the order of the world.
     pub fn encode_imports(&mut self) -> Result<(), StateFault>
         requires { self.old.built.defs ≡ [] }
         ensures world { self.new.world ≡ self.old.world }
@@ -125,7 +122,8 @@ impl EncodingState<'_> {
         ensures grows { OnOk result (Grows self.old.world self.old.built.defs self.new.built.defs (imports_marked self.old.world)) }
         ensures cause { IfErr result (IsCause self.old.world) }
     {
-        let functions = import_functions(&mut self.component, self.world)?;
+        self.root.import_types()?;
+        let functions = self.root.import_functions()?;
         self.functions = functions;
         self.step = Step::Imported;
         Ok(())
@@ -140,8 +138,9 @@ impl EncodingState<'_> {
         ensures first { OnOk result (IsFirstModule self.old.world self.new.built.defs) }
         ensures cause { IfErr result (IsCause self.old.world) }
     {
-        let world = self.world;
-        self.component
+        let world = self.root.world;
+        self.root
+            .items
             .core_module(Some("main"), world.main.bytes.as_slice())?;
         Ok(())
     }
@@ -165,10 +164,10 @@ impl EncodingState<'_> {
         ensures cause { IfErr result (IsCauseAmong self.old.world (record { module_name = «module».now; field = field.now; role = import.now } ∷ []) []) }
     {
         let sources = ImportSources {
-            world: self.world,
+            world: self.root.world,
             functions: &self.functions,
         };
-        sources.materialize(&mut self.component, module, field, import)
+        sources.materialize(&mut self.root.items, module, field, import)
     }
 
     /// Makes main's instance.
@@ -183,12 +182,13 @@ impl EncodingState<'_> {
         ensures cause { IfErr result (IsCause self.old.world) }
     {
         let sources = ImportSources {
-            world: self.world,
+            world: self.root.world,
             functions: &self.functions,
         };
-        let arguments = sources.arguments(&mut self.component)?;
+        let arguments = sources.arguments(&mut self.root.items)?;
         let index = self
-            .component
+            .root
+            .items
             .core_instance(Some("main"), MAIN_MODULE, arguments)?;
         self.main = Some(index);
         self.step = Step::Instantiated;
@@ -204,15 +204,14 @@ impl EncodingState<'_> {
         ensures same { self.new ≡ record self.old { built = self.new.built } }
         ensures extends { Extends self.old.built self.new.built }
         ensures grows { OnOk result (Grows self.old.world self.old.built.defs self.new.built.defs []) }
-        ensures lifted { IfOk result (λ index. IsLiftFor self.old.world self.new.built.defs index key.now) }
+        ensures lifted { IfOk result (λ index. IsRequiredLift self.old.world self.new.built.defs index key.now) }
         ensures cause { IfErr result (IsCauseAmong self.old.world [] (key.now ∷ [])) }
     {
         let exports = MainExports {
-            world: self.world,
             core_names: &self.core_names,
             instance: self.main.unwrap(),
         };
-        exports.lift(&mut self.component, key)
+        exports.lift(&mut self.root, key)
     }
 
     /// Lifts and exports the required exports of main, in order.
@@ -225,10 +224,9 @@ impl EncodingState<'_> {
         ensures cause { IfErr result (IsCause self.old.world) }
     {
         let exports = MainExports {
-            world: self.world,
             core_names: &self.core_names,
             instance: self.main.unwrap(),
         };
-        exports.export_all(&mut self.component)
+        exports.export_all(&mut self.root)
     }
 }

@@ -5,5 +5,6 @@ pub mod Knowing
 pub mod Keeping
 pub mod Inventories
 pub mod InventoryGrowth
+pub mod KnownScopes
 mod Worked
 mod WorkedScopes
