@@ -19,7 +19,8 @@ use Rattle.wit_data.specs.declared.types.TypeDef.{TypeDef}
 use Rattle.wit_data.specs.declared.types.Type.TheVariants.{Id}
 use Rattle.wit_types.specs.declared.maps.TypeEncodingMaps.{TypeEncodingMaps}
 use Rattle.wit_types.specs.Settings.{Setting, tree_in, owner_at, name_at}
-use Rattle.wit_types.specs.Denoting.{Longer, Denotes, ValueDenotes, Makes, MayMake}
+use Rattle.comp_trees.specs.DefinedScopes.{Denotes}
+use Rattle.wit_types.specs.Denoting.{Longer, ValueDenotes, Makes, MayMake}
 use Rattle.wit_types.specs.Maps.{Faithful, HasIndex, IsNamed, NamedAs, key_tree}
 use Rattle.wit_types.specs.Allowing.{foreign}
 use Rattle.wit_types.proofs.SameKeys.{IsOne, one_id, one_kind, one_key}
@@ -41,8 +42,8 @@ pub denotes_on : {old new : List TypeTree} {i : ℕ} {t : TypeTree} → Longer o
 denotes_on {old = old} {new = new} {i = i} {t = t} g d =
     subst (λ ts. Denotes ts i t) (sym g.longer)
     (record {
-      stands = let s = d.stands in omega (arith, s, length-append old g.more);
-      tree = get_or_append_left old g.more OfOthers i d.stands ∙ d.tree;
+      within = let s = d.within in omega (arith, s, length-append old g.more);
+      tree = get_or_append_left old g.more OfOthers i d.within ∙ d.tree;
     })
 
 pub denotes_as : {old new : List TypeTree} {i : ℕ} {t u : TypeTree} → Denotes old i t → new ≡ old → t ≡ u → Denotes new i u

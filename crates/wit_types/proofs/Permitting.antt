@@ -14,15 +14,15 @@ use Rattle.wit_data.specs.declared.types.TypeDefKind.TheVariants as kinds
 use Rattle.wit_data.specs.Parts.{parts, IsBelow, RefersBack}
 use Rattle.wit_data.specs.Values.{kind_at}
 use Rattle.wit_data.proofs.Values.{made_whole}
-use Rattle.std.proofs.lemmas.Bool.Decides.{Decides-eqb}
-use Rattle.std.specs.Prelude.{◌==◌}
-use Rattle.comp_trees.specs.Trees.{Tree, ResourceAt}
+use Rattle.comp_trees.specs.Trees.{Tree, Resource, ResourceAt, same_resource}
+use Rattle.comp_trees.proofs.Resources.{one_resource}
 use Rattle.comp_trees.specs.DefinedTrees.{TypeTree, OfValues}
 use Rattle.comp_trees.specs.WitTrees.{kind_tree, making_trees, wit_tree}
 use Rattle.wit_types.specs.Settings.{Setting, tree_in, owner_at, name_at}
 use Rattle.comp_bytes.specs.declared.types.ComponentValType.{ComponentValType}
 use Rattle.comp_bytes.specs.declared.types.ComponentValType.TheVariants as values
-use Rattle.wit_types.specs.Denoting.{Denotes, ValueDenotes}
+use Rattle.comp_trees.specs.DefinedScopes.{Denotes}
+use Rattle.wit_types.specs.Denoting.{ValueDenotes}
 use Rattle.wit_types.proofs.Growing.{denotes_as}
 use Rattle.wit_types.specs.Allowing.{foreign, is_resource, is_allowed, may_make, may_define, may_export_as, allowing, IsDefinedHere, MayEncode}
 
@@ -114,17 +114,17 @@ pub equal_found : (s : Setting) (types : List TypeDef) (id : TypeId) (kind : Typ
 equal_found s types id kind scope index same back within is h =
     denotes_as (h id.index) refl (ap OfValues (tree_of_kind s types id kind same back within is))
 
-pub named_resource : (s : Setting) (n : ℕ) (name : List ℕ) → may_export_as s n (Some name) ≡ true → (s.may_export name ≡ true) × (s.address name ≡ s.origin (record { index = n }))
+pub named_resource : (s : Setting) (n : ℕ) (name : List ℕ) → may_export_as s n (Some name) ≡ true → (s.may_export name ≡ true) × (s.resource name ≡ s.origin (record { index = n }))
 named_resource s n name e =
-    let b = both (s.may_export name) (s.address name == s.origin (record { index = n })) e in
-    (b.0, (Decides-eqb (s.address name) (s.origin (record { index = n }))).0 b.1)
+    let b = both (s.may_export name) (same_resource (s.resource name) (s.origin (record { index = n }))) e in
+    (b.0, one_resource (s.resource name) (s.origin (record { index = n })) b.1)
 
 pub unnamed_resource : (s : Setting) (n : ℕ) (name : Option (List ℕ)) → None ≡ name → may_export_as s n name ≡ true → ⊥
 unnamed_resource s n None e h = true≢false (sym h)
 unnamed_resource s n (Some name) e h = cc
 
-pub resource_tree : (s : Setting) (types : List TypeDef) (id : TypeId) (address : ℕ) → s.types ≡ types → RefersBack types → id.index < length types → is_resource (kind_at types id.index) ≡ true → address ≡ s.origin id → ResourceAt address ≡ tree_in s (Some (Id id))
-resource_tree s types id address same back within resource is =
+pub resource_tree : (s : Setting) (types : List TypeDef) (id : TypeId) (named : Resource) → s.types ≡ types → RefersBack types → id.index < length types → is_resource (kind_at types id.index) ≡ true → named ≡ s.origin id → ResourceAt named ≡ tree_in s (Some (Id id))
+resource_tree s types id named same back within resource is =
     ap ResourceAt is ∙ sym (tree_of_id s types id same back within ∙ ap (λ k. kind_tree s.origin id.index k (map (tree_in s) (parts k))) (resource_is (kind_at types id.index) resource))
 
 pub index_denotes : (scope : List TypeTree) (v : ComponentValType) (index : ℕ) (t : Tree) → ValueDenotes scope v t → v ≡ values.Defined index → Denotes scope index (OfValues t)

@@ -12,6 +12,7 @@ use Rattle.wit_data.specs.declared.types.TypeDef.{TypeDef}
 use Rattle.wit_data.specs.declared.functions.Function.{Function}
 use Rattle.wit_data.specs.Parts.{parts, IsBelow}
 use Rattle.wit_data.specs.Values.{Making, value}
+use Rattle.comp_trees.specs.Trees.{same_resource}
 use Rattle.wit_types.specs.Settings.{Setting, owner_at, name_at}
 
 -- the interface of a type, where it is another one than the given one
@@ -28,7 +29,7 @@ is_resource kind = false
 -- whether a resource may be exported under the name that it has, if it has one
 abbrev pub may_export_as : Setting → ℕ → Option (List ℕ) → Bool
 may_export_as s n None = false
-may_export_as s n (Some name) = s.may_export name && s.address name == s.origin (record { index = n })
+may_export_as s n (Some name) = s.may_export name && same_resource (s.resource name) (s.origin (record { index = n }))
 
 -- of a type of the own interface or of none, whether it may be defined
 abbrev pub may_define : Setting → ℕ → TypeDefKind → List Bool → Bool

@@ -20,7 +20,7 @@ use Rattle.wit_types.specs.Allowing.{foreign}
 use Rattle.wit_data.specs.declared.ids.InterfaceId.{InterfaceId}
 use Rattle.wit_data.specs.declared.functions.Param.{Param}
 use Rattle.wit_data.specs.declared.types.Field.{Field as WitField}
-use Rattle.wit_types.specs.Denoting.{Denotes}
+use Rattle.comp_trees.specs.DefinedScopes.{Denotes}
 
 abbrev pub no_maps : TypeEncodingMaps
 no_maps = record { id_to_index = []; def_to_index = []; func_type_map = [] }

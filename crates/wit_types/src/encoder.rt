@@ -87,7 +87,7 @@ pub trait ValtypeEncoder {
     fn export_resource(&mut self, name: ExternName) -> Result<u32, BuildFault>
         requires { IsTrue ((setting self.old).may_export name.name) }
         ensures names { IfOk result (λ index. names self.new name.name index) }
-        ensures makes { Makes (scope self.old) (scope self.new) result (OfValues (ResourceAt ((setting self.old).address name.name))) }
+        ensures makes { Makes (scope self.old) (scope self.new) result (OfValues (ResourceAt ((setting self.old).resource name.name))) }
         ensures setting { setting self.new ≡ setting self.old }
         ensures maps { maps self.new ≡ maps self.old }
         ensures follows { follows self.old self.new }

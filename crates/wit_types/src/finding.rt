@@ -7,7 +7,8 @@ ghost use Rattle.wit_data.specs.Parts.{RefersBack};
 ghost use Rattle.wit_data.specs.Values.{kind_at};
 ghost use Rattle.wit_data.specs.declared.types.Type.TheVariants.{Id};
 ghost use Rattle.wit_types.specs.Settings.{tree_in, owner_at, name_at};
-ghost use Rattle.wit_types.specs.Denoting.{Longer, Denotes, IsCause};
+ghost use Rattle.comp_trees.specs.DefinedScopes.{Denotes};
+ghost use Rattle.wit_types.specs.Denoting.{Longer, IsCause};
 ghost use Rattle.wit_types.specs.Maps.{Faithful, HasIndex, IsNamed};
 ghost use Rattle.wit_types.specs.Allowing.{foreign, is_resource, is_allowed, may_export_as, IsDefinedHere};
 

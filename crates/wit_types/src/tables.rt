@@ -7,7 +7,7 @@ ghost use Rattle.comp_trees.specs.DefinedTrees.{OfValues, OfFunctions};
 ghost use Rattle.wit_data.specs.Parts.{parts};
 ghost use Rattle.wit_data.specs.declared.types.Type.TheVariants.{Id};
 ghost use Rattle.wit_types.specs.Settings.{tree_in};
-ghost use Rattle.wit_types.specs.Denoting.{Denotes};
+ghost use Rattle.comp_trees.specs.DefinedScopes.{Denotes};
 ghost use Rattle.wit_types.specs.Maps.{Faithful, HasIndex, IsNamed, key_tree};
 
 use crate::encoder::ValtypeEncoder;
