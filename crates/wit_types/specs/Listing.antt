@@ -1,5 +1,5 @@
 -- What the types of a list that stands alone denote (component model, explainer: type definitions).
-use Rattle.std.specs.Prelude.{ℕ, suc, ◌≡◌, ◌≤◌, ◌^◌, length, true, List, [], ◌∷◌, ◌++◌, get_or, Option, Some, None, is_some, if◌then◌else◌}
+use Rattle.std.specs.Prelude.{ℕ, suc, ◌≡◌, ◌≤◌, ◌^◌, length, true, false, List, [], ◌∷◌, ◌++◌, get_or, Option, Some, None, is_some, if◌then◌else◌}
 use Rattle.std.specs.Str.{bytes_eq}
 use Rattle.std.specs.Option.{option_eq}
 use Rattle.wit_data.specs.declared.types.Type.TheVariants.{Id}
@@ -36,6 +36,7 @@ standing_alone types =
       may_import = λ other id. true;
       may_export = λ name. is_some (number_from 0 name types);
       resource = resource_named types;
+      met = λ id. false;
     }
 
 abbrev pub listed_tree : List TypeDef → List TypeTree → ListedType → TypeTree

@@ -25,6 +25,8 @@ pub record Setting : Type 0 where
   -- under which names a resource may be exported, and what the resource is that is
   pub may_export : List ℕ → Bool
   pub resource : List ℕ → Resource
+  -- types that are in the tables already
+  pub met : TypeId → Bool
 
 -- the tree of a type of the resolve
 unfoldable pub tree_in : Setting → Option Ty → Tree
