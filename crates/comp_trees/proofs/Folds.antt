@@ -72,7 +72,7 @@ holds_next : {A : Type 0} (P : A → Type 0) (xs : List A) (x : A) → AllByRecu
 holds_next P [] x all h = (h, tt)
 holds_next P (y ∷ ys) x all h = (all.0, holds_next P ys x all.1 h)
 
-holds_each : {X A : Type 0} (P : A → Type 0) (f : X → A) → ((x : X) → P (f x)) → (xs : List X) → AllByRecursion P (map f xs)
+pub holds_each : {X A : Type 0} (P : A → Type 0) (f : X → A) → ((x : X) → P (f x)) → (xs : List X) → AllByRecursion P (map f xs)
 holds_each P f h [] = tt
 holds_each P f h (x ∷ xs) = (h x, holds_each P f h xs)
 

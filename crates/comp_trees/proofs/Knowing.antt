@@ -9,10 +9,10 @@ use Rattle.comp_trees.specs.WitTrees.{first, second, kind_tree, making_trees}
 use Rattle.comp_trees.specs.Laws.{TreesAreKnown}
 use Rattle.comp_trees.proofs.Folds.{holds}
 
-abbrev IsKnown : Tree → Type 0
+abbrev pub IsKnown : Tree → Type 0
 IsKnown t = is_known t ≡ true
 
-both : {a b : Bool} → a ≡ true → b ≡ true → a && b ≡ true
+pub both : {a b : Bool} → a ≡ true → b ≡ true → a && b ≡ true
 both {b = b} e f = ap (λ x. x && b) e ∙ f
 
 all_known : (ts : List Tree) → AllByRecursion IsKnown ts → are_known (trees_of ts) ≡ true
@@ -27,7 +27,7 @@ second_known : (ts : List Tree) → AllByRecursion IsKnown ts → IsKnown (secon
 second_known [] h = refl
 second_known (t ∷ ts) h = first_known ts h.1
 
-kind_known : (origin : TypeId → Resource) (index : ℕ) (kind : TypeDefKind) (ts : List Tree) → AllByRecursion IsKnown ts → IsKnown (kind_tree origin index kind ts)
+pub kind_known : (origin : TypeId → Resource) (index : ℕ) (kind : TypeDefKind) (ts : List Tree) → AllByRecursion IsKnown ts → IsKnown (kind_tree origin index kind ts)
 kind_known origin index (kinds.Record fields) ts h = all_known ts h
 kind_known origin index (kinds.Variant cases) ts h = all_known ts h
 kind_known origin index (kinds.Enum names) ts h = refl

@@ -2,6 +2,7 @@ pub mod Folds
 pub mod Flats
 pub mod Signing
 pub mod Knowing
+pub mod Resources
 pub mod Keeping
 pub mod Inventories
 pub mod InventoryGrowth

@@ -1,6 +1,6 @@
 -- What the members of an instance type denote, and what an instance of it exports (component model, explainer:
 -- `instancedecl`; binary: type indices).
-use Rattle.std.specs.Prelude.{ℕ, Bool, List, [], ◌∷◌, ◌++◌, get_or, if◌then◌else◌}
+use Rattle.std.specs.Prelude.{ℕ, ◌≡◌, ◌<◌, Bool, true, List, [], ◌∷◌, ◌++◌, length, get_or, if◌then◌else◌}
 use Rattle.std.specs.Str.{bytes_eq}
 use Rattle.comp_bytes.specs.Spaces.{is_space, member_space}
 use Rattle.comp_bytes.specs.declared.space.Space.TheVariants as spaces
@@ -9,7 +9,7 @@ use Rattle.comp_bytes.specs.declared.types.Member.TheVariants as members
 use Rattle.comp_bytes.specs.declared.types.Alias.TheVariants as aliases
 use Rattle.comp_bytes.specs.declared.types.Description.TheVariants as descriptions
 use Rattle.comp_bytes.specs.declared.types.TypeDef.TheVariants as types
-use Rattle.comp_trees.specs.Trees.{Resource, ResourceAt}
+use Rattle.comp_trees.specs.Trees.{Resource, ResourceAt, FunctionTree, is_known, is_known_function}
 use Rattle.comp_trees.specs.DefinedTrees.{TypeTree, OfValues, OfFunctions, OfOthers, defined_tree, function_tree}
 
 -- whether a member makes a type index
@@ -39,6 +39,27 @@ with_member s scope m = if makes_type m then scope ++ member_tree s scope m ∷ 
 abbrev pub member_trees : Surroundings → List TypeTree → List Member → List TypeTree
 member_trees s scope [] = scope
 member_trees s scope (m ∷ ms) = member_trees s (with_member s scope m) ms
+
+-- the index names a type of functions of the scope
+pub record IsOfFunctions (scope : List TypeTree) (index : ℕ) : Type 0 where
+  pub type : FunctionTree
+  pub tree : get_or scope index OfOthers ≡ OfFunctions type
+
+-- A member of an instance type that may be imported: a type of values or functions whose parts are types of values, a type
+-- of the next scope out, or an export of a type or of a function, by an earlier index, or of a resource. No other is written.
+abbrev pub IsMemberRight : Surroundings → List TypeTree → Member → Type 0
+IsMemberRight s scope (members.Type (types.Func f)) = is_known_function (function_tree scope f) ≡ true
+IsMemberRight s scope (members.Type (types.Defined t)) = is_known (defined_tree scope t) ≡ true
+IsMemberRight s scope (members.Alias (aliases.Outer count index)) = (count ≡ 1) × (index < length s.outer)
+IsMemberRight s scope (members.Export name (descriptions.TypeEqual index)) = index < length scope
+IsMemberRight s scope (members.Export name (descriptions.Func index)) = IsOfFunctions scope index
+IsMemberRight s scope (members.Export name descriptions.SubResource) = Unit {0}
+IsMemberRight s scope other = ⊥
+
+-- each is, after the scope of the members before it
+abbrev pub AreMembersRight : Surroundings → List TypeTree → List Member → Type 0
+AreMembersRight s scope [] = Unit {0}
+AreMembersRight s scope (m ∷ ms) = IsMemberRight s scope m × AreMembersRight s (with_member s scope m) ms
 
 -- the type, and the type of the function, that an instance exports under a name, where `all` is what the type indices of
 -- its instance type denote

@@ -1,8 +1,10 @@
 -- Types as closed trees, and the types of functions (component model, explainer: `valtype`, `defvaltype`, `functype`).
 -- A tree holds all that a type is made of, and no index: a resource is known by what it is. So two types are the same
 -- exactly where their trees are equal.
-use Rattle.std.specs.Prelude.{ℕ, Bool, true, false, ◌&&◌, List, [], ◌∷◌, Option, Some, None}
+use Rattle.std.specs.Prelude.{ℕ, ◌==◌, Bool, true, false, ◌&&◌, List, [], ◌∷◌, Option, Some, None}
 use Rattle.std.specs.List.{list_all}
+use Rattle.std.specs.Option.{option_eq}
+use Rattle.std.specs.Str.{bytes_eq}
 use Rattle.standard_kinds.specs.declared.kinds.Primitive.{Primitive}
 
 -- where something is imported: the number of the import of the component and, where that is an instance, the name
@@ -15,6 +17,15 @@ pub record Origin : Type 0 where
 pub data Resource : Type 0 where
   ImportedAt : (origin : Origin) → Resource
   DefinedAt : (address : ℕ) → Resource
+
+-- whether two resources are one
+abbrev pub same_origin : Origin → Origin → Bool
+same_origin a b = a.number == b.number && option_eq bytes_eq a.inner b.inner
+
+abbrev pub same_resource : Resource → Resource → Bool
+same_resource (ImportedAt a) (ImportedAt b) = same_origin a b
+same_resource (DefinedAt a) (DefinedAt b) = a == b
+same_resource a b = false
 
 mutual
   pub data Tree : Type 0 where

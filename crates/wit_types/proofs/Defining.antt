@@ -24,7 +24,7 @@ value_is scope (values.Defined i) t d = ap values_of d.is.tree
 
 pub value_stands : (scope : List TypeTree) (v : ComponentValType) (t : Tree) → ValueDenotes scope v t → AreTypes (length scope) (value_references v)
 value_stands scope (values.Primitive p) t d = tt
-value_stands scope (values.Defined i) t d = ((refl, d.is.stands), tt)
+value_stands scope (values.Defined i) t d = ((refl, d.is.within), tt)
 
 pub all_both : (count : ℕ) (xs ys : List Reference) → AreTypes count xs → AreTypes count ys → AreTypes count (xs ++ ys)
 all_both count [] ys a b = b

@@ -1,5 +1,5 @@
 -- What holds in a scope holds after it grew, and what is found in a table keeps what its entries keep.
-use Rattle.std.proofs.Common.{◌≡◌, ℕ, Bool, true, false, List, [], ◌∷◌, ◌++◌, map, refl, ap, subst, ◌∙◌, sym, arith, append_assoc, append-nil, Option, Some, None, cond, if◌then◌else◌, is_some}
+use Rattle.std.proofs.Common.{◌≡◌, ℕ, Bool, true, false, List, [], ◌∷◌, ◌++◌, map, refl, ap, subst, ◌∙◌, sym, arith, append_assoc, append-nil, Option, Some, None, cond, if◌then◌else◌, is_some, true≢false}
 use Rattle.std.specs.List.{AllByRecursion}
 use Rattle.std.specs.Option.{IfSome}
 use Rattle.std.specs.Prelude.{IfOk, OnOk, OnErr, Result, Ok, Err}
@@ -19,8 +19,9 @@ use Rattle.wit_data.specs.declared.types.TypeDef.{TypeDef}
 use Rattle.wit_data.specs.declared.types.Type.TheVariants.{Id}
 use Rattle.wit_types.specs.declared.maps.TypeEncodingMaps.{TypeEncodingMaps}
 use Rattle.wit_types.specs.Settings.{Setting, tree_in, owner_at, name_at}
-use Rattle.wit_types.specs.Denoting.{Longer, Denotes, ValueDenotes, Makes, MayMake}
-use Rattle.wit_types.specs.Maps.{Faithful, HasIndex, IsNamed, NamedAs, key_tree}
+use Rattle.comp_trees.specs.DefinedScopes.{Denotes}
+use Rattle.wit_types.specs.Denoting.{Longer, ValueDenotes, Makes, MayMake}
+use Rattle.wit_types.specs.Maps.{no_maps, Faithful, HasIndex, IsNamed, NamedAs, key_tree}
 use Rattle.wit_types.specs.Allowing.{foreign}
 use Rattle.wit_types.proofs.SameKeys.{IsOne, one_id, one_kind, one_key}
 use Rattle.wit_data.specs.declared.types.TypeDefKind.{TypeDefKind}
@@ -41,8 +42,8 @@ pub denotes_on : {old new : List TypeTree} {i : ℕ} {t : TypeTree} → Longer o
 denotes_on {old = old} {new = new} {i = i} {t = t} g d =
     subst (λ ts. Denotes ts i t) (sym g.longer)
     (record {
-      stands = let s = d.stands in omega (arith, s, length-append old g.more);
-      tree = get_or_append_left old g.more OfOthers i d.stands ∙ d.tree;
+      within = let s = d.within in omega (arith, s, length-append old g.more);
+      tree = get_or_append_left old g.more OfOthers i d.within ∙ d.tree;
     })
 
 pub denotes_as : {old new : List TypeTree} {i : ℕ} {t u : TypeTree} → Denotes old i t → new ≡ old → t ≡ u → Denotes new i u
@@ -96,6 +97,7 @@ faithful_on {s = s} {N = N} {M = M} {maps = maps} g kept f =
       ids = AllByRecursion-weaker (λ e d. denotes_on g d) maps.id_to_index f.ids;
       kinds = AllByRecursion-weaker (λ e d n. denotes_on g (d n)) maps.def_to_index f.kinds;
       functions = AllByRecursion-weaker (λ e d. denotes_on g d) maps.func_type_map f.functions;
+      met = f.met;
     }
 
 pub value_as : {scope : List TypeTree} {v : ComponentValType} {t u : Tree} → ValueDenotes scope v t → t ≡ u → ValueDenotes scope v u
@@ -155,6 +157,34 @@ kind_found kind None f e = tt
 kind_found {s = s} {scope = scope} {maps = maps} kind (Some i) f e =
     holds_of_found kind_eq.eq-value.it one_kind (λ p. (n : ℕ) → Denotes scope p.1 (OfValues (kind_tree s.origin n p.0 (map (tree_in s) (parts p.0))))) kind maps.def_to_index i f.kinds (sym e)
 
+-- what is found is still found when an entry is added
+still_there : {K X : Type 0} (eq : K → K → Bool) (es : List (K × X)) (k j : K) (x : X) → is_some (lookup (eq j) es) ≡ true → is_some (lookup (eq j) (with_first eq es k x)) ≡ true
+still_there eq es k j x h = by (is_some (lookup (eq k) es))
+  where
+    at_end : (ds : List (_ × _)) → is_some (lookup (eq j) ds) ≡ true → is_some (lookup (eq j) (ds ++ (k, x) ∷ [])) ≡ true
+    at_end [] e = absurd (true≢false (sym e))
+    at_end (d ∷ ds) e = later (eq j d.0) e (at_end ds)
+      where
+        later : (b : Bool) → is_some (cond b (Some d.1) (lookup (eq j) ds)) ≡ true → (is_some (lookup (eq j) ds) ≡ true → is_some (lookup (eq j) (ds ++ (k, x) ∷ [])) ≡ true) → is_some (cond b (Some d.1) (lookup (eq j) (ds ++ (k, x) ∷ []))) ≡ true
+        later true e g = refl
+        later false e g = g e
+
+    by : (b : Bool) → is_some (lookup (eq j) (if b then es else es ++ (k, x) ∷ [])) ≡ true
+    by true = h
+    by false = at_end es h
+
+-- a type that is not in the tables is none of those that are said to be
+pub id_unmet : {s : Setting} {scope : List TypeTree} {N : List ℕ → ℕ → Type 0} {maps : TypeEncodingMaps} (id : TypeId) (o : Option ℕ) → Faithful s scope N maps → o ≡ lookup (id_eq.eq-value.it id) maps.id_to_index → o ≡ None → s.met id ≡ false
+id_unmet {s = s} id o f e none = by (s.met id) (λ m. true≢false (sym (f.met id m).there ∙ ap is_some (sym e ∙ none)))
+  where
+    by : (b : Bool) → (b ≡ true → ⊥) → b ≡ false
+    by true h = absurd (h refl)
+    by false h = refl
+
+-- tables of nothing are right, where no type is said to be in them
+pub faithful_new : (s : Setting) (scope : List TypeTree) (N : List ℕ → ℕ → Type 0) → ((id : TypeId) → s.met id ≡ false) → Faithful s scope N no_maps
+faithful_new s scope N none = record { ids = tt; named = tt; kinds = tt; functions = tt; met = λ id e. absurd (true≢false (sym e ∙ none id)) }
+
 pub id_added : {s : Setting} {scope : List TypeTree} {N : List ℕ → ℕ → Type 0} {maps : TypeEncodingMaps} (id : TypeId) (index : ℕ) → Faithful s scope N maps → Denotes scope index (OfValues (tree_in s (Some (Id id)))) → IsNamed s N id index → Faithful s scope N (record maps { id_to_index = with_first id_eq.eq-value.it maps.id_to_index id index })
 id_added {s = s} {scope = scope} {N = N} {maps = maps} id index f d named =
     record {
@@ -162,6 +192,7 @@ id_added {s = s} {scope = scope} {N = N} {maps = maps} id index f d named =
       ids = holds_of_added id_eq.eq-value.it (λ p. Denotes scope p.1 (OfValues (tree_in s (Some (Id p.0))))) maps.id_to_index id index f.ids d;
       kinds = f.kinds;
       functions = f.functions;
+      met = λ j m. record { there = still_there id_eq.eq-value.it maps.id_to_index id j index (f.met j m).there };
     }
 
 pub kind_added : {s : Setting} {scope : List TypeTree} {N : List ℕ → ℕ → Type 0} {maps : TypeEncodingMaps} (kind : TypeDefKind) (index : ℕ) → Faithful s scope N maps → ((n : ℕ) → Denotes scope index (OfValues (kind_tree s.origin n kind (map (tree_in s) (parts kind))))) → Faithful s scope N (record maps { def_to_index = with_first kind_eq.eq-value.it maps.def_to_index kind index })
@@ -171,6 +202,7 @@ kind_added {s = s} {scope = scope} {maps = maps} kind index f d =
       ids = f.ids;
       kinds = holds_of_added kind_eq.eq-value.it (λ p. (n : ℕ) → Denotes scope p.1 (OfValues (kind_tree s.origin n p.0 (map (tree_in s) (parts p.0))))) maps.def_to_index kind index f.kinds d;
       functions = f.functions;
+      met = λ j m. record { there = (f.met j m).there };
     }
 
 pub function_found : {s : Setting} {scope : List TypeTree} {N : List ℕ → ℕ → Type 0} {maps : TypeEncodingMaps} (key : FuncTypeKey) (o : Option ℕ) → Faithful s scope N maps → o ≡ lookup (key_eq.eq-value.it key) maps.func_type_map → IfSome o (λ index. Denotes scope index (OfFunctions (key_tree s key)))
@@ -229,6 +261,7 @@ key_added {s = s} {scope = scope} {maps = maps} key index f d =
       ids = f.ids;
       kinds = f.kinds;
       functions = holds_of_added key_eq.eq-value.it (λ p. Denotes scope p.1 (OfFunctions (key_tree s p.0))) maps.func_type_map key index f.functions d;
+      met = λ j m. record { there = (f.met j m).there };
     }
 
 pub key_faithful : {A E : Type 0} (r : Result A E) (s t : Setting) (scope new : List TypeTree) (N M : List ℕ → ℕ → Type 0) (first maps now view : TypeEncodingMaps) (key : FuncTypeKey) (index : ℕ) → Faithful s scope N first → Denotes scope index (OfFunctions (key_tree s key)) → maps ≡ first → OnOk r (now ≡ record maps { func_type_map = with_first key_eq.eq-value.it maps.func_type_map key index }) → OnErr r (now ≡ maps) → t ≡ s → new ≡ scope → ((name : List ℕ) (i : ℕ) → N name i → M name i) → view ≡ now → Faithful t new M view

@@ -3,6 +3,7 @@ pub mod Growing
 pub mod Owning
 pub mod Permitting
 pub mod Defining
+pub mod Knowing
 pub mod Parting
 pub mod Calling
 pub mod Listing

@@ -6,7 +6,8 @@ use Rattle.std.proofs.lemmas.List.{length-append}
 use Rattle.std.proofs.Math.Seq.{get_or-append_seam}
 use Rattle.comp_trees.specs.DefinedTrees.{TypeTree, OfOthers}
 use Rattle.wit_types.specs.declared.type_list.ListedType.{ListedType}
-use Rattle.wit_types.specs.Denoting.{Longer, Denotes, Makes}
+use Rattle.comp_trees.specs.DefinedScopes.{Denotes}
+use Rattle.wit_types.specs.Denoting.{Longer, Makes}
 use Rattle.wit_types.proofs.Growing.{longer_none}
 use Rattle.wit_types.specs.Listing.{listed_tree, listed_trees, IsExported, title_of}
 use Rattle.wit_data.specs.declared.types.TypeDef.{TypeDef}
@@ -33,7 +34,7 @@ denotes_new types old new t index at is =
     let u = listed_tree types (listed_trees types [] old) t in
     subst (λ ts. Denotes ts index u) (sym (ap (listed_trees types []) is ∙ list_more types [] old t))
     (subst (λ k. Denotes (listed_trees types [] old ++ u ∷ []) k u) (length_list types old ∙ sym at)
-    (record { stands = omega (arith, length-append (listed_trees types [] old) (u ∷ [])); tree = get_or-append_seam (listed_trees types [] old) u [] OfOthers }))
+    (record { within = omega (arith, length-append (listed_trees types [] old) (u ∷ [])); tree = get_or-append_seam (listed_trees types [] old) u [] OfOthers }))
 
 pub added : (types : List TypeDef) (old new : List ListedType) (t : ListedType) (r : Result ℕ BuildFault) → IfOk r (λ i. i ≡ length old) → OnOk r (new ≡ old ++ t ∷ []) → OnErr r (new ≡ old) → Makes (listed_trees types [] old) (listed_trees types [] new) r (listed_tree types (listed_trees types [] old) t)
 added types old new t (Ok i) at is same = (grows_by types old new t is, denotes_new types old new t i at is)

@@ -1,5 +1,5 @@
 -- What may be encoded is made of what may be.
-use Rattle.std.proofs.Common.{◌≡◌, ℕ, zero, suc, Bool, true, false, ◌<◌, ◌&&◌, List, [], ◌∷◌, length, get_or, map, refl, sym, ap, subst, ◌∙◌, arith, true≢false, Option, Some, None}
+use Rattle.std.proofs.Common.{if◌then◌else◌, ◌≡◌, ℕ, zero, suc, Bool, true, false, ◌<◌, ◌&&◌, List, [], ◌∷◌, length, get_or, map, refl, sym, ap, subst, ◌∙◌, arith, true≢false, Option, Some, None}
 use Rattle.std.specs.List.{AllByRecursion, list_all}
 use Rattle.wit_data.specs.declared.functions.Param.{Param}
 use Rattle.wit_types.specs.Maps.{key_params}
@@ -14,53 +14,59 @@ use Rattle.wit_data.specs.declared.types.TypeDefKind.TheVariants as kinds
 use Rattle.wit_data.specs.Parts.{parts, IsBelow, RefersBack}
 use Rattle.wit_data.specs.Values.{kind_at}
 use Rattle.wit_data.proofs.Values.{made_whole}
-use Rattle.std.proofs.lemmas.Bool.Decides.{Decides-eqb}
-use Rattle.std.specs.Prelude.{◌==◌}
-use Rattle.comp_trees.specs.Trees.{Tree, ResourceAt}
+use Rattle.comp_trees.specs.Trees.{Tree, Resource, ResourceAt, same_resource}
+use Rattle.comp_trees.proofs.Resources.{one_resource}
 use Rattle.comp_trees.specs.DefinedTrees.{TypeTree, OfValues}
 use Rattle.comp_trees.specs.WitTrees.{kind_tree, making_trees, wit_tree}
 use Rattle.wit_types.specs.Settings.{Setting, tree_in, owner_at, name_at}
 use Rattle.comp_bytes.specs.declared.types.ComponentValType.{ComponentValType}
 use Rattle.comp_bytes.specs.declared.types.ComponentValType.TheVariants as values
-use Rattle.wit_types.specs.Denoting.{Denotes, ValueDenotes}
+use Rattle.comp_trees.specs.DefinedScopes.{Denotes}
+use Rattle.wit_types.specs.Denoting.{ValueDenotes}
 use Rattle.wit_types.proofs.Growing.{denotes_as}
-use Rattle.wit_types.specs.Allowing.{foreign, is_resource, is_allowed, may_make, may_define, may_export_as, allowing, IsDefinedHere, MayEncode}
+use Rattle.wit_types.specs.Allowing.{foreign, is_resource, is_allowed, may_make, may_have, may_define, may_export_as, allowing, IsDefinedHere, MayEncode}
 
 -- the tree of a type, and whether it may be encoded, from those of its parts
 tree_inside : (s : Setting) (id : TypeId) → RefersBack s.types → id.index < length s.types → tree_in s (Some (Id id)) ≡ kind_tree s.origin id.index (kind_at s.types id.index) (map (tree_in s) (parts (kind_at s.types id.index)))
 unfolding tree_in
 tree_inside s id back within = made_whole (making_trees s.origin) s.types id.index back within
 
-pub allowed_of_id : (s : Setting) (id : TypeId) → RefersBack s.types → id.index < length s.types → is_allowed s (Some (Id id)) ≡ may_make s id.index (kind_at s.types id.index) (map (is_allowed s) (parts (kind_at s.types id.index))) (foreign s.interface (owner_at s.types id.index))
+pub allowed_of_id : (s : Setting) (id : TypeId) → RefersBack s.types → id.index < length s.types → is_allowed s (Some (Id id)) ≡ may_have s id.index (kind_at s.types id.index) (map (is_allowed s) (parts (kind_at s.types id.index)))
 unfolding is_allowed
 allowed_of_id s id back within = made_whole (allowing s) s.types id.index back within
 
-import_here : (s : Setting) (id : TypeId) (other : InterfaceId) → RefersBack s.types → id.index < length s.types → is_allowed s (Some (Id id)) ≡ true → foreign s.interface (owner_at s.types id.index) ≡ Some other → s.may_import other id ≡ true
-import_here s id other back within allowed is =
-    sym (ap (may_make s id.index (kind_at s.types id.index) (map (is_allowed s) (parts (kind_at s.types id.index)))) is) ∙ (sym (allowed_of_id s id back within) ∙ allowed)
+-- a type that is not in the tables may be made
+may_be_made : (s : Setting) (id : TypeId) → RefersBack s.types → id.index < length s.types → s.met id ≡ false → is_allowed s (Some (Id id)) ≡ true → may_make s id.index (kind_at s.types id.index) (map (is_allowed s) (parts (kind_at s.types id.index))) (foreign s.interface (owner_at s.types id.index)) ≡ true
+may_be_made s id back within unmet allowed =
+    let made = may_make s id.index (kind_at s.types id.index) (map (is_allowed s) (parts (kind_at s.types id.index))) (foreign s.interface (owner_at s.types id.index)) in
+    sym (ap (λ b. if b then true else made) unmet) ∙ (sym (allowed_of_id s id back within) ∙ allowed)
 
-own_kind : (s : Setting) (id : TypeId) → RefersBack s.types → id.index < length s.types → is_allowed s (Some (Id id)) ≡ true → foreign s.interface (owner_at s.types id.index) ≡ None → may_define s id.index (kind_at s.types id.index) (map (is_allowed s) (parts (kind_at s.types id.index))) ≡ true
-own_kind s id back within allowed is =
-    sym (ap (may_make s id.index (kind_at s.types id.index) (map (is_allowed s) (parts (kind_at s.types id.index)))) is) ∙ (sym (allowed_of_id s id back within) ∙ allowed)
+import_here : (s : Setting) (id : TypeId) (other : InterfaceId) → RefersBack s.types → id.index < length s.types → s.met id ≡ false → is_allowed s (Some (Id id)) ≡ true → foreign s.interface (owner_at s.types id.index) ≡ Some other → s.may_import other id ≡ true
+import_here s id other back within unmet allowed is =
+    sym (ap (may_make s id.index (kind_at s.types id.index) (map (is_allowed s) (parts (kind_at s.types id.index)))) is) ∙ may_be_made s id back within unmet allowed
+
+own_kind : (s : Setting) (id : TypeId) → RefersBack s.types → id.index < length s.types → s.met id ≡ false → is_allowed s (Some (Id id)) ≡ true → foreign s.interface (owner_at s.types id.index) ≡ None → may_define s id.index (kind_at s.types id.index) (map (is_allowed s) (parts (kind_at s.types id.index))) ≡ true
+own_kind s id back within unmet allowed is =
+    sym (ap (may_make s id.index (kind_at s.types id.index) (map (is_allowed s) (parts (kind_at s.types id.index)))) is) ∙ may_be_made s id back within unmet allowed
 
 resource_is : (k : TypeDefKind) → is_resource k ≡ true → k ≡ kinds.Resource
 resource_is kinds.Resource e = refl
 resource_is k e = absurd (true≢false (sym e))
 
-export_here : (s : Setting) (id : TypeId) → RefersBack s.types → id.index < length s.types → is_allowed s (Some (Id id)) ≡ true → foreign s.interface (owner_at s.types id.index) ≡ None → is_resource (kind_at s.types id.index) ≡ true → may_export_as s id.index (name_at s.types id.index) ≡ true
-export_here s id back within allowed is resource =
-    sym (ap (λ k. may_define s id.index k (map (is_allowed s) (parts k))) (resource_is (kind_at s.types id.index) resource)) ∙ own_kind s id back within allowed is
+export_here : (s : Setting) (id : TypeId) → RefersBack s.types → id.index < length s.types → s.met id ≡ false → is_allowed s (Some (Id id)) ≡ true → foreign s.interface (owner_at s.types id.index) ≡ None → is_resource (kind_at s.types id.index) ≡ true → may_export_as s id.index (name_at s.types id.index) ≡ true
+export_here s id back within unmet allowed is resource =
+    sym (ap (λ k. may_define s id.index k (map (is_allowed s) (parts k))) (resource_is (kind_at s.types id.index) resource)) ∙ own_kind s id back within unmet allowed is
 
 definable : (s : Setting) (n : ℕ) (k : TypeDefKind) (bs : List Bool) → is_resource k ≡ false → may_define s n k bs ≡ true → list_all (λ b. b) bs ≡ true
 definable s n kinds.Resource bs r e = absurd (true≢false r)
 definable s n k bs r e = e
 
-defined_inside : (s : Setting) (id : TypeId) → RefersBack s.types → id.index < length s.types → is_allowed s (Some (Id id)) ≡ true → foreign s.interface (owner_at s.types id.index) ≡ None → is_resource (kind_at s.types id.index) ≡ false → IsDefinedHere s (kind_at s.types id.index)
-defined_inside s id back within allowed is resource =
+defined_inside : (s : Setting) (id : TypeId) → RefersBack s.types → id.index < length s.types → s.met id ≡ false → is_allowed s (Some (Id id)) ≡ true → foreign s.interface (owner_at s.types id.index) ≡ None → is_resource (kind_at s.types id.index) ≡ false → IsDefinedHere s (kind_at s.types id.index)
+defined_inside s id back within unmet allowed is resource =
     let k = kind_at s.types id.index in
     record {
       values = resource;
-      allowed = sym (list_all-map (λ b. b) (is_allowed s) (parts k)) ∙ definable s id.index k (map (is_allowed s) (parts k)) resource (own_kind s id back within allowed is);
+      allowed = sym (list_all-map (λ b. b) (is_allowed s) (parts k)) ∙ definable s id.index k (map (is_allowed s) (parts k)) resource (own_kind s id back within unmet allowed is);
     }
 
 both : (a b : Bool) → (a && b) ≡ true → (a ≡ true) × (b ≡ true)
@@ -100,31 +106,31 @@ pub tree_of_kind : (s : Setting) (types : List TypeDef) (id : TypeId) (k : TypeD
 tree_of_kind s types id k same back within is =
     ap (λ j. kind_tree s.origin id.index j (map (tree_in s) (parts j))) is ∙ sym (tree_of_id s types id same back within)
 
-pub may_import : (s : Setting) (types : List TypeDef) (id : TypeId) (other : InterfaceId) → s.types ≡ types → RefersBack types → id.index < length types → is_allowed s (Some (Id id)) ≡ true → foreign s.interface (owner_at types id.index) ≡ Some other → s.may_import other id ≡ true
-may_import s types id other same = subst (λ ts. RefersBack ts → id.index < length ts → is_allowed s (Some (Id id)) ≡ true → foreign s.interface (owner_at ts id.index) ≡ Some other → s.may_import other id ≡ true) same (import_here s id other)
+pub may_import : (s : Setting) (types : List TypeDef) (id : TypeId) (other : InterfaceId) → s.types ≡ types → RefersBack types → id.index < length types → s.met id ≡ false → is_allowed s (Some (Id id)) ≡ true → foreign s.interface (owner_at types id.index) ≡ Some other → s.may_import other id ≡ true
+may_import s types id other same = subst (λ ts. RefersBack ts → id.index < length ts → s.met id ≡ false → is_allowed s (Some (Id id)) ≡ true → foreign s.interface (owner_at ts id.index) ≡ Some other → s.may_import other id ≡ true) same (import_here s id other)
 
-pub may_export : (s : Setting) (types : List TypeDef) (id : TypeId) → s.types ≡ types → RefersBack types → id.index < length types → is_allowed s (Some (Id id)) ≡ true → foreign s.interface (owner_at types id.index) ≡ None → is_resource (kind_at types id.index) ≡ true → may_export_as s id.index (name_at types id.index) ≡ true
-may_export s types id same = subst (λ ts. RefersBack ts → id.index < length ts → is_allowed s (Some (Id id)) ≡ true → foreign s.interface (owner_at ts id.index) ≡ None → is_resource (kind_at ts id.index) ≡ true → may_export_as s id.index (name_at ts id.index) ≡ true) same (export_here s id)
+pub may_export : (s : Setting) (types : List TypeDef) (id : TypeId) → s.types ≡ types → RefersBack types → id.index < length types → s.met id ≡ false → is_allowed s (Some (Id id)) ≡ true → foreign s.interface (owner_at types id.index) ≡ None → is_resource (kind_at types id.index) ≡ true → may_export_as s id.index (name_at types id.index) ≡ true
+may_export s types id same = subst (λ ts. RefersBack ts → id.index < length ts → s.met id ≡ false → is_allowed s (Some (Id id)) ≡ true → foreign s.interface (owner_at ts id.index) ≡ None → is_resource (kind_at ts id.index) ≡ true → may_export_as s id.index (name_at ts id.index) ≡ true) same (export_here s id)
 
-pub defined_here : (s : Setting) (types : List TypeDef) (id : TypeId) → s.types ≡ types → RefersBack types → id.index < length types → is_allowed s (Some (Id id)) ≡ true → foreign s.interface (owner_at types id.index) ≡ None → is_resource (kind_at types id.index) ≡ false → IsDefinedHere s (kind_at types id.index)
-defined_here s types id same = subst (λ ts. RefersBack ts → id.index < length ts → is_allowed s (Some (Id id)) ≡ true → foreign s.interface (owner_at ts id.index) ≡ None → is_resource (kind_at ts id.index) ≡ false → IsDefinedHere s (kind_at ts id.index)) same (defined_inside s id)
+pub defined_here : (s : Setting) (types : List TypeDef) (id : TypeId) → s.types ≡ types → RefersBack types → id.index < length types → s.met id ≡ false → is_allowed s (Some (Id id)) ≡ true → foreign s.interface (owner_at types id.index) ≡ None → is_resource (kind_at types id.index) ≡ false → IsDefinedHere s (kind_at types id.index)
+defined_here s types id same = subst (λ ts. RefersBack ts → id.index < length ts → s.met id ≡ false → is_allowed s (Some (Id id)) ≡ true → foreign s.interface (owner_at ts id.index) ≡ None → is_resource (kind_at ts id.index) ≡ false → IsDefinedHere s (kind_at ts id.index)) same (defined_inside s id)
 
 -- what is met of the kind of a type is the type
 pub equal_found : (s : Setting) (types : List TypeDef) (id : TypeId) (kind : TypeDefKind) (scope : List TypeTree) (index : ℕ) → s.types ≡ types → RefersBack types → id.index < length types → kind ≡ kind_at types id.index → ((n : ℕ) → Denotes scope index (OfValues (kind_tree s.origin n kind (map (tree_in s) (parts kind))))) → Denotes scope index (OfValues (tree_in s (Some (Id id))))
 equal_found s types id kind scope index same back within is h =
     denotes_as (h id.index) refl (ap OfValues (tree_of_kind s types id kind same back within is))
 
-pub named_resource : (s : Setting) (n : ℕ) (name : List ℕ) → may_export_as s n (Some name) ≡ true → (s.may_export name ≡ true) × (s.address name ≡ s.origin (record { index = n }))
+pub named_resource : (s : Setting) (n : ℕ) (name : List ℕ) → may_export_as s n (Some name) ≡ true → (s.may_export name ≡ true) × (s.resource name ≡ s.origin (record { index = n }))
 named_resource s n name e =
-    let b = both (s.may_export name) (s.address name == s.origin (record { index = n })) e in
-    (b.0, (Decides-eqb (s.address name) (s.origin (record { index = n }))).0 b.1)
+    let b = both (s.may_export name) (same_resource (s.resource name) (s.origin (record { index = n }))) e in
+    (b.0, one_resource (s.resource name) (s.origin (record { index = n })) b.1)
 
 pub unnamed_resource : (s : Setting) (n : ℕ) (name : Option (List ℕ)) → None ≡ name → may_export_as s n name ≡ true → ⊥
 unnamed_resource s n None e h = true≢false (sym h)
 unnamed_resource s n (Some name) e h = cc
 
-pub resource_tree : (s : Setting) (types : List TypeDef) (id : TypeId) (address : ℕ) → s.types ≡ types → RefersBack types → id.index < length types → is_resource (kind_at types id.index) ≡ true → address ≡ s.origin id → ResourceAt address ≡ tree_in s (Some (Id id))
-resource_tree s types id address same back within resource is =
+pub resource_tree : (s : Setting) (types : List TypeDef) (id : TypeId) (named : Resource) → s.types ≡ types → RefersBack types → id.index < length types → is_resource (kind_at types id.index) ≡ true → named ≡ s.origin id → ResourceAt named ≡ tree_in s (Some (Id id))
+resource_tree s types id named same back within resource is =
     ap ResourceAt is ∙ sym (tree_of_id s types id same back within ∙ ap (λ k. kind_tree s.origin id.index k (map (tree_in s) (parts k))) (resource_is (kind_at types id.index) resource))
 
 pub index_denotes : (scope : List TypeTree) (v : ComponentValType) (index : ℕ) (t : Tree) → ValueDenotes scope v t → v ≡ values.Defined index → Denotes scope index (OfValues t)

@@ -1,5 +1,5 @@
--- Which types may be encoded in a scope: all that they are made of is defined there, or may be imported or exported
--- (component model, WIT: `use`, resources).
+-- Which types may be encoded in a scope: all that they are made of is in the tables, is defined there, or may be imported
+-- or exported (component model, WIT: `use`, resources).
 use Rattle.std.specs.Prelude.{ℕ, ◌≡◌, ◌==◌, Bool, true, false, ◌&&◌, List, Option, Some, None, if◌then◌else◌, length}
 use Rattle.std.specs.List.{list_all}
 use Rattle.wit_data.specs.declared.ids.InterfaceId.{InterfaceId}
@@ -12,6 +12,7 @@ use Rattle.wit_data.specs.declared.types.TypeDef.{TypeDef}
 use Rattle.wit_data.specs.declared.functions.Function.{Function}
 use Rattle.wit_data.specs.Parts.{parts, IsBelow}
 use Rattle.wit_data.specs.Values.{Making, value}
+use Rattle.comp_trees.specs.Trees.{same_resource}
 use Rattle.wit_types.specs.Settings.{Setting, owner_at, name_at}
 
 -- the interface of a type, where it is another one than the given one
@@ -28,7 +29,7 @@ is_resource kind = false
 -- whether a resource may be exported under the name that it has, if it has one
 abbrev pub may_export_as : Setting → ℕ → Option (List ℕ) → Bool
 may_export_as s n None = false
-may_export_as s n (Some name) = s.may_export name && s.address name == s.origin (record { index = n })
+may_export_as s n (Some name) = s.may_export name && same_resource (s.resource name) (s.origin (record { index = n }))
 
 -- of a type of the own interface or of none, whether it may be defined
 abbrev pub may_define : Setting → ℕ → TypeDefKind → List Bool → Bool
@@ -39,12 +40,16 @@ abbrev pub may_make : Setting → ℕ → TypeDefKind → List Bool → Option I
 may_make s n kind parts (Some other) = s.may_import other (record { index = n })
 may_make s n kind parts None = may_define s n kind parts
 
+-- a type that is in the tables needs no permission, whatever it is made of
+abbrev pub may_have : Setting → ℕ → TypeDefKind → List Bool → Bool
+may_have s n kind parts = if s.met (record { index = n }) then true else may_make s n kind parts (foreign s.interface (owner_at s.types n))
+
 abbrev pub allowing : Setting → Making Bool
 allowing s =
     record {
       absent = true;
       simple = λ p. true;
-      made = λ n kind parts. may_make s n kind parts (foreign s.interface (owner_at s.types n));
+      made = λ n kind parts. may_have s n kind parts;
     }
 
 unfoldable pub is_allowed : Setting → Option Ty → Bool

@@ -1,6 +1,6 @@
 -- What type indices and value types denote in a scope, and how a scope grows (component model, explainer: type
 -- definitions; binary: type indices).
-use Rattle.std.specs.Prelude.{ℕ, ◌≡◌, ◌<◌, List, ◌++◌, length, get_or, Option, Some, None, Result, Ok, Err}
+use Rattle.std.specs.Prelude.{ℕ, ◌≡◌, ◌<◌, List, ◌++◌, Option, Some, None, Result, Ok, Err}
 use Rattle.std.specs.List.{AllByRecursion}
 use Rattle.byte_encoding.specs.declared.fault.BuildFault.{BuildFault}
 use Rattle.byte_encoding.specs.declared.fault.BuildFault.TheVariants.{Memory, TooMany}
@@ -9,17 +9,13 @@ use Rattle.comp_bytes.specs.declared.types.ComponentValType.{ComponentValType}
 use Rattle.comp_bytes.specs.declared.types.ComponentValType.TheVariants as values
 use Rattle.comp_bytes.specs.References.{Reference, own}
 use Rattle.comp_trees.specs.Trees.{Tree, PrimitiveOf}
-use Rattle.comp_trees.specs.DefinedTrees.{TypeTree, OfValues, OfOthers}
+use Rattle.comp_trees.specs.DefinedTrees.{TypeTree, OfValues}
+use Rattle.comp_trees.specs.DefinedScopes.{Denotes}
 
 -- more types stand behind the old ones
 pub record Longer (old new : List TypeTree) : Type 0 where
   pub more : List TypeTree
   pub longer : new ≡ old ++ more
-
--- the index names a type of the scope, which is this
-pub record Denotes (scope : List TypeTree) (index : ℕ) (t : TypeTree) : Type 0 where
-  pub stands : index < length scope
-  pub tree : get_or scope index OfOthers ≡ t
 
 -- each item that is referred to is one of the first so many types of the scope
 abbrev pub AreTypes : ℕ → List Reference → Type 0

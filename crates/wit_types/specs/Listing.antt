@@ -1,9 +1,9 @@
 -- What the types of a list that stands alone denote (component model, explainer: type definitions).
-use Rattle.std.specs.Prelude.{ℕ, suc, ◌≡◌, ◌≤◌, ◌^◌, length, true, List, [], ◌∷◌, ◌++◌, get_or, Option, Some, None, is_some, if◌then◌else◌}
+use Rattle.std.specs.Prelude.{ℕ, suc, ◌≡◌, ◌≤◌, ◌^◌, length, true, false, List, [], ◌∷◌, ◌++◌, get_or, Option, Some, None, is_some, if◌then◌else◌}
 use Rattle.std.specs.Str.{bytes_eq}
 use Rattle.std.specs.Option.{option_eq}
 use Rattle.wit_data.specs.declared.types.Type.TheVariants.{Id}
-use Rattle.comp_trees.specs.Trees.{ResourceAt}
+use Rattle.comp_trees.specs.Trees.{Resource, DefinedAt, ResourceAt}
 use Rattle.std.proofs.Common.{sym, ap, ◌∙◌, append_assoc, append-nil}
 use Rattle.std.specs.List.{slice_get}
 use Rattle.comp_lists.proofs.Lists.{slice_get-append}
@@ -18,13 +18,13 @@ abbrev pub number_from : ℕ → List ℕ → List TypeDef → Option ℕ
 number_from n name [] = None
 number_from n name (t ∷ ts) = if option_eq bytes_eq t.name (Some name) then Some n else number_from (suc n) name ts
 
--- a resource is known by its name: its address is its number in the resolve
+-- a resource is known by its name: it is the one with the number of the first type of that name
 abbrev pub number_or : ℕ → Option ℕ → ℕ
 number_or other None = other
 number_or other (Some n) = n
 
-abbrev pub address_named : List TypeDef → List ℕ → ℕ
-address_named types name = number_or 0 (number_from 0 name types)
+abbrev pub resource_named : List TypeDef → List ℕ → Resource
+resource_named types name = DefinedAt (number_or 0 (number_from 0 name types))
 
 -- what the list takes as given: a type of an interface is imported, and a resource exported under the name of a type
 abbrev pub standing_alone : List TypeDef → Setting
@@ -32,17 +32,18 @@ standing_alone types =
     record {
       types = types;
       interface = None;
-      origin = λ id. id.index;
+      origin = λ id. DefinedAt id.index;
       may_import = λ other id. true;
       may_export = λ name. is_some (number_from 0 name types);
-      address = address_named types;
+      resource = resource_named types;
+      met = λ id. false;
     }
 
 abbrev pub listed_tree : List TypeDef → List TypeTree → ListedType → TypeTree
 listed_tree types scope (listed.Defined d) = OfValues (defined_tree scope d)
 listed_tree types scope (listed.Func f) = OfFunctions (function_tree scope f)
 listed_tree types scope (listed.Export name index) = get_or scope index OfOthers
-listed_tree types scope (listed.Resource name) = OfValues (ResourceAt (address_named types name.name))
+listed_tree types scope (listed.Resource name) = OfValues (ResourceAt (resource_named types name.name))
 listed_tree types scope (listed.Import interface id) = OfValues (tree_in (standing_alone types) (Some (Id id)))
 
 -- what they denote, behind those of a scope

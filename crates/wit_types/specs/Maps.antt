@@ -1,5 +1,5 @@
 -- What the tables of a scope say of the types that were met (component model, explainer: type definitions).
-use Rattle.std.specs.Prelude.{ℕ, ◌≡◌, true, List, [], map, Option, Some, None, option_map, is_some}
+use Rattle.std.specs.Prelude.{ℕ, ◌≡◌, true, List, [], map, Option, Some, None, option_map, is_some, IsTrue}
 use Rattle.std.specs.Map.{lookup}
 use Rattle.std.specs.List.{AllByRecursion}
 use Rattle.wit_data.specs.declared.ids.TypeId.{TypeId}
@@ -20,7 +20,7 @@ use Rattle.wit_types.specs.Allowing.{foreign}
 use Rattle.wit_data.specs.declared.ids.InterfaceId.{InterfaceId}
 use Rattle.wit_data.specs.declared.functions.Param.{Param}
 use Rattle.wit_data.specs.declared.types.Field.{Field as WitField}
-use Rattle.wit_types.specs.Denoting.{Denotes}
+use Rattle.comp_trees.specs.DefinedScopes.{Denotes}
 
 abbrev pub no_maps : TypeEncodingMaps
 no_maps = record { id_to_index = []; def_to_index = []; func_type_map = [] }
@@ -64,9 +64,11 @@ abbrev pub IsNamedValue : Setting → (List ℕ → ℕ → Type 0) → Ty → C
 IsNamedValue s names (Id id) (values.Defined index) = IsNamed s names id index
 IsNamedValue s names ty v = Unit {0}
 
--- each index of the tables denotes the type of its key; what a kind is doesn't depend on the index of the type that has it
+-- Each index of the tables denotes the type of its key, and the types that are said to be there are; what a kind is doesn't
+-- depend on the index of the type that has it.
 pub record Faithful (s : Setting) (scope : List TypeTree) (names : List ℕ → ℕ → Type 0) (maps : TypeEncodingMaps) : Type 0 where
   pub ids : AllByRecursion (λ e. Denotes scope e.1 (OfValues (tree_in s (Some (Id e.0))))) maps.id_to_index
   pub named : AllByRecursion (λ e. IsNamed s names e.0 e.1) maps.id_to_index
   pub kinds : AllByRecursion (λ e. (n : ℕ) → Denotes scope e.1 (OfValues (kind_tree s.origin n e.0 (map (tree_in s) (parts e.0))))) maps.def_to_index
   pub functions : AllByRecursion (λ e. Denotes scope e.1 (OfFunctions (key_tree s e.0))) maps.func_type_map
+  pub met : (id : TypeId) → IsTrue (s.met id) → HasIndex maps id

@@ -9,7 +9,7 @@ use Rattle.wit_data.specs.declared.types.TypeOwner.{TypeOwner}
 use Rattle.wit_data.specs.declared.types.TypeOwner.TheVariants as owners
 use Rattle.wit_data.specs.declared.types.Type.TheVariants.{Id}
 use Rattle.comp_bytes.specs.declared.types.ExternName.{ExternName}
-use Rattle.comp_trees.specs.Trees.{Tree}
+use Rattle.comp_trees.specs.Trees.{Resource, Tree}
 use Rattle.comp_trees.specs.DefinedTrees.{TypeTree, OfValues}
 use Rattle.comp_trees.specs.WitTrees.{wit_tree}
 
@@ -18,13 +18,15 @@ pub record Setting : Type 0 where
   pub types : List TypeDef
   -- the interface whose types are defined in the scope
   pub interface : Option InterfaceId
-  -- the address of each resource
-  pub origin : TypeId → ℕ
+  -- what each resource is
+  pub origin : TypeId → Resource
   -- which types of other interfaces may be imported
   pub may_import : InterfaceId → TypeId → Bool
-  -- under which names a resource may be exported, and the address of the resource that is
+  -- under which names a resource may be exported, and what the resource is that is
   pub may_export : List ℕ → Bool
-  pub address : List ℕ → ℕ
+  pub resource : List ℕ → Resource
+  -- types that are in the tables already
+  pub met : TypeId → Bool
 
 -- the tree of a type of the resolve
 unfoldable pub tree_in : Setting → Option Ty → Tree

@@ -5,7 +5,8 @@ ghost use Rattle.comp_trees.specs.Trees.{Absent, StreamOf, FutureOf};
 ghost use Rattle.comp_trees.specs.WitTrees.{wit_tree, wit_function_tree};
 ghost use Rattle.comp_trees.specs.DefinedTrees.{OfValues, OfFunctions};
 ghost use Rattle.wit_data.specs.Sound.{IsSound, HasType, HasFunction};
-ghost use Rattle.wit_types.specs.Denoting.{Longer, Denotes, ValueDenotes, IsCause};
+ghost use Rattle.comp_trees.specs.DefinedScopes.{Denotes};
+ghost use Rattle.wit_types.specs.Denoting.{Longer, ValueDenotes, IsCause};
 ghost use Rattle.wit_types.specs.Maps.{Faithful, IsRecorded, IsNamedValue};
 ghost use Rattle.wit_types.specs.Allowing.{is_allowed, allows_function};
 

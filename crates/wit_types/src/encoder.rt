@@ -1,10 +1,10 @@
 //! A scope in which types are defined.
 
-ghost use Rattle.std.specs.Prelude.{◌≡◌, ◌<◌, ℕ, List, length, get_or, Some, IsTrue, IfOk, IfErr};
+ghost use Rattle.std.specs.Prelude.{◌≡◌, ◌<◌, ℕ, List, length, get_or, Some, true, IsTrue, IfOk, IfErr};
 ghost use Rattle.std.specs.Borrow.{sem, Lends};
 ghost use Rattle.comp_bytes.specs.References.{defined_references, type_references};
 ghost use Rattle.comp_bytes.specs.declared.types.TypeDef.TheVariants as definitions;
-ghost use Rattle.comp_trees.specs.Trees.{ResourceAt};
+ghost use Rattle.comp_trees.specs.Trees.{ResourceAt, is_known, is_known_function};
 ghost use Rattle.comp_trees.specs.DefinedTrees.{TypeTree, OfValues, OfFunctions, OfOthers, defined_tree, function_tree};
 ghost use Rattle.wit_data.specs.declared.types.Type.TheVariants.{Id};
 ghost use Rattle.wit_types.specs.Settings.{Setting, tree_in, NamesType};
@@ -54,18 +54,20 @@ pub trait ValtypeEncoder {
 
     ghost setting_kept: { (e : Self) → (m : TypeEncodingMaps) → setting (with_maps e m) ≡ setting e };
 
-    /// Defines a type of values.
+    /// Defines a type of values, in which nothing is unknown.
     fn defined_type(&mut self, ty: DefinedType) -> Result<u32, BuildFault>
-        requires { AreTypes (length (scope self.old)) (defined_references ty) }
+        requires present { AreTypes (length (scope self.old)) (defined_references ty) }
+        requires known { is_known (defined_tree (scope self.old) ty) ≡ true }
         ensures makes { Makes (scope self.old) (scope self.new) result (OfValues (defined_tree (scope self.old) ty)) }
         ensures setting { setting self.new ≡ setting self.old }
         ensures maps { maps self.new ≡ maps self.old }
         ensures follows { follows self.old self.new }
         ensures cause { IfErr result (IsCause refuses self.new) };
 
-    /// Defines a type of functions.
+    /// Defines a type of functions, in which nothing is unknown.
     fn define_function_type(&mut self, ty: FuncTypeDef) -> Result<u32, BuildFault>
-        requires { AreTypes (length (scope self.old)) (type_references (definitions.Func ty)) }
+        requires present { AreTypes (length (scope self.old)) (type_references (definitions.Func ty)) }
+        requires known { is_known_function (function_tree (scope self.old) ty) ≡ true }
         ensures makes { Makes (scope self.old) (scope self.new) result (OfFunctions (function_tree (scope self.old) ty)) }
         ensures setting { setting self.new ≡ setting self.old }
         ensures maps { maps self.new ≡ maps self.old }
@@ -87,7 +89,7 @@ pub trait ValtypeEncoder {
     fn export_resource(&mut self, name: ExternName) -> Result<u32, BuildFault>
         requires { IsTrue ((setting self.old).may_export name.name) }
         ensures names { IfOk result (λ index. names self.new name.name index) }
-        ensures makes { Makes (scope self.old) (scope self.new) result (OfValues (ResourceAt ((setting self.old).address name.name))) }
+        ensures makes { Makes (scope self.old) (scope self.new) result (OfValues (ResourceAt ((setting self.old).resource name.name))) }
         ensures setting { setting self.new ≡ setting self.old }
         ensures maps { maps self.new ≡ maps self.old }
         ensures follows { follows self.old self.new }

@@ -1,13 +1,14 @@
 //! Types that need no definition of their own.
 
-ghost use Rattle.std.specs.Prelude.{◌≡◌, ◌<◌, length, IfOk, IfErr, IsTrue, Some, None, true};
+ghost use Rattle.std.specs.Prelude.{◌≡◌, ◌<◌, length, IfOk, IfErr, IsTrue, Some, None, true, false};
 ghost use Rattle.std.specs.Option.{IfSome};
 ghost use Rattle.comp_trees.specs.DefinedTrees.{OfValues};
 ghost use Rattle.wit_data.specs.Parts.{RefersBack};
 ghost use Rattle.wit_data.specs.Values.{kind_at};
 ghost use Rattle.wit_data.specs.declared.types.Type.TheVariants.{Id};
 ghost use Rattle.wit_types.specs.Settings.{tree_in, owner_at, name_at};
-ghost use Rattle.wit_types.specs.Denoting.{Longer, Denotes, IsCause};
+ghost use Rattle.comp_trees.specs.DefinedScopes.{Denotes};
+ghost use Rattle.wit_types.specs.Denoting.{Longer, IsCause};
 ghost use Rattle.wit_types.specs.Maps.{Faithful, HasIndex, IsNamed};
 ghost use Rattle.wit_types.specs.Allowing.{foreign, is_resource, is_allowed, may_export_as, IsDefinedHere};
 
@@ -68,6 +69,7 @@ fn import_type<E: ValtypeEncoder>(
     requires same { (E.setting encoder.old).types ≡ types.now }
     requires faithful { Faithful (E.setting encoder.old) (E.scope encoder.old) (E.names encoder.old) (E.maps encoder.old) }
     requires present { id.index < length types.now }
+    requires unmet { (E.setting encoder.old).met id ≡ false }
     requires allowed { IsTrue (is_allowed (E.setting encoder.old) (Some (Id id))) }
     requires foreign { foreign (E.setting encoder.old).interface (owner_at types.now id.index) ≡ Some interface }
     ensures denotes { IfOk result (λ index. Denotes (E.scope encoder.new) index (OfValues (tree_in (E.setting encoder.old) (Some (Id id))))) }
@@ -95,6 +97,7 @@ fn export_resource<E: ValtypeEncoder>(
     requires same { (E.setting encoder.old).types ≡ types.now }
     requires faithful { Faithful (E.setting encoder.old) (E.scope encoder.old) (E.names encoder.old) (E.maps encoder.old) }
     requires present { id.index < length types.now }
+    requires unmet { (E.setting encoder.old).met id ≡ false }
     requires allowed { IsTrue (is_allowed (E.setting encoder.old) (Some (Id id))) }
     requires own { foreign (E.setting encoder.old).interface (owner_at types.now id.index) ≡ None }
     requires resource { is_resource (kind_at types.now id.index) ≡ true }

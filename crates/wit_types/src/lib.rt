@@ -3,8 +3,7 @@
 //! A scope is a component or an instance type. What it can do is the trait [`ValtypeEncoder`]: define a type, export one
 //! under its name, export a resource, import a type of another interface. Its ghost members say what each type index
 //! denotes, as a tree (`comp_trees`), and what the definitions take as given (`specs/Settings.antt`): the types of the
-//! resolve, the interface whose types are defined there, the address of each resource, and what may be imported and
-//! exported. The functions of this crate are proved once, for every implementation.
+//! resolve, the interface whose types are defined there, what each resource is, and what may be imported and exported. The functions of this crate are proved once, for every implementation.
 //!
 //! A type is encoded once in a scope: its index is kept in tables ([`TypeEncodingMaps`]), by its number, by its kind where
 //! it has no name, and, for types of functions, by parameters and result. The parts of a type are encoded before it, in

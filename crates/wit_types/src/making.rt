@@ -1,15 +1,16 @@
 //! A type that is defined of the value types of its parts.
 
-ghost use Rattle.std.specs.Prelude.{◌≡◌, ◌<◌, ℕ, length, map, IfOk, IfErr, Some, None};
+ghost use Rattle.std.specs.Prelude.{◌≡◌, ◌<◌, ℕ, length, map, IfOk, IfErr, Some, None, true};
 ghost use Rattle.comp_bytes.specs.References.{defined_references};
-ghost use Rattle.comp_trees.specs.Trees.{Tree, OwnOf, BorrowOf};
+ghost use Rattle.comp_trees.specs.Trees.{Tree, OwnOf, BorrowOf, is_known};
 ghost use Rattle.comp_trees.specs.WitTrees.{kind_tree};
 ghost use Rattle.comp_trees.specs.DefinedTrees.{OfValues, defined_tree};
 ghost use Rattle.wit_data.specs.Parts.{RefersBack, parts};
 ghost use Rattle.wit_data.specs.Values.{kind_at};
 ghost use Rattle.wit_data.specs.declared.types.Type.TheVariants.{Id};
 ghost use Rattle.wit_types.specs.Settings.{tree_in};
-ghost use Rattle.wit_types.specs.Denoting.{Longer, Denotes, AreTypes, ValueDenotes, IsCause};
+ghost use Rattle.comp_trees.specs.DefinedScopes.{Denotes};
+ghost use Rattle.wit_types.specs.Denoting.{Longer, AreTypes, ValueDenotes, IsCause};
 ghost use Rattle.wit_types.specs.Definitions.{PartsDenote, OnlyPart, IsDefined};
 ghost use Rattle.wit_types.specs.Maps.{Faithful};
 ghost use Rattle.wit_types.specs.Allowing.{IsDefinedHere};
@@ -151,13 +152,14 @@ pub(crate) fn index_of<E: ValtypeEncoder>(
     }
 }
 
-/// Defines a type of values.
+/// Defines a type of values, in which nothing is unknown.
 pub(crate) fn define_type<E: ValtypeEncoder>(
     encoder: &mut E,
     ty: DefinedType,
 ) -> Result<u32, BuildFault>
     requires faithful { Faithful (E.setting encoder.old) (E.scope encoder.old) (E.names encoder.old) (E.maps encoder.old) }
     requires present { AreTypes (length (E.scope encoder.old)) (defined_references ty) }
+    requires known { is_known (defined_tree (E.scope encoder.old) ty) ≡ true }
     ensures denotes { IfOk result (λ index. Denotes (E.scope encoder.new) index (OfValues (defined_tree (E.scope encoder.old) ty))) }
     ensures grows { Longer (E.scope encoder.old) (E.scope encoder.new) }
     ensures setting { E.setting encoder.new ≡ E.setting encoder.old }

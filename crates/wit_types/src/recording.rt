@@ -6,7 +6,8 @@ ghost use Rattle.wit_data.specs.Parts.{RefersBack};
 ghost use Rattle.wit_data.specs.Values.{kind_at};
 ghost use Rattle.wit_data.specs.declared.types.Type.TheVariants.{Id};
 ghost use Rattle.wit_types.specs.Settings.{tree_in, name_at};
-ghost use Rattle.wit_types.specs.Denoting.{Longer, Denotes, ValueDenotes, IsCause};
+ghost use Rattle.comp_trees.specs.DefinedScopes.{Denotes};
+ghost use Rattle.wit_types.specs.Denoting.{Longer, ValueDenotes, IsCause};
 ghost use Rattle.wit_types.specs.Maps.{Faithful, IsRecorded, IsNamed, IsNamedValue};
 ghost use Rattle.wit_types.specs.Allowing.{is_resource};
 

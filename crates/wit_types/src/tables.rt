@@ -1,13 +1,13 @@
 //! What the tables of a scope have, and what is added to them.
 
-ghost use Rattle.std.specs.Prelude.{◌≡◌, ℕ, map, Some, OnOk};
+ghost use Rattle.std.specs.Prelude.{◌≡◌, ℕ, map, Some, None, false, OnOk};
 ghost use Rattle.std.specs.Option.{IfSome};
 ghost use Rattle.comp_trees.specs.WitTrees.{kind_tree};
 ghost use Rattle.comp_trees.specs.DefinedTrees.{OfValues, OfFunctions};
 ghost use Rattle.wit_data.specs.Parts.{parts};
 ghost use Rattle.wit_data.specs.declared.types.Type.TheVariants.{Id};
 ghost use Rattle.wit_types.specs.Settings.{tree_in};
-ghost use Rattle.wit_types.specs.Denoting.{Denotes};
+ghost use Rattle.comp_trees.specs.DefinedScopes.{Denotes};
 ghost use Rattle.wit_types.specs.Maps.{Faithful, HasIndex, IsNamed, key_tree};
 
 use crate::encoder::ValtypeEncoder;
@@ -21,6 +21,7 @@ pub(crate) fn met_type<E: ValtypeEncoder>(encoder: &mut E, id: TypeId) -> Option
     ensures denotes { IfSome result (λ index. Denotes (E.scope encoder.old) index (OfValues (tree_in (E.setting encoder.old) (Some (Id id))))) }
     ensures recorded { IfSome result (λ index. HasIndex (E.maps encoder.new) id) }
     ensures named { IfSome result (λ index. IsNamed (E.setting encoder.old) (E.names encoder.new) id index) }
+    ensures unmet { result ≡ None → (E.setting encoder.old).met id ≡ false }
     ensures scope { E.scope encoder.new ≡ E.scope encoder.old }
     ensures setting { E.setting encoder.new ≡ E.setting encoder.old }
     ensures faithful { Faithful (E.setting encoder.new) (E.scope encoder.new) (E.names encoder.new) (E.maps encoder.new) }

@@ -3,6 +3,7 @@
 
 ghost use Rattle.std.specs.Prelude.{◌≡◌, ◌++◌, ◌∷◌, [], length, IfOk, IfErr, IsTrue, OnOk, OnErr, Some};
 ghost use Rattle.std.proofs.Common.{refl};
+ghost use Rattle.comp_trees.specs.Trees.{DefinedAt};
 ghost use Rattle.comp_trees.specs.WitTrees.{wit_tree};
 ghost use Rattle.comp_trees.specs.DefinedTrees.{value_tree};
 ghost use Rattle.wit_data.specs.Sound.{IsSound, HasType};
@@ -160,7 +161,7 @@ pub fn encode_alone(alloc: Global, resolve: &Resolve, ty: &Type) -> Result<Alone
     requires sound { IsSound resolve.now }
     requires present { HasType resolve.now (Some ty.now) }
     requires allowed { IsTrue (is_allowed (standing_alone resolve.now.types) (Some ty.now)) }
-    ensures { IfOk result (λ alone. value_tree (listed_trees resolve.now.types [] alone.listed) alone.value ≡ wit_tree (λ id. id.index) resolve.now.types (Some ty.now)) }
+    ensures { IfOk result (λ alone. value_tree (listed_trees resolve.now.types [] alone.listed) alone.value ≡ wit_tree (λ id. DefinedAt id.index) resolve.now.types (Some ty.now)) }
 {
     let mut list = TypeList::new(alloc, resolve);
     let value = encode_valtype(alloc, &mut list, resolve, ty)?;

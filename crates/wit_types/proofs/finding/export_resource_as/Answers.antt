@@ -19,14 +19,14 @@ pub record_type-requires-clause-denotes : goal.record_type-requires-clause-denot
 record_type-requires-clause-denotes g c =
     let s = g.E.ValtypeEncoder.setting c.args.encoder.now in
     denotes_as c.in_ok-index.ensures.makes.1 refl
-    (ap OfValues (resource_tree s c.args.types.now c.args.id (s.address c.args.name) c.requires.same c.requires.back c.requires.present c.requires.resource (named_resource s c.args.id.index c.args.name c.requires.named).1)
+    (ap OfValues (resource_tree s c.args.types.now c.args.id (s.resource c.args.name) c.requires.same c.requires.back c.requires.present c.requires.resource (named_resource s c.args.id.index c.args.name c.requires.named).1)
     ∙ ap (λ (r : Setting). OfValues (tree_in r (Some (Id c.args.id)))) (sym c.in_ok-index.ensures.setting))
 
 pub returns-clause-denotes : goal.returns-clause-denotes
 returns-clause-denotes g c =
     let s = g.E.ValtypeEncoder.setting c.args.encoder.now in
     denotes_as c.in_ok-index.ensures.makes.1 c.record_type.ensures.scope
-    (ap OfValues (resource_tree s c.args.types.now c.args.id (s.address c.args.name) c.requires.same c.requires.back c.requires.present c.requires.resource (named_resource s c.args.id.index c.args.name c.requires.named).1))
+    (ap OfValues (resource_tree s c.args.types.now c.args.id (s.resource c.args.name) c.requires.same c.requires.back c.requires.present c.requires.resource (named_resource s c.args.id.index c.args.name c.requires.named).1))
 
 pub record_type-requires-clause-named : goal.record_type-requires-clause-named
 record_type-requires-clause-named g c =

@@ -1,0 +1,8 @@
+use Rattle.std.proofs.Common.{Some}
+use Rattle.wit_data.specs.declared.types.Type.TheVariants.{Id}
+use Rattle.wit_types.proofs.Knowing.{index_known}
+use Rattle.wit_types.proofs.making.define_borrow.Goals as goal
+
+pub define_type-requires-clause-known : goal.define_type-requires-clause-known
+define_type-requires-clause-known g c =
+    index_known (g.E.ValtypeEncoder.setting c.args.encoder.now) (g.E.ValtypeEncoder.scope c.index_of.new.encoder) c.in_ok-named.named (Some (Id c.args.resource)) (c.in_ok-named.ensures.denotes _ c.only_value-value.ensures)
