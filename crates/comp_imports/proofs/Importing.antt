@@ -2,7 +2,7 @@
 use Rattle.std.proofs.Common.{if◌then◌else◌, ◌≡◌, ◌∙◌, ◌+◌, suc, length, length-append, add-zero, arith, Some, ℕ, Bool, true, false, ◌||◌, List, [], ◌∷◌, ◌++◌, refl, sym, ap, subst, append_assoc, append-nil, map, filter, IsTrue, IsSome, Contains}
 use Rattle.std.proofs.lemmas.Slice.Eq.{bytes_eq-Decides}
 use Rattle.std.proofs.lemmas.Option.{slice_get-map}
-use Rattle.std.proofs.lemmas.List.{length-map}
+use Rattle.std.proofs.lemmas.List.{length-map, map-append}
 use Rattle.std.specs.List.{AllByRecursion, IsDistinct, flat_map, list_any, slice_get}
 use Rattle.std.specs.Map.{keys_of}
 use Rattle.std.specs.Option.{option_map}
@@ -27,17 +27,17 @@ use Rattle.comp_roles.specs.declared.imports.Import.{Import}
 use Rattle.comp_roles.specs.declared.imports.Import.TheVariants as imports
 use Rattle.comp_roles.specs.declared.imports.ImportInstance.{ImportInstance}
 use Rattle.comp_roles.specs.declared.imports.ImportInstance.TheVariants as instances
-use Rattle.comp_worlds.specs.Worlds.{items_of, root_function, imported_functions, imported_types, imported_name, IsImportRole, IsImportGroup, IsWorld}
+use Rattle.comp_worlds.specs.Worlds.{items_of, root_function, world_type, imported_functions, imported_types, imported_name, IsImportRole, IsImportGroup, IsWorld}
 use Rattle.comp_worlds.specs.declared.world.ComponentWorld.{ComponentWorld}
-use Rattle.comp_links.specs.Lists.{ImportEntry, WorldType, RootFunction, import_entries, root_type}
+use Rattle.comp_links.specs.Lists.{ImportEntry, WorldType, RootFunction, import_entries, stated_import, root_type}
 use Rattle.comp_links.specs.Roles.{is_named, is_any_import, uses_from, is_used, used_functions}
 use Rattle.comp_terms.specs.Terms.{imports_in}
-use Rattle.comp_terms.specs.Rules.{Grows, Landmark, Imported, landmarks, named_import, names_marked}
+use Rattle.comp_terms.specs.Rules.{Grows, Landmark, Imported, landmarks, named_import, names_marked, imports_marked}
 use Rattle.comp_items.specs.Items.{Extends}
 use Rattle.comp_items.proofs.Extending.{extends_none, extends_then}
 use Rattle.comp_imports.specs.Imports.{FindsImports, FindsMore, FindsUsed, IsNextItem}
 use Rattle.comp_imports.proofs.Elements.{AllByRecursion-join}
-use Rattle.comp_imports.proofs.Growth.{Grows-none, Grows-then}
+use Rattle.comp_imports.specs.Growing.{Grows-none, Grows-then}
 use Rattle.comp_imports.proofs.Looking.{function_found, entry_sound}
 
 abbrev IsWorldImport : ComponentWorld → List ℕ → Type 0
@@ -217,18 +217,18 @@ next_item w old mid functions (keys.Interface id, item) rest ok apart h = tt
 next_item w old mid functions (keys.Name text, world_items.Interface id) rest ok apart h = tt
 next_item w old mid functions (keys.Name text, world_items.NamedType id) rest ok apart h = tt
 next_item w old mid functions (keys.Name text, world_items.Function f) rest ok apart h = (
-    record {
-      of = ap (λ es. root_function_at es (keys.Name text)) (sym h.split) ∙ function_found h.done rest text f (subst (λ es. IsDistinct is_same_key (keys_of es)) (sym h.split) apart);
-      number = λ used.
-          let here : flat_map root_function h.done ++ text ∷ flat_map root_function rest ≡ imported_functions w =
-          sym (flat_map-append root_function h.done ((keys.Name text, world_items.Function f) ∷ rest)) ∙ ap (flat_map root_function) h.split in
-          let next : slice_get (used_functions w) (length (filter (is_used w) (flat_map root_function h.done))) ≡ Some text =
-          ap (λ l. slice_get (filter (is_used w) l) (length (filter (is_used w) (flat_map root_function h.done)))) (sym here) ∙ next_in (is_used w) (flat_map root_function h.done) (flat_map root_function rest) text used in
-          ap (slice_get (import_entries w)) (h.count ∙ ap (λ n. n + length (filter (is_used w) (flat_map root_function h.done))) (sym (length-map (imported_types w) (λ (t : List ℕ × TypeId). WorldType t.0 t.1))))
-          ∙ entry_at (map (λ (t : List ℕ × TypeId). WorldType t.0 t.1) (imported_types w)) (used_functions w) (length (filter (is_used w) (flat_map root_function h.done))) text next;
-    },
-    (entry_sound w ok h.done rest (keys.Name text, world_items.Function f) h.split).1,
-  )
+  record {
+    of = ap (λ es. root_function_at es (keys.Name text)) (sym h.split) ∙ function_found h.done rest text f (subst (λ es. IsDistinct is_same_key (keys_of es)) (sym h.split) apart);
+    number = λ used.
+        let here : flat_map root_function h.done ++ text ∷ flat_map root_function rest ≡ imported_functions w =
+        sym (flat_map-append root_function h.done ((keys.Name text, world_items.Function f) ∷ rest)) ∙ ap (flat_map root_function) h.split in
+        let next : slice_get (used_functions w) (length (filter (is_used w) (flat_map root_function h.done))) ≡ Some text =
+        ap (λ l. slice_get (filter (is_used w) l) (length (filter (is_used w) (flat_map root_function h.done)))) (sym here) ∙ next_in (is_used w) (flat_map root_function h.done) (flat_map root_function rest) text used in
+        ap (slice_get (import_entries w)) (h.count ∙ ap (λ n. n + length (filter (is_used w) (flat_map root_function h.done))) (sym (length-map (imported_types w) (λ (t : List ℕ × TypeId). WorldType t.0 t.1))))
+        ∙ entry_at (map (λ (t : List ℕ × TypeId). WorldType t.0 t.1) (imported_types w)) (used_functions w) (length (filter (is_used w) (flat_map root_function h.done))) text next;
+  },
+  (entry_sound w ok h.done rest (keys.Name text, world_items.Function f) h.split).1,
+)
 
 -- no item is left
 pub imports_marks : (w : ComponentWorld) (old new : Built) (functions : List (List ℕ × ℕ)) → ImportsSoFar w old new functions [] → Grows w old.defs new.defs (map named_import (used_functions w))
@@ -244,3 +244,50 @@ imports_found w old new functions valid h = record {
       let finds : AllByRecursion P (flat_map root_function (items_of w).imports) = subst (λ es. AllByRecursion P (flat_map root_function es)) all h.finds in
       AllByRecursion-contains P (flat_map root_function (items_of w).imports) t finds (used_is_imported w valid t u) u;
 }
+
+-- ---- both steps
+
+-- the types and the functions are all imports that the world states
+pub all_marked : (w : ComponentWorld) → map (λ t. Imported (root_type t.0)) (imported_types w) ++ map named_import (used_functions w) ≡ imports_marked w
+all_marked w = sym (both (imported_types w) (used_functions w))
+  where
+    functions : (fs : List (List ℕ)) → map Imported (map stated_import (map RootFunction fs)) ≡ map named_import fs
+    functions [] = refl
+    functions (f ∷ fs) = ap (λ l. named_import f ∷ l) (functions fs)
+
+    both : (ts : List (List ℕ × TypeId)) (fs : List (List ℕ)) → map Imported (map stated_import (map (λ t. WorldType t.0 t.1) ts ++ map RootFunction fs)) ≡ map (λ t. Imported (root_type t.0)) ts ++ map named_import fs
+    both [] fs = functions fs
+    both (t ∷ ts) fs = ap (λ l. Imported (root_type t.0) ∷ l) (both ts fs)
+
+pub imports_made : {w : ComponentWorld} {a b c : List Def} → Grows w a b (map (λ t. Imported (root_type t.0)) (imported_types w)) → Grows w b c (map named_import (used_functions w)) → Grows w a c (imports_marked w)
+imports_made {w} {a} {b} {c} g h = subst (λ m. Grows w a c m) (all_marked w) (Grows-then g h)
+
+-- ---- the loop over types
+
+-- the items of the world that were passed so far, and the imports of their types
+pub record TypesSoFar (w : ComponentWorld) (old new : Built) (rest : List (WorldKey × WorldItem)) : Type 0 where
+  pub done : List (WorldKey × WorldItem)
+  pub split : done ++ rest ≡ (items_of w).imports
+  pub extends : Extends old new
+  pub grows : Grows w old.defs new.defs (map (λ t. Imported (root_type t.0)) (flat_map world_type done))
+
+pub types_start : (w : ComponentWorld) (old : Built) → TypesSoFar w old old (items_of w).imports
+types_start w old = record { done = []; split = refl; extends = extends_none old; grows = Grows-none w old.defs }
+
+pub types_step : (w : ComponentWorld) (old mid new : Built) (e : WorldKey × WorldItem) (rest : List (WorldKey × WorldItem)) → TypesSoFar w old mid (e ∷ rest) → Extends mid new →
+    Grows w mid.defs new.defs (map (λ t. Imported (root_type t.0)) (world_type e)) → TypesSoFar w old new rest
+types_step w old mid new e rest h extends grows = record {
+  done = h.done ++ e ∷ [];
+  split = append_assoc h.done (e ∷ []) rest ∙ h.split;
+  extends = extends_then old mid new h.extends extends;
+  grows =
+      let types : flat_map world_type (h.done ++ e ∷ []) ≡ flat_map world_type h.done ++ world_type e = flat_map-append world_type h.done (e ∷ []) ∙ ap (λ l. flat_map world_type h.done ++ l) (append-nil (world_type e)) in
+      let marks : map (λ (t : List ℕ × TypeId). Imported (root_type t.0)) (flat_map world_type (h.done ++ e ∷ [])) ≡ map (λ (t : List ℕ × TypeId). Imported (root_type t.0)) (flat_map world_type h.done) ++ map (λ (t : List ℕ × TypeId). Imported (root_type t.0)) (world_type e) =
+      ap (map (λ (t : List ℕ × TypeId). Imported (root_type t.0))) types ∙ map-append (λ (t : List ℕ × TypeId). Imported (root_type t.0)) (flat_map world_type h.done) (world_type e) in
+      subst (λ m. Grows w old.defs new.defs m) (sym marks) (Grows-then h.grows grows);
+}
+
+pub types_done : (w : ComponentWorld) (old new : Built) → TypesSoFar w old new [] → Grows w old.defs new.defs (map (λ t. Imported (root_type t.0)) (imported_types w))
+types_done w old new h =
+    let all : h.done ≡ (items_of w).imports = sym (append-nil h.done) ∙ h.split in
+    subst (λ es. Grows w old.defs new.defs (map (λ (t : List ℕ × TypeId). Imported (root_type t.0)) (flat_map world_type es))) all h.grows

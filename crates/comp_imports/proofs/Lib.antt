@@ -5,3 +5,4 @@ pub mod Finding
 pub mod Looking
 pub mod Allowing
 pub mod Importing
+pub mod Defining

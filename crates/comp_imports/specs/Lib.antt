@@ -1,2 +1,3 @@
 pub mod RootScopes
+pub mod Growing
 pub mod Imports

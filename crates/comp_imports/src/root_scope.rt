@@ -20,7 +20,7 @@ ghost use Rattle.comp_terms.specs.Planned.{type_of_function};
 ghost use Rattle.comp_terms.specs.Terms.{IsFunctionType};
 ghost use Rattle.comp_worlds.specs.Worlds.{IsWorld};
 ghost use Rattle.comp_imports.specs.RootScopes.{root_setting, any_index, RootGrows, is_full, AreTablesRight};
-ghost use Rattle.comp_imports.proofs.Growth.{root_same, root_on};
+ghost use Rattle.comp_imports.specs.Growing.{root_same, root_on};
 
 use byte_encoding::BuildFault;
 use comp_bytes::{DefinedType, ExternName, FuncTypeDef};
@@ -183,16 +183,11 @@ impl<'a> ValtypeEncoder for RootScope<'a> {
         unreachable!()
     }
 
-    fn type_encoding_maps(&mut self) -> &mut TypeEncodingMaps
-        ensures now { result.now ≡ self.old.maps }
-        ensures* lends { sem 𝓛 (Lends Self.row maps_row self.entry result (λ m. record self.old { maps = m })) }
-    {
+    fn type_encoding_maps(&mut self) -> &mut TypeEncodingMaps {
         &mut self.maps
     }
 
-    fn interface(&self) -> Option<InterfaceId>
-        ensures { result ≡ None }
-    {
+    fn interface(&self) -> Option<InterfaceId> {
         None
     }
 }

@@ -15,7 +15,7 @@ use Rattle.comp_worlds.specs.declared.world.ComponentWorld.{ComponentWorld}
 use Rattle.comp_state.specs.Causes.{IsEncoded, LacksEncoding}
 use Rattle.comp_links.specs.Roles.{import_encoding, export_encoding}
 use Rattle.comp_terms.specs.Rules.{Grows, RightAfter, Landmark, ModuleIs, InstanceOf, landmarks, imports_marked, exports_marked, expected, IsUnnamed, IsBuilt}
-use Rattle.comp_state.proofs.Growth.{Grows-then}
+use Rattle.comp_imports.specs.Growing.{Grows-then}
 
 -- a list that grew from the empty one
 pub built_from : (w : ComponentWorld) (old new : List Def) → old ≡ [] → Grows w old new (expected w) → IsUnnamed w new

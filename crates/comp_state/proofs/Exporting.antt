@@ -1,5 +1,5 @@
 -- The required exports: what is lifted for each, and that each is exported.
-use Rattle.std.proofs.Common.{◌+◌, ◌≡◌, ◌∙◌, ℕ, ◌<◌, List, [], ◌∷◌, ◌++◌, refl, sym, ap, subst, length, take, get_or, map, Some, None, Option, Bool, true, false, cond, IsSome, Contains, arith}
+use Rattle.std.proofs.Common.{◌+◌, ◌≡◌, ◌∙◌, ℕ, ◌<◌, List, [], ◌∷◌, ◌++◌, refl, sym, ap, subst, length, take, get_or, map, Some, None, Option, Bool, true, false, ◌&&◌, cond, IsSome, Contains, arith, true≢false, ◌⊎◌, inl, inr}
 use Rattle.std.proofs.lemmas.List.{map_more, take_more, take_all}
 use Rattle.std.specs.List.{AllByRecursion, AllZip}
 use Rattle.comp_lists.proofs.Lists.{AllByRecursion-push, AllByRecursion-at}
@@ -13,17 +13,23 @@ use Rattle.comp_bytes.specs.declared.def.Def.{Def}
 use Rattle.comp_bytes.specs.declared.def.Def.TheVariants as defs
 use Rattle.comp_bytes.specs.declared.def.Item.TheVariants as items
 use Rattle.wit_data.specs.Keys.{name_of_key}
-use Rattle.comp_worlds.specs.Worlds.{IsWorld, IsRequired, IsExportRole, items_of, core_name_of, core_imports}
+use Rattle.wit_data.specs.Keys.{is_same_key}
+use Rattle.wit_data.specs.declared.types.TypeDef.{TypeDef}
+use Rattle.wit_data.specs.declared.worlds.WorldItem.{WorldItem}
+use Rattle.wit_data.specs.declared.worlds.WorldItem.TheVariants as world_items
+use Rattle.std.specs.Map.{lookup}
+use Rattle.std.proofs.lemmas.Slice.Eq.{bytes_eq-Decides}
+use Rattle.comp_worlds.specs.Worlds.{IsWorld, IsRequired, IsExportRole, IsExportItem, items_of, root_function, exported_functions, core_name_of, core_imports}
 use Rattle.wit_data.specs.declared.worlds.WorldKey.{WorldKey}
 use Rattle.comp_worlds.specs.declared.world.ComponentWorld.{ComponentWorld}
 use Rattle.comp_state.specs.declared.fault.StateFault.{StateFault}
 use Rattle.comp_state.specs.Causes.{IsCause, IsCauseAmong}
 use Rattle.comp_items.specs.Items.{Extends, MayAdd}
 use Rattle.comp_items.proofs.Extending.{extends_none, extends_then}
-use Rattle.comp_state.specs.Encoding.{IsLiftFor}
-use Rattle.comp_state.proofs.Elements.{contains_one, contains_none}
-use Rattle.comp_bytes.specs.declared.types.FuncTypeDef.{FuncTypeDef}
-use Rattle.comp_bytes.specs.declared.types.TypeDef.TheVariants as types
+use Rattle.comp_state.specs.Encoding.{IsRequiredLift}
+use Rattle.comp_imports.proofs.Elements.{contains_one, contains_none, contains_cons}
+use Rattle.comp_trees.specs.Trees.{FunctionTree}
+use Rattle.comp_terms.specs.Planned.{type_of_function}
 use Rattle.std.specs.Option.{option_map}
 use Rattle.comp_links.specs.Targets.{Main, Lifted}
 use Rattle.comp_links.specs.Lists.{plain_name}
@@ -43,11 +49,10 @@ use Rattle.comp_roles.specs.declared.exports.Export.TheVariants as exports
 use Rattle.comp_worlds.specs.Typed.{FitsExport}
 use Rattle.comp_links.specs.Modules.{WorldModule}
 use Rattle.comp_terms.specs.Terms.{CoreExport, TermOption, IsFunctionType, IsInstanceOf, IsExported, IsOption, IsLifting}
-use Rattle.comp_terms.specs.Terms as terms
 use Rattle.comp_links.specs.Roles.{export_encoding}
-use Rattle.comp_terms.specs.Rules.{plain_function, Grows, named_export}
+use Rattle.comp_terms.specs.Rules.{Grows, named_export}
 use Rattle.comp_state.proofs.Refusals.{among_more}
-use Rattle.comp_state.proofs.Growth.{Grows-none, Grows-by, Grows-may, Grows-then}
+use Rattle.comp_imports.specs.Growing.{Grows-none, Grows-by, Grows-may, Grows-then}
 
 -- ---- what main offers
 
@@ -101,38 +106,37 @@ grows_alias w old new instance key name ok of role adds =
     by (keys.Name text) e = root_offered w text name w.main.exports.exports ok.main.export_roles ok.main.exported e
     by (keys.Interface id) e = absurd (none-some name e)
 
--- the plain type of functions, or an earlier one
-pub grows_type : (w : ComponentWorld) (old new : List Def) → MayAdd old new (defs.Item (items.Type (types.Func plain_function))) → Grows w old new []
-grows_type w old new adds = Grows-may (defs.Item (items.Type (types.Func plain_function))) refl adds refl
-
 pub record AddsLift (w : ComponentWorld) (old new : List Def) (index : ℕ) (key : WorldKey) : Type 0 where
   pub grows : Grows w old new []
-  pub lifted : IsLiftFor w new index key
+  pub lifted : IsRequiredLift w new index key
 
-pub adds_lift : (w : ComponentWorld) (old new : List Def) (core kind index : ℕ) (options : List CanonicalOption) (name : List ℕ) (key : WorldKey) → options ≡ [] →
-    IsExported old core (main_export name) → IsFunctionType old kind plain_function → core_name_of w key ≡ Some name → IsSome (export_encoding w key) →
+pub adds_lift : (w : ComponentWorld) (old new : List Def) (core kind index : ℕ) (options : List CanonicalOption) (name : List ℕ) (key : WorldKey) (wit : Function) → options ≡ [] →
+    IsExported old core (main_export name) → IsFunctionType old kind (type_of_function w wit) → core_name_of w key ≡ Some name → root_function_at (items_of w).exports key ≡ Some wit → IsSome (export_encoding w key) →
     new ≡ old ++ defs.Item (items.Lift core options kind) ∷ [] →
-    ((entry : CoreExport) (written : List TermOption) (type : FuncTypeDef) → entry.kind ≡ kinds.Func → IsExported old core entry → AllZip (IsOption old) options written → IsFunctionType old kind type → IsLifting new index entry written type) →
+    ((entry : CoreExport) (written : List TermOption) (type : FunctionTree) → entry.kind ≡ kinds.Func → IsExported old core entry → AllZip (IsOption old) options written → IsFunctionType old kind type → IsLifting new index entry written type) →
     AddsLift w old new index key
-adds_lift w old new core kind index options name key none alias type' role encoded appended lifts = record {
-  grows = Grows-by (defs.Item (items.Lift core options kind)) appended (in_range alias.made, none, type');
+adds_lift w old new core kind index options name key wit none alias typed role exported encoded appended lifts = record {
+  grows = Grows-by (defs.Item (items.Lift core options kind)) appended (in_range alias.made, none, record { type = type_of_function w wit; is = typed });
   lifted = record {
     target = Lifted (record { of = Main; name = name }) [];
+    wit = wit;
     said = ap (option_map (λ n. Lifted (record { of = Main; name = n }) [])) role;
+    exported = exported;
     is = record {
-      term = terms.Lifting (main_export name) [] plain_function;
-      is = lifts (main_export name) [] plain_function refl alias (subst (λ os. AllZip (IsOption old) os []) (sym none) tt) type';
+      entry = main_export name;
+      options = [];
+      is = lifts (main_export name) [] (type_of_function w wit) refl alias (subst (λ os. AllZip (IsOption old) os []) (sym none) tt) typed;
       asked = (record { of = record { world_module = main_module w; listed = refl; same = refl }; named = refl }, tt);
     };
     encoded = encoded;
   };
 }
 
-pub adds_export : (w : ComponentWorld) (old new : List Def) (index : ℕ) (name : List ℕ) (key : WorldKey) → name ≡ name_of_key key → IsLiftFor w old index key →
+pub adds_export : (w : ComponentWorld) (old new : List Def) (index : ℕ) (name : List ℕ) (key : WorldKey) → name ≡ name_of_key key → IsRequiredLift w old index key →
     new ≡ old ++ defs.Item (items.Export (plain_name name) sorts.Func index None) ∷ [] → Grows w old new (named_export (name_of_key key) ∷ [])
 adds_export w old new index name key same lifted appended =
     subst (λ n. Grows w old new (named_export n ∷ [])) same
-    (Grows-by (defs.Item (items.Export (plain_name name) sorts.Func index None)) appended (record { key = key; target = lifted.target; named = ap plain_name same; said = lifted.said; lifted = lifted.is }))
+    (Grows-by (defs.Item (items.Export (plain_name name) sorts.Func index None)) appended (record { key = key; target = lifted.target; wit = lifted.wit; named = ap plain_name same; said = lifted.said; exported = lifted.exported; lifted = lifted.is }))
 
 -- the keys that were exported so far
 pub record ExportsSoFar (w : ComponentWorld) (old new : Built) (done : List WorldKey) : Type 0 where
@@ -171,3 +175,38 @@ pub export_refused : (w : ComponentWorld) (keys : List WorldKey) → keys ≡ w.
 export_refused w keys same i key l is e h =
     among_more w [] (core_imports w) (key ∷ []) w.main_exports (λ x c. contains_none x c)
     (λ k c. subst (λ x. Contains w.main_exports x) (contains_one key k c) (subst (λ ks. Contains ks key) same (i, l, sym is))) e h
+
+-- ---- the function of a required export
+
+-- a function that core exports implement is one that the world exports
+name_exported : (w : ComponentWorld) (text name : List ℕ) (es : List (List ℕ × WorldExport)) → AllByRecursion (λ e. IsExportRole w e.1) es → found text (flat_map root_export es) ≡ Some name → Contains (exported_functions w) text
+name_exported w text name [] r h = absurd (none-some name h)
+name_exported w text name ((n, exports.WorldFunc (keys.Name t) function abi) ∷ es) r h = by (bytes_eq text t) refl h (name_exported w text name es r.1)
+  where
+    by : (b : Bool) → bytes_eq text t ≡ b → cond b (Some n) (found text (flat_map root_export es)) ≡ Some name → (found text (flat_map root_export es) ≡ Some name → Contains (exported_functions w) text) → Contains (exported_functions w) text
+    by true same e rest = subst (λ x. Contains (exported_functions w) x) (sym ((bytes_eq-Decides text t).0 same)) r.0.0
+    by false same e rest = rest e
+name_exported w text name ((n, role) ∷ es) r h = absurd r.0
+
+-- among exports that are all functions, a name is found as a function
+pub record FindsFunction (es : List (WorldKey × WorldItem)) (key : WorldKey) : Type 0 where
+  pub function : Function
+  pub is : lookup (is_same_key key) es ≡ Some (world_items.Function function)
+
+function_at : (types : List TypeDef) (es : List (WorldKey × WorldItem)) (text : List ℕ) → AllByRecursion (IsExportItem types) es → Contains (flat_map root_function es) text → FindsFunction es (keys.Name text)
+function_at types [] text h c = contains_none text c
+function_at types ((keys.Name t, world_items.Function f) ∷ es) text h c = by (bytes_eq text t) refl (contains_cons t (flat_map root_function es) text c) (λ k. function_at types es text h.1 k)
+  where
+    by : (b : Bool) → bytes_eq text t ≡ b → (t ≡ text) ⊎ Contains (flat_map root_function es) text → (Contains (flat_map root_function es) text → FindsFunction es (keys.Name text)) → FindsFunction ((keys.Name t, world_items.Function f) ∷ es) (keys.Name text)
+    by true same k rest = record { function = f; is = ap (λ b. cond (b && true) (Some (world_items.Function f)) (lookup (is_same_key (keys.Name text)) es)) same }
+    by false same (inl k) rest = let yes = (bytes_eq-Decides text t).1 (sym k) in let no = sym yes ∙ same in absurd (true≢false no)
+    by false same (inr k) rest = let r = rest k in record { function = r.function; is = ap (λ b. cond (b && true) (Some (world_items.Function f)) (lookup (is_same_key (keys.Name text)) es)) same ∙ r.is }
+function_at types (e ∷ es) text h c = absurd h.0
+
+pub key_function : (w : ComponentWorld) → IsWorld w → (key : WorldKey) → IsSome (core_name_of w key) → FindsFunction (items_of w).exports key
+key_function w ok (keys.Name text) some = by (found text (flat_map root_export w.main.exports.exports)) refl some
+  where
+    by : (o : Option (List ℕ)) → found text (flat_map root_export w.main.exports.exports) ≡ o → IsSome o → FindsFunction (items_of w).exports (keys.Name text)
+    by (Some name) e h = function_at w.resolve.types (items_of w).exports text ok.exports (name_exported w text name w.main.exports.exports ok.main.export_roles e)
+    by None e h = absurd (true≢false (sym h))
+key_function w ok (keys.Interface id) some = absurd (true≢false (sym some))

@@ -1,10 +1,7 @@
 pub mod Refusals
 pub mod Building
-pub mod Elements
 pub mod Exporting
-pub mod Finding
 pub mod Growth
-pub mod Importing
 pub mod Indexing
 pub mod Scoping
 pub mod Serving

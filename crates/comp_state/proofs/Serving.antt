@@ -36,12 +36,14 @@ use Rattle.comp_items.proofs.Extending.{extends_none, extends_then}
 use Rattle.comp_state.specs.Causes.{IsCauseAmong, IsCause}
 use Rattle.comp_state.specs.declared.fault.StateFault.{StateFault}
 use Rattle.comp_links.specs.Targets.{Main}
+use Rattle.comp_links.specs.Lists.{Stated}
 use Rattle.comp_terms.specs.Planned.{IsEntryFor, IsArgumentFor}
 use Rattle.comp_links.specs.Roles.{import_encoding, is_named, is_any_import, uses_from, is_used}
-use Rattle.comp_terms.specs.Rules.{Grows, named_import, landmarks}
-use Rattle.comp_state.proofs.Elements.{contains_one, contains_none, contains_cons, contains_flat, AllByRecursion-join}
+use Rattle.comp_terms.specs.Rules.{Grows, Imported, landmarks}
+use Rattle.comp_imports.proofs.Elements.{contains_one, contains_none, contains_cons, contains_flat, AllByRecursion-join}
 use Rattle.comp_state.proofs.Refusals.{among_more}
-use Rattle.comp_state.proofs.Growth.{longer_by, Grows-none, Grows-by, Grows-then, IsEntryFor-kept, IsArgumentFor-kept, entries_in_range}
+use Rattle.comp_imports.specs.Growing.{longer_by, Grows-none, Grows-by, Grows-then}
+use Rattle.comp_state.proofs.Growth.{IsEntryFor-kept, IsArgumentFor-kept, entries_in_range}
 
 -- a core import of the world has a role of the world
 pub import_role : (w : ComponentWorld) → IsWorld w → (name field : List ℕ) (role : Import) → Contains (core_imports w) (record { module_name = name; field = field; role = role }) → IsImportRole w role
@@ -245,7 +247,7 @@ abbrev rest_of : {X : Type 0} → List X → List X
 rest_of [] = []
 rest_of (x ∷ xs) = xs
 
-unmarked : (ds : List Def) (names : List (List ℕ)) → landmarks ds ≡ map named_import names → in_space spaces.CoreModule ds ≡ []
+unmarked : (ds : List Def) (names : List Stated) → landmarks ds ≡ map Imported names → in_space spaces.CoreModule ds ≡ []
 unmarked [] names h = refl
 unmarked (defs.Component inner ∷ ds) names h = unmarked ds names h
 unmarked (defs.Item (items.CoreModule bytes) ∷ ds) [] h = cc
@@ -267,8 +269,8 @@ unmarked (defs.Item (items.Export name sort index description) ∷ ds) (n ∷ ns
 unmarked (defs.Item (items.Custom name contents) ∷ ds) [] h = cc
 unmarked (defs.Item (items.Custom name contents) ∷ ds) (n ∷ ns) h = cc
 
--- where only functions were imported, there is no core module
-pub no_modules : (ds : List Def) (names : List (List ℕ)) → landmarks ds ≡ map named_import names → items_in spaces.CoreModule ds ≡ 0
+-- where nothing but imports has a landmark, there is no core module
+pub no_modules : (ds : List Def) (names : List Stated) → landmarks ds ≡ map Imported names → items_in spaces.CoreModule ds ≡ 0
 no_modules ds names h = sym (length-filter (λ d. is_space spaces.CoreModule (space_of d)) ds) ∙ ap length (unmarked ds names h)
 
 fields_encoded : (w : ComponentWorld) (ds : List Def) (name : List ℕ) (es : List CoreInlineExport) (fs : List (List ℕ × Import)) → AllZip (IsEntryFor w Main ds) es fs →

@@ -2,14 +2,14 @@ use Rattle.std.proofs.Common.{◌∷◌, [], ap}
 use Rattle.comp_builder.specs.Built.{Built}
 use Rattle.wit_data.specs.Keys.{name_of_key}
 use Rattle.comp_terms.specs.Rules.{Grows, named_export}
-use Rattle.comp_state.proofs.Growth.{Grows-then}
+use Rattle.comp_imports.specs.Growing.{Grows-then}
 use Rattle.comp_state.proofs.Exporting.{adds_export}
 use Rattle.comp_state.proofs.exports.MainExports.export.Goals as goal
 
 pub returns-clause-grows : goal.returns-clause-grows
 returns-clause-grows c =
-    let w = c.args.self.now.world.now in
-    let g : Grows w c.lift.new.component.defs c.export.new.self.defs (named_export (name_of_key c.args.key.now) ∷ []) =
-    adds_export w c.lift.new.component.defs c.export.new.self.defs c.in_ok-lifted.lifted c.in_ok-clone.field-0 c.args.key.now (rw (← c.function_name.ensures) c.in_ok-clone.ensures) c.in_ok-lifted.ensures.lifted
+    let w = c.args.root.now.world.now in
+    let g : Grows w c.lift.new.root.items.defs c.export.new.self.defs (named_export (name_of_key c.args.key.now) ∷ []) =
+    adds_export w c.lift.new.root.items.defs c.export.new.self.defs c.in_ok-lifted.lifted c.in_ok-clone.field-0 c.args.key.now (rw (← c.function_name.ensures) c.in_ok-clone.ensures) c.in_ok-lifted.ensures.lifted
     (ap (λ (b : Built). b.defs) c.in_ok-export.ensures.adds.1) in
     Grows-then c.in_ok-lifted.ensures.grows g

@@ -1,6 +1,8 @@
-use Rattle.std.proofs.Common.{take}
+use Rattle.std.proofs.Common.{◌≡◌, take}
+use Rattle.comp_imports.specs.RootScopes.{AreTablesRight}
 use Rattle.comp_state.proofs.Exporting.{ExportsSoFar}
 use Rattle.comp_state.proofs.exports.MainExports.export_all.Given as goal
 
 abbrev pub invariant-loop-key : goal.invariant-loop-key
-invariant-loop-key l = ExportsSoFar l.self.world.now l.fn.component l.component (take l.key-index l.key-items)
+invariant-loop-key l =
+    (l.root.world ≡ l.fn.root.world) × AreTablesRight l.fn.root.world.now l.root.items.defs l.root.maps × ExportsSoFar l.fn.root.world.now l.fn.root.items l.root.items (take l.key-index l.key-items)

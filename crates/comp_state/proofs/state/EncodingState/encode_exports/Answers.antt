@@ -5,20 +5,20 @@ use Rattle.comp_links.specs.Roles.{export_encoding}
 use Rattle.comp_terms.specs.Rules.{Grows, exports_marked}
 use Rattle.comp_state.specs.Causes.{IsCause}
 use Rattle.comp_state.specs.Encoding.{Encoding}
-use Rattle.comp_state.proofs.Growth.{encoding-kept, exports_of, main_known}
+use Rattle.comp_state.proofs.Growth.{encoding-with, exports_of, main_known}
 use Rattle.comp_state.proofs.state.EncodingState.encode_exports.Goals as goal
 
 pub export_all-requires : goal.export_all-requires
-export_all-requires c = exports_of _ c.self.invariant (ap (λ (e : Encoding). e.step) c.self.view_is ∙ c.requires) c.unwrap.ensures
+export_all-requires c = exports_of c.self.inside.root.world.now _ c.self.invariant (ap (λ (e : Encoding). e.step) c.self.view_is ∙ c.requires) c.unwrap.ensures
 
 pub invariant_of-self : goal.invariant_of-self
-invariant_of-self c = encoding-kept c.export_all.ensures.extends c.self.invariant
+invariant_of-self c = encoding-with c.export_all.ensures.extends c.export_all.ensures.tables c.self.invariant
 
 pub unwrap-requires : goal.unwrap-requires
 unwrap-requires c = main_known c.self.invariant (ap (λ (e : Encoding). e.step) c.self.view_is ∙ c.requires)
 
 pub returns-clause-grows : goal.returns-clause-grows
-returns-clause-grows c = subst (λ (e : Encoding). OnOk c.export_all.result (Grows e.world e.built.defs c.export_all.new.component.defs (exports_marked e.world))) c.self.view_is c.export_all.ensures.grows
+returns-clause-grows c = subst (λ (e : Encoding). OnOk c.export_all.result (Grows e.world e.built.defs c.export_all.new.root.items.defs (exports_marked e.world))) c.self.view_is c.export_all.ensures.grows
 
 pub returns-clause-encoded : goal.returns-clause-encoded
 returns-clause-encoded c =

@@ -11,7 +11,8 @@ use Rattle.comp_terms.specs.Rules.{Grows, InstanceOf}
 use Rattle.comp_worlds.specs.Worlds.{core_imports}
 use Rattle.comp_state.specs.Encoding.{Encoding, AreImported, IsFirstModule}
 use Rattle.comp_state.proofs.Exporting.{main_module}
-use Rattle.comp_state.proofs.Growth.{Grows-by, Grows-then, kept, encoding-kept, encoding-instantiated, sources_of}
+use Rattle.comp_imports.specs.Growing.{Grows-by, Grows-then, kept}
+use Rattle.comp_state.proofs.Growth.{encoding-kept, encoding-instantiated, sources_of}
 use Rattle.comp_state.proofs.Serving.{groups_encoded}
 use Rattle.comp_state.proofs.state.EncodingState.instantiate.Goals as goal
 
@@ -24,18 +25,18 @@ invariant_of-self c = encoding-kept c.in_err-arguments.ensures.extends c.self.in
 pub invariant_of-self-in_err-index : goal.invariant_of-self-in_err-index
 invariant_of-self-in_err-index c =
     let last : Extends c.arguments.new.component c.core_instance.new.self = extends_same c.arguments.new.component c.core_instance.new.self c.in_err-index.ensures.adds.0 in
-    encoding-kept (extends_then c.self.inside.component c.arguments.new.component c.core_instance.new.self c.in_ok-arguments.ensures.extends last) c.self.invariant
+    encoding-kept (extends_then c.self.inside.root.items c.arguments.new.component c.core_instance.new.self c.in_ok-arguments.ensures.extends last) c.self.invariant
 
 pub invariant_of-self-2 : goal.invariant_of-self-2
 invariant_of-self-2 c =
     let last : Extends c.arguments.new.component c.core_instance.new.self = search rules in
-    let all : Extends c.self.inside.component c.core_instance.new.self = extends_then c.self.inside.component c.arguments.new.component c.core_instance.new.self c.in_ok-arguments.ensures.extends last in
+    let all : Extends c.self.inside.root.items c.core_instance.new.self = extends_then c.self.inside.root.items c.arguments.new.component c.core_instance.new.self c.in_ok-arguments.ensures.extends last in
     encoding-instantiated c.in_ok-index.index all (subst (λ (e : Encoding). AreImported e.step) (sym c.self.view_is) c.requires.imported) c.in_ok-index.ensures.instance c.self.invariant
 
 pub returns-clause-grows : goal.returns-clause-grows
 returns-clause-grows c =
-    let w = c.self.inside.world.now in
-    let first : IsFirstModule w c.self.inside.component.defs = subst (λ (e : Encoding). IsFirstModule e.world e.built.defs) (sym c.self.view_is) c.requires.first in
+    let w = c.self.inside.root.world.now in
+    let first : IsFirstModule w c.self.inside.root.items.defs = subst (λ (e : Encoding). IsFirstModule e.world e.built.defs) (sym c.self.view_is) c.requires.first in
     let scoped = in_range (kept c.in_ok-arguments.ensures.grows first.made) in
     let last : Grows w c.arguments.new.component.defs c.core_instance.new.self.defs (InstanceOf 0 ∷ []) =
     Grows-by (defs.Item (items.CoreInstantiate 0 c.in_ok-arguments.arguments)) (ap (λ (b : Built). b.defs) c.in_ok-index.ensures.adds.1)
@@ -45,4 +46,4 @@ returns-clause-grows c =
 pub returns-clause-encoded : goal.returns-clause-encoded
 returns-clause-encoded c =
     subst (λ (e : Encoding). AllByRecursion (λ i. IsSome (import_encoding e.world i.role)) (core_imports e.world)) c.self.view_is
-    (groups_encoded c.self.inside.world.now c.arguments.new.component.defs c.in_ok-arguments.arguments c.self.inside.world.now.main.imports.modules c.in_ok-arguments.ensures.serves)
+    (groups_encoded c.self.inside.root.world.now c.arguments.new.component.defs c.in_ok-arguments.arguments c.self.inside.root.world.now.main.imports.modules c.in_ok-arguments.ensures.serves)
