@@ -5,6 +5,8 @@ ghost use Rattle.wit_data.specs.Parts.{RefersBack, IsBelow, parts};
 ghost use Rattle.wit_data.specs.Values.{kind_at};
 ghost use Rattle.wit_data.specs.declared.types.Type.TheVariants.{Id};
 ghost use Rattle.wit_types.specs.Settings.{tree_in};
+ghost use Rattle.comp_trees.specs.DefinedTrees.{OfValues};
+ghost use Rattle.comp_trees.specs.DefinedScopes.{Denotes};
 ghost use Rattle.wit_types.specs.Denoting.{Longer, ValueDenotes, IsCause};
 ghost use Rattle.wit_types.specs.Definitions.{PartDenotes, PartsDenote};
 ghost use Rattle.wit_types.specs.Maps.{Faithful, IsRecorded, IsNamedValue};
@@ -12,7 +14,7 @@ ghost use Rattle.wit_types.specs.Allowing.{is_allowed, IsDefinedHere};
 
 use crate::encoder::ValtypeEncoder;
 use crate::finding::find_type;
-use crate::making::define;
+use crate::making::{define, index_of};
 use crate::reading::part_in;
 use crate::recording::export_and_record;
 use byte_encoding::BuildFault;
@@ -157,4 +159,53 @@ fn make_type<E: ValtypeEncoder>(
 {
     let value = define(alloc, encoder, types, id, given.as_slice())?;
     export_and_record(alloc, encoder, types, id, value)
+}
+
+/// The index of a type that is what the type with an index is: it is defined of the value types of its parts, without its
+/// name, and not recorded.
+pub(crate) fn define_unnamed<E: ValtypeEncoder>(
+    alloc: Global,
+    encoder: &mut E,
+    types: &[TypeDef],
+    id: TypeId,
+) -> Result<u32, BuildFault>
+    requires back { RefersBack types.now }
+    requires same { (E.setting encoder.old).types ≡ types.now }
+    requires faithful { Faithful (E.setting encoder.old) (E.scope encoder.old) (E.names encoder.old) (E.maps encoder.old) }
+    requires present { id.index < length types.now }
+    requires defined { IsDefinedHere (E.setting encoder.old) (kind_at types.now id.index) }
+    ensures denotes { IfOk result (λ index. Denotes (E.scope encoder.new) index (OfValues (tree_in (E.setting encoder.old) (Some (Id id))))) }
+    ensures grows { Longer (E.scope encoder.old) (E.scope encoder.new) }
+    ensures setting { E.setting encoder.new ≡ E.setting encoder.old }
+    ensures faithful { Faithful (E.setting encoder.new) (E.scope encoder.new) (E.names encoder.new) (E.maps encoder.new) }
+    ensures follows { E.follows encoder.old encoder.new }
+    ensures cause { IfErr result (IsCause E.refuses encoder.new) }
+{
+    let given = encode_parts(alloc, encoder, types, id)?;
+    define_index(alloc, encoder, types, id, given)
+}
+
+/// The same, of these value types of its parts.
+fn define_index<E: ValtypeEncoder>(
+    alloc: Global,
+    encoder: &mut E,
+    types: &[TypeDef],
+    id: TypeId,
+    given: Vec<Option<ComponentValType>>,
+) -> Result<u32, BuildFault>
+    requires back { RefersBack types.now }
+    requires same { (E.setting encoder.old).types ≡ types.now }
+    requires faithful { Faithful (E.setting encoder.old) (E.scope encoder.old) (E.names encoder.old) (E.maps encoder.old) }
+    requires present { id.index < length types.now }
+    requires defined { IsDefinedHere (E.setting encoder.old) (kind_at types.now id.index) }
+    requires parts { PartsDenote (E.setting encoder.old) (E.scope encoder.old) given.items (kind_at types.now id.index) }
+    ensures denotes { IfOk result (λ index. Denotes (E.scope encoder.new) index (OfValues (tree_in (E.setting encoder.old) (Some (Id id))))) }
+    ensures grows { Longer (E.scope encoder.old) (E.scope encoder.new) }
+    ensures setting { E.setting encoder.new ≡ E.setting encoder.old }
+    ensures faithful { Faithful (E.setting encoder.new) (E.scope encoder.new) (E.names encoder.new) (E.maps encoder.new) }
+    ensures follows { E.follows encoder.old encoder.new }
+    ensures cause { IfErr result (IsCause E.refuses encoder.new) }
+{
+    let value = define(alloc, encoder, types, id, given.as_slice())?;
+    index_of(encoder, value)
 }

@@ -41,7 +41,10 @@ mod recording;
 mod tables;
 mod type_list;
 
-pub use calls::{encode_func_type, encode_unit_future, encode_unit_stream, encode_valtype};
+pub use calls::{
+    encode_definition, encode_func_type, encode_unit_future, encode_unit_stream, encode_valtype,
+    record_type_index,
+};
 pub use encoder::ValtypeEncoder;
 pub use maps::{FuncTypeKey, TypeEncodingMaps};
 pub use type_list::{AloneType, ListedType, TypeList, encode_alone};
