@@ -12,7 +12,6 @@ use Rattle.comp_items.specs.Items.{MayAdd}
 use Rattle.comp_items.proofs.Extending.{extends_none, extends_then}
 use Rattle.comp_items.proofs.Kept.{Longer, at-kept}
 use Rattle.comp_imports.specs.RootScopes.{RootGrows}
-use Rattle.comp_imports.specs.declared.root_scope.RootScope.{RootScope}
 
 RightAfter-append : (w : ComponentWorld) (old a b : List Def) → RightAfter w old a → RightAfter w (old ++ a) b → RightAfter w old (a ++ b)
 RightAfter-append w old [] b h k = rw append-nil at k
@@ -55,7 +54,6 @@ root_same w b = record { extends = extends_none b; grows = Grows-none w b.defs }
 pub root_then : {w : ComponentWorld} (a b c : Built) → RootGrows w a b → RootGrows w b c → RootGrows w a c
 root_then a b c g h = record { extends = extends_then a b c g.extends h.extends; grows = Grows-then g.grows h.grows }
 
--- of three states of a scope
-pub root_on : (a b c : RootScope) → (b.world ≡ a.world) × RootGrows a.world.now a.items b.items → (c.world ≡ b.world) × RootGrows b.world.now b.items c.items →
-    (c.world ≡ a.world) × RootGrows a.world.now a.items c.items
-root_on a b c g h = (h.0 ∙ g.0, root_then a.items b.items c.items g.1 (subst (λ w. RootGrows w.now b.items c.items) g.0 h.1))
+-- of three states of a scope, each with a reference to what has the world
+pub root_on : {R : Type 0} (world : R → ComponentWorld) (r s t : R) (a b c : Built) → (s ≡ r) × RootGrows (world r) a b → (t ≡ s) × RootGrows (world s) b c → (t ≡ r) × RootGrows (world r) a c
+root_on world r s t a b c g h = (h.0 ∙ g.0, root_then a b c g.1 (subst (λ x. RootGrows (world x) b c) g.0 h.1))

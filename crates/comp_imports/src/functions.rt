@@ -19,9 +19,10 @@ use crate::used::used_functions;
 use byte_encoding::BuildFault;
 use comp_bytes::ExternName;
 use comp_lists::{Keyed, Text};
+use comp_worlds::ComponentWorld;
 use wit_data::{Function, WorldItem, WorldKey};
 
-impl RootScope<'_> {
+impl RootScope<'_, ComponentWorld> {
     /// Imports a root function under its name, with its type.
     fn import_function(&mut self, name: &Text, function: &Function) -> Result<u32, BuildFault>
         requires valid { IsWorld self.old.world.now }

@@ -16,6 +16,6 @@
 mod functions;
 mod root_scope;
 mod used;
-// mod world_types;
+mod world_types;
 
-pub use root_scope::RootScope;
+pub use root_scope::{HasWorld, RootScope};

@@ -2,7 +2,6 @@
 #![tactic(auto, using(crate::proofs::Growth::growing))]
 
 ghost use Rattle.std.specs.Prelude.{◌≡◌, ◌<◌, length, true, IsTrue, IfOk, IfErr, OnOk, [], get_or, Some, None};
-ghost use Rattle.std.specs.Borrow.{sem, Lends};
 ghost use Rattle.std.proofs.Common.{refl};
 ghost use Rattle.comp_bytes.specs.References.{defined_references, type_references};
 ghost use Rattle.comp_bytes.specs.declared.types.TypeDef.TheVariants as definitions;
@@ -15,7 +14,6 @@ ghost use Rattle.wit_data.specs.Sound.{HasFunction};
 ghost use Rattle.wit_types.specs.Settings.{tree_in, NamesType};
 ghost use Rattle.wit_types.specs.Denoting.{AreTypes, Makes, MayMake, IsCause, exported_or};
 ghost use Rattle.wit_types.specs.Maps.{no_maps};
-ghost use Rattle.wit_types.specs.contracts.maps.TypeEncodingMaps.{the_row as maps_row};
 ghost use Rattle.comp_terms.specs.Planned.{type_of_function};
 ghost use Rattle.comp_terms.specs.Terms.{IsFunctionType};
 ghost use Rattle.comp_worlds.specs.Worlds.{IsWorld};
@@ -30,14 +28,25 @@ use std::alloc::Global;
 use wit_data::{Function, InterfaceId, TypeId};
 use wit_types::{TypeEncodingMaps, ValtypeEncoder, encode_func_type};
 
+/// What has a validated world. The scope of types is proved for each such type.
+pub trait HasWorld {
+    ghost use Rattle.comp_worlds.specs.declared.world.ComponentWorld.{ComponentWorld as World};
+
+    ghost world: { Self → World };
+}
+
+impl HasWorld for ComponentWorld {
+    ghost world = { λ w. w };
+}
+
 /// The root of a component under construction, as a scope of types: its items, and the tables of the types that were met.
-pub struct RootScope<'a> {
-    pub world: &'a ComponentWorld,
+pub struct RootScope<'a, W: HasWorld> {
+    pub world: &'a W,
     pub items: ComponentItems,
     pub maps: TypeEncodingMaps,
 }
 
-impl<'a> Drop for RootScope<'a> {
+impl<'a, W: HasWorld> Drop for RootScope<'a, W> {
     fn drop(self) {
         let RootScope {
             world: _,
@@ -47,9 +56,9 @@ impl<'a> Drop for RootScope<'a> {
     }
 }
 
-impl<'a> RootScope<'a> {
+impl<'a> RootScope<'a, ComponentWorld> {
     /// A component with no definition. It allocates nothing.
-    pub fn new(alloc: Global, world: &'a ComponentWorld) -> RootScope<'a>
+    pub fn new(alloc: Global, world: &'a ComponentWorld) -> RootScope<'a, ComponentWorld>
         ensures world { result.world ≡ world.entry }
         ensures items { result.items ≡ nothing_built }
         ensures maps { result.maps ≡ no_maps }
@@ -90,8 +99,8 @@ impl<'a> RootScope<'a> {
     }
 }
 
-impl<'a> ValtypeEncoder for RootScope<'a> {
-    ghost setting = { λ e. root_setting e.world.now };
+impl<'a, W: HasWorld> ValtypeEncoder for RootScope<'a, W> {
+    ghost setting = { λ e. root_setting (W.world e.world.now) };
 
     ghost scope = { λ e. scope_of e.items.defs };
 
@@ -99,19 +108,19 @@ impl<'a> ValtypeEncoder for RootScope<'a> {
 
     ghost with_maps = { λ e m. record e { maps = m } };
 
-    ghost follows = { λ old new. (new.world ≡ old.world) × RootGrows old.world.now old.items new.items };
+    ghost follows = { λ old new. (new.world ≡ old.world) × RootGrows (W.world old.world.now) old.items new.items };
 
     ghost names = { λ e name index. any_index name index };
 
     ghost refuses = { λ e count. is_full e.items.defs count };
 
-    ghost follows_itself = { λ e. (refl, root_same e.world.now e.items) };
+    ghost follows_itself = { λ e. (refl, root_same (W.world e.world.now) e.items) };
 
-    ghost follows_on = { λ a b c g h. root_on a b c g h };
+    ghost follows_on = { λ a b c g h. root_on (λ r. W.world r.now) a.world b.world c.world a.items b.items c.items g h };
 
     ghost names_kept = { λ a b g name index h. h };
 
-    ghost follows_maps = { λ e m. (refl, root_same e.world.now e.items) };
+    ghost follows_maps = { λ e m. (refl, root_same (W.world e.world.now) e.items) };
 
     ghost maps_given = { λ e m. refl };
 
@@ -123,9 +132,9 @@ impl<'a> ValtypeEncoder for RootScope<'a> {
         requires present { AreTypes (length (scope_of self.old.items.defs)) (defined_references ty) }
         requires known { is_known (defined_tree (scope_of self.old.items.defs) ty) ≡ true }
         ensures makes { Makes (scope_of self.old.items.defs) (scope_of self.new.items.defs) result (OfValues (defined_tree (scope_of self.old.items.defs) ty)) }
-        ensures setting { root_setting self.new.world.now ≡ root_setting self.old.world.now }
+        ensures setting { root_setting (W.world self.new.world.now) ≡ root_setting (W.world self.old.world.now) }
         ensures maps { self.new.maps ≡ self.old.maps }
-        ensures follows { (self.new.world ≡ self.old.world) × RootGrows self.old.world.now self.old.items self.new.items }
+        ensures follows { (self.new.world ≡ self.old.world) × RootGrows (W.world self.old.world.now) self.old.items self.new.items }
         ensures cause { IfErr result (IsCause is_full self.new.items.defs) }
     {
         self.items.defined_type(ty)
@@ -135,9 +144,9 @@ impl<'a> ValtypeEncoder for RootScope<'a> {
         requires present { AreTypes (length (scope_of self.old.items.defs)) (type_references (definitions.Func ty)) }
         requires known { is_known_function (function_tree (scope_of self.old.items.defs) ty) ≡ true }
         ensures makes { Makes (scope_of self.old.items.defs) (scope_of self.new.items.defs) result (OfFunctions (function_tree (scope_of self.old.items.defs) ty)) }
-        ensures setting { root_setting self.new.world.now ≡ root_setting self.old.world.now }
+        ensures setting { root_setting (W.world self.new.world.now) ≡ root_setting (W.world self.old.world.now) }
         ensures maps { self.new.maps ≡ self.old.maps }
-        ensures follows { (self.new.world ≡ self.old.world) × RootGrows self.old.world.now self.old.items self.new.items }
+        ensures follows { (self.new.world ≡ self.old.world) × RootGrows (W.world self.old.world.now) self.old.items self.new.items }
         ensures cause { IfErr result (IsCause is_full self.new.items.defs) }
     {
         self.items.function_type(ty)
@@ -149,9 +158,9 @@ impl<'a> ValtypeEncoder for RootScope<'a> {
         ensures none { IfOk result (λ exported. exported ≡ None) }
         ensures names { IfOk result (λ exported. any_index name.name (exported_or exported index)) }
         ensures makes { MayMake (scope_of self.old.items.defs) (scope_of self.new.items.defs) result (get_or (scope_of self.old.items.defs) index OfOthers) }
-        ensures setting { root_setting self.new.world.now ≡ root_setting self.old.world.now }
+        ensures setting { root_setting (W.world self.new.world.now) ≡ root_setting (W.world self.old.world.now) }
         ensures maps { self.new.maps ≡ self.old.maps }
-        ensures follows { (self.new.world ≡ self.old.world) × RootGrows self.old.world.now self.old.items self.new.items }
+        ensures follows { (self.new.world ≡ self.old.world) × RootGrows (W.world self.old.world.now) self.old.items self.new.items }
         ensures cause { IfErr result (IsCause is_full self.new.items.defs) }
     {
         let _ = (index, name);
@@ -159,12 +168,12 @@ impl<'a> ValtypeEncoder for RootScope<'a> {
     }
 
     fn export_resource(&mut self, name: ExternName) -> Result<u32, BuildFault>
-        requires { IsTrue ((root_setting self.old.world.now).may_export name.name) }
+        requires { IsTrue ((root_setting (W.world self.old.world.now)).may_export name.name) }
         ensures names { IfOk result (λ index. any_index name.name index) }
-        ensures makes { Makes (scope_of self.old.items.defs) (scope_of self.new.items.defs) result (OfValues (ResourceAt ((root_setting self.old.world.now).resource name.name))) }
-        ensures setting { root_setting self.new.world.now ≡ root_setting self.old.world.now }
+        ensures makes { Makes (scope_of self.old.items.defs) (scope_of self.new.items.defs) result (OfValues (ResourceAt ((root_setting (W.world self.old.world.now)).resource name.name))) }
+        ensures setting { root_setting (W.world self.new.world.now) ≡ root_setting (W.world self.old.world.now) }
         ensures maps { self.new.maps ≡ self.old.maps }
-        ensures follows { (self.new.world ≡ self.old.world) × RootGrows self.old.world.now self.old.items self.new.items }
+        ensures follows { (self.new.world ≡ self.old.world) × RootGrows (W.world self.old.world.now) self.old.items self.new.items }
         ensures cause { IfErr result (IsCause is_full self.new.items.defs) }
     {
         let _ = name;
@@ -172,11 +181,11 @@ impl<'a> ValtypeEncoder for RootScope<'a> {
     }
 
     fn import_type(&mut self, interface: InterfaceId, id: TypeId) -> Result<u32, BuildFault>
-        requires { IsTrue ((root_setting self.old.world.now).may_import interface id) }
-        ensures makes { Makes (scope_of self.old.items.defs) (scope_of self.new.items.defs) result (OfValues (tree_in (root_setting self.old.world.now) (Some (Id id)))) }
-        ensures setting { root_setting self.new.world.now ≡ root_setting self.old.world.now }
+        requires { IsTrue ((root_setting (W.world self.old.world.now)).may_import interface id) }
+        ensures makes { Makes (scope_of self.old.items.defs) (scope_of self.new.items.defs) result (OfValues (tree_in (root_setting (W.world self.old.world.now)) (Some (Id id)))) }
+        ensures setting { root_setting (W.world self.new.world.now) ≡ root_setting (W.world self.old.world.now) }
         ensures maps { self.new.maps ≡ self.old.maps }
-        ensures follows { (self.new.world ≡ self.old.world) × RootGrows self.old.world.now self.old.items self.new.items }
+        ensures follows { (self.new.world ≡ self.old.world) × RootGrows (W.world self.old.world.now) self.old.items self.new.items }
         ensures cause { IfErr result (IsCause is_full self.new.items.defs) }
     {
         let _ = (interface, id);

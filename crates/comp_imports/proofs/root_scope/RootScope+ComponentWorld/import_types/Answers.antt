@@ -1,0 +1,55 @@
+use Rattle.std.proofs.Common.{◌≡◌, ◌∙◌, ℕ, List, [], ◌∷◌, refl, sym, ap, subst, map}
+use Rattle.wit_data.specs.Sound.{HasEntry}
+use Rattle.wit_data.specs.declared.ids.TypeId.{TypeId}
+use Rattle.wit_data.specs.declared.worlds.World.{World}
+use Rattle.wit_data.specs.declared.worlds.WorldKey.{WorldKey}
+use Rattle.wit_data.specs.declared.worlds.WorldItem.{WorldItem}
+use Rattle.comp_worlds.specs.Worlds.{items_of, world_type}
+use Rattle.comp_links.specs.Lists.{root_type}
+use Rattle.comp_terms.specs.Rules.{Grows, Imported}
+use Rattle.comp_imports.specs.RootScopes.{AreTablesRight}
+use Rattle.comp_imports.proofs.Looking.{entry_sound}
+use Rattle.comp_imports.proofs.Importing.{TypesSoFar, types_start, types_step, types_done}
+use Rattle.comp_imports.proofs.root_scope.RootScope.import_types.Goals as goal
+use Rattle.comp_imports.proofs.root_scope.RootScope.import_types.Goals.{In-Some}
+
+pub loop-key-init : goal.loop-key-init
+loop-key-init c =
+    let w = c.args.self.now.world.now in
+    let items : c.into_iter-key-iterator.result ≡ (items_of w).imports =
+    c.into_iter-key-iterator.ensures.into_iter_gives ∙ c.iter-key-items.ensures.rest ∙ ap (λ (x : World). x.imports) c.items.ensures in (
+      tt,
+      tt,
+      refl,
+      c.requires.tables,
+      subst (λ (es : List (WorldKey × WorldItem)). TypesSoFar w c.args.self.now.items c.args.self.now.items es) (sym items) (types_start w c.args.self.now.items),
+    )
+
+-- the items that are left, with the next one
+before : (c : In-Some) → TypesSoFar c.args.self.now.world.now c.args.self.now.items c.loop-key.self.items ((c.in-Some.key.now, c.in-Some.item.now) ∷ c.next.new.self)
+before c = subst (λ (es : List (WorldKey × WorldItem)). TypesSoFar c.args.self.now.world.now c.args.self.now.items c.loop-key.self.items es) c.in-Some.ensures.steps c.loop-key.invariant.4
+
+pub import_type_item-requires-clause-present : goal.import_type_item-requires-clause-present
+import_type_item-requires-clause-present c =
+    let b = before c in
+    subst (λ x. HasEntry x.now.resolve (c.in-Some.key.now, c.in-Some.item.now)) (sym c.loop-key.invariant.2) (entry_sound c.args.self.now.world.now c.requires.valid b.done c.next.new.self (c.in-Some.key.now, c.in-Some.item.now) b.split)
+
+pub loop-key-preserved : goal.loop-key-preserved
+loop-key-preserved c =
+    let w = c.args.self.now.world.now in
+    let e : WorldKey × WorldItem = (c.in-Some.key.now, c.in-Some.item.now) in
+    let same = c.loop-key.invariant.2 in
+    let of = c.in_ok-import_type_item.ensures in
+    let mid = c.loop-key.self.items in
+    let new = c.import_type_item.new.self in (
+      tt,
+      tt,
+      of.world ∙ same,
+      subst (λ x. AreTablesRight x.now new.items.defs new.maps) same of.tables,
+      types_step w c.args.self.now.items mid new.items e c.next.new.self (before c) of.extends (subst (λ x. Grows x.now mid.defs new.items.defs (map (λ (t : List ℕ × TypeId). Imported (root_type t.0)) (world_type e))) same of.grows),
+    )
+
+pub returns-clause-grows : goal.returns-clause-grows
+returns-clause-grows c =
+    types_done c.args.self.now.world.now c.args.self.now.items c.loop-key.self.items
+    (subst (λ (es : List (WorldKey × WorldItem)). TypesSoFar c.args.self.now.world.now c.args.self.now.items c.loop-key.self.items es) c.in-None.ensures.steps.0 c.loop-key.invariant.4)
