@@ -13,6 +13,11 @@ use Rattle.comp_bytes.specs.declared.def.Def.{Def}
 use Rattle.comp_bytes.specs.declared.def.Def.TheVariants as defs
 use Rattle.comp_trees.specs.Inventories.{Inventory, TypeEntry, FunctionEntry, InstanceEntry, entry_tree, trees_in, types_made, functions_made, instances_made, with_def, inventory_after, inventory, scope_of, empty_inventory}
 
+-- the inventory of no definition
+pub inventory-empty : inventory [] ≡ empty_inventory
+unfolding inventory
+inventory-empty = refl
+
 -- one more definition
 pub inventory_after-append : (v : Inventory) (ds es : List Def) → inventory_after v (ds ++ es) ≡ inventory_after (inventory_after v ds) es
 inventory_after-append v [] es = refl

@@ -1,6 +1,5 @@
 mod Zips
 mod Stores
-mod Numbering
 mod Plain
 mod Given
 mod UserExports
@@ -8,13 +7,3 @@ pub mod Steps
 mod Marks
 mod Served
 pub mod Runs
-mod Worked
-mod Crossed
-mod WorkedShims
-mod ShimsLinked
-mod ShimsLink
-mod ShimsComposed
-mod WorkedAdapter
-mod WorkedAdapterLinked
-mod WorkedInstances
-mod NotComposed

@@ -162,6 +162,21 @@ pub slice_get-middle : {X : Type 0} (xs : List X) (x : X) (more : List X) → sl
 slice_get-middle [] x more = refl
 slice_get-middle (y ∷ xs) x more = slice_get-middle xs x more
 
+-- two related lists after two others
+pub AllZip-join : {A B : Type 0} (R : A → B → Type 0) (xs more : List A) (ys others : List B) → AllZip R xs ys → AllZip R more others → AllZip R (xs ++ more) (ys ++ others)
+AllZip-join R [] more [] others h k = k
+AllZip-join R (x ∷ xs) more (y ∷ ys) others h k = (h.0, AllZip-join R xs more ys others h.1 k)
+AllZip-join R [] more (y ∷ ys) others h k = absurd h
+AllZip-join R (x ∷ xs) more [] others h k = absurd h
+
+-- the first list has an element where the second has one
+pub AllZip-back : {A B : Type 0} (R : A → B → Type 0) (xs : List A) (ys : List B) (i : ℕ) (y : B) → AllZip R xs ys → slice_get ys i ≡ Some y → (x : A) × (slice_get xs i ≡ Some x) × R x y
+AllZip-back R (x ∷ xs) (z ∷ ys) zero y h e = (x, refl, subst (R x) (same_Some z y e) h.0)
+AllZip-back R (x ∷ xs) (z ∷ ys) (suc i) y h e = AllZip-back R xs ys i y h.1 e
+AllZip-back R [] [] i y h e = absurd (none-some y e)
+AllZip-back R [] (z ∷ ys) i y h e = absurd h
+AllZip-back R (x ∷ xs) [] i y h e = absurd h
+
 pub AllByRecursion-join : {X : Type 0} (P : X → Type 0) (xs ys : List X) → AllByRecursion P xs → AllByRecursion P ys → AllByRecursion P (xs ++ ys)
 AllByRecursion-join P [] ys h k = k
 AllByRecursion-join P (x ∷ xs) ys h k = (h.0, AllByRecursion-join P xs ys h.1 k)
