@@ -7,3 +7,13 @@ pub mod Steps
 mod Marks
 mod Served
 pub mod Runs
+mod Worked
+mod Crossed
+mod WorkedShims
+mod ShimsLinked
+mod ShimsLink
+mod ShimsComposed
+mod WorkedAdapter
+mod WorkedAdapterLinked
+mod WorkedInstances
+mod NotComposed

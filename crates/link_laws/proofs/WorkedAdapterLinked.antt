@@ -1,0 +1,278 @@
+-- A worked example: the list with an adapter is composed and linked, and with two of the adapter's imports crossed it isn't linked.
+use Rattle.std.proofs.Common.{◌≡◌, ◌∙◌, ◌≤◌, ℕ, zero, suc, true≢false, List, [], ◌∷◌, refl, sym, ap, subst, Option, Some, None, IsTrue, arith}
+use Rattle.std.proofs.lemmas.Option.{none-some, same_Some}
+use Rattle.std.specs.List.{slice_get}
+use Rattle.comp_bytes.proofs.Worked.{g}
+use Rattle.core_types.specs.declared.types.FuncType.{FuncType}
+use Rattle.core_runs.specs.declared.bracket.Bracketed.{Bracketed}
+use Rattle.core_runs.specs.declared.bracket.AfterHook.TheVariants.{Nothing}
+use Rattle.core_runs.specs.Hooks.{around}
+use Rattle.core_runs.specs.Values.{Value, fit}
+use Rattle.core_runs.specs.Store.{Store as CodeStore, Opaque, Cell, Answer, Gives, Traps, Now, Outcome as CoreOutcome, Returned}
+use Rattle.core_runs.specs.Store as core
+use Rattle.core_runs.specs.Execution.{and_then, asked, exec, acts}
+use Rattle.core_runs.specs.Expected.{Known, expected}
+use Rattle.wit_data.specs.declared.ids.TypeId.{TypeId}
+use Rattle.comp_trees.specs.Trees.{Resource, DefinedAt}
+use Rattle.wit_data.specs.declared.worlds.WorldKey.TheVariants as keys
+use Rattle.comp_roles.specs.declared.offered.ExternType.TheVariants as externs
+use Rattle.comp_roles.specs.declared.offered.ImportType.{ImportType}
+use Rattle.comp_links.specs.Targets.{Main, ExportRef, ExportOf, MainMemory, Lifted}
+use Rattle.comp_links.specs.Modules.{WorldModule, adapter_module, user_modules, IsModule}
+use Rattle.comp_runs.specs.Store.{CoreItem, ExportedBy, ModuleInstance}
+use Rattle.comp_runs.specs.Machine.{Machine, Outcome, Done, Trapped, Open, Stuck}
+use Rattle.link_laws.specs.Composition.{IsComposed}
+use Rattle.link_laws.specs.Meeting.{ItemIsExport, CoreExportMeets, hooks_round, IsMainMemory, Meets, entry_kind}
+use Rattle.link_laws.specs.Linking.{outcome, questions, LetsRun, EndsAt, AreServed, IsServed, IsProvided, IsLinked, Links}
+use Rattle.link_laws.proofs.Worked.{plain_core}
+use Rattle.link_laws.proofs.Steps.{no_modules}
+use Rattle.link_laws.proofs.Worked.{machine_of, core_function, k, a}
+use Rattle.link_laws.proofs.Crossed.{traps_next, first_called, known_by, type_by}
+use Rattle.link_laws.proofs.WorkedAdapter.{adapter, functions, world, wit_of_g, definitions, crossed_definitions, memory_at, main_instance, adapter_instance, straight, crossed}
+
+-- ---- the lists
+
+pub straight_is_composed : IsComposed world no_modules definitions
+straight_is_composed = record {
+  generated = [];
+  modules = refl;
+  encoded = tt;
+  imports = refl;
+  exports = refl;
+  instances = refl;
+  customs = record { front = definitions; names = []; whole = refl; none_before = refl; named = tt };
+}
+
+pub crossed_is_composed : IsComposed world no_modules crossed_definitions
+crossed_is_composed = record {
+  generated = [];
+  modules = refl;
+  encoded = tt;
+  imports = refl;
+  exports = refl;
+  instances = refl;
+  customs = record { front = crossed_definitions; names = []; whole = refl; none_before = refl; named = tt };
+}
+
+-- ---- opaque functions
+
+returned_same : (o : CoreOutcome) → and_then o (λ results done. Returned results done) ≡ o
+returned_same (core.Returned results now) = refl
+returned_same (core.Trapped cause now) = refl
+returned_same (core.Open now) = refl
+returned_same core.Stuck = refl
+
+abbrev opaque_at : ℕ → Known
+opaque_at address = record { address = address; signature = plain_core }
+
+-- a call of an opaque function is one call of it, with no hooks
+acts_alone : (code : CodeStore) (address what : ℕ) → slice_get code.functions address ≡ Some (Opaque what plain_core) → (arguments : List Value) (now : Now) →
+    acts code address arguments now ≡ expected (around None Nothing) 0 (opaque_at address) arguments now
+unfolding acts exec
+acts_alone code address what e arguments now = rw e (sym (returned_same (asked address plain_core arguments now)))
+
+-- main has no hook
+no_hooks : (kind : Option Bracketed) → hooks_round world kind ≡ around None Nothing
+no_hooks None = refl
+no_hooks (Some kind) = refl
+
+-- ---- the end of a run
+
+-- the user modules
+abbrev main_module : WorldModule
+main_module = record { of = Main; found = world.main }
+
+abbrev the_adapter : WorldModule
+the_adapter = adapter_module (a, adapter)
+
+abbrev made_adapter : ModuleInstance
+made_adapter = adapter_instance (memory_at 0 ∷ core_function 1 ∷ core_function 0 ∷ [])
+
+abbrev of_main : List ℕ → ExportRef
+of_main name = record { of = Main; name = name }
+
+is_main : IsModule world 0 Main
+is_main = record { world_module = main_module; listed = refl; same = refl }
+
+abbrev no_origins : TypeId → Resource
+no_origins id = DefinedAt 0
+
+-- where the outside instantiates both modules
+abbrev pub end : ℕ → ℕ → List Answer → Machine
+end number number' rest = machine_of (outcome world no_modules definitions (Gives [] number ∷ Gives [] number' ∷ rest))
+
+module _ (number number' : ℕ) (rest : List Answer) where
+  abbrev m : Machine
+  m = end number number' rest
+
+  meets_g : (kind : Option Bracketed) → CoreExportMeets world m kind 0 (of_main g)
+  meets_g kind = record {
+    target = opaque_at 0;
+    what = 0;
+    item = ExportedBy 0 g;
+    hook = 0;
+    is = refl;
+    known = refl;
+    named = record { number = 0; is = record { made = main_instance; present = refl; of = refl }; of = is_main; same_name = refl };
+    hooked = λ name e. absurd (none-some name e);
+    acts = record { same = λ arguments now fits kept. acts_alone m.store.code 0 0 refl arguments now ∙ ap (λ b. expected b 0 (opaque_at 0) arguments now) (sym (no_hooks kind)) };
+  }
+
+  meets_k : CoreExportMeets world m None 1 (of_main k)
+  meets_k = record {
+    target = opaque_at 1;
+    what = 1;
+    item = ExportedBy 0 k;
+    hook = 0;
+    is = refl;
+    known = refl;
+    named = record { number = 0; is = record { made = main_instance; present = refl; of = refl }; of = is_main; same_name = refl };
+    hooked = λ name e. absurd (none-some name e);
+    acts = record { same = λ arguments now fits kept. acts_alone m.store.code 1 1 refl arguments now };
+  }
+
+  memory_meets : IsMainMemory world m 0
+  memory_meets = record { number = 0; of = is_main; is = record { made = main_instance; instance = 0; present = refl; of = refl; exported = refl } }
+
+  adapter_served : AreServed world m no_origins the_adapter made_adapter
+  adapter_served = (
+    record { target = MainMemory; said = refl; meets = memory_meets },
+    (
+      record { target = ExportOf (of_main k); said = refl; meets = meets_k },
+      (record { target = ExportOf (of_main g); said = refl; meets = meets_g None }, tt),
+    ),
+  )
+
+  -- an instance that is this one, of the module of this number
+  served_same : (i j : ModuleInstance) (of of' : WorldModule) → i ≡ j → slice_get (user_modules world) i.module_number ≡ Some of' → slice_get (user_modules world) j.module_number ≡ Some of →
+      AreServed world m no_origins of' i → AreServed world m no_origins of j
+  served_same i j of of' same listed listed' h =
+      let module_same : of' ≡ of = same_Some of' of (sym listed ∙ subst (λ (x : ModuleInstance). slice_get (user_modules world) x.module_number ≡ Some of) (sym same) listed') in
+      subst (λ x. AreServed world m no_origins x j) module_same (subst (λ x. AreServed world m no_origins of' x) same h)
+
+  served : (instance : ℕ) (i : ModuleInstance) (of : WorldModule) → slice_get m.store.module_instances instance ≡ Some i → slice_get (user_modules world) i.module_number ≡ Some of → AreServed world m no_origins of i
+  served zero i of e u = served_same main_instance i of main_module (same_Some main_instance i e) refl u tt
+  served (suc zero) i of e u = served_same made_adapter i of the_adapter (same_Some made_adapter i e) refl u adapter_served
+  served (suc (suc n)) i of e u = absurd (none-some i e)
+
+  g_provided : IsProvided world m no_origins (record { of = Main; key = keys.Name g; function = g })
+  g_provided = record {
+    address = 0;
+    target = Lifted (of_main g) [];
+    wit = wit_of_g;
+    provided = refl;
+    said = refl;
+    type_of = refl;
+    meets = record { core = 0; held = []; is = refl; enters = meets_g (Some (entry_kind [])); same = tt };
+  }
+
+  pub straight_is_linked : IsLinked world no_modules m
+  straight_is_linked = record {
+    origins = no_origins;
+    start_events = [];
+    instances = refl;
+    imports = record { resources = tt; each = served };
+    exports = (g_provided, tt);
+    events = refl;
+    started = tt;
+  }
+
+pub ends_linked : IsLinked world no_modules (machine_of straight)
+ends_linked = straight_is_linked 0 0 []
+
+-- ---- every run
+
+-- nothing is seen after the instances of the two modules
+abbrev SeesTwo : Machine → Type 0
+SeesTwo m = (n : ℕ) → slice_get m.now.moments (suc (suc n)) ≡ None
+
+-- how a run with these answers may end
+abbrev IsRightEnd : List Answer → Outcome → Type 0
+IsRightEnd answers (Done m) = IsLinked world no_modules m × SeesTwo m
+IsRightEnd answers (Trapped m) = (LetsRun (questions world) answers → ⊥) × SeesTwo m
+IsRightEnd answers (Open m) = (LetsRun (questions world) answers → ⊥) × SeesTwo m
+IsRightEnd answers Stuck = ⊥
+
+runs : (answers : List Answer) → IsRightEnd answers (outcome world no_modules definitions answers)
+runs [] = (λ lets. lets, λ n. refl)
+runs (Traps ∷ rest) = (λ lets. lets, λ n. refl)
+runs (Gives (v ∷ vs) number ∷ rest) = (λ lets. true≢false (sym lets.0), λ n. refl)
+runs (Gives [] number ∷ []) = (λ lets. lets.1, λ n. refl)
+runs (Gives [] number ∷ Traps ∷ rest) = (λ lets. lets.1, λ n. refl)
+runs (Gives [] number ∷ Gives (v ∷ vs) number' ∷ rest) = (λ lets. true≢false (sym lets.1.0), λ n. refl)
+runs (Gives [] number ∷ Gives [] number' ∷ rest) = (straight_is_linked number number' rest, λ n. refl)
+
+done : (answers : List Answer) (o : Outcome) → IsRightEnd answers o → LetsRun (questions world) answers → (m : Machine) × (o ≡ Done m)
+done answers (Done m) h lets = (m, refl)
+done answers (Trapped m) h lets = absurd (h.0 lets)
+done answers (Open m) h lets = absurd (h.0 lets)
+done answers Stuck h lets = absurd h
+
+sees_two : (answers : List Answer) (m : Machine) (o : Outcome) → IsRightEnd answers o → EndsAt m o → SeesTwo m
+sees_two answers m (Done n) h e = subst SeesTwo e h.1
+sees_two answers m (Trapped n) h e = subst SeesTwo e h.1
+sees_two answers m (Open n) h e = subst SeesTwo e h.1
+sees_two answers m Stuck h e = absurd h
+
+no_third : (m : Machine) (event : ℕ) (globals : List Cell) → SeesTwo m → 2 ≤ event → slice_get m.now.moments event ≡ Some globals → ⊥
+no_third m zero globals h late e = absurd (omega (arith, late))
+no_third m (suc zero) globals h late e = absurd (omega (arith, late))
+no_third m (suc (suc n)) globals h late e = none-some globals (sym (h n) ∙ e)
+
+pub straight_links : Links world no_modules definitions
+straight_links = record {
+  never_stuck = λ answers e. subst (IsRightEnd answers) e (runs answers);
+  ends = λ answers lets. done answers (outcome world no_modules definitions answers) (runs answers) lets;
+  linked = λ answers m e. (subst (IsRightEnd answers) e (runs answers)).0;
+  traps_before = record { each = λ before after split unfixed present. absurd (true≢false (sym present)) };
+  served_throughout = record {
+    each = λ answers m e event globals late found. absurd (no_third m event globals (sees_two answers m (outcome world no_modules definitions answers) (runs answers) e) late found);
+  };
+}
+
+-- ---- the list with the two imports crossed
+
+abbrev c : Machine
+c = machine_of crossed
+
+-- a call of function 0 is a call of no other
+calls_0 : (address hook : ℕ) (signature : FuncType) → plain_core ≡ signature →
+    acts c.store.code 0 [] traps_next ≡ expected (around None Nothing) hook (record { address = address; signature = signature }) [] traps_next → 0 ≡ address
+unfolding acts exec
+calls_0 address hook signature s e =
+    let same : 0 ≡ first_called (expected (around None Nothing) hook (record { address = address; signature = signature }) [] traps_next) = ap first_called e in
+    subst (λ (t : FuncType). 0 ≡ first_called (expected (around None Nothing) hook (record { address = address; signature = t }) [] traps_next)) (sym s) same
+
+abbrev first_byte : List ℕ → ℕ
+first_byte [] = 0
+first_byte (b ∷ bs) = b
+
+-- g is not k
+g_is_not_k : ItemIsExport world c (of_main k) (ExportedBy 0 g) → ⊥
+g_is_not_k h = let same : 0x67 ≡ 0x6b = ap first_byte h.same_name in absurd (omega (arith, same))
+
+-- no opaque function is k and acts as function 0
+none_serves : (address what : ℕ) (signature : FuncType) (item : CoreItem) → slice_get c.store.code.functions address ≡ Some (Opaque what signature) → slice_get c.store.known what ≡ Some item →
+    ItemIsExport world c (of_main k) item → (plain_core ≡ signature → 0 ≡ address) → ⊥
+none_serves zero what signature item e known named called =
+    let same : 0 ≡ what = ap known_by e in
+    let is_g : Some (ExportedBy 0 g) ≡ Some item = subst (λ n. slice_get c.store.known n ≡ Some item) (sym same) known in
+    g_is_not_k (subst (ItemIsExport world c (of_main k)) (sym (same_Some (ExportedBy 0 g) item is_g)) named)
+none_serves (suc zero) what signature item e known named called = let same : 0 ≡ 1 = called (ap type_by e) in absurd (omega (arith, same))
+none_serves (suc (suc n)) what signature item e known named called = absurd (none-some (Opaque what signature) e)
+
+not_k : CoreExportMeets world c None 0 (of_main k) → ⊥
+not_k x =
+    none_serves x.target.address x.what x.target.signature x.item x.is x.known x.named
+    (λ s. calls_0 x.target.address x.hook x.target.signature s
+    (x.acts.same [] traps_next (subst (λ (t : FuncType). IsTrue (fit t.params [])) s refl) tt))
+
+-- the adapter's import of k
+abbrev import_of_k : ImportType
+import_of_k = record { module_name = functions; field = k; ty = externs.Func plain_core }
+
+k_meets : (origins : TypeId → Resource) → IsServed world c origins the_adapter (core_function 0) import_of_k → CoreExportMeets world c None 0 (of_main k)
+k_meets origins s = subst (Meets world c origins (core_function 0)) (same_Some s.target (ExportOf (of_main k)) (sym s.said)) s.meets
+
+pub crossed_is_not_linked : IsLinked world no_modules (machine_of crossed) → ⊥
+crossed_is_not_linked l = not_k (k_meets l.origins (l.imports.each 1 _ _ refl refl).1.0)
