@@ -29,15 +29,15 @@ use Rattle.world_values.specs.Items.{root_function_at}
 use Rattle.comp_trees.specs.Trees.{Origin, FunctionTree, is_known, is_known_function}
 use Rattle.comp_trees.specs.DefinedTrees.{TypeTree, defined_tree, function_tree}
 use Rattle.comp_trees.specs.Inventories.{scope_of}
-use Rattle.comp_worlds.specs.Worlds.{items_of, imported_types}
+use Rattle.comp_worlds.specs.Worlds.{items_of}
 use Rattle.wit_data.specs.Keys.{name_of_key}
 use Rattle.comp_roles.specs.declared.offered.ExternType.TheVariants as externs
 use Rattle.wit_data.specs.declared.worlds.WorldKey.{WorldKey}
 use Rattle.comp_worlds.specs.declared.world.ComponentWorld.{ComponentWorld}
-use Rattle.comp_links.specs.Roles.{is_used, used_functions}
+use Rattle.comp_links.specs.Roles.{is_used}
 use Rattle.comp_links.specs.Targets.{Main, Target}
 use Rattle.comp_links.specs.Modules.{WorldModule, user_modules}
-use Rattle.comp_links.specs.Lists.{Stated, plain_name, root_function, root_type, described_sort, stated_imports, AreNames}
+use Rattle.comp_links.specs.Lists.{Stated, plain_name, root_function, described_sort, stated_imports, AreNames}
 use Rattle.comp_links.specs.Links.{lift_of}
 use Rattle.comp_terms.specs.Terms.{InstanceOf as InstanceTerm, IsFunctionType, IsImportedFunction, Is}
 use Rattle.comp_terms.specs.Planned.{type_of_function, IsLiftFor, IsArgumentFor}

@@ -187,7 +187,7 @@ module _ {w : ComponentWorld} {earlier : List Def} {c : Scope} {s : Store} (a : 
       }
 
   -- a function of the inventory
-  pub function_there : (index : ℕ) (e : FunctionEntry) → slice_get (inventory earlier).functions index ≡ Some e → (x : ℕ) × (address_at spaces.Func index c.items ≡ Some x) × IsFunctionEntry s e (record { space = spaces.Func; address = x })
+  function_there : (index : ℕ) (e : FunctionEntry) → slice_get (inventory earlier).functions index ≡ Some e → (x : ℕ) × (address_at spaces.Func index c.items ≡ Some x) × IsFunctionEntry s e (record { space = spaces.Func; address = x })
   function_there index e h =
       let t = AllZip-at (IsFunctionEntry s) (inventory earlier).functions (filter (is_of spaces.Func) c.items) index e a.functions h in
       (t.0.address, ap (option_map (λ (t : Thing). t.address)) t.1, record { function = t.2.function; present = t.2.present; same = t.2.same })
@@ -197,8 +197,7 @@ module _ {w : ComponentWorld} {earlier : List Def} {c : Scope} {s : Store} (a : 
   function_at index x at =
       let things : List Thing = filter (is_of spaces.Func) c.items in
       let t : (t : Thing) × (slice_get things index ≡ Some t) × (t.address ≡ x) = mapped_some (λ (t : Thing). t.address) (slice_get things index) x at in
-      let e = AllZip-back (IsFunctionEntry s) (inventory earlier).functions things index t.0 a.functions t.1 in
-      (
+      let e = AllZip-back (IsFunctionEntry s) (inventory earlier).functions things index t.0 a.functions t.1 in (
         e.0,
         record { function = e.2.function; present = ap (slice_get s.functions) (sym t.2) ∙ e.2.present; same = e.2.same },
         get_or_from_slice_get (inventory earlier).functions index e.0 no_function e.1,

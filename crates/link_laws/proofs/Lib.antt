@@ -17,3 +17,5 @@ mod WorkedAdapter
 mod WorkedAdapterLinked
 mod WorkedInstances
 mod NotComposed
+mod WorkedTypes
+mod WorkedTypesLinked

@@ -1,5 +1,5 @@
 -- Worked examples: worlds, lists of definitions, and how running them ends.
-use Rattle.std.proofs.Common.{◌≡◌, ℕ, zero, suc, List, [], ◌∷◌, refl, true, false, Option, Some, None, map, take, drop, arith}
+use Rattle.std.proofs.Common.{◌≡◌, ℕ, zero, suc, List, [], ◌∷◌, refl, true, false, Option, Some, None, map, take, arith}
 use Rattle.std.specs.Option.{option_map}
 use Rattle.std.specs.List.{slice_get, flat_map}
 use Rattle.std.specs.Str.{bytes_eq}
@@ -55,7 +55,7 @@ use Rattle.comp_terms.specs.Terms as terms
 use Rattle.comp_terms.specs.Planned.{IsTypeOf, IsLiftFor, IsArgumentFor}
 use Rattle.comp_links.specs.Targets.{Main, OfRoot, Lifted as LiftedFrom}
 use Rattle.std.specs.List.{IsDistinct}
-use Rattle.comp_terms.specs.Rules.{HasFunctionType, HasImportedFunction, IsBuilt}
+use Rattle.comp_terms.specs.Rules.{IsBuilt}
 use Rattle.comp_runs.specs.Machine.{Machine, Outcome, Done, Trapped, Open, Stuck, new_core_function, resumed}
 use Rattle.comp_runs.specs.Instances.{ExportTypes, new_user}
 use Rattle.link_laws.specs.Linking.{outcome}

@@ -35,16 +35,6 @@ filter-both p q within (x ∷ xs) = by (filter-both p q within xs) (p x) refl (q
     by rest true e false f = absurd (true≢false (sym (within x e) ∙ f))
     by rest false e false f = rest
 
--- what passes a filter passes its test
-pub filter-at : {A : Type 0} (p : A → Bool) (xs : List A) (i : ℕ) (x : A) → slice_get (filter p xs) i ≡ Some x → p x ≡ true
-filter-at p [] i x e = absurd (none-some x e)
-filter-at {A} p (y ∷ xs) i x e = by (λ j f. filter-at p xs j x f) (p y) refl i e
-  where
-    by : ((j : ℕ) → slice_get (filter p xs) j ≡ Some x → p x ≡ true) → (b : Bool) → p y ≡ b → (j : ℕ) → slice_get (if b then y ∷ filter p xs else filter p xs) j ≡ Some x → p x ≡ true
-    by rest true t zero f = subst (λ z. p z ≡ true) (same_Some y x f) t
-    by rest true t (suc j) f = rest j f
-    by rest false t j f = rest j f
-
 -- a test that all pass
 pub filter-all : {A : Type 0} (p : A → Bool) (xs : List A) → AllByRecursion (λ x. p x ≡ true) xs → filter p xs ≡ xs
 filter-all p [] h = refl
@@ -57,10 +47,6 @@ mapped_some f (Some x) y e = (x, refl, same_Some (f x) y e)
 pub length-map : {A B : Type 0} (f : A → B) (xs : List A) → length (map f xs) ≡ length xs
 length-map f [] = refl
 length-map f (x ∷ xs) = ap suc (length-map f xs)
-
-pub map-map : {A B C : Type 0} (f : B → C) (g : A → B) (xs : List A) → map f (map g xs) ≡ map (λ x. f (g x)) xs
-map-map f g [] = refl
-map-map f g (x ∷ xs) = ap (λ l. f (g x) ∷ l) (map-map f g xs)
 
 -- where each is found, all are, and each is related to its own
 pub all_some-each : {A C : Type 0} (R : C → A → Type 0) (f : A → Option C) (xs : List A) →
@@ -156,11 +142,6 @@ each_listed {X} text (x ∷ xs) = (rw ((bytes_eq-Decides (text x) (text x)).1 re
     later : (ys : List X) → AllByRecursion (λ y. list_any (bytes_eq (text y)) (map text xs) ≡ true) ys → AllByRecursion (λ y. list_any (bytes_eq (text y)) (map text (x ∷ xs)) ≡ true) ys
     later [] h = tt
     later (y ∷ ys) h = (or_true (bytes_eq (text y) (text x)) (list_any (bytes_eq (text y)) (map text xs)) h.0, later ys h.1)
-
--- the element after a list
-pub slice_get-middle : {X : Type 0} (xs : List X) (x : X) (more : List X) → slice_get (xs ++ x ∷ more) (length xs) ≡ Some x
-slice_get-middle [] x more = refl
-slice_get-middle (y ∷ xs) x more = slice_get-middle xs x more
 
 -- two related lists after two others
 pub AllZip-join : {A B : Type 0} (R : A → B → Type 0) (xs more : List A) (ys others : List B) → AllZip R xs ys → AllZip R more others → AllZip R (xs ++ more) (ys ++ others)
