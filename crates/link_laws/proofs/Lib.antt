@@ -5,6 +5,7 @@ mod Given
 mod UserExports
 pub mod Steps
 mod Marks
+mod ImportedTypes
 mod Served
 pub mod Runs
 mod Worked

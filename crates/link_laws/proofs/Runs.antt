@@ -4,6 +4,8 @@ use Rattle.std.proofs.lemmas.List.{map-append}
 use Rattle.std.proofs.lemmas.Option.{slice_get_within}
 use Rattle.std.specs.List.{slice_get, flat_map, AllZip}
 use Rattle.standard_kinds.specs.declared.kinds.ExportKind.TheVariants as kinds
+use Rattle.comp_bytes.specs.ItemIndices.{in_space}
+use Rattle.comp_bytes.specs.declared.space.Space.TheVariants as spaces
 use Rattle.comp_bytes.specs.declared.space.Sort.TheVariants as sorts
 use Rattle.comp_bytes.specs.declared.types.Alias.TheVariants as aliases
 use Rattle.comp_bytes.specs.declared.types.Description.TheVariants as descriptions
@@ -26,12 +28,14 @@ use Rattle.comp_runs.specs.Running.{run, fresh_machine}
 use Rattle.comp_terms.specs.Rules.{IsRight, RightAfter, IsBuilt}
 use Rattle.link_laws.specs.Meeting.{task_hook}
 use Rattle.link_laws.specs.Composition.{IsComposed, numbers_from, instance_order, at_root, item_instantiates}
-use Rattle.link_laws.specs.Linking.{module_meanings, outcome, EndsAt, StartCall, start_calls, initialization, questions, LetsRun, IsLinked, Links}
+use Rattle.link_laws.specs.Linking.{module_meanings, outcome, EndsAt, StartCall, start_calls, initialization, questions, LetsRun, IsLinked, imported_among, TypesServed, Links}
 use Rattle.link_laws.proofs.Zips.{each_listed}
 use Rattle.link_laws.proofs.Stores.{IsTypeEntry, IsFunctionEntry, Agrees}
+use Rattle.link_laws.proofs.Given.{scope_there}
 use Rattle.link_laws.proofs.Plain.{only_main, no_initialize}
 use Rattle.link_laws.proofs.Steps.{no_modules, machine, IsNow, IsGood, asks, events_of, seen_by, Steps, step_type, step_import, step_import_type, step_import_resource, step_lower, step_lift, step_inline_instance, step_alias, step_export, step_module, step_custom, step_instantiate}
 use Rattle.link_laws.proofs.Marks.{root_imports, root_modules, root_instances, root_exports, root_export_names, no_customs}
+use Rattle.link_laws.proofs.ImportedTypes.{types_served}
 use Rattle.link_laws.proofs.Served.{users_served, stated_all, each_provided}
 
 module _ {w : ComponentWorld} {earlier : List Def} {c : Scope} {s : Store} (a : Agrees w earlier c s) (g : ℕ) where
@@ -45,7 +49,7 @@ module _ {w : ComponentWorld} {earlier : List Def} {c : Scope} {s : Store} (a : 
       subst (λ (o : List CanonicalOption). Steps w earlier c s g (defs.Item (items.Lift core o kind))) (sym h.1) (step_lift a g core kind h.0 h.2)
   step ok (defs.Item (items.Lower function options)) h = subst (λ (o : List CanonicalOption). Steps w earlier c s g (defs.Item (items.Lower function o))) (sym h.1) (step_lower a g function h.0)
   step ok (defs.Item (items.Import name (descriptions.Func kind))) h = step_import a g name kind h.1
-  step ok (defs.Item (items.Import name (descriptions.TypeEqual index))) h = step_import_type a g name index h.1
+  step ok (defs.Item (items.Import name (descriptions.TypeEqual index))) h = step_import_type a g name index h.1.0
   step ok (defs.Item (items.Import name descriptions.SubResource)) h = step_import_resource a g name
   step ok (defs.Item (items.Import name (descriptions.Instance index))) h = absurd h.1
   step ok (defs.Item (items.Export name sorts.Func index None)) h = step_export a g ok name index h
@@ -113,6 +117,10 @@ linked_at_end w ds m ok built a events =
       started = rw (no_calls w ok) tt;
     }
 
+-- and the types that it imports are the world's
+types_at_end : (w : ComponentWorld) (ds : List Def) (m : Machine) → IsBuilt w ds → Agrees w ds m.scope m.store → TypesServed w ds m
+types_at_end w ds m built a = ap (imported_among (in_space spaces.Type ds)) (scope_there a) ∙ types_served w ds built.right (root_imports w ds built)
+
 module _ (e : Scope) (t : Store) (g : ℕ) (es : List Event) (questions : List (List ValType)) (answers : List Answer) where
   not_stuck : (o : Outcome) → IsGood e t g es questions answers o → o ≡ Stuck → ⊥
   not_stuck o h same = subst (IsGood e t g es questions answers) same h
@@ -155,6 +163,9 @@ links w ds ok built =
       linked = λ answers m done.
           let is : (m.scope ≡ all.0) × (m.store ≡ all.1) × IsNow one all.2 m.now = done_with all.0 all.1 all.2 one (questions w) answers (outcome w no_modules ds answers) m (good answers) done in
           linked_at_end w ds m ok built (subst (λ s. Agrees w ds m.scope s) (sym is.1) (subst (λ c. Agrees w ds c all.1) (sym is.0) all.4)) is.2.events;
+      types = λ answers m done.
+          let is : (m.scope ≡ all.0) × (m.store ≡ all.1) × IsNow one all.2 m.now = done_with all.0 all.1 all.2 one (questions w) answers (outcome w no_modules ds answers) m (good answers) done in
+          types_at_end w ds m built (subst (λ s. Agrees w ds m.scope s) (sym is.1) (subst (λ c. Agrees w ds c all.1) (sym is.0) all.4));
       traps_before = record { each = λ before after whole quiet there answers m done address shim. absurd (no there) };
       served_throughout = record {
         each = λ answers m ends event globals late at.

@@ -19,6 +19,10 @@ use Rattle.comp_roles.specs.declared.offered.ExternType.TheVariants as externs
 use Rattle.comp_roles.specs.declared.offered.ImportType.{ImportType}
 use Rattle.comp_links.specs.Targets.{Main, ExportRef, ExportOf, MainMemory, Lifted}
 use Rattle.comp_links.specs.Modules.{WorldModule, adapter_module, user_modules, IsModule}
+use Rattle.comp_bytes.specs.ItemIndices.{in_space}
+use Rattle.comp_runs.specs.Instances.{type_scope}
+use Rattle.link_laws.proofs.ImportedTypes.{none_imported}
+use Rattle.comp_bytes.specs.declared.space.Space.TheVariants as spaces
 use Rattle.comp_runs.specs.Store.{CoreItem, ExportedBy, ModuleInstance}
 use Rattle.comp_runs.specs.Machine.{Machine, Outcome, Done, Trapped, Open, Stuck}
 use Rattle.link_laws.specs.Composition.{IsComposed}
@@ -224,6 +228,7 @@ straight_links = record {
   never_stuck = λ answers e. subst (IsRightEnd answers) e (runs answers);
   ends = λ answers lets. done answers (outcome world no_modules definitions answers) (runs answers) lets;
   linked = λ answers m e. (subst (IsRightEnd answers) e (runs answers)).0;
+  types = λ answers m e. none_imported (in_space spaces.Type definitions) (type_scope m) (λ tree. refl, tt);
   traps_before = record { each = λ before after split unfixed present. absurd (true≢false (sym present)) };
   served_throughout = record {
     each = λ answers m e event globals late found. absurd (no_third m event globals (sees_two answers m (outcome world no_modules definitions answers) (runs answers) e) late found);

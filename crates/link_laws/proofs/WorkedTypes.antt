@@ -1,9 +1,10 @@
 -- A worked example: a world that imports a record and a function of it, and exports a function of a tuple.
-use Rattle.std.proofs.Common.{◌≡◌, ℕ, false, List, [], ◌∷◌, refl, Some, None, map, arith}
+use Rattle.std.proofs.Common.{◌≡◌, ℕ, false, List, [], ◌∷◌, ◌++◌, refl, Some, None, map, arith}
 use Rattle.std.specs.Prelude.{codes}
 use Rattle.std.specs.List.{IsDistinct}
 use Rattle.std.specs.Str.{bytes_eq}
 use Rattle.standard_kinds.specs.declared.kinds.ExportKind.TheVariants as kinds
+use Rattle.standard_kinds.specs.declared.kinds.Primitive.{Primitive}
 use Rattle.standard_kinds.specs.declared.kinds.Primitive.TheVariants as primitives
 use Rattle.standard_kinds.specs.declared.kinds.StringEncoding.TheVariants as encodings
 use Rattle.comp_bytes.proofs.Worked.{plain, f, g, root}
@@ -14,6 +15,7 @@ use Rattle.comp_bytes.specs.declared.types.DefinedType.TheVariants as defined
 use Rattle.comp_bytes.specs.declared.types.ComponentValType.TheVariants as values
 use Rattle.comp_bytes.specs.declared.types.Description.TheVariants as descriptions
 use Rattle.comp_bytes.specs.declared.types.Alias.TheVariants as aliases
+use Rattle.comp_bytes.specs.declared.def.Item.{Item}
 use Rattle.comp_bytes.specs.declared.def.Item.TheVariants as items
 use Rattle.comp_bytes.specs.declared.def.Def.{Def}
 use Rattle.comp_bytes.specs.declared.def.Def.TheVariants as defs
@@ -21,7 +23,7 @@ use Rattle.core_types.specs.declared.types.FuncType.{FuncType}
 use Rattle.core_types.specs.declared.types.ValType.TheVariants.{I32, I64}
 use Rattle.core_runs.specs.Store.{Opaque, Instantiated}
 use Rattle.wit_data.specs.Values.{values_from}
-use Rattle.wit_data.specs.declared.types.Type.TheVariants.{Primitive, Id}
+use Rattle.wit_data.specs.declared.types.Type.TheVariants.{Primitive as Simple, Id}
 use Rattle.wit_data.specs.declared.types.TypeDef.{TypeDef}
 use Rattle.wit_data.specs.declared.types.TypeDefKind.TheVariants as wit_kinds
 use Rattle.wit_data.specs.declared.types.TypeOwner.TheVariants as owners
@@ -46,7 +48,7 @@ use Rattle.link_laws.proofs.Worked.{Ended, ended, root_import, core_function, co
 
 -- ---- the world
 
-abbrev p : List ℕ
+abbrev pub p : List ℕ
 p = codes "p"
 
 -- a record of a u32 and a u8, and a tuple of two u32
@@ -54,18 +56,18 @@ abbrev wit_types : List TypeDef
 wit_types =
     record {
       name = Some p;
-      kind = wit_kinds.Record (record { name = codes "x"; ty = Primitive primitives.U32 } ∷ record { name = codes "y"; ty = Primitive primitives.U8 } ∷ []);
+      kind = wit_kinds.Record (record { name = codes "x"; ty = Simple primitives.U32 } ∷ record { name = codes "y"; ty = Simple primitives.U8 } ∷ []);
       owner = owners.World (record { index = 0 });
     }
-    ∷ record { name = None; kind = wit_kinds.Tuple (Primitive primitives.U32 ∷ Primitive primitives.U32 ∷ []); owner = owners.«None» }
+    ∷ record { name = None; kind = wit_kinds.Tuple (Simple primitives.U32 ∷ Simple primitives.U32 ∷ []); owner = owners.«None» }
     ∷ []
 
 -- f takes the record, and g the tuple
 abbrev pub wit_f : Function
-wit_f = record { name = f; kind = Freestanding; params = record { name = a; ty = Id (record { index = 0 }) } ∷ []; result = Some (Primitive primitives.U8) }
+wit_f = record { name = f; kind = Freestanding; params = record { name = a; ty = Id (record { index = 0 }) } ∷ []; result = Some (Simple primitives.U8) }
 
 abbrev pub wit_g : Function
-wit_g = record { name = g; kind = Freestanding; params = record { name = a; ty = Id (record { index = 1 }) } ∷ []; result = Some (Primitive primitives.U64) }
+wit_g = record { name = g; kind = Freestanding; params = record { name = a; ty = Id (record { index = 1 }) } ∷ []; result = Some (Simple primitives.U64) }
 
 -- their core types
 abbrev pub f_core : FuncType
@@ -152,23 +154,37 @@ is_world = record {
 
 -- ---- a list for it
 
--- the list, where the lift is of the type of this index
-abbrev pub typed_list : ℕ → List Def
-typed_list kind = map defs.Item (
-    items.Type (types.Defined (defined.Record (record { name = codes "x"; ty = values.Primitive primitives.U32 } ∷ record { name = codes "y"; ty = values.Primitive primitives.U8 } ∷ [])))
-    ∷ items.Import (plain p) (descriptions.TypeEqual 0)
-    ∷ items.Type (types.Func (record { async_ = false; params = record { name = a; ty = values.Defined 1 } ∷ []; result = Some (values.Primitive primitives.U8) }))
-    ∷ items.Import (plain f) (descriptions.Func 2)
+abbrev record_type : Item
+record_type = items.Type (types.Defined (defined.Record (record { name = codes "x"; ty = values.Primitive primitives.U32 } ∷ record { name = codes "y"; ty = values.Primitive primitives.U8 } ∷ [])))
+
+-- a type of functions from the type of this index to a number
+abbrev from_type : ℕ → Primitive → Item
+from_type index to = items.Type (types.Func (record { async_ = false; params = record { name = a; ty = values.Defined index } ∷ []; result = Some (values.Primitive to) }))
+
+-- the list that begins with these definitions, where f has the type of one index, this many types come before the tuple,
+-- and the lift is of the type of another index
+abbrev list_from : List Item → ℕ → ℕ → ℕ → List Def
+list_from front f_kind before g_kind = map defs.Item (
+    front
+    ++ items.Import (plain f) (descriptions.Func f_kind)
     ∷ items.CoreModule core
     ∷ items.Lower 0 []
     ∷ items.CoreExports (record { name = f; kind = kinds.Func; index = 0 } ∷ [])
     ∷ items.CoreInstantiate 0 (record { name = root; instance = 0 } ∷ [])
     ∷ items.Alias (aliases.CoreExport kinds.Func 1 g)
     ∷ items.Type (types.Defined (defined.Tuple (values.Primitive primitives.U32 ∷ values.Primitive primitives.U32 ∷ [])))
-    ∷ items.Type (types.Func (record { async_ = false; params = record { name = a; ty = values.Defined 3 } ∷ []; result = Some (values.Primitive primitives.U64) }))
-    ∷ items.Lift 1 [] kind
+    ∷ from_type before primitives.U64
+    ∷ items.Lift 1 [] g_kind
     ∷ items.Export (plain g) sorts.Func 1 None
     ∷ [])
+
+-- the list, where the lift is of the type of this index
+abbrev pub typed_list : ℕ → List Def
+typed_list = list_from (record_type ∷ items.Import (plain p) (descriptions.TypeEqual 0) ∷ from_type 1 primitives.U8 ∷ []) 2 3
+
+-- the list that imports a u8 under the name of the record
+abbrev pub misnamed : List Def
+misnamed = list_from (record_type ∷ items.Type (types.Defined (defined.Primitive primitives.U8)) ∷ items.Import (plain p) (descriptions.TypeEqual 1) ∷ from_type 0 primitives.U8 ∷ []) 3 4 5
 
 -- the types of f and g
 abbrev pub f_tree : FunctionTree
@@ -203,3 +219,7 @@ typed_list_ends = refl
 
 pub exchanged_ends : ended (outcome world no_modules (typed_list 2) made) ≡ Some (end_with f_tree)
 exchanged_ends = refl
+
+-- the list that imports another type ends in the same way: no function is of a wrong type
+pub misnamed_ends : ended (outcome world no_modules misnamed made) ≡ Some (end_with g_tree)
+misnamed_ends = refl

@@ -1,5 +1,6 @@
--- A worked example: the list with types keeps the rules, and is linked; where its lift has another type, it is not.
-use Rattle.std.proofs.Common.{◌≡◌, ◌<◌, ℕ, true, false, List, [], ◌∷◌, refl, sym, ap, subst, Option, Some, None, take, length, arith}
+-- A worked example: the list with types keeps the rules, so that it links; with another type of its lift, or of its import, it
+-- does not.
+use Rattle.std.proofs.Common.{◌≡◌, ◌∙◌, ℕ, Bool, true, false, true≢false, List, [], ◌∷◌, refl, sym, ap, subst, Option, Some, None, take, arith}
 use Rattle.std.proofs.lemmas.Option.{same_Some}
 use Rattle.std.specs.List.{slice_get}
 use Rattle.standard_kinds.specs.declared.kinds.ExportKind.TheVariants as kinds
@@ -17,9 +18,10 @@ use Rattle.wit_data.specs.declared.functions.Function.{Function}
 use Rattle.wit_data.specs.declared.worlds.WorldKey.TheVariants as keys
 use Rattle.comp_roles.specs.declared.imports.Import.TheVariants as imports
 use Rattle.comp_roles.specs.declared.imports.ImportInstance.TheVariants as instances
-use Rattle.comp_trees.specs.Trees.{Resource, PrimitiveOf, is_known_function}
-use Rattle.comp_trees.specs.DefinedTrees.{function_tree}
+use Rattle.comp_trees.specs.Trees.{Resource, PrimitiveOf, RecordOf, is_known_function}
+use Rattle.comp_trees.specs.DefinedTrees.{TypeTree, OfValues, function_tree}
 use Rattle.comp_trees.specs.Inventories.{inventory, scope_of}
+use Rattle.comp_links.specs.Lists.{stated_types}
 use Rattle.comp_links.specs.Targets.{Main, OfRoot, Lifted as LiftedFrom}
 use Rattle.comp_runs.specs.Store.{Export, Function as Held, Lifting}
 use Rattle.comp_runs.specs.Machine.{Machine}
@@ -30,22 +32,23 @@ use Rattle.comp_terms.specs.Terms as terms
 use Rattle.comp_terms.specs.Planned.{type_of_function, IsTypeOf, IsLiftFor, IsArgumentFor}
 use Rattle.comp_terms.specs.Rules.{IsBuilt}
 use Rattle.link_laws.specs.Composition.{IsComposed}
-use Rattle.link_laws.specs.Linking.{outcome, LiftMeets, IsProvided, IsLinked}
+use Rattle.link_laws.specs.Linking.{outcome, LiftMeets, IsProvided, IsLinked, Links}
 use Rattle.link_laws.proofs.Stores.{main_module}
 use Rattle.link_laws.proofs.Steps.{no_modules}
 use Rattle.link_laws.proofs.Runs.{composed, links}
 use Rattle.link_laws.proofs.Worked.{root_import, made, machine_of, a}
-use Rattle.comp_terms.specs.Rules.{ExportsRequired}
-use Rattle.link_laws.proofs.WorkedTypes.{wit_f, wit_g, g_core, world, is_world, one_apart, typed_list, f_tree, g_tree}
+use Rattle.comp_bytes.specs.declared.types.Description.TheVariants as descriptions
+use Rattle.comp_terms.specs.Rules.{IsDescriptionRight, ExportsRequired}
+use Rattle.link_laws.proofs.WorkedTypes.{p, wit_f, wit_g, g_core, world, is_world, one_apart, typed_list, misnamed, f_tree, g_tree}
 
 -- ---- it keeps the rules
 
 abbrev ds : ℕ → List Def
 ds n = take n (typed_list 4)
 
-p_scoped : 0 < length (scope_of (ds 1))
-unfolding inventory
-p_scoped = omega arith
+p_imported : IsDescriptionRight world (ds 1) p (descriptions.TypeEqual 0)
+unfolding inventory values_from
+p_imported = (omega arith, record { id = record { index = 0 }; stated = refl; same = refl })
 
 f_known : is_known_function (function_tree (scope_of (ds 2)) (record { async_ = false; params = record { name = a; ty = values.Defined 1 } ∷ []; result = Some (values.Primitive primitives.U8) })) ≡ true
 unfolding inventory
@@ -132,7 +135,7 @@ keeps_the_rules = record {
   front = typed_list 4;
   names = [];
   whole = refl;
-  right = (refl, ((refl, p_scoped), (f_known, ((refl, record { type = f_tree; is = f_typed }), (tt, ((record { origin = root_import 1; type = f_tree; is = f_imported }, refl), (record { each = (record { kind = refl; scoped = omega arith }, tt); apart = one_apart f }, (record { of = main_module world; listed = refl; scoped = omega arith; each = (f_offered, tt) }, (record { number = 0; of = main_module world; type = g_core; is = main_made 8 refl; listed = refl; offered = refl }, (refl, (g_known, ((omega arith, refl, record { type = g_tree; is = g_typed }), (g_required, tt)))))))))))));
+  right = (refl, ((refl, p_imported), (f_known, ((refl, record { type = f_tree; is = f_typed }), (tt, ((record { origin = root_import 1; type = f_tree; is = f_imported }, refl), (record { each = (record { kind = refl; scoped = omega arith }, tt); apart = one_apart f }, (record { of = main_module world; listed = refl; scoped = omega arith; each = (f_offered, tt) }, (record { number = 0; of = main_module world; type = g_core; is = main_made 8 refl; listed = refl; offered = refl }, (refl, (g_known, ((omega arith, refl, record { type = g_tree; is = g_typed }), (g_required, tt)))))))))))));
   marked = refl;
   named = tt;
 }
@@ -141,8 +144,11 @@ keeps_the_rules = record {
 pub typed_list_is_composed : IsComposed world no_modules (typed_list 4)
 typed_list_is_composed = composed world (typed_list 4) is_world keeps_the_rules
 
+pub typed_list_links : Links world no_modules (typed_list 4)
+typed_list_links = links world (typed_list 4) is_world keeps_the_rules
+
 pub typed_list_is_linked : IsLinked world no_modules (machine_of (outcome world no_modules (typed_list 4) made))
-typed_list_is_linked = (links world (typed_list 4) is_world keeps_the_rules).linked made (machine_of (outcome world no_modules (typed_list 4) made)) refl
+typed_list_is_linked = typed_list_links.linked made (machine_of (outcome world no_modules (typed_list 4) made)) refl
 
 -- ---- where the lift is of the type of f, the list isn't linked
 
@@ -169,3 +175,16 @@ lift_of_g origins x =
 
 pub exchanged_is_not_linked : IsLinked world no_modules (machine_of (outcome world no_modules (typed_list 2) made)) → ⊥
 exchanged_is_not_linked l = lift_of_g l.origins l.exports.0
+
+-- ---- the list that imports a u8 under the name of the record doesn't link
+
+abbrev is_record : List TypeTree → Bool
+is_record (OfValues (RecordOf names ts) ∷ rest) = true
+is_record trees = false
+
+record_stated : is_record (stated_types world) ≡ true
+unfolding values_from
+record_stated = refl
+
+pub misnamed_does_not_link : Links world no_modules misnamed → ⊥
+misnamed_does_not_link l = true≢false (sym record_stated ∙ sym (ap is_record (l.types made (machine_of (outcome world no_modules misnamed made)) refl)))
