@@ -15,7 +15,8 @@
 //! tree ([`flat_of_trees`]); the core signature of a function is that of its tree, in each form of call
 //! ([`signatures_of_trees`]); what a type of a component denotes, it denotes in each longer scope ([`trees_are_kept`]).
 //! For proofs above: `proofs/Folds.antt` (a function that takes the values of one fold over types to those of another at
-//! each kind does so at each type; what each step of a fold keeps holds of all its values).
+//! each kind does so at each type; what each step of a fold keeps holds of all its values); `proofs/Inventories.antt` (the
+//! inventory of a longer list) and `proofs/Counting.antt` (an inventory has one entry for each item of its spaces).
 #![tactic(auto)]
 
 mod laws;
