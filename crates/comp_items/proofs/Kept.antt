@@ -21,7 +21,8 @@ use Rattle.comp_trees.specs.Trees.{Origin, FunctionTree}
 use Rattle.comp_trees.specs.DefinedTrees.{TypeTree, OfFunctions, OfOthers}
 use Rattle.comp_trees.specs.DefinedScopes.{Denotes}
 use Rattle.comp_trees.specs.Inventories.{TypeEntry, entry_tree, types_made, inventory, scope_of}
-use Rattle.comp_trees.proofs.InventoryGrowth.{denotes_kept, function_kept, scope_counted, functions_counted, denotes_made, function_made}
+use Rattle.comp_trees.proofs.InventoryGrowth.{denotes_kept, function_kept, scope_counted, denotes_made, function_made}
+use Rattle.comp_trees.proofs.Counting.{functions-counted}
 use Rattle.comp_builder.specs.Built.{Built, and_then}
 use Rattle.comp_terms.specs.Terms.{CoreExport, TermOption, Term, IsFunctionType, IsImportedFunction, IsInstanceOf, IsExported, IsOption, IsLowering, IsLifting, Is, imports_in}
 use Rattle.comp_terms.specs.Terms as terms
@@ -92,7 +93,7 @@ type_in_range : (ds : List Def) (index : ℕ) (t : TypeTree) → Denotes (scope_
 type_in_range ds index t h = subst (λ n. index < n) (scope_counted ds) h.within
 
 pub function_in_range : {ds : List Def} {index : ℕ} {origin : Origin} {type : FunctionTree} → IsImportedFunction ds index origin type → index < items_in spaces.Func ds
-function_in_range {ds} {index} {origin} {type} h = subst (λ n. index < n) (functions_counted ds) (slice_get_within (inventory ds).functions index (record { origin = Some origin; type = OfFunctions type }) h.is)
+function_in_range {ds} {index} {origin} {type} h = subst (λ n. index < n) (functions-counted ds) (slice_get_within (inventory ds).functions index (record { origin = Some origin; type = OfFunctions type }) h.is)
 
 pub term_in_range : (ds : List Def) (space : Space) (index : ℕ) (t : Term) → Is ds space index t → index < items_in space ds
 term_in_range ds spaces.Type index (terms.FunctionType type) h = type_in_range ds index (OfFunctions type) h.denotes

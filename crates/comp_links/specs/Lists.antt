@@ -21,7 +21,10 @@ use Rattle.world_values.specs.Items.{functions_of}
 use Rattle.wit_data.specs.declared.ids.TypeId.{TypeId}
 use Rattle.comp_worlds.specs.Worlds.{items_of, imported_types}
 use Rattle.comp_worlds.specs.declared.world.ComponentWorld.{ComponentWorld}
+use Rattle.wit_data.specs.declared.types.Type.TheVariants.{Id}
 use Rattle.comp_trees.specs.Trees.{Origin, Resource, ImportedAt}
+use Rattle.comp_trees.specs.WitTrees.{wit_tree}
+use Rattle.comp_trees.specs.DefinedTrees.{TypeTree, OfValues}
 use Rattle.comp_links.specs.Targets.{UserModule, Main, WorldFunction, OfRoot, OfInterface}
 use Rattle.comp_links.specs.Roles.{used_functions}
 
@@ -67,6 +70,13 @@ number_of_type id (e ∷ entries) = suc (number_of_type id entries)
 -- the resource that a type of the world is, where it is one
 abbrev pub resource_of : ComponentWorld → TypeId → Resource
 resource_of w id = ImportedAt (record { number = number_of_type id (import_entries w); inner = None })
+
+-- what a type of the world denotes, and what the types denote that it imports, in order
+abbrev pub type_of_world : ComponentWorld → TypeId → TypeTree
+type_of_world w id = OfValues (wit_tree (resource_of w) w.resolve.types (Some (Id id)))
+
+abbrev pub stated_types : ComponentWorld → List TypeTree
+stated_types w = map (λ t. type_of_world w t.1) (imported_types w)
 
 -- where a function of the world is imported
 abbrev pub IsOriginOf : ComponentWorld → WorldFunction → Origin → Type 0

@@ -1,7 +1,7 @@
 -- Rules that each definition keeps at its index, and the landmarks of the whole list (component model,
 -- explainer: component definitions). They are what the steps guarantee to the proof that the list runs; no rule is
 -- part of a public guarantee.
-use Rattle.std.specs.Prelude.{◌≡◌, ◌<◌, ℕ, List, [], ◌∷◌, ◌++◌, Option, Some, None, true, length, map, filter, slice_get}
+use Rattle.std.specs.Prelude.{◌≡◌, ◌<◌, ℕ, List, [], ◌∷◌, ◌++◌, Option, Some, None, true, length, map, filter, get_or, slice_get}
 use Rattle.std.specs.List.{AllByRecursion, AllZip, IsDistinct, filter_map}
 use Rattle.std.specs.Str.{bytes_eq}
 use Rattle.comp_bytes.specs.Spaces.{items_in}
@@ -25,21 +25,22 @@ use Rattle.comp_bytes.specs.declared.def.Def.TheVariants as defs
 use Rattle.core_types.specs.declared.types.FuncType.{FuncType}
 use Rattle.comp_lists.specs.Found.{found}
 use Rattle.wit_data.specs.declared.functions.Function.{Function as WitFunction}
+use Rattle.wit_data.specs.declared.ids.TypeId.{TypeId}
 use Rattle.world_values.specs.Items.{root_function_at}
-use Rattle.comp_trees.specs.Trees.{Origin, FunctionTree, is_known, is_known_function}
-use Rattle.comp_trees.specs.DefinedTrees.{TypeTree, defined_tree, function_tree}
+use Rattle.comp_trees.specs.Trees.{Origin, ImportedAt, ResourceAt, FunctionTree, is_known, is_known_function}
+use Rattle.comp_trees.specs.DefinedTrees.{TypeTree, OfValues, OfOthers, defined_tree, function_tree}
 use Rattle.comp_trees.specs.Inventories.{scope_of}
-use Rattle.comp_worlds.specs.Worlds.{items_of, imported_types}
+use Rattle.comp_worlds.specs.Worlds.{items_of}
 use Rattle.wit_data.specs.Keys.{name_of_key}
 use Rattle.comp_roles.specs.declared.offered.ExternType.TheVariants as externs
 use Rattle.wit_data.specs.declared.worlds.WorldKey.{WorldKey}
 use Rattle.comp_worlds.specs.declared.world.ComponentWorld.{ComponentWorld}
-use Rattle.comp_links.specs.Roles.{is_used, used_functions}
+use Rattle.comp_links.specs.Roles.{is_used}
 use Rattle.comp_links.specs.Targets.{Main, Target}
 use Rattle.comp_links.specs.Modules.{WorldModule, user_modules}
-use Rattle.comp_links.specs.Lists.{Stated, plain_name, root_function, root_type, described_sort, stated_imports, AreNames}
+use Rattle.comp_links.specs.Lists.{WorldType, import_entries, type_of_world, Stated, plain_name, root_function, described_sort, stated_imports, AreNames}
 use Rattle.comp_links.specs.Links.{lift_of}
-use Rattle.comp_terms.specs.Terms.{InstanceOf as InstanceTerm, IsFunctionType, IsImportedFunction, Is}
+use Rattle.comp_terms.specs.Terms.{InstanceOf as InstanceTerm, imports_in, IsFunctionType, IsImportedFunction, Is}
 use Rattle.comp_terms.specs.Planned.{type_of_function, IsLiftFor, IsArgumentFor}
 
 -- a user module is instantiated: an argument for each module of its imports, in order
@@ -93,14 +94,24 @@ pub record HasImportedFunction (earlier : List Def) (index : ℕ) : Type 0 where
   pub type : FunctionTree
   pub is : IsImportedFunction earlier index origin type
 
-abbrev pub IsDescriptionRight : List Def → Description → Type 0
-IsDescriptionRight earlier (descriptions.Func kind) = HasFunctionType earlier kind
-IsDescriptionRight earlier (descriptions.TypeEqual index) = index < length (scope_of earlier)
-IsDescriptionRight earlier descriptions.SubResource = Unit {0}
-IsDescriptionRight earlier (descriptions.Instance index) = ⊥
+-- the next import is, in the world, a type of this name, and this is what it denotes
+pub record ImportsType (w : ComponentWorld) (earlier : List Def) (name : List ℕ) (tree : TypeTree) : Type 0 where
+  pub id : TypeId
+  pub stated : slice_get (import_entries w) (imports_in earlier) ≡ Some (WorldType name id)
+  pub same : tree ≡ type_of_world w id
 
-abbrev pub IsImportRight : List Def → ExternName → Description → Type 0
-IsImportRight earlier name description = (name ≡ plain_name name.name) × IsDescriptionRight earlier description
+-- a resource that is imported here
+abbrev pub resource_here : List Def → TypeTree
+resource_here earlier = OfValues (ResourceAt (ImportedAt (record { number = imports_in earlier; inner = None })))
+
+abbrev pub IsDescriptionRight : ComponentWorld → List Def → List ℕ → Description → Type 0
+IsDescriptionRight w earlier name (descriptions.Func kind) = HasFunctionType earlier kind
+IsDescriptionRight w earlier name (descriptions.TypeEqual index) = (index < length (scope_of earlier)) × ImportsType w earlier name (get_or (scope_of earlier) index OfOthers)
+IsDescriptionRight w earlier name descriptions.SubResource = ImportsType w earlier name (resource_here earlier)
+IsDescriptionRight w earlier name (descriptions.Instance index) = ⊥
+
+abbrev pub IsImportRight : ComponentWorld → List Def → ExternName → Description → Type 0
+IsImportRight w earlier name description = (name ≡ plain_name name.name) × IsDescriptionRight w earlier name.name description
 
 -- a type of values or functions whose parts are types of values
 abbrev pub IsTypeRight : List TypeTree → TypeDef → Type 0
@@ -124,7 +135,7 @@ IsItemRight w earlier (items.InstanceType t) = ⊥
 IsItemRight w earlier (items.Lift core options kind) = (core < items_in spaces.CoreFunc earlier) × (options ≡ []) × HasFunctionType earlier kind
 IsItemRight w earlier (items.Lower function options) = HasImportedFunction earlier function × (options ≡ [])
 IsItemRight w earlier (items.Intrinsic i) = ⊥
-IsItemRight w earlier (items.Import name description) = IsImportRight earlier name description
+IsItemRight w earlier (items.Import name description) = IsImportRight w earlier name description
 IsItemRight w earlier (items.Export name sort index description) = IsExportRight w earlier name sort index description
 IsItemRight w earlier (items.Custom name contents) = Unit {0}
 

@@ -1,147 +1,25 @@
--- The inventory of a list has one entry for each item of its spaces, and a longer list keeps the entries.
-use Rattle.std.proofs.Common.{◌≡◌, ◌∙◌, ◌+◌, ◌<◌, ℕ, zero, suc, true, false, Bool, List, [], ◌∷◌, ◌++◌, length, map, filter, refl, sym, ap, ap₂, subst, append-nil, append_assoc, length-append, arith, Option, Some, add-zero}
-use Rattle.std.specs.Prelude.{get_or, slice_get, if◌then◌else◌}
+-- A longer list keeps the entries of an inventory, and what one more definition makes.
+use Rattle.std.proofs.Common.{◌≡◌, ◌∙◌, ℕ, zero, suc, List, [], ◌∷◌, ◌++◌, length, map, refl, sym, ap, append-nil, append_assoc, length-append, arith, Some}
+use Rattle.std.specs.Prelude.{get_or, slice_get}
 use Rattle.std.proofs.lemmas.List.{map-append}
-use Rattle.std.proofs.lemmas.List.Sums.{length-filter}
 use Rattle.std.proofs.Math.ListN.{get_or-append}
 use Rattle.std.proofs.Math.Seq.{get_or-append_seam}
 use Rattle.comp_lists.proofs.Lists.{slice_get-append, slice_get-end}
-use Rattle.comp_bytes.specs.Spaces.{items_in, is_space, space_of}
-use Rattle.comp_bytes.specs.declared.space.Space.{Space}
+use Rattle.comp_bytes.specs.Spaces.{items_in}
 use Rattle.comp_bytes.specs.declared.space.Space.TheVariants as spaces
-use Rattle.comp_bytes.specs.declared.space.ComponentExportKind.TheVariants as exports
-use Rattle.standard_kinds.specs.declared.kinds.ExportKind.TheVariants as kinds
-use Rattle.comp_bytes.specs.declared.space.Sort.TheVariants as sorts
-use Rattle.comp_bytes.specs.declared.types.Alias.TheVariants as aliases
-use Rattle.comp_bytes.specs.declared.types.Description.TheVariants as descriptions
-use Rattle.comp_bytes.specs.declared.def.Item.TheVariants as items
 use Rattle.comp_bytes.specs.declared.def.Def.{Def}
-use Rattle.comp_bytes.specs.declared.def.Def.TheVariants as defs
 use Rattle.comp_trees.specs.DefinedTrees.{TypeTree, OfOthers}
 use Rattle.comp_trees.specs.DefinedScopes.{Denotes}
-use Rattle.comp_trees.specs.Inventories.{Inventory, TypeEntry, FunctionEntry, entry_tree, trees_in, types_made, functions_made, with_def, inventory_after, inventory, scope_of, empty_inventory, no_type}
+use Rattle.comp_trees.specs.Inventories.{Inventory, TypeEntry, FunctionEntry, entry_tree, types_made, functions_made, with_def, inventory_after, inventory, scope_of, no_type}
 use Rattle.comp_trees.proofs.Inventories.{inventory-append, inventory-push}
-
--- ---- one entry for each item
-
-zero-add : (n : ℕ) → 0 + n ≡ n
-zero-add n = omega arith
-
--- 1 for an item of the space
-abbrev one_in : Space → Def → ℕ
-one_in s d = if is_space s (space_of d) then 1 else 0
-
-types_one : (v : Inventory) (d : Def) → length (types_made v d) ≡ one_in spaces.Type d
-types_one v (defs.Item (items.CoreModule bytes)) = refl
-types_one v (defs.Item (items.CoreInstantiate n arguments)) = refl
-types_one v (defs.Item (items.CoreExports entries)) = refl
-types_one v (defs.Item (items.Instantiate n arguments)) = refl
-types_one v (defs.Item (items.Alias (aliases.Export exports.Func instance name))) = refl
-types_one v (defs.Item (items.Alias (aliases.Export exports.Type instance name))) = refl
-types_one v (defs.Item (items.Alias (aliases.Export exports.Component instance name))) = refl
-types_one v (defs.Item (items.Alias (aliases.Export exports.Instance instance name))) = refl
-types_one v (defs.Item (items.Alias (aliases.CoreExport kinds.Func instance name))) = refl
-types_one v (defs.Item (items.Alias (aliases.CoreExport kinds.Table instance name))) = refl
-types_one v (defs.Item (items.Alias (aliases.CoreExport kinds.Memory instance name))) = refl
-types_one v (defs.Item (items.Alias (aliases.CoreExport kinds.Global instance name))) = refl
-types_one v (defs.Item (items.Alias (aliases.Outer count index))) = refl
-types_one v (defs.Item (items.Type t)) = refl
-types_one v (defs.Item (items.InstanceType t)) = refl
-types_one v (defs.Item (items.Lift core options kind)) = refl
-types_one v (defs.Item (items.Lower function options)) = refl
-types_one v (defs.Item (items.Intrinsic i)) = refl
-types_one v (defs.Item (items.Import name (descriptions.Func kind))) = refl
-types_one v (defs.Item (items.Import name (descriptions.TypeEqual index))) = refl
-types_one v (defs.Item (items.Import name descriptions.SubResource)) = refl
-types_one v (defs.Item (items.Import name (descriptions.Instance kind))) = refl
-types_one v (defs.Item (items.Export name (sorts.Core kinds.Func) index description)) = refl
-types_one v (defs.Item (items.Export name (sorts.Core kinds.Table) index description)) = refl
-types_one v (defs.Item (items.Export name (sorts.Core kinds.Memory) index description)) = refl
-types_one v (defs.Item (items.Export name (sorts.Core kinds.Global) index description)) = refl
-types_one v (defs.Item (items.Export name sorts.Func index description)) = refl
-types_one v (defs.Item (items.Export name sorts.Type index description)) = refl
-types_one v (defs.Item (items.Export name sorts.Component index description)) = refl
-types_one v (defs.Item (items.Export name sorts.Instance index description)) = refl
-types_one v (defs.Item (items.Custom name contents)) = refl
-types_one v (defs.Component inner) = refl
-
-functions_one : (v : Inventory) (d : Def) → length (functions_made v d) ≡ one_in spaces.Func d
-functions_one v (defs.Item (items.CoreModule bytes)) = refl
-functions_one v (defs.Item (items.CoreInstantiate n arguments)) = refl
-functions_one v (defs.Item (items.CoreExports entries)) = refl
-functions_one v (defs.Item (items.Instantiate n arguments)) = refl
-functions_one v (defs.Item (items.Alias (aliases.Export exports.Func instance name))) = refl
-functions_one v (defs.Item (items.Alias (aliases.Export exports.Type instance name))) = refl
-functions_one v (defs.Item (items.Alias (aliases.Export exports.Component instance name))) = refl
-functions_one v (defs.Item (items.Alias (aliases.Export exports.Instance instance name))) = refl
-functions_one v (defs.Item (items.Alias (aliases.CoreExport kinds.Func instance name))) = refl
-functions_one v (defs.Item (items.Alias (aliases.CoreExport kinds.Table instance name))) = refl
-functions_one v (defs.Item (items.Alias (aliases.CoreExport kinds.Memory instance name))) = refl
-functions_one v (defs.Item (items.Alias (aliases.CoreExport kinds.Global instance name))) = refl
-functions_one v (defs.Item (items.Alias (aliases.Outer count index))) = refl
-functions_one v (defs.Item (items.Type t)) = refl
-functions_one v (defs.Item (items.InstanceType t)) = refl
-functions_one v (defs.Item (items.Lift core options kind)) = refl
-functions_one v (defs.Item (items.Lower function options)) = refl
-functions_one v (defs.Item (items.Intrinsic i)) = refl
-functions_one v (defs.Item (items.Import name (descriptions.Func kind))) = refl
-functions_one v (defs.Item (items.Import name (descriptions.TypeEqual index))) = refl
-functions_one v (defs.Item (items.Import name descriptions.SubResource)) = refl
-functions_one v (defs.Item (items.Import name (descriptions.Instance kind))) = refl
-functions_one v (defs.Item (items.Export name (sorts.Core kinds.Func) index description)) = refl
-functions_one v (defs.Item (items.Export name (sorts.Core kinds.Table) index description)) = refl
-functions_one v (defs.Item (items.Export name (sorts.Core kinds.Memory) index description)) = refl
-functions_one v (defs.Item (items.Export name (sorts.Core kinds.Global) index description)) = refl
-functions_one v (defs.Item (items.Export name sorts.Func index description)) = refl
-functions_one v (defs.Item (items.Export name sorts.Type index description)) = refl
-functions_one v (defs.Item (items.Export name sorts.Component index description)) = refl
-functions_one v (defs.Item (items.Export name sorts.Instance index description)) = refl
-functions_one v (defs.Item (items.Custom name contents)) = refl
-functions_one v (defs.Component inner) = refl
-
--- a list with one more item in front
-items_in-cons : (s : Space) (d : Def) (ds : List Def) → items_in s (d ∷ ds) ≡ one_in s d + items_in s ds
-items_in-cons s d ds = sym (length-filter in_space (d ∷ ds)) ∙ by (in_space d) (length-filter in_space ds)
-  where
-    in_space : Def → Bool
-    in_space x = is_space s (space_of x)
-
-    by : (b : Bool) → length (filter in_space ds) ≡ items_in s ds → length (if b then d ∷ filter in_space ds else filter in_space ds) ≡ (if b then 1 else 0) + items_in s ds
-    by true h = omega (arith, h)
-    by false h = omega (arith, h)
-
-types_after : (v : Inventory) (ds : List Def) → length (inventory_after v ds).types ≡ length v.types + items_in spaces.Type ds
-types_after v [] = sym (add-zero (length v.types))
-types_after v (d ∷ ds) =
-    let rest = types_after (with_def v d) ds in
-    let more = length-append v.types (types_made v d) in
-    let one = types_one v d in
-    let count = items_in-cons spaces.Type d ds in
-    omega (arith, rest, more, one, count)
-
-functions_after : (v : Inventory) (ds : List Def) → length (inventory_after v ds).functions ≡ length v.functions + items_in spaces.Func ds
-functions_after v [] = sym (add-zero (length v.functions))
-functions_after v (d ∷ ds) =
-    let rest = functions_after (with_def v d) ds in
-    let more = length-append v.functions (functions_made v d) in
-    let one = functions_one v d in
-    let count = items_in-cons spaces.Func d ds in
-    omega (arith, rest, more, one, count)
-
-pub types_counted : (ds : List Def) → length (inventory ds).types ≡ items_in spaces.Type ds
-unfolding inventory
-types_counted ds = types_after empty_inventory ds ∙ zero-add (items_in spaces.Type ds)
-
-pub functions_counted : (ds : List Def) → length (inventory ds).functions ≡ items_in spaces.Func ds
-unfolding inventory
-functions_counted ds = functions_after empty_inventory ds ∙ zero-add (items_in spaces.Func ds)
+use Rattle.comp_trees.proofs.Counting.{types-counted, functions-counted}
 
 length-map : {A B : Type 0} (f : A → B) (xs : List A) → length (map f xs) ≡ length xs
 length-map f [] = refl
 length-map f (x ∷ xs) = ap suc (length-map f xs)
 
 pub scope_counted : (ds : List Def) → length (scope_of ds) ≡ items_in spaces.Type ds
-scope_counted ds = length-map entry_tree (inventory ds).types ∙ types_counted ds
+scope_counted ds = length-map entry_tree (inventory ds).types ∙ types-counted ds
 
 -- ---- a longer list
 
@@ -217,4 +95,4 @@ pub function_made : (ds : List Def) (d : Def) (f : FunctionEntry) → functions_
 function_made ds d f made =
     ap (λ (v : Inventory). slice_get v.functions (items_in spaces.Func ds)) (inventory-push ds d)
     ∙ (ap (λ l. slice_get ((inventory ds).functions ++ l) (items_in spaces.Func ds)) made
-    ∙ (ap (λ n. slice_get ((inventory ds).functions ++ f ∷ []) n) (sym (functions_counted ds)) ∙ slice_get-end (inventory ds).functions f))
+    ∙ (ap (λ n. slice_get ((inventory ds).functions ++ f ∷ []) n) (sym (functions-counted ds)) ∙ slice_get-end (inventory ds).functions f))

@@ -1,8 +1,7 @@
 -- A type in which nothing is unknown names types of its scope alone.
 use Rattle.std.proofs.Common.{◌≡◌, ◌<◌, ℕ, zero, suc, Bool, true, false, ◌&&◌, List, [], ◌∷◌, ◌++◌, length, map, refl, Option, Some, None, arith}
-use Rattle.std.specs.Prelude.{get_or}
 use Rattle.std.specs.List.{AllByRecursion, flat_map, list_all}
-use Rattle.comp_bytes.specs.References.{Reference, own, type_at, where_some, value_references, fields_references, defined_references, type_references}
+use Rattle.comp_bytes.specs.References.{Reference, own, type_at, where_some, value_references, fields_references, defined_references}
 use Rattle.comp_bytes.specs.declared.space.Space.TheVariants as spaces
 use Rattle.comp_bytes.specs.declared.types.Case.{Case}
 use Rattle.comp_bytes.specs.declared.types.ComponentValType.{ComponentValType}
@@ -12,7 +11,7 @@ use Rattle.comp_bytes.specs.declared.types.DefinedType.TheVariants as defined
 use Rattle.comp_bytes.specs.declared.types.Field.{Field}
 use Rattle.comp_bytes.specs.declared.types.FuncTypeDef.{FuncTypeDef}
 use Rattle.comp_trees.specs.Trees.{ParamTree, is_known, are_known, is_known_function, trees_of}
-use Rattle.comp_trees.specs.DefinedTrees.{TypeTree, OfValues, OfFunctions, OfOthers, values_of, tree_at, value_tree, payload_tree, defined_tree, function_tree}
+use Rattle.comp_trees.specs.DefinedTrees.{TypeTree, tree_at, value_tree, payload_tree, defined_tree, function_tree}
 
 left_of : (b c : Bool) → (b && c) ≡ true → b ≡ true
 left_of true c e = refl

@@ -5,6 +5,7 @@ pub mod Knowing
 pub mod Resources
 pub mod Keeping
 pub mod Inventories
+pub mod Counting
 pub mod InventoryGrowth
 pub mod KnownScopes
 mod Worked

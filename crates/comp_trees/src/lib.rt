@@ -18,7 +18,9 @@
 //! For proofs above: `proofs/Folds.antt` (a function that takes the values of one fold over types to those of another at
 //! each kind does so at each type; what each step of a fold keeps holds of all its values), `proofs/Knowing.antt` (the tree
 //! of a kind is known where those of its parts are), `proofs/Resources.antt` (`same_resource` tells whether two resources are
-//! one).
+//! one), `proofs/Inventories.antt` and `proofs/InventoryGrowth.antt` (the inventory of a longer list), `proofs/Counting.antt` (an
+//! inventory has one entry for each item of its spaces), `proofs/KnownScopes.antt` (where nothing in a type is unknown, it names
+//! types of its scope alone).
 #![tactic(auto)]
 
 mod laws;

@@ -12,6 +12,7 @@ use Rattle.core_runs.specs.Store as core
 use Rattle.core_runs.specs.Execution.{exec, acts}
 use Rattle.core_runs.specs.Expected.{expected}
 use Rattle.wit_data.specs.declared.ids.TypeId.{TypeId}
+use Rattle.comp_trees.specs.Trees.{Resource}
 use Rattle.comp_links.specs.Targets.{Main, OfRoot, Lowered}
 use Rattle.comp_roles.specs.declared.offered.ExternType.TheVariants as externs
 use Rattle.comp_roles.specs.declared.offered.ImportType.{ImportType}
@@ -21,7 +22,7 @@ use Rattle.comp_runs.specs.Store.{CoreItem, Lowering, ExportedBy, Function, Impo
 use Rattle.comp_runs.specs.Machine.{Machine}
 use Rattle.link_laws.specs.Meeting.{CoreMeets, ItemIsLowering, IsImport, Meets}
 use Rattle.link_laws.specs.Linking.{IsServed, IsLinked}
-use Rattle.link_laws.proofs.Stores.{plain_core}
+use Rattle.link_laws.proofs.Worked.{plain_core}
 use Rattle.link_laws.proofs.Steps.{no_modules}
 use Rattle.link_laws.proofs.Worked.{two_twice, crossed, machine_of, core_function, a, k}
 
@@ -75,7 +76,7 @@ calls_its_own address hook signature s e =
     subst (λ (t : FuncType). 0 ≡ first_called (expected (around None Nothing) hook (record { address = address; signature = t }) [] traps_next)) (sym s) same
 
 -- the second import is h
-not_of_f : (origins : TypeId → ℕ) → IsImport two_twice m origins 1 (OfRoot f) → ⊥
+not_of_f : (origins : TypeId → Resource) → IsImport two_twice m origins 1 (OfRoot f) → ⊥
 not_of_f origins i =
     let number : 1 ≡ i.origin.number = ap import_number i.is in
     let named : slice_get (import_entries two_twice) 1 ≡ Some (RootFunction f) = subst (λ n. slice_get (import_entries two_twice) n ≡ Some (RootFunction f)) (sym number) i.from.0 in
@@ -89,7 +90,7 @@ item_of P n what item item' same is is' p =
     subst P (same_Some item' item (sym is'' ∙ is)) p
 
 -- no opaque function is a lowering of f and acts as function 0
-none_serves : (origins : TypeId → ℕ) (address what hook : ℕ) (signature : FuncType) (item : CoreItem) → slice_get m.store.code.functions address ≡ Some (Opaque what signature) →
+none_serves : (origins : TypeId → Resource) (address what hook : ℕ) (signature : FuncType) (item : CoreItem) → slice_get m.store.code.functions address ≡ Some (Opaque what signature) →
     slice_get m.store.known what ≡ Some item → ItemIsLowering two_twice m origins (OfRoot f) [] item →
     (plain_core ≡ signature → 0 ≡ address) → ⊥
 none_serves origins zero what hook signature item e known named called =
@@ -106,14 +107,14 @@ none_serves origins (suc (suc (suc (suc (suc zero))))) what hook signature item 
     item_of (ItemIsLowering two_twice m origins (OfRoot f) []) 5 what (ExportedBy 0 g) item (ap known_by e) refl known named
 none_serves origins (suc (suc (suc (suc (suc (suc n)))))) what hook signature item e known named called = absurd (none-some (Opaque what signature) e)
 
-no_lowering_of_f : (origins : TypeId → ℕ) → CoreMeets two_twice m None 0 (ItemIsLowering two_twice m origins (OfRoot f) []) → ⊥
+no_lowering_of_f : (origins : TypeId → Resource) → CoreMeets two_twice m None 0 (ItemIsLowering two_twice m origins (OfRoot f) []) → ⊥
 no_lowering_of_f origins c =
     none_serves origins c.target.address c.what c.hook c.target.signature c.item c.is c.known c.named
     (λ s. calls_its_own c.target.address c.hook c.target.signature s
     (c.acts.same [] traps_next (subst (λ (t : FuncType). IsTrue (fit t.params [])) s refl) tt))
 
 -- the first import is to be f
-first_meets : (origins : TypeId → ℕ) → IsServed two_twice m origins main_module (core_function 0) first_import → CoreMeets two_twice m None 0 (ItemIsLowering two_twice m origins (OfRoot f) [])
+first_meets : (origins : TypeId → Resource) → IsServed two_twice m origins main_module (core_function 0) first_import → CoreMeets two_twice m None 0 (ItemIsLowering two_twice m origins (OfRoot f) [])
 first_meets origins s = subst (Meets two_twice m origins (core_function 0)) (same_Some s.target (Lowered (OfRoot f) []) (sym s.said)) s.meets
 
 pub crossed_is_not_linked : IsLinked two_twice no_modules (machine_of crossed) → ⊥

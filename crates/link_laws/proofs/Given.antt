@@ -1,7 +1,7 @@
 -- What the definitions so far have added to the store, and what main's imports find among the arguments.
-use Rattle.std.proofs.Common.{◌≡◌, ◌∙◌, ℕ, ◌<◌, true, true≢false, List, [], ◌∷◌, length, map, filter, refl, sym, ap, subst, Option, Some, None, is_some}
+use Rattle.std.proofs.Common.{◌≡◌, ◌∙◌, ℕ, ◌<◌, true, List, [], ◌∷◌, length, map, filter, get_or, refl, sym, ap, ap₂, subst, Option, Some, None, is_some}
 use Rattle.std.proofs.lemmas.List.Sums.{length-filter}
-use Rattle.std.proofs.lemmas.Option.{same_Some, none-some}
+use Rattle.std.proofs.lemmas.Option.{same_Some, none-some, slice_get-map, get_or_from_slice_get}
 use Rattle.std.specs.List.{slice_get, AllZip, AllByRecursion}
 use Rattle.std.specs.Option.{option_map, option_and_then}
 use Rattle.comp_lists.specs.Found.{found}
@@ -15,41 +15,46 @@ use Rattle.standard_kinds.specs.declared.kinds.ExportKind.{ExportKind}
 use Rattle.standard_kinds.specs.declared.kinds.ExportKind.TheVariants as kinds
 use Rattle.comp_bytes.specs.declared.def.CoreArgument.{CoreArgument}
 use Rattle.comp_bytes.specs.declared.def.CoreInlineExport.{CoreInlineExport}
-use Rattle.comp_bytes.specs.declared.space.Sort.TheVariants as sorts
 use Rattle.comp_bytes.specs.declared.types.Alias.TheVariants as aliases
-use Rattle.comp_bytes.specs.declared.types.Description.TheVariants as descriptions
 use Rattle.comp_bytes.specs.declared.def.Item.TheVariants as items
 use Rattle.comp_bytes.specs.declared.def.Def.{Def}
 use Rattle.comp_bytes.specs.declared.def.Def.TheVariants as defs
 use Rattle.wit_data.specs.declared.worlds.WorldKey.TheVariants as keys
+use Rattle.wit_data.specs.declared.functions.AbiVariant.TheVariants.{GuestImport}
+use Rattle.comp_trees.specs.Trees.{Origin, FunctionTree}
+use Rattle.comp_trees.specs.DefinedTrees.{TypeTree, OfFunctions, OfOthers}
+use Rattle.comp_trees.specs.Inventories.{TypeEntry, FunctionEntry, entry_tree, no_function, inventory, scope_of}
+use Rattle.world_values.specs.Items.{root_function_at}
 use Rattle.comp_roles.specs.CoreImports.{fields_of}
-use Rattle.comp_worlds.specs.Worlds.{IsWorld, IsImportRole, IsImportGroup, core_name_of}
+use Rattle.comp_roles.specs.CoreTypes.{called_type}
+use Rattle.comp_worlds.specs.Typed.{type_of_import}
+use Rattle.comp_worlds.specs.Worlds.{IsWorld, IsImportRole, IsImportGroup, items_of, core_name_of}
 use Rattle.wit_data.specs.declared.worlds.WorldKey.{WorldKey}
 use Rattle.comp_roles.specs.declared.imports.Import.{Import}
 use Rattle.comp_roles.specs.declared.imports.Import.TheVariants as imports
 use Rattle.comp_roles.specs.declared.imports.ImportInstance.{ImportInstance}
 use Rattle.comp_roles.specs.declared.imports.ImportInstance.TheVariants as instances
 use Rattle.comp_worlds.specs.declared.world.ComponentWorld.{ComponentWorld}
-use Rattle.comp_runs.specs.Store.{Thing, Export, Origin, CoreItem, Lowering, ExportedBy, Imported, Lifting, Store}
+use Rattle.comp_runs.specs.Store.{Thing, Export, CoreItem, Lowering, ExportedBy, Function, Imported, Lifting, TypeItem, TreeOf, ImportedResource, OwnResource, InstanceTypeOf, item_tree, tree_held, Store}
 use Rattle.comp_roles.specs.declared.offered.ExternType.{ExternType}
 use Rattle.comp_roles.specs.declared.offered.ExternType.TheVariants as externs
 use Rattle.comp_roles.specs.declared.offered.ImportType.{ImportType}
 use Rattle.comp_links.specs.Targets.{Main, Target, OfRoot, Lowered, Lifted}
 use Rattle.comp_links.specs.Links.{link_of, link_in, link_at}
-use Rattle.comp_terms.specs.Terms.{CoreExport, TermOption, Term, Is, imports_in, IsImportedFunction, IsInstanceOf, IsExported, IsLowering}
+use Rattle.comp_terms.specs.Terms.{CoreExport, TermOption, Term, Is, IsFunctionType, IsImportedFunction, IsInstanceOf, IsExported, IsLowering, IsLifting}
 use Rattle.comp_terms.specs.Terms as terms
-use Rattle.comp_terms.specs.Planned.{IsTermFor, IsItemFor, IsEntryFor, IsArgumentFor}
+use Rattle.comp_terms.specs.Planned.{IsTermFor, IsItemFor, IsLiftFor, IsEntryFor, IsArgumentFor}
 use Rattle.comp_runs.specs.Machine.{Scope, Machine, address_at, is_of, all_some, export_named}
 use Rattle.comp_runs.specs.Instances.{type_space, of_kind, matching, given_to}
+use Rattle.comp_runs.specs.Signatures.{core_signature}
 use Rattle.comp_runs.specs.Running.{core_argument}
-use Rattle.link_laws.proofs.Zips.{AllZip-filter, filter-both, filter-at, all_some-zip, found-zip, found-each}
+use Rattle.link_laws.proofs.Zips.{AllZip-filter, AllZip-back, mapped_some, filter-both, length-map, all_some-zip, found-zip, found-each}
 use Rattle.comp_worlds.proofs.Roles.{bound_some}
-use Rattle.link_laws.proofs.Plain.{IsPlainImport, core_offered, only_main_is, fields_right}
-use Rattle.link_laws.proofs.Numbering.{In, numbered_at, made_at}
-use Rattle.link_laws.proofs.Stores.{plain_tree, plain_core, IsOpaque, IsOpaqueOf, IsInstance, IsUserItem, IsUserExport, IsUserInstance, IsNamedEntry, IsInlineInstance, IsLoweredItem, IsLiftedItem, IsAliasedItem, IsPlainFunction, Numbered, numbered, DefIs, Means, makes, IsLoweringOf, IsServedAs, main_module, IsPlanned, IsLiftedFrom, Agrees}
+use Rattle.link_laws.proofs.Plain.{IsFunctionImport, lowered_type, same_signature-refl, function_type_in, core_offered, only_main_is, fields_right}
+use Rattle.link_laws.proofs.Stores.{IsOpaqueOf, IsInstance, IsUserItem, IsUserExport, IsUserInstance, IsNamedEntry, IsInlineInstance, IsLoweredItem, IsTypeAt, IsLiftedItem, IsAliasedItem, DefIs, Means, makes, IsTypeEntry, entry_of, IsFunctionEntry, IsLoweringOf, IsServedAs, main_module, IsPlanned, IsLiftedFrom, Agrees}
 
-makes-space : (space : Space) (p : Numbered) → In space p ≡ true → makes p ≡ true
-makes-space space p e = by (space_of p.1) e
+makes-space : (space : Space) (d : Def) → is_space space (space_of d) ≡ true → makes d ≡ true
+makes-space space d e = by (space_of d) e
   where
     by : (o : Option Space) → is_space space o ≡ true → is_some o ≡ true
     by None e = cc
@@ -85,6 +90,47 @@ exports_named s user (e ∷ es) (o ∷ os) k = ((k.0.named, (k.0.space, k.0.is))
 exports_named s user [] (o ∷ os) k = absurd k
 exports_named s user (e ∷ es) [] k = absurd k
 
+-- the types of a scope, where each is what its entry says
+trees_held : (s : Store) (es : List TypeEntry) (ts : List Thing) → AllZip (IsTypeEntry s) es ts → map (λ (t : Thing). tree_held s.types t.address) ts ≡ map entry_tree es
+trees_held s [] [] h = refl
+trees_held s (e ∷ es) (t ∷ ts) h =
+    ap₂ (λ x xs. x ∷ xs) (ap (λ o. elim o [ None ↦ OfOthers | Some i ↦ item_tree t.address i ]) h.0.present ∙ h.0.denotes) (trees_held s es ts h.1)
+trees_held s [] (t ∷ ts) h = absurd h
+trees_held s (e ∷ es) [] h = absurd h
+
+-- what denotes a type of functions is its tree
+item_of_tree : (address : ℕ) (item : TypeItem) (type : FunctionTree) → item_tree address item ≡ OfFunctions type → item ≡ TreeOf (OfFunctions type)
+item_of_tree address (TreeOf tree) type e = ap (λ (t : TypeTree). TreeOf t) e
+item_of_tree address (ImportedResource origin) type e = cc
+item_of_tree address (OwnResource destructor) type e = cc
+item_of_tree address (InstanceTypeOf members around) type e = cc
+
+abbrev function_in_tree : FunctionTree → TypeItem → FunctionTree
+function_in_tree other (TreeOf (OfFunctions type)) = type
+function_in_tree other item = other
+
+abbrev type_in : Function → FunctionTree
+type_in (Imported origin type) = type
+type_in (Lifting core options type) = type
+
+abbrev tree_in : FunctionTree → TypeTree → FunctionTree
+tree_in other (OfFunctions type) = type
+tree_in other tree = other
+
+imported_of_entry : (f : Function) (origin : Origin) (type : FunctionTree) → entry_of f ≡ record { origin = Some origin; type = OfFunctions type } → f ≡ Imported origin type
+imported_of_entry (Imported o t) origin type e =
+    let from : Some o ≡ Some origin = ap (λ (e : FunctionEntry). e.origin) e in
+    let typed : OfFunctions t ≡ OfFunctions type = ap (λ (e : FunctionEntry). e.type) e in
+    ap₂ (λ (o : Origin) (t : FunctionTree). Imported o t) (same_Some o origin from) (ap (tree_in type) typed)
+imported_of_entry (Lifting core options t) origin type e = let no : None ≡ Some origin = ap (λ (e : FunctionEntry). e.origin) e in absurd (none-some origin no)
+
+-- one index names one type
+same_type_at : {things : List Thing} {s : Store} {kind : ℕ} {t u : FunctionTree} → IsTypeAt things s kind t → IsTypeAt things s kind u → t ≡ u
+same_type_at {things} {s} {kind} {t} {u} h k =
+    let same : h.address ≡ k.address = same_Some h.address k.address (sym h.at ∙ k.at) in
+    let both : Some (TreeOf (OfFunctions t)) ≡ Some (TreeOf (OfFunctions u)) = sym h.is ∙ (ap (slice_get s.types) same ∙ k.is) in
+    ap (function_in_tree u) (same_Some (TreeOf (OfFunctions t)) (TreeOf (OfFunctions u)) both)
+
 at_some : (e : Export) → e.space ≡ spaces.CoreFunc → of_kind kinds.Func e ≡ Some (record { space = e.space; address = e.address })
 at_some e h = rw h refl
 
@@ -94,71 +140,88 @@ module _ {w : ComponentWorld} {earlier : List Def} {c : Scope} {s : Store} (a : 
       let counted : length (in_space space earlier) ≡ items_in space earlier = length-filter (λ d. is_space space (space_of d)) earlier in
       there (in_space space earlier) index (subst (λ n. index < n) (sym counted) l)
 
-  -- the definitions of a space, with their numbers, and the items that they made
-  in_space-along : (space : Space) → AllZip (Means w c.items s) (filter (In space) (numbered 0 earlier)) (filter (is_of space) c.items)
+  -- the definitions of a space, and the items that they made
+  in_space-along : (space : Space) → AllZip (Means w c.items s) (in_space space earlier) (filter (is_of space) c.items)
   in_space-along space =
-      subst (λ ds. AllZip (Means w c.items s) ds (filter (is_of space) c.items)) (filter-both (In space) makes (makes-space space) (numbered 0 earlier))
-      (AllZip-filter (Means w c.items s) (In space) (is_of space) (λ p t h. ap (is_space space) h.space) (filter makes (numbered 0 earlier)) c.items a.means)
-
-  -- the item that a definition with a number made has an address
-  numbered_there : (space : Space) (index : ℕ) (p : Numbered) → slice_get (filter (In space) (numbered 0 earlier)) index ≡ Some p → (x : ℕ) × (address_at space index c.items ≡ Some x) × DefIs w c.items s p.0 p.1 x
-  numbered_there space index p e =
-      let z : (t : Thing) × (slice_get (filter (is_of space) c.items) index ≡ Some t) × Means w c.items s p t =
-      AllZip-at (Means w c.items s) (filter (In space) (numbered 0 earlier)) (filter (is_of space) c.items) index p (in_space-along space) e in
-      (z.0.address, ap (option_map (λ (t : Thing). t.address)) z.1, z.2.is)
+      subst (λ ds. AllZip (Means w c.items s) ds (filter (is_of space) c.items)) (filter-both (λ d. is_space space (space_of d)) makes (makes-space space) earlier)
+      (AllZip-filter (Means w c.items s) (λ d. is_space space (space_of d)) (is_of space) (λ d t h. ap (is_space space) h.space) (filter makes earlier) c.items a.means)
 
   -- the item that a definition made has an address
-  pub thing_there : {space : Space} {index : ℕ} {d : Def} → IsAt earlier space index d → (x : ℕ) × (address_at space index c.items ≡ Some x) × (n : ℕ) × DefIs w c.items s n d x
+  pub thing_there : {space : Space} {index : ℕ} {d : Def} → IsAt earlier space index d → (x : ℕ) × (address_at space index c.items ≡ Some x) × DefIs w c.items s d x
   thing_there {space} {index} {d} h =
-      let p : (p : Numbered) × (slice_get (filter (In space) (numbered 0 earlier)) index ≡ Some p) × (p.1 ≡ d) = numbered_at space earlier index d h.made in
-      let x : (x : ℕ) × (address_at space index c.items ≡ Some x) × DefIs w c.items s p.0.0 p.0.1 x = numbered_there space index p.0 p.1 in
-      (x.0, x.1, p.0.0, subst (λ e. DefIs w c.items s p.0.0 e x.0) p.2 x.2)
+      let z : (t : Thing) × (slice_get (filter (is_of space) c.items) index ≡ Some t) × Means w c.items s d t =
+      AllZip-at (Means w c.items s) (in_space space earlier) (filter (is_of space) c.items) index d (in_space-along space) h.made in
+      (z.0.address, ap (option_map (λ (t : Thing). t.address)) z.1, z.2.is)
 
   -- an index below the count of its space names an item
   pub address_there : (space : Space) (index : ℕ) → index < items_in space earlier → (x : ℕ) × (address_at space index c.items ≡ Some x)
   address_there space index l =
       let d : (d : Def) × (slice_get (in_space space earlier) index ≡ Some d) = defined_there space index l in
       let at : IsAt earlier space index d.0 = record { made = d.1 } in
-      let x : (x : ℕ) × (address_at space index c.items ≡ Some x) × (n : ℕ) × DefIs w c.items s n d.0 x = thing_there at in
+      let x : (x : ℕ) × (address_at space index c.items ≡ Some x) × DefIs w c.items s d.0 x = thing_there at in
       (x.0, x.1)
 
-  -- a function of the scope is a plain one
-  plain_def : (n : ℕ) (d : Def) (x : ℕ) → is_space spaces.Func (space_of d) ≡ true → DefIs w c.items s n d x → IsPlainFunction s x
-  plain_def n (defs.Item (items.Import name (descriptions.Func kind))) x e h = record { function = Imported (record { number = n; inner = None }) plain_tree; present = h; plain = refl }
-  plain_def n (defs.Item (items.Lift core options kind)) x e h = record { function = Lifting h.of [] plain_tree; present = h.is; plain = refl }
-  plain_def n (defs.Item (items.Export name sorts.Func index description)) x e h = h.1
-  plain_def n (defs.Item (items.CoreModule bytes)) x e h = absurd (true≢false (sym e))
-  plain_def n (defs.Item (items.CoreInstantiate number arguments)) x e h = absurd (true≢false (sym e))
-  plain_def n (defs.Item (items.CoreExports entries)) x e h = absurd (true≢false (sym e))
-  plain_def n (defs.Item (items.Alias (aliases.CoreExport kinds.Func instance name))) x e h = absurd (true≢false (sym e))
-  plain_def n (defs.Item (items.Type t)) x e h = absurd (true≢false (sym e))
-  plain_def n (defs.Item (items.Lower function options)) x e h = absurd (true≢false (sym e))
-  plain_def n d x e h = absurd h
+  -- the types of the scope denote what the inventory says
+  pub scope_there : map (λ (t : Thing). tree_held s.types t.address) (filter (is_of spaces.Type) c.items) ≡ scope_of earlier
+  scope_there = trees_held s (inventory earlier).types (filter (is_of spaces.Type) c.items) a.types
 
-  pub function_there : (index : ℕ) → index < items_in spaces.Func earlier → (x : ℕ) × (address_at spaces.Func index c.items ≡ Some x) × IsPlainFunction s x
-  function_there index l =
-      let d : (d : Def) × (slice_get (in_space spaces.Func earlier) index ≡ Some d) = defined_there spaces.Func index l in
-      let at : IsAt earlier spaces.Func index d.0 = record { made = d.1 } in
-      let x : (x : ℕ) × (address_at spaces.Func index c.items ≡ Some x) × (n : ℕ) × DefIs w c.items s n d.0 x = thing_there at in
-      (x.0, x.1, plain_def x.2 d.0 x.0 (filter-at (λ d. is_space spaces.Func (space_of d)) earlier index d.0 d.1) x.3)
+  -- an index of a type has an entry, and names a type that is what the entry says
+  pub entry_there : {index : ℕ} → index < length (scope_of earlier) →
+      (e : TypeEntry) × (slice_get (inventory earlier).types index ≡ Some e) × (t : Thing) × (slice_get (filter (is_of spaces.Type) c.items) index ≡ Some t) × IsTypeEntry s e t
+  entry_there {index} l =
+      let es : List TypeEntry = (inventory earlier).types in
+      let e : (e : TypeEntry) × (slice_get es index ≡ Some e) = there es index (subst (λ n. index < n) (length-map entry_tree es) l) in
+      let t = AllZip-at (IsTypeEntry s) es (filter (is_of spaces.Type) c.items) index e.0 a.types e.1 in
+      (e.0, e.1, t.0, t.1, t.2)
+
+  -- the type of this index is this type of functions
+  pub type_there : {index : ℕ} {type : FunctionTree} → IsFunctionType earlier index type → IsTypeAt c.items s index type
+  type_there {index} {type} h =
+      let x = entry_there h.denotes.within in
+      let found : slice_get (scope_of earlier) index ≡ Some (entry_tree x.0) = slice_get-map entry_tree (inventory earlier).types index ∙ ap (option_map entry_tree) x.1 in
+      let tree : entry_tree x.0 ≡ OfFunctions type = sym (get_or_from_slice_get (scope_of earlier) index (entry_tree x.0) OfOthers found) ∙ h.denotes.tree in
+      record {
+        address = x.2.address;
+        at = ap (option_map (λ (t : Thing). t.address)) x.3;
+        is = x.4.present ∙ ap (λ (i : TypeItem). Some i) (item_of_tree x.2.address x.4.item type (x.4.denotes ∙ tree));
+      }
+
+  -- a function of the inventory
+  function_there : (index : ℕ) (e : FunctionEntry) → slice_get (inventory earlier).functions index ≡ Some e → (x : ℕ) × (address_at spaces.Func index c.items ≡ Some x) × IsFunctionEntry s e (record { space = spaces.Func; address = x })
+  function_there index e h =
+      let t = AllZip-at (IsFunctionEntry s) (inventory earlier).functions (filter (is_of spaces.Func) c.items) index e a.functions h in
+      (t.0.address, ap (option_map (λ (t : Thing). t.address)) t.1, record { function = t.2.function; present = t.2.present; same = t.2.same })
+
+  -- the entry of a function of the scope
+  pub function_at : (index x : ℕ) → address_at spaces.Func index c.items ≡ Some x → (e : FunctionEntry) × IsFunctionEntry s e (record { space = spaces.Func; address = x }) × (get_or (inventory earlier).functions index no_function ≡ e)
+  function_at index x at =
+      let things : List Thing = filter (is_of spaces.Func) c.items in
+      let t : (t : Thing) × (slice_get things index ≡ Some t) × (t.address ≡ x) = mapped_some (λ (t : Thing). t.address) (slice_get things index) x at in
+      let e = AllZip-back (IsFunctionEntry s) (inventory earlier).functions things index t.0 a.functions t.1 in (
+        e.0,
+        record { function = e.2.function; present = ap (slice_get s.functions) (sym t.2) ∙ e.2.present; same = e.2.same },
+        get_or_from_slice_get (inventory earlier).functions index e.0 no_function e.1,
+      )
 
   -- a function that is imported is the import with its number
-  pub imported_there : {index : ℕ} {origin : Origin} → IsImportedFunction earlier index origin → (x : ℕ) × (address_at spaces.Func index c.items ≡ Some x) × (slice_get s.functions x ≡ Some (Imported origin plain_tree))
-  imported_there {index} {origin} h =
-      let x : (x : ℕ) × (address_at spaces.Func index c.items ≡ Some x) × (slice_get s.functions x ≡ Some (Imported (record { number = imports_in h.before; inner = None }) plain_tree)) =
-      numbered_there spaces.Func index (imports_in h.before, defs.Item (items.Import h.name (descriptions.Func h.kind)))
-      (made_at spaces.Func earlier index (defs.Item (items.Import h.name (descriptions.Func h.kind))) h.before h.made refl) in
-      (x.0, x.1, x.2 ∙ ap (λ (o : Origin). Some (Imported o plain_tree)) (sym h.numbered))
+  pub imported_there : {index : ℕ} {origin : Origin} {type : FunctionTree} → IsImportedFunction earlier index origin type →
+      (x : ℕ) × (address_at spaces.Func index c.items ≡ Some x) × (slice_get s.functions x ≡ Some (Imported origin type))
+  imported_there {index} {origin} {type} h =
+      let x = function_there index (record { origin = Some origin; type = OfFunctions type }) h.is in
+      (x.0, x.1, x.2.present ∙ ap (λ (f : Function). Some f) (imported_of_entry x.2.function origin type x.2.same))
 
-  pub lowered_there : {index : ℕ} {origin : Origin} {options : List TermOption} → IsLowering earlier index origin options → (x : ℕ) × (address_at spaces.CoreFunc index c.items ≡ Some x) × IsLoweringOf s x origin
-  lowered_there {index} {origin} {options} h =
-      let l : (x : ℕ) × (address_at spaces.CoreFunc index c.items ≡ Some x) × (n : ℕ) × IsLoweredItem c.items s h.function x = thing_there h.made in
-      let f : (x : ℕ) × (address_at spaces.Func h.function c.items ≡ Some x) × (slice_get s.functions x ≡ Some (Imported origin plain_tree)) = imported_there h.of in
-      let same : f.0 ≡ l.3.of = same_Some f.0 l.3.of (sym f.1 ∙ l.3.at) in
-      (l.0, l.1, record { of = l.3.of; is = l.3.is; imported = subst (λ n. slice_get s.functions n ≡ Some (Imported origin plain_tree)) same f.2 })
+  pub lowered_there : {index : ℕ} {origin : Origin} {type : FunctionTree} {options : List TermOption} → IsLowering earlier index origin type options →
+      (x : ℕ) × (address_at spaces.CoreFunc index c.items ≡ Some x) × IsLoweringOf s x origin type
+  lowered_there {index} {origin} {type} {options} h =
+      let l : (x : ℕ) × (address_at spaces.CoreFunc index c.items ≡ Some x) × IsLoweredItem c.items s h.function x = thing_there h.made in
+      let f : (x : ℕ) × (address_at spaces.Func h.function c.items ≡ Some x) × (slice_get s.functions x ≡ Some (Imported origin type)) = imported_there h.of in
+      let same : f.0 ≡ l.2.of = same_Some f.0 l.2.of (sym f.1 ∙ l.2.at) in
+      let imported : slice_get s.functions l.2.of ≡ Some (Imported origin type) = subst (λ n. slice_get s.functions n ≡ Some (Imported origin type)) same f.2 in
+      let typed : l.2.type ≡ type = ap type_in (same_Some (Imported l.2.origin l.2.type) (Imported origin type) (sym l.2.imported ∙ imported)) in
+      (l.0, l.1, record { of = l.2.of; is = subst (λ t. IsOpaqueOf s l.0 (core_signature t []) (Lowering l.2.of [])) typed l.2.is; imported = imported })
 
   pub user_there : {index number : ℕ} → IsInstanceOf earlier index number → (x : ℕ) × (address_at spaces.CoreInstance index c.items ≡ Some x) × IsUserInstance w s number x
-  user_there h = let x = thing_there h.made in (x.0, x.1, x.3)
+  user_there h = let x = thing_there h.made in (x.0, x.1, x.2)
 
   -- a function that main offers is found among the exports of its instance
   pub offered_there : (number address : ℕ) (u : IsUserInstance w s number address) (name : List ℕ) (type : FuncType) → found name w.main.offered ≡ Some (externs.Func type) →
@@ -167,37 +230,38 @@ module _ {w : ComponentWorld} {earlier : List Def} {c : Scope} {s : Store} (a : 
       let x = found-zip (IsOfType s u.user) name (map (λ (e : Export). (e.name, e)) u.exports) w.main.offered (externs.Func type) (exports_named s u.user u.exports w.main.offered u.each) h in
       (x.0, x.1, x.2.0, x.2.1)
 
-  pub exported_there : {index : ℕ} {e : CoreExport} → e.kind ≡ kinds.Func → found e.name w.main.offered ≡ Some (externs.Func plain_core) → IsExported earlier index e →
-      (x : ℕ) × (address_at spaces.CoreFunc index c.items ≡ Some x) × (user : ℕ) × IsOpaque s x (ExportedBy user e.name) × IsInstance s user e.of
-  exported_there {index} {e} function offered h =
+  pub exported_there : {index : ℕ} {e : CoreExport} (type : FuncType) → e.kind ≡ kinds.Func → found e.name w.main.offered ≡ Some (externs.Func type) → IsExported earlier index e →
+      (x : ℕ) × (address_at spaces.CoreFunc index c.items ≡ Some x) × (user : ℕ) × IsOpaqueOf s x type (ExportedBy user e.name) × IsInstance s user e.of
+  exported_there {index} {e} type function offered h =
       let made : IsAt earlier spaces.CoreFunc index (defs.Item (items.Alias (aliases.CoreExport kinds.Func h.instance e.name))) =
       subst (λ kind. IsAt earlier (kind_space kind) index (defs.Item (items.Alias (aliases.CoreExport kind h.instance e.name)))) function h.made in
-      let l : (x : ℕ) × (address_at spaces.CoreFunc index c.items ≡ Some x) × (n : ℕ) × IsAliasedItem c.items s h.instance e.name x = thing_there made in
+      let l : (x : ℕ) × (address_at spaces.CoreFunc index c.items ≡ Some x) × IsAliasedItem c.items s h.instance e.name x = thing_there made in
       let m : (x : ℕ) × (address_at spaces.CoreInstance h.instance c.items ≡ Some x) × IsUserInstance w s e.of x = user_there h.of in
-      let same : m.0 ≡ l.3.from = same_Some m.0 l.3.from (sym m.1 ∙ l.3.at) in
-      let exports : m.2.exports ≡ l.3.exports = same_Some m.2.exports l.3.exports (sym m.2.present ∙ (ap (slice_get s.core_instances) same ∙ l.3.present)) in
-      let x = offered_there e.of m.0 m.2 e.name plain_core offered in
-      let is : x.0 ≡ l.3.export = same_Some x.0 l.3.export (sym x.1 ∙ (ap (export_named e.name) exports ∙ l.3.found)) in
-      let at : x.0.address ≡ l.0 = ap (λ (y : Export). y.address) is ∙ l.3.is in
+      let same : m.0 ≡ l.2.from = same_Some m.0 l.2.from (sym m.1 ∙ l.2.at) in
+      let exports : m.2.exports ≡ l.2.exports = same_Some m.2.exports l.2.exports (sym m.2.present ∙ (ap (slice_get s.core_instances) same ∙ l.2.present)) in
+      let x = offered_there e.of m.0 m.2 e.name type offered in
+      let is : x.0 ≡ l.2.export = same_Some x.0 l.2.export (sym x.1 ∙ (ap (export_named e.name) exports ∙ l.2.found)) in
+      let at : x.0.address ≡ l.0 = ap (λ (y : Export). y.address) is ∙ l.2.is in
       let called : x.0.name ≡ e.name = found_name e.name m.2.exports x.0 x.1 in
-      (l.0, l.1, m.2.user, subst (λ n. IsOpaque s n (ExportedBy m.2.user e.name)) at (subst (λ t. IsOpaque s x.0.address (ExportedBy m.2.user t)) called x.3), m.2.is)
+      (l.0, l.1, m.2.user, subst (λ n. IsOpaqueOf s n type (ExportedBy m.2.user e.name)) at (subst (λ t. IsOpaqueOf s x.0.address type (ExportedBy m.2.user t)) called x.3), m.2.is)
 
   -- the lift of a required function
-  pub lift_there : IsWorld w → {index : ℕ} (key : WorldKey) (name : List ℕ) → core_name_of w key ≡ Some name → IsItemFor w earlier spaces.Func index (Lifted (record { of = Main; name = name }) []) →
-      (x : ℕ) × (address_at spaces.Func index c.items ≡ Some x) × IsLiftedFrom s x name
-  lift_there ok {index} key name role h = by h.term h.is h.asked
-    where
-      by : (term : Term) → Is earlier spaces.Func index term → IsTermFor w (Lifted (record { of = Main; name = name }) []) term → (x : ℕ) × (address_at spaces.Func index c.items ≡ Some x) × IsLiftedFrom s x name
-      by (terms.Lifting entry options type) is asked =
-          let l : (x : ℕ) × (address_at spaces.Func index c.items ≡ Some x) × (n : ℕ) × IsLiftedItem c.items s is.core x = thing_there is.made in
-          let offered : found entry.name w.main.offered ≡ Some (externs.Func plain_core) = subst (λ t. found t w.main.offered ≡ Some (externs.Func plain_core)) (sym asked.0.named) (core_offered w ok key name role) in
-          let f = exported_there is.function offered is.of in
-          let same : f.0 ≡ l.3.of = same_Some f.0 l.3.of (sym f.1 ∙ l.3.at) in
-          let number : entry.of ≡ 0 = only_main_is w ok entry.of asked.0.of in
-          let is_main : IsInstance s f.2 0 = subst (IsInstance s f.2) number f.4 in
-          let opaque : IsOpaque s l.3.of (ExportedBy f.2 name) = subst (λ n. IsOpaque s n (ExportedBy f.2 name)) same (subst (λ t. IsOpaque s f.0 (ExportedBy f.2 t)) asked.0.named f.3) in
-          (l.0, l.1, record { core = l.3.of; is = l.3.is; of = record { user = f.2; is = opaque; of = is_main } })
-      by term is asked = absurd asked
+  pub lift_there : IsWorld w → {index : ℕ} (key : WorldKey) (name : List ℕ) (type : FunctionTree) → core_name_of w key ≡ Some name → IsLiftFor w earlier index (Lifted (record { of = Main; name = name }) []) type →
+      (x : ℕ) × (address_at spaces.Func index c.items ≡ Some x) × IsLiftedFrom s x name type
+  lift_there ok {index} key name type role h =
+      let entry : CoreExport = h.entry in
+      let is : IsLifting earlier index entry h.options type = h.is in
+      let l : (x : ℕ) × (address_at spaces.Func index c.items ≡ Some x) × IsLiftedItem c.items s is.core is.kind x = thing_there is.made in
+      let core : (t : FuncType) × (found name w.main.offered ≡ Some (externs.Func t)) = core_offered w ok key name role in
+      let offered : found entry.name w.main.offered ≡ Some (externs.Func core.0) = subst (λ t. found t w.main.offered ≡ Some (externs.Func core.0)) (sym h.asked.0.named) core.1 in
+      let f = exported_there core.0 is.function offered is.of in
+      let same : f.0 ≡ l.2.of = same_Some f.0 l.2.of (sym f.1 ∙ l.2.at) in
+      let number : entry.of ≡ 0 = only_main_is w ok entry.of h.asked.0.of in
+      let is_main : IsInstance s f.2 0 = subst (IsInstance s f.2) number f.4 in
+      let opaque : IsOpaqueOf s l.2.of core.0 (ExportedBy f.2 name) =
+      subst (λ n. IsOpaqueOf s n core.0 (ExportedBy f.2 name)) same (subst (λ t. IsOpaqueOf s f.0 core.0 (ExportedBy f.2 t)) h.asked.0.named f.3) in
+      let typed : l.2.type ≡ type = same_type_at l.2.typed (type_there is.typed) in
+      (l.0, l.1, record { core = l.2.of; is = l.2.is ∙ ap (λ t. Some (Lifting l.2.of [] t)) typed; of = record { user = f.2; type = core.0; is = opaque; of = is_main } })
 
   -- the core item that the link table names has an address
   item_there : (kind : ExportKind) (index : ℕ) (role : Import) → IsImportRole w role → IsItemFor w earlier (kind_space kind) index (link_of w Main role) →
@@ -209,10 +273,10 @@ module _ {w : ComponentWorld} {earlier : List Def} {c : Scope} {s : Store} (a : 
 
       by : (kind : ExportKind) (term : Term) → Is earlier (kind_space kind) index term → IsTermFor w (Lowered (OfRoot text) []) term →
           (kind ≡ kinds.Func) × (x : ℕ) × (address_at spaces.CoreFunc index c.items ≡ Some x) × IsServedAs w s x (Lowered (OfRoot text) [])
-      by kinds.Func (terms.Lowering origin options) is asked = let l = lowered_there is in (refl, l.0, l.1, (origin, asked.0, l.2))
-      by kinds.Table (terms.Lowering origin options) is asked = absurd is
-      by kinds.Memory (terms.Lowering origin options) is asked = absurd is
-      by kinds.Global (terms.Lowering origin options) is asked = absurd is
+      by kinds.Func (terms.Lowering origin type options) is asked = let l = lowered_there is in (refl, l.0, l.1, record { origin = origin; type = type; from = asked.0; typed = asked.1; lowered = l.2 })
+      by kinds.Table (terms.Lowering origin type options) is asked = absurd is
+      by kinds.Memory (terms.Lowering origin type options) is asked = absurd is
+      by kinds.Global (terms.Lowering origin type options) is asked = absurd is
       by kind term is asked = absurd asked
   item_there kind index role right h = absurd right
 
@@ -234,8 +298,8 @@ module _ {w : ComponentWorld} {earlier : List Def} {c : Scope} {s : Store} (a : 
   module _ (m : Machine) (items : m.scope.items ≡ c.items) (instances : m.store.core_instances ≡ s.core_instances) where
     argument_there : (x : CoreArgument) (g : List ℕ × ImportInstance) → IsImportGroup w g → IsArgumentFor w Main earlier x g → (y : List ℕ × List Export) × (core_argument m x ≡ Some y) × IsOffered w s y g
     argument_there x g right h =
-        let b : (y : ℕ) × (address_at spaces.CoreInstance x.instance c.items ≡ Some y) × (n : ℕ) × IsInlineInstance c.items s h.serves.entries y = thing_there h.serves.made in
-        ((x.name, b.3.exports), rw (items, b.1, instances, b.3.present) refl, record { named = h.named; each = fields_there h.serves.entries b.3.exports (fields_of g.1) (fields_right w g right) h.serves.each b.3.each })
+        let b : (y : ℕ) × (address_at spaces.CoreInstance x.instance c.items ≡ Some y) × IsInlineInstance c.items s h.serves.entries y = thing_there h.serves.made in
+        ((x.name, b.2.exports), rw (items, b.1, instances, b.2.present) refl, record { named = h.named; each = fields_there h.serves.entries b.2.exports (fields_of g.1) (fields_right w g right) h.serves.each b.2.each })
 
     abbrev IsArgument : CoreArgument → List ℕ × ImportInstance → Type 0
     IsArgument x g = IsImportGroup w g × IsArgumentFor w Main earlier x g
@@ -253,13 +317,20 @@ module _ {w : ComponentWorld} {earlier : List Def} {c : Scope} {s : Store} (a : 
 
 -- ---- what main's imports find
 
--- an opaque function of the plain core type matches an import of a plain function
-matches_plain : (m : Machine) (t : Thing) (item : CoreItem) → t.space ≡ spaces.CoreFunc → IsOpaque m.store t.address item → matching m (externs.Func plain_core) t ≡ Some t
-matches_plain m t item space h = rw (space, h.present) refl
+-- an opaque function matches an import of its core type
+matches_own : (m : Machine) (t : Thing) (type : FuncType) (item : CoreItem) → t.space ≡ spaces.CoreFunc → IsOpaqueOf m.store t.address type item → matching m (externs.Func type) t ≡ Some t
+matches_own m t type item space h = rw (space, h.present, same_signature-refl type) refl
 
-served_opaque : (w : ComponentWorld) (s : Store) (address : ℕ) (target : Target) → IsServedAs w s address target → (item : CoreItem) × IsOpaque s address item
-served_opaque w s address (Lowered function []) h = (Lowering h.2.of [], h.2.is)
-served_opaque w s address target h = absurd h
+-- what serves a role is opaque, and has the core type that the role requires
+served_opaque : (w : ComponentWorld) (s : Store) (address : ℕ) (role : Import) (type : FuncType) → IsImportRole w role → type_of_import w.resolve (items_of w) role ≡ Some (externs.Func type) →
+    IsServedAs w s address (link_of w Main role) → (item : CoreItem) × IsOpaqueOf s address type item
+served_opaque w s address (imports.WorldFunc (keys.Name text) function abi) type right fits h =
+    let asked : called_type w.resolve GuestImport h.typed.wit ≡ externs.Func type =
+    same_Some (called_type w.resolve GuestImport h.typed.wit) (externs.Func type)
+    (sym (ap (option_map (called_type w.resolve GuestImport)) h.typed.imported) ∙ (ap (λ abi. option_map (called_type w.resolve abi) (root_function_at (items_of w).imports (keys.Name text))) (sym right.2) ∙ fits)) in
+    let typed : externs.Func (core_signature h.type []) ≡ externs.Func type = lowered_type w h.type h.typed.wit h.typed.typed ∙ asked in
+    (Lowering h.lowered.of [], subst (λ t. IsOpaqueOf s address t (Lowering h.lowered.of [])) (ap (function_type_in type) typed) h.lowered.is)
+served_opaque w s address role type right fits h = absurd right
 
 -- an import that has a role is to be given what the link table says of the role
 linked_in : (w : ComponentWorld) (instance : ImportInstance) (field : List ℕ) (role : Import) → found field (fields_of instance) ≡ Some role → link_in w Main field instance ≡ Some (link_of w Main role)
@@ -286,7 +357,7 @@ module _ (w : ComponentWorld) (m : Machine) where
   groups_named arguments gs h = AllZip-weaker (λ a g o. (o.named, o.each)) arguments gs h
 
   -- each import of main finds what was planned for it
-  pub given_there : (arguments : List (List ℕ × List Export)) → AllZip (IsOffered w m.store) arguments w.main.imports.modules → (i : ImportType) → IsPlainImport w.main.imports.modules i →
+  pub given_there : (arguments : List (List ℕ × List Export)) → AllZip (IsOffered w m.store) arguments w.main.imports.modules → (i : ImportType) → IsFunctionImport w i →
       (t : Thing) × (given_to m arguments i ≡ Some t) × IsPlanned w m.store t i
   given_there arguments h i p =
       let roles : List (List ℕ × ImportInstance) = w.main.imports.modules in
@@ -295,6 +366,6 @@ module _ (w : ComponentWorld) (m : Machine) where
       let e = found-zip Serves i.field (map (λ (e : Export). (e.name, e)) a.0) (fields_of g.0) p.role (fields_named a.0 (fields_of g.0) a.2) g.2 in
       let x : Export = e.0 in
       let t : Thing = record { space = x.space; address = x.address } in
-      let item : (item : CoreItem) × IsOpaque m.store x.address item = served_opaque w m.store x.address (link_of w Main p.role) e.2.1 in
+      let item : (item : CoreItem) × IsOpaqueOf m.store x.address p.type item = served_opaque w m.store x.address p.role p.type p.right p.fits e.2.1 in
       let said : link_at w (main_module w) i.module_name i.field ≡ Some (link_of w Main p.role) = ap (option_and_then (link_in w Main i.field)) g.1 ∙ linked_in w g.0 i.field p.role g.2 in
-      (t, rw (p.plain, a.1, e.1, at_some x e.2.0) (matches_plain m t item.0 e.2.0 item.1), record { target = link_of w Main p.role; said = said; space = e.2.0; serves = e.2.1 })
+      (t, rw (p.typed, a.1, e.1, at_some x e.2.0) (matches_own m t p.type item.0 e.2.0 item.1), record { target = link_of w Main p.role; said = said; space = e.2.0; serves = e.2.1 })

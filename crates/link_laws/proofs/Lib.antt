@@ -1,11 +1,11 @@
 mod Zips
 mod Stores
-mod Numbering
 mod Plain
 mod Given
 mod UserExports
 pub mod Steps
 mod Marks
+mod ImportedTypes
 mod Served
 pub mod Runs
 mod Worked
@@ -18,3 +18,5 @@ mod WorkedAdapter
 mod WorkedAdapterLinked
 mod WorkedInstances
 mod NotComposed
+mod WorkedTypes
+mod WorkedTypesLinked

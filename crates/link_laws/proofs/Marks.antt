@@ -8,8 +8,7 @@ use Rattle.comp_bytes.specs.declared.def.Def.{Def}
 use Rattle.comp_bytes.specs.declared.def.Def.TheVariants as defs
 use Rattle.wit_data.specs.Keys.{name_of_key}
 use Rattle.comp_worlds.specs.declared.world.ComponentWorld.{ComponentWorld}
-use Rattle.comp_links.specs.Roles.{used_functions}
-use Rattle.comp_links.specs.Lists.{Stated, root_function, AreNames}
+use Rattle.comp_links.specs.Lists.{Stated, root_function, stated_imports, AreNames}
 use Rattle.comp_terms.specs.Rules.{Landmark, Imported, ModuleIs, InstanceOf, Exported, CustomNamed, landmark, imports_marked, exports_marked, IsBuilt}
 use Rattle.link_laws.specs.Composition.{at_root, item_module, item_instantiates, item_imports, item_exports, item_customs}
 use Rattle.link_laws.proofs.Zips.{flat_map-marked}
@@ -143,6 +142,10 @@ module _ {A : Type 0} (f : Landmark → List A) where
   all_of mark g e [] = refl
   all_of mark g e (x ∷ xs) = rw (e x, all_of mark g e xs) refl
 
+map-same : {X : Type 0} (xs : List X) → map (λ x. x) xs ≡ xs
+map-same [] = refl
+map-same (x ∷ xs) = ap (λ l. x ∷ l) (map-same xs)
+
 -- the section of names has nothing of what others have
 names_nothing : {A : Type 0} (f : Def → List A) → ((name contents : List ℕ) → f (defs.Item (items.Custom name contents)) ≡ []) → (ds : List Def) → AreNames ds → flat_map f ds ≡ []
 names_nothing f e [] h = refl
@@ -175,33 +178,33 @@ module _ (w : ComponentWorld) (ds : List Def) (built : IsBuilt w ds) where
       ∙ (flat_map-append f built.front built.names
       ∙ (ap (λ l. flat_map f built.front ++ l) (names_nothing f none built.names built.named) ∙ (append-nil (flat_map f built.front) ∙ front_marks f g same)))
 
-  pub root_imports : flat_map (at_root item_imports) ds ≡ map root_function (used_functions w)
+  pub root_imports : flat_map (at_root item_imports) ds ≡ stated_imports w
   root_imports =
       read_marks (at_root item_imports) import_mark import_is (λ n c. refl)
-      ∙ rw (all_of import_mark (λ t. Imported (root_function t)) root_function (λ t. refl) (used_functions w), none_of import_mark (λ key. Exported (root_function (name_of_key key))) (λ key. refl) w.main_exports)
-      (append-nil (map root_function (used_functions w)))
+      ∙ rw (all_of import_mark Imported (λ stated. stated) (λ t. refl) (stated_imports w), none_of import_mark (λ key. Exported (root_function (name_of_key key))) (λ key. refl) w.main_exports)
+      (append-nil (map (λ stated. stated) (stated_imports w)) ∙ map-same (stated_imports w))
 
   pub root_modules : flat_map (at_root item_module) ds ≡ w.main.bytes ∷ []
   root_modules =
       read_marks (at_root item_module) module_mark module_is (λ n c. refl)
-      ∙ rw (none_of module_mark (λ t. Imported (root_function t)) (λ t. refl) (used_functions w), none_of module_mark (λ key. Exported (root_function (name_of_key key))) (λ key. refl) w.main_exports) refl
+      ∙ rw (none_of module_mark Imported (λ t. refl) (stated_imports w), none_of module_mark (λ key. Exported (root_function (name_of_key key))) (λ key. refl) w.main_exports) refl
 
   pub root_instances : flat_map (at_root item_instantiates) ds ≡ 0 ∷ []
   root_instances =
       read_marks (at_root item_instantiates) instance_mark instance_is (λ n c. refl)
-      ∙ rw (none_of instance_mark (λ t. Imported (root_function t)) (λ t. refl) (used_functions w), none_of instance_mark (λ key. Exported (root_function (name_of_key key))) (λ key. refl) w.main_exports) refl
+      ∙ rw (none_of instance_mark Imported (λ t. refl) (stated_imports w), none_of instance_mark (λ key. Exported (root_function (name_of_key key))) (λ key. refl) w.main_exports) refl
 
   pub root_exports : flat_map (at_root item_exports) ds ≡ map (λ key. root_function (name_of_key key)) w.main_exports
   root_exports =
       read_marks (at_root item_exports) export_mark export_is (λ n c. refl)
-      ∙ rw (none_of export_mark (λ t. Imported (root_function t)) (λ t. refl) (used_functions w), all_of export_mark (λ key. Exported (root_function (name_of_key key))) (λ key. root_function (name_of_key key)) (λ key. refl) w.main_exports) refl
+      ∙ rw (none_of export_mark Imported (λ t. refl) (stated_imports w), all_of export_mark (λ key. Exported (root_function (name_of_key key))) (λ key. root_function (name_of_key key)) (λ key. refl) w.main_exports) refl
 
   pub root_export_names : flat_map def_export ds ≡ map name_of_key w.main_exports
   root_export_names =
       read_marks def_export name_mark name_is (λ n c. refl)
-      ∙ rw (none_of name_mark (λ t. Imported (root_function t)) (λ t. refl) (used_functions w), all_of name_mark (λ key. Exported (root_function (name_of_key key))) name_of_key (λ key. refl) w.main_exports) refl
+      ∙ rw (none_of name_mark Imported (λ t. refl) (stated_imports w), all_of name_mark (λ key. Exported (root_function (name_of_key key))) name_of_key (λ key. refl) w.main_exports) refl
 
   pub no_customs : flat_map (at_root item_customs) built.front ≡ []
   no_customs =
       front_marks (at_root item_customs) custom_mark custom_is
-      ∙ rw (none_of custom_mark (λ t. Imported (root_function t)) (λ t. refl) (used_functions w), none_of custom_mark (λ key. Exported (root_function (name_of_key key))) (λ key. refl) w.main_exports) refl
+      ∙ rw (none_of custom_mark Imported (λ t. refl) (stated_imports w), none_of custom_mark (λ key. Exported (root_function (name_of_key key))) (λ key. refl) w.main_exports) refl

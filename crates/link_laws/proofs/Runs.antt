@@ -2,23 +2,24 @@
 use Rattle.std.proofs.Common.{◌≡◌, ◌∙◌, ◌≤◌, ◌+◌, ℕ, false, List, [], ◌∷◌, ◌++◌, length, map, refl, sym, ap, ap₂, subst, append-nil, append_assoc, Some, None, arith, IsTrue}
 use Rattle.std.proofs.lemmas.List.{map-append}
 use Rattle.std.proofs.lemmas.Option.{slice_get_within}
-use Rattle.std.specs.List.{slice_get, flat_map}
+use Rattle.std.specs.List.{slice_get, flat_map, AllZip}
 use Rattle.standard_kinds.specs.declared.kinds.ExportKind.TheVariants as kinds
+use Rattle.comp_bytes.specs.ItemIndices.{in_space}
+use Rattle.comp_bytes.specs.declared.space.Space.TheVariants as spaces
 use Rattle.comp_bytes.specs.declared.space.Sort.TheVariants as sorts
 use Rattle.comp_bytes.specs.declared.types.Alias.TheVariants as aliases
-use Rattle.comp_bytes.specs.declared.types.TypeDef.{TypeDef}
 use Rattle.comp_bytes.specs.declared.types.Description.TheVariants as descriptions
 use Rattle.comp_bytes.specs.declared.canon.CanonicalOption.{CanonicalOption}
 use Rattle.comp_bytes.specs.declared.def.Item.TheVariants as items
 use Rattle.comp_bytes.specs.declared.def.Def.{Def}
 use Rattle.comp_bytes.specs.declared.def.Def.TheVariants as defs
 use Rattle.wit_data.specs.Keys.{name_of_key}
-use Rattle.wit_data.specs.declared.ids.TypeId.{TypeId}
 use Rattle.comp_worlds.specs.Worlds.{IsWorld}
 use Rattle.comp_worlds.specs.declared.world.ComponentWorld.{ComponentWorld}
 use Rattle.comp_links.specs.Modules.{WorldModule}
-use Rattle.comp_links.specs.Lists.{RootFunction, stated_import}
-use Rattle.comp_links.specs.Roles.{used_functions}
+use Rattle.comp_links.specs.Lists.{resource_of}
+use Rattle.comp_trees.specs.Inventories.{Inventory}
+use Rattle.comp_trees.proofs.Inventories.{inventory-empty}
 use Rattle.core_types.specs.declared.types.ValType.{ValType}
 use Rattle.core_runs.specs.Store.{Answer, Now, Event, Instantiated}
 use Rattle.comp_runs.specs.Store.{Store}
@@ -27,12 +28,14 @@ use Rattle.comp_runs.specs.Running.{run, fresh_machine}
 use Rattle.comp_terms.specs.Rules.{IsRight, RightAfter, IsBuilt}
 use Rattle.link_laws.specs.Meeting.{task_hook}
 use Rattle.link_laws.specs.Composition.{IsComposed, numbers_from, instance_order, at_root, item_instantiates}
-use Rattle.link_laws.specs.Linking.{module_meanings, outcome, EndsAt, StartCall, start_calls, initialization, questions, LetsRun, IsLinked, Links}
-use Rattle.link_laws.proofs.Zips.{each_listed, map-map}
-use Rattle.link_laws.proofs.Stores.{Agrees}
+use Rattle.link_laws.specs.Linking.{module_meanings, outcome, EndsAt, StartCall, start_calls, initialization, questions, LetsRun, IsLinked, imported_among, TypesServed, Links}
+use Rattle.link_laws.proofs.Zips.{each_listed}
+use Rattle.link_laws.proofs.Stores.{IsTypeEntry, IsFunctionEntry, Agrees}
+use Rattle.link_laws.proofs.Given.{scope_there}
 use Rattle.link_laws.proofs.Plain.{only_main, no_initialize}
-use Rattle.link_laws.proofs.Steps.{no_modules, machine, IsNow, IsGood, asks, events_of, seen_by, Steps, step_type, step_import, step_lower, step_lift, step_inline_instance, step_alias, step_export, step_module, step_custom, step_instantiate}
+use Rattle.link_laws.proofs.Steps.{no_modules, machine, IsNow, IsGood, asks, events_of, seen_by, Steps, step_type, step_import, step_import_type, step_import_resource, step_lower, step_lift, step_inline_instance, step_alias, step_export, step_module, step_custom, step_instantiate}
 use Rattle.link_laws.proofs.Marks.{root_imports, root_modules, root_instances, root_exports, root_export_names, no_customs}
+use Rattle.link_laws.proofs.ImportedTypes.{types_served}
 use Rattle.link_laws.proofs.Served.{users_served, stated_all, each_provided}
 
 module _ {w : ComponentWorld} {earlier : List Def} {c : Scope} {s : Store} (a : Agrees w earlier c s) (g : ℕ) where
@@ -41,11 +44,14 @@ module _ {w : ComponentWorld} {earlier : List Def} {c : Scope} {s : Store} (a : 
   step ok (defs.Item (items.CoreInstantiate number arguments)) h = step_instantiate a g ok number arguments h
   step ok (defs.Item (items.CoreExports entries)) h = step_inline_instance a g entries h
   step ok (defs.Item (items.Alias (aliases.CoreExport kinds.Func instance name))) h = step_alias a g ok instance name h
-  step ok (defs.Item (items.Type t)) h = subst (λ (t : TypeDef). Steps w earlier c s g (defs.Item (items.Type t))) (sym h) (step_type a g)
+  step ok (defs.Item (items.Type t)) h = step_type a g t h
   step ok (defs.Item (items.Lift core options kind)) h =
       subst (λ (o : List CanonicalOption). Steps w earlier c s g (defs.Item (items.Lift core o kind))) (sym h.1) (step_lift a g core kind h.0 h.2)
   step ok (defs.Item (items.Lower function options)) h = subst (λ (o : List CanonicalOption). Steps w earlier c s g (defs.Item (items.Lower function o))) (sym h.1) (step_lower a g function h.0)
   step ok (defs.Item (items.Import name (descriptions.Func kind))) h = step_import a g name kind h.1
+  step ok (defs.Item (items.Import name (descriptions.TypeEqual index))) h = step_import_type a g name index h.1.0
+  step ok (defs.Item (items.Import name descriptions.SubResource)) h = step_import_resource a g name
+  step ok (defs.Item (items.Import name (descriptions.Instance index))) h = absurd h.1
   step ok (defs.Item (items.Export name sorts.Func index None)) h = step_export a g ok name index h
   step ok (defs.Item (items.Custom name contents)) h = step_custom a g name contents
   step ok _ h = absurd h
@@ -84,7 +90,7 @@ composed w ds ok built = record {
   generated = [];
   modules = root_modules w ds built ∙ sym (ap (λ us. map (λ (u : WorldModule). u.found.bytes) us ++ []) (only_main w ok));
   encoded = tt;
-  imports = root_imports w ds built ∙ sym (map-map stated_import RootFunction (used_functions w));
+  imports = root_imports w ds built;
   exports = root_exports w ds built ∙ stated_all w ok w.main_exports ok.main.required;
   instances = root_instances w ds built ∙ sym (ap (λ (us : List WorldModule). instance_order (length us) no_modules) (only_main w ok));
   customs = record { front = built.front; names = built.names; whole = built.whole; none_before = no_customs w ds built; named = built.named };
@@ -96,21 +102,24 @@ no_calls : (w : ComponentWorld) → IsWorld w → start_calls w ≡ []
 no_calls w ok = ap (initialization (task_hook w)) (no_initialize w w.main.exports.exports ok.main.export_roles)
 
 start : (w : ComponentWorld) → Agrees w [] (fresh_machine []).scope (fresh_machine []).store
-start w = record { means = tt; modules = refl; instances = refl; served = tt; exports = refl; lifted = tt; imports = refl }
+start w = record { means = tt; types = subst (λ (v : Inventory). AllZip (IsTypeEntry (fresh_machine []).store) v.types []) (sym inventory-empty) tt; functions = subst (λ (v : Inventory). AllZip (IsFunctionEntry (fresh_machine []).store) v.functions []) (sym inventory-empty) tt; modules = refl; instances = refl; served = tt; exports = refl; lifted = tt; imports = sym (ap (λ (v : Inventory). v.imports) inventory-empty) }
 
 -- the end of a run is linked
 linked_at_end : (w : ComponentWorld) (ds : List Def) (m : Machine) → IsWorld w → IsBuilt w ds → Agrees w ds m.scope m.store → m.now.events ≡ Instantiated 0 ∷ [] → IsLinked w no_modules m
 linked_at_end w ds m ok built a events =
-    let origins : TypeId → ℕ = λ id. 0 in
     record {
-      origins = origins;
+      origins = resource_of w;
       start_events = [];
       instances = a.instances ∙ (root_instances w ds built ∙ sym (ap (λ (us : List WorldModule). instance_order (length us) no_modules) (only_main w ok)));
-      imports = users_served w ok m origins a.served;
-      exports = each_provided w ok m origins (a.exports ∙ root_export_names w ds built) a.lifted w.main_exports ok.main.required (each_listed name_of_key w.main_exports);
+      imports = users_served w ok m a.served;
+      exports = each_provided w ok m (a.exports ∙ root_export_names w ds built) a.lifted w.main_exports ok.main.required (each_listed name_of_key w.main_exports);
       events = events ∙ sym (ap (λ (us : List WorldModule). map (λ n. Instantiated n) (numbers_from 0 (length us)) ++ []) (only_main w ok));
       started = rw (no_calls w ok) tt;
     }
+
+-- and the types that it imports are the world's
+types_at_end : (w : ComponentWorld) (ds : List Def) (m : Machine) → IsBuilt w ds → Agrees w ds m.scope m.store → TypesServed w ds m
+types_at_end w ds m built a = ap (imported_among (in_space spaces.Type ds)) (scope_there a) ∙ types_served w ds built.right (root_imports w ds built)
 
 module _ (e : Scope) (t : Store) (g : ℕ) (es : List Event) (questions : List (List ValType)) (answers : List Answer) where
   not_stuck : (o : Outcome) → IsGood e t g es questions answers o → o ≡ Stuck → ⊥
@@ -154,6 +163,9 @@ links w ds ok built =
       linked = λ answers m done.
           let is : (m.scope ≡ all.0) × (m.store ≡ all.1) × IsNow one all.2 m.now = done_with all.0 all.1 all.2 one (questions w) answers (outcome w no_modules ds answers) m (good answers) done in
           linked_at_end w ds m ok built (subst (λ s. Agrees w ds m.scope s) (sym is.1) (subst (λ c. Agrees w ds c all.1) (sym is.0) all.4)) is.2.events;
+      types = λ answers m done.
+          let is : (m.scope ≡ all.0) × (m.store ≡ all.1) × IsNow one all.2 m.now = done_with all.0 all.1 all.2 one (questions w) answers (outcome w no_modules ds answers) m (good answers) done in
+          types_at_end w ds m built (subst (λ s. Agrees w ds m.scope s) (sym is.1) (subst (λ c. Agrees w ds c all.1) (sym is.0) all.4));
       traps_before = record { each = λ before after whole quiet there answers m done address shim. absurd (no there) };
       served_throughout = record {
         each = λ answers m ends event globals late at.

@@ -10,11 +10,14 @@ use Rattle.core_runs.specs.Values.{Value, fit}
 use Rattle.core_runs.specs.Store.{Store as CodeStore, Func, Opaque, Cell, Answer, Gives, Traps, Now, ByCode}
 use Rattle.core_runs.specs.Store as core
 use Rattle.core_runs.specs.Execution.{exec, acts}
+use Rattle.comp_bytes.specs.ItemIndices.{in_space}
+use Rattle.comp_runs.specs.Instances.{type_scope}
+use Rattle.link_laws.proofs.ImportedTypes.{none_imported}
 use Rattle.comp_runs.specs.Store.{Export, ModuleInstance}
 use Rattle.comp_runs.specs.Machine.{Machine, Outcome, Done, Stuck}
 use Rattle.link_laws.specs.Composition.{GeneratedModules}
 use Rattle.link_laws.specs.Linking.{outcome, questions, LetsRun, EndsAt, IsLinked, IsShim, TrapsAtOnce, BeforeFixup, Links}
-use Rattle.link_laws.proofs.Stores.{plain_core}
+use Rattle.link_laws.proofs.Worked.{plain_core}
 use Rattle.link_laws.proofs.Worked.{machine_of, made}
 use Rattle.link_laws.proofs.WorkedShims.{world, generated, whole_with, whole, shims_bytes, fixup_bytes, shims_instance, shim_function}
 use Rattle.link_laws.proofs.ShimsLinked.{end, straight_is_linked, crossed_is_not_linked}
@@ -230,6 +233,7 @@ straight_links = record {
   never_stuck = never_stuck;
   ends = ends;
   linked = linked;
+  types = λ answers m e. none_imported (in_space spaces.Type definitions) (type_scope m) (λ tree. refl, tt);
   traps_before = record { each = traps_before shims_bytes (fixup_bytes (0 ∷ 1 ∷ [])) };
   served_throughout = record { each = λ answers m e event globals late found. absurd (no_second m.now.moments event globals (one_moment answers m e) late found) };
 }

@@ -11,6 +11,7 @@ use Rattle.core_runs.specs.Store.{Func, Generated, Opaque, Answer, Gives, Now}
 use Rattle.core_runs.specs.Execution.{exec, acts}
 use Rattle.core_runs.specs.Expected.{expected}
 use Rattle.wit_data.specs.declared.ids.TypeId.{TypeId}
+use Rattle.comp_trees.specs.Trees.{Resource, DefinedAt}
 use Rattle.wit_data.specs.declared.functions.Function.{Function as WitFunction}
 use Rattle.wit_data.specs.declared.functions.FunctionKind.TheVariants.{Freestanding}
 use Rattle.comp_roles.specs.declared.offered.ExternType.TheVariants as externs
@@ -22,7 +23,7 @@ use Rattle.comp_runs.specs.Store.{CoreItem, Lowering, ModuleInstance}
 use Rattle.comp_runs.specs.Machine.{Machine}
 use Rattle.link_laws.specs.Meeting.{CoreMeets, ItemIsLowering, IsImport, Meets}
 use Rattle.link_laws.specs.Linking.{outcome, AreServed, IsServed, IsLinked}
-use Rattle.link_laws.proofs.Stores.{plain_core}
+use Rattle.link_laws.proofs.Worked.{plain_core}
 use Rattle.link_laws.proofs.Worked.{machine_of, root_import, core_function, h}
 use Rattle.link_laws.proofs.Crossed.{traps_next, first_called, known_by, type_by, import_number, first_letter}
 use Rattle.link_laws.proofs.WorkedShims.{world, generated, whole, shims_instance, main_instance, fixup_instance, opaque_at, one_call, straight, crossed, shim_0_calls_f, shim_1_calls_h}
@@ -36,8 +37,8 @@ main_module = record { of = Main; found = world.main }
 abbrev wit_of : List ℕ → WitFunction
 wit_of name = record { name = name; kind = Freestanding; params = []; result = None }
 
-abbrev no_origins : TypeId → ℕ
-no_origins id = 0
+abbrev no_origins : TypeId → Resource
+no_origins id = DefinedAt 0
 
 shim_0 : (arguments : List Value) (now : Now) → IsTrue (fit [] arguments) → acts (machine_of straight).store.code 0 arguments now ≡ one_call 2 arguments now
 shim_0 [] now fits = shim_0_calls_f now
@@ -102,7 +103,7 @@ module _ (number : ℕ) (rest : List Answer) where
     origins = no_origins;
     start_events = [];
     instances = refl;
-    imports = record { each = served };
+    imports = record { resources = tt; each = served };
     exports = tt;
     events = refl;
     started = tt;
@@ -122,7 +123,7 @@ calls_3 address hook signature s e =
     subst (λ (t : FuncType). 3 ≡ first_called (expected (around None Nothing) hook (record { address = address; signature = t }) [] traps_next)) (sym s) same
 
 -- the second import is h
-not_of_f : (origins : TypeId → ℕ) → IsImport world c origins 1 (OfRoot f) → ⊥
+not_of_f : (origins : TypeId → Resource) → IsImport world c origins 1 (OfRoot f) → ⊥
 not_of_f origins i =
     let number : 1 ≡ i.origin.number = ap import_number i.is in
     let named : slice_get (import_entries world) 1 ≡ Some (RootFunction f) = subst (λ n. slice_get (import_entries world) n ≡ Some (RootFunction f)) (sym number) i.from.0 in
@@ -135,7 +136,7 @@ is_generated (Some (Generated frame signature locals code)) = 1
 is_generated function = 0
 
 -- no opaque function is a lowering of f and acts as shim 0
-none_serves : (origins : TypeId → ℕ) (address what : ℕ) (signature : FuncType) (item : CoreItem) → slice_get c.store.code.functions address ≡ Some (Opaque what signature) →
+none_serves : (origins : TypeId → Resource) (address what : ℕ) (signature : FuncType) (item : CoreItem) → slice_get c.store.code.functions address ≡ Some (Opaque what signature) →
     slice_get c.store.known what ≡ Some item → ItemIsLowering world c origins (OfRoot f) [] item → (plain_core ≡ signature → 3 ≡ address) → ⊥
 none_serves origins zero what signature item e known named called = let same : 1 ≡ 0 = ap is_generated e in absurd (omega (arith, same))
 none_serves origins (suc zero) what signature item e known named called = let same : 1 ≡ 0 = ap is_generated e in absurd (omega (arith, same))
@@ -147,7 +148,7 @@ none_serves origins (suc (suc (suc zero))) what signature item e known named cal
     not_of_f origins of_f.0
 none_serves origins (suc (suc (suc (suc n)))) what signature item e known named called = absurd (none-some (Opaque what signature) e)
 
-no_lowering_of_f : (origins : TypeId → ℕ) → CoreMeets world c None 0 (ItemIsLowering world c origins (OfRoot f) []) → ⊥
+no_lowering_of_f : (origins : TypeId → Resource) → CoreMeets world c None 0 (ItemIsLowering world c origins (OfRoot f) []) → ⊥
 no_lowering_of_f origins x =
     none_serves origins x.target.address x.what x.target.signature x.item x.is x.known x.named
     (λ s. calls_3 x.target.address x.hook x.target.signature s
@@ -157,7 +158,7 @@ no_lowering_of_f origins x =
 abbrev first_import : ImportType
 first_import = record { module_name = root; field = f; ty = externs.Func plain_core }
 
-first_meets : (origins : TypeId → ℕ) → IsServed world c origins main_module (core_function 0) first_import → CoreMeets world c None 0 (ItemIsLowering world c origins (OfRoot f) [])
+first_meets : (origins : TypeId → Resource) → IsServed world c origins main_module (core_function 0) first_import → CoreMeets world c None 0 (ItemIsLowering world c origins (OfRoot f) [])
 first_meets origins s = subst (Meets world c origins (core_function 0)) (same_Some s.target (Lowered (OfRoot f) []) (sym s.said)) s.meets
 
 pub crossed_is_not_linked : IsLinked world (generated (1 ∷ 0 ∷ [])) (machine_of crossed) → ⊥

@@ -1,9 +1,9 @@
 -- A definition that keeps its rule runs, and the store agrees with the longer list.
-use Rattle.std.proofs.Common.{arith, ◌≤◌, ◌+◌, ◌≡◌, ◌∙◌, ℕ, zero, suc, ◌<◌, Bool, true, false, List, [], ◌∷◌, ◌++◌, length, map, filter, refl, sym, ap, ap₂, subst, append-nil, append_assoc, add-one, add-zero, length-append, Option, Some, None, is_some, IsTrue, if◌then◌else◌}
+use Rattle.std.proofs.Common.{arith, ◌≤◌, ◌+◌, ◌≡◌, ◌∙◌, ℕ, zero, suc, ◌<◌, Bool, true, false, List, [], ◌∷◌, ◌++◌, length, map, filter, get_or, refl, sym, ap, ap₂, subst, append-nil, append_assoc, add-one, length-append, Option, Some, None, is_some, IsTrue, if◌then◌else◌}
 use Rattle.std.proofs.lemmas.List.{map-append}
 use Rattle.std.proofs.lemmas.List.Elements.{filter-append}
 use Rattle.std.proofs.lemmas.Grind.{flat_map-append}
-use Rattle.std.proofs.lemmas.Option.{none-some}
+use Rattle.std.proofs.lemmas.Option.{none-some, get_or_from_slice_get}
 use Rattle.std.specs.List.{slice_get, flat_map, AllZip, AllByRecursion}
 use Rattle.std.specs.Option.{option_map, option_and_then}
 use Rattle.comp_lists.specs.Found.{found}
@@ -15,6 +15,7 @@ use Rattle.comp_bytes.specs.declared.space.Space.TheVariants as spaces
 use Rattle.standard_kinds.specs.declared.kinds.ExportKind.TheVariants as kinds
 use Rattle.comp_bytes.specs.declared.space.Sort.TheVariants as sorts
 use Rattle.comp_bytes.specs.declared.types.ExternName.{ExternName}
+use Rattle.comp_bytes.specs.declared.types.TypeDef.{TypeDef}
 use Rattle.comp_bytes.specs.declared.types.TypeDef.TheVariants as types
 use Rattle.comp_bytes.specs.declared.types.Alias.TheVariants as aliases
 use Rattle.comp_bytes.specs.declared.types.Description.TheVariants as descriptions
@@ -26,7 +27,15 @@ use Rattle.comp_bytes.specs.declared.def.Def.TheVariants as defs
 use Rattle.wit_data.specs.Keys.{name_of_key}
 use Rattle.wit_data.specs.declared.worlds.WorldKey.{WorldKey}
 use Rattle.wit_data.specs.declared.worlds.WorldKey.TheVariants as keys
-use Rattle.comp_worlds.specs.Worlds.{IsWorld, core_name_of}
+use Rattle.wit_data.specs.declared.functions.Function.{Function as WitFunction}
+use Rattle.world_values.specs.Items.{root_function_at}
+use Rattle.comp_worlds.specs.Worlds.{IsWorld, items_of, core_name_of}
+use Rattle.comp_trees.specs.Trees.{Origin, ImportedAt, DefinedAt, ResourceAt, FunctionTree, is_known}
+use Rattle.comp_trees.specs.DefinedTrees.{TypeTree, OfValues, OfFunctions, OfOthers, function_tree, defined_tree}
+use Rattle.comp_trees.specs.DefinedScopes.{type_tree}
+use Rattle.comp_trees.specs.Inventories.{Inventory, FunctionEntry, entry_tree, no_type, no_function, types_made, functions_made, imports_made, inventory, scope_of}
+use Rattle.comp_trees.proofs.Inventories.{inventory-push}
+use Rattle.core_types.specs.declared.types.FuncType.{FuncType}
 use Rattle.comp_roles.specs.declared.imports.ImportInstance.{ImportInstance}
 use Rattle.comp_worlds.specs.declared.world.ComponentWorld.{ComponentWorld}
 use Rattle.core_types.specs.declared.types.ValType.{ValType}
@@ -34,26 +43,24 @@ use Rattle.core_runs.specs.Values.{Value}
 use Rattle.core_types.specs.declared.types.ValType.TheVariants.{I32}
 use Rattle.core_runs.specs.Store.{Opaque, Answer, Gives, Traps, Event, Instantiated, Now, Cell, Foreign}
 use Rattle.core_runs.specs.Execution.{answered, seen, renewed}
-use Rattle.comp_runs.specs.Store.{Thing, Export, CoreItem, Lowering, ExportedBy, Function, Imported, Lifting, ModuleInstance, Store}
+use Rattle.comp_runs.specs.Store.{Thing, Export, CoreItem, Lowering, ExportedBy, Function, Imported, Lifting, TypeItem, TreeOf, ImportedResource, ModuleInstance, Store}
 use Rattle.comp_links.specs.Targets.{Main, Lifted}
 use Rattle.comp_links.specs.Modules.{WorldModule}
 use Rattle.comp_roles.specs.declared.offered.ExternType.{ExternType}
 use Rattle.comp_roles.specs.declared.offered.ExternType.TheVariants as externs
 use Rattle.comp_roles.specs.declared.offered.ImportType.{ImportType}
-use Rattle.comp_terms.specs.Terms.{is_import, imports_in, IsFunctionType}
-use Rattle.comp_terms.specs.Planned.{IsItemFor, IsArgumentFor}
-use Rattle.comp_terms.specs.Rules.{plain_function, InstantiatesUser, AliasesUser, ExportsRequired, IsEntry, AreEntries}
+use Rattle.comp_terms.specs.Planned.{type_of_function, IsLiftFor, IsArgumentFor}
+use Rattle.comp_terms.specs.Rules.{InstantiatesUser, AliasesUser, ExportsRequired, IsEntry, AreEntries, HasFunctionType, HasImportedFunction, IsTypeRight}
 use Rattle.comp_runs.specs.Machine.{Scope, Machine, Outcome, Done, Trapped, Open, Stuck, address_at, is_of, export_named, all_some, resumed, with_opaque}
-use Rattle.comp_runs.specs.Instances.{ExportTypes, exported_by, with_exports, with_module_instance, matching, argument_for, type_kind, given_to, new_user}
+use Rattle.comp_runs.specs.Instances.{ExportTypes, exported_by, with_exports, with_module_instance, matching, argument_for, type_kind, given_to, new_user, type_scope, known_function, type_item}
 use Rattle.comp_runs.specs.Signatures.{core_signature}
-use Rattle.comp_runs.specs.Running.{core_argument, core_entry, type_of_function, lowered_signature, run}
+use Rattle.comp_runs.specs.Running.{core_argument, core_entry, type_of_function as function_type_of, lowered_signature, run}
 use Rattle.link_laws.specs.Composition.{GeneratedModules, at_root, item_instantiates}
 use Rattle.link_laws.specs.Linking.{module_meanings, LetsRun}
-use Rattle.link_laws.proofs.Zips.{all_some-self, all_some-each, length-map, mapped_some}
-use Rattle.link_laws.proofs.Numbering.{numbered-push, imports_in-push}
-use Rattle.link_laws.proofs.Stores.{plain_tree, plain_core, plain_type, IsOpaque, IsOpaqueOf, IsUserItem, IsUserExport, IsUserInstance, IsNamedEntry, Numbered, numbered, Means, makes, main_module, IsPlanned, IsPlannedUser, IsLiftedFrom, IsLiftedExport, IsPlainFunction, NumberedFrom, Agrees, Keeps, address_at-append, Means-kept, IsPlannedUser-kept, IsLiftedExport-kept}
-use Rattle.link_laws.proofs.Given.{IsOffered, address_there, function_there, user_there, offered_there, lift_there, thing_there, arguments_there, given_there}
-use Rattle.link_laws.proofs.Plain.{IsPlainImport, imports_plain, listed_main}
+use Rattle.link_laws.proofs.Zips.{AllZip-join, all_some-self, all_some-each, length-map, mapped_some}
+use Rattle.link_laws.proofs.Stores.{IsOpaqueOf, IsUserItem, IsUserExport, IsUserInstance, IsNamedEntry, IsTypeAt, Means, makes, IsTypeEntry, entry_of, IsFunctionEntry, main_module, IsPlanned, IsPlannedUser, IsLiftedFrom, IsLiftedExport, NumberedFrom, Agrees, Keeps, address_at-append, Means-kept, IsTypeEntry-kept, IsFunctionEntry-kept, IsPlannedUser-kept, IsLiftedExport-kept}
+use Rattle.link_laws.proofs.Given.{IsOffered, address_there, scope_there, entry_there, type_there, function_at, imported_there, user_there, offered_there, lift_there, arguments_there, given_there}
+use Rattle.link_laws.proofs.Plain.{IsFunctionImport, function_imports, listed_main}
 use Rattle.link_laws.proofs.UserExports.{Exports, Alike, all_exports, all_alike, same_exports, each_export}
 
 -- a list without generated modules
@@ -139,8 +146,8 @@ filter-push : {X : Type 0} (p : X → Bool) (b : Bool) (xs : List X) (x : X) →
 filter-push p true xs x e = rw (filter-append p xs (x ∷ []), e) refl
 filter-push p false xs x e = rw (filter-append p xs (x ∷ []), e) (append-nil (filter p xs))
 
-made-push : (earlier : List Def) (d : Def) (space : Space) → space_of d ≡ Some space → filter makes (numbered 0 (earlier ++ d ∷ [])) ≡ filter makes (numbered 0 earlier) ++ (imports_in earlier, d) ∷ []
-made-push earlier d space e = ap (filter makes) (numbered-push earlier d) ∙ filter-push makes true (numbered 0 earlier) (imports_in earlier, d) (ap is_some e)
+made-push : (earlier : List Def) (d : Def) (space : Space) → space_of d ≡ Some space → filter makes (earlier ++ d ∷ []) ≡ filter makes earlier ++ d ∷ []
+made-push earlier d space e = filter-push makes true earlier d (ap is_some e)
 
 flat-push : {X A : Type 0} (f : X → List A) (xs : List X) (x : X) → flat_map f (xs ++ x ∷ []) ≡ flat_map f xs ++ f x
 flat-push f xs x = rw (flat_map-append f xs (x ∷ [])) (ap (λ l. flat_map f xs ++ l) (append-nil (f x)))
@@ -154,43 +161,59 @@ consecutive-push k [] n t h e = (e ∙ sym h, ap suc h)
 consecutive-push k (x ∷ ts) n t h e = (h.0, consecutive-push (suc k) ts n t h.1 e)
 
 -- an opaque function is at the address at which it was added, and its known item is the one given
-opaque_there : (item : CoreItem) (s : Store) → IsOpaque (with_opaque item plain_core s) (length s.code.functions) item
-opaque_there item s = record { what = length s.known; present = slice_get-end s.code.functions (Opaque (length s.known) plain_core); known = slice_get-end s.known item }
+opaque_there : (item : CoreItem) (type : FuncType) (s : Store) → IsOpaqueOf (with_opaque item type s) (length s.code.functions) type item
+opaque_there item type s = record { what = length s.known; present = slice_get-end s.code.functions (Opaque (length s.known) type); known = slice_get-end s.known item }
 
--- a lowering of a plain function has the plain type
-plain_lowered : (m : Machine) (x : ℕ) → IsPlainFunction m.store x → lowered_signature m x [] ≡ Some plain_core
-plain_lowered m x h = ap (option_map (λ f. core_signature (type_of_function f) [])) h.present ∙ ap (λ t. Some (core_signature t [])) h.plain
+-- a lowering of an import has the core type of the import's type
+import_lowered : (m : Machine) (x : ℕ) (origin : Origin) (type : FunctionTree) → slice_get m.store.functions x ≡ Some (Imported origin type) → lowered_signature m x [] ≡ Some (core_signature type [])
+import_lowered m x origin type h = ap (option_map (λ f. core_signature (function_type_of f) [])) h
+
+-- a type that keeps its rule is held as what it denotes
+type_made : (scope : List TypeTree) (t : TypeDef) → IsTypeRight scope t → (m : Machine) → type_scope m ≡ scope → type_item t m ≡ Some (TreeOf (type_tree scope (DefinedAt 0) t))
+type_made scope (types.Func f) h m e =
+    ap (λ sc. option_map (λ tree. TreeOf tree) (known_function (function_tree sc f))) e
+    ∙ ap (λ b. option_map (λ tree. TreeOf tree) (if b then Some (OfFunctions (function_tree scope f)) else None)) h
+type_made scope (types.Defined t) h m e =
+    ap (λ sc. if is_known (defined_tree sc t) then Some (TreeOf (OfValues (defined_tree sc t))) else None) e
+    ∙ ap (λ b. if b then Some (TreeOf (OfValues (defined_tree scope t))) else None) h
+type_made scope (types.Resource destructor) h m e = absurd h
 
 -- the core export of a key is that of its name
 role_by_name : (w : ComponentWorld) (key : WorldKey) (name : List ℕ) → core_name_of w key ≡ Some name → core_name_of w (keys.Name (name_of_key key)) ≡ Some name
 role_by_name w (keys.Name text) name h = h
 role_by_name w (keys.Interface id) name h = cc
 
--- what an import of a plain function is given doesn't depend on what a run changes
-matching_same : (c : Scope) (s : Store) (now : Now) (space : Space) (address : ℕ) →
-    matching (machine c s now) (externs.Func plain_core) (record { space = space; address = address }) ≡ matching (machine c s no_answers) (externs.Func plain_core) (record { space = space; address = address })
-matching_same c s now spaces.CoreFunc address = refl
-matching_same c s now spaces.CoreTable address = refl
-matching_same c s now spaces.CoreMemory address = refl
-matching_same c s now spaces.CoreGlobal address = refl
-matching_same c s now spaces.CoreModule address = refl
-matching_same c s now spaces.CoreInstance address = refl
-matching_same c s now spaces.Func address = refl
-matching_same c s now spaces.Type address = refl
-matching_same c s now spaces.Component address = refl
-matching_same c s now spaces.Instance address = refl
+exported_by_name : (w : ComponentWorld) (key : WorldKey) (name : List ℕ) (wit : WitFunction) → core_name_of w key ≡ Some name → root_function_at (items_of w).exports key ≡ Some wit →
+    root_function_at (items_of w).exports (keys.Name (name_of_key key)) ≡ Some wit
+exported_by_name w (keys.Name text) name wit e h = h
+exported_by_name w (keys.Interface id) name wit e h = absurd (none-some name e)
 
-given_one : (c : Scope) (s : Store) (now : Now) (o : Option Thing) → option_and_then (matching (machine c s now) (externs.Func plain_core)) o ≡ option_and_then (matching (machine c s no_answers) (externs.Func plain_core)) o
-given_one c s now None = refl
-given_one c s now (Some t) = matching_same c s now t.space t.address
+-- what an import of a function is given doesn't depend on what a run changes
+matching_same : (c : Scope) (s : Store) (now : Now) (type : FuncType) (space : Space) (address : ℕ) →
+    matching (machine c s now) (externs.Func type) (record { space = space; address = address }) ≡ matching (machine c s no_answers) (externs.Func type) (record { space = space; address = address })
+matching_same c s now type spaces.CoreFunc address = refl
+matching_same c s now type spaces.CoreTable address = refl
+matching_same c s now type spaces.CoreMemory address = refl
+matching_same c s now type spaces.CoreGlobal address = refl
+matching_same c s now type spaces.CoreModule address = refl
+matching_same c s now type spaces.CoreInstance address = refl
+matching_same c s now type spaces.Func address = refl
+matching_same c s now type spaces.Type address = refl
+matching_same c s now type spaces.Component address = refl
+matching_same c s now type spaces.Instance address = refl
 
-given_same : (c : Scope) (s : Store) (now : Now) (arguments : List (List ℕ × List Export)) (roles : List (List ℕ × ImportInstance)) (is : List ImportType) → AllByRecursion (IsPlainImport roles) is →
+given_one : (c : Scope) (s : Store) (now : Now) (type : FuncType) (o : Option Thing) →
+    option_and_then (matching (machine c s now) (externs.Func type)) o ≡ option_and_then (matching (machine c s no_answers) (externs.Func type)) o
+given_one c s now type None = refl
+given_one c s now type (Some t) = matching_same c s now type t.space t.address
+
+given_same : (w : ComponentWorld) (c : Scope) (s : Store) (now : Now) (arguments : List (List ℕ × List Export)) (is : List ImportType) → AllByRecursion (IsFunctionImport w) is →
     map (given_to (machine c s now) arguments) is ≡ map (given_to (machine c s no_answers) arguments) is
-given_same c s now arguments roles [] h = refl
-given_same c s now arguments roles (i ∷ is) h =
+given_same w c s now arguments [] h = refl
+given_same w c s now arguments (i ∷ is) h =
     let SameFor : ExternType → Type 0 =
     λ ty. option_and_then (matching (machine c s now) ty) (argument_for arguments (type_kind ty) i.module_name i.field) ≡ option_and_then (matching (machine c s no_answers) ty) (argument_for arguments (type_kind ty) i.module_name i.field) in
-    ap₂ (λ x xs. x ∷ xs) (subst SameFor (sym h.0.plain) (given_one c s now (argument_for arguments kinds.Func i.module_name i.field))) (given_same c s now arguments roles is h.1)
+    ap₂ (λ x xs. x ∷ xs) (subst SameFor (sym h.0.typed) (given_one c s now h.0.type (argument_for arguments kinds.Func i.module_name i.field))) (given_same w c s now arguments is h.1)
 
 -- one event more is among all of them
 few : (es : List Event) (g : ℕ) (rest : List Def) (now : Now) → IsNow es g now → length (seen now (Instantiated 0)).moments ≤ length (es ++ (Instantiated 0 ∷ seen_by rest))
@@ -233,39 +256,49 @@ module _ (s : Store) (core_instances : List (List Export)) (module_instances : L
   export_beside e found h = record { named = h.named; space = h.space; is = item_beside e found.1 h.is }
 
 module _ {w : ComponentWorld} {earlier : List Def} {c : Scope} {s : Store} (a : Agrees w earlier c s) (g : ℕ) where
+  -- the types and functions that this definition makes are those of this item
+  abbrev Makes : Def → Store → Thing → Type 0
+  Makes d s' t = AllZip (IsTypeEntry s') (types_made (inventory earlier) d) (filter (is_of spaces.Type) (t ∷ [])) × AllZip (IsFunctionEntry s') (functions_made (inventory earlier) d) (filter (is_of spaces.Func) (t ∷ []))
+
   -- the step of a definition that makes an item
   agrees_with : (d : Def) (c' : Scope) (s' : Store) (t : Thing) → c'.items ≡ c.items ++ t ∷ [] → Keeps c.items c'.items s s' →
-      Means w c'.items s' (imports_in earlier, d) t → NumberedFrom 0 (filter (is_of spaces.CoreModule) c'.items) (length s'.core_modules) →
+      Means w c'.items s' d t → Makes d s' t → NumberedFrom 0 (filter (is_of spaces.CoreModule) c'.items) (length s'.core_modules) →
       map (λ (u : ModuleInstance). u.module_number) s'.module_instances ≡ map (λ (u : ModuleInstance). u.module_number) s.module_instances ++ at_root item_instantiates d →
       AllByRecursion (IsPlannedUser w s') s'.module_instances → map (λ (e : Export). e.name) c'.exports ≡ map (λ (e : Export). e.name) c.exports ++ def_export d → AllByRecursion (IsLiftedExport w s') c'.exports →
-      c'.imports ≡ imports_in earlier + length (filter is_import (d ∷ [])) → Agrees w (earlier ++ d ∷ []) c' s'
-  agrees_with d c' s' t grew keeps means modules instances served exports lifted imports =
-      let before : List Numbered = filter makes (numbered 0 earlier) in
-      let p : Numbered = (imports_in earlier, d) in
+      c'.imports ≡ imports_made (inventory earlier) d → Agrees w (earlier ++ d ∷ []) c' s'
+  agrees_with d c' s' t grew keeps means made modules instances served exports lifted imports =
+      let before : List Def = filter makes earlier in
+      let old : Inventory = inventory earlier in
       let kept : AllZip (Means w c'.items s') before c.items = AllZip-weaker (Means-kept w keeps) before c.items a.means in
-      let pushed : AllZip (Means w c'.items s') (before ++ p ∷ []) (c.items ++ t ∷ []) = AllZip-end (Means w c'.items s') before c.items p t kept means in
+      let pushed : AllZip (Means w c'.items s') (before ++ d ∷ []) (c.items ++ t ∷ []) = AllZip-end (Means w c'.items s') before c.items d t kept means in
+      let of : (space : Space) → filter (is_of space) c'.items ≡ filter (is_of space) c.items ++ filter (is_of space) (t ∷ []) = λ space. ap (filter (is_of space)) grew ∙ filter-append (is_of space) c.items (t ∷ []) in
+      let more_types : AllZip (IsTypeEntry s') (old.types ++ types_made old d) (filter (is_of spaces.Type) c.items ++ filter (is_of spaces.Type) (t ∷ [])) =
+      AllZip-join (IsTypeEntry s') old.types (types_made old d) (filter (is_of spaces.Type) c.items) (filter (is_of spaces.Type) (t ∷ [])) (AllZip-weaker (IsTypeEntry-kept keeps) old.types (filter (is_of spaces.Type) c.items) a.types) made.0 in
+      let more_functions : AllZip (IsFunctionEntry s') (old.functions ++ functions_made old d) (filter (is_of spaces.Func) c.items ++ filter (is_of spaces.Func) (t ∷ [])) =
+      AllZip-join (IsFunctionEntry s') old.functions (functions_made old d) (filter (is_of spaces.Func) c.items) (filter (is_of spaces.Func) (t ∷ [])) (AllZip-weaker (IsFunctionEntry-kept keeps) old.functions (filter (is_of spaces.Func) c.items) a.functions) made.1 in
       record {
-        means = subst (λ ps. AllZip (Means w c'.items s') ps c'.items) (sym (made-push earlier d t.space means.space)) (subst (λ ts. AllZip (Means w c'.items s') (before ++ p ∷ []) ts) (sym grew) pushed);
+        means = subst (λ ds. AllZip (Means w c'.items s') ds c'.items) (sym (made-push earlier d t.space means.space)) (subst (λ ts. AllZip (Means w c'.items s') (before ++ d ∷ []) ts) (sym grew) pushed);
+        types = subst (λ (v : Inventory). AllZip (IsTypeEntry s') v.types (filter (is_of spaces.Type) c'.items)) (sym (inventory-push earlier d))
+            (subst (λ ts. AllZip (IsTypeEntry s') (old.types ++ types_made old d) ts) (sym (of spaces.Type)) more_types);
+        functions = subst (λ (v : Inventory). AllZip (IsFunctionEntry s') v.functions (filter (is_of spaces.Func) c'.items)) (sym (inventory-push earlier d))
+            (subst (λ ts. AllZip (IsFunctionEntry s') (old.functions ++ functions_made old d) ts) (sym (of spaces.Func)) more_functions);
         modules = modules;
         instances = instances ∙ (ap (λ l. l ++ at_root item_instantiates d) a.instances ∙ sym (flat-push (at_root item_instantiates) earlier d));
         served = served;
         exports = exports ∙ (ap (λ l. l ++ def_export d) a.exports ∙ sym (flat-push def_export earlier d));
         lifted = lifted;
-        imports = imports ∙ sym (imports_in-push earlier d);
+        imports = imports ∙ sym (ap (λ (v : Inventory). v.imports) (inventory-push earlier d));
       }
-
-  -- no import more
-  same_count : (d : Def) → length (filter is_import (d ∷ [])) ≡ 0 → c.imports ≡ imports_in earlier + length (filter is_import (d ∷ []))
-  same_count d none = a.imports ∙ (sym (add-zero (imports_in earlier)) ∙ ap (λ n. imports_in earlier + n) (sym none))
 
   -- the step of a definition that is no module, no instantiation and no export
   agrees_at : (d : Def) (c' : Scope) (s' : Store) (t : Thing) → c'.items ≡ c.items ++ t ∷ [] → c'.exports ≡ c.exports → Keeps c.items (c.items ++ t ∷ []) s s' →
-      Means w (c.items ++ t ∷ []) s' (imports_in earlier, d) t → is_of spaces.CoreModule t ≡ false → s'.core_modules ≡ s.core_modules → s'.module_instances ≡ s.module_instances →
-      at_root item_instantiates d ≡ [] → def_export d ≡ [] → c'.imports ≡ imports_in earlier + length (filter is_import (d ∷ [])) → Agrees w (earlier ++ d ∷ []) c' s'
-  agrees_at d c' s' t grew listed keeps means other modules users none no_export imports =
+      Means w (c.items ++ t ∷ []) s' d t → Makes d s' t → is_of spaces.CoreModule t ≡ false → s'.core_modules ≡ s.core_modules → s'.module_instances ≡ s.module_instances →
+      at_root item_instantiates d ≡ [] → def_export d ≡ [] → c'.imports ≡ imports_made (inventory earlier) d → Agrees w (earlier ++ d ∷ []) c' s'
+  agrees_at d c' s' t grew listed keeps means made other modules users none no_export imports =
       agrees_with d c' s' t grew
       (subst (λ l. Keeps c.items l s s') (sym grew) keeps)
-      (subst (λ l. Means w l s' (imports_in earlier, d) t) (sym grew) means)
+      (subst (λ l. Means w l s' d t) (sym grew) means)
+      made
       (subst (λ l. NumberedFrom 0 (filter (is_of spaces.CoreModule) l) (length s'.core_modules)) (sym grew) (rw (filter-push (is_of spaces.CoreModule) false c.items t other, modules) a.modules))
       (rw (users, none) (sym (append-nil (map (λ (u : ModuleInstance). u.module_number) s.module_instances))))
       (subst (AllByRecursion (IsPlannedUser w s')) (sym users) (AllByRecursion-weaker (IsPlannedUser-kept w keeps) s.module_instances a.served))
@@ -273,45 +306,40 @@ module _ {w : ComponentWorld} {earlier : List Def} {c : Scope} {s : Store} (a : 
       (subst (AllByRecursion (IsLiftedExport w s')) (sym listed) (AllByRecursion-weaker (IsLiftedExport-kept w keeps) c.exports a.lifted))
       imports
 
-  agrees_plain : (d : Def) (s' : Store) (t : Thing) → Keeps c.items (c.items ++ t ∷ []) s s' → Means w (c.items ++ t ∷ []) s' (imports_in earlier, d) t →
-      is_of spaces.CoreModule t ≡ false → s'.core_modules ≡ s.core_modules → s'.module_instances ≡ s.module_instances → at_root item_instantiates d ≡ [] → def_export d ≡ [] → length (filter is_import (d ∷ [])) ≡ 0 →
-      Agrees w (earlier ++ d ∷ []) (with_thing c t) s'
-  agrees_plain d s' t keeps means other modules users none no_export no_import =
-      agrees_at d (with_thing c t) s' t refl refl keeps means other modules users none no_export (same_count d no_import)
+  agrees_plain : (d : Def) (s' : Store) (t : Thing) → Keeps c.items (c.items ++ t ∷ []) s s' → Means w (c.items ++ t ∷ []) s' d t → Makes d s' t →
+      is_of spaces.CoreModule t ≡ false → s'.core_modules ≡ s.core_modules → s'.module_instances ≡ s.module_instances → at_root item_instantiates d ≡ [] → def_export d ≡ [] →
+      imports_made (inventory earlier) d ≡ (inventory earlier).imports → Agrees w (earlier ++ d ∷ []) (with_thing c t) s'
+  agrees_plain d s' t keeps means made other modules users none no_export no_import =
+      agrees_at d (with_thing c t) s' t refl refl keeps means made other modules users none no_export (a.imports ∙ sym no_import)
 
-  pub step_type : Steps w earlier c s g (defs.Item (items.Type (types.Func plain_function)))
-  step_type =
-      let d : Def = defs.Item (items.Type (types.Func plain_function)) in
+  pub step_type : (t : TypeDef) → IsTypeRight (scope_of earlier) t → Steps w earlier c s g (defs.Item (items.Type t))
+  step_type type h =
+      let d : Def = defs.Item (items.Type type) in
       let t : Thing = record { space = spaces.Type; address = length s.types } in
-      let s' : Store = record s { types = s.types ++ plain_type ∷ [] } in
+      let item : TypeItem = TreeOf (type_tree (scope_of earlier) (DefinedAt 0) type) in
+      let s' : Store = record s { types = s.types ++ item ∷ [] } in
       let k : Keeps c.items (c.items ++ t ∷ []) s s' = record {
         things = λ space i x e. address_at-append c.items (t ∷ []) space i x e;
         code = λ i x e. e;
         known = λ i x e. e;
         instances = λ i x e. e;
         functions = λ i x e. e;
-        types = λ i x e. slice_get-append s.types (plain_type ∷ []) i x e;
+        types = λ i x e. slice_get-append s.types (item ∷ []) i x e;
         users = λ i x e. e;
       } in (
         with_thing c t,
         s',
         g,
-        quiet w d c s g (with_thing c t) s' refl (λ rest now. refl),
-        agrees_plain d s' t k (record { space = refl; is = slice_get-end s.types plain_type }) refl refl refl refl refl refl,
+        quiet w d c s g (with_thing c t) s' refl (λ rest now. rw (type_made (scope_of earlier) type h (machine c s now) (scope_there a)) refl),
+        agrees_plain d s' t k (record { space = refl; is = tt }) ((record { item = item; present = slice_get-end s.types item; denotes = refl }, tt), tt) refl refl refl refl refl refl,
       )
 
-  -- the type of this index is a function type
-  type_there : {index : ℕ} → IsFunctionType earlier index plain_function → (x : ℕ) × (address_at spaces.Type index c.items ≡ Some x) × (slice_get s.types x ≡ Some plain_type)
-  type_there {index} h =
-      let x : (x : ℕ) × (address_at spaces.Type index c.items ≡ Some x) × (n : ℕ) × (slice_get s.types x ≡ Some plain_type) = thing_there a h.made in
-      (x.0, x.1, x.3)
-
-  pub step_import : (name : ExternName) (kind : ℕ) → IsFunctionType earlier kind plain_function → Steps w earlier c s g (defs.Item (items.Import name (descriptions.Func kind)))
+  pub step_import : (name : ExternName) (kind : ℕ) → HasFunctionType earlier kind → Steps w earlier c s g (defs.Item (items.Import name (descriptions.Func kind)))
   step_import name kind h =
       let d : Def = defs.Item (items.Import name (descriptions.Func kind)) in
       let t : Thing = record { space = spaces.Func; address = length s.functions } in
       let c' : Scope = record c { items = c.items ++ t ∷ []; imports = suc c.imports } in
-      let f : Function = Imported (record { number = c.imports; inner = None }) plain_tree in
+      let f : Function = Imported (record { number = c.imports; inner = None }) h.type in
       let s' : Store = record s { functions = s.functions ++ f ∷ [] } in
       let k : Keeps c.items (c.items ++ t ∷ []) s s' = record {
         things = λ space i x e. address_at-append c.items (t ∷ []) space i x e;
@@ -322,63 +350,140 @@ module _ {w : ComponentWorld} {earlier : List Def} {c : Scope} {s : Store} (a : 
         types = λ i x e. e;
         users = λ i x e. e;
       } in
-      let y : (x : ℕ) × (address_at spaces.Type kind c.items ≡ Some x) × (slice_get s.types x ≡ Some plain_type) = type_there h in (
+      let y : IsTypeAt c.items s kind h.type = type_there a h.is in
+      let entry : entry_of f ≡ record { origin = Some (record { number = (inventory earlier).imports; inner = None }); type = get_or (scope_of earlier) kind OfOthers } =
+      ap₂ (λ n tree. record { origin = Some (record { number = n; inner = None }); type = tree }) a.imports (sym h.is.denotes.tree) in (
         c',
         s',
         g,
-        quiet w d c s g c' s' refl (λ rest now. rw (y.1, y.2) refl),
-        agrees_at d c' s' t refl refl k
-            (record { space = refl; is = slice_get-end s.functions f ∙ ap (λ n. Some (Imported (record { number = n; inner = None }) plain_tree)) a.imports })
-            refl refl refl refl refl
-            (ap suc a.imports ∙ sym (add-one (imports_in earlier))),
+        quiet w d c s g c' s' refl (λ rest now. rw (y.at, y.is) refl),
+        agrees_at d c' s' t refl refl k (record { space = refl; is = tt }) (tt, (record { function = f; present = slice_get-end s.functions f; same = entry }, tt)) refl refl refl refl refl (ap suc a.imports),
       )
 
-  pub step_lower : (function : ℕ) → function < items_in spaces.Func earlier → Steps w earlier c s g (defs.Item (items.Lower function []))
-  step_lower function l =
+  -- a type that equals another is that one
+  pub step_import_type : (name : ExternName) (index : ℕ) → index < length (scope_of earlier) → Steps w earlier c s g (defs.Item (items.Import name (descriptions.TypeEqual index)))
+  step_import_type name index l =
+      let d : Def = defs.Item (items.Import name (descriptions.TypeEqual index)) in
+      let x = entry_there a l in
+      let t : Thing = record { space = spaces.Type; address = x.2.address } in
+      let c' : Scope = record c { items = c.items ++ t ∷ []; imports = suc c.imports } in
+      let s' : Store = s in
+      let k : Keeps c.items (c.items ++ t ∷ []) s s' = record {
+        things = λ space i x e. address_at-append c.items (t ∷ []) space i x e;
+        code = λ i x e. e;
+        known = λ i x e. e;
+        instances = λ i x e. e;
+        functions = λ i x e. e;
+        types = λ i x e. e;
+        users = λ i x e. e;
+      } in
+      let at : address_at spaces.Type index c.items ≡ Some x.2.address = ap (option_map (λ (t : Thing). t.address)) x.3 in
+      let entry : get_or (inventory earlier).types index no_type ≡ x.0 = get_or_from_slice_get (inventory earlier).types index x.0 no_type x.1 in (
+        c',
+        s,
+        g,
+        quiet w d c s g c' s refl (λ rest now. rw at refl),
+        agrees_at d c' s t refl refl k (record { space = refl; is = tt })
+            ((record { item = x.4.item; present = x.4.present; denotes = x.4.denotes ∙ ap entry_tree (sym entry) }, tt), tt)
+            refl refl refl refl refl (ap suc a.imports),
+      )
+
+  -- a resource is a new type, known by the number of the import
+  pub step_import_resource : (name : ExternName) → Steps w earlier c s g (defs.Item (items.Import name descriptions.SubResource))
+  step_import_resource name =
+      let d : Def = defs.Item (items.Import name descriptions.SubResource) in
+      let t : Thing = record { space = spaces.Type; address = length s.types } in
+      let c' : Scope = record c { items = c.items ++ t ∷ []; imports = suc c.imports } in
+      let item : TypeItem = ImportedResource (record { number = c.imports; inner = None }) in
+      let s' : Store = record s { types = s.types ++ item ∷ [] } in
+      let k : Keeps c.items (c.items ++ t ∷ []) s s' = record {
+        things = λ space i x e. address_at-append c.items (t ∷ []) space i x e;
+        code = λ i x e. e;
+        known = λ i x e. e;
+        instances = λ i x e. e;
+        functions = λ i x e. e;
+        types = λ i x e. slice_get-append s.types (item ∷ []) i x e;
+        users = λ i x e. e;
+      } in (
+        c',
+        s',
+        g,
+        quiet w d c s g c' s' refl (λ rest now. refl),
+        agrees_at d c' s' t refl refl k (record { space = refl; is = tt })
+            ((record { item = item; present = slice_get-end s.types item; denotes = ap (λ n. OfValues (ResourceAt (ImportedAt (record { number = n; inner = None })))) a.imports }, tt), tt)
+            refl refl refl refl refl (ap suc a.imports),
+      )
+
+  pub step_lower : (function : ℕ) → HasImportedFunction earlier function → Steps w earlier c s g (defs.Item (items.Lower function []))
+  step_lower function h =
       let d : Def = defs.Item (items.Lower function []) in
-      let x : (x : ℕ) × (address_at spaces.Func function c.items ≡ Some x) × IsPlainFunction s x = function_there a function l in
+      let x : (x : ℕ) × (address_at spaces.Func function c.items ≡ Some x) × (slice_get s.functions x ≡ Some (Imported h.origin h.type)) = imported_there a h.is in
       let t : Thing = record { space = spaces.CoreFunc; address = length s.code.functions } in
       let item : CoreItem = Lowering x.0 [] in
-      let s' : Store = with_opaque item plain_core s in
+      let type : FuncType = core_signature h.type [] in
+      let s' : Store = with_opaque item type s in
       let k : Keeps c.items (c.items ++ t ∷ []) s s' = record {
-        things = λ space i y e. address_at-append c.items (t ∷ []) space i y e;
-        code = λ i y e. slice_get-append s.code.functions (Opaque (length s.known) plain_core ∷ []) i y e;
-        known = λ i y e. slice_get-append s.known (item ∷ []) i y e;
-        instances = λ i y e. e;
-        functions = λ i y e. e;
-        types = λ i y e. e;
-        users = λ i y e. e;
+        things = λ space i x e. address_at-append c.items (t ∷ []) space i x e;
+        code = λ i x e. slice_get-append s.code.functions (Opaque (length s.known) type ∷ []) i x e;
+        known = λ i x e. slice_get-append s.known (item ∷ []) i x e;
+        instances = λ i x e. e;
+        functions = λ i x e. e;
+        types = λ i x e. e;
+        users = λ i x e. e;
       } in (
         with_thing c t,
         s',
         g,
-        quiet w d c s g (with_thing c t) s' refl (λ rest now. rw (x.1, plain_lowered (machine c s now) x.0 x.2) refl),
+        quiet w d c s g (with_thing c t) s' refl (λ rest now. rw (x.1, import_lowered (machine c s now) x.0 h.origin h.type x.2) refl),
         agrees_plain d s' t k
-            (record { space = refl; is = record { of = x.0; at = address_at-append c.items (t ∷ []) spaces.Func function x.0 x.1; is = opaque_there item s } })
-            refl refl refl refl refl refl,
+            (record {
+              space = refl;
+              is = record {
+                of = x.0;
+                origin = h.origin;
+                type = h.type;
+                at = address_at-append c.items (t ∷ []) spaces.Func function x.0 x.1;
+                imported = x.2;
+                is = opaque_there item type s;
+              };
+            })
+            (tt, tt) refl refl refl refl refl refl,
       )
 
-  pub step_lift : (core kind : ℕ) → core < items_in spaces.CoreFunc earlier → IsFunctionType earlier kind plain_function → Steps w earlier c s g (defs.Item (items.Lift core [] kind))
+  pub step_lift : (core kind : ℕ) → core < items_in spaces.CoreFunc earlier → HasFunctionType earlier kind → Steps w earlier c s g (defs.Item (items.Lift core [] kind))
   step_lift core kind l h =
       let d : Def = defs.Item (items.Lift core [] kind) in
       let x : (x : ℕ) × (address_at spaces.CoreFunc core c.items ≡ Some x) = address_there a spaces.CoreFunc core l in
-      let y : (x : ℕ) × (address_at spaces.Type kind c.items ≡ Some x) × (slice_get s.types x ≡ Some (plain_type)) = type_there h in
+      let y : IsTypeAt c.items s kind h.type = type_there a h.is in
       let t : Thing = record { space = spaces.Func; address = length s.functions } in
-      let s' : Store = record s { functions = s.functions ++ Lifting x.0 [] plain_tree ∷ [] } in
+      let f : Function = Lifting x.0 [] h.type in
+      let s' : Store = record s { functions = s.functions ++ f ∷ [] } in
       let k : Keeps c.items (c.items ++ t ∷ []) s s' = record {
-        things = λ space i y e. address_at-append c.items (t ∷ []) space i y e;
-        code = λ i y e. e;
-        known = λ i y e. e;
-        instances = λ i y e. e;
-        functions = λ i y e. slice_get-append s.functions (Lifting x.0 [] plain_tree ∷ []) i y e;
-        types = λ i y e. e;
-        users = λ i y e. e;
+        things = λ space i x e. address_at-append c.items (t ∷ []) space i x e;
+        code = λ i x e. e;
+        known = λ i x e. e;
+        instances = λ i x e. e;
+        functions = λ i x e. slice_get-append s.functions (f ∷ []) i x e;
+        types = λ i x e. e;
+        users = λ i x e. e;
       } in (
         with_thing c t,
         s',
         g,
-        quiet w d c s g (with_thing c t) s' refl (λ rest now. rw (x.1, y.1, y.2) refl),
-        agrees_plain d s' t k (record { space = refl; is = record { of = x.0; at = address_at-append c.items (t ∷ []) spaces.CoreFunc core x.0 x.1; is = slice_get-end s.functions (Lifting x.0 [] plain_tree) } }) refl refl refl refl refl refl,
+        quiet w d c s g (with_thing c t) s' refl (λ rest now. rw (x.1, y.at, y.is) refl),
+        agrees_plain d s' t k
+            (record {
+              space = refl;
+              is = record {
+                of = x.0;
+                type = h.type;
+                at = address_at-append c.items (t ∷ []) spaces.CoreFunc core x.0 x.1;
+                typed = record { address = y.address; at = address_at-append c.items (t ∷ []) spaces.Type kind y.address y.at; is = y.is };
+                is = slice_get-end s.functions f;
+              };
+            })
+            (tt, (record { function = f; present = slice_get-end s.functions f; same = ap (λ tree. record { origin = None; type = tree }) (sym h.is.denotes.tree) }, tt))
+            refl refl refl refl refl refl,
       )
 
   pub step_inline_instance : (entries : List CoreInlineExport) → AreEntries earlier entries → Steps w earlier c s g (defs.Item (items.CoreExports entries))
@@ -414,7 +519,7 @@ module _ {w : ComponentWorld} {earlier : List Def} {c : Scope} {s : Store} (a : 
                 each = AllZip-weaker (λ e x n. record { named = n.named; space = n.space; at = address_at-append c.items (t ∷ []) (kind_space e.kind) e.index x.address n.at }) entries found.0 found.2;
               };
             })
-            refl refl refl refl refl refl,
+            (tt, tt) refl refl refl refl refl refl,
       )
 
   pub step_alias : IsWorld w → (instance : ℕ) (name : List ℕ) → AliasesUser w earlier instance name → Steps w earlier c s g (defs.Item (items.Alias (aliases.CoreExport kinds.Func instance name)))
@@ -451,14 +556,16 @@ module _ {w : ComponentWorld} {earlier : List Def} {c : Scope} {s : Store} (a : 
                 is = refl;
               };
             })
-            refl refl refl refl refl refl,
+            (tt, tt) refl refl refl refl refl refl,
       )
 
   pub step_export : IsWorld w → (name : ExternName) (index : ℕ) → ExportsRequired w earlier name index → Steps w earlier c s g (defs.Item (items.Export name sorts.Func index None))
   step_export ok name index h =
       let d : Def = defs.Item (items.Export name sorts.Func index None) in
       let core : (core : List ℕ) × (core_name_of w h.key ≡ Some core) × (Lifted (record { of = Main; name = core }) [] ≡ h.target) = mapped_some (λ core. Lifted (record { of = Main; name = core }) []) (core_name_of w h.key) h.target h.said in
-      let f : (x : ℕ) × (address_at spaces.Func index c.items ≡ Some x) × IsLiftedFrom s x core.0 = lift_there a ok h.key core.0 core.1 (subst (IsItemFor w earlier spaces.Func index) (sym core.2) h.lifted) in
+      let type : FunctionTree = type_of_function w h.wit in
+      let lifting : IsLiftFor w earlier index (Lifted (record { of = Main; name = core.0 }) []) type = subst (λ target. IsLiftFor w earlier index target type) (sym core.2) h.lifted in
+      let f : (x : ℕ) × (address_at spaces.Func index c.items ≡ Some x) × IsLiftedFrom s x core.0 type = lift_there a ok h.key core.0 type core.1 lifting in
       let t : Thing = record { space = spaces.Func; address = f.0 } in
       let x : Export = record { space = spaces.Func; name = name.name; address = f.0 } in
       let c' : Scope = record c { items = c.items ++ t ∷ []; exports = c.exports ++ x ∷ [] } in
@@ -471,19 +578,28 @@ module _ {w : ComponentWorld} {earlier : List Def} {c : Scope} {s : Store} (a : 
         types = λ i y e. e;
         users = λ i y e. e;
       } in
+      let own : (e : FunctionEntry) × IsFunctionEntry s e t × (get_or (inventory earlier).functions index no_function ≡ e) = function_at a index f.0 f.1 in
       let text : name.name ≡ name_of_key h.key = ap (λ (n : ExternName). n.name) h.named in (
         c',
         s,
         g,
         quiet w d c s g c' s refl (λ rest now. rw f.1 refl),
         agrees_with d c' s t refl k
-            (record { space = refl; is = (address_at-append c.items (t ∷ []) spaces.Func index f.0 f.1, record { function = Lifting f.2.core [] plain_tree; present = f.2.is; plain = refl }) })
+            (record { space = refl; is = tt })
+            (tt, (record { function = own.1.function; present = own.1.present; same = own.1.same ∙ sym own.2 }, tt))
             (rw (filter-push (is_of spaces.CoreModule) false c.items t refl) a.modules)
             (sym (append-nil (map (λ (u : ModuleInstance). u.module_number) s.module_instances)))
             (AllByRecursion-weaker (IsPlannedUser-kept w k) s.module_instances a.served)
             (map-append (λ (e : Export). e.name) c.exports (x ∷ []))
-            (AllByRecursion-push (IsLiftedExport w s) c.exports x a.lifted (record { name = core.0; space = refl; role = ap (λ t. core_name_of w (keys.Name t)) text ∙ role_by_name w h.key core.0 core.1; is = f.2 }))
-            (same_count d refl),
+            (AllByRecursion-push (IsLiftedExport w s) c.exports x a.lifted (record {
+              name = core.0;
+              wit = h.wit;
+              space = refl;
+              role = ap (λ t. core_name_of w (keys.Name t)) text ∙ role_by_name w h.key core.0 core.1;
+              exported = ap (λ t. root_function_at (items_of w).exports (keys.Name t)) text ∙ exported_by_name w h.key core.0 h.wit core.1 h.exported;
+              is = f.2;
+            }))
+            a.imports,
       )
 
   pub step_module : (bytes : List ℕ) → Steps w earlier c s g (defs.Item (items.CoreModule bytes))
@@ -504,32 +620,36 @@ module _ {w : ComponentWorld} {earlier : List Def} {c : Scope} {s : Store} (a : 
         s',
         g,
         quiet w d c s g (with_thing c t) s' refl (λ rest now. refl),
-        agrees_with d (with_thing c t) s' t refl k (record { space = refl; is = tt })
+        agrees_with d (with_thing c t) s' t refl k (record { space = refl; is = tt }) (tt, tt)
             (rw (filter-push (is_of spaces.CoreModule) true c.items t refl, length-append s.core_modules (bytes ∷ []), add-one (length s.core_modules)) (consecutive-push 0 (filter (is_of spaces.CoreModule) c.items) (length s.core_modules) t a.modules refl))
             (sym (append-nil (map (λ (u : ModuleInstance). u.module_number) s.module_instances)))
             (AllByRecursion-weaker (IsPlannedUser-kept w k) s.module_instances a.served)
             (sym (append-nil (map (λ (e : Export). e.name) c.exports)))
             (AllByRecursion-weaker (IsLiftedExport-kept w k) c.exports a.lifted)
-            (same_count d refl),
+            a.imports,
       )
 
   pub step_custom : (name contents : List ℕ) → Steps w earlier c s g (defs.Item (items.Custom name contents))
   step_custom name contents =
       let d : Def = defs.Item (items.Custom name contents) in
-      let same : filter makes (numbered 0 (earlier ++ d ∷ [])) ≡ filter makes (numbered 0 earlier) =
-      ap (filter makes) (numbered-push earlier d) ∙ filter-push makes false (numbered 0 earlier) (imports_in earlier, d) refl in (
+      let same : filter makes (earlier ++ d ∷ []) ≡ filter makes earlier = filter-push makes false earlier d refl in
+      let old : Inventory = inventory earlier in (
         c,
         s,
         g,
         quiet w d c s g c s refl (λ rest now. refl),
         record {
-          means = subst (λ ps. AllZip (Means w c.items s) ps c.items) (sym same) a.means;
+          means = subst (λ ds. AllZip (Means w c.items s) ds c.items) (sym same) a.means;
+          types = subst (λ (v : Inventory). AllZip (IsTypeEntry s) v.types (filter (is_of spaces.Type) c.items)) (sym (inventory-push earlier d))
+              (subst (λ es. AllZip (IsTypeEntry s) es (filter (is_of spaces.Type) c.items)) (sym (append-nil old.types)) a.types);
+          functions = subst (λ (v : Inventory). AllZip (IsFunctionEntry s) v.functions (filter (is_of spaces.Func) c.items)) (sym (inventory-push earlier d))
+              (subst (λ es. AllZip (IsFunctionEntry s) es (filter (is_of spaces.Func) c.items)) (sym (append-nil old.functions)) a.functions);
           modules = a.modules;
           instances = a.instances ∙ sym (flat-push (at_root item_instantiates) earlier d ∙ append-nil (flat_map (at_root item_instantiates) earlier));
           served = a.served;
           exports = a.exports ∙ sym (flat-push def_export earlier d ∙ append-nil (flat_map def_export earlier));
           lifted = a.lifted;
-          imports = same_count d refl ∙ sym (imports_in-push earlier d);
+          imports = a.imports ∙ sym (ap (λ (v : Inventory). v.imports) (inventory-push earlier d));
         },
       )
 
@@ -556,12 +676,12 @@ module _ {w : ComponentWorld} {earlier : List Def} {c : Scope} {s : Store} (a : 
       let each : AllZip (IsArgumentFor w Main earlier) arguments roles = subst (λ (o : WorldModule). AllZip (IsArgumentFor w o.of earlier) arguments o.found.imports.modules) (sym of_main.1) h.each in
       let args : (ys : List (List ℕ × List Export)) × (all_some (map (core_argument m0) arguments) ≡ Some ys) × AllZip (IsOffered w s) ys roles =
       arguments_there a m0 refl refl arguments roles ok.main.import_roles each in
-      let plain : AllByRecursion (IsPlainImport roles) is = imports_plain w ok in
+      let plain : AllByRecursion (IsFunctionImport w) is = function_imports w ok in
       let found : (ts : List Thing) × (all_some (map (given_to (machine c s no_answers) args.0) is) ≡ Some ts) × AllZip (IsPlanned w s) ts is =
       all_some-each (IsPlanned w s) (given_to (machine c s no_answers) args.0) is
       (AllByRecursion-weaker (given_there w (machine c s no_answers) args.0 args.2) is plain) in
       let given : (now : Now) → all_some (map (given_to (machine c s now) args.0) is) ≡ Some found.0 = λ now.
-      ap (λ l. all_some l) (given_same c s now args.0 roles is plain) ∙ found.1 in
+      ap (λ l. all_some l) (given_same w c s now args.0 is plain) ∙ found.1 in
       let instance : ModuleInstance = record { module_number = 0; given = found.0; exports = own } in
       let t : Thing = record { space = spaces.CoreInstance; address = length m1.store.core_instances } in
       let s' : Store = record m1.store { core_instances = m1.store.core_instances ++ own ∷ []; module_instances = m1.store.module_instances ++ instance ∷ [] } in
@@ -618,11 +738,12 @@ module _ {w : ComponentWorld} {earlier : List Def} {c : Scope} {s : Store} (a : 
                 each = AllZip-weaker (export_beside m1.store s'.core_instances s'.module_instances user) own es (each_export user es m0);
               };
             })
+            (tt, tt)
             (subst (λ (l : List (List ℕ)). NumberedFrom 0 (filter (is_of spaces.CoreModule) (c.items ++ t ∷ [])) (length l)) (sym more.core_modules) (rw (filter-push (is_of spaces.CoreModule) false c.items t refl) a.modules))
             (map-append (λ (u : ModuleInstance). u.module_number) m1.store.module_instances (instance ∷ []) ∙ ap (λ (l : List ModuleInstance). map (λ (u : ModuleInstance). u.module_number) l ++ 0 ∷ []) more.module_instances)
             planned
             (sym (append-nil (map (λ (e : Export). e.name) c.exports)))
             (AllByRecursion-weaker (IsLiftedExport-kept w k) c.exports a.lifted)
-            (same_count d refl),
+            a.imports,
       ) in
       subst (λ n. Steps w earlier c s g (defs.Item (items.CoreInstantiate n arguments))) (sym of_main.0) steps

@@ -1,5 +1,5 @@
 -- What the items of a run are, next to the definitions that made them.
-use Rattle.std.proofs.Common.{None, ◌≡◌, ℕ, suc, Bool, false, cond, List, [], ◌∷◌, ◌++◌, length, map, filter, ap, Some, is_some}
+use Rattle.std.proofs.Common.{None, ◌≡◌, ℕ, suc, Bool, List, [], ◌∷◌, ◌++◌, length, map, filter, ap, Some, is_some}
 use Rattle.std.proofs.lemmas.List.Elements.{filter-append}
 use Rattle.std.specs.List.{slice_get, flat_map, AllZip, AllByRecursion}
 use Rattle.comp_lists.proofs.Lists.{slice_get-append, AllZip-weaker}
@@ -7,9 +7,7 @@ use Rattle.comp_bytes.specs.Spaces.{kind_space, space_of}
 use Rattle.comp_bytes.specs.declared.space.Space.{Space}
 use Rattle.comp_bytes.specs.declared.space.Space.TheVariants as spaces
 use Rattle.standard_kinds.specs.declared.kinds.ExportKind.TheVariants as kinds
-use Rattle.comp_bytes.specs.declared.space.Sort.TheVariants as sorts
 use Rattle.comp_bytes.specs.declared.types.Alias.TheVariants as aliases
-use Rattle.comp_bytes.specs.declared.types.Description.TheVariants as descriptions
 use Rattle.comp_bytes.specs.declared.def.CoreInlineExport.{CoreInlineExport}
 use Rattle.comp_bytes.specs.declared.def.Item.{Item}
 use Rattle.comp_bytes.specs.declared.def.Item.TheVariants as items
@@ -17,47 +15,36 @@ use Rattle.comp_bytes.specs.declared.def.Def.{Def}
 use Rattle.comp_bytes.specs.declared.def.Def.TheVariants as defs
 use Rattle.comp_bytes.specs.ScopeNames.{def_export}
 use Rattle.core_types.specs.declared.types.FuncType.{FuncType}
-use Rattle.comp_trees.specs.Trees.{FunctionTree}
+use Rattle.comp_trees.specs.Trees.{Origin, FunctionTree}
 use Rattle.comp_trees.specs.DefinedTrees.{OfFunctions}
-use Rattle.comp_roles.specs.CoreTypes.{function_type}
+use Rattle.comp_trees.specs.Inventories.{TypeEntry, FunctionEntry, entry_tree, inventory}
 use Rattle.comp_roles.specs.declared.offered.ExternType.{ExternType}
 use Rattle.comp_roles.specs.declared.offered.ExternType.TheVariants as externs
 use Rattle.comp_roles.specs.declared.offered.ImportType.{ImportType}
+use Rattle.wit_data.specs.declared.functions.Function.{Function as WitFunction}
 use Rattle.wit_data.specs.declared.worlds.WorldKey.TheVariants as keys
-use Rattle.comp_worlds.specs.Worlds.{core_name_of}
+use Rattle.world_values.specs.Items.{root_function_at}
+use Rattle.comp_worlds.specs.Worlds.{items_of, core_name_of}
 use Rattle.comp_worlds.specs.declared.world.ComponentWorld.{ComponentWorld}
-use Rattle.comp_links.specs.Targets.{Main, Target, Lowered}
+use Rattle.comp_links.specs.Targets.{Main, WorldFunction, Target, Lowered}
 use Rattle.comp_links.specs.Modules.{WorldModule}
 use Rattle.comp_links.specs.Lists.{IsOriginOf}
 use Rattle.comp_links.specs.Links.{link_at}
-use Rattle.comp_terms.specs.Terms.{is_import, imports_in}
+use Rattle.comp_terms.specs.Terms.{imports_in}
+use Rattle.comp_terms.specs.Planned.{IsTypeOf, type_of_function}
 use Rattle.core_runs.specs.Store.{Func, Opaque}
-use Rattle.comp_runs.specs.Store.{Thing, Export, Origin, CoreItem, Lowering, ExportedBy, Function, Imported, Lifting, TypeItem, TreeOf, ModuleInstance, Store}
+use Rattle.comp_runs.specs.Store.{Thing, Export, CoreItem, Lowering, ExportedBy, Function, Imported, Lifting, TypeItem, TreeOf, item_tree, ModuleInstance, Store}
 use Rattle.comp_runs.specs.Instances.{type_space}
 use Rattle.comp_runs.specs.Machine.{Scope, address_at, is_of, export_named}
-use Rattle.comp_runs.specs.Running.{type_of_function}
+use Rattle.comp_runs.specs.Signatures.{core_signature}
 use Rattle.link_laws.specs.Composition.{at_root, item_instantiates}
 use Rattle.link_laws.proofs.Zips.{mapped_some}
-
--- the type of plain functions, and their core type
-abbrev pub plain_tree : FunctionTree
-plain_tree = record { is_async = false; params = []; result = None }
-
-abbrev pub plain_core : FuncType
-plain_core = function_type [] []
-
-abbrev pub plain_type : TypeItem
-plain_type = TreeOf (OfFunctions plain_tree)
 
 -- the core function at this address is opaque, of this core type, and is this item
 pub record IsOpaqueOf (s : Store) (address : ℕ) (type : FuncType) (item : CoreItem) : Type 0 where
   pub what : ℕ
   pub present : slice_get s.code.functions address ≡ Some (Opaque what type)
   pub known : slice_get s.known what ≡ Some item
-
--- the same, of the plain core type
-abbrev pub IsOpaque : Store → ℕ → CoreItem → Type 0
-IsOpaque s address item = IsOpaqueOf s address plain_core item
 
 -- what is at the address of an export of this user instance: a function is opaque
 abbrev pub IsUserItem : Store → ℕ → Export → ExternType → Type 0
@@ -95,15 +82,28 @@ pub record IsInlineInstance (things : List Thing) (s : Store) (entries : List Co
   pub present : slice_get s.core_instances address ≡ Some exports
   pub each : AllZip (IsNamedEntry things) entries exports
 
+-- a lowering of the import at this index, of the core type of its type
 pub record IsLoweredItem (things : List Thing) (s : Store) (function address : ℕ) : Type 0 where
   pub of : ℕ
+  pub origin : Origin
+  pub type : FunctionTree
   pub at : address_at spaces.Func function things ≡ Some of
-  pub is : IsOpaque s address (Lowering of [])
+  pub imported : slice_get s.functions of ≡ Some (Imported origin type)
+  pub is : IsOpaqueOf s address (core_signature type []) (Lowering of [])
 
-pub record IsLiftedItem (things : List Thing) (s : Store) (core address : ℕ) : Type 0 where
+-- the type at this index is this type of functions
+pub record IsTypeAt (things : List Thing) (s : Store) (kind : ℕ) (type : FunctionTree) : Type 0 where
+  pub address : ℕ
+  pub at : address_at spaces.Type kind things ≡ Some address
+  pub is : slice_get s.types address ≡ Some (TreeOf (OfFunctions type))
+
+-- a lift of the core function at this index, of the type at this index
+pub record IsLiftedItem (things : List Thing) (s : Store) (core kind address : ℕ) : Type 0 where
   pub of : ℕ
+  pub type : FunctionTree
   pub at : address_at spaces.CoreFunc core things ≡ Some of
-  pub is : slice_get s.functions address ≡ Some (Lifting of [] plain_tree)
+  pub typed : IsTypeAt things s kind type
+  pub is : slice_get s.functions address ≡ Some (Lifting of [] type)
 
 pub record IsAliasedItem (things : List Thing) (s : Store) (instance : ℕ) (name : List ℕ) (address : ℕ) : Type 0 where
   pub from : ℕ
@@ -114,56 +114,61 @@ pub record IsAliasedItem (things : List Thing) (s : Store) (instance : ℕ) (nam
   pub found : export_named name exports ≡ Some export
   pub is : export.address ≡ address
 
--- the function at this address is a plain one
-pub record IsPlainFunction (s : Store) (address : ℕ) : Type 0 where
-  pub function : Function
-  pub present : slice_get s.functions address ≡ Some function
-  pub plain : type_of_function function ≡ plain_tree
+-- What is at the address of a definition's item. What types and functions are, the inventory of the list says.
+abbrev pub ItemIs : ComponentWorld → List Thing → Store → Item → ℕ → Type 0
+ItemIs w things s (items.CoreInstantiate number arguments) a = IsUserInstance w s number a
+ItemIs w things s (items.CoreExports entries) a = IsInlineInstance things s entries a
+ItemIs w things s (items.Alias (aliases.CoreExport kinds.Func instance name)) a = IsAliasedItem things s instance name a
+ItemIs w things s (items.Lift core options kind) a = IsLiftedItem things s core kind a
+ItemIs w things s (items.Lower function options) a = IsLoweredItem things s function a
+ItemIs w things s _ a = Unit {0}
 
--- what is at the address of a definition's item, where this many imports are before the definition
-abbrev pub ItemIs : ComponentWorld → List Thing → Store → ℕ → Item → ℕ → Type 0
-ItemIs w things s n (items.CoreModule bytes) a = Unit {0}
-ItemIs w things s n (items.CoreInstantiate number arguments) a = IsUserInstance w s number a
-ItemIs w things s n (items.CoreExports entries) a = IsInlineInstance things s entries a
-ItemIs w things s n (items.Alias (aliases.CoreExport kinds.Func instance name)) a = IsAliasedItem things s instance name a
-ItemIs w things s n (items.Type t) a = slice_get s.types a ≡ Some plain_type
-ItemIs w things s n (items.Lift core options kind) a = IsLiftedItem things s core a
-ItemIs w things s n (items.Lower function options) a = IsLoweredItem things s function a
-ItemIs w things s n (items.Import name (descriptions.Func kind)) a = slice_get s.functions a ≡ Some (Imported (record { number = n; inner = None }) plain_tree)
-ItemIs w things s n (items.Export name sorts.Func index description) a = (address_at spaces.Func index things ≡ Some a) × IsPlainFunction s a
-ItemIs w things s n _ a = ⊥
-
-abbrev pub DefIs : ComponentWorld → List Thing → Store → ℕ → Def → ℕ → Type 0
-DefIs w things s n (defs.Item i) a = ItemIs w things s n i a
-DefIs w things s n (defs.Component inner) a = ⊥
-
--- a definition, with the number of imports before it
-abbrev pub Numbered : Type 0
-Numbered = ℕ × Def
+abbrev pub DefIs : ComponentWorld → List Thing → Store → Def → ℕ → Type 0
+DefIs w things s (defs.Item i) a = ItemIs w things s i a
+DefIs w things s (defs.Component inner) a = Unit {0}
 
 -- the item of a definition
-pub record Means (w : ComponentWorld) (things : List Thing) (s : Store) (p : Numbered) (t : Thing) : Type 0 where
-  pub space : space_of p.1 ≡ Some t.space
-  pub is : DefIs w things s p.0 p.1 t.address
+pub record Means (w : ComponentWorld) (things : List Thing) (s : Store) (d : Def) (t : Thing) : Type 0 where
+  pub space : space_of d ≡ Some t.space
+  pub is : DefIs w things s d t.address
 
 -- whether a definition makes an item
-abbrev pub makes : Numbered → Bool
-makes p = is_some (space_of p.1)
+abbrev pub makes : Def → Bool
+makes d = is_some (space_of d)
 
--- these definitions, each with the number of imports before it
-abbrev pub numbered : ℕ → List Def → List Numbered
-numbered n [] = []
-numbered n (d ∷ ds) = (n, d) ∷ numbered (cond (is_import d) (suc n) n) ds
+-- the type denotes what the entry of the inventory does
+pub record IsTypeEntry (s : Store) (e : TypeEntry) (t : Thing) : Type 0 where
+  pub item : TypeItem
+  pub present : slice_get s.types t.address ≡ Some item
+  pub denotes : item_tree t.address item ≡ entry_tree e
 
--- the core function is a lowering of the import of this origin
-pub record IsLoweringOf (s : Store) (address : ℕ) (origin : Origin) : Type 0 where
+-- the function is what the entry of the inventory says
+abbrev pub entry_of : Function → FunctionEntry
+entry_of (Imported origin type) = record { origin = Some origin; type = OfFunctions type }
+entry_of (Lifting core options type) = record { origin = None; type = OfFunctions type }
+
+pub record IsFunctionEntry (s : Store) (e : FunctionEntry) (t : Thing) : Type 0 where
+  pub function : Function
+  pub present : slice_get s.functions t.address ≡ Some function
+  pub same : entry_of function ≡ e
+
+-- the core function is a lowering of the import of this origin, which has this type
+pub record IsLoweringOf (s : Store) (address : ℕ) (origin : Origin) (type : FunctionTree) : Type 0 where
   pub of : ℕ
-  pub is : IsOpaque s address (Lowering of [])
-  pub imported : slice_get s.functions of ≡ Some (Imported origin plain_tree)
+  pub is : IsOpaqueOf s address (core_signature type []) (Lowering of [])
+  pub imported : slice_get s.functions of ≡ Some (Imported origin type)
+
+-- the core function is a lowering of this function of the world
+pub record IsLoweredFor (w : ComponentWorld) (s : Store) (address : ℕ) (function : WorldFunction) : Type 0 where
+  pub origin : Origin
+  pub type : FunctionTree
+  pub from : IsOriginOf w function origin
+  pub typed : IsTypeOf w function type
+  pub lowered : IsLoweringOf s address origin type
 
 -- the core function is what the target names
 abbrev pub IsServedAs : ComponentWorld → Store → ℕ → Target → Type 0
-IsServedAs w s address (Lowered function []) = (origin : Origin) × IsOriginOf w function origin × IsLoweringOf s address origin
+IsServedAs w s address (Lowered function []) = IsLoweredFor w s address function
 IsServedAs w s address target = ⊥
 
 -- main, as a user module
@@ -183,21 +188,24 @@ IsPlannedUser w s u = AllZip (IsPlanned w s) u.given w.main.imported
 -- the core function is main's export of this name
 pub record IsMainExport (s : Store) (address : ℕ) (name : List ℕ) : Type 0 where
   pub user : ℕ
-  pub is : IsOpaque s address (ExportedBy user name)
+  pub type : FuncType
+  pub is : IsOpaqueOf s address type (ExportedBy user name)
   pub of : IsInstance s user 0
 
--- the function is lifted from main's export of this name
-pub record IsLiftedFrom (s : Store) (address : ℕ) (name : List ℕ) : Type 0 where
+-- the function is lifted from main's export of this name, with this type
+pub record IsLiftedFrom (s : Store) (address : ℕ) (name : List ℕ) (type : FunctionTree) : Type 0 where
   pub core : ℕ
-  pub is : slice_get s.functions address ≡ Some (Lifting core [] plain_tree)
+  pub is : slice_get s.functions address ≡ Some (Lifting core [] type)
   pub of : IsMainExport s core name
 
--- the export is a lift of the core export that has its role
+-- the export is a lift of the core export that has its role, with the type of the world's function
 pub record IsLiftedExport (w : ComponentWorld) (s : Store) (e : Export) : Type 0 where
   pub name : List ℕ
+  pub wit : WitFunction
   pub space : e.space ≡ spaces.Func
   pub role : core_name_of w (keys.Name e.name) ≡ Some name
-  pub is : IsLiftedFrom s e.address name
+  pub exported : root_function_at (items_of w).exports (keys.Name e.name) ≡ Some wit
+  pub is : IsLiftedFrom s e.address name (type_of_function w wit)
 
 -- the items of this kind have consecutive addresses from this number on
 abbrev pub NumberedFrom : ℕ → List Thing → ℕ → Type 0
@@ -206,7 +214,9 @@ NumberedFrom k (t ∷ ts) n = (t.address ≡ k) × NumberedFrom (suc k) ts n
 
 -- the scope and the store are what these definitions make
 pub record Agrees (w : ComponentWorld) (earlier : List Def) (c : Scope) (s : Store) : Type 0 where
-  pub means : AllZip (Means w c.items s) (filter makes (numbered 0 earlier)) c.items
+  pub means : AllZip (Means w c.items s) (filter makes earlier) c.items
+  pub types : AllZip (IsTypeEntry s) (inventory earlier).types (filter (is_of spaces.Type) c.items)
+  pub functions : AllZip (IsFunctionEntry s) (inventory earlier).functions (filter (is_of spaces.Func) c.items)
   pub modules : NumberedFrom 0 (filter (is_of spaces.CoreModule) c.items) (length s.core_modules)
   pub instances : map (λ (u : ModuleInstance). u.module_number) s.module_instances ≡ flat_map (at_root item_instantiates) earlier
   pub served : AllByRecursion (IsPlannedUser w s) s.module_instances
@@ -238,8 +248,14 @@ module _ {a b : List Thing} {s t : Store} (k : Keeps a b s t) where
   IsOpaque-kept {address} {type} {item} h =
       record { what = h.what; present = k.code address (Opaque h.what type) h.present; known = k.known h.what item h.known }
 
-  IsPlainFunction-kept : (address : ℕ) → IsPlainFunction s address → IsPlainFunction t address
-  IsPlainFunction-kept address h = record { function = h.function; present = k.functions address h.function h.present; plain = h.plain }
+  pub IsTypeEntry-kept : (e : TypeEntry) (x : Thing) → IsTypeEntry s e x → IsTypeEntry t e x
+  IsTypeEntry-kept e x h = record { item = h.item; present = k.types x.address h.item h.present; denotes = h.denotes }
+
+  pub IsFunctionEntry-kept : (e : FunctionEntry) (x : Thing) → IsFunctionEntry s e x → IsFunctionEntry t e x
+  IsFunctionEntry-kept e x h = record { function = h.function; present = k.functions x.address h.function h.present; same = h.same }
+
+  IsTypeAt-kept : (kind : ℕ) (type : FunctionTree) → IsTypeAt a s kind type → IsTypeAt b t kind type
+  IsTypeAt-kept kind type h = record { address = h.address; at = k.things spaces.Type kind h.address h.at; is = k.types h.address (TreeOf (OfFunctions type)) h.is }
 
   item_of_user-kept : (user : ℕ) (e : Export) (type : ExternType) → IsUserItem s user e type → IsUserItem t user e type
   item_of_user-kept user e (externs.Func type) h = IsOpaque-kept h
@@ -251,16 +267,19 @@ module _ {a b : List Thing} {s t : Store} (k : Keeps a b s t) where
   entry-kept : (e : CoreInlineExport) (x : Export) → IsNamedEntry a e x → IsNamedEntry b e x
   entry-kept e x h = record { named = h.named; space = h.space; at = k.things (kind_space e.kind) e.index x.address h.at }
 
+  IsLoweringOf-kept : (address : ℕ) (origin : Origin) (type : FunctionTree) → IsLoweringOf s address origin type → IsLoweringOf t address origin type
+  IsLoweringOf-kept address origin type h = record { of = h.of; is = IsOpaque-kept h.is; imported = k.functions h.of (Imported origin type) h.imported }
+
   IsServedAs-kept : (w : ComponentWorld) (address : ℕ) (target : Target) → IsServedAs w s address target → IsServedAs w t address target
   IsServedAs-kept w address (Lowered function []) h =
-      (h.0, h.1, record { of = h.2.of; is = IsOpaque-kept h.2.is; imported = k.functions h.2.of (Imported h.0 plain_tree) h.2.imported })
+      record { origin = h.origin; type = h.type; from = h.from; typed = h.typed; lowered = IsLoweringOf-kept address h.origin h.type h.lowered }
   IsServedAs-kept w address target h = absurd h
 
   pub IsPlanned-kept : (w : ComponentWorld) (x : Thing) (i : ImportType) → IsPlanned w s x i → IsPlanned w t x i
   IsPlanned-kept w x i h = record { target = h.target; said = h.said; space = h.space; serves = IsServedAs-kept w x.address h.target h.serves }
 
   pub IsMainExport-kept : {address : ℕ} {name : List ℕ} → IsMainExport s address name → IsMainExport t address name
-  IsMainExport-kept {address} {name} h = record { user = h.user; is = IsOpaque-kept h.is; of = IsInstance-kept h.of }
+  IsMainExport-kept {address} {name} h = record { user = h.user; type = h.type; is = IsOpaque-kept h.is; of = IsInstance-kept h.of }
 
 module _ (w : ComponentWorld) {a b : List Thing} {s t : Store} (k : Keeps a b s t) where
   instance-kept : (number address : ℕ) → IsUserInstance w s number address → IsUserInstance w t number address
@@ -272,11 +291,10 @@ module _ (w : ComponentWorld) {a b : List Thing} {s t : Store} (k : Keeps a b s 
     each = AllZip-weaker (exports-kept k h.user) h.exports w.main.offered h.each;
   }
 
-  item-kept : (n : ℕ) (i : Item) (x : ℕ) → ItemIs w a s n i x → ItemIs w b t n i x
-  item-kept n (items.CoreModule bytes) x h = tt
-  item-kept n (items.CoreInstantiate number arguments) x h = instance-kept number x h
-  item-kept n (items.CoreExports entries) x h = record { exports = h.exports; present = k.instances x h.exports h.present; each = AllZip-weaker (entry-kept k) entries h.exports h.each }
-  item-kept n (items.Alias (aliases.CoreExport kinds.Func instance name)) x h = record {
+  item-kept : (i : Item) (x : ℕ) → ItemIs w a s i x → ItemIs w b t i x
+  item-kept (items.CoreInstantiate number arguments) x h = instance-kept number x h
+  item-kept (items.CoreExports entries) x h = record { exports = h.exports; present = k.instances x h.exports h.present; each = AllZip-weaker (entry-kept k) entries h.exports h.each }
+  item-kept (items.Alias (aliases.CoreExport kinds.Func instance name)) x h = record {
     from = h.from;
     exports = h.exports;
     export = h.export;
@@ -285,19 +303,29 @@ module _ (w : ComponentWorld) {a b : List Thing} {s t : Store} (k : Keeps a b s 
     found = h.found;
     is = h.is;
   }
-  item-kept n (items.Type type) x h = k.types x plain_type h
-  item-kept n (items.Lift core options kind) x h = record { of = h.of; at = k.things spaces.CoreFunc core h.of h.at; is = k.functions x (Lifting h.of [] plain_tree) h.is }
-  item-kept n (items.Lower function options) x h = record { of = h.of; at = k.things spaces.Func function h.of h.at; is = IsOpaque-kept k h.is }
-  item-kept n (items.Import name (descriptions.Func kind)) x h = k.functions x (Imported (record { number = n; inner = None }) plain_tree) h
-  item-kept n (items.Export name sorts.Func index description) x h = (k.things spaces.Func index x h.0, IsPlainFunction-kept k x h.1)
-  item-kept n _ x h = h
+  item-kept (items.Lift core options kind) x h = record {
+    of = h.of;
+    type = h.type;
+    at = k.things spaces.CoreFunc core h.of h.at;
+    typed = IsTypeAt-kept k kind h.type h.typed;
+    is = k.functions x (Lifting h.of [] h.type) h.is;
+  }
+  item-kept (items.Lower function options) x h = record {
+    of = h.of;
+    origin = h.origin;
+    type = h.type;
+    at = k.things spaces.Func function h.of h.at;
+    imported = k.functions h.of (Imported h.origin h.type) h.imported;
+    is = IsOpaque-kept k h.is;
+  }
+  item-kept _ x h = tt
 
-  def-kept : (n : ℕ) (d : Def) (x : ℕ) → DefIs w a s n d x → DefIs w b t n d x
-  def-kept n (defs.Item i) x h = item-kept n i x h
-  def-kept n (defs.Component inner) x h = h
+  def-kept : (d : Def) (x : ℕ) → DefIs w a s d x → DefIs w b t d x
+  def-kept (defs.Item i) x h = item-kept i x h
+  def-kept (defs.Component inner) x h = tt
 
-  pub Means-kept : (p : Numbered) (x : Thing) → Means w a s p x → Means w b t p x
-  Means-kept p x h = record { space = h.space; is = def-kept p.0 p.1 x.address h.is }
+  pub Means-kept : (d : Def) (x : Thing) → Means w a s d x → Means w b t d x
+  Means-kept d x h = record { space = h.space; is = def-kept d x.address h.is }
 
   pub IsPlannedUser-kept : (u : ModuleInstance) → IsPlannedUser w s u → IsPlannedUser w t u
   IsPlannedUser-kept u h = AllZip-weaker (IsPlanned-kept k w) u.given w.main.imported h
@@ -305,7 +333,9 @@ module _ (w : ComponentWorld) {a b : List Thing} {s t : Store} (k : Keeps a b s 
   pub IsLiftedExport-kept : (e : Export) → IsLiftedExport w s e → IsLiftedExport w t e
   IsLiftedExport-kept e h = record {
     name = h.name;
+    wit = h.wit;
     space = h.space;
     role = h.role;
-    is = record { core = h.is.core; is = k.functions e.address (Lifting h.is.core [] plain_tree) h.is.is; of = IsMainExport-kept k h.is.of };
+    exported = h.exported;
+    is = record { core = h.is.core; is = k.functions e.address (Lifting h.is.core [] (type_of_function w h.wit)) h.is.is; of = IsMainExport-kept k h.is.of };
   }

@@ -1,5 +1,5 @@
 -- Worked examples: worlds, lists of definitions, and how running them ends.
-use Rattle.std.proofs.Common.{◌≡◌, ℕ, zero, suc, List, [], ◌∷◌, refl, true, false, Option, Some, None, map, take, drop, arith}
+use Rattle.std.proofs.Common.{◌≡◌, ℕ, zero, suc, List, [], ◌∷◌, refl, true, false, Option, Some, None, map, take, arith}
 use Rattle.std.specs.Option.{option_map}
 use Rattle.std.specs.List.{slice_get, flat_map}
 use Rattle.std.specs.Str.{bytes_eq}
@@ -35,30 +35,40 @@ use Rattle.comp_roles.specs.declared.imports.ImportInstance.TheVariants as insta
 use Rattle.comp_roles.specs.declared.exports.Export.{Export as WorldExport}
 use Rattle.comp_roles.specs.declared.exports.Export.TheVariants as exports
 use Rattle.comp_worlds.specs.declared.world.ComponentWorld.{ComponentWorld}
+use Rattle.core_types.specs.declared.types.FuncType.{FuncType}
 use Rattle.core_types.specs.declared.types.ValType.TheVariants.{I32, I64}
 use Rattle.core_types.specs.declared.types.RefType.TheVariants.{FuncRef}
 use Rattle.core_types.specs.declared.types.MemoryType.{MemoryType}
 use Rattle.comp_roles.specs.declared.offered.ExternType.{ExternType}
 use Rattle.comp_roles.specs.declared.offered.ExternType.TheVariants as externs
 use Rattle.comp_roles.specs.declared.offered.ImportType.{ImportType}
+use Rattle.comp_trees.specs.Inventories.{inventory}
 use Rattle.comp_roles.specs.CoreTypes.{function_type}
 use Rattle.core_runs.specs.Values.{I32Value}
 use Rattle.core_runs.specs.Store.{Store as CodeStore, Func, Opaque, Cell, Foreign, Answer, Gives, Traps, Event, Instantiated, Called}
 use Rattle.core_runs.specs.Execution.{exec, acts}
-use Rattle.comp_runs.specs.Store.{Thing, Export, Origin, CoreItem, Lowering, IntrinsicOf, ExportedBy, Function, Imported, Lifting, ModuleInstance}
+use Rattle.comp_trees.specs.Trees.{Origin, FunctionTree}
+use Rattle.comp_runs.specs.Store.{Thing, Export, CoreItem, Lowering, IntrinsicOf, ExportedBy, Function, Imported, Lifting, ModuleInstance}
 use Rattle.comp_bytes.specs.ItemIndices.{in_space}
-use Rattle.comp_terms.specs.Terms.{IsFunctionType, IsLowering, IsInstanceOf}
+use Rattle.comp_terms.specs.Terms.{IsFunctionType, IsImportedFunction, IsLowering, IsInstanceOf}
 use Rattle.comp_terms.specs.Terms as terms
-use Rattle.comp_terms.specs.Planned.{IsItemFor, IsArgumentFor}
-use Rattle.comp_links.specs.Targets.{Main, Lifted as LiftedFrom}
+use Rattle.comp_terms.specs.Planned.{IsTypeOf, IsLiftFor, IsArgumentFor}
+use Rattle.comp_links.specs.Targets.{Main, OfRoot, Lifted as LiftedFrom}
 use Rattle.std.specs.List.{IsDistinct}
-use Rattle.comp_terms.specs.Rules.{plain_function, IsBuilt}
+use Rattle.comp_terms.specs.Rules.{IsBuilt}
 use Rattle.comp_runs.specs.Machine.{Machine, Outcome, Done, Trapped, Open, Stuck, new_core_function, resumed}
 use Rattle.comp_runs.specs.Instances.{ExportTypes, new_user}
 use Rattle.link_laws.specs.Linking.{outcome}
-use Rattle.link_laws.proofs.Stores.{plain_tree, plain_core, main_module}
+use Rattle.link_laws.proofs.Stores.{main_module}
 use Rattle.link_laws.proofs.Steps.{no_modules}
 use Rattle.comp_runs.specs.Running.{fresh_machine}
+
+-- the type of a function with no parameter and no result, and its core type
+abbrev pub plain_tree : FunctionTree
+plain_tree = record { is_async = false; params = []; result = None }
+
+abbrev pub plain_core : FuncType
+plain_core = function_type [] []
 
 -- a world of root functions: those that it imports and exports, what main imports, and what main exports
 abbrev entry : List ℕ → WorldKey × WorldItem
@@ -334,20 +344,37 @@ crossed_ends = refl
 abbrev ds : ℕ → List Def
 ds n = take n one_import_one_export
 
-function_typed : IsFunctionType (ds 1) 0 plain_function
-function_typed = record { made = record { made = refl } }
+function_typed : IsFunctionType (ds 1) 0 plain_tree
+unfolding inventory
+function_typed = record { denotes = record { within = omega arith; tree = refl } }
 
-function_typed_later : IsFunctionType (ds 7) 0 plain_function
-function_typed_later = record { made = record { made = refl } }
+function_typed_later : IsFunctionType (ds 7) 0 plain_tree
+unfolding inventory
+function_typed_later = record { denotes = record { within = omega arith; tree = refl } }
 
-f_lowered : IsLowering (ds 5) 0 (root_import 0) []
+function_typed_at_end : IsFunctionType (ds 8) 0 plain_tree
+unfolding inventory
+function_typed_at_end = record { denotes = record { within = omega arith; tree = refl } }
+
+f_imported : IsImportedFunction (ds 3) 0 (root_import 0) plain_tree
+unfolding inventory
+f_imported = record { is = refl }
+
+f_imported_later : IsImportedFunction (ds 5) 0 (root_import 0) plain_tree
+unfolding inventory
+f_imported_later = record { is = refl }
+
+f_lowered : IsLowering (ds 5) 0 (root_import 0) plain_tree []
 f_lowered = record {
   function = 0;
   written = [];
   made = record { made = refl };
-  of = record { name = plain f; kind = 0; before = ds 1; made = record { after = drop 2 (ds 5); split = refl; at = refl }; numbered = refl };
+  of = f_imported_later;
   with_options = tt;
 }
+
+f_typed : IsTypeOf one_each (OfRoot f) plain_tree
+f_typed = record { wit = record { name = f; kind = Freestanding; params = []; result = None }; imported = refl; typed = refl }
 
 f_offered : IsArgumentFor one_each Main (ds 5) (record { name = root; instance = 0 }) (group (root, (f, f) ∷ []))
 f_offered = record {
@@ -355,16 +382,17 @@ f_offered = record {
   serves = record {
     entries = record { name = f; kind = kinds.Func; index = 0 } ∷ [];
     made = record { made = refl };
-    each = (record { named = refl; serves = record { term = terms.Lowering (root_import 0) []; is = f_lowered; asked = ((refl, refl), tt) }; encoded = refl }, tt);
+    each = (record { named = refl; serves = record { term = terms.Lowering (root_import 0) plain_tree []; is = f_lowered; asked = ((refl, refl), f_typed, tt) }; encoded = refl }, tt);
   };
 }
 
 main_made : (n : ℕ) → slice_get (in_space spaces.CoreInstance (ds n)) 1 ≡ Some (defs.Item (items.CoreInstantiate 0 (record { name = root; instance = 0 } ∷ []))) → IsInstanceOf (ds n) 1 0
 main_made n at = record { arguments = record { name = root; instance = 0 } ∷ []; made = record { made = at } }
 
-g_lifted : IsItemFor one_each (ds 8) spaces.Func 1 (LiftedFrom (record { of = Main; name = g }) [])
+g_lifted : IsLiftFor one_each (ds 8) 1 (LiftedFrom (record { of = Main; name = g }) []) plain_tree
 g_lifted = record {
-  term = terms.Lifting (record { of = 0; kind = kinds.Func; name = g }) [] plain_function;
+  entry = record { of = 0; kind = kinds.Func; name = g };
+  options = [];
   is = record {
     core = 1;
     kind = 0;
@@ -373,7 +401,7 @@ g_lifted = record {
     of = record { instance = 1; made = record { made = refl }; of = main_made 8 refl };
     function = refl;
     with_options = tt;
-    typed = record { made = record { made = refl } };
+    typed = function_typed_at_end;
   };
   asked = (record { of = record { world_module = main_module one_each; listed = refl; same = refl }; named = refl }, tt);
 }
@@ -390,11 +418,11 @@ keeps_the_rules = record {
   right = (
     refl,
     (
-      (refl, function_typed),
+      (refl, record { type = plain_tree; is = function_typed }),
       (
         tt,
         (
-          (omega arith, refl),
+          (record { origin = root_import 0; type = plain_tree; is = f_imported }, refl),
           (
             record { each = (record { kind = refl; scoped = omega arith }, tt); apart = one_apart f },
             (
@@ -402,8 +430,8 @@ keeps_the_rules = record {
               (
                 record { number = 0; of = main_module one_each; type = plain_core; is = main_made 6 refl; listed = refl; offered = refl },
                 (
-                  (omega arith, refl, function_typed_later),
-                  (record { key = keys.Name g; target = LiftedFrom (record { of = Main; name = g }) []; named = refl; said = refl; lifted = g_lifted }, tt),
+                  (omega arith, refl, record { type = plain_tree; is = function_typed_later }),
+                  (record { key = keys.Name g; target = LiftedFrom (record { of = Main; name = g }) []; wit = record { name = g; kind = Freestanding; params = []; result = None }; named = refl; said = refl; exported = refl; lifted = g_lifted }, tt),
                 ),
               ),
             ),

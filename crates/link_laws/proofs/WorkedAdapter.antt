@@ -29,7 +29,7 @@ use Rattle.comp_worlds.specs.declared.world.WorldAdapter.{WorldAdapter}
 use Rattle.comp_runs.specs.Store.{Thing, ExportedBy, Lifting, ModuleInstance}
 use Rattle.comp_runs.specs.Machine.{Outcome, Done}
 use Rattle.link_laws.specs.Linking.{outcome}
-use Rattle.link_laws.proofs.Stores.{plain_tree, plain_core}
+use Rattle.link_laws.proofs.Worked.{plain_tree, plain_core}
 use Rattle.link_laws.proofs.Steps.{no_modules}
 use Rattle.link_laws.proofs.Worked.{Ended, inline_instance, core_function, core_export, k, a}
 

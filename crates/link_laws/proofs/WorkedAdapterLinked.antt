@@ -13,17 +13,22 @@ use Rattle.core_runs.specs.Store as core
 use Rattle.core_runs.specs.Execution.{and_then, asked, exec, acts}
 use Rattle.core_runs.specs.Expected.{Known, expected}
 use Rattle.wit_data.specs.declared.ids.TypeId.{TypeId}
+use Rattle.comp_trees.specs.Trees.{Resource, DefinedAt}
 use Rattle.wit_data.specs.declared.worlds.WorldKey.TheVariants as keys
 use Rattle.comp_roles.specs.declared.offered.ExternType.TheVariants as externs
 use Rattle.comp_roles.specs.declared.offered.ImportType.{ImportType}
 use Rattle.comp_links.specs.Targets.{Main, ExportRef, ExportOf, MainMemory, Lifted}
 use Rattle.comp_links.specs.Modules.{WorldModule, adapter_module, user_modules, IsModule}
+use Rattle.comp_bytes.specs.ItemIndices.{in_space}
+use Rattle.comp_runs.specs.Instances.{type_scope}
+use Rattle.link_laws.proofs.ImportedTypes.{none_imported}
+use Rattle.comp_bytes.specs.declared.space.Space.TheVariants as spaces
 use Rattle.comp_runs.specs.Store.{CoreItem, ExportedBy, ModuleInstance}
 use Rattle.comp_runs.specs.Machine.{Machine, Outcome, Done, Trapped, Open, Stuck}
 use Rattle.link_laws.specs.Composition.{IsComposed}
 use Rattle.link_laws.specs.Meeting.{ItemIsExport, CoreExportMeets, hooks_round, IsMainMemory, Meets, entry_kind}
 use Rattle.link_laws.specs.Linking.{outcome, questions, LetsRun, EndsAt, AreServed, IsServed, IsProvided, IsLinked, Links}
-use Rattle.link_laws.proofs.Stores.{plain_core}
+use Rattle.link_laws.proofs.Worked.{plain_core}
 use Rattle.link_laws.proofs.Steps.{no_modules}
 use Rattle.link_laws.proofs.Worked.{machine_of, core_function, k, a}
 use Rattle.link_laws.proofs.Crossed.{traps_next, first_called, known_by, type_by}
@@ -93,8 +98,8 @@ of_main name = record { of = Main; name = name }
 is_main : IsModule world 0 Main
 is_main = record { world_module = main_module; listed = refl; same = refl }
 
-abbrev no_origins : TypeId → ℕ
-no_origins id = 0
+abbrev no_origins : TypeId → Resource
+no_origins id = DefinedAt 0
 
 -- where the outside instantiates both modules
 abbrev pub end : ℕ → ℕ → List Answer → Machine
@@ -170,7 +175,7 @@ module _ (number number' : ℕ) (rest : List Answer) where
     origins = no_origins;
     start_events = [];
     instances = refl;
-    imports = record { each = served };
+    imports = record { resources = tt; each = served };
     exports = (g_provided, tt);
     events = refl;
     started = tt;
@@ -223,6 +228,7 @@ straight_links = record {
   never_stuck = λ answers e. subst (IsRightEnd answers) e (runs answers);
   ends = λ answers lets. done answers (outcome world no_modules definitions answers) (runs answers) lets;
   linked = λ answers m e. (subst (IsRightEnd answers) e (runs answers)).0;
+  types = λ answers m e. none_imported (in_space spaces.Type definitions) (type_scope m) (λ tree. refl, tt);
   traps_before = record { each = λ before after split unfixed present. absurd (true≢false (sym present)) };
   served_throughout = record {
     each = λ answers m e event globals late found. absurd (no_third m event globals (sees_two answers m (outcome world no_modules definitions answers) (runs answers) e) late found);
@@ -270,7 +276,7 @@ not_k x =
 abbrev import_of_k : ImportType
 import_of_k = record { module_name = functions; field = k; ty = externs.Func plain_core }
 
-k_meets : (origins : TypeId → ℕ) → IsServed world c origins the_adapter (core_function 0) import_of_k → CoreExportMeets world c None 0 (of_main k)
+k_meets : (origins : TypeId → Resource) → IsServed world c origins the_adapter (core_function 0) import_of_k → CoreExportMeets world c None 0 (of_main k)
 k_meets origins s = subst (Meets world c origins (core_function 0)) (same_Some s.target (ExportOf (of_main k)) (sym s.said)) s.meets
 
 pub crossed_is_not_linked : IsLinked world no_modules (machine_of crossed) → ⊥

@@ -10,10 +10,11 @@ use Rattle.comp_bytes.specs.declared.types.TypeDef.TheVariants as types
 use Rattle.comp_bytes.specs.declared.def.Def.{Def}
 use Rattle.comp_bytes.specs.declared.def.Def.TheVariants as defs
 use Rattle.comp_bytes.specs.declared.def.Item.TheVariants as items
-use Rattle.comp_runs.specs.Store.{Origin, CoreItem, Lowering, Function, Imported}
+use Rattle.comp_trees.specs.Trees.{Origin}
+use Rattle.comp_runs.specs.Store.{CoreItem, Lowering, Function, Imported}
 use Rattle.link_laws.specs.Linking.{outcome}
 use Rattle.link_laws.proofs.Steps.{no_modules}
-use Rattle.link_laws.proofs.Stores.{plain_tree}
+use Rattle.link_laws.proofs.Worked.{plain_tree}
 use Rattle.link_laws.proofs.Worked.{Ended, ended, root_world, h}
 
 -- two functions f, of these of the instances g and h, aliased and lowered one after the other

@@ -29,7 +29,7 @@ use Rattle.comp_runs.specs.Machine.{Outcome, Done}
 use Rattle.link_laws.specs.Composition.{GeneratedModules, instance_order}
 use Rattle.link_laws.specs.Meeting.{KeepsReferences}
 use Rattle.link_laws.specs.Linking.{outcome, TrapsAtOnce}
-use Rattle.link_laws.proofs.Stores.{plain_tree, plain_core}
+use Rattle.link_laws.proofs.Worked.{plain_tree, plain_core}
 use Rattle.link_laws.proofs.Worked.{root_world, root_import, core_function, core_export, inline_instance, machine_of, made, h}
 
 -- main imports f and h, and exports nothing

@@ -35,16 +35,6 @@ filter-both p q within (x ∷ xs) = by (filter-both p q within xs) (p x) refl (q
     by rest true e false f = absurd (true≢false (sym (within x e) ∙ f))
     by rest false e false f = rest
 
--- what passes a filter passes its test
-pub filter-at : {A : Type 0} (p : A → Bool) (xs : List A) (i : ℕ) (x : A) → slice_get (filter p xs) i ≡ Some x → p x ≡ true
-filter-at p [] i x e = absurd (none-some x e)
-filter-at {A} p (y ∷ xs) i x e = by (λ j f. filter-at p xs j x f) (p y) refl i e
-  where
-    by : ((j : ℕ) → slice_get (filter p xs) j ≡ Some x → p x ≡ true) → (b : Bool) → p y ≡ b → (j : ℕ) → slice_get (if b then y ∷ filter p xs else filter p xs) j ≡ Some x → p x ≡ true
-    by rest true t zero f = subst (λ z. p z ≡ true) (same_Some y x f) t
-    by rest true t (suc j) f = rest j f
-    by rest false t j f = rest j f
-
 -- a test that all pass
 pub filter-all : {A : Type 0} (p : A → Bool) (xs : List A) → AllByRecursion (λ x. p x ≡ true) xs → filter p xs ≡ xs
 filter-all p [] h = refl
@@ -57,10 +47,6 @@ mapped_some f (Some x) y e = (x, refl, same_Some (f x) y e)
 pub length-map : {A B : Type 0} (f : A → B) (xs : List A) → length (map f xs) ≡ length xs
 length-map f [] = refl
 length-map f (x ∷ xs) = ap suc (length-map f xs)
-
-pub map-map : {A B C : Type 0} (f : B → C) (g : A → B) (xs : List A) → map f (map g xs) ≡ map (λ x. f (g x)) xs
-map-map f g [] = refl
-map-map f g (x ∷ xs) = ap (λ l. f (g x) ∷ l) (map-map f g xs)
 
 -- where each is found, all are, and each is related to its own
 pub all_some-each : {A C : Type 0} (R : C → A → Type 0) (f : A → Option C) (xs : List A) →
@@ -157,10 +143,20 @@ each_listed {X} text (x ∷ xs) = (rw ((bytes_eq-Decides (text x) (text x)).1 re
     later [] h = tt
     later (y ∷ ys) h = (or_true (bytes_eq (text y) (text x)) (list_any (bytes_eq (text y)) (map text xs)) h.0, later ys h.1)
 
--- the element after a list
-pub slice_get-middle : {X : Type 0} (xs : List X) (x : X) (more : List X) → slice_get (xs ++ x ∷ more) (length xs) ≡ Some x
-slice_get-middle [] x more = refl
-slice_get-middle (y ∷ xs) x more = slice_get-middle xs x more
+-- two related lists after two others
+pub AllZip-join : {A B : Type 0} (R : A → B → Type 0) (xs more : List A) (ys others : List B) → AllZip R xs ys → AllZip R more others → AllZip R (xs ++ more) (ys ++ others)
+AllZip-join R [] more [] others h k = k
+AllZip-join R (x ∷ xs) more (y ∷ ys) others h k = (h.0, AllZip-join R xs more ys others h.1 k)
+AllZip-join R [] more (y ∷ ys) others h k = absurd h
+AllZip-join R (x ∷ xs) more [] others h k = absurd h
+
+-- the first list has an element where the second has one
+pub AllZip-back : {A B : Type 0} (R : A → B → Type 0) (xs : List A) (ys : List B) (i : ℕ) (y : B) → AllZip R xs ys → slice_get ys i ≡ Some y → (x : A) × (slice_get xs i ≡ Some x) × R x y
+AllZip-back R (x ∷ xs) (z ∷ ys) zero y h e = (x, refl, subst (R x) (same_Some z y e) h.0)
+AllZip-back R (x ∷ xs) (z ∷ ys) (suc i) y h e = AllZip-back R xs ys i y h.1 e
+AllZip-back R [] [] i y h e = absurd (none-some y e)
+AllZip-back R [] (z ∷ ys) i y h e = absurd h
+AllZip-back R (x ∷ xs) [] i y h e = absurd h
 
 pub AllByRecursion-join : {X : Type 0} (P : X → Type 0) (xs ys : List X) → AllByRecursion P xs → AllByRecursion P ys → AllByRecursion P (xs ++ ys)
 AllByRecursion-join P [] ys h k = k

@@ -1,11 +1,14 @@
 -- What a list of definitions is to a validated world when it is run (component model, explainer: component definitions;
 -- Canonical ABI: `canon lift`, `canon lower`).
-use Rattle.std.specs.Prelude.{◌≡◌, ◌≢◌, ◌≤◌, ◌+◌, ◌++◌, ◌&&◌, ℕ, nat_le, Bool, List, [], ◌∷◌, Option, Some, None, length, map, slice_get, is_some, IsTrue, Contains}
+use Rattle.std.specs.Prelude.{◌≡◌, ◌≢◌, ◌≤◌, ◌+◌, ◌++◌, ◌&&◌, ℕ, nat_le, Bool, List, [], ◌∷◌, Option, Some, None, length, map, filter, slice_get, is_some, IsTrue, Contains}
 use Rattle.std.specs.List.{AllByRecursion, AllZip, flat_map, list_all}
 use Rattle.std.specs.Option.{option_and_then}
 use Rattle.comp_lists.specs.Found.{found}
 use Rattle.comp_bytes.specs.declared.space.Space.TheVariants as spaces
+use Rattle.comp_bytes.specs.Spaces.{is_space, space_of}
+use Rattle.comp_bytes.specs.declared.def.Item.TheVariants as items
 use Rattle.comp_bytes.specs.declared.def.Def.{Def}
+use Rattle.comp_bytes.specs.declared.def.Def.TheVariants as defs
 use Rattle.core_types.specs.declared.types.ValType.{ValType}
 use Rattle.core_runs.specs.declared.bracket.TaskHook.{TaskHook}
 use Rattle.core_runs.specs.declared.bracket.TaskHook.TheVariants.{InitializeStart, InitializeFinish}
@@ -27,14 +30,15 @@ use Rattle.world_values.specs.Items.{functions_of}
 use Rattle.comp_worlds.specs.Worlds.{imported_types}
 use Rattle.comp_worlds.specs.declared.world.ComponentWorld.{ComponentWorld}
 use Rattle.comp_trees.specs.Trees.{Resource}
+use Rattle.comp_trees.specs.DefinedTrees.{TypeTree}
 use Rattle.comp_trees.specs.WitTrees.{wit_function_tree}
 use Rattle.comp_links.specs.Targets.{Main, ExportRef, Target, Lifted}
 use Rattle.comp_links.specs.Modules.{WorldModule, user_modules}
-use Rattle.comp_links.specs.Lists.{RequiredFunction, required_functions, exported_item, resource_of}
+use Rattle.comp_links.specs.Lists.{RequiredFunction, required_functions, exported_item, resource_of, stated_types}
 use Rattle.comp_links.specs.Links.{link_at, lift_of}
 use Rattle.comp_runs.specs.Store.{Thing, Export, CoreItem, ModuleInstance}
 use Rattle.comp_runs.specs.Machine.{Machine, Outcome, Done, Trapped, Open, Stuck, export_of}
-use Rattle.comp_runs.specs.Instances.{ModuleMeaning, OfUser, OfGenerated}
+use Rattle.comp_runs.specs.Instances.{ModuleMeaning, OfUser, OfGenerated, type_scope}
 use Rattle.comp_runs.specs.Running.{run, fresh_machine}
 use Rattle.link_laws.specs.Meeting.{KeepsReferences, ItemIsExport, IsLift, Meets, task_hook}
 use Rattle.link_laws.specs.Composition.{GeneratedModules, generated_sections, numbers_from, number_after, instance_order, at_root, item_instantiates}
@@ -153,6 +157,22 @@ pub record IsLinked (w : ComponentWorld) (g : GeneratedModules) (m : Machine) : 
   pub events : m.now.events ≡ map (λ n. Instantiated n) (numbers_from 0 (length (user_modules w))) ++ start_events
   pub started : AllZip (MakesCall w m) start_events (start_calls w)
 
+-- ---- types
+
+-- what the type of a definition denotes, where it is an import
+abbrev pub if_imported : Def → TypeTree → List TypeTree
+if_imported (defs.Item (items.Import name description)) tree = tree ∷ []
+if_imported d tree = []
+
+-- what the imports denote among definitions that make types, where the types denote these trees
+abbrev pub imported_among : List Def → List TypeTree → List TypeTree
+imported_among (d ∷ ds) (tree ∷ trees) = if_imported d tree ++ imported_among ds trees
+imported_among ds trees = []
+
+-- each type that the list imports denotes what the world's does, in order
+abbrev pub TypesServed : ComponentWorld → List Def → Machine → Type 0
+TypesServed w ds m = imported_among (filter (λ d. is_space spaces.Type (space_of d)) ds) (type_scope m) ≡ stated_types w
+
 -- ---- shims
 
 -- a shim, by its address: what the module of shims exports under a decimal number
@@ -193,10 +213,12 @@ pub record ServedThroughout (w : ComponentWorld) (g : GeneratedModules) (ds : Li
       (origins : TypeId → Resource) × UsersServed w (record m { now = record m.now { globals = globals } }) origins
 
 -- When it is run, whatever the outside returns: it is never stuck; it is done where the answers let it; where it is done
--- it is linked; shims trap before they are filled, and are filled before anything is called.
+-- it is linked, and the types that it imports are the world's; shims trap before they are filled, and are filled before
+-- anything is called.
 pub record Links (w : ComponentWorld) (g : GeneratedModules) (ds : List Def) : Type 0 where
   pub never_stuck : (answers : List Answer) → outcome w g ds answers ≢ Stuck
   pub ends : (answers : List Answer) → LetsRun (questions w) answers → (m : Machine) × (outcome w g ds answers ≡ Done m)
   pub linked : (answers : List Answer) (m : Machine) → outcome w g ds answers ≡ Done m → IsLinked w g m
+  pub types : (answers : List Answer) (m : Machine) → outcome w g ds answers ≡ Done m → TypesServed w ds m
   pub traps_before : ShimsTrapBefore w g ds
   pub served_throughout : ServedThroughout w g ds
