@@ -35,7 +35,7 @@ use Rattle.comp_terms.specs.Terms.{imports_in}
 use Rattle.comp_terms.specs.Rules.{Grows, Landmark, Imported, landmarks, named_import, names_marked, imports_marked}
 use Rattle.comp_items.specs.Items.{Extends}
 use Rattle.comp_items.proofs.Extending.{extends_none, extends_then}
-use Rattle.comp_imports.specs.Imports.{FindsImports, FindsMore, FindsUsed, IsNextItem}
+use Rattle.comp_imports.specs.Imports.{FindsImports, FindsMore, FindsUsed, IsNextItem, IsNextType}
 use Rattle.comp_imports.proofs.Elements.{AllByRecursion-join}
 use Rattle.comp_imports.specs.Growing.{Grows-none, Grows-then}
 use Rattle.comp_imports.proofs.Looking.{function_found, entry_sound}
@@ -270,9 +270,10 @@ pub record TypesSoFar (w : ComponentWorld) (old new : Built) (rest : List (World
   pub split : done ++ rest ≡ (items_of w).imports
   pub extends : Extends old new
   pub grows : Grows w old.defs new.defs (map (λ t. Imported (root_type t.0)) (flat_map world_type done))
+  pub count : imports_in new.defs ≡ length (flat_map world_type done)
 
-pub types_start : (w : ComponentWorld) (old : Built) → TypesSoFar w old old (items_of w).imports
-types_start w old = record { done = []; split = refl; extends = extends_none old; grows = Grows-none w old.defs }
+pub types_start : (w : ComponentWorld) (old : Built) → imports_in old.defs ≡ 0 → TypesSoFar w old old (items_of w).imports
+types_start w old none = record { done = []; split = refl; extends = extends_none old; grows = Grows-none w old.defs; count = none }
 
 pub types_step : (w : ComponentWorld) (old mid new : Built) (e : WorldKey × WorldItem) (rest : List (WorldKey × WorldItem)) → TypesSoFar w old mid (e ∷ rest) → Extends mid new →
     Grows w mid.defs new.defs (map (λ t. Imported (root_type t.0)) (world_type e)) → TypesSoFar w old new rest
@@ -285,7 +286,29 @@ types_step w old mid new e rest h extends grows = record {
       let marks : map (λ (t : List ℕ × TypeId). Imported (root_type t.0)) (flat_map world_type (h.done ++ e ∷ [])) ≡ map (λ (t : List ℕ × TypeId). Imported (root_type t.0)) (flat_map world_type h.done) ++ map (λ (t : List ℕ × TypeId). Imported (root_type t.0)) (world_type e) =
       ap (map (λ (t : List ℕ × TypeId). Imported (root_type t.0))) types ∙ map-append (λ (t : List ℕ × TypeId). Imported (root_type t.0)) (flat_map world_type h.done) (world_type e) in
       subst (λ m. Grows w old.defs new.defs m) (sym marks) (Grows-then h.grows grows);
+  count =
+      let types : flat_map world_type (h.done ++ e ∷ []) ≡ flat_map world_type h.done ++ world_type e = flat_map-append world_type h.done (e ∷ []) ∙ ap (λ l. flat_map world_type h.done ++ l) (append-nil (world_type e)) in
+      let more = grown_imports grows in
+      let marked = types_counted (world_type e) in
+      let before = h.count in
+      let all = ap length types ∙ length-append (flat_map world_type h.done) (world_type e) in
+      omega (arith, more, marked, before, all);
 }
+
+-- the type of the next item is the next import
+pub next_type : (w : ComponentWorld) (old mid : Built) (e : WorldKey × WorldItem) (rest : List (WorldKey × WorldItem)) → TypesSoFar w old mid (e ∷ rest) → IsNextType w mid.defs e
+next_type w old mid (keys.Interface id, item) rest h = tt
+next_type w old mid (keys.Name text, world_items.Interface id) rest h = tt
+next_type w old mid (keys.Name text, world_items.Function f) rest h = tt
+next_type w old mid (keys.Name text, world_items.NamedType id) rest h =
+    let done = flat_map world_type h.done in
+    let all : imported_types w ≡ (done ++ (text, id) ∷ []) ++ flat_map world_type rest =
+    ap (flat_map world_type) (sym h.split) ∙ (flat_map-append world_type h.done ((keys.Name text, world_items.NamedType id) ∷ rest) ∙ sym (append_assoc done ((text, id) ∷ []) (flat_map world_type rest))) in
+    let there : slice_get (imported_types w) (length done) ≡ Some (text, id) =
+    ap (λ l. slice_get l (length done)) all ∙ slice_get-append (done ++ (text, id) ∷ []) (flat_map world_type rest) (length done) (text, id) (slice_get-end done (text, id)) in
+    let entry : slice_get (map (λ (t : List ℕ × TypeId). WorldType t.0 t.1) (imported_types w)) (length done) ≡ Some (WorldType text id) =
+    slice_get-map (λ (t : List ℕ × TypeId). WorldType t.0 t.1) (imported_types w) (length done) ∙ ap (option_map (λ (t : List ℕ × TypeId). WorldType t.0 t.1)) there in
+    ap (slice_get (import_entries w)) h.count ∙ slice_get-append (map (λ (t : List ℕ × TypeId). WorldType t.0 t.1) (imported_types w)) (map RootFunction (used_functions w)) (length done) (WorldType text id) entry
 
 pub types_done : (w : ComponentWorld) (old new : Built) → TypesSoFar w old new [] → Grows w old.defs new.defs (map (λ t. Imported (root_type t.0)) (imported_types w))
 types_done w old new h =

@@ -1,4 +1,4 @@
--- What is known of the functions that were imported. (The rules are this project's own.)
+-- What is known of what was imported, and of what is the next import. (The rules are this project's own.)
 use Rattle.std.specs.Prelude.{◌≡◌, ℕ, List, Some, IsSome, IsTrue, slice_get}
 use Rattle.comp_lists.specs.Found.{found}
 use Rattle.comp_bytes.specs.declared.def.Def.{Def}
@@ -12,7 +12,7 @@ use Rattle.wit_data.specs.declared.worlds.WorldKey.TheVariants as keys
 use Rattle.comp_worlds.specs.declared.world.ComponentWorld.{ComponentWorld}
 use Rattle.comp_links.specs.Modules.{function_imported}
 use Rattle.comp_links.specs.Targets.{OfRoot}
-use Rattle.comp_links.specs.Lists.{IsOriginOf, RootFunction, import_entries}
+use Rattle.comp_links.specs.Lists.{IsOriginOf, WorldType, RootFunction, import_entries}
 use Rattle.comp_links.specs.Roles.{is_used}
 use Rattle.comp_terms.specs.Terms.{IsImportedFunction, imports_in}
 use Rattle.comp_terms.specs.Planned.{IsTypeOf}
@@ -46,3 +46,8 @@ pub record IsNext (w : ComponentWorld) (ds : List Def) (text : List ℕ) (f : Fu
 abbrev pub IsNextItem : ComponentWorld → List Def → WorldKey × WorldItem → Type 0
 IsNextItem w ds (keys.Name text, items.Function f) = IsNext w ds text f × HasFunction w.resolve f
 IsNextItem w ds entry = Unit {0}
+
+-- the type of an item of the world, if it is one, is the next import
+abbrev pub IsNextType : ComponentWorld → List Def → WorldKey × WorldItem → Type 0
+IsNextType w ds (keys.Name text, items.NamedType id) = slice_get (import_entries w) (imports_in ds) ≡ Some (WorldType text id)
+IsNextType w ds entry = Unit {0}

@@ -1,10 +1,12 @@
 //! The types of the world that are imported.
 #![tactic(auto, using(crate::proofs::Growth::growing))]
 
-ghost use Rattle.std.specs.Prelude.{◌≡◌, ◌<◌, length, [], ◌∷◌, map, IfErr, OnOk};
+ghost use Rattle.std.specs.Prelude.{◌≡◌, ◌<◌, length, [], ◌∷◌, map, IfErr, OnOk, Some, slice_get};
 ghost use Rattle.comp_items.specs.Items.{Extends};
-ghost use Rattle.comp_links.specs.Lists.{root_type};
+ghost use Rattle.comp_links.specs.Lists.{WorldType, import_entries, root_type};
 ghost use Rattle.comp_terms.specs.Rules.{Grows, Imported};
+ghost use Rattle.comp_terms.specs.Terms.{imports_in};
+ghost use Rattle.comp_imports.specs.Imports.{IsNextType};
 ghost use Rattle.comp_worlds.specs.Worlds.{IsWorld, world_type, imported_types, items_of};
 ghost use Rattle.wit_data.specs.Sound.{HasEntry};
 ghost use Rattle.comp_imports.specs.RootScopes.{AreTablesRight, IsRefusal};
@@ -22,6 +24,7 @@ impl RootScope<'_, ComponentWorld> {
     fn import_world_type(&mut self, name: &Text, id: TypeId) -> Result<(), BuildFault>
         requires valid { IsWorld self.old.world.now }
         requires present { id.index < length self.old.world.now.resolve.types }
+        requires next { slice_get (import_entries self.old.world.now) (imports_in self.old.items.defs) ≡ Some (WorldType name.now id) }
         requires tables { AreTablesRight self.old.world.now self.old.items.defs self.old.maps }
         ensures world { self.new.world ≡ self.old.world }
         ensures extends { Extends self.old.items self.new.items }
@@ -45,6 +48,7 @@ impl RootScope<'_, ComponentWorld> {
     fn import_type_item(&mut self, key: &WorldKey, item: &WorldItem) -> Result<(), BuildFault>
         requires valid { IsWorld self.old.world.now }
         requires present { HasEntry self.old.world.now.resolve (key.now, item.now) }
+        requires next { IsNextType self.old.world.now self.old.items.defs (key.now, item.now) }
         requires tables { AreTablesRight self.old.world.now self.old.items.defs self.old.maps }
         ensures world { self.new.world ≡ self.old.world }
         ensures extends { Extends self.old.items self.new.items }
@@ -58,9 +62,10 @@ impl RootScope<'_, ComponentWorld> {
         }
     }
 
-    /// Imports the types of the world, in its order.
+    /// Imports the types of the world, in its order. They are the first imports of the component.
     pub fn import_types(&mut self) -> Result<(), BuildFault>
         requires valid { IsWorld self.old.world.now }
+        requires first { imports_in self.old.items.defs ≡ 0 }
         requires tables { AreTablesRight self.old.world.now self.old.items.defs self.old.maps }
         ensures world { self.new.world ≡ self.old.world }
         ensures extends { Extends self.old.items self.new.items }

@@ -3,7 +3,7 @@ use Rattle.comp_trees.specs.Inventories.{scope_of}
 use Rattle.wit_types.specs.Maps.{Faithful}
 use Rattle.comp_imports.specs.RootScopes.{any_index}
 use Rattle.comp_imports.proofs.Allowing.{root_allows}
-use Rattle.comp_imports.proofs.root_scope.RootScope.function_type.Goals as goal
+use Rattle.comp_imports.proofs.root_scope.RootScope+ComponentWorld.function_type.Goals as goal
 
 pub encode_func_type-requires-clause-allowed : goal.encode_func_type-requires-clause-allowed
 encode_func_type-requires-clause-allowed c = root_allows c.args.self.now.world.now c.requires.valid.types c.args.function.now

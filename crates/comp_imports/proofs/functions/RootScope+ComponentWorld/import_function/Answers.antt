@@ -13,7 +13,7 @@ use Rattle.comp_terms.specs.Terms.{IsImportedFunction}
 use Rattle.comp_imports.specs.Growing.{Grows-by, Grows-then}
 use Rattle.comp_imports.proofs.Growth.{tables_kept}
 use Rattle.comp_imports.proofs.Importing.{no_imports}
-use Rattle.comp_imports.proofs.root_scope.RootScope.import_function.Goals as goal
+use Rattle.comp_imports.proofs.functions.RootScope+ComponentWorld.import_function.Goals as goal
 
 -- the definition that is added
 abbrev import : (c : goal.In_ok-index) → Def

@@ -1,7 +1,7 @@
 use Rattle.std.proofs.Common.{◌≡◌}
 use Rattle.comp_imports.specs.RootScopes.{AreTablesRight}
-use Rattle.comp_imports.proofs.Importing.{TypesSoFar}
-use Rattle.comp_imports.proofs.root_scope.RootScope.import_types.Given as goal
+use Rattle.comp_imports.proofs.Importing.{ImportsSoFar}
+use Rattle.comp_imports.proofs.functions.RootScope+ComponentWorld.import_items.Given as goal
 
 abbrev pub invariant-loop-key : goal.invariant-loop-key
 invariant-loop-key l =
@@ -9,4 +9,4 @@ invariant-loop-key l =
     goal.iterator-loop-key.is_finite l.key-iterator ×
     (l.self.world ≡ l.fn.self.world) ×
     AreTablesRight l.fn.self.world.now l.self.items.defs l.self.maps ×
-    TypesSoFar l.fn.self.world.now l.fn.self.items l.self.items l.key-iterator
+    ImportsSoFar l.fn.self.world.now l.fn.self.items l.self.items l.functions l.key-iterator

@@ -11,8 +11,7 @@ use Rattle.wit_data.specs.declared.worlds.WorldKey.{WorldKey}
 use Rattle.wit_data.specs.declared.worlds.WorldItem.{WorldItem}
 use Rattle.comp_worlds.specs.Worlds.{items_of, root_function}
 use Rattle.comp_imports.proofs.Importing.{ImportsSoFar, imports_start, imports_step, next_item, imports_marks, imports_found}
-use Rattle.comp_imports.proofs.root_scope.RootScope.import_items.Goals as goal
-use Rattle.comp_imports.proofs.root_scope.RootScope.import_items.Goals.{In-Some}
+use Rattle.comp_imports.proofs.functions.RootScope+ComponentWorld.import_items.Goals as goal
 
 pub loop-key-init : goal.loop-key-init
 loop-key-init c =
@@ -28,17 +27,12 @@ loop-key-init c =
           (subst (λ (es : List (WorldKey × WorldItem)). ImportsSoFar w old old [] es) (sym items) (imports_start w old c.requires.types)),
     )
 
--- the items that are left, with the next one
-before : (c : In-Some) → ImportsSoFar c.args.self.now.world.now c.args.self.now.items c.loop-key.self.items c.loop-key.functions ((c.in-Some.key.now, c.in-Some.item.now) ∷ c.next.new.self)
-before c =
-    subst (λ (es : List (WorldKey × WorldItem)). ImportsSoFar c.args.self.now.world.now c.args.self.now.items c.loop-key.self.items c.loop-key.functions es) c.in-Some.ensures.steps c.loop-key.invariant.4
-
 pub import_function_item-requires-clause-next : goal.import_function_item-requires-clause-next
 import_function_item-requires-clause-next c =
     let w = c.args.self.now.world.now in
     let apart : IsDistinct is_same_key (keys_of (items_of w).imports) = subst (λ es. IsDistinct is_same_key (keys_of es)) c.requires.items c.iter-key-items.ensures.unique in
     subst (λ x. IsNextItem x.now c.loop-key.self.items.defs (c.in-Some.key.now, c.in-Some.item.now)) (sym c.loop-key.invariant.2)
-    (next_item w c.args.self.now.items c.loop-key.self.items c.loop-key.functions (c.in-Some.key.now, c.in-Some.item.now) c.next.new.self c.requires.valid apart (before c))
+    (next_item w c.args.self.now.items c.loop-key.self.items c.loop-key.functions (c.in-Some.key.now, c.in-Some.item.now) c.next.new.self c.requires.valid apart (subst (λ (es : List (WorldKey × WorldItem)). ImportsSoFar c.args.self.now.world.now c.args.self.now.items c.loop-key.self.items c.loop-key.functions es) c.in-Some.ensures.steps c.loop-key.invariant.4))
 
 pub loop-key-preserved : goal.loop-key-preserved
 loop-key-preserved c =
@@ -53,7 +47,7 @@ loop-key-preserved c =
       tt,
       of.world ∙ same,
       subst (λ x. AreTablesRight x.now new.items.defs new.maps) same of.tables,
-      imports_step w c.args.self.now.items mid new.items c.loop-key.functions fs e c.next.new.self (before c) of.extends (subst (λ x. Grows x.now mid.defs new.items.defs (names_marked x.now (root_function e))) same of.grows)
+      imports_step w c.args.self.now.items mid new.items c.loop-key.functions fs e c.next.new.self (subst (λ (es : List (WorldKey × WorldItem)). ImportsSoFar c.args.self.now.world.now c.args.self.now.items c.loop-key.self.items c.loop-key.functions es) c.in-Some.ensures.steps c.loop-key.invariant.4) of.extends (subst (λ x. Grows x.now mid.defs new.items.defs (names_marked x.now (root_function e))) same of.grows)
           (subst (λ x. FindsImports x.now new.items.defs fs) same of.imports) of.finds (subst (λ x. AllByRecursion (λ name. IsTrue (is_used x.now name) → IsSome (found name fs)) (root_function e)) same of.found),
     )
 

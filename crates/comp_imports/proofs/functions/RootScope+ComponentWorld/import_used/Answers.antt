@@ -5,7 +5,7 @@ use Rattle.comp_terms.specs.Terms.{imports_in}
 use Rattle.comp_items.proofs.Remembering.{longer}
 use Rattle.comp_imports.specs.Imports.{IsRootImport, FindsImports}
 use Rattle.comp_imports.proofs.Finding.{finds_imported, finds_more, finds_added, FindsImports-kept}
-use Rattle.comp_imports.proofs.root_scope.RootScope.import_used.Goals as goal
+use Rattle.comp_imports.proofs.functions.RootScope+ComponentWorld.import_used.Goals as goal
 
 pub returns-clause-imports : goal.returns-clause-imports
 returns-clause-imports c =
