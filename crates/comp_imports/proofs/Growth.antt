@@ -1,5 +1,7 @@
 -- The tables of types hold in a list that grows at its end.
-use Rattle.std.proofs.Common.{subst, sym}
+use Rattle.std.proofs.Common.{subst, sym, List}
+use Rattle.comp_bytes.specs.declared.def.Def.{Def}
+use Rattle.wit_types.specs.Maps.{no_maps}
 use Rattle.comp_builder.specs.Built.{Built}
 use Rattle.comp_trees.specs.Inventories.{scope_of}
 use Rattle.comp_trees.proofs.InventoryGrowth.{scope_grows}
@@ -19,5 +21,9 @@ scope_longer old new g =
 
 pub tables_kept : (w : ComponentWorld) (old new : Built) (maps : TypeEncodingMaps) → Extends old new → AreTablesRight w old.defs maps → AreTablesRight w new.defs maps
 tables_kept w old new maps g h = faithful_on (scope_longer old new g) (λ name i n. n) h
+
+-- tables of nothing
+pub tables_start : (w : ComponentWorld) (ds : List Def) → AreTablesRight w ds no_maps
+tables_start w ds = record { ids = tt; named = tt; kinds = tt; functions = tt; met = λ id e. cc }
 
 pub ruleset growing = (extends_none, extends_same, extends_then)

@@ -1,5 +1,5 @@
 -- The required exports: what is lifted for each, and that each is exported.
-use Rattle.std.proofs.Common.{◌+◌, ◌≡◌, ◌∙◌, ℕ, ◌<◌, List, [], ◌∷◌, ◌++◌, refl, sym, ap, subst, length, take, get_or, map, Some, None, Option, Bool, true, false, ◌&&◌, cond, IsSome, Contains, arith, true≢false, ◌⊎◌, inl, inr}
+use Rattle.std.proofs.Common.{◌+◌, ◌≡◌, ◌∙◌, ℕ, zero, suc, ◌<◌, List, [], ◌∷◌, ◌++◌, refl, sym, ap, subst, length, take, get_or, map, Some, None, Option, Bool, true, false, ◌&&◌, cond, IsSome, Contains, arith, true≢false, ◌⊎◌, inl, inr}
 use Rattle.std.proofs.lemmas.List.{map_more, take_more, take_all}
 use Rattle.std.specs.List.{AllByRecursion, AllZip}
 use Rattle.comp_lists.proofs.Lists.{AllByRecursion-push, AllByRecursion-at}
@@ -30,7 +30,7 @@ use Rattle.comp_state.specs.Encoding.{IsRequiredLift}
 use Rattle.comp_imports.proofs.Elements.{contains_one, contains_none, contains_cons}
 use Rattle.comp_trees.specs.Trees.{FunctionTree}
 use Rattle.comp_terms.specs.Planned.{type_of_function}
-use Rattle.std.specs.Option.{option_map}
+use Rattle.std.specs.Option.{option_map, option_and_then}
 use Rattle.comp_links.specs.Targets.{Main, Lifted}
 use Rattle.comp_links.specs.Lists.{plain_name}
 use Rattle.core_types.specs.declared.types.FuncType.{FuncType}
@@ -38,7 +38,10 @@ use Rattle.std.proofs.lemmas.Option.{none-some, same_Some}
 use Rattle.std.specs.Str.{bytes_eq}
 use Rattle.std.specs.List.{flat_map}
 use Rattle.comp_lists.specs.Found.{found}
-use Rattle.world_values.specs.Items.{root_function_at, root_export}
+use Rattle.world_values.specs.Items.{no_items, function_in, root_function_at, root_export}
+use Rattle.wit_data.specs.Sound.{HasFunction, HasEntry, HasWorld}
+use Rattle.wit_data.specs.declared.resolve.Resolve.{Resolve}
+use Rattle.wit_data.specs.declared.worlds.World.{World}
 use Rattle.wit_data.specs.declared.functions.Function.{Function}
 use Rattle.wit_data.specs.declared.worlds.WorldKey.TheVariants as keys
 use Rattle.comp_roles.specs.CoreTypes.{called_type}
@@ -210,3 +213,29 @@ key_function w ok (keys.Name text) some = by (found text (flat_map root_export w
     by (Some name) e h = function_at w.resolve.types (items_of w).exports text ok.exports (name_exported w text name w.main.exports.exports ok.main.export_roles e)
     by None e h = absurd (true≢false (sym h))
 key_function w ok (keys.Interface id) some = absurd (true≢false (sym some))
+
+-- the world's function at a key
+pub function_there : (w : ComponentWorld) → IsWorld w → (key : WorldKey) → IsSome (core_name_of w key) → IsSome (root_function_at (items_of w).exports key)
+function_there w ok key some = let f = key_function w ok key some in subst (λ o. IsSome o) (sym (ap (option_and_then function_in) f.is)) refl
+
+item_there : (es : List (WorldKey × WorldItem)) (P : WorldKey × WorldItem → Type 0) (key : WorldKey) (item : WorldItem) → AllByRecursion P es → lookup (is_same_key key) es ≡ Some item → (k : WorldKey) × P (k, item)
+item_there [] P key item h e = absurd (none-some item e)
+item_there (x ∷ xs) P key item h e = by (is_same_key key x.0) e (item_there xs P key item h.1)
+  where
+    by : (b : Bool) → cond b (Some x.1) (lookup (is_same_key key) xs) ≡ Some item → (lookup (is_same_key key) xs ≡ Some item → (k : WorldKey) × P (k, item)) → (k : WorldKey) × P (k, item)
+    by true same rest = (x.0, subst (λ i. P (x.0, i)) (same_Some x.1 item same) h.0)
+    by false same rest = rest same
+
+world_at : (r : Resolve) (ws : List World) (n : ℕ) → n < length ws → AllByRecursion (HasWorld r) ws → HasWorld r (get_or ws n no_items)
+world_at r [] n l h = absurd (omega (arith, l))
+world_at r (x ∷ xs) zero l h = h.0
+world_at r (x ∷ xs) (suc n) l h = world_at r xs n (omega (arith, l)) h.1
+
+-- its types are in the resolve
+pub function_sound : (w : ComponentWorld) → IsWorld w → (key : WorldKey) → IsSome (core_name_of w key) → (f : Function) → root_function_at (items_of w).exports key ≡ Some f → HasFunction w.resolve f
+function_sound w ok key some f e =
+    let k = key_function w ok key some in
+    let same : k.function ≡ f = same_Some k.function f (sym (ap (option_and_then function_in) k.is) ∙ e) in
+    let exports = (world_at w.resolve w.resolve.worlds w.world.index ok.present ok.sound.worlds).exports in
+    let there = item_there (items_of w).exports (HasEntry w.resolve) key (world_items.Function k.function) exports k.is in
+    subst (λ x. HasFunction w.resolve x) same there.1.1

@@ -1,5 +1,5 @@
 -- What was made stays what it is while definitions are added.
-use Rattle.std.proofs.Common.{◌≡◌, ◌∙◌, ◌<◌, ℕ, Some, IsSome, Option, List, [], ◌∷◌, refl, sym, subst}
+use Rattle.std.proofs.Common.{◌≡◌, ◌∙◌, ◌<◌, ℕ, Some, None, IsSome, Option, List, [], ◌∷◌, refl, sym, subst}
 use Rattle.std.specs.List.{AllZip, AllByRecursion}
 use Rattle.comp_lists.proofs.Lists.{AllZip-weaker}
 use Rattle.comp_bytes.proofs.ItemIndices.{in_range}
@@ -16,7 +16,7 @@ use Rattle.comp_trees.specs.Trees.{FunctionTree}
 use Rattle.wit_data.specs.declared.worlds.WorldKey.{WorldKey}
 use Rattle.comp_roles.specs.declared.imports.Import.{Import}
 use Rattle.comp_roles.specs.declared.imports.ImportInstance.{ImportInstance}
-use Rattle.comp_worlds.specs.Worlds.{IsImportRole}
+use Rattle.comp_worlds.specs.Worlds.{IsWorld, IsImportRole}
 use Rattle.comp_worlds.specs.declared.world.ComponentWorld.{ComponentWorld}
 use Rattle.comp_links.specs.Targets.{Main, UserModule, Target, OfRoot, Lowered}
 use Rattle.comp_links.specs.Links.{link_of}
@@ -33,15 +33,16 @@ use Rattle.comp_items.proofs.Remembering.{longer}
 use Rattle.comp_items.proofs.Kept.{Longer, at-kept, instance-kept, term-kept}
 use Rattle.comp_imports.specs.RootScopes.{AreTablesRight}
 use Rattle.comp_imports.specs.Imports.{FindsImports, FindsUsed}
-use Rattle.comp_imports.proofs.Growth.{tables_kept}
+use Rattle.wit_types.specs.Maps.{no_maps}
+use Rattle.comp_imports.proofs.Growth.{tables_kept, tables_start}
 use Rattle.comp_imports.proofs.Finding.{FindsImports-kept}
 use Rattle.std.proofs.lemmas.Option.{same_Some}
 use Rattle.comp_state.specs.declared.state.Step.{Step}
-use Rattle.comp_state.specs.declared.state.Step.TheVariants.{Imported, Instantiated}
+use Rattle.comp_state.specs.declared.state.Step.TheVariants.{Started, Imported, Instantiated}
 use Rattle.comp_state.specs.declared.instances.ImportSources.{ImportSources}
 use Rattle.comp_state.specs.declared.exports.MainExports.{MainExports}
 use Rattle.comp_state.specs.Encoding.{AreImported, IsRequiredLift}
-use Rattle.comp_state.specs.Tables.{IsMain, AreSources, AreExports, IsEncoding}
+use Rattle.comp_state.specs.Tables.{FindsCoreNames, IsMain, AreSources, AreExports, IsEncoding}
 
 pub ruleset growing = (extends_none, extends_same, extends_then)
 
@@ -76,6 +77,17 @@ exports-kept g t h = record { valid = h.valid; named = h.named; made = instance-
 
 main-kept : {old new : Built} {main : Option ℕ} → Extends old new → IsMain old.defs main → IsMain new.defs main
 main-kept g h = record { index = h.index; known = h.known; made = instance-kept (longer g) h.made }
+
+-- before the first step
+pub encoding-start : (w : ComponentWorld) (items : Built) (maps : TypeEncodingMaps) (functions : List (List ℕ × ℕ)) (core_names : List (List ℕ × List ℕ)) → IsWorld w → maps ≡ no_maps → FindsCoreNames w core_names → IsEncoding w items.defs maps Started functions core_names None
+encoding-start w items maps functions core_names ok none named = record {
+  valid = ok;
+  named = named;
+  tables = subst (λ m. AreTablesRight w items.defs m) (sym none) (tables_start w items.defs);
+  imports = λ s. absurd s;
+  used = λ s. absurd s;
+  made = λ e. cc;
+}
 
 -- the root has grown, and its tables are right
 pub encoding-with : {w : ComponentWorld} {old new : Built} {maps now : TypeEncodingMaps} {step : Step} {functions : List (List ℕ × ℕ)} {core_names : List (List ℕ × List ℕ)} {main : Option ℕ} → Extends old new → AreTablesRight w new.defs now →

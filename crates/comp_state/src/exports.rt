@@ -13,7 +13,8 @@ ghost use Rattle.comp_terms.specs.Rules.{Grows, named_export, exports_marked};
 ghost use Rattle.comp_worlds.specs.Worlds.{IsWorld, items_of, core_name_of};
 ghost use Rattle.wit_data.specs.Keys.{name_of_key};
 ghost use Rattle.wit_data.specs.Sound.{HasFunction};
-ghost use Rattle.world_values.specs.Items.{root_function_at};
+ghost use Rattle.std.specs.Option.{option_and_then, option_copied};
+ghost use Rattle.world_values.specs.Items.{function_in, root_function_at};
 
 use crate::fault::StateFault;
 use crate::instances::is_encoded;
@@ -38,6 +39,18 @@ fn function_name<'k>(world: &ComponentWorld, key: &'k WorldKey) -> &'k Text
     }
 }
 
+/// The function that an item is.
+fn as_function<'w>(item: Option<&'w WorldItem>) -> &'w Function
+    requires { IsSome (option_and_then function_in (option_copied item)) }
+    ensures { option_and_then function_in (option_copied item.entry) ≡ Some result.now }
+{
+    match item.unwrap() {
+        WorldItem::Function(function) => function,
+        WorldItem::Interface(_) => unreachable!(),
+        WorldItem::NamedType(_) => unreachable!(),
+    }
+}
+
 /// The function that the world exports at a key.
 fn exported_function<'w>(world: &'w ComponentWorld, key: &WorldKey) -> &'w Function
     requires valid { IsWorld world.now }
@@ -45,10 +58,7 @@ fn exported_function<'w>(world: &'w ComponentWorld, key: &WorldKey) -> &'w Funct
     ensures found { root_function_at (items_of world.now).exports key.now ≡ Some result.now }
     ensures sound { HasFunction world.now.resolve result.now }
 {
-    match world.items().exports.get(key) {
-        Some(WorldItem::Function(function)) => function,
-        _ => unreachable!(),
-    }
+    as_function(world.items().exports.get(key))
 }
 
 /// Checks that a root function that is lifted has a string encoding.
@@ -92,7 +102,7 @@ impl MainExports<'_> {
     }
 
     /// Lifts a root function from the core export that implements it.
-    fn lift_function(&self, root: &mut RootScope<'_>, key: &WorldKey) -> Result<u32, BuildFault>
+    fn lift_function(&self, root: &mut RootScope<'_, ComponentWorld>, key: &WorldKey) -> Result<u32, BuildFault>
         requires exports { AreExports root.old.world.now self.now root.old.items.defs root.old.maps }
         requires present { IsSome (core_name_of root.old.world.now key.now) }
         requires encoded { IsSome (export_encoding root.old.world.now key.now) }
@@ -118,7 +128,7 @@ impl MainExports<'_> {
     }
 
     /// Lifts a required function.
-    pub(crate) fn lift(&self, root: &mut RootScope<'_>, key: &WorldKey) -> Result<u32, StateFault>
+    pub(crate) fn lift(&self, root: &mut RootScope<'_, ComponentWorld>, key: &WorldKey) -> Result<u32, StateFault>
         requires exports { AreExports root.old.world.now self.now root.old.items.defs root.old.maps }
         requires present { IsSome (core_name_of root.old.world.now key.now) }
         ensures world { root.new.world ≡ root.old.world }
@@ -134,7 +144,7 @@ impl MainExports<'_> {
     }
 
     /// Lifts a required function, and exports it under its name.
-    fn export(&self, root: &mut RootScope<'_>, key: &WorldKey) -> Result<(), StateFault>
+    fn export(&self, root: &mut RootScope<'_, ComponentWorld>, key: &WorldKey) -> Result<(), StateFault>
         requires exports { AreExports root.old.world.now self.now root.old.items.defs root.old.maps }
         requires present { IsSome (core_name_of root.old.world.now key.now) }
         ensures world { root.new.world ≡ root.old.world }
@@ -154,7 +164,7 @@ impl MainExports<'_> {
     }
 
     /// Lifts and exports the required exports of main, in order.
-    pub(crate) fn export_all(&self, root: &mut RootScope<'_>) -> Result<(), StateFault>
+    pub(crate) fn export_all(&self, root: &mut RootScope<'_, ComponentWorld>) -> Result<(), StateFault>
         requires { AreExports root.old.world.now self.now root.old.items.defs root.old.maps }
         ensures world { root.new.world ≡ root.old.world }
         ensures extends { Extends root.old.items root.new.items }

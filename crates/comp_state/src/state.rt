@@ -48,7 +48,7 @@ pub enum Step {
 /// After a refused step the component has only grown at its end, and is to be dropped.
 pub struct EncodingState<'a> {
     /// The world, the component under construction, and the types that were met.
-    pub(crate) root: RootScope<'a>,
+    pub(crate) root: RootScope<'a, ComponentWorld>,
     pub(crate) step: Step,
     /// The root functions that were imported.
     pub(crate) functions: Keyed<Text, u32>,

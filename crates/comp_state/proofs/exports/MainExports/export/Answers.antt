@@ -1,8 +1,10 @@
-use Rattle.std.proofs.Common.{◌∷◌, [], ap}
+use Rattle.std.proofs.Common.{◌∷◌, [], ap, rules}
 use Rattle.comp_builder.specs.Built.{Built}
 use Rattle.wit_data.specs.Keys.{name_of_key}
 use Rattle.comp_terms.specs.Rules.{Grows, named_export}
 use Rattle.comp_imports.specs.Growing.{Grows-then}
+use Rattle.comp_imports.proofs.Growth.{tables_kept}
+use Rattle.comp_items.specs.Items.{Extends}
 use Rattle.comp_state.proofs.Exporting.{adds_export}
 use Rattle.comp_state.proofs.exports.MainExports.export.Goals as goal
 
@@ -13,3 +15,8 @@ returns-clause-grows c =
     adds_export w c.lift.new.root.items.defs c.export.new.self.defs c.in_ok-lifted.lifted c.in_ok-clone.field-0 c.args.key.now (rw (← c.function_name.ensures) c.in_ok-clone.ensures) c.in_ok-lifted.ensures.lifted
     (ap (λ (b : Built). b.defs) c.in_ok-export.ensures.adds.1) in
     Grows-then c.in_ok-lifted.ensures.grows g
+
+pub returns-clause-tables : goal.returns-clause-tables
+returns-clause-tables c =
+    let last : Extends c.lift.new.root.items c.export.new.self = search rules in
+    tables_kept c.args.root.now.world.now c.lift.new.root.items c.export.new.self c.lift.new.root.maps last c.in_ok-lifted.ensures.tables

@@ -1,4 +1,8 @@
-use Rattle.std.proofs.Common.{◌∙◌, arith, refl, subst, sym}
+use Rattle.std.proofs.Common.{◌∙◌, [], ◌∷◌, arith, refl, subst, sym, IsSome}
+use Rattle.wit_data.specs.Keys.{name_of_key}
+use Rattle.comp_links.specs.Roles.{export_encoding}
+use Rattle.comp_terms.specs.Rules.{Grows, named_export}
+use Rattle.comp_imports.specs.RootScopes.{AreTablesRight}
 use Rattle.comp_state.specs.Tables.{AreExports}
 use Rattle.comp_state.proofs.Exporting.{exports_start, exports_step}
 use Rattle.comp_state.proofs.Growth.{exports-kept}
@@ -11,3 +15,16 @@ pub export-requires-clause-exports : goal.export-requires-clause-exports
 export-requires-clause-exports c =
     let i = c.loop-key.invariant in
     subst (λ w. AreExports w.now c.args.self.now c.loop-key.root.items.defs c.loop-key.root.maps) (sym i.0) (exports-kept i.2.extends i.1 c.requires)
+
+pub loop-key-preserved : goal.loop-key-preserved
+loop-key-preserved c =
+    let w = c.args.root.now.world.now in
+    let i = c.loop-key.invariant in
+    let of = c.in_ok-export.ensures in
+    let mid = c.loop-key.root.items in
+    let new = c.export.new.root in (
+      of.world ∙ i.0,
+      subst (λ x. AreTablesRight x.now new.items.defs new.maps) i.0 of.tables,
+      exports_step w c.args.root.now.items mid new.items c.as_slice-key-items.result.now c.loop-key.key-index c.key-item.result i.2 (omega arith) c.key-item.is of.extends
+          (subst (λ x. Grows x.now mid.defs new.items.defs (named_export (name_of_key c.key-item.result) ∷ [])) i.0 of.grows) (subst (λ x. IsSome (export_encoding x.now c.key-item.result)) i.0 of.encoded),
+    )

@@ -6,7 +6,8 @@ use Rattle.comp_terms.specs.Terms.{IsInstanceOf, IsExported, IsFunctionType}
 use Rattle.comp_items.proofs.Kept.{instance-kept, function_type-kept}
 use Rattle.comp_items.proofs.Remembering.{longer}
 use Rattle.comp_items.specs.Items.{Extends}
-use Rattle.comp_items.proofs.Extending.{extends_then}
+use Rattle.comp_items.proofs.Extending.{extends_same, extends_then}
+use Rattle.comp_imports.specs.RootScopes.{AreTablesRight}
 use Rattle.comp_imports.specs.Growing.{Grows-then}
 use Rattle.comp_imports.proofs.Growth.{tables_kept}
 use Rattle.comp_state.proofs.Exporting.{main_export, grows_alias, AddsLift, adds_lift}
@@ -39,3 +40,23 @@ returns-clause-extends c =
     let last : Extends c.core_export.new.self c.lift_function.new.self = search rules in
     extends_then c.args.root.now.items c.function_type.new.self.items c.lift_function.new.self c.in_ok-ty.ensures.grows.extends
     (extends_then c.function_type.new.self.items c.core_export.new.self c.lift_function.new.self c.in_ok-core.ensures.extends last)
+
+pub returns-in_err-core-clause-tables : goal.returns-in_err-core-clause-tables
+returns-in_err-core-clause-tables c =
+    tables_kept c.args.root.now.world.now c.function_type.new.self.items c.core_export.new.self c.function_type.new.self.maps c.core_export.ensures.extends c.in_ok-ty.ensures.tables
+
+pub returns-in_err-index-clause-tables : goal.returns-in_err-index-clause-tables
+returns-in_err-index-clause-tables c =
+    let w = c.args.root.now.world.now in
+    let maps = c.function_type.new.self.maps in
+    let mid : AreTablesRight w c.core_export.new.self.defs maps = tables_kept w c.function_type.new.self.items c.core_export.new.self maps c.in_ok-core.ensures.extends c.in_ok-ty.ensures.tables in
+    let last : Extends c.core_export.new.self c.lift_function.new.self = extends_same c.core_export.new.self c.lift_function.new.self c.in_err-index.ensures.adds.0 in
+    tables_kept w c.core_export.new.self c.lift_function.new.self maps last mid
+
+pub returns-clause-tables : goal.returns-clause-tables
+returns-clause-tables c =
+    let w = c.args.root.now.world.now in
+    let maps = c.function_type.new.self.maps in
+    let mid : AreTablesRight w c.core_export.new.self.defs maps = tables_kept w c.function_type.new.self.items c.core_export.new.self maps c.in_ok-core.ensures.extends c.in_ok-ty.ensures.tables in
+    let last : Extends c.core_export.new.self c.lift_function.new.self = search rules in
+    tables_kept w c.core_export.new.self c.lift_function.new.self maps last mid

@@ -1,0 +1,11 @@
+use Rattle.std.proofs.Common.{sym, subst, None}
+use Rattle.comp_state.specs.Tables.{IsEncoding}
+use Rattle.comp_state.specs.declared.state.Step.TheVariants.{Started}
+use Rattle.comp_state.proofs.Growth.{encoding-start}
+use Rattle.comp_state.proofs.state.EncodingState.new.Goals as goal
+
+pub invariant_of-result : goal.invariant_of-result
+invariant_of-result c =
+    let root = c.new.result in
+    subst (λ w. IsEncoding w.now root.items.defs root.maps Started c.new-2.result c.in_ok-core_names.core_names None) (sym c.new.ensures.world)
+    (encoding-start c.args.world.now root.items root.maps c.new-2.result c.in_ok-core_names.core_names c.requires c.new.ensures.maps (record { each = c.in_ok-core_names.ensures }))
