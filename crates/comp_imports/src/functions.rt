@@ -134,7 +134,7 @@ impl RootScope<'_, ComponentWorld> {
 
     /// Imports the root functions that imports of main use, in the order of the world, and returns their
     /// indices by their names. The types of the world are imported before.
-    pub fn import_functions(&mut self) -> Result<Keyed<Text, u32>, BuildFault>
+    pub(crate) fn import_functions(&mut self) -> Result<Keyed<Text, u32>, BuildFault>
         requires valid { IsWorld self.old.world.now }
         requires types { imports_in self.old.items.defs ≡ length (imported_types self.old.world.now) }
         requires tables { AreTablesRight self.old.world.now self.old.items.defs self.old.maps }

@@ -4,16 +4,17 @@
 //! of the resolve is defined there once, before what names it. A named type of the world is imported before any function.
 //!
 //! In reading order: `root_scope` (the scope, and types in it), `world_types` (imports of types), `used` (the functions that
-//! core modules use), `functions` (imports of functions). In `specs/`: `RootScopes` (what the scope takes as given, and how it
+//! core modules use), `functions` (imports of functions), `imports` (all of them, in order). In `specs/`: `RootScopes` (what the scope takes as given, and how it
 //! grows), `Imports` (what is known of the functions that were imported).
 //!
-//! Upward this crate promises: [`RootScope::import_types`] and [`RootScope::import_functions`] import exactly the types
-//! and functions that the world states, in its order; the type of each function, imported or asked for by
+//! Upward this crate promises: [`RootScope::import_all`] imports exactly the types and functions that the world
+//! states, in its order; the type of each function, imported or asked for by
 //! [`RootScope::function_type`], denotes the tree of the function in the world; definitions grow at their end, and each
 //! keeps the rule of its kind (`Grows` of `comp_terms`). A refusal is out of memory, or a full index space.
 #![tactic(auto)]
 
 mod functions;
+mod imports;
 mod root_scope;
 mod used;
 mod world_types;

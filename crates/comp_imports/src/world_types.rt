@@ -63,7 +63,7 @@ impl RootScope<'_, ComponentWorld> {
     }
 
     /// Imports the types of the world, in its order. They are the first imports of the component.
-    pub fn import_types(&mut self) -> Result<(), BuildFault>
+    pub(crate) fn import_types(&mut self) -> Result<(), BuildFault>
         requires valid { IsWorld self.old.world.now }
         requires first { imports_in self.old.items.defs ≡ 0 }
         requires tables { AreTablesRight self.old.world.now self.old.items.defs self.old.maps }

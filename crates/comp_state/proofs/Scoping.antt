@@ -22,7 +22,7 @@ use Rattle.comp_roles.specs.declared.imports.ImportInstance.{ImportInstance}
 use Rattle.comp_worlds.specs.declared.world.ComponentWorld.{ComponentWorld}
 use Rattle.comp_links.specs.Targets.{UserModule}
 use Rattle.comp_terms.specs.Planned.{IsArgumentFor}
-use Rattle.comp_trees.specs.Inventories as inventory
+use Rattle.comp_trees.specs.Inventories as inventories
 use Rattle.comp_trees.proofs.InventoryGrowth.{scope_counted}
 use Rattle.comp_trees.proofs.KnownScopes.{known_defined, known_function_names}
 use Rattle.comp_items.proofs.Kept.{function_in_range}
@@ -45,31 +45,14 @@ entries_within earlier (e ∷ es) h = (subst (λ k. e.index < items_in (kind_spa
 no_options : (earlier : List Def) (options : List CanonicalOption) → options ≡ [] → AllByRecursion (Within earlier) (options_references options)
 no_options earlier options none = subst (λ o. AllByRecursion (Within earlier) (options_references o)) (sym none) tt
 
-type_named : (earlier : List Def) (index : ℕ) → index < length (inventory.scope_of earlier) → Within earlier (own spaces.Type index)
+type_named : (earlier : List Def) (index : ℕ) → index < length (inventories.scope_of earlier) → Within earlier (own spaces.Type index)
 type_named earlier index l = subst (λ n. index < n) (scope_counted earlier) l
 
 -- a type names types of the list, since nothing in it is unknown
-type_within : (earlier : List Def) (t : TypeDef) → IsTypeRight (inventory.scope_of earlier) t → AllByRecursion (Within earlier) (type_references t)
-type_within earlier (types.Func f) h = known_function_names (Within earlier) (inventory.scope_of earlier) (type_named earlier) f h
-type_within earlier (types.Defined t) h = known_defined (Within earlier) (inventory.scope_of earlier) (type_named earlier) t h
+type_within : (earlier : List Def) (t : TypeDef) → IsTypeRight (inventories.scope_of earlier) t → AllByRecursion (Within earlier) (type_references t)
+type_within earlier (types.Func f) h = known_function_names (Within earlier) (inventories.scope_of earlier) (type_named earlier) f h
+type_within earlier (types.Defined t) h = known_defined (Within earlier) (inventories.scope_of earlier) (type_named earlier) t h
 type_within earlier (types.Resource destructor) h = absurd h
-
-within : (w : ComponentWorld) (of : UserModule) (earlier : List Def) (as' : List CoreArgument) (gs : List (List ℕ × ImportInstance)) → AllZip (IsArgumentFor w of earlier) as' gs →
-    AllByRecursion (Within earlier) (flat_map (λ a. own spaces.CoreInstance a.instance ∷ []) as')
-arguments_within w of earlier [] [] h = tt
-arguments_within w of earlier (a ∷ as') (g ∷ gs) h = (in_range h.0.serves.made, arguments_within w of earlier as' gs h.1)
-arguments_within w of earlier [] (g ∷ gs) h = absurd h
-arguments_within w of earlier (a ∷ as') [] h = absurd h
-
-entries_within : (earlier : List Def) (es : List CoreInlineExport) → AllByRecursion (IsEntry earlier) es → AllByRecursion (Within earlier) (flat_map (λ e. own (kind_space e.kind) e.index ∷ []) es)
-entries_within earlier [] h = tt
-entries_within earlier (e ∷ es) h = (subst (λ k. e.index < items_in (kind_space k) earlier) (sym h.0.kind) h.0.scoped, entries_within earlier es h.1)
-
-no_options : (earlier : List Def) (options : List CanonicalOption) → options ≡ [] → AllByRecursion (Within earlier) (options_references options)
-no_options earlier options none = subst (λ o. AllByRecursion (Within earlier) (options_references o)) (sym none) tt
-
-plain_within : (earlier : List Def) (t : TypeDef) → t ≡ types.Func plain_function → AllByRecursion (Within earlier) (type_references t)
-plain_within earlier t same = subst (λ u. AllByRecursion (Within earlier) (type_references u)) (sym same) tt
 
 within : (w : ComponentWorld) (earlier : List Def) (d : Def) → IsRight w earlier d → DefScoped (scope_of space_of earlier) d
 within w earlier (defs.Component inner) h = absurd h
@@ -90,7 +73,7 @@ within w earlier (defs.Item (items.Lift core options kind)) h =
 within w earlier (defs.Item (items.Lower function options)) h = ((function_in_range h.0.is, no_options earlier options h.1), tt)
 within w earlier (defs.Item (items.Intrinsic i)) h = absurd h
 within w earlier (defs.Item (items.Import name (descriptions.Func kind))) h = ((type_named earlier kind h.1.is.denotes.within, tt), tt)
-within w earlier (defs.Item (items.Import name (descriptions.TypeEqual index))) h = ((type_named earlier index h.1, tt), tt)
+within w earlier (defs.Item (items.Import name (descriptions.TypeEqual index))) h = ((type_named earlier index h.1.0, tt), tt)
 within w earlier (defs.Item (items.Import name descriptions.SubResource)) h = (tt, tt)
 within w earlier (defs.Item (items.Import name (descriptions.Instance index))) h = absurd h.1
 within w earlier (defs.Item (items.Export name sorts.Func index None)) h = ((in_range h.lifted.is.made, tt), tt)

@@ -122,8 +122,7 @@ impl EncodingState<'_> {
         ensures grows { OnOk result (Grows self.old.world self.old.built.defs self.new.built.defs (imports_marked self.old.world)) }
         ensures cause { IfErr result (IsCause self.old.world) }
     {
-        self.root.import_types()?;
-        let functions = self.root.import_functions()?;
+        let functions = self.root.import_all()?;
         self.functions = functions;
         self.step = Step::Imported;
         Ok(())

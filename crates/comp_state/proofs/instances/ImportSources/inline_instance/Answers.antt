@@ -1,6 +1,6 @@
 use Rattle.std.proofs.Common.{ap}
 use Rattle.comp_builder.specs.Built.{Built}
-use Rattle.comp_state.proofs.Growth.{Grows-then}
+use Rattle.comp_imports.specs.Growing.{Grows-then}
 use Rattle.comp_state.proofs.Serving.{ServesGroup, serve_group}
 use Rattle.comp_roles.specs.declared.imports.ImportInstance.TheVariants as instances
 use Rattle.comp_state.proofs.instances.ImportSources.inline_instance.Goals as goal

@@ -1,9 +1,10 @@
-use Rattle.std.proofs.Common.{◌∙◌, ap, subst, IsSome}
+use Rattle.std.proofs.Common.{◌∙◌, ap, subst, sym, IsSome}
 use Rattle.std.specs.List.{AllByRecursion}
 use Rattle.std.specs.Result.{OnOk, IfErr}
 use Rattle.comp_links.specs.Roles.{export_encoding}
 use Rattle.comp_terms.specs.Rules.{Grows, exports_marked}
 use Rattle.comp_state.specs.Causes.{IsCause}
+use Rattle.comp_state.specs.Tables.{IsEncoding}
 use Rattle.comp_state.specs.Encoding.{Encoding}
 use Rattle.comp_state.proofs.Growth.{encoding-with, exports_of, main_known}
 use Rattle.comp_state.proofs.state.EncodingState.encode_exports.Goals as goal
@@ -12,7 +13,10 @@ pub export_all-requires : goal.export_all-requires
 export_all-requires c = exports_of c.self.inside.root.world.now _ c.self.invariant (ap (λ (e : Encoding). e.step) c.self.view_is ∙ c.requires) c.unwrap.ensures
 
 pub invariant_of-self : goal.invariant_of-self
-invariant_of-self c = encoding-with c.export_all.ensures.extends c.export_all.ensures.tables c.self.invariant
+invariant_of-self c =
+    let new = c.export_all.new.root in
+    let in' = c.self.inside in
+    subst (λ r. IsEncoding r.now new.items.defs new.maps in'.step in'.functions in'.core_names in'.main) (sym c.export_all.ensures.world) (encoding-with c.export_all.ensures.extends c.export_all.ensures.tables c.self.invariant)
 
 pub unwrap-requires : goal.unwrap-requires
 unwrap-requires c = main_known c.self.invariant (ap (λ (e : Encoding). e.step) c.self.view_is ∙ c.requires)

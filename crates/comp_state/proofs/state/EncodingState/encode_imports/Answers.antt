@@ -1,8 +1,25 @@
-use Rattle.comp_state.proofs.Growth.{encoding-kept, encoding-imported}
+use Rattle.std.proofs.Common.{◌≡◌, ◌∙◌, [], ap, subst, sym}
+use Rattle.comp_builder.specs.Built.{Built}
+use Rattle.comp_terms.specs.Terms.{imports_in}
+use Rattle.comp_state.specs.Encoding.{Encoding}
+use Rattle.comp_state.specs.Tables.{IsEncoding}
+use Rattle.comp_state.specs.declared.state.Step.TheVariants.{Imported}
+use Rattle.comp_state.proofs.Building.{no_definitions}
+use Rattle.comp_state.proofs.Growth.{encoding-with, encoding-imported}
 use Rattle.comp_state.proofs.state.EncodingState.encode_imports.Goals as goal
 
+pub import_all-requires-clause-first : goal.import_all-requires-clause-first
+import_all-requires-clause-first c = no_definitions c.self.inside.root.items.defs (ap (λ (e : Encoding). e.built.defs) c.self.view_is ∙ c.requires)
+
 pub invariant_of-self : goal.invariant_of-self
-invariant_of-self c = encoding-kept c.in_err-functions.ensures.extends c.self.invariant
+invariant_of-self c =
+    let new = c.import_all.new.self in
+    let in' = c.self.inside in
+    subst (λ r. IsEncoding r.now new.items.defs new.maps in'.step in'.functions in'.core_names in'.main) (sym c.in_err-functions.ensures.world) (encoding-with c.in_err-functions.ensures.extends c.in_err-functions.ensures.tables c.self.invariant)
 
 pub invariant_of-self-2 : goal.invariant_of-self-2
-invariant_of-self-2 c = encoding-imported c.in_ok-functions.ensures.imports c.in_ok-functions.ensures.found c.self.invariant
+invariant_of-self-2 c =
+    let new = c.import_all.new.self in
+    let in' = c.self.inside in
+    subst (λ r. IsEncoding r.now new.items.defs new.maps Imported c.in_ok-functions.functions in'.core_names in'.main) (sym c.in_ok-functions.ensures.world)
+    (encoding-imported c.in_ok-functions.ensures.tables c.in_ok-functions.ensures.imports c.in_ok-functions.ensures.found c.self.invariant)

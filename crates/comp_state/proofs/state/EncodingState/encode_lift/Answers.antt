@@ -3,6 +3,7 @@ use Rattle.std.specs.Result.{OnOk, IfOk, IfErr}
 use Rattle.comp_terms.specs.Rules.{Grows}
 use Rattle.comp_worlds.specs.Worlds.{core_name_of}
 use Rattle.comp_state.specs.Causes.{IsCauseAmong}
+use Rattle.comp_state.specs.Tables.{IsEncoding}
 use Rattle.comp_state.specs.Encoding.{Encoding, IsRequiredLift}
 use Rattle.comp_state.proofs.Growth.{encoding-with, exports_of, main_known}
 use Rattle.comp_state.proofs.state.EncodingState.encode_lift.Goals as goal
@@ -14,7 +15,10 @@ pub lift-requires-clause-present : goal.lift-requires-clause-present
 lift-requires-clause-present c = subst (λ (e : Encoding). IsSome (core_name_of e.world c.args.key.now)) (sym c.self.view_is) c.requires.present
 
 pub invariant_of-self : goal.invariant_of-self
-invariant_of-self c = encoding-with c.lift.ensures.extends c.lift.ensures.tables c.self.invariant
+invariant_of-self c =
+    let new = c.lift.new.root in
+    let in' = c.self.inside in
+    subst (λ r. IsEncoding r.now new.items.defs new.maps in'.step in'.functions in'.core_names in'.main) (sym c.lift.ensures.world) (encoding-with c.lift.ensures.extends c.lift.ensures.tables c.self.invariant)
 
 pub unwrap-requires : goal.unwrap-requires
 unwrap-requires c = main_known c.self.invariant (ap (λ (e : Encoding). e.step) c.self.view_is ∙ c.requires.instantiated)
