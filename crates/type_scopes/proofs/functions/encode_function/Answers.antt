@@ -1,5 +1,5 @@
-use Rattle.std.proofs.Common.{ap, refl, None}
-use Rattle.type_scopes.proofs.Exporting.{right_then, adds_function, extends_by, extends_function}
+use Rattle.std.proofs.Common.{ap, None}
+use Rattle.type_scopes.proofs.Exporting.{right_then, adds_function, extends_function}
 use Rattle.type_scopes.proofs.functions.encode_function.Goals as goal
 
 pub returns-clause-function : goal.returns-clause-function
