@@ -15,52 +15,64 @@ use Rattle.comp_bytes.specs.declared.types.ExternName.{ExternName}
 use Rattle.comp_bytes.specs.declared.types.Member.{Member}
 use Rattle.comp_bytes.specs.declared.types.Member.TheVariants as members
 use Rattle.comp_bytes.specs.declared.types.Description.TheVariants as descriptions
+use Rattle.comp_trees.specs.Trees.{Resource, FunctionTree}
 use Rattle.comp_trees.specs.WitTrees.{wit_function_tree}
 use Rattle.comp_trees.specs.DefinedTrees.{TypeTree, OfFunctions}
 use Rattle.wit_types.specs.Settings.{Setting}
-use Rattle.wit_types.specs.Denoting.{Longer, Denotes}
+use Rattle.comp_trees.specs.DefinedScopes.{Denotes}
+use Rattle.wit_types.specs.Denoting.{Longer}
 use Rattle.wit_types.specs.declared.maps.TypeEncodingMaps.{TypeEncodingMaps}
 use Rattle.wit_types.proofs.Growing.{longer_none, denotes_as, denotes_on, faithful_after}
-use Rattle.type_scopes.specs.Surroundings.{Surroundings}
-use Rattle.type_scopes.specs.Members.{member_trees}
-use Rattle.type_scopes.specs.Exports.{IsExport, MembersExtend, MembersGrow, function_exports, exported_function}
+use Rattle.comp_trees.specs.Members.{Surroundings, AreMembersRight, member_trees}
+use Rattle.type_scopes.specs.Exports.{IsExport, MembersExtend, MembersGrow, function_exports, exported_function, export_behind, right_on}
 use Rattle.type_scopes.specs.Offers.{Offer, placed}
 use Rattle.type_scopes.specs.Interfaces.{TypesIn, FunctionIn, FunctionsIn, AddsFunctions, IsRight, used_function, used_among}
 use Rattle.type_scopes.proofs.Naming.{types_on}
 use Rattle.type_scopes.proofs.Scoping.{members_more, trees_extend}
 
-pub export_extends : (a b : List Member) → MembersExtend a b → (name : List ℕ) (index : ℕ) → IsExport a name index → IsExport b name index
-export_extends a b g name index h =
+pub export_extends : (s : Surroundings) (a b : List Member) → MembersExtend s a b → (name : List ℕ) (index : ℕ) → IsExport a name index → IsExport b name index
+export_extends s a b g name index h = export_behind a b g.more g.grown name index h
+
+pub extends_none : (s : Surroundings) (ms : List Member) → MembersExtend s ms ms
+extends_none s ms = record { more = []; grown = sym (append-nil ms); right = tt }
+
+pub extends_on : (s : Surroundings) (a b c : List Member) → MembersExtend s a b → MembersExtend s b c → MembersExtend s a c
+extends_on s a b c g h =
     record {
-      before = h.before;
-      after = h.after ++ g.more;
-      extern_name = h.extern_name;
-      description = h.description;
-      there = g.grown ∙ (ap (λ ms. ms ++ g.more) h.there ∙ append_assoc h.before (members.Export h.extern_name h.description ∷ h.after) g.more);
-      named = h.named;
-      makes = h.makes;
-      counted = h.counted;
+      more = g.more ++ h.more;
+      grown = h.grown ∙ (ap (λ m. m ++ h.more) g.grown ∙ append_assoc a g.more h.more);
+      right = right_on s a b g.more h.more g.grown g.right h.right;
     }
 
-pub extends_none : (ms : List Member) → MembersExtend ms ms
-extends_none ms = record { more = []; grown = sym (append-nil ms) }
+pub extends_by : (s : Surroundings) (old new out : List Member) → MembersGrow s old new → out ≡ new → MembersExtend s old out
+extends_by s old new out g kept = record { more = g.more; grown = kept ∙ g.grown; right = g.right }
 
-pub extends_on : (a b c : List Member) → MembersExtend a b → MembersExtend b c → MembersExtend a c
-extends_on a b c g h = record { more = g.more ++ h.more; grown = h.grown ∙ (ap (λ m. m ++ h.more) g.grown ∙ append_assoc a g.more h.more) }
+-- an export of a function of a type of the scope is right
+pub extends_function : (s : Surroundings) (old ms new : List Member) (name : ExternName) (index : ℕ) (f : FunctionTree) → MembersGrow s old ms → new ≡ ms ++ members.Export name (descriptions.Func index) ∷ [] → Denotes (member_trees s [] ms) index (OfFunctions f) → MembersExtend s old new
+extends_function s old ms new name index f g is d =
+    extends_on s old ms new (extends_by s old ms ms g refl)
+    (record { more = members.Export name (descriptions.Func index) ∷ []; grown = is; right = (record { type = f; tree = d.tree }, tt) })
+
+-- members that have grown from none are right
+pub members_right : (s : Surroundings) (first ms new out : List Member) → first ≡ [] → MembersGrow s first ms → MembersExtend s ms new → out ≡ new → AreMembersRight s [] out
+members_right s first ms new out none g h is =
+    let whole : MembersExtend s first new = extends_on s first ms new (extends_by s first ms ms g refl) h in
+    let from_none : MembersExtend s [] new = subst (λ xs. MembersExtend s xs new) none whole in
+    subst (λ xs. AreMembersRight s [] xs) (sym (is ∙ from_none.grown)) from_none.right
 
 same_trees : (s : Surroundings) (ms new : List Member) (name : ExternName) (index : ℕ) → new ≡ ms ++ members.Export name (descriptions.Func index) ∷ [] → member_trees s [] new ≡ member_trees s [] ms
 same_trees s ms new name index is = ap (member_trees s []) is ∙ members_more s [] ms (members.Export name (descriptions.Func index))
 
 -- an export of a function makes no type
-pub right_then : (s : Surroundings) (o p : Offer) (here there : InterfaceId) (ms new : List Member) (maps now : TypeEncodingMaps) (name : ExternName) (index : ℕ) → p ≡ o → there ≡ here → now ≡ maps → new ≡ ms ++ members.Export name (descriptions.Func index) ∷ [] → IsRight s o here ms maps → IsRight s p there new now
-right_then s o p here there ms new maps now name index outer interface kept is right =
-    faithful_after (placed s o here) (placed s p there) (member_trees s [] ms) (member_trees s [] new) (IsExport ms) (IsExport new) maps now right
+pub right_then : (s : Surroundings) (origin : TypeId → Resource) (o p : Offer) (here there : InterfaceId) (ms new : List Member) (maps now : TypeEncodingMaps) (name : ExternName) (index : ℕ) → p ≡ o → there ≡ here → now ≡ maps → new ≡ ms ++ members.Export name (descriptions.Func index) ∷ [] → IsRight s origin o here ms maps → IsRight s origin p there new now
+right_then s origin o p here there ms new maps now name index outer interface kept is right =
+    faithful_after (placed s origin o here) (placed s origin p there) (member_trees s [] ms) (member_trees s [] new) (IsExport ms) (IsExport new) maps now right
     (subst (λ ts. Longer (member_trees s [] ms) ts) (sym (same_trees s ms new name index is)) (longer_none (member_trees s [] ms)))
-    (ap (λ q. placed s q there) outer ∙ ap (placed s o) interface) kept
-    (export_extends ms new (record { more = members.Export name (descriptions.Func index) ∷ []; grown = is }))
+    (ap (λ q. placed s origin q there) outer ∙ ap (placed s origin o) interface) kept
+    (export_behind ms new (members.Export name (descriptions.Func index) ∷ []) is)
 
-pub adds_function : (s : Surroundings) (o : Offer) (here : InterfaceId) (types : List TypeDef) (old ms new : List Member) (name : ExternName) (index : ℕ) (f : Function) → o.types ≡ types → MembersGrow old ms → new ≡ ms ++ members.Export name (descriptions.Func index) ∷ [] → name.name ≡ f.name → Denotes (member_trees s [] ms) index (OfFunctions (wit_function_tree s.origin types f)) → AddsFunctions (placed s o here) (member_trees s [] new) (function_exports old) (function_exports new) (f ∷ [])
-adds_function s o here types old ms new name index f same g is named d =
+pub adds_function : (s : Surroundings) (origin : TypeId → Resource) (o : Offer) (here : InterfaceId) (types : List TypeDef) (old ms new : List Member) (name : ExternName) (index : ℕ) (f : Function) → o.types ≡ types → MembersGrow s old ms → new ≡ ms ++ members.Export name (descriptions.Func index) ∷ [] → name.name ≡ f.name → Denotes (member_trees s [] ms) index (OfFunctions (wit_function_tree origin types f)) → AddsFunctions (placed s origin o here) (member_trees s [] new) (function_exports old) (function_exports new) (f ∷ [])
+adds_function s origin o here types old ms new name index f same g is named d =
     let before : function_exports ms ≡ function_exports old =
     ap function_exports g.grown ∙ (flat_map-append exported_function old g.more ∙ (ap (λ es. function_exports old ++ es) g.types ∙ append-nil (function_exports old))) in
     record {
@@ -70,7 +82,7 @@ adds_function s o here types old ms new name index f same g is named d =
         each = (
           record {
             name = named;
-            denotes = denotes_as d (same_trees s ms new name index is) (ap (λ ts. OfFunctions (wit_function_tree s.origin ts f)) (sym same));
+            denotes = denotes_as d (same_trees s ms new name index is) (ap (λ ts. OfFunctions (wit_function_tree origin ts f)) (sym same));
           },
           tt,
         );
@@ -91,7 +103,7 @@ pub record FunctionsSoFar (t : Setting) (s : Surroundings) (used : List (List �
   pub done : List (List ℕ × Function)
   pub whole : done ++ rest ≡ all
   pub each : FunctionsIn t (member_trees s [] ms) (function_exports ms) (used_among used done)
-  pub extends : MembersExtend first ms
+  pub extends : MembersExtend s first ms
 
 one_used : (used : List (List ℕ × Unit {0})) (entry : List ℕ × Function) → used_among used (entry ∷ []) ≡ used_function used entry
 one_used used entry = flat_map-cons (used_function used) entry [] ∙ append-nil (used_function used entry)
@@ -102,13 +114,13 @@ functions_start t s used ms all none =
       done = [];
       whole = refl;
       each = subst (λ es. FunctionsIn t (member_trees s [] ms) es []) (sym none) (record { each = tt });
-      extends = extends_none ms;
+      extends = extends_none s ms;
     }
 
 function_on : (t : Setting) (old new : List TypeTree) (export : List ℕ × ℕ) (f : Function) → Longer old new → FunctionIn t old export f → FunctionIn t new export f
 function_on t old new export f g h = record { name = h.name; denotes = denotes_on g h.denotes }
 
-pub functions_step : (t : Setting) (s : Surroundings) (used : List (List ℕ × Unit {0})) (first ms new : List Member) (all : List (List ℕ × Function)) (entry : List ℕ × Function) (rest : List (List ℕ × Function)) → FunctionsSoFar t s used first ms all (entry ∷ rest) → MembersExtend ms new → AddsFunctions t (member_trees s [] new) (function_exports ms) (function_exports new) (used_function used entry) → FunctionsSoFar t s used first new all rest
+pub functions_step : (t : Setting) (s : Surroundings) (used : List (List ℕ × Unit {0})) (first ms new : List Member) (all : List (List ℕ × Function)) (entry : List ℕ × Function) (rest : List (List ℕ × Function)) → FunctionsSoFar t s used first ms all (entry ∷ rest) → MembersExtend s ms new → AddsFunctions t (member_trees s [] new) (function_exports ms) (function_exports new) (used_function used entry) → FunctionsSoFar t s used first new all rest
 functions_step t s used first ms new all entry rest h g a =
     let fs = used_among used h.done in
     let was = member_trees s [] ms in
@@ -125,7 +137,7 @@ functions_step t s used first ms new all entry rest h g a =
         each = subst (λ es. AllZip (FunctionIn t now) es (used_among used (h.done ++ entry ∷ []))) (sym a.added)
             (subst (λ gs. AllZip (FunctionIn t now) (function_exports ms ++ a.exports) gs) (sym more) each);
       };
-      extends = extends_on first ms new h.extends g;
+      extends = extends_on s first ms new h.extends g;
     }
 
 pub functions_whole : (t : Setting) (s : Surroundings) (used : List (List ℕ × Unit {0})) (first ms : List Member) (all : List (List ℕ × Function)) → FunctionsSoFar t s used first ms all [] → FunctionsIn t (member_trees s [] ms) (function_exports ms) (used_among used all)
@@ -148,8 +160,8 @@ pub adds_if : {A E : Type 0} (r : Result A E) (t : Setting) (scope : List TypeTr
 adds_if r t scope old new fs gs same h = subst (λ xs. OnOk r (AddsFunctions t scope old new xs)) (sym same) h
 
 -- the types of an interface after its functions
-pub types_later : (s : Surroundings) (o p : Offer) (here there : InterfaceId) (ms new out : List Member) (ids : List TypeId) → p ≡ o → there ≡ here → MembersExtend ms new → out ≡ new → TypesIn (placed s p there) (member_trees s [] ms) (IsExport ms) ids → TypesIn (placed s o here) (member_trees s [] out) (IsExport out) ids
-types_later s o p here there ms new out ids outer interface g is h =
-    subst (λ t. TypesIn t (member_trees s [] out) (IsExport out) ids) (ap (λ q. placed s q there) outer ∙ ap (placed s o) interface)
-    (subst (λ xs. TypesIn (placed s p there) (member_trees s [] xs) (IsExport xs) ids) (sym is)
-    (types_on (placed s p there) (member_trees s [] ms) (member_trees s [] new) (IsExport ms) (IsExport new) ids (trees_extend s ms new g) (export_extends ms new g) h))
+pub types_later : (s : Surroundings) (origin : TypeId → Resource) (o p : Offer) (here there : InterfaceId) (ms new out : List Member) (ids : List TypeId) → p ≡ o → there ≡ here → MembersExtend s ms new → out ≡ new → TypesIn (placed s origin p there) (member_trees s [] ms) (IsExport ms) ids → TypesIn (placed s origin o here) (member_trees s [] out) (IsExport out) ids
+types_later s origin o p here there ms new out ids outer interface g is h =
+    subst (λ t. TypesIn t (member_trees s [] out) (IsExport out) ids) (ap (λ q. placed s origin q there) outer ∙ ap (placed s origin o) interface)
+    (subst (λ xs. TypesIn (placed s origin p there) (member_trees s [] xs) (IsExport xs) ids) (sym is)
+    (types_on (placed s origin p there) (member_trees s [] ms) (member_trees s [] new) (IsExport ms) (IsExport new) ids (trees_extend s ms new g) (export_extends s ms new g) h))

@@ -10,11 +10,12 @@ use Rattle.comp_bytes.specs.declared.types.Member.TheVariants as members
 use Rattle.comp_bytes.specs.declared.types.ExternName.{ExternName}
 use Rattle.comp_bytes.specs.declared.types.Description.{Description}
 use Rattle.comp_trees.specs.DefinedTrees.{TypeTree, OfOthers}
-use Rattle.wit_types.specs.Denoting.{Longer, Denotes, Makes}
+use Rattle.comp_trees.specs.DefinedScopes.{Denotes}
+use Rattle.wit_types.specs.Denoting.{Longer, Makes}
 use Rattle.wit_types.proofs.Growing.{longer_none, longer_on}
-use Rattle.type_scopes.specs.Surroundings.{Surroundings}
-use Rattle.type_scopes.specs.Members.{makes_type, types_in, member_tree, with_member, member_trees}
-use Rattle.type_scopes.specs.Exports.{IsExport, MembersExtend, MembersGrow, exported_function, members_same}
+use Rattle.comp_trees.specs.Members.{Surroundings, IsMemberRight, makes_type, member_tree, with_member, member_trees}
+use Rattle.type_scopes.specs.Members.{types_in}
+use Rattle.type_scopes.specs.Exports.{IsExport, MembersExtend, MembersGrow, exported_function, members_same, members_append}
 
 one_of : Member → ℕ
 one_of m = cond (makes_type m) 1 0
@@ -26,10 +27,6 @@ pub members_more : (s : Surroundings) (scope : List TypeTree) (ms : List Member)
 members_more s scope [] m = refl
 members_more s scope (x ∷ ms) m = members_more s (with_member s scope x) ms m
 
-members_append : (s : Surroundings) (scope : List TypeTree) (ms more : List Member) → member_trees s scope (ms ++ more) ≡ member_trees s (member_trees s scope ms) more
-members_append s scope [] more = refl
-members_append s scope (x ∷ ms) more = members_append s (with_member s scope x) ms more
-
 longer_with : (scope : List TypeTree) (t : TypeTree) (b : Bool) → Longer scope (if b then scope ++ t ∷ [] else scope)
 longer_with scope t true = record { more = t ∷ []; longer = refl }
 longer_with scope t false = longer_none scope
@@ -39,7 +36,7 @@ longer_after s scope [] = longer_none scope
 longer_after s scope (m ∷ ms) = longer_on (longer_with scope (member_tree s scope m) (makes_type m)) (longer_after s (with_member s scope m) ms)
 
 -- more members make a longer scope
-pub trees_extend : (s : Surroundings) (old new : List Member) → MembersExtend old new → Longer (member_trees s [] old) (member_trees s [] new)
+pub trees_extend : (s : Surroundings) (old new : List Member) → MembersExtend s old new → Longer (member_trees s [] old) (member_trees s [] new)
 trees_extend s old new g =
     subst (λ ts. Longer (member_trees s [] old) ts) (sym (ap (member_trees s []) g.grown ∙ members_append s [] old g.more)) (longer_after s (member_trees s [] old) g.more)
 
@@ -73,7 +70,7 @@ denotes_new s old new m index makes at is =
     let t = member_tree s scope m in
     subst (λ ts. Denotes ts index t) (sym (ap (member_trees s []) is ∙ one_more s old m makes))
     (subst (λ k. Denotes (scope ++ t ∷ []) k t) (length_scope s old ∙ sym at)
-    (record { stands = omega (arith, length-append scope (t ∷ [])); tree = get_or-append_seam scope t [] OfOthers }))
+    (record { within = omega (arith, length-append scope (t ∷ [])); tree = get_or-append_seam scope t [] OfOthers }))
 
 -- the result of a call that adds a member which makes a type index
 pub added : (s : Surroundings) (old new : List Member) (m : Member) (r : Result ℕ BuildFault) → makes_type m ≡ true → IfOk r (λ i. i ≡ types_in old) → OnOk r (new ≡ old ++ m ∷ []) → OnErr r (new ≡ old) → Makes (member_trees s [] old) (member_trees s [] new) r (member_tree s (member_trees s [] old) m)
@@ -88,10 +85,10 @@ pub exported_if : (old new : List Member) (name : ExternName) (description : Des
 exported_if old new name description (Ok i) makes at is = exported_new old new name description i makes at is
 exported_if old new name description (Err e) makes at is = tt
 
--- members with one more, which exports no function
-pub grown_by : (old new : List Member) (m : Member) → exported_function m ≡ [] → new ≡ old ++ m ∷ [] → MembersGrow old new
-grown_by old new m none is = record { more = m ∷ []; grown = is; types = ap (λ es. es ++ []) none }
+-- members with one more, which is right and exports no function
+pub grown_by : (s : Surroundings) (old new : List Member) (m : Member) → exported_function m ≡ [] → IsMemberRight s (member_trees s [] old) m → new ≡ old ++ m ∷ [] → MembersGrow s old new
+grown_by s old new m none right is = record { more = m ∷ []; grown = is; right = (right, tt); types = ap (λ es. es ++ []) none }
 
-pub grown_if : {A E : Type 0} (old new : List Member) (m : Member) (r : Result A E) → exported_function m ≡ [] → OnOk r (new ≡ old ++ m ∷ []) → OnErr r (new ≡ old) → MembersGrow old new
-grown_if old new m (Ok i) none is same = grown_by old new m none is
-grown_if old new m (Err e) none is same = subst (λ ms. MembersGrow old ms) (sym same) (members_same old)
+pub grown_if : {A E : Type 0} (s : Surroundings) (old new : List Member) (m : Member) (r : Result A E) → exported_function m ≡ [] → IsMemberRight s (member_trees s [] old) m → OnOk r (new ≡ old ++ m ∷ []) → OnErr r (new ≡ old) → MembersGrow s old new
+grown_if s old new m (Ok i) none right is same = grown_by s old new m none right is
+grown_if s old new m (Err e) none right is same = subst (λ ms. MembersGrow s old ms) (sym same) (members_same s old)

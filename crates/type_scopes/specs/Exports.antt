@@ -2,14 +2,16 @@
 -- `instancedecl`, `exportdecl`).
 use Rattle.std.specs.Prelude.{ℕ, ◌≡◌, true, List, [], ◌∷◌, ◌++◌}
 use Rattle.std.specs.List.{flat_map}
-use Rattle.std.proofs.Common.{refl, sym, ap, ◌∙◌, append_assoc, append-nil}
+use Rattle.std.proofs.Common.{refl, sym, ap, subst, ◌∙◌, append_assoc, append-nil}
 use Rattle.std.proofs.lemmas.Grind.{flat_map-append}
 use Rattle.comp_bytes.specs.declared.types.ExternName.{ExternName}
 use Rattle.comp_bytes.specs.declared.types.Description.{Description}
 use Rattle.comp_bytes.specs.declared.types.Description.TheVariants as descriptions
 use Rattle.comp_bytes.specs.declared.types.Member.{Member}
 use Rattle.comp_bytes.specs.declared.types.Member.TheVariants as members
-use Rattle.type_scopes.specs.Members.{makes_type, types_in}
+use Rattle.comp_trees.specs.DefinedTrees.{TypeTree}
+use Rattle.comp_trees.specs.Members.{Surroundings, AreMembersRight, makes_type, with_member, member_trees}
+use Rattle.type_scopes.specs.Members.{types_in}
 
 -- the member that makes this type index is an export of this name
 pub record IsExport (ms : List Member) (name : List ℕ) (index : ℕ) : Type 0 where
@@ -30,37 +32,56 @@ exported_function other = []
 abbrev pub function_exports : List Member → List (List ℕ × ℕ)
 function_exports ms = flat_map exported_function ms
 
--- members that have grown at their end
-pub record MembersExtend (old new : List Member) : Type 0 where
+-- members that have grown at their end, by right ones
+pub record MembersExtend (s : Surroundings) (old new : List Member) : Type 0 where
   pub more : List Member
   pub grown : new ≡ old ++ more
+  pub right : AreMembersRight s (member_trees s [] old) more
 
--- members that have grown at their end, with no further function
-pub record MembersGrow (old new : List Member) : Type 0 where
+-- the same, with no further function
+pub record MembersGrow (s : Surroundings) (old new : List Member) : Type 0 where
   pub more : List Member
   pub grown : new ≡ old ++ more
+  pub right : AreMembersRight s (member_trees s [] old) more
   pub types : function_exports more ≡ []
 
-pub export_on : (a b : List Member) → MembersGrow a b → (name : List ℕ) (index : ℕ) → IsExport a name index → IsExport b name index
-export_on a b g name index h =
+pub export_behind : (a b more : List Member) → b ≡ a ++ more → (name : List ℕ) (index : ℕ) → IsExport a name index → IsExport b name index
+export_behind a b more grown name index h =
     record {
       before = h.before;
-      after = h.after ++ g.more;
+      after = h.after ++ more;
       extern_name = h.extern_name;
       description = h.description;
-      there = g.grown ∙ (ap (λ ms. ms ++ g.more) h.there ∙ append_assoc h.before (members.Export h.extern_name h.description ∷ h.after) g.more);
+      there = grown ∙ (ap (λ ms. ms ++ more) h.there ∙ append_assoc h.before (members.Export h.extern_name h.description ∷ h.after) more);
       named = h.named;
       makes = h.makes;
       counted = h.counted;
     }
 
-pub members_same : (ms : List Member) → MembersGrow ms ms
-members_same ms = record { more = []; grown = sym (append-nil ms); types = refl }
+pub export_on : (s : Surroundings) (a b : List Member) → MembersGrow s a b → (name : List ℕ) (index : ℕ) → IsExport a name index → IsExport b name index
+export_on s a b g name index h = export_behind a b g.more g.grown name index h
 
-pub members_on : (a b c : List Member) → MembersGrow a b → MembersGrow b c → MembersGrow a c
-members_on a b c g h =
+-- the scope of members behind others, and whether they are right
+pub members_append : (s : Surroundings) (scope : List TypeTree) (ms more : List Member) → member_trees s scope (ms ++ more) ≡ member_trees s (member_trees s scope ms) more
+members_append s scope [] more = refl
+members_append s scope (x ∷ ms) more = members_append s (with_member s scope x) ms more
+
+right_append : (s : Surroundings) (scope : List TypeTree) (ms more : List Member) → AreMembersRight s scope ms → AreMembersRight s (member_trees s scope ms) more → AreMembersRight s scope (ms ++ more)
+right_append s scope [] more a b = b
+right_append s scope (x ∷ ms) more a b = (a.0, right_append s (with_member s scope x) ms more a.1 b)
+
+pub right_on : (s : Surroundings) (a b one two : List Member) → b ≡ a ++ one → AreMembersRight s (member_trees s [] a) one → AreMembersRight s (member_trees s [] b) two → AreMembersRight s (member_trees s [] a) (one ++ two)
+right_on s a b one two grown g h =
+    right_append s (member_trees s [] a) one two g (subst (λ ts. AreMembersRight s ts two) (ap (member_trees s []) grown ∙ members_append s [] a one) h)
+
+pub members_same : (s : Surroundings) (ms : List Member) → MembersGrow s ms ms
+members_same s ms = record { more = []; grown = sym (append-nil ms); right = tt; types = refl }
+
+pub members_on : (s : Surroundings) (a b c : List Member) → MembersGrow s a b → MembersGrow s b c → MembersGrow s a c
+members_on s a b c g h =
     record {
       more = g.more ++ h.more;
+      right = right_on s a b g.more h.more g.grown g.right h.right;
       grown = h.grown ∙ (ap (λ m. m ++ h.more) g.grown ∙ append_assoc a g.more h.more);
       types = flat_map-append exported_function g.more h.more ∙ (ap (λ es. es ++ function_exports h.more) g.types ∙ h.types);
     }

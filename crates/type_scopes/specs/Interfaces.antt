@@ -10,14 +10,15 @@ use Rattle.wit_data.specs.declared.types.Type.TheVariants.{Id}
 use Rattle.wit_data.specs.declared.functions.Function.{Function}
 use Rattle.comp_bytes.specs.declared.types.ComponentValType.{ComponentValType}
 use Rattle.comp_bytes.specs.declared.types.Member.{Member}
+use Rattle.comp_trees.specs.Trees.{Resource}
 use Rattle.comp_trees.specs.WitTrees.{wit_tree, wit_function_tree}
 use Rattle.comp_trees.specs.DefinedTrees.{TypeTree, OfFunctions}
 use Rattle.wit_types.specs.Settings.{Setting}
-use Rattle.wit_types.specs.Denoting.{Denotes, ValueDenotes}
+use Rattle.comp_trees.specs.DefinedScopes.{Denotes}
+use Rattle.wit_types.specs.Denoting.{ValueDenotes}
 use Rattle.wit_types.specs.declared.maps.TypeEncodingMaps.{TypeEncodingMaps}
 use Rattle.wit_types.specs.Maps.{IsNamedValue, Faithful}
-use Rattle.type_scopes.specs.Surroundings.{Surroundings}
-use Rattle.type_scopes.specs.Members.{member_trees}
+use Rattle.comp_trees.specs.Members.{Surroundings, member_trees}
 use Rattle.type_scopes.specs.Exports.{IsExport}
 use Rattle.type_scopes.specs.Offers.{Offer, placed}
 
@@ -54,5 +55,5 @@ pub record AddsFunctions (s : Setting) (scope : List TypeTree) (old new : List (
   pub are : FunctionsIn s scope exports fs
 
 -- the tables of an instance type are right
-abbrev pub IsRight : Surroundings → Offer → InterfaceId → List Member → TypeEncodingMaps → Type 0
-IsRight s o here ms maps = Faithful (placed s o here) (member_trees s [] ms) (IsExport ms) maps
+abbrev pub IsRight : Surroundings → (TypeId → Resource) → Offer → InterfaceId → List Member → TypeEncodingMaps → Type 0
+IsRight s origin o here ms maps = Faithful (placed s origin o here) (member_trees s [] ms) (IsExport ms) maps

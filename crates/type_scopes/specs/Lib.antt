@@ -1,4 +1,4 @@
-pub mod Surroundings
+pub mod Places
 pub mod Members
 pub mod Exports
 pub mod Offers

@@ -1,6 +1,6 @@
 //! An instance type that is being built, as a scope in which types are defined.
 
-ghost use Rattle.std.specs.Prelude.{◌≡◌, ◌++◌, ◌∷◌, [], get_or, Some, is_some, IsTrue, IfOk, IfErr, OnOk, OnErr};
+ghost use Rattle.std.specs.Prelude.{◌≡◌, ◌<◌, ◌++◌, ◌∷◌, [], length, get_or, Some, true, is_some, IsTrue, IfOk, IfErr, OnOk, OnErr};
 ghost use Rattle.std.specs.Option.{IfSome};
 ghost use Rattle.std.proofs.Common.{refl};
 ghost use Rattle.comp_bytes.specs.declared.types.Member.TheVariants as members;
@@ -8,12 +8,13 @@ ghost use Rattle.comp_bytes.specs.declared.types.Alias.TheVariants as aliases;
 ghost use Rattle.comp_bytes.specs.declared.types.Description.TheVariants as descriptions;
 ghost use Rattle.comp_bytes.specs.declared.types.TypeDef.TheVariants as types;
 ghost use Rattle.wit_data.specs.declared.types.Type.TheVariants.{Id};
-ghost use Rattle.comp_trees.specs.Trees.{ResourceAt};
+ghost use Rattle.comp_trees.specs.Trees.{ResourceAt, is_known, is_known_function};
 ghost use Rattle.comp_trees.specs.DefinedTrees.{OfValues, OfFunctions, OfOthers, defined_tree, function_tree};
 ghost use Rattle.wit_types.specs.Settings.{tree_in};
 ghost use Rattle.wit_types.specs.Denoting.{Makes, MayMake, IsCause, exported_or};
 ghost use Rattle.wit_types.specs.Maps.{no_maps};
-ghost use Rattle.type_scopes.specs.Members.{member_trees, types_in, is_full};
+ghost use Rattle.comp_trees.specs.Members.{member_trees};
+ghost use Rattle.type_scopes.specs.Members.{types_in, is_full};
 ghost use Rattle.type_scopes.specs.Exports.{IsExport, MembersGrow, export_on, members_same, members_on};
 ghost use Rattle.type_scopes.specs.Offers.{offered, placed};
 
@@ -93,7 +94,7 @@ impl<'a, P: Placement> InstanceTypeEncoder<'a, P> {
 }
 
 impl<'a, P: Placement> ValtypeEncoder for InstanceTypeEncoder<'a, P> {
-    ghost setting = { λ e. placed P.surroundings e.outer e.interface };
+    ghost setting = { λ e. placed P.surroundings P.origin e.outer e.interface };
 
     ghost scope = { λ e. member_trees P.surroundings [] e.members };
 
@@ -101,19 +102,19 @@ impl<'a, P: Placement> ValtypeEncoder for InstanceTypeEncoder<'a, P> {
 
     ghost with_maps = { λ e m. record e { maps = m } };
 
-    ghost follows = { λ old new. MembersGrow old.members new.members };
+    ghost follows = { λ old new. MembersGrow P.surroundings old.members new.members };
 
     ghost names = { λ e name index. IsExport e.members name index };
 
     ghost refuses = { λ e count. is_full e.members count };
 
-    ghost follows_itself = { λ e. members_same e.members };
+    ghost follows_itself = { λ e. members_same P.surroundings e.members };
 
-    ghost follows_on = { λ a b c g h. members_on a.members b.members c.members g h };
+    ghost follows_on = { λ a b c g h. members_on P.surroundings a.members b.members c.members g h };
 
-    ghost names_kept = { λ a b g name index h. export_on a.members b.members g name index h };
+    ghost names_kept = { λ a b g name index h. export_on P.surroundings a.members b.members g name index h };
 
-    ghost follows_maps = { λ e m. members_same e.members };
+    ghost follows_maps = { λ e m. members_same P.surroundings e.members };
 
     ghost maps_given = { λ e m. refl };
 
@@ -122,40 +123,43 @@ impl<'a, P: Placement> ValtypeEncoder for InstanceTypeEncoder<'a, P> {
     ghost setting_kept = { λ e m. refl };
 
     fn defined_type(&mut self, ty: DefinedType) -> Result<u32, BuildFault>
+        requires known { is_known (defined_tree (member_trees P.surroundings [] self.old.members) ty) ≡ true }
         ensures added { OnOk result (self.new ≡ record self.old { members = self.old.members ++ members.Type (types.Defined ty) ∷ [] }) }
         ensures index { IfOk result (λ index. index ≡ types_in self.old.members) }
         ensures kept { OnErr result (self.new ≡ self.old) }
         ensures makes { Makes (member_trees P.surroundings [] self.old.members) (member_trees P.surroundings [] self.new.members) result (OfValues (defined_tree (member_trees P.surroundings [] self.old.members) ty)) }
-        ensures setting { placed P.surroundings self.new.outer self.new.interface ≡ placed P.surroundings self.old.outer self.old.interface }
+        ensures setting { placed P.surroundings P.origin self.new.outer self.new.interface ≡ placed P.surroundings P.origin self.old.outer self.old.interface }
         ensures maps { self.new.maps ≡ self.old.maps }
-        ensures follows { MembersGrow self.old.members self.new.members }
+        ensures follows { MembersGrow P.surroundings self.old.members self.new.members }
         ensures cause { IfErr result (IsCause is_full self.new.members) }
     {
         self.members.add_type(Member::Type(TypeDef::Defined(ty)))
     }
 
     fn define_function_type(&mut self, ty: FuncTypeDef) -> Result<u32, BuildFault>
+        requires known { is_known_function (function_tree (member_trees P.surroundings [] self.old.members) ty) ≡ true }
         ensures added { OnOk result (self.new ≡ record self.old { members = self.old.members ++ members.Type (types.Func ty) ∷ [] }) }
         ensures index { IfOk result (λ index. index ≡ types_in self.old.members) }
         ensures kept { OnErr result (self.new ≡ self.old) }
         ensures makes { Makes (member_trees P.surroundings [] self.old.members) (member_trees P.surroundings [] self.new.members) result (OfFunctions (function_tree (member_trees P.surroundings [] self.old.members) ty)) }
-        ensures setting { placed P.surroundings self.new.outer self.new.interface ≡ placed P.surroundings self.old.outer self.old.interface }
+        ensures setting { placed P.surroundings P.origin self.new.outer self.new.interface ≡ placed P.surroundings P.origin self.old.outer self.old.interface }
         ensures maps { self.new.maps ≡ self.old.maps }
-        ensures follows { MembersGrow self.old.members self.new.members }
+        ensures follows { MembersGrow P.surroundings self.old.members self.new.members }
         ensures cause { IfErr result (IsCause is_full self.new.members) }
     {
         self.members.add_type(Member::Type(TypeDef::Func(ty)))
     }
 
     fn export_type(&mut self, index: u32, name: ExternName) -> Result<Option<u32>, BuildFault>
+        requires present { index < length (member_trees P.surroundings [] self.old.members) }
         ensures added { OnOk result (self.new ≡ record self.old { members = self.old.members ++ members.Export name (descriptions.TypeEqual index) ∷ [] }) }
         ensures index { IfOk result (λ index. index ≡ Some (types_in self.old.members)) }
         ensures kept { OnErr result (self.new ≡ self.old) }
         ensures names { IfOk result (λ exported. IsExport self.new.members name.name (exported_or exported index)) }
         ensures makes { MayMake (member_trees P.surroundings [] self.old.members) (member_trees P.surroundings [] self.new.members) result (get_or (member_trees P.surroundings [] self.old.members) index OfOthers) }
-        ensures setting { placed P.surroundings self.new.outer self.new.interface ≡ placed P.surroundings self.old.outer self.old.interface }
+        ensures setting { placed P.surroundings P.origin self.new.outer self.new.interface ≡ placed P.surroundings P.origin self.old.outer self.old.interface }
         ensures maps { self.new.maps ≡ self.old.maps }
-        ensures follows { MembersGrow self.old.members self.new.members }
+        ensures follows { MembersGrow P.surroundings self.old.members self.new.members }
         ensures cause { IfErr result (IsCause is_full self.new.members) }
     {
         let description = Description::TypeEqual(index);
@@ -167,10 +171,10 @@ impl<'a, P: Placement> ValtypeEncoder for InstanceTypeEncoder<'a, P> {
         ensures index { IfOk result (λ index. index ≡ types_in self.old.members) }
         ensures kept { OnErr result (self.new ≡ self.old) }
         ensures names { IfOk result (λ index. IsExport self.new.members name.name index) }
-        ensures makes { Makes (member_trees P.surroundings [] self.old.members) (member_trees P.surroundings [] self.new.members) result (OfValues (ResourceAt (P.surroundings.address name.name))) }
-        ensures setting { placed P.surroundings self.new.outer self.new.interface ≡ placed P.surroundings self.old.outer self.old.interface }
+        ensures makes { Makes (member_trees P.surroundings [] self.old.members) (member_trees P.surroundings [] self.new.members) result (OfValues (ResourceAt (P.surroundings.resource name.name))) }
+        ensures setting { placed P.surroundings P.origin self.new.outer self.new.interface ≡ placed P.surroundings P.origin self.old.outer self.old.interface }
         ensures maps { self.new.maps ≡ self.old.maps }
-        ensures follows { MembersGrow self.old.members self.new.members }
+        ensures follows { MembersGrow P.surroundings self.old.members self.new.members }
         ensures cause { IfErr result (IsCause is_full self.new.members) }
     {
         let description = Description::SubResource;
@@ -182,10 +186,10 @@ impl<'a, P: Placement> ValtypeEncoder for InstanceTypeEncoder<'a, P> {
         ensures added { OnOk result (IfSome (offered self.old.outer interface id) (λ outer. self.new ≡ record self.old { members = self.old.members ++ members.Alias (aliases.Outer 1 outer) ∷ [] })) }
         ensures index { IfOk result (λ index. index ≡ types_in self.old.members) }
         ensures kept { OnErr result (self.new ≡ self.old) }
-        ensures makes { Makes (member_trees P.surroundings [] self.old.members) (member_trees P.surroundings [] self.new.members) result (OfValues (tree_in (placed P.surroundings self.old.outer self.old.interface) (Some (Id id)))) }
-        ensures setting { placed P.surroundings self.new.outer self.new.interface ≡ placed P.surroundings self.old.outer self.old.interface }
+        ensures makes { Makes (member_trees P.surroundings [] self.old.members) (member_trees P.surroundings [] self.new.members) result (OfValues (tree_in (placed P.surroundings P.origin self.old.outer self.old.interface) (Some (Id id)))) }
+        ensures setting { placed P.surroundings P.origin self.new.outer self.new.interface ≡ placed P.surroundings P.origin self.old.outer self.old.interface }
         ensures maps { self.new.maps ≡ self.old.maps }
-        ensures follows { MembersGrow self.old.members self.new.members }
+        ensures follows { MembersGrow P.surroundings self.old.members self.new.members }
         ensures cause { IfErr result (IsCause is_full self.new.members) }
     {
         match self.outer.index_of(interface, id) {

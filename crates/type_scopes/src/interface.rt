@@ -5,8 +5,9 @@ ghost use Rattle.std.specs.List.{AllByRecursion};
 ghost use Rattle.wit_data.specs.declared.types.Type.TheVariants.{Id};
 ghost use Rattle.wit_data.specs.Sound.{IsSound, HasTypeId, HasFunction};
 ghost use Rattle.wit_types.specs.Allowing.{is_allowed, allows_function};
-ghost use Rattle.type_scopes.specs.Surroundings.{Surroundings};
-ghost use Rattle.type_scopes.specs.Members.{member_trees, IsExcess};
+ghost use Rattle.comp_trees.specs.Members.{AreMembersRight, member_trees};
+ghost use Rattle.type_scopes.specs.Places.{Place};
+ghost use Rattle.type_scopes.specs.Members.{IsExcess};
 ghost use Rattle.type_scopes.specs.Exports.{IsExport, function_exports};
 ghost use Rattle.type_scopes.specs.Offers.{IsOffered, placed};
 ghost use Rattle.type_scopes.specs.Interfaces.{TypesIn, FunctionsIn, used_among};
@@ -35,21 +36,22 @@ pub fn encode_interface_type(
     used: &Keyed<Text, ()>,
     functions: &Keyed<Text, Function>,
 ) -> Result<InstanceType, BuildFault>
-    ghost surroundings: { Surroundings }
+    ghost place: { Place }
     requires sound { IsSound resolve.now }
-    requires offered { IsOffered surroundings (record { types = resolve.now.types; table = table.now }) }
+    requires offered { IsOffered place.surroundings place.origin (record { types = resolve.now.types; table = table.now }) }
     requires types { AllByRecursion (λ id. HasTypeId resolve.now id) types.now }
     requires functions { AllByRecursion (λ e. HasFunction resolve.now e.1) functions.now }
-    requires allowed { AllByRecursion (λ id. is_allowed (placed surroundings (record { types = resolve.now.types; table = table.now }) interface) (Some (Id id)) ≡ true) types.now }
-    requires allows { AllByRecursion (λ f. allows_function (placed surroundings (record { types = resolve.now.types; table = table.now }) interface) f ≡ true) (used_among used.now functions.now) }
-    ensures types { IfOk result (λ ty. TypesIn (placed surroundings (record { types = resolve.now.types; table = table.now }) interface) (member_trees surroundings [] ty.members) (IsExport ty.members) types.now) }
-    ensures functions { IfOk result (λ ty. FunctionsIn (placed surroundings (record { types = resolve.now.types; table = table.now }) interface) (member_trees surroundings [] ty.members) (function_exports ty.members) (used_among used.now functions.now)) }
+    requires allowed { AllByRecursion (λ id. is_allowed (placed place.surroundings place.origin (record { types = resolve.now.types; table = table.now }) interface) (Some (Id id)) ≡ true) types.now }
+    requires allows { AllByRecursion (λ f. allows_function (placed place.surroundings place.origin (record { types = resolve.now.types; table = table.now }) interface) f ≡ true) (used_among used.now functions.now) }
+    ensures types { IfOk result (λ ty. TypesIn (placed place.surroundings place.origin (record { types = resolve.now.types; table = table.now }) interface) (member_trees place.surroundings [] ty.members) (IsExport ty.members) types.now) }
+    ensures functions { IfOk result (λ ty. FunctionsIn (placed place.surroundings place.origin (record { types = resolve.now.types; table = table.now }) interface) (member_trees place.surroundings [] ty.members) (function_exports ty.members) (used_among used.now functions.now)) }
+    ensures members { IfOk result (λ ty. AreMembersRight place.surroundings [] ty.members) }
     ensures cause { IfErr result IsExcess }
 {
     encode_placed::<Brand>(alloc, resolve, table, interface, types, used, functions)
 }
 
-/// The same at a placement, which says what the surroundings are.
+/// The same at a placement, which says what the place is.
 fn encode_placed<P: Placement>(
     alloc: Global,
     resolve: &Resolve,
@@ -60,13 +62,14 @@ fn encode_placed<P: Placement>(
     functions: &Keyed<Text, Function>,
 ) -> Result<InstanceType, BuildFault>
     requires sound { IsSound resolve.now }
-    requires offered { IsOffered P.surroundings (record { types = resolve.now.types; table = table.now }) }
+    requires offered { IsOffered P.surroundings P.origin (record { types = resolve.now.types; table = table.now }) }
     requires types { AllByRecursion (λ id. HasTypeId resolve.now id) types.now }
     requires functions { AllByRecursion (λ e. HasFunction resolve.now e.1) functions.now }
-    requires allowed { AllByRecursion (λ id. is_allowed (placed P.surroundings (record { types = resolve.now.types; table = table.now }) interface) (Some (Id id)) ≡ true) types.now }
-    requires allows { AllByRecursion (λ f. allows_function (placed P.surroundings (record { types = resolve.now.types; table = table.now }) interface) f ≡ true) (used_among used.now functions.now) }
-    ensures types { IfOk result (λ ty. TypesIn (placed P.surroundings (record { types = resolve.now.types; table = table.now }) interface) (member_trees P.surroundings [] ty.members) (IsExport ty.members) types.now) }
-    ensures functions { IfOk result (λ ty. FunctionsIn (placed P.surroundings (record { types = resolve.now.types; table = table.now }) interface) (member_trees P.surroundings [] ty.members) (function_exports ty.members) (used_among used.now functions.now)) }
+    requires allowed { AllByRecursion (λ id. is_allowed (placed P.surroundings P.origin (record { types = resolve.now.types; table = table.now }) interface) (Some (Id id)) ≡ true) types.now }
+    requires allows { AllByRecursion (λ f. allows_function (placed P.surroundings P.origin (record { types = resolve.now.types; table = table.now }) interface) f ≡ true) (used_among used.now functions.now) }
+    ensures types { IfOk result (λ ty. TypesIn (placed P.surroundings P.origin (record { types = resolve.now.types; table = table.now }) interface) (member_trees P.surroundings [] ty.members) (IsExport ty.members) types.now) }
+    ensures functions { IfOk result (λ ty. FunctionsIn (placed P.surroundings P.origin (record { types = resolve.now.types; table = table.now }) interface) (member_trees P.surroundings [] ty.members) (function_exports ty.members) (used_among used.now functions.now)) }
+    ensures members { IfOk result (λ ty. AreMembersRight P.surroundings [] ty.members) }
     ensures cause { IfErr result IsExcess }
 {
     let outer: OuterTypes<'_, P> = OuterTypes::new(resolve, table);

@@ -1,10 +1,10 @@
 //! The instance type of an interface is a scope in which types are defined.
 //!
 //! The members of an instance type are listed one after the other, and some of them make a type index: a type that is
-//! defined, an alias of a type of the outer scope, an export of a type or of a resource. `specs/Members.antt` says what
-//! each of these indices denotes, from what the indices of the outer scope denote and where the resources are that are
-//! exported. No code knows either: the contract of [`encode_interface_type`] holds whatever they are, and its caller picks
-//! them by its ghost value. [`InstanceTypeEncoder`] has them by a type parameter, a [`Placement`].
+//! defined, an alias of a type of the outer scope, an export of a type or of a resource. What each of these indices denotes
+//! follows from what the indices of the outer scope denote and what the resources are that are exported (`comp_trees`). No
+//! code knows either: the contract of [`encode_interface_type`] holds whatever they are, and its caller picks them by its
+//! ghost value. [`InstanceTypeEncoder`] has them by a type parameter, a [`Placement`].
 //!
 //! No encoder holds its parent. What the instance type needs of the outer scope is aliased there before, and a table has
 //! the index of each such type ([`OuterTypes`]).
@@ -13,7 +13,7 @@
 //! `outer_types` (the table), `member_list` (the members, and the number of their type indices), `instance_type` (the scope),
 //! `named_types` (types, one after the other), `functions` (functions, one after the other), `interface` (both).
 //!
-//! In `specs/`: `Surroundings` (what an instance type is defined in), `Members` (what type indices denote), `Exports` (what
+//! In `specs/`: `Places` (where an instance type is defined), `Members` (how many type indices members make), `Exports` (what
 //! is exported, and how members grow), `Offers` (what the outer scope offers, and what definitions take as given),
 //! `Interfaces` (what the types and functions of an interface are in a scope).
 //!
@@ -21,7 +21,8 @@
 //! why; and where [`encode_interface_type`] succeeds, each given type has a value type in the instance type that denotes
 //! its tree, which is that of its export where it is a type of the scope that has a name and belongs to the interface, and
 //! the functions that are exported are those of the given ones whose names are used, in their order, each of a type that
-//! denotes the function's. A refusal is out of memory, or more type indices than there can be.
+//! denotes the function's; and each member is right (`AreMembersRight` of `comp_trees`), so that an instance of the type can be
+//! imported. A refusal is out of memory, or more type indices than there can be.
 #![tactic(auto)]
 
 mod functions;

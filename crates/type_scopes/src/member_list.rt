@@ -4,7 +4,8 @@ ghost use Rattle.std.specs.Prelude.{◌≡◌, ◌++◌, ◌∷◌, [], IfOk, If
 ghost use Rattle.comp_bytes.specs.declared.types.Member.TheVariants as members;
 ghost use Rattle.comp_bytes.specs.declared.types.Description.TheVariants as descriptions;
 ghost use Rattle.wit_types.specs.Denoting.{IsCause};
-ghost use Rattle.type_scopes.specs.Members.{makes_type, types_in, is_full};
+ghost use Rattle.comp_trees.specs.Members.{makes_type};
+ghost use Rattle.type_scopes.specs.Members.{types_in, is_full};
 
 use byte_encoding::{BuildFault, next_count};
 use comp_bytes::{Description, ExternName, Member};

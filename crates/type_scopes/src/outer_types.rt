@@ -5,7 +5,7 @@ ghost use Rattle.std.specs.Option.{IfSome};
 ghost use Rattle.wit_data.specs.declared.types.Type.TheVariants.{Id};
 ghost use Rattle.comp_trees.specs.WitTrees.{wit_tree};
 ghost use Rattle.comp_trees.specs.DefinedTrees.{OfValues};
-ghost use Rattle.wit_types.specs.Denoting.{Denotes};
+ghost use Rattle.comp_trees.specs.DefinedScopes.{Denotes};
 ghost use Rattle.type_scopes.specs.Offers.{IsOffered, offered};
 
 use crate::outer_type::OuterType;
@@ -38,13 +38,13 @@ impl<'a, P: Placement> Model for OuterTypes<'a, P> {
 
     ghost view = { λ o. record { types = o.resolve.now.types; table = o.table.now } };
 
-    ghost invariant = { λ o. IsOffered P.surroundings (record { types = o.resolve.now.types; table = o.table.now }) };
+    ghost invariant = { λ o. IsOffered P.surroundings P.origin (record { types = o.resolve.now.types; table = o.table.now }) };
 }
 
 impl<'a, P: Placement> OuterTypes<'a, P> {
     /// What a table offers, whose indices denote the types of the resolve in the outer scope.
     pub fn new(resolve: &'a Resolve, table: &'a Keyed<OuterType, u32>) -> OuterTypes<'a, P>
-        requires { IsOffered P.surroundings (record { types = resolve.now.types; table = table.now }) }
+        requires { IsOffered P.surroundings P.origin (record { types = resolve.now.types; table = table.now }) }
         ensures { result ≡ record { types = resolve.entry.now.types; table = table.entry.now } }
     {
         OuterTypes {
@@ -57,7 +57,7 @@ impl<'a, P: Placement> OuterTypes<'a, P> {
     /// The index in the outer scope of a type of another interface.
     pub fn index_of(&self, interface: InterfaceId, id: TypeId) -> Option<u32>
         ensures found { result ≡ offered self.now interface id }
-        ensures denotes { IfSome result (λ index. Denotes P.surroundings.outer index (OfValues (wit_tree P.surroundings.origin self.now.types (Some (Id id))))) }
+        ensures denotes { IfSome result (λ index. Denotes P.surroundings.outer index (OfValues (wit_tree P.origin self.now.types (Some (Id id))))) }
     {
         self.table.get(&OuterType { interface, id }).copied()
     }

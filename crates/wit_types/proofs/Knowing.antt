@@ -5,7 +5,7 @@ use Rattle.wit_data.specs.declared.types.Type.{«Type» as Ty}
 use Rattle.wit_data.specs.declared.types.Field.{Field as WitField}
 use Rattle.wit_data.specs.declared.types.TypeDefKind.{TypeDefKind}
 use Rattle.wit_data.specs.Parts.{parts}
-use Rattle.comp_trees.specs.Trees.{Tree, ParamTree, is_known, is_known_result, is_known_function}
+use Rattle.comp_trees.specs.Trees.{ParamTree, is_known, is_known_result, is_known_function}
 use Rattle.comp_trees.specs.WitTrees.{kind_tree}
 use Rattle.comp_trees.specs.DefinedTrees.{TypeTree, OfValues, values_of, tree_at}
 use Rattle.comp_trees.specs.DefinedScopes.{Denotes}

@@ -35,6 +35,12 @@ pub allowed_of_id : (s : Setting) (id : TypeId) → RefersBack s.types → id.in
 unfolding is_allowed
 allowed_of_id s id back within = made_whole (allowing s) s.types id.index back within
 
+-- a type that is in the tables may be encoded
+pub allowed_met : (s : Setting) (id : TypeId) → RefersBack s.types → id.index < length s.types → s.met id ≡ true → is_allowed s (Some (Id id)) ≡ true
+allowed_met s id back within met =
+    let made = may_make s id.index (kind_at s.types id.index) (map (is_allowed s) (parts (kind_at s.types id.index))) (foreign s.interface (owner_at s.types id.index)) in
+    allowed_of_id s id back within ∙ ap (λ b. if b then true else made) met
+
 -- a type that is not in the tables may be made
 may_be_made : (s : Setting) (id : TypeId) → RefersBack s.types → id.index < length s.types → s.met id ≡ false → is_allowed s (Some (Id id)) ≡ true → may_make s id.index (kind_at s.types id.index) (map (is_allowed s) (parts (kind_at s.types id.index))) (foreign s.interface (owner_at s.types id.index)) ≡ true
 may_be_made s id back within unmet allowed =

@@ -3,7 +3,9 @@
 //! A scope is a component or an instance type. What it can do is the trait [`ValtypeEncoder`]: define a type, export one
 //! under its name, export a resource, import a type of another interface. Its ghost members say what each type index
 //! denotes, as a tree (`comp_trees`), and what the definitions take as given (`specs/Settings.antt`): the types of the
-//! resolve, the interface whose types are defined there, what each resource is, and what may be imported and exported. The functions of this crate are proved once, for every implementation.
+//! resolve, the interface whose types are defined there, what each resource is, what may be imported and exported, and which
+//! types are in the tables already. A scope may rely on it that nothing is unknown in what it is asked to define. The
+//! functions of this crate are proved once, for every implementation.
 //!
 //! A type is encoded once in a scope: its index is kept in tables ([`TypeEncodingMaps`]), by its number, by its kind where
 //! it has no name, and, for types of functions, by parameters and result. The parts of a type are encoded before it, in
@@ -23,9 +25,11 @@
 //! Upward this crate promises: where [`encode_valtype`] succeeds, its result denotes the tree of the WIT type; a type
 //! that is one of the scope is in the tables, and its index is that of its export where it has a name and the scope
 //! exports its types; the index that [`encode_func_type`] returns denotes the tree of the function, and those of
-//! [`encode_unit_stream`] and [`encode_unit_future`] a stream and a future that carry nothing. Whatever the result, types
-//! were added at the end of the scope alone, the tables are right, and the scope has become one that its implementation
-//! allows (`follows`). A refusal is out of memory, or that of a call of the scope (`IsCause`).
+//! [`encode_unit_stream`] and [`encode_unit_future`] a stream and a future that carry nothing. A scope that gives a type its
+//! name itself takes a definition without the name from [`encode_definition`], whose index denotes the type's tree, and says
+//! by [`record_type_index`] which index has the name; later types find it in the tables. Whatever the result, types were
+//! added at the end of the scope alone, the tables are right, and the scope has become one that its implementation allows
+//! (`follows`). A refusal is out of memory, or that of a call of the scope (`IsCause`).
 #![tactic(auto)]
 
 mod calls;

@@ -4,18 +4,18 @@ use Rattle.wit_data.specs.declared.functions.Function.{Function}
 use Rattle.wit_data.specs.Sound.{HasFunction}
 use Rattle.wit_types.specs.Settings.{Setting}
 use Rattle.wit_types.specs.Allowing.{allows_function}
-use Rattle.type_scopes.specs.Members.{member_trees}
+use Rattle.comp_trees.specs.Members.{member_trees}
 use Rattle.type_scopes.specs.Exports.{function_exports}
 use Rattle.type_scopes.specs.Offers.{placed}
 use Rattle.type_scopes.specs.Interfaces.{AddsFunctions, used_function, used_among}
-use Rattle.type_scopes.proofs.Exporting.{FunctionsSoFar, functions_step, of_entry}
+use Rattle.type_scopes.proofs.Exporting.{FunctionsSoFar, functions_step, of_entry, extends_on}
 use Rattle.type_scopes.proofs.functions.encode_functions.Goals as goal
 
 pub loop-name-preserved : goal.loop-name-preserved
 loop-name-preserved g c =
     let entry : List ℕ × Function = (c.in-Some.name.now, c.in-Some.function.now) in
     let s = g.P.Placement.surroundings in
-    let t = placed s c.args.encoder.now.outer c.args.encoder.now.interface in
+    let t = placed s g.P.Placement.origin c.args.encoder.now.outer c.args.encoder.now.interface in
     let first = c.args.encoder.now.members in
     let old = c.loop-name.encoder.members in
     let new = c.encode_used.new.encoder.members in
@@ -40,8 +40,13 @@ pub encode_used-requires-clause-allowed : goal.encode_used-requires-clause-allow
 encode_used-requires-clause-allowed g c =
     let entry : List ℕ × Function = (c.in-Some.name.now, c.in-Some.function.now) in
     let s = g.P.Placement.surroundings in
-    let t = placed s c.args.encoder.now.outer c.args.encoder.now.interface in
+    let t = placed s g.P.Placement.origin c.args.encoder.now.outer c.args.encoder.now.interface in
     let i = c.loop-name.invariant.2 in
     subst (λ (r : Setting). AllByRecursion (λ f. allows_function r f ≡ true) (used_function c.args.used.now entry)) (sym i.setting)
     (of_entry (λ f. allows_function t f ≡ true) c.args.used.now entry c.next.new.self
     (subst (λ (es : List (List ℕ × Function)). AllByRecursion (λ f. allows_function t f ≡ true) (used_among c.args.used.now es)) c.in-Some.ensures.steps i.allowed)).0
+
+pub returns-in_err-encode_used-clause-extends : goal.returns-in_err-encode_used-clause-extends
+returns-in_err-encode_used-clause-extends g c =
+    extends_on g.P.Placement.surroundings c.args.encoder.now.members c.loop-name.encoder.members c.encode_used.new.encoder.members
+    c.loop-name.invariant.2.so_far.extends c.in_err-encode_used.ensures.extends

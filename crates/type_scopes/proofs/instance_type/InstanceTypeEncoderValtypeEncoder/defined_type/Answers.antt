@@ -8,4 +8,4 @@ pub returns-clause-makes : goal.returns-clause-makes
 returns-clause-makes g c = added g.P.Placement.surroundings c.args.self.now.members c.add_type.new.self (members.Type (types.Defined c.args.ty)) c.add_type.result refl c.add_type.ensures.index c.add_type.ensures.ok c.add_type.ensures.err
 
 pub returns-clause-follows : goal.returns-clause-follows
-returns-clause-follows g c = grown_if c.args.self.now.members c.add_type.new.self (members.Type (types.Defined c.args.ty)) c.add_type.result refl c.add_type.ensures.ok c.add_type.ensures.err
+returns-clause-follows g c = grown_if g.P.Placement.surroundings c.args.self.now.members c.add_type.new.self (members.Type (types.Defined c.args.ty)) c.add_type.result refl c.requires.known c.add_type.ensures.ok c.add_type.ensures.err

@@ -12,4 +12,4 @@ pub returns-clause-names : goal.returns-clause-names
 returns-clause-names g c = exported_if c.args.self.now.members c.add_type.new.self c.args.name descriptions.SubResource c.add_type.result refl c.add_type.ensures.index c.add_type.ensures.ok
 
 pub returns-clause-follows : goal.returns-clause-follows
-returns-clause-follows g c = grown_if c.args.self.now.members c.add_type.new.self (members.Export c.args.name descriptions.SubResource) c.add_type.result refl c.add_type.ensures.ok c.add_type.ensures.err
+returns-clause-follows g c = grown_if g.P.Placement.surroundings c.args.self.now.members c.add_type.new.self (members.Export c.args.name descriptions.SubResource) c.add_type.result refl tt c.add_type.ensures.ok c.add_type.ensures.err

@@ -15,4 +15,4 @@ returns-clause-names g c =
     exported_new c.args.self.now.members c.add_type.new.self c.args.name (descriptions.TypeEqual c.args.index) c.in_ok-add_type.field-0 refl c.in_ok-add_type.ensures.index c.in_ok-add_type.ensures.ok
 
 pub returns-clause-follows : goal.returns-clause-follows
-returns-clause-follows g c = grown_by c.args.self.now.members c.add_type.new.self (members.Export c.args.name (descriptions.TypeEqual c.args.index)) refl c.in_ok-add_type.ensures.ok
+returns-clause-follows g c = grown_by g.P.Placement.surroundings c.args.self.now.members c.add_type.new.self (members.Export c.args.name (descriptions.TypeEqual c.args.index)) refl c.requires.present c.in_ok-add_type.ensures.ok
