@@ -108,8 +108,9 @@ fn unless_left_out(alloc: Global, parts: WorldParts) -> Result<ComponentWorld, F
 /// It refuses with `LeftOut` and the kind of something of the world that is not encoded yet: `async`,
 /// `type`, `world-func` or `interface` of an item of the world, `interface` or `type` of a type, the kind
 /// of a role of main's imports or exports, `library`, or `adapter`. The only other refusal is out of
-/// memory. On top of `world_of_parts` it takes no memory, and time linear in the number of items, of
-/// the nodes of their functions' types, of types, of core imports and of core exports.
+/// memory. On top of `world_of_parts` it takes time linear in the number of items, of the nodes of
+/// their functions' types, of types, of core imports and of core exports, and no memory but that of
+/// the refusal's text.
 #[tactic(auto, using(crate::proofs::Reporting::no_cause, crate::proofs::Reporting::has_cause))]
 pub fn encoded_world(alloc: Global, parts: WorldParts) -> Result<ComponentWorld, Failure>
     requires { HasSoundParts parts }
