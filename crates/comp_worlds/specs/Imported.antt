@@ -1,5 +1,5 @@
 -- How what a world imports is lowered for core modules (Canonical ABI: `canon lower`, `resource.drop`).
-use Rattle.std.specs.Prelude.{ℕ, Bool, ◌&&◌, if◌then◌else◌, List, [], ◌∷◌, ◌++◌, codes, Option, Some, None}
+use Rattle.std.specs.Prelude.{ℕ, Bool, if◌then◌else◌, List, [], ◌∷◌, ◌++◌, codes, Option, Some, None}
 use Rattle.std.specs.Option.{option_eq}
 use Rattle.std.specs.List.{flat_map}
 use Rattle.world_values.specs.Tables.{with_all}

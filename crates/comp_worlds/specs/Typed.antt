@@ -2,9 +2,7 @@
 -- ABI: `canon lower`, `canon lift`; core standard, validation: imports and exports).
 use Rattle.std.specs.Prelude.{◌≡◌, ℕ, List, Option, Some, None, option_map}
 use Rattle.comp_lists.specs.Found.{found}
-use Rattle.wit_data.specs.declared.functions.Function.{Function}
 use Rattle.wit_data.specs.declared.worlds.World.{World}
-use Rattle.wit_data.specs.declared.worlds.WorldKey.{WorldKey}
 use Rattle.wit_data.specs.declared.resolve.Resolve.{Resolve}
 use Rattle.comp_roles.specs.CoreImports.{role_at}
 use Rattle.comp_roles.specs.CoreTypes.{called_type}

@@ -62,7 +62,8 @@ unfolding stub_parts stub_world
 valid_of bytes core = record {
   sound = sound;
   present = omega arith;
-  imports = ((refl, record { kind = refl; params = refl; result = refl }), tt);
+  types = tt;
+  imports = ((refl, record { kind = refl; imported = refl; exported = refl }), tt);
   exports = tt;
   import_names_apart = alone (codes "f");
   export_names_apart = none;

@@ -16,8 +16,8 @@ use Rattle.record_faults.specs.declared.fault.Failure.{Failure}
 use Rattle.record_faults.specs.declared.fault.Failure.TheVariants as failures
 use Rattle.record_faults.specs.declared.fault.Refusal.{Refusal}
 use Rattle.record_faults.specs.declared.fault.Refusal.TheVariants as refusals
-use Rattle.supported_worlds.specs.LeftOut.{items_of, item_left_out, import_left_out, export_left_out, group_left_out, world_left_out, module_left_out, adapters_left_out, left_out, unless_left_out, encoded}
-use Rattle.supported_worlds.specs.Causes.{IsLeftOut, imported, exported, import_role, export_role, whole_module, adapter}
+use Rattle.supported_worlds.specs.LeftOut.{items_of, import_item_left_out, export_item_left_out, type_left_out, import_left_out, export_left_out, group_left_out, world_left_out, types_left_out, module_left_out, adapters_left_out, modules_left_out, left_out, unless_left_out, encoded}
+use Rattle.supported_worlds.specs.Causes.{IsLeftOut, imported, exported, type_def, import_role, export_role, whole_module, adapter}
 use Rattle.supported_worlds.proofs.Lists.{nothing, at_front, not_there, in_flat_map, neither, one_of, none_picked, one_picked}
 
 -- ---- where nothing is reported
@@ -44,21 +44,24 @@ no_adapters (a ∷ more) h = nothing (codes "adapter") h
 
 -- nothing of a world is left out
 pub record IsEncoded (p : WorldParts) : Type 0 where
-  pub imports : AllByRecursion (λ e. item_left_out e ≡ None) (items_of p).imports
-  pub exports : AllByRecursion (λ e. item_left_out e ≡ None) (items_of p).exports
+  pub imports : AllByRecursion (λ e. import_item_left_out p.resolve.types e ≡ None) (items_of p).imports
+  pub exports : AllByRecursion (λ e. export_item_left_out p.resolve.types e ≡ None) (items_of p).exports
+  pub types : AllByRecursion (λ t. type_left_out t ≡ None) p.resolve.types
   pub groups : AllByRecursion (λ g. group_left_out g ≡ None) p.main.imports.modules
   pub export_roles : AllByRecursion (λ e. export_left_out e.1 ≡ None) p.main.exports.exports
   pub alone : p.adapters ≡ []
 
 pub all_encoded : (p : WorldParts) → left_out p ≡ None → IsEncoded p
 all_encoded p h =
-    let a = neither (world_left_out (items_of p)) _ h in
-    let w = neither (first_some item_left_out (items_of p).imports) _ a.0 in
-    let b = neither (module_left_out p.main) (adapters_left_out p.adapters) a.1 in
+    let a = neither (world_left_out p.resolve.types (items_of p)) _ h in
+    let w = neither (first_some (import_item_left_out p.resolve.types) (items_of p).imports) _ a.0 in
+    let t = neither (types_left_out p.resolve.types) (modules_left_out p) a.1 in
+    let b = neither (module_left_out p.main) (adapters_left_out p.adapters) t.1 in
     let m = neither (first_some group_left_out p.main.imports.modules) _ b.0 in
     record {
-      imports = none_picked item_left_out (items_of p).imports w.0;
-      exports = none_picked item_left_out (items_of p).exports w.1;
+      imports = none_picked (import_item_left_out p.resolve.types) (items_of p).imports w.0;
+      exports = none_picked (export_item_left_out p.resolve.types) (items_of p).exports w.1;
+      types = none_picked type_left_out p.resolve.types t.0;
       groups = none_picked group_left_out p.main.imports.modules m.0;
       export_roles = none_picked (λ e. export_left_out e.1) p.main.exports.exports m.1;
       alone = no_adapters p.adapters b.1;
@@ -69,8 +72,9 @@ none_of : {X : Type 0} (reported : X → Option (List ℕ)) (xs : List X) (x : X
 none_of reported xs x what h m e = nothing what (sym e ∙ AllByRecursion-contains (λ y. reported y ≡ None) xs x h m)
 
 by_cases : (p : WorldParts) → IsEncoded p → (f : Refusal) → IsLeftOut p f → ⊥
-by_cases p h f (imported entry what m e) = none_of item_left_out (items_of p).imports entry what h.imports m e
-by_cases p h f (exported entry what m e) = none_of item_left_out (items_of p).exports entry what h.exports m e
+by_cases p h f (imported entry what m e) = none_of (import_item_left_out p.resolve.types) (items_of p).imports entry what h.imports m e
+by_cases p h f (exported entry what m e) = none_of (export_item_left_out p.resolve.types) (items_of p).exports entry what h.exports m e
+by_cases p h f (type_def def what m e) = none_of type_left_out p.resolve.types def what h.types m e
 by_cases p h f (import_role import what m e) = none_of (λ i. import_left_out i.role) (flat_map imports_from p.main.imports.modules) import what (imports_pass p.main.imports.modules h.groups) m e
 by_cases p h f (export_role entry what m e) = none_of (λ x. export_left_out x.1) p.main.exports.exports entry what h.export_roles m e
 by_cases p h f (whole_module name which m) = none_of group_left_out p.main.imports.modules (name, instances.Whole which) (codes "library") h.groups m refl
@@ -92,11 +96,14 @@ module _ (p : WorldParts) (what : List ℕ) where
   of_adapters (a ∷ more) is e =
       subst (λ (w : List ℕ). IsLeftOut p (refusals.LeftOut w)) (cc (e)) (adapter a (subst (λ (xs : List (List ℕ × WorldAdapter)). Contains xs a) (sym is) (at_front a more)))
 
-  of_world : world_left_out (items_of p) ≡ Some what → IsLeftOut p (refusals.LeftOut what)
-  of_world e = elim (one_of (first_some item_left_out (items_of p).imports) (first_some item_left_out (items_of p).exports) what e) [
-    | inl a ↦ let t = one_picked item_left_out (items_of p).imports what a in imported t.element what t.there t.picks
-    | inr b ↦ let t = one_picked item_left_out (items_of p).exports what b in exported t.element what t.there t.picks
+  of_world : world_left_out p.resolve.types (items_of p) ≡ Some what → IsLeftOut p (refusals.LeftOut what)
+  of_world e = elim (one_of (first_some (import_item_left_out p.resolve.types) (items_of p).imports) (first_some (export_item_left_out p.resolve.types) (items_of p).exports) what e) [
+    | inl a ↦ let t = one_picked (import_item_left_out p.resolve.types) (items_of p).imports what a in imported t.element what t.there t.picks
+    | inr b ↦ let t = one_picked (export_item_left_out p.resolve.types) (items_of p).exports what b in exported t.element what t.there t.picks
   ]
+
+  of_types : types_left_out p.resolve.types ≡ Some what → IsLeftOut p (refusals.LeftOut what)
+  of_types e = let t = one_picked type_left_out p.resolve.types what e in type_def t.element what t.there t.picks
 
   of_module : module_left_out p.main ≡ Some what → IsLeftOut p (refusals.LeftOut what)
   of_module e = elim (one_of (first_some group_left_out p.main.imports.modules) (first_some (λ x. export_left_out x.1) p.main.exports.exports) what e) [
@@ -104,14 +111,20 @@ module _ (p : WorldParts) (what : List ℕ) where
     | inr b ↦ let t = one_picked (λ x. export_left_out x.1) p.main.exports.exports what b in export_role t.element what t.there t.picks
   ]
 
-  of_rest : (module_left_out p.main ≡ Some what) ⊎ (adapters_left_out p.adapters ≡ Some what) → IsLeftOut p (refusals.LeftOut what)
-  of_rest (inl a) = of_module a
-  of_rest (inr b) = of_adapters p.adapters refl b
+  of_modules : modules_left_out p ≡ Some what → IsLeftOut p (refusals.LeftOut what)
+  of_modules e = elim (one_of (module_left_out p.main) (adapters_left_out p.adapters) what e) [
+    | inl a ↦ of_module a
+    | inr b ↦ of_adapters p.adapters refl b
+  ]
+
+  of_rest : (types_left_out p.resolve.types ≡ Some what) ⊎ (modules_left_out p ≡ Some what) → IsLeftOut p (refusals.LeftOut what)
+  of_rest (inl a) = of_types a
+  of_rest (inr b) = of_modules b
 
   reported : left_out p ≡ Some what → IsLeftOut p (refusals.LeftOut what)
-  reported e = elim (one_of (world_left_out (items_of p)) _ what e) [
+  reported e = elim (one_of (world_left_out p.resolve.types (items_of p)) _ what e) [
     | inl a ↦ of_world a
-    | inr b ↦ of_rest (one_of (module_left_out p.main) (adapters_left_out p.adapters) what b)
+    | inr b ↦ of_rest (one_of (types_left_out p.resolve.types) (modules_left_out p) what b)
   ]
 
 -- ---- the whole

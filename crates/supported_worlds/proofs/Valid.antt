@@ -1,28 +1,30 @@
 -- A world of which nothing is left out keeps the invariant of worlds.
 use Rattle.std.proofs.Common.{arith, rules, ◌≡◌, ◌<◌, length, ℕ, zero, suc, Bool, true, false, cond, ◌&&◌, List, [], ◌∷◌, map, Option, Some, None, refl, sym, ap, subst, ◌∙◌, true≢false}
-use Rattle.std.specs.Prelude.{◌==◌, codes, is_some, slice_get, slice_index_or, Contains, IsSome, if◌then◌else◌, option_map}
+use Rattle.std.specs.Prelude.{◌==◌, nat_eq, is_some, slice_get, slice_index_or, Contains, IsSome, option_map}
 use Rattle.std.specs.List.{IsDistinct, AllByRecursion, flat_map}
 use Rattle.std.specs.Map.{lookup, keys_of}
 use Rattle.std.specs.Option.{option_and_then}
 use Rattle.std.specs.Str.{bytes_eq}
 use Rattle.std.proofs.lemmas.Option.{slice_get-get_or}
 use Rattle.std.proofs.lemmas.Slice.Eq.{bytes_eq-Decides}
-use Rattle.comp_lists.proofs.Lists.{AllByRecursion-front, AllByRecursion-back, AllByRecursion-weaker}
+use Rattle.comp_lists.proofs.Lists.{AllByRecursion-front, AllByRecursion-back, AllByRecursion-at, AllByRecursion-weaker}
 use Rattle.comp_lists.proofs.Lookups.{some_of}
 use Rattle.wit_data.specs.Keys.{is_same_key}
 use Rattle.wit_data.specs.declared.functions.AbiVariant.TheVariants.{GuestImport, GuestExport, GuestImportAsync}
 use Rattle.wit_data.specs.declared.functions.Function.{Function}
 use Rattle.wit_data.specs.declared.functions.FunctionKind.{FunctionKind}
 use Rattle.wit_data.specs.declared.functions.FunctionKind.TheVariants.{Freestanding}
-use Rattle.wit_data.specs.declared.functions.Param.{Param}
 use Rattle.wit_data.specs.declared.ids.InterfaceId.{InterfaceId}
 use Rattle.wit_data.specs.declared.ids.TypeId.{TypeId}
-use Rattle.wit_data.specs.declared.types.Type.{«Type» as Ty}
+use Rattle.wit_data.specs.declared.types.TypeDef.{TypeDef}
+use Rattle.wit_data.specs.declared.types.TypeOwner.{TypeOwner}
+use Rattle.wit_data.specs.declared.types.TypeOwner.TheVariants as owners
 use Rattle.wit_data.specs.declared.worlds.World.{World}
 use Rattle.wit_data.specs.declared.worlds.WorldItem.{WorldItem}
 use Rattle.wit_data.specs.declared.worlds.WorldItem.TheVariants as items
 use Rattle.wit_data.specs.declared.worlds.WorldKey.{WorldKey}
 use Rattle.wit_data.specs.declared.worlds.WorldKey.TheVariants as keys
+use Rattle.comp_options.specs.Options.{import_set, export_set}
 use Rattle.comp_roles.specs.CoreImports.{imports_from}
 use Rattle.comp_roles.specs.CoreTypes.{called_type}
 use Rattle.comp_roles.specs.declared.exports.Export.{Export}
@@ -34,7 +36,7 @@ use Rattle.comp_roles.specs.declared.imports.ImportInstance.TheVariants as insta
 use Rattle.comp_roles.specs.declared.offered.ImportType.{ImportType}
 use Rattle.world_values.specs.Items.{no_items, function_in, root_function_at}
 use Rattle.comp_worlds.specs.Typed.{type_of_import, type_of_export, FitsImport, FitsExport}
-use Rattle.comp_worlds.specs.Worlds.{root_function, core_name_in, IsWorld, IsUserModule, IsPlain, IsItem, IsImportRole, IsImportGroup, IsExportRole, IsRequired}
+use Rattle.comp_worlds.specs.Worlds.{root_function, core_name_in, IsWorld, IsUserModule, IsPlain, IsImportItem, IsExportItem, IsOwnerAtRoot, IsRootType, IsImportRole, IsImportGroup, IsExportRole, IsRequired}
 use Rattle.comp_worlds.specs.WorldTables.{whole_of}
 use Rattle.comp_worlds.specs.declared.world.WorldAdapter.{WorldAdapter}
 use Rattle.comp_worlds.specs.declared.world.ComponentWorld.{ComponentWorld}
@@ -44,9 +46,9 @@ use Rattle.record_core_types.specs.Asked.{imported_function, exported_function}
 use Rattle.record_core_types.specs.Guarantees.{IsCalled, IsLifted, IsKept}
 use Rattle.record_resolve.specs.Resolved.{IsNamed}
 use Rattle.supported_worlds.specs.Apart.{FieldsApart, AreApart}
-use Rattle.supported_worlds.specs.LeftOut.{items_of, kind_left_out, function_left_out, item_left_out, import_left_out, export_left_out, group_left_out, left_out}
+use Rattle.supported_worlds.specs.LeftOut.{items_of, kind_left_out, needs_no_option, unless_plain, function_left_out, import_item_left_out, export_item_left_out, owner_left_out, resource_left_out, type_left_out, import_left_out, export_left_out, group_left_out, left_out}
 use Rattle.supported_worlds.specs.Guarantees.{HasFoundImport, OffersExport, HasSoundParts}
-use Rattle.supported_worlds.proofs.Lists.{nothing, at_front, after, none_picked}
+use Rattle.supported_worlds.proofs.Lists.{nothing, at_front, after, neither, none_picked}
 use Rattle.supported_worlds.proofs.Reporting.{IsEncoded, all_encoded}
 
 abbrev Entries : Type 0
@@ -54,38 +56,58 @@ Entries = List (WorldKey × WorldItem)
 
 -- ---- items
 
-some_params : (ps : List Param) → (suc (length ps) == 0) ≡ false
-some_params ps = Prim.search rules
+not_zero : (n : ℕ) → (suc n == 0) ≡ false
+not_zero n = Prim.search rules
 
-plain_parts : (params : List Param) (result : Option Ty) (kind : FunctionKind)
-    → (if length params == 0 then (if is_some result then Some (codes "result") else kind_left_out kind) else Some (codes "params")) ≡ None
-    → (params ≡ []) × (result ≡ None) × (kind ≡ Freestanding)
-plain_parts [] None Freestanding h = (refl, refl, refl)
-plain_parts [] None kind h = nothing _ h
-plain_parts [] (Some t) kind h = nothing _ h
-plain_parts (p ∷ ps) result kind h = nothing _ (ap (λ b. if b then (if is_some result then Some (codes "result") else kind_left_out kind) else Some (codes "params")) (sym (some_params ps)) ∙ h)
+-- both sets are empty
+no_options : (a b : ℕ) → unless_plain (a == 0 && b == 0) ≡ None → (a ≡ 0) × (b ≡ 0)
+no_options zero zero h = (refl, refl)
+no_options zero (suc n) h = nothing _ (ap unless_plain (sym (not_zero n)) ∙ h)
+no_options (suc n) b h = nothing _ (ap (λ t. unless_plain (t && b == 0)) (sym (not_zero n)) ∙ h)
 
-plain : (f : Function) → function_left_out f ≡ None → IsPlain f
-plain f h = let are = plain_parts f.params f.result f.kind h in record { kind = are.2; params = are.0; result = are.1 }
+synchronous : (kind : FunctionKind) → kind_left_out kind ≡ None → kind ≡ Freestanding
+synchronous Freestanding h = refl
+synchronous kind h = nothing _ h
 
-item : (e : WorldKey × WorldItem) → item_left_out e ≡ None → IsNamed e → IsItem e
-item (keys.Name text, items.Function f) h named = (sym named, plain f h)
-item (keys.Interface id, items.Function f) h named = nothing _ h
-item (key, items.Interface id) h named = nothing _ h
-item (key, items.NamedType id) h named = nothing _ h
+plain : (types : List TypeDef) (f : Function) → function_left_out types f ≡ None → IsPlain types f
+plain types f h =
+    let both = neither (kind_left_out f.kind) (unless_plain (needs_no_option types f)) h in
+    let sets = no_options (import_set GuestImport types f) (export_set GuestExport types f) both.1 in
+    record { kind = synchronous f.kind both.0; imported = sets.0; exported = sets.1 }
 
-all_items : (es : Entries) → AllByRecursion (λ e. item_left_out e ≡ None) es → AllByRecursion IsNamed es → AllByRecursion IsItem es
-all_items [] h named = tt
-all_items (e ∷ es) h named = (item e h.0 named.0, all_items es h.1 named.1)
+import_item : (types : List TypeDef) (e : WorldKey × WorldItem) → import_item_left_out types e ≡ None → IsNamed e → IsImportItem types e
+import_item types (keys.Name text, items.Function f) h named = (sym named, plain types f h)
+import_item types (keys.Name text, items.NamedType id) h named = tt
+import_item types (keys.Name text, items.Interface id) h named = nothing _ h
+import_item types (keys.Interface other, items.Function f) h named = nothing _ h
+import_item types (keys.Interface other, items.NamedType id) h named = nothing _ h
+import_item types (keys.Interface other, items.Interface id) h named = nothing _ h
 
--- no interface and no type is one
-no_interface : {P : Type 0} (key : WorldKey) (id : InterfaceId) → IsItem (key, items.Interface id) → P
-no_interface (keys.Name text) id h = absurd h
-no_interface (keys.Interface other) id h = absurd h
+import_items : (types : List TypeDef) (es : Entries) → AllByRecursion (λ e. import_item_left_out types e ≡ None) es → AllByRecursion IsNamed es → AllByRecursion (IsImportItem types) es
+import_items types [] h named = tt
+import_items types (e ∷ es) h named = (import_item types e h.0 named.0, import_items types es h.1 named.1)
 
-no_type : {P : Type 0} (key : WorldKey) (id : TypeId) → IsItem (key, items.NamedType id) → P
-no_type (keys.Name text) id h = absurd h
-no_type (keys.Interface other) id h = absurd h
+export_item : (types : List TypeDef) (e : WorldKey × WorldItem) → export_item_left_out types e ≡ None → IsNamed e → IsExportItem types e
+export_item types (keys.Name text, items.Function f) h named = (sym named, plain types f h)
+export_item types (keys.Interface other, items.Function f) h named = nothing _ h
+export_item types (key, items.NamedType id) h named = nothing _ h
+export_item types (key, items.Interface id) h named = nothing _ h
+
+export_items : (types : List TypeDef) (es : Entries) → AllByRecursion (λ e. export_item_left_out types e ≡ None) es → AllByRecursion IsNamed es → AllByRecursion (IsExportItem types) es
+export_items types [] h named = tt
+export_items types (e ∷ es) h named = (export_item types e h.0 named.0, export_items types es h.1 named.1)
+
+-- ---- types
+
+root_owner : (owner : TypeOwner) → owner_left_out owner ≡ None → IsOwnerAtRoot owner
+root_owner (owners.World id) h = tt
+root_owner (owners.Interface id) h = nothing _ h
+root_owner owners.«None» h = tt
+
+root_type : (t : TypeDef) → type_left_out t ≡ None → IsRootType t
+root_type t h =
+    let both = neither (owner_left_out t.owner) (resource_left_out t.kind) h in
+    record { owner = root_owner t.owner both.0; values = λ is. nothing _ (ap resource_left_out (sym is) ∙ both.1) }
 
 -- ---- names
 
@@ -93,49 +115,88 @@ left_false : (b : Bool) → (b && true) ≡ false → b ≡ false
 left_false true h = h
 left_false false h = h
 
-other_names : (n : List ℕ) (es : Entries) → AllByRecursion IsItem es → AllByRecursion (λ k. is_same_key (keys.Name n) k ≡ false) (keys_of es) → AllByRecursion (λ m. bytes_eq n m ≡ false) (flat_map root_function es)
-other_names n [] is h = tt
-other_names n ((keys.Name m, items.Function f) ∷ es) is h = (left_false (bytes_eq n m) h.0, other_names n es is.1 h.1)
-other_names n ((keys.Interface id, items.Function f) ∷ es) is h = absurd is.0
-other_names n ((key, items.Interface id) ∷ es) is h = no_interface key id is.0
-other_names n ((key, items.NamedType id) ∷ es) is h = no_type key id is.0
+never : (b t : Bool) → t ≡ false → (b && t) ≡ false
+never true t h = h
+never false t h = refl
 
-names_apart : (es : Entries) → AllByRecursion IsItem es → IsDistinct is_same_key (keys_of es) → IsDistinct bytes_eq (flat_map root_function es)
+zero_next : (n : ℕ) → nat_eq 0 (suc n) ≡ false
+zero_next n = Prim.search rules
+
+-- the key of an interface is no name
+other_key : (text : List ℕ) (other : InterfaceId) → is_same_key (keys.Name text) (keys.Interface other) ≡ false
+other_key text other = never (bytes_eq text []) (nat_eq 0 (suc other.index)) (zero_next other.index)
+
+turned : (a b : List ℕ) → bytes_eq a b ≡ false → bytes_eq b a ≡ false
+turned a b h = by (bytes_eq b a) refl
+  where
+    by : (t : Bool) → bytes_eq b a ≡ t → t ≡ false
+    by true same = absurd (true≢false (sym ((bytes_eq-Decides a b).1 (sym ((bytes_eq-Decides b a).0 same))) ∙ h))
+    by false same = refl
+
+other_names : (n : List ℕ) (es : Entries) → AllByRecursion (λ k. is_same_key (keys.Name n) k ≡ false) (keys_of es) → AllByRecursion (λ m. bytes_eq n m ≡ false) (flat_map root_function es)
+other_names n [] h = tt
+other_names n ((keys.Name m, items.Function f) ∷ es) h = (left_false (bytes_eq n m) h.0, other_names n es h.1)
+other_names n ((keys.Name m, items.NamedType id) ∷ es) h = other_names n es h.1
+other_names n ((keys.Name m, items.Interface id) ∷ es) h = other_names n es h.1
+other_names n ((keys.Interface other, item) ∷ es) h = other_names n es h.1
+
+names_apart : (es : Entries) → IsDistinct is_same_key (keys_of es) → IsDistinct bytes_eq (flat_map root_function es)
 unfolding IsDistinct
-names_apart [] is h = tt
-names_apart ((keys.Name n, items.Function f) ∷ es) is h = (other_names n es is.1 h.0, names_apart es is.1 h.1)
-names_apart ((keys.Interface id, items.Function f) ∷ es) is h = absurd is.0
-names_apart ((key, items.Interface id) ∷ es) is h = no_interface key id is.0
-names_apart ((key, items.NamedType id) ∷ es) is h = no_type key id is.0
+names_apart [] h = tt
+names_apart ((keys.Name n, items.Function f) ∷ es) h = (other_names n es h.0, names_apart es h.1)
+names_apart ((keys.Name n, items.NamedType id) ∷ es) h = names_apart es h.1
+names_apart ((keys.Name n, items.Interface id) ∷ es) h = names_apart es h.1
+names_apart ((keys.Interface other, item) ∷ es) h = names_apart es h.1
 
 -- ---- functions that are found
 
+-- an entry under the key of an interface is passed over
+under_interface : (text : List ℕ) (other : InterfaceId) (item : WorldItem) (es : Entries) → root_function_at ((keys.Interface other, item) ∷ es) (keys.Name text) ≡ root_function_at es (keys.Name text)
+under_interface text other item es = ap (λ b. option_and_then function_in (cond b (Some item) (lookup (is_same_key (keys.Name text)) es))) (other_key text other)
+
+-- what is found is no type and no interface
+not_type : (id : TypeId) (b : Bool) (rest : Option WorldItem) → IsSome (option_and_then function_in (cond b (Some (items.NamedType id)) rest)) → IsSome (option_and_then function_in rest)
+not_type id true rest h = absurd (true≢false (sym h))
+not_type id false rest h = h
+
+not_interface : (id : InterfaceId) (b : Bool) (rest : Option WorldItem) → IsSome (option_and_then function_in (cond b (Some (items.Interface id)) rest)) → IsSome (option_and_then function_in rest)
+not_interface id true rest h = absurd (true≢false (sym h))
+not_interface id false rest h = h
+
 -- a function that is looked up by a name is one of the functions of the items
-name_there : (text : List ℕ) (es : Entries) → AllByRecursion IsItem es → IsSome (root_function_at es (keys.Name text)) → Contains (flat_map root_function es) text
-name_there text [] is h = absurd (true≢false (sym h))
-name_there text ((keys.Name m, items.Function f) ∷ es) is h = by (bytes_eq text m) refl h (name_there text es is.1)
+name_there : (text : List ℕ) (es : Entries) → IsSome (root_function_at es (keys.Name text)) → Contains (flat_map root_function es) text
+name_there text [] h = absurd (true≢false (sym h))
+name_there text ((keys.Name m, items.Function f) ∷ es) h = by (bytes_eq text m) refl h (name_there text es)
   where
     by : (b : Bool) → bytes_eq text m ≡ b → IsSome (option_and_then function_in (cond (b && true) (Some (items.Function f)) (lookup (is_same_key (keys.Name text)) es)))
         → (IsSome (root_function_at es (keys.Name text)) → Contains (flat_map root_function es) text) → Contains (m ∷ flat_map root_function es) text
     by true same h more = subst (λ (t : List ℕ). Contains (t ∷ flat_map root_function es) text) ((bytes_eq-Decides text m).0 same) (at_front text (flat_map root_function es))
     by false same h more = after m (flat_map root_function es) text (more h)
-name_there text ((keys.Interface id, items.Function f) ∷ es) is h = absurd is.0
-name_there text ((key, items.Interface id) ∷ es) is h = no_interface key id is.0
-name_there text ((key, items.NamedType id) ∷ es) is h = no_type key id is.0
+name_there text ((keys.Name m, items.NamedType id) ∷ es) h = name_there text es (not_type id (is_same_key (keys.Name text) (keys.Name m)) (lookup (is_same_key (keys.Name text)) es) h)
+name_there text ((keys.Name m, items.Interface id) ∷ es) h = name_there text es (not_interface id (is_same_key (keys.Name text) (keys.Name m)) (lookup (is_same_key (keys.Name text)) es) h)
+name_there text ((keys.Interface other, item) ∷ es) h = name_there text es (subst (λ (o : Option Function). IsSome o) (under_interface text other item es) h)
+
+-- a name that is not the one of the entry is looked up in the others
+passed_over : (text m : List ℕ) (item : WorldItem) (es : Entries) → bytes_eq m text ≡ false → IsSome (root_function_at es (keys.Name text)) → IsSome (root_function_at ((keys.Name m, item) ∷ es) (keys.Name text))
+passed_over text m item es other h =
+    subst (λ (b : Bool). IsSome (option_and_then function_in (cond (b && true) (Some item) (lookup (is_same_key (keys.Name text)) es)))) (sym (turned m text other)) h
 
 -- and a function of the items is looked up by its name
-name_at : (text : List ℕ) (es : Entries) (k : ℕ) → AllByRecursion IsItem es → k < length (flat_map root_function es) → slice_index_or (flat_map root_function es) k text ≡ text → IsSome (root_function_at es (keys.Name text))
-name_at text [] k is l e = absurd (omega arith)
-name_at text ((keys.Name m, items.Function f) ∷ es) zero is l e =
+name_at : (text : List ℕ) (es : Entries) (k : ℕ) → IsDistinct is_same_key (keys_of es) → k < length (flat_map root_function es) → slice_index_or (flat_map root_function es) k text ≡ text → IsSome (root_function_at es (keys.Name text))
+unfolding IsDistinct
+name_at text [] k apart l e = absurd (omega arith)
+name_at text ((keys.Name m, items.Function f) ∷ es) zero apart l e =
     ap (λ b. is_some (option_and_then function_in (cond (b && true) (Some (items.Function f)) (lookup (is_same_key (keys.Name text)) es)))) ((bytes_eq-Decides text m).1 (sym e))
-name_at text ((keys.Name m, items.Function f) ∷ es) (suc k) is l e = by (bytes_eq text m) (name_at text es k is.1 (omega arith) e)
+name_at text ((keys.Name m, items.Function f) ∷ es) (suc k) apart l e = by (bytes_eq text m) (name_at text es k apart.1 (omega arith) e)
   where
     by : (b : Bool) → IsSome (root_function_at es (keys.Name text)) → IsSome (option_and_then function_in (cond (b && true) (Some (items.Function f)) (lookup (is_same_key (keys.Name text)) es)))
     by true h = refl
     by false h = h
-name_at text ((keys.Interface id, items.Function f) ∷ es) k is l e = absurd is.0
-name_at text ((key, items.Interface id) ∷ es) k is l e = no_interface key id is.0
-name_at text ((key, items.NamedType id) ∷ es) k is l e = no_type key id is.0
+name_at text ((keys.Name m, items.NamedType id) ∷ es) k apart l e =
+    passed_over text m (items.NamedType id) es (AllByRecursion-at (λ q. bytes_eq m q ≡ false) (flat_map root_function es) k text (other_names m es apart.0) l e) (name_at text es k apart.1 l e)
+name_at text ((keys.Name m, items.Interface id) ∷ es) k apart l e =
+    passed_over text m (items.Interface id) es (AllByRecursion-at (λ q. bytes_eq m q ≡ false) (flat_map root_function es) k text (other_names m es apart.0) l e) (name_at text es k apart.1 l e)
+name_at text ((keys.Interface other, item) ∷ es) k apart l e = subst (λ (o : Option Function). IsSome o) (sym (under_interface text other item es)) (name_at text es k apart.1 l e)
 
 mapped_there : {A B : Type 0} (f : A → B) (o : Option A) → IsSome o → IsSome (option_map f o)
 mapped_there f None h = h
@@ -158,23 +219,23 @@ with_entry m f es key r = by (bytes_eq r.text m) refl
     by true same = record { text = r.text; function = f; is = r.is; there = ap found_with same }
     by false same = record { text = r.text; function = r.function; is = r.is; there = ap found_with same ∙ r.there }
 
-root_at : (es : Entries) (k : ℕ) (key : WorldKey) → AllByRecursion IsItem es → k < length (map (λ e. e.0) es) → slice_index_or (map (λ e. e.0) es) k key ≡ key → IsRoot es key
-root_at [] k key is l e = absurd (omega arith)
-root_at ((keys.Name m, items.Function f) ∷ es) zero key is l e =
+root_at : (types : List TypeDef) (es : Entries) (k : ℕ) (key : WorldKey) → AllByRecursion (IsExportItem types) es → k < length (map (λ e. e.0) es) → slice_index_or (map (λ e. e.0) es) k key ≡ key → IsRoot es key
+root_at types [] k key is l e = absurd (omega arith)
+root_at types ((keys.Name m, items.Function f) ∷ es) zero key is l e =
     record { text = m; function = f; is = sym e; there = ap (λ b. option_and_then function_in (cond (b && true) (Some (items.Function f)) (lookup (is_same_key (keys.Name m)) es))) ((bytes_eq-Decides m m).1 refl) }
-root_at ((keys.Name m, items.Function f) ∷ es) (suc k) key is l e = with_entry m f es key (root_at es k key is.1 (omega arith) e)
-root_at ((keys.Interface id, items.Function f) ∷ es) k key is l e = absurd is.0
-root_at ((other, items.Interface id) ∷ es) k key is l e = no_interface other id is.0
-root_at ((other, items.NamedType id) ∷ es) k key is l e = no_type other id is.0
+root_at types ((keys.Name m, items.Function f) ∷ es) (suc k) key is l e = with_entry m f es key (root_at types es k key is.1 (omega arith) e)
+root_at types ((keys.Name m, items.NamedType id) ∷ es) k key is l e = absurd is.0
+root_at types ((keys.Name m, items.Interface id) ∷ es) k key is l e = absurd is.0
+root_at types ((keys.Interface id, item) ∷ es) k key is l e = absurd is.0
 
 -- ---- the world
 
 module _ (p : WorldParts) (present : HasSoundParts p) (encoded : IsEncoded p) (apart : AreApart p) where
-  imports_are : AllByRecursion IsItem (items_of p).imports
-  imports_are = all_items (items_of p).imports encoded.imports present.named.imports
+  imports_are : AllByRecursion (IsImportItem p.resolve.types) (items_of p).imports
+  imports_are = import_items p.resolve.types (items_of p).imports encoded.imports present.named.imports
 
-  exports_are : AllByRecursion IsItem (items_of p).exports
-  exports_are = all_items (items_of p).exports encoded.exports present.named.exports
+  exports_are : AllByRecursion (IsExportItem p.resolve.types) (items_of p).exports
+  exports_are = export_items p.resolve.types (items_of p).exports encoded.exports present.named.exports
 
   the_world : slice_get p.resolve.worlds p.world.index ≡ Some (items_of p)
   the_world = slice_get-get_or p.resolve.worlds p.world.index no_items present.present
@@ -188,7 +249,7 @@ module _ (p : WorldParts) (present : HasSoundParts p) (encoded : IsEncoded p) (a
 
   import_role : (role : Import) → import_left_out role ≡ None → IsCalled p.resolve p.world role → IsImportRole (whole_of p) role
   import_role (imports.WorldFunc (keys.Name text) name GuestImport) h called =
-      (name_there text (items_of p).imports imports_are (subst (λ (o : Option Function). IsSome o) (imported_is (keys.Name text)) called.1), called.0, refl)
+      (name_there text (items_of p).imports (subst (λ (o : Option Function). IsSome o) (imported_is (keys.Name text)) called.1), called.0, refl)
   import_role (imports.WorldFunc (keys.Interface id) name GuestImportAsync) h called = nothing _ h
   import_role role h called = nothing _ h
 
@@ -212,7 +273,7 @@ module _ (p : WorldParts) (present : HasSoundParts p) (encoded : IsEncoded p) (a
 
   export_role : (role : Export) → export_left_out role ≡ None → IsLifted p.resolve p.world role → IsExportRole (whole_of p) role
   export_role (exports.WorldFunc (keys.Name text) name GuestExport) h lifted =
-      (name_there text (items_of p).exports exports_are (subst (λ (o : Option Function). IsSome o) (exported_is (keys.Name text)) lifted.1), lifted.0, refl)
+      (name_there text (items_of p).exports (subst (λ (o : Option Function). IsSome o) (exported_is (keys.Name text)) lifted.1), lifted.0, refl)
   export_role (exports.WorldFunc (keys.Interface id) name GuestExport) h lifted = nothing _ h
   export_role role h lifted = nothing _ h
 
@@ -224,7 +285,7 @@ module _ (p : WorldParts) (present : HasSoundParts p) (encoded : IsEncoded p) (a
   -- the role of an import or an export requires a type, which is that of the import or the export
   import_typed : (role : Import) → IsImportRole (whole_of p) role → IsSome (type_of_import p.resolve (items_of p) role)
   import_typed (imports.WorldFunc (keys.Name text) function abi) h =
-      mapped_there (called_type p.resolve abi) (root_function_at (items_of p).imports (keys.Name text)) (name_at text (items_of p).imports h.0.0 imports_are h.0.1 h.0.2)
+      mapped_there (called_type p.resolve abi) (root_function_at (items_of p).imports (keys.Name text)) (name_at text (items_of p).imports h.0.0 apart.items.imports h.0.1 h.0.2)
   import_typed role h = absurd h
 
   found_import : AllByRecursion (IsImportGroup (whole_of p)) p.main.imports.modules → (i : ImportType) → HasFoundImport p i → FitsImport p.resolve (items_of p) p.main i
@@ -235,7 +296,7 @@ module _ (p : WorldParts) (present : HasSoundParts p) (encoded : IsEncoded p) (a
 
   export_typed : (role : Export) → IsExportRole (whole_of p) role → IsSome (type_of_export p.resolve (items_of p) role)
   export_typed (exports.WorldFunc (keys.Name text) function abi) h =
-      mapped_there (called_type p.resolve abi) (root_function_at (items_of p).exports (keys.Name text)) (name_at text (items_of p).exports h.0.0 exports_are h.0.1 h.0.2)
+      mapped_there (called_type p.resolve abi) (root_function_at (items_of p).exports (keys.Name text)) (name_at text (items_of p).exports h.0.0 apart.items.exports h.0.1 h.0.2)
   export_typed role h = absurd h
 
   offered_exports : (all : List (List ℕ × Export)) → AllByRecursion (λ e. IsExportRole (whole_of p) e.1) all → AllByRecursion (OffersExport p) all
@@ -247,7 +308,7 @@ module _ (p : WorldParts) (present : HasSoundParts p) (encoded : IsEncoded p) (a
 
   required : (key : WorldKey) → IsKept p.resolve p.world p.main.exports.exports key → IsRequired (whole_of p) p.main key
   required key kept =
-      let root = root_at (items_of p).exports kept.exported.0 key exports_are kept.exported.1 kept.exported.2 in
+      let root = root_at p.resolve.types (items_of p).exports kept.exported.0 key exports_are kept.exported.1 kept.exported.2 in
       let is : exported_function p.resolve p.world key ≡ Some root.function = ap (exported_function p.resolve p.world) root.is ∙ (exported_is (keys.Name root.text) ∙ root.there) in
       record {
         exported = kept.exported;
@@ -276,10 +337,11 @@ module _ (p : WorldParts) (present : HasSoundParts p) (encoded : IsEncoded p) (a
   whole_is_world = record {
     sound = present.sound;
     present = present.present;
+    types = AllByRecursion-weaker root_type p.resolve.types encoded.types;
     imports = imports_are;
     exports = exports_are;
-    import_names_apart = names_apart (items_of p).imports imports_are apart.items.imports;
-    export_names_apart = names_apart (items_of p).exports exports_are apart.items.exports;
+    import_names_apart = names_apart (items_of p).imports apart.items.imports;
+    export_names_apart = names_apart (items_of p).exports apart.items.exports;
     main = main_is;
     adapters = subst (λ (all : List (List ℕ × WorldAdapter)). AllByRecursion (λ a. IsUserModule (whole_of p) a.1.info a.1.required_exports) all) (sym encoded.alone) tt;
     alone = encoded.alone;

@@ -1,8 +1,12 @@
--- A walk over groups of imports, which checks that the fields of each are apart.
-use Rattle.std.proofs.Common.{ℕ, List, [], ◌∷◌}
+-- A walk over groups of imports, which checks that the fields of each are apart; and a world of a sound resolve.
+use Rattle.std.proofs.Common.{◌≡◌, ◌<◌, ℕ, List, [], ◌∷◌, length, get_or, sym, subst}
 use Rattle.std.specs.List.{AllByRecursion, IsDistinct}
 use Rattle.std.specs.Map.{keys_of}
 use Rattle.std.specs.Str.{bytes_eq}
+use Rattle.wit_data.specs.Sound.{IsSound, HasWorld}
+use Rattle.wit_data.specs.declared.resolve.Resolve.{Resolve}
+use Rattle.wit_data.specs.declared.worlds.World.{World}
+use Rattle.wit_data.proofs.Values.{all_at}
 use Rattle.comp_roles.specs.declared.imports.ImportInstance.{ImportInstance}
 use Rattle.supported_worlds.specs.Apart.{FieldsApart, GroupsApart}
 
@@ -21,3 +25,7 @@ step all rest group h apart = record { then = λ k. h.then (apart, k) }
 
 pub end : (all : Groups) → StillApart [] all → IsDistinct bytes_eq (keys_of all) → GroupsApart all
 end all h modules = record { modules = modules; fields = h.then tt }
+
+-- the world at a number has what it names
+pub world_present : (r : Resolve) (worlds : List World) (n : ℕ) (d : World) → worlds ≡ r.worlds → IsSound r → n < length r.worlds → HasWorld r (get_or worlds n d)
+world_present r worlds n d same sound l = subst (λ (ws : List World). HasWorld r (get_or ws n d)) (sym same) (all_at (HasWorld r) r.worlds n d sound.worlds l)

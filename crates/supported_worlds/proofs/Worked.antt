@@ -1,25 +1,31 @@
 -- What is left out of some worlds, worked out.
-use Rattle.std.proofs.Common.{◌≡◌, List, [], ◌∷◌, Option, Some, None, refl}
-use Rattle.std.specs.Prelude.{codes}
+use Rattle.std.proofs.Common.{◌≡◌, ◌≢◌, ℕ, List, [], ◌∷◌, map, Option, Some, None, refl}
+use Rattle.std.specs.Prelude.{codes, replicate}
+use Rattle.standard_kinds.specs.declared.kinds.Primitive.{Primitive as Prim}
+use Rattle.standard_kinds.specs.declared.kinds.Primitive.TheVariants as prims
 use Rattle.wit_data.specs.declared.functions.AbiVariant.TheVariants.{GuestImport, GuestExport, GuestImportAsync, GuestExportAsync}
 use Rattle.wit_data.specs.declared.functions.Function.{Function}
 use Rattle.wit_data.specs.declared.functions.FunctionKind.{FunctionKind}
 use Rattle.wit_data.specs.declared.functions.FunctionKind.TheVariants.{Freestanding, AsyncFreestanding, Method}
-use Rattle.wit_data.specs.declared.functions.Param.{Param}
 use Rattle.wit_data.specs.declared.ids.TypeId.{TypeId}
 use Rattle.wit_data.specs.declared.ids.InterfaceId.{InterfaceId}
 use Rattle.wit_data.specs.declared.types.Type.{«Type» as Ty}
-use Rattle.wit_data.specs.declared.types.Type.TheVariants.{Id}
+use Rattle.wit_data.specs.declared.types.Type.TheVariants.{Id, Primitive}
+use Rattle.wit_data.specs.declared.types.TypeDef.{TypeDef}
+use Rattle.wit_data.specs.declared.types.TypeDefKind.{TypeDefKind}
+use Rattle.wit_data.specs.declared.types.TypeDefKind.TheVariants as kinds
+use Rattle.wit_data.specs.declared.types.TypeOwner.TheVariants as owners
 use Rattle.wit_data.specs.declared.worlds.WorldItem.TheVariants as items
 use Rattle.wit_data.specs.declared.worlds.WorldKey.{WorldKey}
 use Rattle.wit_data.specs.declared.worlds.WorldKey.TheVariants as keys
+use Rattle.wit_data.specs.Values.{values_from}
 use Rattle.comp_roles.specs.declared.exports.Export.TheVariants as exports
 use Rattle.comp_roles.specs.declared.imports.Import.TheVariants as imports
 use Rattle.comp_roles.specs.declared.imports.ImportInstance.TheVariants as instances
 use Rattle.comp_roles.specs.declared.libraries.Item.{Item}
 use Rattle.comp_roles.specs.declared.libraries.MainOrAdapter.TheVariants as modules
 use Rattle.supported_worlds.specs.Kinds.{import_kind}
-use Rattle.supported_worlds.specs.LeftOut.{function_left_out, import_left_out, export_left_out, group_left_out, world_left_out}
+use Rattle.supported_worlds.specs.LeftOut.{function_left_out, world_left_out, types_left_out, import_left_out, export_left_out, group_left_out}
 
 abbrev a_type : TypeId
 a_type = record { index = 0 }
@@ -27,39 +33,134 @@ a_type = record { index = 0 }
 abbrev an_interface : InterfaceId
 an_interface = record { index = 0 }
 
--- a function with so many of these parameters, and this result
-abbrev function : FunctionKind → List Param → Option Ty → Function
-function kind params result = record { name = codes "f"; kind = kind; params = params; result = result }
+abbrev an_interface_type : TypeDef
+an_interface_type = record { name = Some (codes "t"); kind = kinds.Alias (Primitive prims.U8); owner = owners.Interface an_interface }
 
-abbrev param : Param
-param = record { name = codes "x"; ty = Id a_type }
+-- types of the world
+abbrev of_world : TypeDefKind → TypeDef
+of_world kind = record { name = Some (codes "t"); kind = kind; owner = owners.World (record { index = 0 }) }
+
+abbrev unnamed : TypeDefKind → TypeDef
+unnamed kind = record { name = None; kind = kind; owner = owners.«None» }
+
+-- a function with these parameters, and this result
+abbrev function : FunctionKind → List Ty → Option Ty → Function
+function kind params result = record { name = codes "f"; kind = kind; params = map (λ t. record { name = codes "x"; ty = t }) params; result = result }
+
+abbrev plain : Function
+plain = function Freestanding [] None
+
+-- a function from a type to the same type, which is one of the resolve's or a primitive one
+abbrev of_kind : TypeDefKind → Option (List ℕ)
+of_kind kind = function_left_out (unnamed kind ∷ []) (function Freestanding (Id a_type ∷ []) (Some (Id a_type)))
+
+abbrev of_primitive : Prim → Option (List ℕ)
+of_primitive p = function_left_out [] (function Freestanding (Primitive p ∷ []) (Some (Primitive p)))
 
 abbrev f : WorldKey
 f = keys.Name (codes "f")
 
--- ---- functions and items
+-- ---- functions
 
-plain_is_encoded : function_left_out (function Freestanding [] None) ≡ None
+plain_is_encoded : function_left_out [] plain ≡ None
 plain_is_encoded = refl
 
-params_are_reported_first : function_left_out (function AsyncFreestanding (param ∷ []) (Some (Id a_type))) ≡ Some (codes "params")
-params_are_reported_first = refl
+-- each primitive type but a text
+simple_is_encoded : (p : Prim) → p ≢ prims.«String» → of_primitive p ≡ None
+simple_is_encoded prims.«Bool» h = refl
+simple_is_encoded prims.S8 h = refl
+simple_is_encoded prims.U8 h = refl
+simple_is_encoded prims.S16 h = refl
+simple_is_encoded prims.U16 h = refl
+simple_is_encoded prims.S32 h = refl
+simple_is_encoded prims.U32 h = refl
+simple_is_encoded prims.S64 h = refl
+simple_is_encoded prims.U64 h = refl
+simple_is_encoded prims.F32 h = refl
+simple_is_encoded prims.F64 h = refl
+simple_is_encoded prims.Char h = refl
+simple_is_encoded prims.ErrorContext h = refl
+simple_is_encoded prims.«String» h = absurd (h refl)
 
-result_is_reported : function_left_out (function AsyncFreestanding [] (Some (Id a_type))) ≡ Some (codes "result")
-result_is_reported = refl
+text_needs_options : of_primitive prims.«String» ≡ Some (codes "world-func")
+text_needs_options = refl
 
-async_is_reported : function_left_out (function AsyncFreestanding [] None) ≡ Some (codes "async")
-async_is_reported = refl
+-- made types of one core value
+enum_is_encoded : of_kind (kinds.Enum (codes "a" ∷ codes "b" ∷ [])) ≡ None
+unfolding values_from
+enum_is_encoded = refl
 
-method_is_of_a_type : function_left_out (function (Method a_type) [] None) ≡ Some (codes "type")
+flags_are_encoded : of_kind (kinds.Flags (codes "a" ∷ codes "b" ∷ [])) ≡ None
+unfolding values_from
+flags_are_encoded = refl
+
+record_is_encoded : of_kind (kinds.Record (record { name = codes "x"; ty = Primitive prims.F64 } ∷ [])) ≡ None
+unfolding values_from
+record_is_encoded = refl
+
+stream_is_encoded : of_kind (kinds.Stream (Some (Primitive prims.«String»))) ≡ None
+unfolding values_from
+stream_is_encoded = refl
+
+alias_is_encoded : of_kind (kinds.Alias (Primitive prims.Char)) ≡ None
+unfolding values_from
+alias_is_encoded = refl
+
+list_needs_options : of_kind (kinds.«List» (Primitive prims.U8)) ≡ Some (codes "world-func")
+unfolding values_from
+list_needs_options = refl
+
+-- two core values are parameters, but no result
+pair_is_a_parameter : function_left_out (unnamed (kinds.Tuple (Primitive prims.U32 ∷ Primitive prims.U32 ∷ [])) ∷ []) (function Freestanding (Id a_type ∷ []) None) ≡ None
+unfolding values_from
+pair_is_a_parameter = refl
+
+pair_is_no_result : function_left_out (unnamed (kinds.Tuple (Primitive prims.U32 ∷ Primitive prims.U32 ∷ [])) ∷ []) (function Freestanding [] (Some (Id a_type))) ≡ Some (codes "world-func")
+unfolding values_from
+pair_is_no_result = refl
+
+option_is_no_result : of_kind (kinds.«Option» (Primitive prims.U32)) ≡ Some (codes "world-func")
+unfolding values_from
+option_is_no_result = refl
+
+-- up to 16 core values are passed as parameters
+many_params_are_encoded : function_left_out [] (function Freestanding (replicate 16 (Primitive prims.U32)) None) ≡ None
+many_params_are_encoded = refl
+
+more_params_need_memory : function_left_out [] (function Freestanding (replicate 17 (Primitive prims.U32)) None) ≡ Some (codes "world-func")
+more_params_need_memory = refl
+
+-- the kind of a function is reported first
+async_is_reported_first : function_left_out [] (function AsyncFreestanding (Primitive prims.«String» ∷ []) None) ≡ Some (codes "async")
+async_is_reported_first = refl
+
+method_is_of_a_type : function_left_out [] (function (Method a_type) [] None) ≡ Some (codes "type")
 method_is_of_a_type = refl
 
+-- ---- items and types
+
+-- an imported type is encoded, an exported one is not
+types_are_imported : world_left_out [] (record { imports = (keys.Name (codes "t"), items.NamedType a_type) ∷ (f, items.Function plain) ∷ []; exports = [] }) ≡ None
+types_are_imported = refl
+
+types_are_not_exported : world_left_out [] (record { imports = []; exports = (keys.Name (codes "t"), items.NamedType a_type) ∷ [] }) ≡ Some (codes "type")
+types_are_not_exported = refl
+
 -- exports are checked only once all imports pass, and the first that is left out is reported
-first_is_reported : world_left_out (record {
-  imports = (f, items.Function (function Freestanding [] None)) ∷ [];
-  exports = (f, items.Function (function Freestanding [] None)) ∷ (keys.Name (codes "t"), items.NamedType a_type) ∷ (keys.Interface an_interface, items.Interface an_interface) ∷ [];
+first_is_reported : world_left_out [] (record {
+  imports = (f, items.Function plain) ∷ [];
+  exports = (f, items.Function plain) ∷ (keys.Name (codes "t"), items.NamedType a_type) ∷ (keys.Interface an_interface, items.Interface an_interface) ∷ [];
 }) ≡ Some (codes "type")
 first_is_reported = refl
+
+interface_type_is_reported : types_left_out (of_world (kinds.Enum (codes "a" ∷ [])) ∷ an_interface_type ∷ of_world kinds.Resource ∷ []) ≡ Some (codes "interface")
+interface_type_is_reported = refl
+
+resource_is_reported : types_left_out (of_world kinds.Resource ∷ an_interface_type ∷ []) ≡ Some (codes "type")
+resource_is_reported = refl
+
+values_are_encoded : types_left_out (of_world (kinds.«List» (Primitive prims.«String»)) ∷ unnamed (kinds.Stream None) ∷ []) ≡ None
+values_are_encoded = refl
 
 -- ---- roles
 

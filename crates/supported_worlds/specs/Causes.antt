@@ -1,6 +1,7 @@
 -- When the refusal of a world is right: something of it is not encoded yet. (This project's own.)
 use Rattle.std.specs.Prelude.{◌≡◌, ℕ, List, codes, Some, Contains}
 use Rattle.std.specs.List.{flat_map}
+use Rattle.wit_data.specs.declared.types.TypeDef.{TypeDef}
 use Rattle.wit_data.specs.declared.worlds.WorldItem.{WorldItem}
 use Rattle.wit_data.specs.declared.worlds.WorldKey.{WorldKey}
 use Rattle.comp_roles.specs.CoreImports.{CoreImport, imports_from}
@@ -11,12 +12,14 @@ use Rattle.comp_worlds.specs.declared.world.WorldAdapter.{WorldAdapter}
 use Rattle.comp_worlds.specs.declared.world.WorldParts.{WorldParts}
 use Rattle.record_faults.specs.declared.fault.Refusal.{Refusal}
 use Rattle.record_faults.specs.declared.fault.Refusal.TheVariants as refusals
-use Rattle.supported_worlds.specs.LeftOut.{items_of, item_left_out, import_left_out, export_left_out}
+use Rattle.supported_worlds.specs.LeftOut.{items_of, import_item_left_out, export_item_left_out, type_left_out, import_left_out, export_left_out}
 
 pub data IsLeftOut (p : WorldParts) : Refusal → Type 0 where
   -- an import or an export of the world
-  imported : (entry : WorldKey × WorldItem) (what : List ℕ) → Contains (items_of p).imports entry → item_left_out entry ≡ Some what → IsLeftOut p (refusals.LeftOut what)
-  exported : (entry : WorldKey × WorldItem) (what : List ℕ) → Contains (items_of p).exports entry → item_left_out entry ≡ Some what → IsLeftOut p (refusals.LeftOut what)
+  imported : (entry : WorldKey × WorldItem) (what : List ℕ) → Contains (items_of p).imports entry → import_item_left_out p.resolve.types entry ≡ Some what → IsLeftOut p (refusals.LeftOut what)
+  exported : (entry : WorldKey × WorldItem) (what : List ℕ) → Contains (items_of p).exports entry → export_item_left_out p.resolve.types entry ≡ Some what → IsLeftOut p (refusals.LeftOut what)
+  -- a type of the resolve
+  type_def : (def : TypeDef) (what : List ℕ) → Contains p.resolve.types def → type_left_out def ≡ Some what → IsLeftOut p (refusals.LeftOut what)
   -- the role of an import or an export of main
   import_role : (import : CoreImport) (what : List ℕ) → Contains (flat_map imports_from p.main.imports.modules) import → import_left_out import.role ≡ Some what → IsLeftOut p (refusals.LeftOut what)
   export_role : (entry : List ℕ × Export) (what : List ℕ) → Contains p.main.exports.exports entry → export_left_out entry.1 ≡ Some what → IsLeftOut p (refusals.LeftOut what)

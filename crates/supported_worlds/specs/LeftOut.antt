@@ -1,17 +1,24 @@
--- Which parts of a world are encoded yet: functions at its root that are synchronous and have no parameters and no result,
--- and core imports and exports with the role of such a function. All else is left out, and reported by the name of its
--- kind. (The names are those of this project's record.)
-use Rattle.std.specs.Prelude.{ℕ, ◌==◌, List, [], ◌∷◌, length, codes, Option, Some, None, Result, Ok, Err, is_some, get_or, if◌then◌else◌}
+-- Which parts of a world are encoded yet: functions at its root that are synchronous and whose calls need no option of the
+-- Canonical ABI (component model, binary format: `canonopt`), types of values that it imports, and core imports and exports
+-- with the role of such a function. All else is left out, and reported by the name of its kind. (The names are those of
+-- this project's record.)
+use Rattle.std.specs.Prelude.{ℕ, Bool, ◌==◌, ◌&&◌, List, [], ◌∷◌, codes, Option, Some, None, Result, Ok, Err, get_or, if◌then◌else◌}
 use Rattle.std.specs.Option.{option_or}
 use Rattle.wit_data.specs.declared.functions.AbiVariant.TheVariants.{GuestImport, GuestExport, GuestImportAsync}
 use Rattle.wit_data.specs.declared.functions.Function.{Function}
 use Rattle.wit_data.specs.declared.functions.FunctionKind.{FunctionKind}
 use Rattle.wit_data.specs.declared.functions.FunctionKind.TheVariants.{Freestanding, AsyncFreestanding}
+use Rattle.wit_data.specs.declared.types.TypeDef.{TypeDef}
+use Rattle.wit_data.specs.declared.types.TypeDefKind.{TypeDefKind}
+use Rattle.wit_data.specs.declared.types.TypeDefKind.TheVariants as kinds
+use Rattle.wit_data.specs.declared.types.TypeOwner.{TypeOwner}
+use Rattle.wit_data.specs.declared.types.TypeOwner.TheVariants as owners
 use Rattle.wit_data.specs.declared.worlds.World.{World}
 use Rattle.wit_data.specs.declared.worlds.WorldItem.{WorldItem}
 use Rattle.wit_data.specs.declared.worlds.WorldItem.TheVariants as items
 use Rattle.wit_data.specs.declared.worlds.WorldKey.{WorldKey}
 use Rattle.wit_data.specs.declared.worlds.WorldKey.TheVariants as keys
+use Rattle.comp_options.specs.Options.{import_set, export_set}
 use Rattle.comp_roles.specs.Lookups.{first_some}
 use Rattle.comp_roles.specs.declared.exports.Export.{Export}
 use Rattle.comp_roles.specs.declared.exports.Export.TheVariants as exports
@@ -38,17 +45,42 @@ kind_left_out Freestanding = None
 kind_left_out AsyncFreestanding = Some (codes "async")
 kind_left_out kind = Some (codes "type")
 
--- a function at the root that has parameters, or a result, or is of such a kind
-abbrev pub function_left_out : Function → Option (List ℕ)
-function_left_out f =
-    if length f.params == 0 then (if is_some f.result then Some (codes "result") else kind_left_out f.kind) else Some (codes "params")
+-- calls of a function, from a core module and into one, need no option
+abbrev pub needs_no_option : List TypeDef → Function → Bool
+needs_no_option types f = import_set GuestImport types f == 0 && export_set GuestExport types f == 0
 
--- an import or an export of the world
-abbrev pub item_left_out : WorldKey × WorldItem → Option (List ℕ)
-item_left_out (keys.Name text, items.Function f) = function_left_out f
-item_left_out (keys.Interface id, items.Function f) = Some (codes "interface")
-item_left_out (key, items.Interface id) = Some (codes "interface")
-item_left_out (key, items.NamedType id) = Some (codes "type")
+abbrev pub unless_plain : Bool → Option (List ℕ)
+unless_plain plain = if plain then None else Some (codes "world-func")
+
+-- a function at the root that is of such a kind, or whose calls need an option
+abbrev pub function_left_out : List TypeDef → Function → Option (List ℕ)
+function_left_out types f = option_or (kind_left_out f.kind) (unless_plain (needs_no_option types f))
+
+-- an export of the world
+abbrev pub export_item_left_out : List TypeDef → WorldKey × WorldItem → Option (List ℕ)
+export_item_left_out types (keys.Name text, items.Function f) = function_left_out types f
+export_item_left_out types (keys.Interface id, items.Function f) = Some (codes "interface")
+export_item_left_out types (key, items.Interface id) = Some (codes "interface")
+export_item_left_out types (key, items.NamedType id) = Some (codes "type")
+
+-- an import of the world, which may also be a type under its name
+abbrev pub import_item_left_out : List TypeDef → WorldKey × WorldItem → Option (List ℕ)
+import_item_left_out types (keys.Name text, items.NamedType id) = None
+import_item_left_out types entry = export_item_left_out types entry
+
+-- ---- types
+
+abbrev pub owner_left_out : TypeOwner → Option (List ℕ)
+owner_left_out (owners.Interface id) = Some (codes "interface")
+owner_left_out owner = None
+
+abbrev pub resource_left_out : TypeDefKind → Option (List ℕ)
+resource_left_out kinds.Resource = Some (codes "type")
+resource_left_out kind = None
+
+-- a type of the resolve that belongs to an interface, or that is a resource
+abbrev pub type_left_out : TypeDef → Option (List ℕ)
+type_left_out t = option_or (owner_left_out t.owner) (resource_left_out t.kind)
 
 -- ---- roles
 
@@ -80,8 +112,12 @@ abbrev pub items_of : WorldParts → World
 items_of p = get_or p.resolve.worlds p.world.index no_items
 
 -- the first of the imports that is left out, or else of the exports
-abbrev pub world_left_out : World → Option (List ℕ)
-world_left_out w = option_or (first_some item_left_out w.imports) (first_some item_left_out w.exports)
+abbrev pub world_left_out : List TypeDef → World → Option (List ℕ)
+world_left_out types w = option_or (first_some (import_item_left_out types) w.imports) (first_some (export_item_left_out types) w.exports)
+
+-- the first of the types that is left out
+abbrev pub types_left_out : List TypeDef → Option (List ℕ)
+types_left_out types = first_some type_left_out types
 
 -- the first import or export of a module that is left out
 abbrev pub module_left_out : ValidatedModule → Option (List ℕ)
@@ -92,9 +128,13 @@ abbrev pub adapters_left_out : List (List ℕ × WorldAdapter) → Option (List 
 adapters_left_out [] = None
 adapters_left_out (a ∷ more) = Some (codes "adapter")
 
--- what of a world is not encoded yet: of its items first, then of main, then of the adapters
+-- what of the modules is left out: of main first, then of the adapters
+abbrev pub modules_left_out : WorldParts → Option (List ℕ)
+modules_left_out p = option_or (module_left_out p.main) (adapters_left_out p.adapters)
+
+-- what of a world is not encoded yet: of its items first, then of the types, then of the modules
 abbrev pub left_out : WorldParts → Option (List ℕ)
-left_out p = option_or (world_left_out (items_of p)) (option_or (module_left_out p.main) (adapters_left_out p.adapters))
+left_out p = option_or (world_left_out p.resolve.types (items_of p)) (option_or (types_left_out p.resolve.types) (modules_left_out p))
 
 -- the refusal of what is left out
 abbrev pub refused : List ℕ → Failure

@@ -2,22 +2,25 @@
 
 ghost use Rattle.std.specs.Prelude.{◌≡◌, ◌≢◌, ◌<◌, length, IfOk, IfErr, IsOk, None};
 ghost use Rattle.std.specs.Option.{option_copied};
+ghost use Rattle.wit_data.specs.Sound.{IsSound, HasWorld};
 ghost use Rattle.comp_worlds.specs.Worlds.{IsWorld};
 ghost use Rattle.comp_worlds.specs.WorldTables.{HasTables};
 ghost use Rattle.record_faults.specs.Faults.{Gives};
 ghost use Rattle.record_faults.specs.declared.fault.Failure.TheVariants as failures;
 ghost use Rattle.record_faults.specs.declared.fault.Refusal.{Refusal as RefusalValue};
-ghost use Rattle.supported_worlds.specs.Apart.{AreApart};
+ghost use Rattle.supported_worlds.specs.Apart.{AreApart, GroupsApart};
 ghost use Rattle.supported_worlds.specs.Causes.{IsLeftOut};
-ghost use Rattle.supported_worlds.specs.LeftOut.{adapters_left_out, left_out, refused, encoded};
+ghost use Rattle.supported_worlds.specs.LeftOut.{items_of, adapters_left_out, modules_left_out, left_out, refused, encoded};
 ghost use Rattle.supported_worlds.specs.Guarantees.{HasSoundParts};
 
 use crate::items::world_left_out;
 use crate::roles::module_left_out;
+use crate::types::types_left_out;
 use comp_lists::{Keyed, Text};
 use comp_worlds::{ComponentWorld, WorldAdapter, WorldParts};
 use record_faults::{Failure, Refusal};
 use std::alloc::Global;
+use wit_data::World;
 use world_tables::world_of_parts;
 
 /// The refusal of what is not encoded yet.
@@ -41,19 +44,42 @@ fn adapters_left_out(adapters: &Keyed<Text, WorldAdapter>) -> Option<&'static st
     }
 }
 
-/// What of a world is not encoded yet; where nothing is left out, no key occurs twice.
-fn left_out(parts: &WorldParts) -> Option<&'static str>
-    requires { parts.now.world.index < length parts.now.resolve.worlds }
-    ensures reported { option_copied result ≡ left_out parts.now }
-    ensures apart { option_copied result ≡ None → AreApart parts.now }
+/// The imports and exports of the world.
+#[tactic(auto, using(crate::proofs::Walking::world_present))]
+fn items_of(parts: &WorldParts) -> &World
+    requires sound { IsSound parts.now.resolve }
+    requires present { parts.now.world.index < length parts.now.resolve.worlds }
+    ensures items { result.now ≡ items_of parts.now }
+    ensures sound { HasWorld parts.now.resolve result.now }
 {
-    let world = &parts.resolve.worlds.as_slice()[parts.world.index];
-    if let Some(what) = world_left_out(world) {
-        return Some(what);
-    }
+    &parts.resolve.worlds.as_slice()[parts.world.index]
+}
+
+/// What of the modules is not encoded yet; where nothing is left out, no import of main occurs twice.
+fn modules_left_out(parts: &WorldParts) -> Option<&'static str>
+    ensures reported { option_copied result ≡ modules_left_out parts.now }
+    ensures apart { option_copied result ≡ None → GroupsApart parts.now.main.imports.modules }
+{
     match module_left_out(&parts.main) {
         Some(what) => Some(what),
         None => adapters_left_out(&parts.adapters),
+    }
+}
+
+/// What of a world is not encoded yet; where nothing is left out, no key occurs twice.
+fn left_out(parts: &WorldParts) -> Option<&'static str>
+    requires sound { IsSound parts.now.resolve }
+    requires present { parts.now.world.index < length parts.now.resolve.worlds }
+    ensures reported { option_copied result ≡ left_out parts.now }
+    ensures apart { option_copied result ≡ None → AreApart parts.now }
+{
+    let world = items_of(parts);
+    if let Some(what) = world_left_out(&parts.resolve, world) {
+        return Some(what);
+    }
+    match types_left_out(parts.resolve.types.as_slice()) {
+        Some(what) => Some(what),
+        None => modules_left_out(parts),
     }
 }
 
@@ -79,11 +105,12 @@ fn unless_left_out(alloc: Global, parts: WorldParts) -> Result<ComponentWorld, F
 
 /// The world of these parts, where all of it is encoded yet.
 ///
-/// It refuses with `LeftOut` and the kind of something of the world that is not encoded yet: `params`,
-/// `result`, `async`, `interface` or `type` of an item of the world, the kind of a role of main's
-/// imports or exports, `library`, or `adapter`. The only other refusal is out of memory. On top of
-/// `world_of_parts` it takes time linear in the number of items, of core imports and of core
-/// exports.
+/// It refuses with `LeftOut` and the kind of something of the world that is not encoded yet: `async`,
+/// `type`, `world-func` or `interface` of an item of the world, `interface` or `type` of a type, the kind
+/// of a role of main's imports or exports, `library`, or `adapter`. The only other refusal is out of
+/// memory. On top of `world_of_parts` it takes time linear in the number of items, of the nodes of
+/// their functions' types, of types, of core imports and of core exports, and no memory but that of
+/// the refusal's text.
 #[tactic(auto, using(crate::proofs::Reporting::no_cause, crate::proofs::Reporting::has_cause))]
 pub fn encoded_world(alloc: Global, parts: WorldParts) -> Result<ComponentWorld, Failure>
     requires { HasSoundParts parts }

@@ -1,22 +1,25 @@
 //! Which worlds the encoder can build yet.
 //!
 //! [`encoded_world`] makes a world of its parts, with what follows from them, where all of it is
-//! encoded yet: functions at the world's root that are synchronous and have no parameters and no
-//! result, main alone, and core imports and exports of main with the role of such a function.
-//! Everything else is refused by the name of its kind (`specs/LeftOut.antt` and `specs/Kinds.antt` are
-//! the tables, `specs/Causes.antt` says when a refusal is right).
+//! encoded yet: functions at the world's root that are synchronous and whose calls need no memory, no
+//! realloc and no string encoding, imported types of values, main alone, and core imports and exports
+//! of main with the role of such a function. Everything else is refused by the name of its kind
+//! (`specs/LeftOut.antt` and `specs/Kinds.antt` are the tables, `specs/Causes.antt` says when a refusal
+//! is right).
 //!
 //! Every world that is returned satisfies `comp_worlds`' `IsWorld` and `HasTables`. What must be known of the parts for
 //! that is `specs/Guarantees.antt`; that no key occurs twice follows from the tables themselves. When the
 //! encoder can build more, only this crate changes.
 //!
 //! In reading order: `kinds` (the names of roles' kinds), `items` (what of a world's items is left
-//! out), `roles` (what of main's imports and exports is left out), `encoding` (the world).
+//! out), `types` (what of its types), `roles` (what of main's imports and exports), `encoding` (the
+//! world).
 #![tactic(auto)]
 
 mod encoding;
 mod items;
 mod kinds;
 mod roles;
+mod types;
 
 pub use encoding::encoded_world;
