@@ -1,9 +1,8 @@
 -- All types and functions of a world may be defined at the root of its component.
-use Rattle.std.proofs.Common.{◌≡◌, ◌≢◌, ◌∙◌, ◌<◌, arith, ℕ, zero, suc, Bool, true, false, ◌&&◌, List, [], ◌∷◌, ◌++◌, length, map, refl, sym, ap, subst, Option, Some, None}
+use Rattle.std.proofs.Common.{◌≡◌, ◌≢◌, ◌∙◌, ◌<◌, arith, ℕ, zero, suc, Bool, true, false, List, [], ◌∷◌, ◌++◌, length, map, refl, ap, Option, Some, None}
 use Rattle.std.specs.List.{AllByRecursion, list_all}
 use Rattle.std.specs.Prelude.{get_or}
 use Rattle.standard_kinds.specs.declared.kinds.Primitive.{Primitive as Prim}
-use Rattle.wit_data.specs.declared.ids.InterfaceId.{InterfaceId}
 use Rattle.wit_data.specs.declared.functions.Function.{Function}
 use Rattle.wit_data.specs.declared.functions.Param.{Param}
 use Rattle.wit_data.specs.declared.types.Type.{«Type» as Ty}
@@ -14,7 +13,7 @@ use Rattle.wit_data.specs.declared.types.TypeDefKind.TheVariants as kinds
 use Rattle.wit_data.specs.declared.types.TypeOwner.{TypeOwner}
 use Rattle.wit_data.specs.declared.types.TypeOwner.TheVariants as owners
 use Rattle.wit_data.specs.Parts.{parts}
-use Rattle.wit_data.specs.Values.{kind_at, part_value, next_value, values_from, values, value}
+use Rattle.wit_data.specs.Values.{kind_at, part_value, next_value, values_from, values}
 use Rattle.comp_worlds.specs.Worlds.{IsOwnerAtRoot, IsRootType}
 use Rattle.comp_worlds.specs.declared.world.ComponentWorld.{ComponentWorld}
 use Rattle.wit_types.specs.Settings.{Setting, owner_at}

@@ -1,5 +1,5 @@
 -- What one definition more makes of the root.
-use Rattle.std.proofs.Common.{◌≡◌, ℕ, List, [], ◌∷◌, sym, ap, subst, Option, None, Result, Ok, Err}
+use Rattle.std.proofs.Common.{◌≡◌, ℕ, [], ◌∷◌, sym, ap, subst, None, Result, Ok, Err}
 use Rattle.std.specs.Prelude.{IfOk}
 use Rattle.byte_encoding.specs.declared.fault.BuildFault.{BuildFault}
 use Rattle.comp_bytes.specs.declared.def.Def.{Def}
@@ -10,9 +10,8 @@ use Rattle.comp_trees.specs.DefinedScopes.{Denotes}
 use Rattle.comp_trees.specs.Inventories.{scope_of}
 use Rattle.comp_worlds.specs.declared.world.ComponentWorld.{ComponentWorld}
 use Rattle.comp_terms.specs.Rules.{IsRight, landmarks, Grows}
-use Rattle.comp_items.specs.Items.{Extends}
 use Rattle.comp_items.proofs.Extending.{extends_adds}
-use Rattle.wit_types.specs.Denoting.{Longer, Makes}
+use Rattle.wit_types.specs.Denoting.{Makes}
 use Rattle.comp_imports.specs.RootScopes.{RootGrows}
 use Rattle.comp_imports.specs.Growing.{Grows-by, root_same}
 use Rattle.comp_imports.proofs.Growth.{scope_longer}

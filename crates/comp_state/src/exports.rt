@@ -62,11 +62,7 @@ fn exported_function<'w>(world: &'w ComponentWorld, key: &WorldKey) -> &'w Funct
 }
 
 /// Checks that a root function that is lifted has a string encoding.
-fn check_encoding(
-    alloc: Global,
-    world: &ComponentWorld,
-    key: &WorldKey,
-) -> Result<(), StateFault>
+fn check_encoding(alloc: Global, world: &ComponentWorld, key: &WorldKey) -> Result<(), StateFault>
     requires { IsSome (core_name_of world.now key.now) }
     ensures ok { OnOk result (IsSome (export_encoding world.now key.now)) }
     ensures cause { IfErr result (IsCauseAmong world.now [] (key.now ∷ [])) }
@@ -102,7 +98,11 @@ impl MainExports<'_> {
     }
 
     /// Lifts a root function from the core export that implements it.
-    fn lift_function(&self, root: &mut RootScope<'_, ComponentWorld>, key: &WorldKey) -> Result<u32, BuildFault>
+    fn lift_function(
+        &self,
+        root: &mut RootScope<'_, ComponentWorld>,
+        key: &WorldKey,
+    ) -> Result<u32, BuildFault>
         requires exports { AreExports root.old.world.now self.now root.old.items.defs root.old.maps }
         requires present { IsSome (core_name_of root.old.world.now key.now) }
         requires encoded { IsSome (export_encoding root.old.world.now key.now) }
@@ -128,7 +128,11 @@ impl MainExports<'_> {
     }
 
     /// Lifts a required function.
-    pub(crate) fn lift(&self, root: &mut RootScope<'_, ComponentWorld>, key: &WorldKey) -> Result<u32, StateFault>
+    pub(crate) fn lift(
+        &self,
+        root: &mut RootScope<'_, ComponentWorld>,
+        key: &WorldKey,
+    ) -> Result<u32, StateFault>
         requires exports { AreExports root.old.world.now self.now root.old.items.defs root.old.maps }
         requires present { IsSome (core_name_of root.old.world.now key.now) }
         ensures world { root.new.world ≡ root.old.world }
@@ -144,7 +148,11 @@ impl MainExports<'_> {
     }
 
     /// Lifts a required function, and exports it under its name.
-    fn export(&self, root: &mut RootScope<'_, ComponentWorld>, key: &WorldKey) -> Result<(), StateFault>
+    fn export(
+        &self,
+        root: &mut RootScope<'_, ComponentWorld>,
+        key: &WorldKey,
+    ) -> Result<(), StateFault>
         requires exports { AreExports root.old.world.now self.now root.old.items.defs root.old.maps }
         requires present { IsSome (core_name_of root.old.world.now key.now) }
         ensures world { root.new.world ≡ root.old.world }
@@ -164,7 +172,10 @@ impl MainExports<'_> {
     }
 
     /// Lifts and exports the required exports of main, in order.
-    pub(crate) fn export_all(&self, root: &mut RootScope<'_, ComponentWorld>) -> Result<(), StateFault>
+    pub(crate) fn export_all(
+        &self,
+        root: &mut RootScope<'_, ComponentWorld>,
+    ) -> Result<(), StateFault>
         requires { AreExports root.old.world.now self.now root.old.items.defs root.old.maps }
         ensures world { root.new.world ≡ root.old.world }
         ensures extends { Extends root.old.items root.new.items }

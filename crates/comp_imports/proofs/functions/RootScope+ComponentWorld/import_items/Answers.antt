@@ -1,4 +1,4 @@
-use Rattle.std.proofs.Common.{◌≡◌, ◌∙◌, ℕ, List, [], ◌∷◌, refl, sym, ap, subst, IsTrue, IsSome}
+use Rattle.std.proofs.Common.{◌≡◌, ◌∙◌, ℕ, List, [], refl, sym, subst, IsTrue, IsSome}
 use Rattle.std.specs.List.{AllByRecursion, IsDistinct}
 use Rattle.std.specs.Map.{keys_of}
 use Rattle.comp_lists.specs.Found.{found}
@@ -10,7 +10,7 @@ use Rattle.comp_imports.specs.Imports.{IsNextItem, FindsImports}
 use Rattle.wit_data.specs.declared.worlds.WorldKey.{WorldKey}
 use Rattle.wit_data.specs.declared.worlds.WorldItem.{WorldItem}
 use Rattle.comp_worlds.specs.Worlds.{items_of, root_function}
-use Rattle.comp_imports.proofs.Importing.{ImportsSoFar, imports_start, imports_step, next_item, imports_marks, imports_found}
+use Rattle.comp_imports.proofs.Importing.{ImportsSoFar, imports_start, imports_step, next_item, imports_found}
 use Rattle.comp_imports.proofs.functions.RootScope+ComponentWorld.import_items.Goals as goal
 
 pub loop-key-init : goal.loop-key-init

@@ -1,4 +1,4 @@
-use Rattle.std.proofs.Common.{◌≡◌, refl, IsTrue, None, rules}
+use Rattle.std.proofs.Common.{refl, IsTrue, None, rules}
 use Rattle.comp_links.specs.Roles.{is_used}
 use Rattle.comp_terms.specs.Planned.{type_of_function}
 use Rattle.comp_terms.specs.Terms.{imports_in}

@@ -1,5 +1,4 @@
-use Rattle.std.proofs.Common.{◌≡◌, [], length, map, subst, sym}
-use Rattle.comp_links.specs.Lists.{root_type}
+use Rattle.std.proofs.Common.{◌≡◌, length, map, subst, sym}
 use Rattle.comp_links.specs.Roles.{used_functions}
 use Rattle.comp_terms.specs.Rules.{Grows, named_import}
 use Rattle.comp_terms.specs.Terms.{imports_in}

@@ -3,7 +3,7 @@ use Rattle.comp_bytes.specs.declared.space.Space.TheVariants as spaces
 use Rattle.comp_bytes.specs.declared.types.TypeDef.TheVariants as types
 use Rattle.comp_bytes.specs.declared.def.Item.TheVariants as items
 use Rattle.comp_bytes.specs.declared.def.Def.TheVariants as defs
-use Rattle.comp_trees.specs.DefinedTrees.{OfValues, OfFunctions, defined_tree, function_tree}
+use Rattle.comp_trees.specs.DefinedTrees.{OfValues, defined_tree}
 use Rattle.comp_trees.specs.Inventories.{scope_of}
 use Rattle.comp_imports.proofs.Defining.{makes_added, root_added}
 use Rattle.comp_imports.proofs.root_scope.RootScopeValtypeEncoder.defined_type.Goals as goal

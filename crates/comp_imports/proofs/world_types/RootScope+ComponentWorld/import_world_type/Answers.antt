@@ -1,4 +1,4 @@
-use Rattle.std.proofs.Common.{◌≡◌, ◌∙◌, [], ◌∷◌, ℕ, ap, refl, sym, subst, Some, None}
+use Rattle.std.proofs.Common.{◌≡◌, ◌∙◌, [], ◌∷◌, ap, refl, sym, subst, Some, None}
 use Rattle.std.specs.Prelude.{get_or, slice_get}
 use Rattle.comp_bytes.specs.declared.space.Space.TheVariants as spaces
 use Rattle.comp_bytes.specs.declared.types.Description.TheVariants as descriptions
@@ -7,16 +7,15 @@ use Rattle.comp_bytes.specs.declared.def.Def.TheVariants as defs
 use Rattle.comp_bytes.specs.declared.def.Item.TheVariants as items
 use Rattle.comp_builder.specs.Built.{Built}
 use Rattle.comp_trees.specs.DefinedTrees.{OfOthers}
-use Rattle.comp_trees.specs.DefinedScopes.{Denotes}
 use Rattle.comp_trees.specs.Inventories.{scope_of}
 use Rattle.comp_items.specs.Items.{Extends}
-use Rattle.comp_items.proofs.Extending.{extends_adds, extends_then}
-use Rattle.comp_links.specs.Lists.{plain_name, root_type, WorldType, import_entries, type_of_world}
+use Rattle.comp_items.proofs.Extending.{extends_adds}
+use Rattle.comp_links.specs.Lists.{plain_name, root_type, WorldType, import_entries}
 use Rattle.comp_terms.specs.Rules.{IsRight, Grows, Imported, ImportsType}
 use Rattle.comp_terms.specs.Terms.{imports_in}
 use Rattle.wit_types.specs.Maps.{Faithful}
 use Rattle.comp_imports.specs.Growing.{Grows-by, Grows-then}
-use Rattle.comp_imports.specs.RootScopes.{root_setting, any_index, AreTablesRight}
+use Rattle.comp_imports.specs.RootScopes.{any_index, AreTablesRight}
 use Rattle.comp_imports.proofs.Allowing.{root_defines}
 use Rattle.comp_imports.proofs.Growth.{tables_kept}
 use Rattle.comp_imports.proofs.Importing.{no_imports}

@@ -1,6 +1,4 @@
-use Rattle.std.proofs.Common.{◌≡◌, ◌∙◌, [], ap, subst, sym}
-use Rattle.comp_builder.specs.Built.{Built}
-use Rattle.comp_terms.specs.Terms.{imports_in}
+use Rattle.std.proofs.Common.{◌∙◌, ap, subst, sym}
 use Rattle.comp_state.specs.Encoding.{Encoding}
 use Rattle.comp_state.specs.Tables.{IsEncoding}
 use Rattle.comp_state.specs.declared.state.Step.TheVariants.{Imported}
