@@ -5,36 +5,17 @@ ten times as many should take about ten times as long. Most of these worlds are 
 with the fault `P8 LeftOut`, after all of the record was met. Each time is the least of five.
 """
 import itertools
-import json
 import os
 import subprocess
 import sys
 
-from timing import number, timed
+from modules import module
+from timing import timed
 
 program, folder = sys.argv[1:]
 main = os.path.join(folder, "main.wasm")
 made = os.path.join(folder, "made.wasm")
 PRIMITIVES = ["bool", "s8", "u8", "s16", "u16", "s32", "u32", "s64", "u64", "f32", "f64", "char"]
-
-
-def section(identifier, contents):
-    return bytes([identifier]) + number(len(contents)) + contents
-
-
-def text(name):
-    return number(len(name)) + name.encode()
-
-
-def module(record, imports=(), params=b"\0"):
-    """A core module that imports these fields as functions of these parameters and no result, with its record."""
-    fields = b"".join(text(name) + text(field) + b"\0\0" for name, field in imports)
-    return (
-        b"\0asm\1\0\0\0"
-        + section(1, b"\1\x60" + params + b"\0")
-        + section(2, number(len(imports)) + fields)
-        + section(0, text("component-type") + json.dumps({"version": 1, **record}).encode())
-    )
 
 
 def interface(name, functions=(), types=()):
