@@ -128,11 +128,6 @@ abbrev pub exports_name : Space → List ℕ → Member → Bool
 exports_name space name (members.Export n description) = is_space space (Some (description_space description)) && bytes_eq name n.name
 exports_name space name member = false
 
--- the first export of a name in a space
-abbrev pub first_export : Space → List ℕ → List MemberExport → Option MemberExport
-first_export space name [] = None
-first_export space name (x ∷ xs) = if is_space space (Some x.space) && bytes_eq name x.name then Some x else first_export space name xs
-
 -- an export of a function is found by its name, and of a type
 pub record FindsFunction (number : ℕ) (functions : List Function) (exports : List Export) (name : List ℕ) (tree : TypeTree) : Type 0 where
   pub export : Export
