@@ -9,10 +9,11 @@ use Rattle.comp_bytes.specs.declared.space.Space.{Space}
 use Rattle.comp_bytes.specs.declared.space.Space.TheVariants as spaces
 use Rattle.comp_trees.specs.Trees.{FunctionTree}
 use Rattle.comp_trees.specs.DefinedTrees.{TypeTree, OfFunctions, OfOthers}
+use Rattle.comp_trees.specs.Inventories.{TypeEntry, Inventory, entry_tree, trees_in}
 use Rattle.comp_runs.specs.Store.{Thing, Export, Function, Imported, TypeItem, TreeOf, ImportedResource, OwnResource, InstanceTypeOf, item_tree, tree_held}
 use Rattle.comp_runs.specs.Machine.{Machine, is_of, address_at}
 use Rattle.comp_runs.specs.Instances.{type_scope}
-use Rattle.instance_laws.specs.Instantiated.{IsHeldAs, IsThingHeldAs, AreHeldAs, MemberExport, IsImportedFunction, IsItemOf, IsExportedAs}
+use Rattle.instance_laws.specs.Instantiated.{IsHeldAs, IsThingHeldAs, AreHeldAs, IsScopeOf, MemberExport, IsImportedFunction, IsItemOf, IsExportedAs}
 
 -- types that denote a scope are held as it
 held_trees : (types : List TypeItem) (trees : List TypeTree) (ts : List Thing) → AllZip (IsThingHeldAs types) trees ts → map (λ (t : Thing). tree_held types t.address) ts ≡ trees
@@ -25,7 +26,10 @@ held_trees types (x ∷ xs) [] h = absurd h
 pub trees_of_held : (types : List TypeItem) (trees : List TypeTree) (items : List Thing) → AreHeldAs types trees items → map (λ (t : Thing). tree_held types t.address) (filter (is_of spaces.Type) items) ≡ trees
 trees_of_held types trees items h = held_trees types trees (filter (is_of spaces.Type) items) h
 
--- and the other way round, where each address has an entry
+pub tree_of_held : (types : List TypeItem) (tree : TypeTree) (address : ℕ) → IsHeldAs types tree address → tree_held types address ≡ tree
+tree_of_held types tree address h = ap (λ o. elim o [ None ↦ OfOthers | Some i ↦ item_tree address i ]) h.present ∙ h.denotes
+
+-- and the other way round, where each address has an entry: what has none would denote another type once the store grows
 thing_held : (types : List TypeItem) (t : Thing) → t.address < length types → IsThingHeldAs types (tree_held types t.address) t
 thing_held types t l =
     let x : (x : TypeItem) × (slice_get types t.address ≡ Some x) = there types t.address l in
@@ -38,6 +42,29 @@ things_held types (t ∷ ts) h = (thing_held types t h.0, things_held types ts h
 pub held_of_trees : (types : List TypeItem) (trees : List TypeTree) (items : List Thing) → map (λ (t : Thing). tree_held types t.address) (filter (is_of spaces.Type) items) ≡ trees →
     AllByRecursion (λ (t : Thing). t.address < length types) (filter (is_of spaces.Type) items) → AreHeldAs types trees items
 held_of_trees types trees items e h = subst (λ xs. AllZip (IsThingHeldAs types) xs (filter (is_of spaces.Type) items)) e (things_held types (filter (is_of spaces.Type) items) h)
+
+-- a scope, by what its types and those around it denote
+pub scope_of_trees : (outer scope : List TypeTree) (m : Machine) (next_out : List Thing) (further : List (List Thing)) → m.scope.around ≡ next_out ∷ further →
+    map (λ (t : Thing). tree_held m.store.types t.address) (filter (is_of spaces.Type) next_out) ≡ outer → AllByRecursion (λ (t : Thing). t.address < length m.store.types) (filter (is_of spaces.Type) next_out) →
+    type_scope m ≡ scope → AllByRecursion (λ (t : Thing). t.address < length m.store.types) (filter (is_of spaces.Type) m.scope.items) → IsScopeOf outer scope m
+scope_of_trees outer scope m next_out further around outer_trees outer_within trees within = record {
+  next_out = next_out;
+  further = further;
+  around = around;
+  outer_held = held_of_trees m.store.types outer next_out outer_trees outer_within;
+  held = held_of_trees m.store.types scope m.scope.items trees within;
+}
+
+-- the types of an inventory, where each is what its entry says
+entries_held : (types : List TypeItem) (es : List TypeEntry) (ts : List Thing) → AllZip (λ e (t : Thing). IsHeldAs types (entry_tree e) t.address) es ts → AllZip (IsThingHeldAs types) (map entry_tree es) ts
+entries_held types [] [] h = tt
+entries_held types (e ∷ es) (t ∷ ts) h = (h.0, entries_held types es ts h.1)
+entries_held types [] (t ∷ ts) h = absurd h
+entries_held types (e ∷ es) [] h = absurd h
+
+pub held_of_entries : (types : List TypeItem) (v : Inventory) (items : List Thing) → AllZip (λ e (t : Thing). IsHeldAs types (entry_tree e) t.address) v.types (filter (is_of spaces.Type) items) →
+    AreHeldAs types (trees_in v) items
+held_of_entries types v items h = entries_held types v.types (filter (is_of spaces.Type) items) h
 
 -- ---- what is held stays so where the store grows
 
@@ -64,6 +91,14 @@ IsExportedAs-kept number types more functions others x e h = record {
   space = h.space;
   is = IsItemOf-kept number types more functions others x.space x.name x.tree e.address h.is;
 }
+
+pub exports_kept : (number : ℕ) (types more : List TypeItem) (functions others : List Function) (xs : List MemberExport) (es : List Export) → AllZip (IsExportedAs number types functions) xs es →
+    AllZip (IsExportedAs number (types ++ more) (functions ++ others)) xs es
+exports_kept number types more functions others xs es h = AllZip-weaker (IsExportedAs-kept number types more functions others) xs es h
+
+-- what was at an address of a list that grew is there
+pub entry_kept : {X : Type 0} (old new more : List X) → new ≡ old ++ more → (i : ℕ) (x : X) → slice_get old i ≡ Some x → slice_get new i ≡ Some x
+entry_kept {X} old new more grew i x e = subst (λ (l : List X). slice_get l i ≡ Some x) (sym grew) (slice_get-append old more i x e)
 
 -- ---- one item more
 

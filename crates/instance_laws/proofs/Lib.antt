@@ -1,3 +1,4 @@
 pub mod Held
 pub mod Members
 pub mod Finding
+mod WorkedInstance

@@ -2,7 +2,7 @@
 use Rattle.std.proofs.Common.{◌≡◌, ◌∙◌, ℕ, ◌<◌, true, List, [], ◌∷◌, ◌++◌, length, map, filter, get_or, append-nil, append_assoc, refl, sym, ap, subst, Option, Some, None, if◌then◌else◌}
 use Rattle.std.specs.List.{slice_get, AllZip}
 use Rattle.std.specs.Option.{option_map}
-use Rattle.comp_lists.proofs.Lists.{AllZip-weaker, slice_get-end}
+use Rattle.comp_lists.proofs.Lists.{slice_get-end}
 use Rattle.comp_bytes.specs.Spaces.{description_space}
 use Rattle.comp_bytes.specs.declared.space.Space.TheVariants as spaces
 use Rattle.comp_bytes.specs.declared.types.ExternName.{ExternName}
@@ -21,7 +21,7 @@ use Rattle.comp_runs.specs.Store.{Thing, Export, Function, Imported, TypeItem, T
 use Rattle.comp_runs.specs.Machine.{Machine, Next, address_at, new_instance}
 use Rattle.comp_runs.specs.Instances.{type_scope, known_function, type_item, each_member, instance_of_type}
 use Rattle.instance_laws.specs.Instantiated.{IsHeldAs, AreHeldAs, IsScopeOf, MemberExport, exports_of_member, member_exports, IsExportedAs, Grown, grown, RunMembers, with_instance, RunsInstanceType}
-use Rattle.instance_laws.proofs.Held.{trees_of_held, AreHeldAs-kept, IsExportedAs-kept, AreHeldAs-push, AreHeldAs-beside, new_held, IsTypeThere, type_there, index_of_functions, item_of_functions}
+use Rattle.instance_laws.proofs.Held.{trees_of_held, AreHeldAs-kept, exports_kept, AreHeldAs-push, AreHeldAs-beside, new_held, IsTypeThere, type_there, index_of_functions, item_of_functions}
 
 -- one member runs, and the rest is run from this machine
 pub record RunsMember (number : ℕ) (outer scope : List TypeTree) (x : Member) (m : Machine) : Type 0 where
@@ -199,7 +199,7 @@ exported_after : (number : ℕ) (trees trees' : List TypeTree) (first second : L
     AllZip (IsExportedAs number k.types k.functions) (first ++ second) (g.more_exports ++ k.more_exports)
 exported_after number trees trees' first second m g k =
     let kept : AllZip (IsExportedAs number (g.types ++ k.more_types) (g.functions ++ k.more_functions)) first g.more_exports =
-    AllZip-weaker (IsExportedAs-kept number g.types k.more_types g.functions k.more_functions) first g.more_exports g.each in
+    exports_kept number g.types k.more_types g.functions k.more_functions first g.more_exports g.each in
     let now : AllZip (IsExportedAs number k.types k.functions) first g.more_exports =
     subst (λ types. AllZip (IsExportedAs number types k.functions) first g.more_exports) (sym k.types_grew)
     (subst (λ functions. AllZip (IsExportedAs number (g.types ++ k.more_types) functions) first g.more_exports) (sym k.functions_grew) kept) in
