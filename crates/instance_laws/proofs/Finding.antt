@@ -1,5 +1,5 @@
 -- The exports of an instance, by their names: what is found is what the members say.
-use Rattle.std.proofs.Common.{◌≡◌, ◌∙◌, ℕ, ◌<◌, Bool, true, false, List, [], ◌∷◌, ◌++◌, length, map, filter, get_or, append-nil, append_assoc, refl, sym, ap, subst, Option, Some, None, cond, if◌then◌else◌, ◌||◌}
+use Rattle.std.proofs.Common.{◌≡◌, ◌∙◌, ℕ, ◌<◌, Bool, true, false, List, [], ◌∷◌, ◌++◌, length, map, filter, get_or, append-nil, append_assoc, refl, sym, ap, subst, Some, cond, if◌then◌else◌, ◌||◌}
 use Rattle.std.proofs.Math.ListN.{get_or-append}
 use Rattle.std.proofs.lemmas.Slice.Eq.{bytes_eq-Decides}
 use Rattle.std.specs.Str.{bytes_eq}
@@ -17,7 +17,7 @@ use Rattle.comp_trees.specs.DefinedTrees.{TypeTree, OfValues, OfOthers}
 use Rattle.comp_trees.specs.Members.{Surroundings, AreMembersRight, makes_type, member_tree, with_member, member_trees, type_exported, function_exported}
 use Rattle.comp_runs.specs.Store.{Export, Function, TypeItem}
 use Rattle.comp_runs.specs.Machine.{export_in, export_of}
-use Rattle.instance_laws.specs.Instantiated.{IsHeldAs, MemberExport, member_exports, IsImportedFunction, IsExportedAs, exports_name, FindsFunction, FindsType}
+use Rattle.instance_laws.specs.Instantiated.{IsHeldAs, member_exports, IsImportedFunction, IsExportedAs, exports_name, FindsFunction, FindsType}
 use Rattle.instance_laws.proofs.Held.{index_of_functions}
 
 -- ---- the type indices of the members before have the same meaning after all members

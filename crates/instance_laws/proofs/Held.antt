@@ -1,5 +1,5 @@
 -- What types denote, at their addresses.
-use Rattle.std.proofs.Common.{◌≡◌, ◌∙◌, ℕ, zero, suc, ◌<◌, List, [], ◌∷◌, ◌++◌, length, append-nil, map, filter, get_or, refl, sym, ap, ap₂, subst, Option, Some, None, arith}
+use Rattle.std.proofs.Common.{◌≡◌, ◌∙◌, ℕ, zero, suc, ◌<◌, List, [], ◌∷◌, ◌++◌, length, append-nil, map, filter, get_or, refl, sym, ap, ap₂, subst, Some, None, arith}
 use Rattle.std.proofs.lemmas.Option.{get_or_from_slice_get}
 use Rattle.std.proofs.lemmas.List.Elements.{filter-append}
 use Rattle.std.specs.List.{slice_get, AllZip, AllByRecursion}
@@ -13,7 +13,7 @@ use Rattle.comp_trees.specs.Inventories.{TypeEntry, Inventory, entry_tree, trees
 use Rattle.comp_runs.specs.Store.{Thing, Export, Function, Imported, TypeItem, TreeOf, ImportedResource, OwnResource, InstanceTypeOf, item_tree, tree_held}
 use Rattle.comp_runs.specs.Machine.{Machine, is_of, address_at}
 use Rattle.comp_runs.specs.Instances.{type_scope}
-use Rattle.instance_laws.specs.Instantiated.{IsHeldAs, IsThingHeldAs, AreHeldAs, IsScopeOf, MemberExport, IsImportedFunction, IsItemOf, IsExportedAs}
+use Rattle.instance_laws.specs.Instantiated.{IsHeldAs, IsThingHeldAs, AreHeldAs, IsScopeOf, MemberExport, IsItemOf, IsExportedAs}
 
 -- types that denote a scope are held as it
 held_trees : (types : List TypeItem) (trees : List TypeTree) (ts : List Thing) → AllZip (IsThingHeldAs types) trees ts → map (λ (t : Thing). tree_held types t.address) ts ≡ trees

@@ -1,10 +1,10 @@
 -- A type of instances is imported, and the exports of the instance are aliased: the items are those of the inventory.
-use Rattle.std.proofs.Common.{◌≡◌, ◌∙◌, ℕ, true, List, [], ◌∷◌, ◌++◌, length, refl, sym, ap, subst, Option, Some}
-use Rattle.std.specs.List.{slice_get, AllZip, list_any}
+use Rattle.std.proofs.Common.{◌≡◌, ◌∙◌, ℕ, true, List, [], ◌∷◌, ◌++◌, refl, ap, Option, Some}
+use Rattle.std.specs.List.{slice_get, list_any}
 use Rattle.comp_bytes.specs.declared.space.Space.TheVariants as spaces
 use Rattle.comp_bytes.specs.declared.types.Member.{Member}
-use Rattle.comp_trees.specs.Trees.{Origin, FunctionTree}
-use Rattle.comp_trees.specs.DefinedTrees.{TypeTree, OfFunctions}
+use Rattle.comp_trees.specs.Trees.{Origin}
+use Rattle.comp_trees.specs.DefinedTrees.{TypeTree}
 use Rattle.comp_trees.specs.Members.{AreMembersRight, member_trees, type_exported, function_exported}
 use Rattle.comp_trees.specs.Inventories.{InstanceEntry, ImportedInstance, OtherInstance, Inventory, trees_in, entry_tree, surroundings_of, type_of_instance, function_of_instance}
 use Rattle.comp_runs.specs.Store.{Thing, Export, Function, TypeItem, InstanceTypeOf}

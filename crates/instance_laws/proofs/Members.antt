@@ -1,9 +1,8 @@
 -- The members of a right instance type run, one after the other, and an import of it makes an instance.
-use Rattle.std.proofs.Common.{◌≡◌, ◌∙◌, ℕ, ◌<◌, true, List, [], ◌∷◌, ◌++◌, length, map, filter, get_or, append-nil, append_assoc, refl, sym, ap, subst, Option, Some, None, if◌then◌else◌}
+use Rattle.std.proofs.Common.{◌≡◌, ◌∙◌, ℕ, ◌<◌, true, List, [], ◌∷◌, ◌++◌, length, get_or, append-nil, append_assoc, refl, sym, ap, subst, Some, None, if◌then◌else◌}
 use Rattle.std.specs.List.{slice_get, AllZip}
 use Rattle.std.specs.Option.{option_map}
 use Rattle.comp_lists.proofs.Lists.{slice_get-end}
-use Rattle.comp_bytes.specs.Spaces.{description_space}
 use Rattle.comp_bytes.specs.declared.space.Space.TheVariants as spaces
 use Rattle.comp_bytes.specs.declared.types.ExternName.{ExternName}
 use Rattle.comp_bytes.specs.declared.types.FuncTypeDef.{FuncTypeDef}
@@ -13,14 +12,14 @@ use Rattle.comp_bytes.specs.declared.types.Alias.TheVariants as aliases
 use Rattle.comp_bytes.specs.declared.types.Description.TheVariants as descriptions
 use Rattle.comp_bytes.specs.declared.types.Member.{Member}
 use Rattle.comp_bytes.specs.declared.types.Member.TheVariants as members
-use Rattle.comp_trees.specs.Trees.{Origin, ImportedAt, ResourceAt, FunctionTree, is_known, is_known_function}
+use Rattle.comp_trees.specs.Trees.{Origin, ImportedAt, ResourceAt, is_known, is_known_function}
 use Rattle.comp_trees.specs.DefinedTrees.{TypeTree, OfValues, OfFunctions, OfOthers, function_tree, defined_tree}
 use Rattle.comp_trees.specs.Members.{IsOfFunctions, IsMemberRight, AreMembersRight, with_member, member_trees}
 use Rattle.comp_trees.specs.Inventories.{surroundings_of}
-use Rattle.comp_runs.specs.Store.{Thing, Export, Function, Imported, TypeItem, TreeOf, ImportedResource, InstanceTypeOf}
-use Rattle.comp_runs.specs.Machine.{Machine, Next, address_at, new_instance}
-use Rattle.comp_runs.specs.Instances.{type_scope, known_function, type_item, each_member, instance_of_type}
-use Rattle.instance_laws.specs.Instantiated.{IsHeldAs, AreHeldAs, IsScopeOf, MemberExport, exports_of_member, member_exports, IsExportedAs, Grown, grown, RunMembers, with_instance, RunsInstanceType}
+use Rattle.comp_runs.specs.Store.{Thing, Export, Function, Imported, TypeItem, TreeOf, ImportedResource}
+use Rattle.comp_runs.specs.Machine.{Machine, Next, new_instance}
+use Rattle.comp_runs.specs.Instances.{type_scope, known_function, type_item, each_member}
+use Rattle.instance_laws.specs.Instantiated.{IsHeldAs, AreHeldAs, IsScopeOf, MemberExport, exports_of_member, member_exports, IsExportedAs, Grown, grown, RunMembers, RunsInstanceType}
 use Rattle.instance_laws.proofs.Held.{trees_of_held, AreHeldAs-kept, exports_kept, AreHeldAs-push, AreHeldAs-beside, new_held, IsTypeThere, type_there, index_of_functions, item_of_functions}
 
 -- one member runs, and the rest is run from this machine

@@ -1,5 +1,5 @@
 -- What an inventory says of types of instances and of imported instances, as a run holds them.
-use Rattle.std.specs.Prelude.{ℕ, ◌≡◌, List, [], ◌∷◌, ◌++◌, Option, Some, length, slice_get}
+use Rattle.std.specs.Prelude.{ℕ, ◌≡◌, List, [], ◌∷◌, ◌++◌, Some, length, slice_get}
 use Rattle.std.specs.List.{AllZip}
 use Rattle.comp_bytes.specs.declared.space.Space.TheVariants as spaces
 use Rattle.comp_bytes.specs.declared.space.ComponentExportKind.TheVariants as exports
@@ -9,7 +9,7 @@ use Rattle.comp_bytes.specs.declared.types.Member.{Member}
 use Rattle.comp_trees.specs.Trees.{Origin, FunctionTree}
 use Rattle.comp_trees.specs.DefinedTrees.{TypeTree, OfFunctions}
 use Rattle.comp_trees.specs.Members.{AreMembersRight}
-use Rattle.comp_trees.specs.Inventories.{FunctionEntry, InstanceEntry, ImportedInstance, OtherInstance, entry_tree, surroundings_of, type_of_instance, function_of_instance}
+use Rattle.comp_trees.specs.Inventories.{FunctionEntry, InstanceEntry, ImportedInstance, OtherInstance, surroundings_of}
 use Rattle.comp_runs.specs.Store.{Thing, Export, Function, Imported, TypeItem, InstanceTypeOf}
 use Rattle.comp_runs.specs.Machine.{Machine, Next}
 use Rattle.comp_runs.specs.Instances.{aliased, described, instance_of_type}

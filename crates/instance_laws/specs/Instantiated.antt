@@ -1,6 +1,6 @@
 -- What a run has after the members of an instance type: what the type indices denote, and what the instance exports
 -- (component model, explainer: `instancedecl`, instance types).
-use Rattle.std.specs.Prelude.{ℕ, ◌≡◌, Bool, false, ◌&&◌, List, [], ◌∷◌, ◌++◌, Option, Some, None, get_or, map, filter, length, slice_get, if◌then◌else◌}
+use Rattle.std.specs.Prelude.{ℕ, ◌≡◌, Bool, false, ◌&&◌, List, [], ◌∷◌, ◌++◌, Some, get_or, filter, length, slice_get}
 use Rattle.std.specs.Str.{bytes_eq}
 use Rattle.std.specs.List.{AllZip}
 use Rattle.comp_bytes.specs.Spaces.{is_space, description_space}
@@ -16,7 +16,7 @@ use Rattle.comp_trees.specs.DefinedTrees.{TypeTree, OfFunctions, OfOthers}
 use Rattle.comp_trees.specs.Members.{Surroundings, member_tree, with_member, member_trees}
 use Rattle.comp_trees.specs.Inventories.{surroundings_of}
 use Rattle.comp_runs.specs.Store.{Thing, Export, Function, Imported, TypeItem, InstanceTypeOf, item_tree}
-use Rattle.comp_runs.specs.Machine.{Machine, Outcome, Next, is_of, export_of, new_instance}
+use Rattle.comp_runs.specs.Machine.{Machine, Next, is_of, export_of, new_instance}
 use Rattle.comp_runs.specs.Instances.{type_scope, each_member, instance_of_type}
 
 -- the type at this address denotes this
