@@ -1,0 +1,150 @@
+-- What types denote, at their addresses.
+use Rattle.std.proofs.Common.{◌≡◌, ◌∙◌, ℕ, zero, suc, ◌<◌, List, [], ◌∷◌, ◌++◌, length, append-nil, map, filter, get_or, refl, sym, ap, ap₂, subst, Some, None, arith}
+use Rattle.std.proofs.lemmas.Option.{get_or_from_slice_get}
+use Rattle.std.proofs.lemmas.List.Elements.{filter-append}
+use Rattle.std.specs.List.{slice_get, AllZip, AllByRecursion}
+use Rattle.std.specs.Option.{option_map}
+use Rattle.comp_lists.proofs.Lists.{slice_get-append, slice_get-end, AllZip-weaker, AllZip-end, AllZip-at, there}
+use Rattle.comp_bytes.specs.declared.space.Space.{Space}
+use Rattle.comp_bytes.specs.declared.space.Space.TheVariants as spaces
+use Rattle.comp_trees.specs.Trees.{FunctionTree}
+use Rattle.comp_trees.specs.DefinedTrees.{TypeTree, OfFunctions, OfOthers}
+use Rattle.comp_trees.specs.Inventories.{TypeEntry, Inventory, entry_tree, trees_in}
+use Rattle.comp_runs.specs.Store.{Thing, Export, Function, Imported, TypeItem, TreeOf, ImportedResource, OwnResource, InstanceTypeOf, item_tree, tree_held}
+use Rattle.comp_runs.specs.Machine.{Machine, is_of, address_at}
+use Rattle.comp_runs.specs.Instances.{type_scope}
+use Rattle.instance_laws.specs.Instantiated.{IsHeldAs, IsThingHeldAs, AreHeldAs, IsScopeOf, MemberExport, IsItemOf, IsExportedAs}
+
+-- types that denote a scope are held as it
+held_trees : (types : List TypeItem) (trees : List TypeTree) (ts : List Thing) → AllZip (IsThingHeldAs types) trees ts → map (λ (t : Thing). tree_held types t.address) ts ≡ trees
+held_trees types [] [] h = refl
+held_trees types (x ∷ xs) (t ∷ ts) h =
+    ap₂ (λ y ys. y ∷ ys) (ap (λ o. elim o [ None ↦ OfOthers | Some i ↦ item_tree t.address i ]) h.0.present ∙ h.0.denotes) (held_trees types xs ts h.1)
+held_trees types [] (t ∷ ts) h = absurd h
+held_trees types (x ∷ xs) [] h = absurd h
+
+pub trees_of_held : (types : List TypeItem) (trees : List TypeTree) (items : List Thing) → AreHeldAs types trees items → map (λ (t : Thing). tree_held types t.address) (filter (is_of spaces.Type) items) ≡ trees
+trees_of_held types trees items h = held_trees types trees (filter (is_of spaces.Type) items) h
+
+pub tree_of_held : (types : List TypeItem) (tree : TypeTree) (address : ℕ) → IsHeldAs types tree address → tree_held types address ≡ tree
+tree_of_held types tree address h = ap (λ o. elim o [ None ↦ OfOthers | Some i ↦ item_tree address i ]) h.present ∙ h.denotes
+
+-- and the other way round, where each address has an entry: what has none would denote another type once the store grows
+thing_held : (types : List TypeItem) (t : Thing) → t.address < length types → IsThingHeldAs types (tree_held types t.address) t
+thing_held types t l =
+    let x : (x : TypeItem) × (slice_get types t.address ≡ Some x) = there types t.address l in
+    record { item = x.0; present = x.1; denotes = sym (ap (λ o. elim o [ None ↦ OfOthers | Some i ↦ item_tree t.address i ]) x.1) }
+
+things_held : (types : List TypeItem) (ts : List Thing) → AllByRecursion (λ (t : Thing). t.address < length types) ts → AllZip (IsThingHeldAs types) (map (λ (t : Thing). tree_held types t.address) ts) ts
+things_held types [] h = tt
+things_held types (t ∷ ts) h = (thing_held types t h.0, things_held types ts h.1)
+
+pub held_of_trees : (types : List TypeItem) (trees : List TypeTree) (items : List Thing) → map (λ (t : Thing). tree_held types t.address) (filter (is_of spaces.Type) items) ≡ trees →
+    AllByRecursion (λ (t : Thing). t.address < length types) (filter (is_of spaces.Type) items) → AreHeldAs types trees items
+held_of_trees types trees items e h = subst (λ xs. AllZip (IsThingHeldAs types) xs (filter (is_of spaces.Type) items)) e (things_held types (filter (is_of spaces.Type) items) h)
+
+-- a scope, by what its types and those around it denote
+pub scope_of_trees : (outer scope : List TypeTree) (m : Machine) (next_out : List Thing) (further : List (List Thing)) → m.scope.around ≡ next_out ∷ further →
+    map (λ (t : Thing). tree_held m.store.types t.address) (filter (is_of spaces.Type) next_out) ≡ outer → AllByRecursion (λ (t : Thing). t.address < length m.store.types) (filter (is_of spaces.Type) next_out) →
+    type_scope m ≡ scope → AllByRecursion (λ (t : Thing). t.address < length m.store.types) (filter (is_of spaces.Type) m.scope.items) → IsScopeOf outer scope m
+scope_of_trees outer scope m next_out further around outer_trees outer_within trees within = record {
+  next_out = next_out;
+  further = further;
+  around = around;
+  outer_held = held_of_trees m.store.types outer next_out outer_trees outer_within;
+  held = held_of_trees m.store.types scope m.scope.items trees within;
+}
+
+-- the types of an inventory, where each is what its entry says
+entries_held : (types : List TypeItem) (es : List TypeEntry) (ts : List Thing) → AllZip (λ e (t : Thing). IsHeldAs types (entry_tree e) t.address) es ts → AllZip (IsThingHeldAs types) (map entry_tree es) ts
+entries_held types [] [] h = tt
+entries_held types (e ∷ es) (t ∷ ts) h = (h.0, entries_held types es ts h.1)
+entries_held types [] (t ∷ ts) h = absurd h
+entries_held types (e ∷ es) [] h = absurd h
+
+pub held_of_entries : (types : List TypeItem) (v : Inventory) (items : List Thing) → AllZip (λ e (t : Thing). IsHeldAs types (entry_tree e) t.address) v.types (filter (is_of spaces.Type) items) →
+    AreHeldAs types (trees_in v) items
+held_of_entries types v items h = entries_held types v.types (filter (is_of spaces.Type) items) h
+
+-- ---- what is held stays so where the store grows
+
+pub IsHeldAs-kept : (types more : List TypeItem) (tree : TypeTree) (address : ℕ) → IsHeldAs types tree address → IsHeldAs (types ++ more) tree address
+IsHeldAs-kept types more tree address h = record { item = h.item; present = slice_get-append types more address h.item h.present; denotes = h.denotes }
+
+pub AreHeldAs-kept : (types more : List TypeItem) (trees : List TypeTree) (items : List Thing) → AreHeldAs types trees items → AreHeldAs (types ++ more) trees items
+AreHeldAs-kept types more trees items h = AllZip-weaker (λ tree (t : Thing). IsHeldAs-kept types more tree t.address) trees (filter (is_of spaces.Type) items) h
+
+IsItemOf-kept : (number : ℕ) (types more : List TypeItem) (functions others : List Function) (space : Space) (name : List ℕ) (tree : TypeTree) (address : ℕ) →
+    IsItemOf number types functions space name tree address → IsItemOf number (types ++ more) (functions ++ others) space name tree address
+IsItemOf-kept number types more functions others spaces.Func name tree address h = record {
+  type = h.type;
+  present = slice_get-append functions others address (Imported (record { number = number; inner = Some name }) h.type) h.present;
+  denotes = h.denotes;
+}
+IsItemOf-kept number types more functions others spaces.Type name tree address h = IsHeldAs-kept types more tree address h
+IsItemOf-kept number types more functions others space name tree address h = absurd h
+
+pub IsExportedAs-kept : (number : ℕ) (types more : List TypeItem) (functions others : List Function) (x : MemberExport) (e : Export) →
+    IsExportedAs number types functions x e → IsExportedAs number (types ++ more) (functions ++ others) x e
+IsExportedAs-kept number types more functions others x e h = record {
+  named = h.named;
+  space = h.space;
+  is = IsItemOf-kept number types more functions others x.space x.name x.tree e.address h.is;
+}
+
+pub exports_kept : (number : ℕ) (types more : List TypeItem) (functions others : List Function) (xs : List MemberExport) (es : List Export) → AllZip (IsExportedAs number types functions) xs es →
+    AllZip (IsExportedAs number (types ++ more) (functions ++ others)) xs es
+exports_kept number types more functions others xs es h = AllZip-weaker (IsExportedAs-kept number types more functions others) xs es h
+
+-- what was at an address of a list that grew is there
+pub entry_kept : {X : Type 0} (old new more : List X) → new ≡ old ++ more → (i : ℕ) (x : X) → slice_get old i ≡ Some x → slice_get new i ≡ Some x
+entry_kept {X} old new more grew i x e = subst (λ (l : List X). slice_get l i ≡ Some x) (sym grew) (slice_get-append old more i x e)
+
+-- ---- one item more
+
+pub AreHeldAs-push : (types : List TypeItem) (trees : List TypeTree) (items : List Thing) (tree : TypeTree) (address : ℕ) → AreHeldAs types trees items → IsHeldAs types tree address →
+    AreHeldAs types (trees ++ tree ∷ []) (items ++ record { space = spaces.Type; address = address } ∷ [])
+AreHeldAs-push types trees items tree address h k =
+    let t : Thing = record { space = spaces.Type; address = address } in
+    rw (filter-append (is_of spaces.Type) items (t ∷ [])) (AllZip-end (IsThingHeldAs types) trees (filter (is_of spaces.Type) items) tree t h k)
+
+-- an item of functions is no type
+pub AreHeldAs-beside : (types : List TypeItem) (trees : List TypeTree) (items : List Thing) (address : ℕ) → AreHeldAs types trees items →
+    AreHeldAs types trees (items ++ record { space = spaces.Func; address = address } ∷ [])
+AreHeldAs-beside types trees items address h =
+    let t : Thing = record { space = spaces.Func; address = address } in
+    rw (filter-append (is_of spaces.Type) items (t ∷ []), append-nil (filter (is_of spaces.Type) items)) h
+
+-- a new type
+pub new_held : (types : List TypeItem) (item : TypeItem) (tree : TypeTree) → item_tree (length types) item ≡ tree → IsHeldAs (types ++ item ∷ []) tree (length types)
+new_held types item tree e = record { item = item; present = slice_get-end types item; denotes = e }
+
+-- ---- the type of an index
+
+pub record IsTypeThere (types : List TypeItem) (trees : List TypeTree) (items : List Thing) (index : ℕ) : Type 0 where
+  pub address : ℕ
+  pub at : address_at spaces.Type index items ≡ Some address
+  pub is : IsHeldAs types (get_or trees index OfOthers) address
+
+pub type_there : (types : List TypeItem) (trees : List TypeTree) (items : List Thing) (index : ℕ) → AreHeldAs types trees items → index < length trees → IsTypeThere types trees items index
+type_there types trees items index h l =
+    let x : (x : TypeTree) × (slice_get trees index ≡ Some x) = there trees index l in
+    let t = AllZip-at (IsThingHeldAs types) trees (filter (is_of spaces.Type) items) index x.0 h x.1 in
+    record {
+      address = t.0.address;
+      at = ap (option_map (λ (t : Thing). t.address)) t.1;
+      is = subst (λ tree. IsHeldAs types tree t.0.address) (sym (get_or_from_slice_get trees index x.0 OfOthers x.1)) t.2;
+    }
+
+-- an index that denotes a type of functions is one of the scope
+pub index_of_functions : (trees : List TypeTree) (index : ℕ) (type : FunctionTree) → get_or trees index OfOthers ≡ OfFunctions type → index < length trees
+index_of_functions [] index type e = cc
+index_of_functions (x ∷ xs) zero type e = omega arith
+index_of_functions (x ∷ xs) (suc index) type e = let l = index_of_functions xs index type e in omega (arith, l)
+
+-- what denotes a type of functions is its tree
+pub item_of_functions : (address : ℕ) (item : TypeItem) (type : FunctionTree) → item_tree address item ≡ OfFunctions type → item ≡ TreeOf (OfFunctions type)
+item_of_functions address (TreeOf tree) type e = ap (λ (t : TypeTree). TreeOf t) e
+item_of_functions address (ImportedResource origin) type e = cc
+item_of_functions address (OwnResource destructor) type e = cc
+item_of_functions address (InstanceTypeOf members around) type e = cc

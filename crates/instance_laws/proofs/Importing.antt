@@ -1,0 +1,76 @@
+-- A type of instances is imported, and the exports of the instance are aliased: the items are those of the inventory.
+use Rattle.std.proofs.Common.{◌≡◌, ◌∙◌, ℕ, true, List, [], ◌∷◌, ◌++◌, refl, ap, Option, Some}
+use Rattle.std.specs.List.{slice_get, list_any}
+use Rattle.comp_bytes.specs.declared.space.Space.TheVariants as spaces
+use Rattle.comp_bytes.specs.declared.types.Member.{Member}
+use Rattle.comp_trees.specs.Trees.{Origin}
+use Rattle.comp_trees.specs.DefinedTrees.{TypeTree}
+use Rattle.comp_trees.specs.Members.{AreMembersRight, member_trees, type_exported, function_exported}
+use Rattle.comp_trees.specs.Inventories.{InstanceEntry, ImportedInstance, OtherInstance, Inventory, trees_in, entry_tree, surroundings_of, type_of_instance, function_of_instance}
+use Rattle.comp_runs.specs.Store.{Thing, Export, Function, TypeItem, InstanceTypeOf}
+use Rattle.comp_runs.specs.Machine.{Machine, with_some, address_at}
+use Rattle.comp_runs.specs.Instances.{type_at, instance_of_type}
+use Rattle.instance_laws.specs.Instantiated.{AreHeldAs, member_exports, exports_name, RunsInstanceType, FindsFunction, FindsType}
+use Rattle.instance_laws.specs.InstanceEntries.{IsInstanceType, IsImportedInstance, IsInstanceEntry, RunsImport, AliasesFunction, AliasesType}
+use Rattle.instance_laws.proofs.Held.{AreHeldAs-kept, exports_kept}
+use Rattle.instance_laws.proofs.Members.{instance_runs}
+use Rattle.instance_laws.proofs.Finding.{finds_function, finds_type}
+
+-- a type of instances that a definition makes
+pub instance_type_made : (types : List TypeItem) (v : Inventory) (all : List Member) (items : List Thing) (around : List (List Thing)) → AreHeldAs types (trees_in v) items →
+    IsInstanceType types (trees_in v) all (InstanceTypeOf all (items ∷ around))
+instance_type_made types v all items around h = record { next_out = items; further = around; is = refl; outer_held = h }
+
+pub IsInstanceType-kept : (types more : List TypeItem) (outer : List TypeTree) (all : List Member) (item : TypeItem) → IsInstanceType types outer all item → IsInstanceType (types ++ more) outer all item
+IsInstanceType-kept types more outer all item h = record { next_out = h.next_out; further = h.further; is = h.is; outer_held = AreHeldAs-kept types more outer h.next_out h.outer_held }
+
+pub IsInstanceEntry-kept : (types more : List TypeItem) (functions others : List Function) (entry : InstanceEntry) (es : List Export) → IsInstanceEntry types functions entry es →
+    IsInstanceEntry (types ++ more) (functions ++ others) entry es
+IsInstanceEntry-kept types more functions others (ImportedInstance number outer all) es h = record {
+  right = h.right;
+  each = exports_kept number types more functions others (member_exports (surroundings_of number outer) [] all) es h.each;
+}
+IsInstanceEntry-kept types more functions others OtherInstance es h = tt
+
+-- An import of a type of instances whose members are right runs, and makes an instance that is what its entry says.
+pub import_runs : (origin : Origin) (outer : List TypeTree) (all : List Member) (index : ℕ) (item : TypeItem) (m : Machine) → type_at index m ≡ Some item → IsInstanceType m.store.types outer all item →
+    AreMembersRight (surroundings_of origin.number outer) [] all → RunsImport origin outer all index m
+import_runs origin outer all index item m at is right =
+    let r : RunsInstanceType origin outer all (is.next_out ∷ is.further) m = instance_runs origin outer all is.next_out is.further m is.outer_held right in
+    record {
+      types = r.types;
+      functions = r.functions;
+      exports = r.exports;
+      more_types = r.more_types;
+      more_functions = r.more_functions;
+      types_grew = r.types_grew;
+      functions_grew = r.functions_grew;
+      is = record { right = right; each = r.each };
+      runs = λ next.
+          ap (λ (o : Option TypeItem). with_some o (λ t. instance_of_type origin t m next)) at
+          ∙ (ap (λ (t : TypeItem). instance_of_type origin t m next) is.is ∙ r.runs next);
+    }
+
+module _ (m : Machine) (instance address : ℕ) (es : List Export) (name : List ℕ) (number : ℕ) (outer : List TypeTree) (all : List Member) where
+  -- An alias of a function that the type of an imported instance says finds the import, with the type that it says.
+  pub aliases_function : address_at spaces.Instance instance m.scope.items ≡ Some address → slice_get m.store.instances address ≡ Some es → IsImportedInstance number outer all m.store.types m.store.functions es →
+      list_any (exports_name spaces.Func name) all ≡ true → AliasesFunction m instance name (function_of_instance name (ImportedInstance number outer all))
+  aliases_function at present h there =
+      let f : FindsFunction number m.store.functions es name (function_exported (member_trees (surroundings_of number outer) [] all) name all) =
+      finds_function number m.store.types m.store.functions (surroundings_of number outer) name [] all es h.right h.each there in
+      record {
+        address = f.export.address;
+        origin = record { number = number; inner = Some name };
+        type = f.is.type;
+        at = rw (at, present, f.found) (ap (λ space. Some (record { space = space; address = f.export.address })) f.space);
+        present = f.is.present;
+        same = ap (λ tree. record { origin = Some (record { number = number; inner = Some name }); type = tree }) f.is.denotes;
+      }
+
+  -- An alias of a type that it says finds a type that denotes what it says.
+  pub aliases_type : address_at spaces.Instance instance m.scope.items ≡ Some address → slice_get m.store.instances address ≡ Some es → IsImportedInstance number outer all m.store.types m.store.functions es →
+      list_any (exports_name spaces.Type name) all ≡ true → AliasesType m instance name (entry_tree (type_of_instance name (ImportedInstance number outer all)))
+  aliases_type at present h there =
+      let f : FindsType m.store.types es name (type_exported (surroundings_of number outer) (member_trees (surroundings_of number outer) [] all) name all) =
+      finds_type number m.store.types m.store.functions (surroundings_of number outer) name [] all es h.right h.each there in
+      record { address = f.export.address; at = rw (at, present, f.found) (ap (λ space. Some (record { space = space; address = f.export.address })) f.space); is = f.is }

@@ -1,0 +1,5 @@
+pub mod Held
+pub mod Members
+pub mod Finding
+pub mod Importing
+mod WorkedInstance

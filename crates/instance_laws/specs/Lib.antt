@@ -1,0 +1,2 @@
+pub mod Instantiated
+pub mod InstanceEntries
