@@ -1,6 +1,6 @@
 -- What the roles of a world need (component model: a function is imported once, under its name;
 -- Canonical ABI: each function is called with a string encoding).
-use Rattle.std.specs.Prelude.{ℕ, Bool, true, false, List, ◌∷◌, ◌++◌, Option, Some, None, filter}
+use Rattle.std.specs.Prelude.{ℕ, Bool, true, false, List, ◌∷◌, ◌++◌, Option, Some, None, filter, IsTrue, IsSome}
 use Rattle.std.specs.List.{list_any}
 use Rattle.std.specs.Str.{bytes_eq}
 use Rattle.wit_data.specs.Keys.{name_of_key}
@@ -45,6 +45,10 @@ needs_encoding role = false
 abbrev pub import_encoding : ComponentWorld → Import → Option StringEncoding
 import_encoding w (imports.WorldFunc key function abi) = of_function key function w.main.metadata.import_encodings
 import_encoding w role = None
+
+-- an import that is called with a string encoding has one
+abbrev pub IsEncodedImport : ComponentWorld → Import → Type 0
+IsEncodedImport w role = IsTrue (needs_encoding role) → IsSome (import_encoding w role)
 
 -- the encoding with which the root function of a key is lifted
 abbrev pub export_encoding : ComponentWorld → WorldKey → Option StringEncoding

@@ -4,6 +4,7 @@
 use Rattle.std.specs.Prelude.{ℕ, List}
 use Rattle.standard_kinds.specs.declared.kinds.StringEncoding.{StringEncoding}
 use Rattle.wit_data.specs.declared.ids.InterfaceId.{InterfaceId}
+use Rattle.wit_data.specs.declared.ids.TypeId.{TypeId}
 
 -- a user module: main, or an adapter by its name
 pub data UserModule : Type 0 where
@@ -34,6 +35,8 @@ pub data Target : Type 0 where
   Lowered : (function : WorldFunction) (options : List TargetOption) → Target
   ExportOf : (export_ref : ExportRef) → Target
   MainMemory : Target
+  -- the drop of handles of a resource of the world
+  Dropped : (resource : TypeId) → Target
   Lifted : (entry : ExportRef) (options : List TargetOption) → Target
   -- of a role that no world has so far: no item meets it
   Unlinked : Target

@@ -16,6 +16,8 @@ use Rattle.comp_bytes.specs.declared.types.Alias.{Alias}
 use Rattle.comp_bytes.specs.declared.types.Alias.TheVariants as aliases
 use Rattle.comp_bytes.specs.declared.types.Description.{Description}
 use Rattle.comp_bytes.specs.declared.types.Description.TheVariants as descriptions
+use Rattle.comp_bytes.specs.declared.canon.Intrinsic.{Intrinsic}
+use Rattle.comp_bytes.specs.declared.canon.Intrinsic.TheVariants as intrinsics
 use Rattle.comp_bytes.specs.declared.def.CoreArgument.{CoreArgument}
 use Rattle.comp_bytes.specs.declared.def.CoreInlineExport.{CoreInlineExport}
 use Rattle.comp_bytes.specs.declared.def.Item.{Item}
@@ -27,7 +29,7 @@ use Rattle.comp_lists.specs.Found.{found}
 use Rattle.wit_data.specs.declared.functions.Function.{Function as WitFunction}
 use Rattle.wit_data.specs.declared.ids.TypeId.{TypeId}
 use Rattle.world_values.specs.Items.{root_function_at}
-use Rattle.comp_trees.specs.Trees.{Origin, ImportedAt, ResourceAt, FunctionTree, is_known, is_known_function}
+use Rattle.comp_trees.specs.Trees.{Origin, Resource, ImportedAt, ResourceAt, FunctionTree, is_known, is_known_function}
 use Rattle.comp_trees.specs.DefinedTrees.{TypeTree, OfValues, OfOthers, defined_tree, function_tree}
 use Rattle.comp_trees.specs.Inventories.{scope_of}
 use Rattle.comp_worlds.specs.Worlds.{items_of}
@@ -40,7 +42,7 @@ use Rattle.comp_links.specs.Targets.{Main, Target}
 use Rattle.comp_links.specs.Modules.{WorldModule, user_modules}
 use Rattle.comp_links.specs.Lists.{WorldType, import_entries, type_of_world, Stated, plain_name, root_function, described_sort, stated_imports, AreNames}
 use Rattle.comp_links.specs.Links.{lift_of}
-use Rattle.comp_terms.specs.Terms.{InstanceOf as InstanceTerm, imports_in, IsFunctionType, IsImportedFunction, Is}
+use Rattle.comp_terms.specs.Terms.{InstanceOf as InstanceTerm, imports_in, IsFunctionType, IsResource, IsImportedFunction, Is}
 use Rattle.comp_terms.specs.Planned.{type_of_function, IsLiftFor, IsArgumentFor}
 
 -- a user module is instantiated: an argument for each module of its imports, in order
@@ -88,6 +90,11 @@ pub record HasFunctionType (earlier : List Def) (kind : ℕ) : Type 0 where
   pub type : FunctionTree
   pub is : IsFunctionType earlier kind type
 
+-- a resource
+pub record HasResource (earlier : List Def) (index : ℕ) : Type 0 where
+  pub resource : Resource
+  pub is : IsResource earlier index resource
+
 -- a function that is imported
 pub record HasImportedFunction (earlier : List Def) (index : ℕ) : Type 0 where
   pub origin : Origin
@@ -119,6 +126,11 @@ IsTypeRight scope (types.Func f) = is_known_function (function_tree scope f) ≡
 IsTypeRight scope (types.Defined t) = is_known (defined_tree scope t) ≡ true
 IsTypeRight scope (types.Resource destructor) = ⊥
 
+-- an intrinsic: so far, the drop of a resource
+abbrev pub IsIntrinsicRight : List Def → Intrinsic → Type 0
+IsIntrinsicRight earlier (intrinsics.ResourceDrop type) = HasResource earlier type
+IsIntrinsicRight earlier _ = ⊥
+
 abbrev pub IsExportRight : ComponentWorld → List Def → ExternName → Sort → ℕ → Option Description → Type 0
 IsExportRight w earlier name sorts.Func index None = ExportsRequired w earlier name index
 IsExportRight w earlier name _ index _ = ⊥
@@ -134,7 +146,7 @@ IsItemRight w earlier (items.Type t) = IsTypeRight (scope_of earlier) t
 IsItemRight w earlier (items.InstanceType t) = ⊥
 IsItemRight w earlier (items.Lift core options kind) = (core < items_in spaces.CoreFunc earlier) × (options ≡ []) × HasFunctionType earlier kind
 IsItemRight w earlier (items.Lower function options) = HasImportedFunction earlier function × (options ≡ [])
-IsItemRight w earlier (items.Intrinsic i) = ⊥
+IsItemRight w earlier (items.Intrinsic i) = IsIntrinsicRight earlier i
 IsItemRight w earlier (items.Import name description) = IsImportRight w earlier name description
 IsItemRight w earlier (items.Export name sort index description) = IsExportRight w earlier name sort index description
 IsItemRight w earlier (items.Custom name contents) = Unit {0}

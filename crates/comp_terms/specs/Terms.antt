@@ -12,13 +12,14 @@ use Rattle.standard_kinds.specs.declared.kinds.StringEncoding.{StringEncoding}
 use Rattle.standard_kinds.specs.declared.kinds.StringEncoding.TheVariants as encodings
 use Rattle.comp_bytes.specs.declared.canon.CanonicalOption.{CanonicalOption}
 use Rattle.comp_bytes.specs.declared.canon.CanonicalOption.TheVariants as options
+use Rattle.comp_bytes.specs.declared.canon.Intrinsic.TheVariants as intrinsics
 use Rattle.comp_bytes.specs.declared.types.Alias.TheVariants as aliases
 use Rattle.comp_bytes.specs.declared.def.CoreArgument.{CoreArgument}
 use Rattle.comp_bytes.specs.declared.def.Item.TheVariants as items
 use Rattle.comp_bytes.specs.declared.def.Def.{Def}
 use Rattle.comp_bytes.specs.declared.def.Def.TheVariants as defs
-use Rattle.comp_trees.specs.Trees.{Origin, FunctionTree}
-use Rattle.comp_trees.specs.DefinedTrees.{OfFunctions}
+use Rattle.comp_trees.specs.Trees.{Origin, Resource, ResourceAt, FunctionTree}
+use Rattle.comp_trees.specs.DefinedTrees.{OfValues, OfFunctions}
 use Rattle.comp_trees.specs.DefinedScopes.{Denotes}
 use Rattle.comp_trees.specs.Inventories.{inventory, scope_of}
 
@@ -47,6 +48,8 @@ pub data Term : Type 0 where
   Exported : (export : CoreExport) → Term
   -- a lowering of a function that is imported
   Lowering : (origin : Origin) (type : FunctionTree) (options : List TermOption) → Term
+  -- the drop of handles of a resource
+  Dropping : (resource : Resource) → Term
   -- a lift of a core function, with its type
   Lifting : (entry : CoreExport) (options : List TermOption) (type : FunctionTree) → Term
 
@@ -59,6 +62,9 @@ pub record IsFunctionType (ds : List Def) (index : ℕ) (type : FunctionTree) : 
 
 pub record IsImportedFunction (ds : List Def) (index : ℕ) (origin : Origin) (type : FunctionTree) : Type 0 where
   pub is : slice_get (inventory ds).functions index ≡ Some (record { origin = Some origin; type = OfFunctions type })
+
+pub record IsResource (ds : List Def) (index : ℕ) (resource : Resource) : Type 0 where
+  pub denotes : Denotes (scope_of ds) index (OfValues (ResourceAt resource))
 
 pub record IsInstanceOf (ds : List Def) (index number : ℕ) : Type 0 where
   pub arguments : List CoreArgument
@@ -89,6 +95,11 @@ pub record IsLowering (ds : List Def) (index : ℕ) (origin : Origin) (type : Fu
   pub of : IsImportedFunction ds function origin type
   pub with_options : AllZip (IsOption ds) written options
 
+pub record IsDropping (ds : List Def) (index : ℕ) (resource : Resource) : Type 0 where
+  pub type : ℕ
+  pub made : IsAt ds spaces.CoreFunc index (defs.Item (items.Intrinsic (intrinsics.ResourceDrop type)))
+  pub of : IsResource ds type resource
+
 pub record IsLifting (ds : List Def) (index : ℕ) (entry : CoreExport) (options : List TermOption) (type : FunctionTree) : Type 0 where
   pub core : ℕ
   pub kind : ℕ
@@ -106,5 +117,6 @@ Is ds spaces.Func index (ImportedFunction origin type) = IsImportedFunction ds i
 Is ds spaces.CoreInstance index (InstanceOf number) = IsInstanceOf ds index number
 Is ds space index (Exported e) = (space ≡ kind_space e.kind) × IsExported ds index e
 Is ds spaces.CoreFunc index (Lowering origin type options) = IsLowering ds index origin type options
+Is ds spaces.CoreFunc index (Dropping resource) = IsDropping ds index resource
 Is ds spaces.Func index (Lifting entry options type) = IsLifting ds index entry options type
 Is ds space index term = ⊥

@@ -1,6 +1,6 @@
 -- The core types that roles require, and the types of a module's imports and exports as validation found them (Canonical
 -- ABI: `canon lower`, `canon lift`; core standard, validation: imports and exports).
-use Rattle.std.specs.Prelude.{◌≡◌, ℕ, List, Option, Some, None, option_map}
+use Rattle.std.specs.Prelude.{◌≡◌, ℕ, List, [], ◌∷◌, Option, Some, None, option_map}
 use Rattle.comp_lists.specs.Found.{found}
 use Rattle.wit_data.specs.declared.worlds.World.{World}
 use Rattle.wit_data.specs.declared.resolve.Resolve.{Resolve}
@@ -10,14 +10,21 @@ use Rattle.comp_roles.specs.declared.imports.Import.{Import}
 use Rattle.comp_roles.specs.declared.imports.Import.TheVariants as imports
 use Rattle.comp_roles.specs.declared.exports.Export.{Export}
 use Rattle.comp_roles.specs.declared.exports.Export.TheVariants as exports
+use Rattle.core_types.specs.declared.types.ValType.TheVariants.{I32}
 use Rattle.comp_roles.specs.declared.offered.ExternType.{ExternType}
+use Rattle.comp_roles.specs.declared.offered.ExternType.TheVariants as externs
 use Rattle.comp_roles.specs.declared.offered.ImportType.{ImportType}
 use Rattle.world_values.specs.Items.{root_function_at}
 use Rattle.comp_worlds.specs.declared.world.ValidatedModule.{ValidatedModule}
 
+-- the type of `resource.drop`: a handle is a number
+abbrev pub drop_type : ExternType
+drop_type = externs.Func (record { params = I32 ∷ []; results = [] })
+
 -- the type that the role of an import, or of an export, requires, as far as such roles are encoded
 abbrev pub type_of_import : Resolve → World → Import → Option ExternType
 type_of_import r items (imports.WorldFunc key function abi) = option_map (called_type r abi) (root_function_at items.imports key)
+type_of_import r items (imports.ImportedResourceDrop key interface id) = Some drop_type
 type_of_import r items role = None
 
 abbrev pub type_of_export : Resolve → World → Export → Option ExternType

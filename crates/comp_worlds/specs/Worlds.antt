@@ -1,12 +1,13 @@
 -- What a validated world contains, and what holds of it (component model: the imports and exports of a
 -- world; core standard, binary format: the preamble of a module).
-use Rattle.std.specs.Prelude.{◌≡◌, ◌≢◌, ◌<◌, ℕ, List, [], ◌∷◌, Option, Some, None, map, get_or, length, Contains, IsSome}
+use Rattle.std.specs.Prelude.{◌≡◌, ◌<◌, ◌≤◌, ℕ, suc, List, [], ◌∷◌, Option, Some, None, map, get_or, length, Contains, IsSome}
 use Rattle.std.specs.List.{flat_map, IsDistinct, AllByRecursion}
 use Rattle.std.specs.Str.{bytes_eq}
 use Rattle.comp_lists.specs.Found.{found}
 use Rattle.core_types.specs.Core.{IsCoreModule}
 use Rattle.wit_data.specs.declared.functions.Function.{Function}
-use Rattle.wit_data.specs.declared.functions.FunctionKind.TheVariants.{Freestanding}
+use Rattle.wit_data.specs.declared.functions.FunctionKind.{FunctionKind}
+use Rattle.wit_data.specs.declared.functions.FunctionKind.TheVariants as functions
 use Rattle.wit_data.specs.declared.functions.AbiVariant.TheVariants.{GuestImport, GuestExport}
 use Rattle.wit_data.specs.declared.ids.TypeId.{TypeId}
 use Rattle.wit_data.specs.declared.types.TypeDef.{TypeDef}
@@ -19,6 +20,7 @@ use Rattle.wit_data.specs.declared.worlds.WorldItem.{WorldItem}
 use Rattle.wit_data.specs.declared.worlds.WorldItem.TheVariants as items
 use Rattle.wit_data.specs.declared.worlds.World.{World}
 use Rattle.wit_data.specs.Sound.{IsSound}
+use Rattle.wit_data.specs.Values.{kind_at}
 use Rattle.comp_options.specs.Options.{import_set, export_set}
 use Rattle.comp_roles.specs.declared.imports.Import.{Import}
 use Rattle.comp_roles.specs.declared.imports.Import.TheVariants as imports
@@ -77,9 +79,16 @@ core_name_of w key = core_name_in w.main.exports.exports key
 
 -- ---- what holds of it
 
+-- a kind of function that is called synchronously
+abbrev pub IsSynchronous : FunctionKind → Type 0
+IsSynchronous functions.AsyncFreestanding = ⊥
+IsSynchronous (functions.AsyncMethod id) = ⊥
+IsSynchronous (functions.AsyncStatic id) = ⊥
+IsSynchronous kind = Unit {0}
+
 -- a synchronous function whose calls, from a core module and into one, need no options (Canonical ABI: `canonopt`)
 pub record IsPlain (types : List TypeDef) (f : Function) : Type 0 where
-  pub kind : f.kind ≡ Freestanding
+  pub kind : IsSynchronous f.kind
   pub imported : import_set GuestImport types f ≡ 0
   pub exported : export_set GuestExport types f ≡ 0
 
@@ -98,14 +107,29 @@ abbrev pub IsOwnerAtRoot : TypeOwner → Type 0
 IsOwnerAtRoot (owners.Interface id) = ⊥
 IsOwnerAtRoot owner = Unit {0}
 
--- a type of values that belongs to no interface
+-- a type that belongs to no interface
 pub record IsRootType (t : TypeDef) : Type 0 where
   pub owner : IsOwnerAtRoot t.owner
-  pub values : t.kind ≢ kinds.Resource
 
--- the role of an import is a function that the world imports, called in the right form
+-- the type of this number is a resource
+pub record IsResource (types : List TypeDef) (number : ℕ) : Type 0 where
+  pub present : number < length types
+  pub kind : kind_at types number ≡ kinds.Resource
+
+-- the numbers ascend, and the first is at least this
+abbrev pub AscendFrom : ℕ → List ℕ → Type 0
+AscendFrom k [] = Unit {0}
+AscendFrom k (n ∷ ns) = (k ≤ n) × AscendFrom (suc n) ns
+
+-- the types that the world imports come in the order of the resolve, and each resource is one of them
+pub record ImportsResources (w : ComponentWorld) : Type 0 where
+  pub ordered : AscendFrom 0 (map (λ t. t.1.index) (imported_types w))
+  pub each : (n : ℕ) → IsResource w.resolve.types n → Contains (map (λ t. t.1.index) (imported_types w)) n
+
+-- the role of an import is a function that the world imports, called in the right form, or the drop of a resource
 abbrev pub IsImportRole : ComponentWorld → Import → Type 0
 IsImportRole w (imports.WorldFunc (keys.Name text) function abi) = Contains (imported_functions w) text × (function ≡ text) × (abi ≡ GuestImport)
+IsImportRole w (imports.ImportedResourceDrop key interface id) = IsResource w.resolve.types id.index
 IsImportRole w role = ⊥
 
 -- the roles of the imports from one module
@@ -139,6 +163,7 @@ pub record IsWorld (w : ComponentWorld) : Type 0 where
   pub sound : IsSound w.resolve
   pub present : w.world.index < length w.resolve.worlds
   pub types : AllByRecursion IsRootType w.resolve.types
+  pub resources : ImportsResources w
   pub imports : AllByRecursion (IsImportItem w.resolve.types) (items_of w).imports
   pub exports : AllByRecursion (IsExportItem w.resolve.types) (items_of w).exports
   pub import_names_apart : IsDistinct bytes_eq (imported_functions w)

@@ -19,12 +19,14 @@ use Rattle.wit_data.specs.declared.ids.TypeId.{TypeId}
 use Rattle.wit_data.specs.declared.functions.Function.{Function as WitFunction}
 use Rattle.comp_roles.specs.Lookups.{first_export, is_task_hook, imported_memory, first_memory}
 use Rattle.comp_worlds.specs.declared.world.ComponentWorld.{ComponentWorld}
-use Rattle.comp_trees.specs.Trees.{Origin, Resource, FunctionTree}
+use Rattle.comp_trees.specs.Trees.{Origin, Resource, ResourceAt, FunctionTree}
 use Rattle.comp_trees.specs.WitTrees.{wit_function_tree}
-use Rattle.comp_links.specs.Targets.{Main, WorldFunction, ExportRef, TargetOption, Memory, Realloc, Encoding, Async, PostReturn, Callback, Target, Lowered, ExportOf, MainMemory}
+use Rattle.comp_trees.specs.DefinedTrees.{OfValues}
+use Rattle.comp_bytes.specs.declared.canon.Intrinsic.TheVariants as intrinsics
+use Rattle.comp_links.specs.Targets.{Main, WorldFunction, ExportRef, TargetOption, Memory, Realloc, Encoding, Async, PostReturn, Callback, Target, Lowered, ExportOf, MainMemory, Dropped}
 use Rattle.comp_links.specs.Modules.{user_modules, IsModule, function_imported}
 use Rattle.comp_links.specs.Lists.{IsOriginOf}
-use Rattle.comp_runs.specs.Store.{Thing, HeldOption, HeldEncoding, HeldMemory, HeldRealloc, HeldPostReturn, HeldAsync, HeldCallback, CoreItem, Lowering, ExportedBy, Imported, Lifting, ModuleInstance}
+use Rattle.comp_runs.specs.Store.{Thing, HeldOption, HeldEncoding, HeldMemory, HeldRealloc, HeldPostReturn, HeldAsync, HeldCallback, CoreItem, Lowering, IntrinsicOf, tree_held, ExportedBy, Imported, Lifting, ModuleInstance}
 use Rattle.comp_runs.specs.Machine.{Machine, export_of}
 
 -- ---- core functions
@@ -167,6 +169,11 @@ abbrev pub ItemIsLowering : ComponentWorld → Machine → (TypeId → Resource)
 ItemIsLowering w m origins of options (Lowering function held) = IsImport w m origins function of × MeetOptions w m held options
 ItemIsLowering w m origins of options item = ⊥
 
+-- the drop of handles of a resource
+abbrev pub ItemIsDrop : Machine → Resource → CoreItem → Type 0
+ItemIsDrop m resource (IntrinsicOf (intrinsics.ResourceDrop type)) = tree_held m.store.types type ≡ OfValues (ResourceAt resource)
+ItemIsDrop m resource item = ⊥
+
 -- the function at this address is a lift of this type, whose entry and options meet those of the target
 pub record IsLift (w : ComponentWorld) (m : Machine) (address : ℕ) (type : FunctionTree) (entry : ExportRef) (options : List TargetOption) : Type 0 where
   pub core : ℕ
@@ -178,6 +185,7 @@ pub record IsLift (w : ComponentWorld) (m : Machine) (address : ℕ) (type : Fun
 -- an item of a core module meets a target
 abbrev pub MeetsIn : ComponentWorld → Machine → (TypeId → Resource) → Space → ℕ → Target → Type 0
 MeetsIn w m origins spaces.CoreFunc address (Lowered of options) = CoreMeets w m None address (ItemIsLowering w m origins of options)
+MeetsIn w m origins spaces.CoreFunc address (Dropped id) = CoreMeets w m None address (ItemIsDrop m (origins id))
 MeetsIn w m origins spaces.CoreFunc address (ExportOf export_ref) = CoreExportMeets w m None address export_ref
 MeetsIn w m origins spaces.CoreTable address (ExportOf export_ref) = ItemMeets w m spaces.CoreTable address export_ref
 MeetsIn w m origins spaces.CoreMemory address (ExportOf export_ref) = ItemMeets w m spaces.CoreMemory address export_ref
