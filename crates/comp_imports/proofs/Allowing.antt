@@ -1,10 +1,14 @@
--- All types and functions of a world may be defined at the root of its component.
-use Rattle.std.proofs.Common.{◌≡◌, ◌≢◌, ◌∙◌, ◌<◌, arith, ℕ, zero, suc, Bool, true, false, List, [], ◌∷◌, ◌++◌, length, map, refl, ap, Option, Some, None}
-use Rattle.std.specs.List.{AllByRecursion, list_all}
-use Rattle.std.specs.Prelude.{get_or}
-use Rattle.standard_kinds.specs.declared.kinds.Primitive.{Primitive as Prim}
+-- Which types and functions of a world may be defined at the root of its component: those whose resources are in the tables.
+use Rattle.std.proofs.Common.{◌≡◌, ◌∙◌, ◌<◌, ◌≤◌, ◌&&◌, arith, ℕ, zero, suc, Bool, true, false, true≢false, List, [], ◌∷◌, length, map, refl, ap, sym, Option, Some, None, if◌then◌else◌, Contains, inl, inr, subst}
+use Rattle.std.specs.List.{AllByRecursion, list_all, list_any}
+use Rattle.std.specs.Prelude.{nat_lt, nat_eq}
+use Rattle.std.proofs.lemmas.List.Folds.{list_all-map}
+use Rattle.std.proofs.lemmas.Bool.{lt-ltb}
+use Rattle.std.proofs.lemmas.Cmp.{nat_eq_equiv}
+use Rattle.std.proofs.lemmas.Map.Views.{list_any-from_Contains}
 use Rattle.wit_data.specs.declared.functions.Function.{Function}
 use Rattle.wit_data.specs.declared.functions.Param.{Param}
+use Rattle.wit_data.specs.declared.ids.TypeId.{TypeId}
 use Rattle.wit_data.specs.declared.types.Type.{«Type» as Ty}
 use Rattle.wit_data.specs.declared.types.Type.TheVariants.{Primitive, Id}
 use Rattle.wit_data.specs.declared.types.TypeDef.{TypeDef}
@@ -12,16 +16,18 @@ use Rattle.wit_data.specs.declared.types.TypeDefKind.{TypeDefKind}
 use Rattle.wit_data.specs.declared.types.TypeDefKind.TheVariants as kinds
 use Rattle.wit_data.specs.declared.types.TypeOwner.{TypeOwner}
 use Rattle.wit_data.specs.declared.types.TypeOwner.TheVariants as owners
-use Rattle.wit_data.specs.Parts.{parts}
-use Rattle.wit_data.specs.Values.{kind_at, part_value, next_value, values_from, values}
-use Rattle.comp_worlds.specs.Worlds.{IsOwnerAtRoot, IsRootType}
+use Rattle.wit_data.specs.Parts.{parts, IsBelow}
+use Rattle.wit_data.specs.Sound.{HasFunction}
+use Rattle.wit_data.specs.Values.{kind_at}
+use Rattle.wit_data.proofs.Values.{parts_below}
+use Rattle.comp_worlds.specs.Worlds.{IsOwnerAtRoot, IsRootType, IsResource, IsWorld, imported_types}
 use Rattle.comp_worlds.specs.declared.world.ComponentWorld.{ComponentWorld}
 use Rattle.wit_types.specs.Settings.{Setting, owner_at}
-use Rattle.wit_types.specs.Allowing.{foreign, is_resource, may_make, may_define, allowing, is_allowed, IsDefinedHere, allows_function}
-use Rattle.comp_imports.specs.RootScopes.{root_setting}
-
-abbrev Yes : Bool → Type 0
-Yes b = b ≡ true
+use Rattle.wit_types.specs.Allowing.{foreign, is_resource, may_make, may_define, is_allowed, IsDefinedHere, allows_function}
+use Rattle.wit_types.proofs.Permitting.{allowed_of_id, allowed_met}
+use Rattle.comp_imports.proofs.Elements.{contains_none, contains_cons}
+use Rattle.comp_imports.specs.Imports.{IsNextId}
+use Rattle.comp_imports.specs.RootScopes.{next_of, root_setting, is_imported_type, ArePassed}
 
 not_foreign : (o : TypeOwner) → IsOwnerAtRoot o → foreign None o ≡ None
 not_foreign (owners.World id) h = refl
@@ -33,99 +39,94 @@ owned_at_root [] n h = refl
 owned_at_root (t ∷ ts) zero h = not_foreign t.owner h.0.owner
 owned_at_root (t ∷ ts) (suc n) h = owned_at_root ts n h.1
 
-all_yes : (bs : List Bool) → AllByRecursion Yes bs → list_all (λ b. b) bs ≡ true
-all_yes [] h = refl
-all_yes (b ∷ bs) h = rw (h.0, all_yes bs h.1) refl
+resource_is : (k : TypeDefKind) → is_resource k ≡ true → k ≡ kinds.Resource
+resource_is kinds.Resource e = refl
+resource_is k e = absurd (true≢false (sym e))
 
-yes_at : (bs : List Bool) (k : ℕ) → AllByRecursion Yes bs → get_or bs k true ≡ true
-yes_at [] k h = refl
-yes_at (b ∷ bs) zero h = h.0
-yes_at (b ∷ bs) (suc k) h = yes_at bs k h.1
+-- what is no resource may be defined where its parts may
+of_parts : (s : Setting) (n : ℕ) (k : TypeDefKind) (bs : List Bool) → is_resource k ≡ false → list_all (λ b. b) bs ≡ true → may_define s n k bs ≡ true
+of_parts s n kinds.Resource bs values h = absurd (true≢false values)
+of_parts s n k bs values h = h
 
-yes_next : (bs : List Bool) (b : Bool) → AllByRecursion Yes bs → Yes b → AllByRecursion Yes (bs ++ b ∷ [])
-yes_next [] b h e = (e, tt)
-yes_next (x ∷ xs) b h e = (h.0, yes_next xs b h.1 e)
+-- where all types are below a number, so is each of them
+pub below_next : (ts : List (List ℕ × TypeId)) (next n : ℕ) → AllByRecursion (λ t. t.1.index < next) ts → Contains (map (λ t. t.1.index) ts) n → n < next
+below_next [] next n h c = contains_none n c
+below_next (t ∷ ts) next n h c = elim (contains_cons t.1.index (map (λ t. t.1.index) ts) n c) [
+  | inl same ↦ subst (λ k. k < next) same h.0
+  | inr later ↦ below_next ts next n h.1 later
+]
 
-module _ (w : ComponentWorld) (all : AllByRecursion IsRootType w.resolve.types) where
+-- each resource below this number is in the tables
+abbrev pub AreMet : ComponentWorld → Option TypeId → ℕ → Type 0
+AreMet w last k = (n : ℕ) → n < k → IsResource w.resolve.types n → (root_setting w last).met (record { index = n }) ≡ true
+
+module _ (w : ComponentWorld) (ok : IsWorld w) (last : Option TypeId) where
   abbrev s : Setting
-  s = root_setting w
+  s = root_setting w last
 
-  part_yes : (done : List Bool) → AllByRecursion Yes done → (p : Option Ty) → Yes (part_value (allowing s) done p)
-  part_yes done h None = refl
-  part_yes done h (Some (Primitive p)) = refl
-  part_yes done h (Some (Id id)) = yes_at done id.index h
+  abbrev types : List TypeDef
+  types = w.resolve.types
 
-  parts_yes : (done : List Bool) → AllByRecursion Yes done → (ps : List (Option Ty)) → AllByRecursion Yes (map (part_value (allowing s) done) ps)
-  parts_yes done h [] = tt
-  parts_yes done h (p ∷ ps) = (part_yes done h p, parts_yes done h ps)
+  -- a type that the world imports is in the tables, where it is not behind the last one
+  met_below : (n : ℕ) → n < next_of last → Contains (map (λ t. t.1.index) (imported_types w)) n → s.met (record { index = n }) ≡ true
+  met_below n l c = rw (lt-ltb n (next_of last) l) (list_any-from_Contains nat_eq_equiv n (map (λ t. t.1.index) (imported_types w)) c)
 
-  by_kind : (n : ℕ) (kind : TypeDefKind) (bs : List Bool) → kind ≢ kinds.Resource → AllByRecursion Yes bs → Yes (may_define s n kind bs)
-  by_kind n kinds.Resource bs values h = absurd (values refl)
-  by_kind n (kinds.Record fields) bs values h = all_yes bs h
-  by_kind n (kinds.Variant cases) bs values h = all_yes bs h
-  by_kind n (kinds.Enum names) bs values h = all_yes bs h
-  by_kind n (kinds.Flags names) bs values h = all_yes bs h
-  by_kind n (kinds.Tuple types) bs values h = all_yes bs h
-  by_kind n (kinds.«Option» t) bs values h = all_yes bs h
-  by_kind n (kinds.«Result» r) bs values h = all_yes bs h
-  by_kind n (kinds.«List» t) bs values h = all_yes bs h
-  by_kind n (kinds.Own id) bs values h = all_yes bs h
-  by_kind n (kinds.Borrow id) bs values h = all_yes bs h
-  by_kind n (kinds.Stream t) bs values h = all_yes bs h
-  by_kind n (kinds.Future t) bs values h = all_yes bs h
-  by_kind n (kinds.Alias t) bs values h = all_yes bs h
+  pub all_met : ArePassed w last → AreMet w last (length types)
+  all_met passed n l r = let c = ok.resources.each n r in met_below n (below_next (imported_types w) (next_of last) n passed c) c
 
-  made_yes : (n : ℕ) (kind : TypeDefKind) (bs : List Bool) → kind ≢ kinds.Resource → AllByRecursion Yes bs → Yes ((allowing s).made n kind bs)
-  made_yes n kind bs values h = ap (may_make s n kind bs) (owned_at_root w.resolve.types n all) ∙ by_kind n kind bs values h
+  pub earlier_met : (id : TypeId) → IsNextId w (next_of last) id → AreMet w last id.index
+  earlier_met id order n l r = let c = ok.resources.each n r in met_below n (order.earlier n l c) c
 
-  all_from : (done : List Bool) (ts : List TypeDef) → AllByRecursion Yes done → AllByRecursion IsRootType ts → AllByRecursion Yes (values_from (allowing s) done ts)
-  unfolding values_from
-  all_from done [] h roots = h
-  all_from done (t ∷ ts) h roots =
-      all_from (done ++ next_value (allowing s) done t.kind ∷ []) ts
-      (yes_next done (next_value (allowing s) done t.kind) h (made_yes (length done) t.kind (map (part_value (allowing s) done) (parts t.kind)) roots.0.values (parts_yes done h (parts t.kind)))) roots.1
+  -- a type whose parts are allowed, and that is in the tables if it is a resource
+  made : (id : TypeId) → id.index < length types → (is_resource (kind_at types id.index) ≡ true → s.met id ≡ true) → list_all (is_allowed s) (parts (kind_at types id.index)) ≡ true → is_allowed s (Some (Id id)) ≡ true
+  made id l met inside = by (s.met id) (is_resource (kind_at types id.index)) refl refl
+    where
+      kind : TypeDefKind
+      kind = kind_at types id.index
 
-  -- each type is allowed
-  pub root_allowed : (part : Option Ty) → is_allowed s part ≡ true
+      bits : List Bool
+      bits = map (is_allowed s) (parts kind)
+
+      by : (m r : Bool) → s.met id ≡ m → is_resource kind ≡ r → is_allowed s (Some (Id id)) ≡ true
+      by true r e f = allowed_met s id ok.sound.back l e
+      by false true e f = absurd (true≢false (sym (met f) ∙ e))
+      by false false e f =
+          allowed_of_id s id ok.sound.back l
+          ∙ (ap (λ b. if b then true else may_make s id.index kind bits (foreign None (owner_at types id.index))) e
+          ∙ (ap (may_make s id.index kind bits) (owned_at_root types id.index ok.types) ∙ of_parts s id.index kind bits f (list_all-map (λ b. b) (is_allowed s) (parts kind) ∙ inside)))
+
+  part : (n : ℕ) → ((j : TypeId) → j.index < n → is_allowed s (Some (Id j)) ≡ true) → (p : Option Ty) → IsBelow n p → is_allowed s p ≡ true
   unfolding is_allowed
-  root_allowed part = part_yes (values (allowing s) w.resolve.types) (all_from [] w.resolve.types tt all) part
+  part n each None h = refl
+  part n each (Some (Primitive p)) h = refl
+  part n each (Some (Id j)) h = each j h
 
-  each_allowed : (ps : List (Option Ty)) → list_all (is_allowed s) ps ≡ true
-  each_allowed [] = refl
-  each_allowed (p ∷ ps) = rw (root_allowed p, each_allowed ps) refl
+  all_parts : (n : ℕ) → ((j : TypeId) → j.index < n → is_allowed s (Some (Id j)) ≡ true) → (ps : List (Option Ty)) → AllByRecursion (IsBelow n) ps → list_all (is_allowed s) ps ≡ true
+  all_parts n each [] h = refl
+  all_parts n each (p ∷ ps) h = rw (part n each p h.0, all_parts n each ps h.1) refl
 
-  params_allowed : (ps : List Param) → list_all (λ (p : Param). is_allowed s (Some p.ty)) ps ≡ true
-  params_allowed [] = refl
-  params_allowed (p ∷ ps) = rw (root_allowed (Some p.ty), params_allowed ps) refl
+  -- each type below this number is allowed, where the resources are in the tables
+  below : (k bound : ℕ) → k ≤ length types → AreMet w last k → (id : TypeId) → id.index < bound → id.index < k → is_allowed s (Some (Id id)) ≡ true
+  below k zero within met id l h = absurd (omega (arith, l))
+  below k (suc bound) within met id l h =
+      made id (omega (arith, within, h))
+      (λ r. met id.index h (record { present = omega (arith, within, h); kind = resource_is (kind_at types id.index) r }))
+      (all_parts id.index (λ j m. below k bound within met j (omega (arith, l, m)) (omega (arith, h, m))) (parts (kind_at types id.index)) (parts_below types id.index ok.sound.back (omega (arith, within, h))))
 
-  -- so is each function
-  pub root_allows : (f : Function) → allows_function s f ≡ true
-  root_allows f = rw (params_allowed f.params, root_allowed f.result) refl
+  pub root_allowed : AreMet w last (length types) → (p : Option Ty) → IsBelow (length types) p → is_allowed s p ≡ true
+  root_allowed met p h = part (length types) (λ j l. below (length types) (length types) (omega arith) met j l l) p h
 
-  no_resource : (kind : TypeDefKind) → kind ≢ kinds.Resource → is_resource kind ≡ false
-  no_resource kinds.Resource h = absurd (h refl)
-  no_resource (kinds.Record fields) h = refl
-  no_resource (kinds.Variant cases) h = refl
-  no_resource (kinds.Enum names) h = refl
-  no_resource (kinds.Flags names) h = refl
-  no_resource (kinds.Tuple types) h = refl
-  no_resource (kinds.«Option» t) h = refl
-  no_resource (kinds.«Result» r) h = refl
-  no_resource (kinds.«List» t) h = refl
-  no_resource (kinds.Own id) h = refl
-  no_resource (kinds.Borrow id) h = refl
-  no_resource (kinds.Stream t) h = refl
-  no_resource (kinds.Future t) h = refl
-  no_resource (kinds.Alias t) h = refl
+  params_allowed : AreMet w last (length types) → (ps : List Param) → AllByRecursion (λ p. IsBelow (length types) (Some p.ty)) ps → list_all (λ (p : Param). is_allowed s (Some p.ty)) ps ≡ true
+  params_allowed met [] h = refl
+  params_allowed met (p ∷ ps) h = rw (root_allowed met (Some p.ty) h.0, params_allowed met ps h.1) refl
 
-  values_at : (ts : List TypeDef) (n : ℕ) → AllByRecursion IsRootType ts → n < length ts → kind_at ts n ≢ kinds.Resource
-  values_at [] n h l = absurd (omega (arith, l))
-  values_at (t ∷ ts) zero h l = h.0.values
-  values_at (t ∷ ts) (suc n) h l = values_at ts n h.1 (omega (arith, l))
+  -- so is each function, after the types of the world
+  pub root_allows : ArePassed w last → (f : Function) → HasFunction w.resolve f → allows_function s f ≡ true
+  root_allows passed f h = rw (params_allowed (all_met passed) f.params h.params, root_allowed (all_met passed) f.result h.result) refl
 
-  -- each type of the resolve is made of its parts there
-  pub root_defines : (n : ℕ) → n < length w.resolve.types → IsDefinedHere s (kind_at w.resolve.types n)
-  root_defines n l = record {
-    values = no_resource (kind_at w.resolve.types n) (values_at w.resolve.types n all l);
-    allowed = each_allowed (parts (kind_at w.resolve.types n));
+  -- the next type of values is made of its parts there
+  pub root_defines : (id : TypeId) → id.index < length types → is_resource (kind_at types id.index) ≡ false → IsNextId w (next_of last) id → IsDefinedHere s (kind_at types id.index)
+  root_defines id l values order = record {
+    values = values;
+    allowed = all_parts id.index (λ j m. below id.index id.index (omega (arith, l)) (earlier_met id order) j m m) (parts (kind_at types id.index)) (parts_below types id.index ok.sound.back l);
   }

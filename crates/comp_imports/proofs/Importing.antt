@@ -1,5 +1,5 @@
 -- The root functions that imports of main use: all of them are imported, in the order of the world.
-use Rattle.std.proofs.Common.{if◌then◌else◌, ◌≡◌, ◌∙◌, ◌+◌, suc, length, length-append, add-zero, arith, Some, ℕ, Bool, true, false, ◌||◌, List, [], ◌∷◌, ◌++◌, refl, sym, ap, subst, append_assoc, append-nil, map, filter, IsTrue, IsSome, Contains}
+use Rattle.std.proofs.Common.{if◌then◌else◌, Option, ◌≡◌, ◌∙◌, ◌+◌, ◌<◌, ◌≤◌, ◌==◌, inl, inr, suc, length, length-append, add-zero, arith, Some, ℕ, Bool, true, false, ◌||◌, List, [], ◌∷◌, ◌++◌, refl, sym, ap, subst, append_assoc, append-nil, map, filter, IsTrue, IsSome, Contains}
 use Rattle.std.proofs.lemmas.Slice.Eq.{bytes_eq-Decides}
 use Rattle.std.proofs.lemmas.Option.{slice_get-map}
 use Rattle.std.proofs.lemmas.List.{length-map, map-append}
@@ -27,16 +27,20 @@ use Rattle.comp_roles.specs.declared.imports.Import.{Import}
 use Rattle.comp_roles.specs.declared.imports.Import.TheVariants as imports
 use Rattle.comp_roles.specs.declared.imports.ImportInstance.{ImportInstance}
 use Rattle.comp_roles.specs.declared.imports.ImportInstance.TheVariants as instances
-use Rattle.comp_worlds.specs.Worlds.{items_of, root_function, world_type, imported_functions, imported_types, imported_name, IsImportRole, IsImportGroup, IsWorld}
+use Rattle.comp_worlds.specs.Worlds.{items_of, root_function, world_type, imported_functions, imported_types, imported_name, AscendFrom, IsImportRole, IsImportGroup, IsWorld}
 use Rattle.comp_worlds.specs.declared.world.ComponentWorld.{ComponentWorld}
-use Rattle.comp_links.specs.Lists.{ImportEntry, WorldType, RootFunction, import_entries, stated_import, root_type}
+use Rattle.comp_links.specs.Lists.{ImportEntry, WorldType, RootFunction, import_entries, number_of_type, stated_import, root_type}
 use Rattle.comp_links.specs.Roles.{is_named, is_any_import, uses_from, is_used, used_functions}
 use Rattle.comp_terms.specs.Terms.{imports_in}
 use Rattle.comp_terms.specs.Rules.{Grows, Landmark, Imported, landmarks, named_import, names_marked, imports_marked}
 use Rattle.comp_items.specs.Items.{Extends}
 use Rattle.comp_items.proofs.Extending.{extends_none, extends_then}
-use Rattle.comp_imports.specs.Imports.{FindsImports, FindsMore, FindsUsed, IsNextItem, IsNextType}
-use Rattle.comp_imports.proofs.Elements.{AllByRecursion-join}
+use Rattle.comp_imports.specs.Imports.{FindsImports, FindsMore, FindsUsed, IsNextItem, IsNextType, next_after}
+use Rattle.comp_imports.proofs.Elements.{contains_none, contains_cons, AllByRecursion-join}
+use Rattle.comp_imports.proofs.Allowing.{below_next}
+use Rattle.comp_imports.specs.RootScopes.{next_of, ArePassed}
+use Rattle.std.proofs.lemmas.Bool.Decides.{Decides-eqb}
+use Rattle.std.proofs.lemmas.List.Elements.{Contains-append_cases}
 use Rattle.comp_imports.specs.Growing.{Grows-none, Grows-then}
 use Rattle.comp_imports.proofs.Looking.{function_found, entry_sound}
 
@@ -45,6 +49,7 @@ IsWorldImport w text = Contains (imported_functions w) text
 
 role_is_imported : (w : ComponentWorld) (text : List ℕ) (role : Import) → is_named text (imported_name role) ≡ true → IsImportRole w role → IsWorldImport w text
 role_is_imported w text (imports.WorldFunc (keys.Name name) function abi) same h = subst (IsWorldImport w) (sym ((bytes_eq-Decides text name).0 same)) h.0
+role_is_imported w text (imports.ImportedResourceDrop key interface id) same h = cc
 role_is_imported w text role same h = absurd h
 
 field_is_imported : (w : ComponentWorld) (text : List ℕ) (fs : List (List ℕ × Import)) → AllByRecursion (λ f. IsImportRole w f.1) fs → is_any_import text fs ≡ true → IsWorldImport w text
@@ -264,53 +269,128 @@ imports_made {w} {a} {b} {c} g h = subst (λ m. Grows w a c m) (all_marked w) (G
 
 -- ---- the loop over types
 
--- the items of the world that were passed so far, and the imports of their types
-pub record TypesSoFar (w : ComponentWorld) (old new : Built) (rest : List (WorldKey × WorldItem)) : Type 0 where
+-- the numbers of types
+abbrev indexes : List (List ℕ × TypeId) → List ℕ
+indexes ts = map (λ t. t.1.index) ts
+
+-- the items of the world that were passed so far, and the imports of their types: those are below `next`, and those that
+-- are left aren't
+pub record TypesSoFar (w : ComponentWorld) (old new : Built) (next : ℕ) (rest : List (WorldKey × WorldItem)) : Type 0 where
   pub done : List (WorldKey × WorldItem)
   pub split : done ++ rest ≡ (items_of w).imports
   pub extends : Extends old new
   pub grows : Grows w old.defs new.defs (map (λ t. Imported (root_type t.0)) (flat_map world_type done))
   pub count : imports_in new.defs ≡ length (flat_map world_type done)
+  pub below : AllByRecursion (λ t. t.1.index < next) (flat_map world_type done)
+  pub ahead : AscendFrom next (indexes (flat_map world_type rest))
 
-pub types_start : (w : ComponentWorld) (old : Built) → imports_in old.defs ≡ 0 → TypesSoFar w old old (items_of w).imports
-types_start w old none = record { done = []; split = refl; extends = extends_none old; grows = Grows-none w old.defs; count = none }
-
-pub types_step : (w : ComponentWorld) (old mid new : Built) (e : WorldKey × WorldItem) (rest : List (WorldKey × WorldItem)) → TypesSoFar w old mid (e ∷ rest) → Extends mid new →
-    Grows w mid.defs new.defs (map (λ t. Imported (root_type t.0)) (world_type e)) → TypesSoFar w old new rest
-types_step w old mid new e rest h extends grows = record {
-  done = h.done ++ e ∷ [];
-  split = append_assoc h.done (e ∷ []) rest ∙ h.split;
-  extends = extends_then old mid new h.extends extends;
-  grows =
-      let types : flat_map world_type (h.done ++ e ∷ []) ≡ flat_map world_type h.done ++ world_type e = flat_map-append world_type h.done (e ∷ []) ∙ ap (λ l. flat_map world_type h.done ++ l) (append-nil (world_type e)) in
-      let marks : map (λ (t : List ℕ × TypeId). Imported (root_type t.0)) (flat_map world_type (h.done ++ e ∷ [])) ≡ map (λ (t : List ℕ × TypeId). Imported (root_type t.0)) (flat_map world_type h.done) ++ map (λ (t : List ℕ × TypeId). Imported (root_type t.0)) (world_type e) =
-      ap (map (λ (t : List ℕ × TypeId). Imported (root_type t.0))) types ∙ map-append (λ (t : List ℕ × TypeId). Imported (root_type t.0)) (flat_map world_type h.done) (world_type e) in
-      subst (λ m. Grows w old.defs new.defs m) (sym marks) (Grows-then h.grows grows);
-  count =
-      let types : flat_map world_type (h.done ++ e ∷ []) ≡ flat_map world_type h.done ++ world_type e = flat_map-append world_type h.done (e ∷ []) ∙ ap (λ l. flat_map world_type h.done ++ l) (append-nil (world_type e)) in
-      let more = grown_imports grows in
-      let marked = types_counted (world_type e) in
-      let before = h.count in
-      let all = ap length types ∙ length-append (flat_map world_type h.done) (world_type e) in
-      omega (arith, more, marked, before, all);
+pub types_start : (w : ComponentWorld) (old : Built) (next : ℕ) → IsWorld w → imports_in old.defs ≡ 0 → next ≡ 0 → TypesSoFar w old old next (items_of w).imports
+types_start w old next ok none zero = record {
+  done = [];
+  split = refl;
+  extends = extends_none old;
+  grows = Grows-none w old.defs;
+  count = none;
+  below = tt;
+  ahead = subst (λ n. AscendFrom n (indexes (imported_types w))) (sym zero) ok.resources.ordered;
 }
 
+-- behind an item
+below_more : (next next' : ℕ) (ts : List (List ℕ × TypeId)) → next ≤ next' → AllByRecursion (λ t. t.1.index < next) ts → AllByRecursion (λ t. t.1.index < next') ts
+below_more next next' ts l h = AllByRecursion-weaker (λ t k. omega (arith, l, k)) ts h
+
+below_step : (next : ℕ) (done : List (WorldKey × WorldItem)) (e : WorldKey × WorldItem) (rest : List (WorldKey × WorldItem)) → AllByRecursion (λ t. t.1.index < next) (flat_map world_type done) → AscendFrom next (indexes (world_type e ++ flat_map world_type rest)) →
+    AllByRecursion (λ t. t.1.index < next_after next e) (flat_map world_type done ++ world_type e) × AscendFrom (next_after next e) (indexes (flat_map world_type rest))
+below_step next done (keys.Name text, world_items.NamedType id) rest h ahead = (
+  AllByRecursion-join (λ (t : List ℕ × TypeId). t.1.index < suc id.index) (flat_map world_type done) ((text, id) ∷ []) (below_more next (suc id.index) (flat_map world_type done) (let l = ahead.0 in omega (arith, l)) h) (omega arith, tt),
+  ahead.1,
+)
+below_step next done (keys.Name text, world_items.Function f) rest h ahead = (subst (λ ts. AllByRecursion (λ (t : List ℕ × TypeId). t.1.index < next) ts) (sym (append-nil (flat_map world_type done))) h, ahead)
+below_step next done (keys.Name text, world_items.Interface id) rest h ahead = (subst (λ ts. AllByRecursion (λ (t : List ℕ × TypeId). t.1.index < next) ts) (sym (append-nil (flat_map world_type done))) h, ahead)
+below_step next done (keys.Interface other, item) rest h ahead = (subst (λ ts. AllByRecursion (λ (t : List ℕ × TypeId). t.1.index < next) ts) (sym (append-nil (flat_map world_type done))) h, ahead)
+
+types_push : (done : List (WorldKey × WorldItem)) (e : WorldKey × WorldItem) → flat_map world_type (done ++ e ∷ []) ≡ flat_map world_type done ++ world_type e
+types_push done e = flat_map-append world_type done (e ∷ []) ∙ ap (λ l. flat_map world_type done ++ l) (append-nil (world_type e))
+
+pub types_step : (w : ComponentWorld) (old mid new : Built) (next after : ℕ) (e : WorldKey × WorldItem) (rest : List (WorldKey × WorldItem)) → TypesSoFar w old mid next (e ∷ rest) → Extends mid new →
+    Grows w mid.defs new.defs (map (λ t. Imported (root_type t.0)) (world_type e)) → after ≡ next_after next e → TypesSoFar w old new after rest
+types_step w old mid new next after e rest h extends grows is =
+    let types : flat_map world_type (h.done ++ e ∷ []) ≡ flat_map world_type h.done ++ world_type e = types_push h.done e in
+    let both = below_step next h.done e rest h.below h.ahead in
+    record {
+      done = h.done ++ e ∷ [];
+      split = append_assoc h.done (e ∷ []) rest ∙ h.split;
+      extends = extends_then old mid new h.extends extends;
+      grows =
+          let marks : map (λ (t : List ℕ × TypeId). Imported (root_type t.0)) (flat_map world_type (h.done ++ e ∷ [])) ≡ map (λ (t : List ℕ × TypeId). Imported (root_type t.0)) (flat_map world_type h.done) ++ map (λ (t : List ℕ × TypeId). Imported (root_type t.0)) (world_type e) =
+          ap (map (λ (t : List ℕ × TypeId). Imported (root_type t.0))) types ∙ map-append (λ (t : List ℕ × TypeId). Imported (root_type t.0)) (flat_map world_type h.done) (world_type e) in
+          subst (λ m. Grows w old.defs new.defs m) (sym marks) (Grows-then h.grows grows);
+      count =
+          let more = grown_imports grows in
+          let marked = types_counted (world_type e) in
+          let before = h.count in
+          let all = ap length types ∙ length-append (flat_map world_type h.done) (world_type e) in
+          omega (arith, more, marked, before, all);
+      below = subst (λ n. AllByRecursion (λ (t : List ℕ × TypeId). t.1.index < n) (flat_map world_type (h.done ++ e ∷ []))) (sym is)
+          (subst (λ ts. AllByRecursion (λ (t : List ℕ × TypeId). t.1.index < next_after next e) ts) (sym types) both.0);
+      ahead = subst (λ n. AscendFrom n (indexes (flat_map world_type rest))) (sym is) both.1;
+    }
+
+-- a number among those that ascend is not below the first
+least : (k n : ℕ) (ns : List ℕ) → AscendFrom k ns → Contains ns n → k ≤ n
+least k n [] h c = contains_none n c
+least k n (m ∷ ms) h c = elim (contains_cons m ms n c) [
+  | inl same ↦ (let l = h.0 in omega (arith, l, same))
+  | inr later ↦ (let l = h.0 in let m' = least (suc m) n ms h.1 later in omega (arith, l, m'))
+]
+
+-- the number of a type behind smaller ones
+number_behind : (ts more : List (List ℕ × TypeId)) (entries : List ImportEntry) (name : List ℕ) (id : TypeId) (next : ℕ) → AllByRecursion (λ t. t.1.index < next) ts → next ≤ id.index →
+    number_of_type id (map (λ t. WorldType t.0 t.1) (ts ++ (name, id) ∷ more) ++ entries) ≡ length ts
+number_behind [] more entries name id next h l = ap (λ b. if b then 0 else suc (number_of_type id (map (λ (t : List ℕ × TypeId). WorldType t.0 t.1) more ++ entries))) ((Decides-eqb id.index id.index).1 refl)
+number_behind (t ∷ ts) more entries name id next h l = by (id.index == t.1.index) refl (number_behind ts more entries name id next h.1 l)
+  where
+    rest : ℕ
+    rest = number_of_type id (map (λ (t : List ℕ × TypeId). WorldType t.0 t.1) (ts ++ (name, id) ∷ more) ++ entries)
+
+    by : (b : Bool) → (id.index == t.1.index) ≡ b → rest ≡ length ts → (if id.index == t.1.index then 0 else suc rest) ≡ suc (length ts)
+    by true e more = let same = (Decides-eqb id.index t.1.index).0 e in let small = h.0 in absurd (omega (arith, same, small, l))
+    by false e more = ap (λ b. if b then 0 else suc rest) e ∙ ap suc more
+
 -- the type of the next item is the next import
-pub next_type : (w : ComponentWorld) (old mid : Built) (e : WorldKey × WorldItem) (rest : List (WorldKey × WorldItem)) → TypesSoFar w old mid (e ∷ rest) → IsNextType w mid.defs e
-next_type w old mid (keys.Interface id, item) rest h = tt
-next_type w old mid (keys.Name text, world_items.Interface id) rest h = tt
-next_type w old mid (keys.Name text, world_items.Function f) rest h = tt
-next_type w old mid (keys.Name text, world_items.NamedType id) rest h =
+pub next_type : (w : ComponentWorld) (old mid : Built) (next : ℕ) (e : WorldKey × WorldItem) (rest : List (WorldKey × WorldItem)) → TypesSoFar w old mid next (e ∷ rest) → IsNextType w next mid.defs e
+next_type w old mid next (keys.Interface id, item) rest h = tt
+next_type w old mid next (keys.Name text, world_items.Interface id) rest h = tt
+next_type w old mid next (keys.Name text, world_items.Function f) rest h = tt
+next_type w old mid next (keys.Name text, world_items.NamedType id) rest h =
     let done = flat_map world_type h.done in
-    let all : imported_types w ≡ (done ++ (text, id) ∷ []) ++ flat_map world_type rest =
-    ap (flat_map world_type) (sym h.split) ∙ (flat_map-append world_type h.done ((keys.Name text, world_items.NamedType id) ∷ rest) ∙ sym (append_assoc done ((text, id) ∷ []) (flat_map world_type rest))) in
+    let more = flat_map world_type rest in
+    let all : imported_types w ≡ done ++ (text, id) ∷ more =
+    ap (flat_map world_type) (sym h.split) ∙ flat_map-append world_type h.done ((keys.Name text, world_items.NamedType id) ∷ rest) in
     let there : slice_get (imported_types w) (length done) ≡ Some (text, id) =
-    ap (λ l. slice_get l (length done)) all ∙ slice_get-append (done ++ (text, id) ∷ []) (flat_map world_type rest) (length done) (text, id) (slice_get-end done (text, id)) in
+    ap (λ l. slice_get l (length done)) (all ∙ sym (append_assoc done ((text, id) ∷ []) more)) ∙ slice_get-append (done ++ (text, id) ∷ []) more (length done) (text, id) (slice_get-end done (text, id)) in
     let entry : slice_get (map (λ (t : List ℕ × TypeId). WorldType t.0 t.1) (imported_types w)) (length done) ≡ Some (WorldType text id) =
     slice_get-map (λ (t : List ℕ × TypeId). WorldType t.0 t.1) (imported_types w) (length done) ∙ ap (option_map (λ (t : List ℕ × TypeId). WorldType t.0 t.1)) there in
-    ap (slice_get (import_entries w)) h.count ∙ slice_get-append (map (λ (t : List ℕ × TypeId). WorldType t.0 t.1) (imported_types w)) (map RootFunction (used_functions w)) (length done) (WorldType text id) entry
+    record {
+      stated = ap (slice_get (import_entries w)) h.count ∙ slice_get-append (map (λ (t : List ℕ × TypeId). WorldType t.0 t.1) (imported_types w)) (map RootFunction (used_functions w)) (length done) (WorldType text id) entry;
+      number = ap (λ ts. number_of_type id (map (λ (t : List ℕ × TypeId). WorldType t.0 t.1) ts ++ map RootFunction (used_functions w))) all
+          ∙ (number_behind done more (map RootFunction (used_functions w)) text id next h.below h.ahead.0 ∙ sym h.count);
+      order = record { earlier = λ n l c. earlier n l (subst (λ ns. Contains ns n) (ap indexes all ∙ map-append (λ (t : List ℕ × TypeId). t.1.index) done ((text, id) ∷ more)) c) };
+    }
+  where
+    earlier : (n : ℕ) → n < id.index → Contains (indexes (flat_map world_type h.done) ++ id.index ∷ indexes (flat_map world_type rest)) n → n < next
+    earlier n l c = elim (Contains-append_cases (indexes (flat_map world_type h.done)) (id.index ∷ indexes (flat_map world_type rest)) n c) [
+      | inl before ↦ below_next (flat_map world_type h.done) next n h.below before
+      | inr later ↦ (let k = least id.index n (id.index ∷ indexes (flat_map world_type rest)) (omega arith, h.ahead.1) later in absurd (omega (arith, k, l)))
+    ]
 
-pub types_done : (w : ComponentWorld) (old new : Built) → TypesSoFar w old new [] → Grows w old.defs new.defs (map (λ t. Imported (root_type t.0)) (imported_types w))
-types_done w old new h =
+pub types_done : (w : ComponentWorld) (old new : Built) (next : ℕ) → TypesSoFar w old new next [] → Grows w old.defs new.defs (map (λ t. Imported (root_type t.0)) (imported_types w))
+types_done w old new next h =
     let all : h.done ≡ (items_of w).imports = sym (append-nil h.done) ∙ h.split in
     subst (λ es. Grows w old.defs new.defs (map (λ (t : List ℕ × TypeId). Imported (root_type t.0)) (flat_map world_type es))) all h.grows
+
+-- and each type of the world is passed
+pub types_passed : (w : ComponentWorld) (old new : Built) (last : Option TypeId) → TypesSoFar w old new (next_of last) [] → ArePassed w last
+types_passed w old new last h =
+    let all : h.done ≡ (items_of w).imports = sym (append-nil h.done) ∙ h.split in
+    subst (λ es. AllByRecursion (λ (t : List ℕ × TypeId). t.1.index < next_of last) (flat_map world_type es)) all h.below

@@ -5,4 +5,7 @@ pub mod Finding
 pub mod Looking
 pub mod Allowing
 pub mod Importing
+pub mod Naming
+pub mod Passing
+pub mod Resources
 pub mod Defining

@@ -1,18 +1,20 @@
 -- What is known of what was imported, and of what is the next import. (The rules are this project's own.)
-use Rattle.std.specs.Prelude.{◌≡◌, ℕ, List, Some, IsSome, IsTrue, slice_get}
+use Rattle.std.specs.Prelude.{◌≡◌, ◌<◌, ℕ, suc, List, Some, IsSome, IsTrue, Contains, map, slice_get}
 use Rattle.comp_lists.specs.Found.{found}
 use Rattle.comp_bytes.specs.declared.def.Def.{Def}
 use Rattle.comp_trees.specs.Trees.{Origin, FunctionTree}
 use Rattle.wit_data.specs.Sound.{HasFunction}
 use Rattle.wit_data.specs.declared.functions.Function.{Function}
+use Rattle.wit_data.specs.declared.ids.TypeId.{TypeId}
 use Rattle.wit_data.specs.declared.worlds.WorldItem.{WorldItem}
 use Rattle.wit_data.specs.declared.worlds.WorldItem.TheVariants as items
 use Rattle.wit_data.specs.declared.worlds.WorldKey.{WorldKey}
 use Rattle.wit_data.specs.declared.worlds.WorldKey.TheVariants as keys
+use Rattle.comp_worlds.specs.Worlds.{imported_types}
 use Rattle.comp_worlds.specs.declared.world.ComponentWorld.{ComponentWorld}
 use Rattle.comp_links.specs.Modules.{function_imported}
 use Rattle.comp_links.specs.Targets.{OfRoot}
-use Rattle.comp_links.specs.Lists.{IsOriginOf, WorldType, RootFunction, import_entries}
+use Rattle.comp_links.specs.Lists.{IsOriginOf, WorldType, RootFunction, import_entries, number_of_type}
 use Rattle.comp_links.specs.Roles.{is_used}
 use Rattle.comp_terms.specs.Terms.{IsImportedFunction, imports_in}
 use Rattle.comp_terms.specs.Planned.{IsTypeOf}
@@ -47,7 +49,22 @@ abbrev pub IsNextItem : ComponentWorld → List Def → WorldKey × WorldItem �
 IsNextItem w ds (keys.Name text, items.Function f) = IsNext w ds text f × HasFunction w.resolve f
 IsNextItem w ds entry = Unit {0}
 
--- the type of an item of the world, if it is one, is the next import
-abbrev pub IsNextType : ComponentWorld → List Def → WorldKey × WorldItem → Type 0
-IsNextType w ds (keys.Name text, items.NamedType id) = slice_get (import_entries w) (imports_in ds) ≡ Some (WorldType text id)
-IsNextType w ds entry = Unit {0}
+-- each type that the world imports and that comes before this one in the resolve is below `next`
+pub record IsNextId (w : ComponentWorld) (next : ℕ) (id : TypeId) : Type 0 where
+  pub earlier : (n : ℕ) → n < id.index → Contains (map (λ t. t.1.index) (imported_types w)) n → n < next
+
+-- the type is the next import, and it has no other number among the imports
+pub record IsNextTypeImport (w : ComponentWorld) (next : ℕ) (ds : List Def) (name : List ℕ) (id : TypeId) : Type 0 where
+  pub stated : slice_get (import_entries w) (imports_in ds) ≡ Some (WorldType name id)
+  pub number : number_of_type id (import_entries w) ≡ imports_in ds
+  pub order : IsNextId w next id
+
+-- so is that of an item of the world, if it is one
+abbrev pub IsNextType : ComponentWorld → ℕ → List Def → WorldKey × WorldItem → Type 0
+IsNextType w next ds (keys.Name text, items.NamedType id) = IsNextTypeImport w next ds text id
+IsNextType w next ds entry = Unit {0}
+
+-- the number after the type of an item, if it is one
+abbrev pub next_after : ℕ → WorldKey × WorldItem → ℕ
+next_after next (keys.Name text, items.NamedType id) = suc id.index
+next_after next entry = next

@@ -12,7 +12,7 @@ ghost use Rattle.comp_terms.specs.Terms.{IsImportedFunction, imports_in};
 ghost use Rattle.comp_worlds.specs.Worlds.{IsWorld, items_of, imported_types, root_function};
 ghost use Rattle.wit_data.specs.Sound.{HasFunction};
 ghost use Rattle.comp_imports.specs.Imports.{FindsImports, FindsMore, FindsUsed, IsNext, IsNextItem};
-ghost use Rattle.comp_imports.specs.RootScopes.{AreTablesRight, IsRefusal};
+ghost use Rattle.comp_imports.specs.RootScopes.{AreTablesRight, ArePassed, IsRefusal};
 
 use crate::root_scope::RootScope;
 use crate::used::used_functions;
@@ -27,11 +27,13 @@ impl RootScope<'_, ComponentWorld> {
     fn import_function(&mut self, name: &Text, function: &Function) -> Result<u32, BuildFault>
         requires valid { IsWorld self.old.world.now }
         requires present { HasFunction self.old.world.now.resolve function.now }
-        requires tables { AreTablesRight self.old.world.now self.old.items.defs self.old.maps }
+        requires passed { ArePassed self.old.world.now self.old.last_type }
+        requires tables { AreTablesRight self.old.world.now self.old.last_type self.old.items.defs self.old.maps }
         ensures world { self.new.world ≡ self.old.world }
+        ensures next { self.new.last_type ≡ self.old.last_type }
         ensures extends { Extends self.old.items self.new.items }
         ensures grows { OnOk result (Grows self.old.world.now self.old.items.defs self.new.items.defs (named_import name.now ∷ [])) }
-        ensures tables { AreTablesRight self.old.world.now self.new.items.defs self.new.maps }
+        ensures tables { AreTablesRight self.old.world.now self.old.last_type self.new.items.defs self.new.maps }
         ensures imported { IfOk result (λ index. IsImportedFunction self.new.items.defs index (record { number = imports_in self.old.items.defs; inner = None }) (type_of_function self.old.world.now function.now)) }
         ensures cause { IfErr result IsRefusal }
     {
@@ -54,14 +56,16 @@ impl RootScope<'_, ComponentWorld> {
     ) -> Result<(), BuildFault>
         requires valid { IsWorld self.old.world.now }
         requires present { HasFunction self.old.world.now.resolve function.now }
-        requires tables { AreTablesRight self.old.world.now self.old.items.defs self.old.maps }
+        requires passed { ArePassed self.old.world.now self.old.last_type }
+        requires tables { AreTablesRight self.old.world.now self.old.last_type self.old.items.defs self.old.maps }
         requires used { (text : List ℕ) → is_some (found text used.now) ≡ is_used self.old.world.now text }
         requires next { IsNext self.old.world.now self.old.items.defs name.now function.now }
         requires imports { FindsImports self.old.world.now self.old.items.defs functions.old }
         ensures world { self.new.world ≡ self.old.world }
+        ensures next { self.new.last_type ≡ self.old.last_type }
         ensures extends { Extends self.old.items self.new.items }
         ensures grows { OnOk result (Grows self.old.world.now self.old.items.defs self.new.items.defs (names_marked self.old.world.now (name.now ∷ []))) }
-        ensures tables { AreTablesRight self.old.world.now self.new.items.defs self.new.maps }
+        ensures tables { AreTablesRight self.old.world.now self.old.last_type self.new.items.defs self.new.maps }
         ensures imports { OnOk result (FindsImports self.old.world.now self.new.items.defs functions.new) }
         ensures finds { FindsMore functions.old functions.new }
         ensures found { OnOk result (IsTrue (is_used self.old.world.now name.now) → IsSome (found name.now functions.new)) }
@@ -85,14 +89,16 @@ impl RootScope<'_, ComponentWorld> {
         item: &WorldItem,
     ) -> Result<(), BuildFault>
         requires valid { IsWorld self.old.world.now }
-        requires tables { AreTablesRight self.old.world.now self.old.items.defs self.old.maps }
+        requires passed { ArePassed self.old.world.now self.old.last_type }
+        requires tables { AreTablesRight self.old.world.now self.old.last_type self.old.items.defs self.old.maps }
         requires used { (text : List ℕ) → is_some (found text used.now) ≡ is_used self.old.world.now text }
         requires next { IsNextItem self.old.world.now self.old.items.defs (key.now, item.now) }
         requires imports { FindsImports self.old.world.now self.old.items.defs functions.old }
         ensures world { self.new.world ≡ self.old.world }
+        ensures next { self.new.last_type ≡ self.old.last_type }
         ensures extends { Extends self.old.items self.new.items }
         ensures grows { OnOk result (Grows self.old.world.now self.old.items.defs self.new.items.defs (names_marked self.old.world.now (root_function (key.now, item.now)))) }
-        ensures tables { AreTablesRight self.old.world.now self.new.items.defs self.new.maps }
+        ensures tables { AreTablesRight self.old.world.now self.old.last_type self.new.items.defs self.new.maps }
         ensures imports { OnOk result (FindsImports self.old.world.now self.new.items.defs functions.new) }
         ensures finds { FindsMore functions.old functions.new }
         ensures found { OnOk result (AllByRecursion (λ name. IsTrue (is_used self.old.world.now name) → IsSome (found name functions.new)) (root_function (key.now, item.now))) }
@@ -116,11 +122,13 @@ impl RootScope<'_, ComponentWorld> {
         requires items { items.now ≡ (items_of self.old.world.now).imports }
         requires used { (text : List ℕ) → is_some (found text used.now) ≡ is_used self.old.world.now text }
         requires types { imports_in self.old.items.defs ≡ length (imported_types self.old.world.now) }
-        requires tables { AreTablesRight self.old.world.now self.old.items.defs self.old.maps }
+        requires passed { ArePassed self.old.world.now self.old.last_type }
+        requires tables { AreTablesRight self.old.world.now self.old.last_type self.old.items.defs self.old.maps }
         ensures world { self.new.world ≡ self.old.world }
+        ensures next { self.new.last_type ≡ self.old.last_type }
         ensures extends { Extends self.old.items self.new.items }
         ensures grows { OnOk result (Grows self.old.world.now self.old.items.defs self.new.items.defs (map named_import (used_functions self.old.world.now))) }
-        ensures tables { AreTablesRight self.old.world.now self.new.items.defs self.new.maps }
+        ensures tables { AreTablesRight self.old.world.now self.old.last_type self.new.items.defs self.new.maps }
         ensures imports { IfOk result (FindsImports self.old.world.now self.new.items.defs) }
         ensures found { IfOk result (FindsUsed self.old.world.now) }
         ensures cause { IfErr result IsRefusal }
@@ -137,11 +145,13 @@ impl RootScope<'_, ComponentWorld> {
     pub(crate) fn import_functions(&mut self) -> Result<Keyed<Text, u32>, BuildFault>
         requires valid { IsWorld self.old.world.now }
         requires types { imports_in self.old.items.defs ≡ length (imported_types self.old.world.now) }
-        requires tables { AreTablesRight self.old.world.now self.old.items.defs self.old.maps }
+        requires passed { ArePassed self.old.world.now self.old.last_type }
+        requires tables { AreTablesRight self.old.world.now self.old.last_type self.old.items.defs self.old.maps }
         ensures world { self.new.world ≡ self.old.world }
+        ensures next { self.new.last_type ≡ self.old.last_type }
         ensures extends { Extends self.old.items self.new.items }
         ensures grows { OnOk result (Grows self.old.world.now self.old.items.defs self.new.items.defs (map named_import (used_functions self.old.world.now))) }
-        ensures tables { AreTablesRight self.old.world.now self.new.items.defs self.new.maps }
+        ensures tables { AreTablesRight self.old.world.now self.old.last_type self.new.items.defs self.new.maps }
         ensures imports { IfOk result (FindsImports self.old.world.now self.new.items.defs) }
         ensures found { IfOk result (FindsUsed self.old.world.now) }
         ensures cause { IfErr result IsRefusal }

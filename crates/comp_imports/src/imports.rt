@@ -7,7 +7,7 @@ ghost use Rattle.comp_terms.specs.Rules.{Grows, imports_marked};
 ghost use Rattle.comp_terms.specs.Terms.{imports_in};
 ghost use Rattle.comp_worlds.specs.Worlds.{IsWorld};
 ghost use Rattle.comp_imports.specs.Imports.{FindsImports, FindsUsed};
-ghost use Rattle.comp_imports.specs.RootScopes.{AreTablesRight, IsRefusal};
+ghost use Rattle.comp_imports.specs.RootScopes.{AreTablesRight, ArePassed, IsRefusal};
 
 use crate::root_scope::RootScope;
 use byte_encoding::BuildFault;
@@ -22,11 +22,12 @@ impl RootScope<'_, ComponentWorld> {
     pub fn import_all(&mut self) -> Result<Keyed<Text, u32>, BuildFault>
         requires valid { IsWorld self.old.world.now }
         requires first { imports_in self.old.items.defs ≡ 0 }
-        requires tables { AreTablesRight self.old.world.now self.old.items.defs self.old.maps }
+        requires tables { AreTablesRight self.old.world.now self.old.last_type self.old.items.defs self.old.maps }
         ensures world { self.new.world ≡ self.old.world }
         ensures extends { Extends self.old.items self.new.items }
         ensures grows { OnOk result (Grows self.old.world.now self.old.items.defs self.new.items.defs (imports_marked self.old.world.now)) }
-        ensures tables { AreTablesRight self.old.world.now self.new.items.defs self.new.maps }
+        ensures tables { AreTablesRight self.old.world.now self.new.last_type self.new.items.defs self.new.maps }
+        ensures passed { OnOk result (ArePassed self.old.world.now self.new.last_type) }
         ensures imports { IfOk result (FindsImports self.old.world.now self.new.items.defs) }
         ensures found { IfOk result (FindsUsed self.old.world.now) }
         ensures cause { IfErr result IsRefusal }

@@ -20,3 +20,4 @@ mod used;
 mod world_types;
 
 pub use root_scope::{HasWorld, RootScope};
+pub use world_types::resource_index;

@@ -17,7 +17,7 @@ ghost use Rattle.wit_types.specs.Maps.{no_maps};
 ghost use Rattle.comp_terms.specs.Planned.{type_of_function};
 ghost use Rattle.comp_terms.specs.Terms.{IsFunctionType};
 ghost use Rattle.comp_worlds.specs.Worlds.{IsWorld};
-ghost use Rattle.comp_imports.specs.RootScopes.{root_setting, any_index, RootGrows, is_full, AreTablesRight};
+ghost use Rattle.comp_imports.specs.RootScopes.{root_setting, any_index, RootGrows, is_full, AreTablesRight, ArePassed};
 ghost use Rattle.comp_imports.specs.Growing.{root_same, root_on};
 
 use byte_encoding::BuildFault;
@@ -44,6 +44,8 @@ pub struct RootScope<'a, W: HasWorld> {
     pub world: &'a W,
     pub items: ComponentItems,
     pub maps: TypeEncodingMaps,
+    /// The last type of the world that was imported: it and those before it in the resolve are in the tables.
+    pub last_type: Option<TypeId>,
 }
 
 impl<'a, W: HasWorld> Drop for RootScope<'a, W> {
@@ -52,6 +54,7 @@ impl<'a, W: HasWorld> Drop for RootScope<'a, W> {
             world: _,
             items: _,
             maps: _,
+            last_type: _,
         } = self;
     }
 }
@@ -62,11 +65,13 @@ impl<'a> RootScope<'a, ComponentWorld> {
         ensures world { result.world ≡ world.entry }
         ensures items { result.items ≡ nothing_built }
         ensures maps { result.maps ≡ no_maps }
+        ensures next { result.last_type ≡ None }
     {
         RootScope {
             world,
             items: ComponentItems::new(alloc),
             maps: TypeEncodingMaps::new(alloc),
+            last_type: None,
         }
     }
 
@@ -78,6 +83,7 @@ impl<'a> RootScope<'a, ComponentWorld> {
             world: _,
             items,
             maps: _,
+            last_type: _,
         } = self;
         items
     }
@@ -86,11 +92,13 @@ impl<'a> RootScope<'a, ComponentWorld> {
     pub fn function_type(&mut self, function: &Function) -> Result<u32, BuildFault>
         requires valid { IsWorld self.old.world.now }
         requires present { HasFunction self.old.world.now.resolve function.now }
-        requires tables { AreTablesRight self.old.world.now self.old.items.defs self.old.maps }
+        requires passed { ArePassed self.old.world.now self.old.last_type }
+        requires tables { AreTablesRight self.old.world.now self.old.last_type self.old.items.defs self.old.maps }
         ensures typed { IfOk result (λ index. IsFunctionType self.new.items.defs index (type_of_function self.old.world.now function.now)) }
         ensures world { self.new.world ≡ self.old.world }
+        ensures next { self.new.last_type ≡ self.old.last_type }
         ensures grows { RootGrows self.old.world.now self.old.items self.new.items }
-        ensures tables { AreTablesRight self.old.world.now self.new.items.defs self.new.maps }
+        ensures tables { AreTablesRight self.old.world.now self.old.last_type self.new.items.defs self.new.maps }
         ensures cause { IfErr result (IsCause is_full self.new.items.defs) }
     {
         let world = self.world;
@@ -100,7 +108,7 @@ impl<'a> RootScope<'a, ComponentWorld> {
 }
 
 impl<'a, W: HasWorld> ValtypeEncoder for RootScope<'a, W> {
-    ghost setting = { λ e. root_setting (W.world e.world.now) };
+    ghost setting = { λ e. root_setting (W.world e.world.now) e.last_type };
 
     ghost scope = { λ e. scope_of e.items.defs };
 
@@ -108,19 +116,19 @@ impl<'a, W: HasWorld> ValtypeEncoder for RootScope<'a, W> {
 
     ghost with_maps = { λ e m. record e { maps = m } };
 
-    ghost follows = { λ old new. (new.world ≡ old.world) × RootGrows (W.world old.world.now) old.items new.items };
+    ghost follows = { λ old new. (new.world ≡ old.world) × (new.last_type ≡ old.last_type) × RootGrows (W.world old.world.now) old.items new.items };
 
     ghost names = { λ e name index. any_index name index };
 
     ghost refuses = { λ e count. is_full e.items.defs count };
 
-    ghost follows_itself = { λ e. (refl, root_same (W.world e.world.now) e.items) };
+    ghost follows_itself = { λ e. (refl, refl, root_same (W.world e.world.now) e.items) };
 
-    ghost follows_on = { λ a b c g h. root_on (λ r. W.world r.now) a.world b.world c.world a.items b.items c.items g h };
+    ghost follows_on = { λ a b c g h. root_on (λ r. W.world r.now) a.world b.world c.world a.last_type b.last_type c.last_type a.items b.items c.items g h };
 
     ghost names_kept = { λ a b g name index h. h };
 
-    ghost follows_maps = { λ e m. (refl, root_same (W.world e.world.now) e.items) };
+    ghost follows_maps = { λ e m. (refl, refl, root_same (W.world e.world.now) e.items) };
 
     ghost maps_given = { λ e m. refl };
 
@@ -132,9 +140,9 @@ impl<'a, W: HasWorld> ValtypeEncoder for RootScope<'a, W> {
         requires present { AreTypes (length (scope_of self.old.items.defs)) (defined_references ty) }
         requires known { is_known (defined_tree (scope_of self.old.items.defs) ty) ≡ true }
         ensures makes { Makes (scope_of self.old.items.defs) (scope_of self.new.items.defs) result (OfValues (defined_tree (scope_of self.old.items.defs) ty)) }
-        ensures setting { root_setting (W.world self.new.world.now) ≡ root_setting (W.world self.old.world.now) }
+        ensures setting { root_setting (W.world self.new.world.now) self.new.last_type ≡ root_setting (W.world self.old.world.now) self.old.last_type }
         ensures maps { self.new.maps ≡ self.old.maps }
-        ensures follows { (self.new.world ≡ self.old.world) × RootGrows (W.world self.old.world.now) self.old.items self.new.items }
+        ensures follows { (self.new.world ≡ self.old.world) × (self.new.last_type ≡ self.old.last_type) × RootGrows (W.world self.old.world.now) self.old.items self.new.items }
         ensures cause { IfErr result (IsCause is_full self.new.items.defs) }
     {
         self.items.defined_type(ty)
@@ -144,9 +152,9 @@ impl<'a, W: HasWorld> ValtypeEncoder for RootScope<'a, W> {
         requires present { AreTypes (length (scope_of self.old.items.defs)) (type_references (definitions.Func ty)) }
         requires known { is_known_function (function_tree (scope_of self.old.items.defs) ty) ≡ true }
         ensures makes { Makes (scope_of self.old.items.defs) (scope_of self.new.items.defs) result (OfFunctions (function_tree (scope_of self.old.items.defs) ty)) }
-        ensures setting { root_setting (W.world self.new.world.now) ≡ root_setting (W.world self.old.world.now) }
+        ensures setting { root_setting (W.world self.new.world.now) self.new.last_type ≡ root_setting (W.world self.old.world.now) self.old.last_type }
         ensures maps { self.new.maps ≡ self.old.maps }
-        ensures follows { (self.new.world ≡ self.old.world) × RootGrows (W.world self.old.world.now) self.old.items self.new.items }
+        ensures follows { (self.new.world ≡ self.old.world) × (self.new.last_type ≡ self.old.last_type) × RootGrows (W.world self.old.world.now) self.old.items self.new.items }
         ensures cause { IfErr result (IsCause is_full self.new.items.defs) }
     {
         self.items.function_type(ty)
@@ -158,9 +166,9 @@ impl<'a, W: HasWorld> ValtypeEncoder for RootScope<'a, W> {
         ensures none { IfOk result (λ exported. exported ≡ None) }
         ensures names { IfOk result (λ exported. any_index name.name (exported_or exported index)) }
         ensures makes { MayMake (scope_of self.old.items.defs) (scope_of self.new.items.defs) result (get_or (scope_of self.old.items.defs) index OfOthers) }
-        ensures setting { root_setting (W.world self.new.world.now) ≡ root_setting (W.world self.old.world.now) }
+        ensures setting { root_setting (W.world self.new.world.now) self.new.last_type ≡ root_setting (W.world self.old.world.now) self.old.last_type }
         ensures maps { self.new.maps ≡ self.old.maps }
-        ensures follows { (self.new.world ≡ self.old.world) × RootGrows (W.world self.old.world.now) self.old.items self.new.items }
+        ensures follows { (self.new.world ≡ self.old.world) × (self.new.last_type ≡ self.old.last_type) × RootGrows (W.world self.old.world.now) self.old.items self.new.items }
         ensures cause { IfErr result (IsCause is_full self.new.items.defs) }
     {
         let _ = (index, name);
@@ -171,10 +179,10 @@ impl<'a, W: HasWorld> ValtypeEncoder for RootScope<'a, W> {
     fn export_resource(&mut self, name: ExternName) -> Result<u32, BuildFault>
         ensures same { self.new ≡ self.old }
         ensures names { IfOk result (λ index. any_index name.name index) }
-        ensures makes { Makes (scope_of self.old.items.defs) (scope_of self.new.items.defs) result (OfValues (ResourceAt ((root_setting (W.world self.old.world.now)).resource name.name))) }
-        ensures setting { root_setting (W.world self.new.world.now) ≡ root_setting (W.world self.old.world.now) }
+        ensures makes { Makes (scope_of self.old.items.defs) (scope_of self.new.items.defs) result (OfValues (ResourceAt ((root_setting (W.world self.old.world.now) self.old.last_type).resource name.name))) }
+        ensures setting { root_setting (W.world self.new.world.now) self.new.last_type ≡ root_setting (W.world self.old.world.now) self.old.last_type }
         ensures maps { self.new.maps ≡ self.old.maps }
-        ensures follows { (self.new.world ≡ self.old.world) × RootGrows (W.world self.old.world.now) self.old.items self.new.items }
+        ensures follows { (self.new.world ≡ self.old.world) × (self.new.last_type ≡ self.old.last_type) × RootGrows (W.world self.old.world.now) self.old.items self.new.items }
         ensures cause { IfErr result (IsCause is_full self.new.items.defs) }
     {
         let _ = name;
@@ -184,10 +192,10 @@ impl<'a, W: HasWorld> ValtypeEncoder for RootScope<'a, W> {
     /// No type may be imported here (`root_setting`), so that no caller may ask for this: it refuses.
     fn import_type(&mut self, interface: InterfaceId, id: TypeId) -> Result<u32, BuildFault>
         ensures same { self.new ≡ self.old }
-        ensures makes { Makes (scope_of self.old.items.defs) (scope_of self.new.items.defs) result (OfValues (tree_in (root_setting (W.world self.old.world.now)) (Some (Id id)))) }
-        ensures setting { root_setting (W.world self.new.world.now) ≡ root_setting (W.world self.old.world.now) }
+        ensures makes { Makes (scope_of self.old.items.defs) (scope_of self.new.items.defs) result (OfValues (tree_in (root_setting (W.world self.old.world.now) self.old.last_type) (Some (Id id)))) }
+        ensures setting { root_setting (W.world self.new.world.now) self.new.last_type ≡ root_setting (W.world self.old.world.now) self.old.last_type }
         ensures maps { self.new.maps ≡ self.old.maps }
-        ensures follows { (self.new.world ≡ self.old.world) × RootGrows (W.world self.old.world.now) self.old.items self.new.items }
+        ensures follows { (self.new.world ≡ self.old.world) × (self.new.last_type ≡ self.old.last_type) × RootGrows (W.world self.old.world.now) self.old.items self.new.items }
         ensures cause { IfErr result (IsCause is_full self.new.items.defs) }
     {
         let _ = (interface, id);

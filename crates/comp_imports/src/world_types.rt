@@ -1,59 +1,144 @@
 //! The types of the world that are imported.
 #![tactic(auto, using(crate::proofs::Growth::growing))]
 
-ghost use Rattle.std.specs.Prelude.{◌≡◌, ◌<◌, length, [], ◌∷◌, map, IfErr, OnOk, Some, slice_get};
+ghost use Rattle.std.specs.Prelude.{◌≡◌, ◌<◌, length, false, true, [], ◌∷◌, List, Option, map, IfErr, OnOk, IsSomeAnd, Some, None};
 ghost use Rattle.comp_items.specs.Items.{Extends};
-ghost use Rattle.comp_links.specs.Lists.{WorldType, import_entries, root_type};
+ghost use Rattle.comp_links.specs.Lists.{root_type, resource_of, type_of_world};
+ghost use Rattle.comp_bytes.specs.declared.def.Def.{Def};
+ghost use Rattle.comp_terms.specs.Terms as terms;
+ghost use Rattle.comp_worlds.specs.Worlds as worlds;
 ghost use Rattle.comp_terms.specs.Rules.{Grows, Imported};
 ghost use Rattle.comp_terms.specs.Terms.{imports_in};
-ghost use Rattle.comp_imports.specs.Imports.{IsNextType};
+ghost use Rattle.comp_imports.specs.Imports.{IsNextId, IsNextTypeImport, IsNextType, next_after};
 ghost use Rattle.comp_worlds.specs.Worlds.{IsWorld, world_type, imported_types, items_of};
 ghost use Rattle.wit_data.specs.Sound.{HasEntry};
-ghost use Rattle.comp_imports.specs.RootScopes.{AreTablesRight, IsRefusal};
+ghost use Rattle.wit_data.specs.Values.{kind_at};
+ghost use Rattle.wit_types.specs.Allowing.{is_resource};
+ghost use Rattle.comp_trees.specs.DefinedScopes.{Denotes};
+ghost use Rattle.comp_trees.specs.Inventories.{scope_of};
+ghost use Rattle.comp_imports.specs.RootScopes.{next_of, AreTablesRight, ArePassed, IsRefusal};
 
 use crate::root_scope::RootScope;
 use byte_encoding::BuildFault;
 use comp_bytes::ExternName;
 use comp_lists::Text;
 use comp_worlds::ComponentWorld;
-use wit_data::{TypeId, WorldItem, WorldKey};
-use wit_types::{encode_definition, record_type_index};
+use std::alloc::AllocError;
+use wit_data::{TypeDefKind, TypeId, WorldItem, WorldKey, kind_of};
+use wit_types::{TypeEncodingMaps, encode_definition, record_type_index};
+
+/// The index of a resource of the world in these tables, once the types of the world are imported.
+pub fn resource_index(maps: &TypeEncodingMaps, id: TypeId) -> Option<u32>
+    ensures { (w : ComponentWorld) (last : Option TypeId) (ds : List Def) → IsWorld w → worlds.IsResource w.resolve.types id.index → ArePassed w last → AreTablesRight w last ds maps.now → IsSomeAnd result (λ index. terms.IsResource ds index (resource_of w id)) }
+{
+    maps.type_index(id)
+}
+
+/// Whether a type is a resource.
+fn is_resource(kind: &TypeDefKind) -> bool
+    ensures { result ≡ is_resource kind.now }
+{
+    matches!(kind, TypeDefKind::Resource)
+}
 
 impl RootScope<'_, ComponentWorld> {
-    /// Defines a type of the world, and imports it under its name.
-    fn import_world_type(&mut self, name: &Text, id: TypeId) -> Result<(), BuildFault>
+    /// Records the index of a type of the world that was imported.
+    fn record_world_type(&mut self, id: TypeId, index: u32) -> Result<(), AllocError>
         requires valid { IsWorld self.old.world.now }
         requires present { id.index < length self.old.world.now.resolve.types }
-        requires next { slice_get (import_entries self.old.world.now) (imports_in self.old.items.defs) ≡ Some (WorldType name.now id) }
-        requires tables { AreTablesRight self.old.world.now self.old.items.defs self.old.maps }
+        requires order { IsNextId self.old.world.now (next_of self.old.last_type) id }
+        requires tables { AreTablesRight self.old.world.now self.old.last_type self.old.items.defs self.old.maps }
+        requires denotes { Denotes (scope_of self.old.items.defs) index (type_of_world self.old.world.now id) }
         ensures world { self.new.world ≡ self.old.world }
+        ensures next { OnOk result (self.new.last_type ≡ Some id) }
         ensures extends { Extends self.old.items self.new.items }
-        ensures grows { OnOk result (Grows self.old.world.now self.old.items.defs self.new.items.defs (Imported (root_type name.now) ∷ [])) }
-        ensures tables { AreTablesRight self.old.world.now self.new.items.defs self.new.maps }
+        ensures grows { Grows self.old.world.now self.old.items.defs self.new.items.defs [] }
+        ensures tables { AreTablesRight self.old.world.now self.new.last_type self.new.items.defs self.new.maps }
+    {
+        record_type_index(self, id, index)?;
+        self.last_type = Some(id);
+        Ok(())
+    }
+
+    /// Defines a type of values of the world, and imports it under its name.
+    fn import_value_type(&mut self, name: ExternName, id: TypeId) -> Result<(), BuildFault>
+        requires valid { IsWorld self.old.world.now }
+        requires present { id.index < length self.old.world.now.resolve.types }
+        requires values { is_resource (kind_at self.old.world.now.resolve.types id.index) ≡ false }
+        requires plain { name.version_suffix ≡ None }
+        requires next { IsNextTypeImport self.old.world.now (next_of self.old.last_type) self.old.items.defs name.name id }
+        requires tables { AreTablesRight self.old.world.now self.old.last_type self.old.items.defs self.old.maps }
+        ensures world { self.new.world ≡ self.old.world }
+        ensures next { OnOk result (self.new.last_type ≡ Some id) }
+        ensures extends { Extends self.old.items self.new.items }
+        ensures grows { OnOk result (Grows self.old.world.now self.old.items.defs self.new.items.defs (Imported (root_type name.name) ∷ [])) }
+        ensures tables { AreTablesRight self.old.world.now self.new.last_type self.new.items.defs self.new.maps }
         ensures cause { IfErr result IsRefusal }
     {
         let world = self.world;
         let alloc = self.items.allocator();
-        let name = ExternName {
-            name: name.clone(alloc)?,
-            version_suffix: None,
-        };
         let index = encode_definition(alloc, self, &world.resolve, id)?;
         let index = self.items.import_type(name, index)?;
-        record_type_index(self, id, index)?;
+        self.record_world_type(id, index)?;
         Ok(())
+    }
+
+    /// Imports a resource of the world under its name.
+    fn import_resource(&mut self, name: ExternName, id: TypeId) -> Result<(), BuildFault>
+        requires valid { IsWorld self.old.world.now }
+        requires present { id.index < length self.old.world.now.resolve.types }
+        requires resource { is_resource (kind_at self.old.world.now.resolve.types id.index) ≡ true }
+        requires plain { name.version_suffix ≡ None }
+        requires next { IsNextTypeImport self.old.world.now (next_of self.old.last_type) self.old.items.defs name.name id }
+        requires tables { AreTablesRight self.old.world.now self.old.last_type self.old.items.defs self.old.maps }
+        ensures world { self.new.world ≡ self.old.world }
+        ensures next { OnOk result (self.new.last_type ≡ Some id) }
+        ensures extends { Extends self.old.items self.new.items }
+        ensures grows { OnOk result (Grows self.old.world.now self.old.items.defs self.new.items.defs (Imported (root_type name.name) ∷ [])) }
+        ensures tables { AreTablesRight self.old.world.now self.new.last_type self.new.items.defs self.new.maps }
+        ensures cause { IfErr result IsRefusal }
+    {
+        let index = self.items.import_resource(name)?;
+        self.record_world_type(id, index)?;
+        Ok(())
+    }
+
+    /// Imports a type of the world under its name.
+    fn import_world_type(&mut self, name: &Text, id: TypeId) -> Result<(), BuildFault>
+        requires valid { IsWorld self.old.world.now }
+        requires present { id.index < length self.old.world.now.resolve.types }
+        requires next { IsNextTypeImport self.old.world.now (next_of self.old.last_type) self.old.items.defs name.now id }
+        requires tables { AreTablesRight self.old.world.now self.old.last_type self.old.items.defs self.old.maps }
+        ensures world { self.new.world ≡ self.old.world }
+        ensures next { OnOk result (self.new.last_type ≡ Some id) }
+        ensures extends { Extends self.old.items self.new.items }
+        ensures grows { OnOk result (Grows self.old.world.now self.old.items.defs self.new.items.defs (Imported (root_type name.now) ∷ [])) }
+        ensures tables { AreTablesRight self.old.world.now self.new.last_type self.new.items.defs self.new.maps }
+        ensures cause { IfErr result IsRefusal }
+    {
+        let world = self.world;
+        let name = ExternName {
+            name: name.clone(self.items.allocator())?,
+            version_suffix: None,
+        };
+        if is_resource(kind_of(world.resolve.types.as_slice(), id.index)) {
+            self.import_resource(name, id)
+        } else {
+            self.import_value_type(name, id)
+        }
     }
 
     /// Imports an item of the world, if it is a type.
     fn import_type_item(&mut self, key: &WorldKey, item: &WorldItem) -> Result<(), BuildFault>
         requires valid { IsWorld self.old.world.now }
         requires present { HasEntry self.old.world.now.resolve (key.now, item.now) }
-        requires next { IsNextType self.old.world.now self.old.items.defs (key.now, item.now) }
-        requires tables { AreTablesRight self.old.world.now self.old.items.defs self.old.maps }
+        requires next { IsNextType self.old.world.now (next_of self.old.last_type) self.old.items.defs (key.now, item.now) }
+        requires tables { AreTablesRight self.old.world.now self.old.last_type self.old.items.defs self.old.maps }
+        ensures next { OnOk result (next_of self.new.last_type ≡ next_after (next_of self.old.last_type) (key.now, item.now)) }
         ensures world { self.new.world ≡ self.old.world }
         ensures extends { Extends self.old.items self.new.items }
         ensures grows { OnOk result (Grows self.old.world.now self.old.items.defs self.new.items.defs (map (λ t. Imported (root_type t.0)) (world_type (key.now, item.now)))) }
-        ensures tables { AreTablesRight self.old.world.now self.new.items.defs self.new.maps }
+        ensures tables { AreTablesRight self.old.world.now self.new.last_type self.new.items.defs self.new.maps }
         ensures cause { IfErr result IsRefusal }
     {
         match (key, item) {
@@ -66,14 +151,16 @@ impl RootScope<'_, ComponentWorld> {
     pub(crate) fn import_types(&mut self) -> Result<(), BuildFault>
         requires valid { IsWorld self.old.world.now }
         requires first { imports_in self.old.items.defs ≡ 0 }
-        requires tables { AreTablesRight self.old.world.now self.old.items.defs self.old.maps }
+        requires tables { AreTablesRight self.old.world.now self.old.last_type self.old.items.defs self.old.maps }
         ensures world { self.new.world ≡ self.old.world }
         ensures extends { Extends self.old.items self.new.items }
         ensures grows { OnOk result (Grows self.old.world.now self.old.items.defs self.new.items.defs (map (λ t. Imported (root_type t.0)) (imported_types self.old.world.now))) }
-        ensures tables { AreTablesRight self.old.world.now self.new.items.defs self.new.maps }
+        ensures tables { AreTablesRight self.old.world.now self.new.last_type self.new.items.defs self.new.maps }
+        ensures passed { OnOk result (ArePassed self.old.world.now self.new.last_type) }
         ensures cause { IfErr result IsRefusal }
     {
         let world = self.world;
+        self.last_type = None;
         for (key, item) in world.items().imports.iter() {
             self.import_type_item(key, item)?;
         }

@@ -8,6 +8,7 @@ use Rattle.comp_bytes.specs.ItemIndices.{IsAt}
 use Rattle.comp_bytes.specs.Spaces.{items_in}
 use Rattle.comp_bytes.proofs.ItemIndices.{IsAt-append, in_range}
 use Rattle.comp_bytes.specs.declared.canon.CanonicalOption.{CanonicalOption}
+use Rattle.comp_bytes.specs.declared.canon.Intrinsic.TheVariants as intrinsics
 use Rattle.comp_bytes.specs.declared.canon.CanonicalOption.TheVariants as options
 use Rattle.comp_bytes.specs.declared.space.Space.{Space}
 use Rattle.comp_bytes.specs.declared.space.Space.TheVariants as spaces
@@ -17,14 +18,14 @@ use Rattle.comp_bytes.specs.declared.def.Def.{Def}
 use Rattle.comp_bytes.specs.declared.def.Def.TheVariants as defs
 use Rattle.comp_bytes.specs.declared.def.Item.TheVariants as items
 use Rattle.standard_kinds.specs.declared.kinds.ExportKind.TheVariants as kinds
-use Rattle.comp_trees.specs.Trees.{Origin, FunctionTree}
+use Rattle.comp_trees.specs.Trees.{Origin, Resource, FunctionTree}
 use Rattle.comp_trees.specs.DefinedTrees.{TypeTree, OfFunctions, OfOthers}
 use Rattle.comp_trees.specs.DefinedScopes.{Denotes}
 use Rattle.comp_trees.specs.Inventories.{TypeEntry, entry_tree, types_made, inventory, scope_of}
 use Rattle.comp_trees.proofs.InventoryGrowth.{denotes_kept, function_kept, scope_counted, denotes_made, function_made}
 use Rattle.comp_trees.proofs.Counting.{functions-counted}
 use Rattle.comp_builder.specs.Built.{Built, and_then}
-use Rattle.comp_terms.specs.Terms.{CoreExport, TermOption, Term, IsFunctionType, IsImportedFunction, IsInstanceOf, IsExported, IsOption, IsLowering, IsLifting, Is, imports_in}
+use Rattle.comp_terms.specs.Terms.{CoreExport, TermOption, Term, IsFunctionType, IsResource, IsImportedFunction, IsInstanceOf, IsExported, IsOption, IsLowering, IsDropping, IsLifting, Is, imports_in}
 use Rattle.comp_terms.specs.Terms as terms
 
 -- definitions were added at the end
@@ -44,6 +45,9 @@ module _ {old new : List Def} (g : Longer old new) where
 
   pub imported_function-kept : {i : ℕ} {origin : Origin} {type : FunctionTree} → IsImportedFunction old i origin type → IsImportedFunction new i origin type
   imported_function-kept {i} {origin} {type} h = record { is = ap (λ l. slice_get (inventory l).functions i) g.grown ∙ function_kept old g.more i (record { origin = Some origin; type = OfFunctions type }) h.is }
+
+  pub resource-kept : {i : ℕ} {resource : Resource} → IsResource old i resource → IsResource new i resource
+  resource-kept h = record { denotes = denotes-kept h.denotes }
 
   pub instance-kept : {i number : ℕ} → IsInstanceOf old i number → IsInstanceOf new i number
   instance-kept h = record { arguments = h.arguments; made = at-kept h.made }
@@ -66,6 +70,9 @@ module _ (old new : List Def) (g : Longer old new) where
   lowering-kept {i} {origin} {type} {os} h =
       record { function = h.function; written = h.written; made = at-kept g h.made; of = imported_function-kept g h.of; with_options = options-kept h.written os h.with_options }
 
+  dropping-kept : {i : ℕ} {resource : Resource} → IsDropping old i resource → IsDropping new i resource
+  dropping-kept h = record { type = h.type; made = at-kept g h.made; of = resource-kept g h.of }
+
   lifting-kept : {i : ℕ} {e : CoreExport} {os : List TermOption} {type : FunctionTree} → IsLifting old i e os type → IsLifting new i e os type
   lifting-kept {i} {e} {os} {type} h = record {
     core = h.core;
@@ -83,6 +90,7 @@ module _ (old new : List Def) (g : Longer old new) where
   term-kept spaces.Func i (terms.ImportedFunction origin type) h = imported_function-kept g h
   term-kept spaces.CoreInstance i (terms.InstanceOf number) h = instance-kept g h
   term-kept spaces.CoreFunc i (terms.Lowering origin type os) h = lowering-kept h
+  term-kept spaces.CoreFunc i (terms.Dropping resource) h = dropping-kept h
   term-kept spaces.Func i (terms.Lifting entry os type) h = lifting-kept h
   term-kept space i (terms.Exported e) h = (h.0, exported-kept g h.1)
   term-kept space i t h = h
@@ -100,6 +108,7 @@ term_in_range ds spaces.Type index (terms.FunctionType type) h = type_in_range d
 term_in_range ds spaces.Func index (terms.ImportedFunction origin type) h = function_in_range h
 term_in_range ds spaces.CoreInstance index (terms.InstanceOf number) h = in_range h.made
 term_in_range ds spaces.CoreFunc index (terms.Lowering origin type os) h = in_range h.made
+term_in_range ds spaces.CoreFunc index (terms.Dropping resource) h = in_range h.made
 term_in_range ds spaces.Func index (terms.Lifting entry os type) h = in_range h.made
 term_in_range ds space index (terms.Exported e) h = subst (λ s. index < items_in s ds) (sym h.0) (in_range h.1.made)
 term_in_range ds space index t h = absurd h
@@ -111,6 +120,11 @@ pub lowers : (old new : List Def) (index function : ℕ) (written : List Canonic
 lowers old new index function written grown at origin type os of with_options =
     let g : Longer old new = record { more = defs.Item (items.Lower function written) ∷ []; grown = grown } in
     record { function = function; written = written; made = at; of = imported_function-kept g of; with_options = options-kept old new g written os with_options }
+
+pub drops : (old new : List Def) (index type : ℕ) → new ≡ old ++ defs.Item (items.Intrinsic (intrinsics.ResourceDrop type)) ∷ [] → IsAt new spaces.CoreFunc index (defs.Item (items.Intrinsic (intrinsics.ResourceDrop type))) →
+    (resource : Resource) → IsResource old type resource → IsDropping new index resource
+drops old new index type grown at resource of =
+    let g : Longer old new = record { more = defs.Item (items.Intrinsic (intrinsics.ResourceDrop type)) ∷ []; grown = grown } in record { type = type; made = at; of = resource-kept g of }
 
 pub lifts : (old new : List Def) (index core kind : ℕ) (written : List CanonicalOption) → new ≡ old ++ defs.Item (items.Lift core written kind) ∷ [] → IsAt new spaces.Func index (defs.Item (items.Lift core written kind)) →
     (entry : CoreExport) (os : List TermOption) (type : FunctionTree) → entry.kind ≡ kinds.Func → IsExported old core entry → AllZip (IsOption old) written os → IsFunctionType old kind type → IsLifting new index entry os type

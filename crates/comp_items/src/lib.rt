@@ -10,12 +10,14 @@
 //! as it was where it is refused (`Adds` of `comp_builder`).
 //!
 //! In reading order: `alias_key` (by what aliases are found), `items` (the fields), `core_items` (core modules, core
-//! instances, and what these export), `types` (types), `functions` (imports, lowerings, lifts and exports).
+//! instances, and what these export), `types` (types), `functions` (imports, lowerings, lifts and exports),
+//! `intrinsics` (built-in functions).
 #![tactic(auto)]
 
 mod alias_key;
 mod core_items;
 mod functions;
+mod intrinsics;
 mod items;
 mod types;
 

@@ -13,7 +13,7 @@ use Rattle.comp_worlds.specs.Worlds.{core_imports}
 use Rattle.wit_data.specs.declared.worlds.WorldKey.{WorldKey}
 use Rattle.comp_worlds.specs.declared.world.ComponentWorld.{ComponentWorld}
 use Rattle.comp_state.specs.Causes.{IsEncoded, LacksEncoding}
-use Rattle.comp_links.specs.Roles.{import_encoding, export_encoding}
+use Rattle.comp_links.specs.Roles.{import_encoding, IsEncodedImport, export_encoding}
 use Rattle.comp_trees.specs.Inventories.{inventory}
 use Rattle.comp_terms.specs.Terms.{imports_in}
 use Rattle.comp_terms.specs.Rules.{Grows, RightAfter, Landmark, ModuleIs, InstanceOf, landmarks, imports_marked, exports_marked, expected, IsUnnamed, IsBuilt}
@@ -61,7 +61,7 @@ lacks_none (Some x) h e = true≢false (ap is_some e)
 -- where everything has an encoding, nothing lacks one
 pub encoded_lacks : (w : ComponentWorld) → IsEncoded w → (place : List ℕ) → LacksEncoding w place → ⊥
 encoded_lacks w h place (inl l) =
-    lacks_none (import_encoding w l.given.role) (AllByRecursion-contains (λ (i : CoreImport). IsSome (import_encoding w i.role)) (core_imports w) l.given h.imports l.present) l.none
+    lacks_none (import_encoding w l.given.role) (AllByRecursion-contains (λ (i : CoreImport). IsEncodedImport w i.role) (core_imports w) l.given h.imports l.present l.needs) l.none
 encoded_lacks w h place (inr l) = lacks_none (export_encoding w l.key) (AllByRecursion-contains (λ (k : WorldKey). IsSome (export_encoding w k)) w.main_exports l.key h.exports l.present) l.none
 
 -- the empty list has no imports

@@ -18,7 +18,8 @@ use Rattle.comp_roles.specs.declared.imports.Import.{Import}
 use Rattle.comp_roles.specs.declared.imports.ImportInstance.{ImportInstance}
 use Rattle.comp_worlds.specs.Worlds.{IsWorld, IsImportRole}
 use Rattle.comp_worlds.specs.declared.world.ComponentWorld.{ComponentWorld}
-use Rattle.comp_links.specs.Targets.{Main, UserModule, Target, OfRoot, Lowered}
+use Rattle.comp_links.specs.Targets.{Main, UserModule, Target, OfRoot, Lowered, Dropped}
+use Rattle.wit_data.specs.declared.ids.TypeId.{TypeId}
 use Rattle.comp_links.specs.Links.{link_of}
 use Rattle.comp_terms.specs.Terms.{CoreExport, Term, IsInstanceOf, Is}
 use Rattle.comp_terms.specs.Terms as terms
@@ -70,62 +71,69 @@ module _ {w : ComponentWorld} {old new : List Def} (g : Longer old new) where
 -- ---- the look-ups hold what they held
 
 pub sources-kept : {s : ImportSources} {old new : Built} → Extends old new → AreSources s old.defs → AreSources s new.defs
-sources-kept g h = record { valid = h.valid; imports = FindsImports-kept (longer g) h.imports; used = h.used }
+sources-kept {s} {old} {new} g h = record {
+  valid = h.valid;
+  imports = FindsImports-kept (longer g) h.imports;
+  used = h.used;
+  types = record { last = h.types.last; tables = tables_kept s.world.now h.types.last old new s.types.now g h.types.tables; passed = h.types.passed };
+}
 
-pub exports-kept : {w : ComponentWorld} {e : MainExports} {old new : Built} {maps now : TypeEncodingMaps} → Extends old new → AreTablesRight w new.defs now → AreExports w e old.defs maps → AreExports w e new.defs now
-exports-kept g t h = record { valid = h.valid; named = h.named; made = instance-kept (longer g) h.made; tables = t }
+pub exports-kept : {w : ComponentWorld} {e : MainExports} {last : Option TypeId} {old new : Built} {maps now : TypeEncodingMaps} → Extends old new → AreTablesRight w last new.defs now → AreExports w e last old.defs maps → AreExports w e last new.defs now
+exports-kept g t h = record { valid = h.valid; named = h.named; made = instance-kept (longer g) h.made; tables = t; passed = h.passed }
 
 main-kept : {old new : Built} {main : Option ℕ} → Extends old new → IsMain old.defs main → IsMain new.defs main
 main-kept g h = record { index = h.index; known = h.known; made = instance-kept (longer g) h.made }
 
 -- before the first step
-pub encoding-start : (w : ComponentWorld) (items : Built) (maps : TypeEncodingMaps) (functions : List (List ℕ × ℕ)) (core_names : List (List ℕ × List ℕ)) → IsWorld w → maps ≡ no_maps → FindsCoreNames w core_names → IsEncoding w items.defs maps Started functions core_names None
+pub encoding-start : (w : ComponentWorld) (items : Built) (maps : TypeEncodingMaps) (functions : List (List ℕ × ℕ)) (core_names : List (List ℕ × List ℕ)) → IsWorld w → maps ≡ no_maps → FindsCoreNames w core_names → IsEncoding w None items.defs maps Started functions core_names None
 encoding-start w items maps functions core_names ok none named = record {
   valid = ok;
   named = named;
-  tables = subst (λ m. AreTablesRight w items.defs m) (sym none) (tables_start w items.defs);
+  tables = subst (λ m. AreTablesRight w None items.defs m) (sym none) (tables_start w items.defs);
+  passed = λ s. absurd s;
   imports = λ s. absurd s;
   used = λ s. absurd s;
   made = λ e. cc;
 }
 
 -- the root has grown, and its tables are right
-pub encoding-with : {w : ComponentWorld} {old new : Built} {maps now : TypeEncodingMaps} {step : Step} {functions : List (List ℕ × ℕ)} {core_names : List (List ℕ × List ℕ)} {main : Option ℕ} → Extends old new → AreTablesRight w new.defs now →
-    IsEncoding w old.defs maps step functions core_names main → IsEncoding w new.defs now step functions core_names main
-encoding-with g t h = record { valid = h.valid; named = h.named; tables = t; imports = λ s. FindsImports-kept (longer g) (h.imports s); used = h.used; made = λ s. main-kept g (h.made s) }
+pub encoding-with : {w : ComponentWorld} {last after : Option TypeId} {old new : Built} {maps now : TypeEncodingMaps} {step : Step} {functions : List (List ℕ × ℕ)} {core_names : List (List ℕ × List ℕ)} {main : Option ℕ} → Extends old new → AreTablesRight w after new.defs now → (AreImported step → ArePassed w after) →
+    IsEncoding w last old.defs maps step functions core_names main → IsEncoding w after new.defs now step functions core_names main
+encoding-with g t p h = record { valid = h.valid; named = h.named; tables = t; passed = p; imports = λ s. FindsImports-kept (longer g) (h.imports s); used = h.used; made = λ s. main-kept g (h.made s) }
 
 -- the component has grown
-pub encoding-kept : {w : ComponentWorld} {old new : Built} {maps : TypeEncodingMaps} {step : Step} {functions : List (List ℕ × ℕ)} {core_names : List (List ℕ × List ℕ)} {main : Option ℕ} → Extends old new →
-    IsEncoding w old.defs maps step functions core_names main → IsEncoding w new.defs maps step functions core_names main
-encoding-kept {w} {old} {new} {maps} g h = encoding-with g (tables_kept w old new maps g h.tables) h
+pub encoding-kept : {w : ComponentWorld} {last : Option TypeId} {old new : Built} {maps : TypeEncodingMaps} {step : Step} {functions : List (List ℕ × ℕ)} {core_names : List (List ℕ × List ℕ)} {main : Option ℕ} → Extends old new →
+    IsEncoding w last old.defs maps step functions core_names main → IsEncoding w last new.defs maps step functions core_names main
+encoding-kept {w} {last} {old} {new} {maps} g h = encoding-with g (tables_kept w last old new maps g h.tables) h.passed h
 
 -- after the imports, and after the instance of main
-pub encoding-imported : {w : ComponentWorld} {old new : List Def} {maps now : TypeEncodingMaps} {step : Step} {before functions : List (List ℕ × ℕ)} {core_names : List (List ℕ × List ℕ)} {main : Option ℕ} → AreTablesRight w new now → FindsImports w new functions →
-    FindsUsed w functions → IsEncoding w old maps step before core_names main → IsEncoding w new now Imported functions core_names main
-encoding-imported t i u h = record { valid = h.valid; named = h.named; tables = t; imports = λ _. i; used = λ _. u; made = λ e. cc }
+pub encoding-imported : {w : ComponentWorld} {last after : Option TypeId} {old new : List Def} {maps now : TypeEncodingMaps} {step : Step} {before functions : List (List ℕ × ℕ)} {core_names : List (List ℕ × List ℕ)} {main : Option ℕ} → AreTablesRight w after new now → ArePassed w after → FindsImports w new functions →
+    FindsUsed w functions → IsEncoding w last old maps step before core_names main → IsEncoding w after new now Imported functions core_names main
+encoding-imported t p i u h = record { valid = h.valid; named = h.named; tables = t; passed = λ _. p; imports = λ _. i; used = λ _. u; made = λ e. cc }
 
-pub encoding-instantiated : {w : ComponentWorld} {old new : Built} {maps : TypeEncodingMaps} {step : Step} {functions : List (List ℕ × ℕ)} {core_names : List (List ℕ × List ℕ)} {main : Option ℕ} (index : ℕ) → Extends old new → AreImported step →
-    IsInstanceOf new.defs index 0 → IsEncoding w old.defs maps step functions core_names main → IsEncoding w new.defs maps Instantiated functions core_names (Some index)
-encoding-instantiated {w} {old} {new} {maps} index g s made h = record {
+pub encoding-instantiated : {w : ComponentWorld} {last : Option TypeId} {old new : Built} {maps : TypeEncodingMaps} {step : Step} {functions : List (List ℕ × ℕ)} {core_names : List (List ℕ × List ℕ)} {main : Option ℕ} (index : ℕ) → Extends old new → AreImported step →
+    IsInstanceOf new.defs index 0 → IsEncoding w last old.defs maps step functions core_names main → IsEncoding w last new.defs maps Instantiated functions core_names (Some index)
+encoding-instantiated {w} {last} {old} {new} {maps} index g s made h = record {
   valid = h.valid;
   named = h.named;
-  tables = tables_kept w old new maps g h.tables;
+  tables = tables_kept w last old new maps g h.tables;
+  passed = λ _. h.passed s;
   imports = λ _. FindsImports-kept (longer g) (h.imports s);
   used = λ _. h.used s;
   made = λ _. record { index = index; known = refl; made = made };
 }
 
 -- what the steps read of a state
-pub sources_of : (s : ImportSources) {ds : List Def} {maps : TypeEncodingMaps} {step : Step} {core_names : List (List ℕ × List ℕ)} {main : Option ℕ} → IsEncoding s.world.now ds maps step s.functions.now core_names main → AreImported step → AreSources s ds
-sources_of s h i = record { valid = h.valid; imports = h.imports i; used = h.used i }
+pub sources_of : (s : ImportSources) {last : Option TypeId} {ds : List Def} {step : Step} {core_names : List (List ℕ × List ℕ)} {main : Option ℕ} → IsEncoding s.world.now last ds s.types.now step s.functions.now core_names main → AreImported step → AreSources s ds
+sources_of s {last} h i = record { valid = h.valid; imports = h.imports i; used = h.used i; types = record { last = last; tables = h.tables; passed = h.passed i } }
 
-pub exports_of : (w : ComponentWorld) (e : MainExports) {ds : List Def} {maps : TypeEncodingMaps} {step : Step} {functions : List (List ℕ × ℕ)} {main : Option ℕ} → IsEncoding w ds maps step functions e.core_names.now main → step ≡ Instantiated → main ≡ Some e.instance →
-    AreExports w e ds maps
-exports_of w e {ds} h i known =
+pub exports_of : (w : ComponentWorld) (e : MainExports) {last : Option TypeId} {ds : List Def} {maps : TypeEncodingMaps} {step : Step} {functions : List (List ℕ × ℕ)} {main : Option ℕ} → IsEncoding w last ds maps step functions e.core_names.now main → step ≡ Instantiated → main ≡ Some e.instance →
+    AreExports w e last ds maps
+exports_of w e {last} {ds} h i known =
     let m = h.made i in
-    record { valid = h.valid; named = h.named; made = subst (λ n. IsInstanceOf ds n 0) (same_Some m.index e.instance (sym m.known ∙ known)) m.made; tables = h.tables }
+    record { valid = h.valid; named = h.named; made = subst (λ n. IsInstanceOf ds n 0) (same_Some m.index e.instance (sym m.known ∙ known)) m.made; tables = h.tables; passed = h.passed (subst AreImported (sym i) tt) }
 
-pub main_known : {w : ComponentWorld} {ds : List Def} {maps : TypeEncodingMaps} {step : Step} {functions : List (List ℕ × ℕ)} {core_names : List (List ℕ × List ℕ)} {main : Option ℕ} → IsEncoding w ds maps step functions core_names main → step ≡ Instantiated → IsSome main
+pub main_known : {w : ComponentWorld} {last : Option TypeId} {ds : List Def} {maps : TypeEncodingMaps} {step : Step} {functions : List (List ℕ × ℕ)} {core_names : List (List ℕ × List ℕ)} {main : Option ℕ} → IsEncoding w last ds maps step functions core_names main → step ≡ Instantiated → IsSome main
 main_known h i = let m = h.made i in subst (λ o. IsSome o) (sym m.known) refl
 
 -- ---- the entries of an inline instance are core functions
@@ -141,8 +149,16 @@ entries_in_range w ds (e ∷ es) (f ∷ fs) r h = (one e f.1 r.0 h.0.serves, ent
     by_kind kinds.Global index text (terms.Lowering origin type os) is asked = absurd is
     by_kind kind index text t is asked = absurd asked
 
+    dropped : (kind : ExportKind) (index : ℕ) (id : TypeId) (t : Term) → Is ds (kind_space kind) index t → IsTermFor w (Dropped id) t → (kind ≡ kinds.Func) × (index < items_in spaces.CoreFunc ds)
+    dropped kinds.Func index id (terms.Dropping resource) is asked = (refl, in_range is.made)
+    dropped kinds.Table index id (terms.Dropping resource) is asked = absurd is
+    dropped kinds.Memory index id (terms.Dropping resource) is asked = absurd is
+    dropped kinds.Global index id (terms.Dropping resource) is asked = absurd is
+    dropped kind index id t is asked = absurd asked
+
     one : (e : CoreInlineExport) (role : Import) → IsImportRole w role → IsItemFor w ds (kind_space e.kind) e.index (link_of w Main role) → IsEntry ds e
     one e (imports.WorldFunc (keys.Name text) function abi) r h = let b = by_kind e.kind e.index text h.term h.is h.asked in record { kind = b.0; scoped = b.1 }
+    one e (imports.ImportedResourceDrop key interface id) r h = let b = dropped e.kind e.index id h.term h.is h.asked in record { kind = b.0; scoped = b.1 }
     one e role r h = absurd r
 entries_in_range w ds [] (f ∷ fs) r h = absurd h
 entries_in_range w ds (e ∷ es) [] r h = absurd h

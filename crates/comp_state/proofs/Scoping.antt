@@ -2,7 +2,9 @@
 use Rattle.std.proofs.Common.{◌≡◌, ℕ, ◌<◌, length, List, [], ◌∷◌, ◌++◌, sym, subst, Some, None}
 use Rattle.std.specs.List.{AllByRecursion, AllZip, flat_map}
 use Rattle.comp_bytes.specs.Spaces.{items_in, space_of, kind_space}
-use Rattle.comp_bytes.specs.References.{Reference, own, type_references, options_references, type_at}
+use Rattle.comp_bytes.specs.References.{Reference, own, type_references, options_references, intrinsic_references, type_at}
+use Rattle.comp_bytes.specs.declared.canon.Intrinsic.{Intrinsic}
+use Rattle.comp_bytes.specs.declared.canon.Intrinsic.TheVariants as intrinsics
 use Rattle.comp_bytes.specs.Scopes.{InScope, EachIn, DefScoped, Scoped, scope_of}
 use Rattle.comp_bytes.proofs.ItemIndices.{in_range}
 use Rattle.comp_bytes.specs.declared.canon.CanonicalOption.{CanonicalOption}
@@ -26,7 +28,7 @@ use Rattle.comp_trees.specs.Inventories as inventories
 use Rattle.comp_trees.proofs.InventoryGrowth.{scope_counted}
 use Rattle.comp_trees.proofs.KnownScopes.{known_defined, known_function_names}
 use Rattle.comp_items.proofs.Kept.{function_in_range}
-use Rattle.comp_terms.specs.Rules.{IsTypeRight, IsRight, RightAfter, IsEntry, IsBuilt}
+use Rattle.comp_terms.specs.Rules.{IsTypeRight, IsIntrinsicRight, IsRight, RightAfter, IsEntry, IsBuilt}
 
 abbrev Within : List Def → Reference → Type 0
 Within earlier = InScope (scope_of space_of earlier ∷ [])
@@ -54,6 +56,10 @@ type_within earlier (types.Func f) h = known_function_names (Within earlier) (in
 type_within earlier (types.Defined t) h = known_defined (Within earlier) (inventories.scope_of earlier) (type_named earlier) t h
 type_within earlier (types.Resource destructor) h = absurd h
 
+intrinsic_within : (earlier : List Def) (i : Intrinsic) → IsIntrinsicRight earlier i → AllByRecursion (Within earlier) (intrinsic_references i)
+intrinsic_within earlier (intrinsics.ResourceDrop type) h = (type_named earlier type h.is.denotes.within, tt)
+intrinsic_within earlier i h = absurd h
+
 within : (w : ComponentWorld) (earlier : List Def) (d : Def) → IsRight w earlier d → DefScoped (scope_of space_of earlier) d
 within w earlier (defs.Component inner) h = absurd h
 within w earlier (defs.Item (items.CoreModule bytes)) h = (tt, tt)
@@ -71,7 +77,7 @@ within w earlier (defs.Item (items.InstanceType t)) h = absurd h
 within w earlier (defs.Item (items.Lift core options kind)) h =
     ((h.0, subst (λ (o : List CanonicalOption). AllByRecursion (Within earlier) (options_references o ++ type_at kind)) (sym h.1) (type_named earlier kind h.2.is.denotes.within, tt)), tt)
 within w earlier (defs.Item (items.Lower function options)) h = ((function_in_range h.0.is, no_options earlier options h.1), tt)
-within w earlier (defs.Item (items.Intrinsic i)) h = absurd h
+within w earlier (defs.Item (items.Intrinsic i)) h = (intrinsic_within earlier i h, tt)
 within w earlier (defs.Item (items.Import name (descriptions.Func kind))) h = ((type_named earlier kind h.1.is.denotes.within, tt), tt)
 within w earlier (defs.Item (items.Import name (descriptions.TypeEqual index))) h = ((type_named earlier index h.1.0, tt), tt)
 within w earlier (defs.Item (items.Import name descriptions.SubResource)) h = (tt, tt)

@@ -38,7 +38,7 @@ use Rattle.comp_state.specs.declared.fault.StateFault.{StateFault}
 use Rattle.comp_links.specs.Targets.{Main}
 use Rattle.comp_links.specs.Lists.{Stated}
 use Rattle.comp_terms.specs.Planned.{IsEntryFor, IsArgumentFor}
-use Rattle.comp_links.specs.Roles.{import_encoding, is_named, is_any_import, uses_from, is_used}
+use Rattle.comp_links.specs.Roles.{IsEncodedImport, is_named, is_any_import, uses_from, is_used}
 use Rattle.comp_terms.specs.Rules.{Grows, Imported, landmarks}
 use Rattle.comp_imports.proofs.Elements.{contains_one, contains_none, contains_cons, contains_flat, AllByRecursion-join}
 use Rattle.comp_state.proofs.Refusals.{among_more}
@@ -274,7 +274,7 @@ pub no_modules : (ds : List Def) (names : List Stated) → landmarks ds ≡ map 
 no_modules ds names h = sym (length-filter (λ d. is_space spaces.CoreModule (space_of d)) ds) ∙ ap length (unmarked ds names h)
 
 fields_encoded : (w : ComponentWorld) (ds : List Def) (name : List ℕ) (es : List CoreInlineExport) (fs : List (List ℕ × Import)) → AllZip (IsEntryFor w Main ds) es fs →
-    AllByRecursion (λ (i : CoreImport). IsSome (import_encoding w i.role)) (map (λ f. record { module_name = name; field = f.0; role = f.1 }) fs)
+    AllByRecursion (λ (i : CoreImport). IsEncodedImport w i.role) (map (λ f. record { module_name = name; field = f.0; role = f.1 }) fs)
 fields_encoded w ds name [] [] h = tt
 fields_encoded w ds name (e ∷ es) (f ∷ fs) h = (h.0.encoded, fields_encoded w ds name es fs h.1)
 fields_encoded w ds name [] (f ∷ fs) h = absurd h
@@ -282,10 +282,10 @@ fields_encoded w ds name (e ∷ es) [] h = absurd h
 
 -- where each import is given its item, each has an encoding
 pub groups_encoded : (w : ComponentWorld) (ds : List Def) (as' : List CoreArgument) (gs : List (List ℕ × ImportInstance)) → AllZip (IsArgumentFor w Main ds) as' gs →
-    AllByRecursion (λ (i : CoreImport). IsSome (import_encoding w i.role)) (flat_map imports_from gs)
+    AllByRecursion (λ (i : CoreImport). IsEncodedImport w i.role) (flat_map imports_from gs)
 groups_encoded w ds [] [] h = tt
 groups_encoded w ds (a ∷ as') (g ∷ gs) h =
-    AllByRecursion-join (λ (i : CoreImport). IsSome (import_encoding w i.role)) (imports_from g) (flat_map imports_from gs)
+    AllByRecursion-join (λ (i : CoreImport). IsEncodedImport w i.role) (imports_from g) (flat_map imports_from gs)
     (fields_encoded w ds g.0 h.0.serves.entries (fields_of g.1) h.0.serves.each) (groups_encoded w ds as' gs h.1)
 groups_encoded w ds [] (g ∷ gs) h = absurd h
 groups_encoded w ds (a ∷ as') [] h = absurd h

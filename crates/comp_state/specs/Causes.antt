@@ -11,7 +11,7 @@ use Rattle.byte_encoding.specs.declared.fault.BuildFault.{BuildFault}
 use Rattle.byte_encoding.specs.declared.fault.BuildFault.TheVariants as build
 use Rattle.comp_state.specs.declared.fault.StateFault.{StateFault}
 use Rattle.comp_state.specs.declared.fault.StateFault.TheVariants as faults
-use Rattle.comp_links.specs.Roles.{needs_encoding, import_encoding, export_encoding, field_path}
+use Rattle.comp_links.specs.Roles.{needs_encoding, import_encoding, IsEncodedImport, export_encoding, field_path}
 
 -- a fault of the builder, as one of the state
 abbrev pub of_build : BuildFault → StateFault
@@ -47,7 +47,7 @@ LacksEncoding w place = LacksImportEncoding w (core_imports w) place ⊎ LacksEx
 abbrev pub IsCause : ComponentWorld → StateFault → Type 0
 IsCause w = IsCauseAmong w (core_imports w) w.main_exports
 
--- each core import and each required export has a string encoding
+-- each core import that needs a string encoding, and each required export, has one
 pub record IsEncoded (w : ComponentWorld) : Type 0 where
-  pub imports : AllByRecursion (λ i. IsSome (import_encoding w i.role)) (core_imports w)
+  pub imports : AllByRecursion (λ i. IsEncodedImport w i.role) (core_imports w)
   pub exports : AllByRecursion (λ key. IsSome (export_encoding w key)) w.main_exports

@@ -4,10 +4,11 @@ use Rattle.comp_lists.specs.Found.{found}
 use Rattle.comp_bytes.specs.declared.def.Def.{Def}
 use Rattle.wit_data.specs.declared.worlds.WorldKey.TheVariants as keys
 use Rattle.comp_worlds.specs.Worlds.{IsWorld, core_name_of}
+use Rattle.wit_data.specs.declared.ids.TypeId.{TypeId}
 use Rattle.comp_worlds.specs.declared.world.ComponentWorld.{ComponentWorld}
 use Rattle.comp_terms.specs.Terms.{IsInstanceOf}
 use Rattle.wit_types.specs.declared.maps.TypeEncodingMaps.{TypeEncodingMaps}
-use Rattle.comp_imports.specs.RootScopes.{AreTablesRight}
+use Rattle.comp_imports.specs.RootScopes.{AreTablesRight, ArePassed}
 use Rattle.comp_imports.specs.Imports.{FindsImports, FindsUsed}
 use Rattle.comp_state.specs.Encoding.{AreImported}
 use Rattle.comp_state.specs.declared.state.Step.{Step}
@@ -19,18 +20,26 @@ use Rattle.comp_state.specs.declared.exports.MainExports.{MainExports}
 pub record FindsCoreNames (w : ComponentWorld) (core_names : List (List ℕ × List ℕ)) : Type 0 where
   pub each : (text : List ℕ) → found text core_names ≡ core_name_of w (keys.Name text)
 
+-- the tables of types are right, and each type that the world imports is in them
+pub record KnowsTypes (w : ComponentWorld) (ds : List Def) (maps : TypeEncodingMaps) : Type 0 where
+  pub last : Option TypeId
+  pub tables : AreTablesRight w last ds maps
+  pub passed : ArePassed w last
+
 -- what the imports of main are given is there
 pub record AreSources (s : ImportSources) (ds : List Def) : Type 0 where
   pub valid : IsWorld s.world.now
   pub imports : FindsImports s.world.now ds s.functions.now
   pub used : FindsUsed s.world.now s.functions.now
+  pub types : KnowsTypes s.world.now ds s.types.now
 
 -- what root functions are lifted from is there, and the tables of types are right
-pub record AreExports (w : ComponentWorld) (e : MainExports) (ds : List Def) (maps : TypeEncodingMaps) : Type 0 where
+pub record AreExports (w : ComponentWorld) (e : MainExports) (last : Option TypeId) (ds : List Def) (maps : TypeEncodingMaps) : Type 0 where
   pub valid : IsWorld w
   pub named : FindsCoreNames w e.core_names.now
   pub made : IsInstanceOf ds e.instance 0
-  pub tables : AreTablesRight w ds maps
+  pub tables : AreTablesRight w last ds maps
+  pub passed : ArePassed w last
 
 -- main's instance
 pub record IsMain (ds : List Def) (main : Option ℕ) : Type 0 where
@@ -39,10 +48,11 @@ pub record IsMain (ds : List Def) (main : Option ℕ) : Type 0 where
   pub made : IsInstanceOf ds index 0
 
 -- the world is a valid one, and the tables and look-ups hold what the steps so far have made
-pub record IsEncoding (w : ComponentWorld) (ds : List Def) (maps : TypeEncodingMaps) (step : Step) (functions : List (List ℕ × ℕ)) (core_names : List (List ℕ × List ℕ)) (main : Option ℕ) : Type 0 where
+pub record IsEncoding (w : ComponentWorld) (last : Option TypeId) (ds : List Def) (maps : TypeEncodingMaps) (step : Step) (functions : List (List ℕ × ℕ)) (core_names : List (List ℕ × List ℕ)) (main : Option ℕ) : Type 0 where
   pub valid : IsWorld w
   pub named : FindsCoreNames w core_names
-  pub tables : AreTablesRight w ds maps
+  pub tables : AreTablesRight w last ds maps
+  pub passed : AreImported step → ArePassed w last
   pub imports : AreImported step → FindsImports w ds functions
   pub used : AreImported step → FindsUsed w functions
   pub made : step ≡ Instantiated → IsMain ds main

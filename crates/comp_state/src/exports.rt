@@ -103,12 +103,13 @@ impl MainExports<'_> {
         root: &mut RootScope<'_, ComponentWorld>,
         key: &WorldKey,
     ) -> Result<u32, BuildFault>
-        requires exports { AreExports root.old.world.now self.now root.old.items.defs root.old.maps }
+        requires exports { AreExports root.old.world.now self.now root.old.last_type root.old.items.defs root.old.maps }
         requires present { IsSome (core_name_of root.old.world.now key.now) }
         requires encoded { IsSome (export_encoding root.old.world.now key.now) }
         ensures world { root.new.world ≡ root.old.world }
         ensures extends { Extends root.old.items root.new.items }
-        ensures tables { AreTablesRight root.old.world.now root.new.items.defs root.new.maps }
+        ensures next { root.new.last_type ≡ root.old.last_type }
+        ensures tables { AreTablesRight root.old.world.now root.old.last_type root.new.items.defs root.new.maps }
         ensures grows { OnOk result (Grows root.old.world.now root.old.items.defs root.new.items.defs []) }
         ensures lifted { IfOk result (λ index. IsRequiredLift root.old.world.now root.new.items.defs index key.now) }
         ensures cause { IfErr result IsRefusal }
@@ -133,11 +134,12 @@ impl MainExports<'_> {
         root: &mut RootScope<'_, ComponentWorld>,
         key: &WorldKey,
     ) -> Result<u32, StateFault>
-        requires exports { AreExports root.old.world.now self.now root.old.items.defs root.old.maps }
+        requires exports { AreExports root.old.world.now self.now root.old.last_type root.old.items.defs root.old.maps }
         requires present { IsSome (core_name_of root.old.world.now key.now) }
         ensures world { root.new.world ≡ root.old.world }
         ensures extends { Extends root.old.items root.new.items }
-        ensures tables { AreTablesRight root.old.world.now root.new.items.defs root.new.maps }
+        ensures next { root.new.last_type ≡ root.old.last_type }
+        ensures tables { AreTablesRight root.old.world.now root.old.last_type root.new.items.defs root.new.maps }
         ensures grows { OnOk result (Grows root.old.world.now root.old.items.defs root.new.items.defs []) }
         ensures lifted { IfOk result (λ index. IsRequiredLift root.old.world.now root.new.items.defs index key.now) }
         ensures cause { IfErr result (IsCauseAmong root.old.world.now [] (key.now ∷ [])) }
@@ -153,11 +155,12 @@ impl MainExports<'_> {
         root: &mut RootScope<'_, ComponentWorld>,
         key: &WorldKey,
     ) -> Result<(), StateFault>
-        requires exports { AreExports root.old.world.now self.now root.old.items.defs root.old.maps }
+        requires exports { AreExports root.old.world.now self.now root.old.last_type root.old.items.defs root.old.maps }
         requires present { IsSome (core_name_of root.old.world.now key.now) }
         ensures world { root.new.world ≡ root.old.world }
         ensures extends { Extends root.old.items root.new.items }
-        ensures tables { AreTablesRight root.old.world.now root.new.items.defs root.new.maps }
+        ensures next { root.new.last_type ≡ root.old.last_type }
+        ensures tables { AreTablesRight root.old.world.now root.old.last_type root.new.items.defs root.new.maps }
         ensures grows { OnOk result (Grows root.old.world.now root.old.items.defs root.new.items.defs (named_export (name_of_key key.now) ∷ [])) }
         ensures encoded { OnOk result (IsSome (export_encoding root.old.world.now key.now)) }
         ensures cause { IfErr result (IsCauseAmong root.old.world.now [] (key.now ∷ [])) }
@@ -176,10 +179,11 @@ impl MainExports<'_> {
         &self,
         root: &mut RootScope<'_, ComponentWorld>,
     ) -> Result<(), StateFault>
-        requires { AreExports root.old.world.now self.now root.old.items.defs root.old.maps }
+        requires { AreExports root.old.world.now self.now root.old.last_type root.old.items.defs root.old.maps }
         ensures world { root.new.world ≡ root.old.world }
         ensures extends { Extends root.old.items root.new.items }
-        ensures tables { AreTablesRight root.old.world.now root.new.items.defs root.new.maps }
+        ensures next { root.new.last_type ≡ root.old.last_type }
+        ensures tables { AreTablesRight root.old.world.now root.old.last_type root.new.items.defs root.new.maps }
         ensures grows { OnOk result (Grows root.old.world.now root.old.items.defs root.new.items.defs (exports_marked root.old.world.now)) }
         ensures encoded { OnOk result (AllByRecursion (λ key. IsSome (export_encoding root.old.world.now key)) root.old.world.now.main_exports) }
         ensures cause { IfErr result (IsCause root.old.world.now) }

@@ -8,8 +8,8 @@ ghost use Rattle.comp_bytes.specs.Spaces.{kind_space};
 ghost use Rattle.comp_bytes.specs.declared.space.Space.TheVariants.{CoreFunc};
 ghost use Rattle.comp_items.specs.Items.{Extends};
 ghost use Rattle.comp_links.specs.Links.{link_of};
-ghost use Rattle.comp_links.specs.Roles.{import_encoding, field_path};
-ghost use Rattle.comp_links.specs.Targets.{Main, OfRoot, Lowered};
+ghost use Rattle.comp_links.specs.Roles.{IsEncodedImport, field_path};
+ghost use Rattle.comp_links.specs.Targets.{Main, OfRoot, Lowered, Dropped};
 ghost use Rattle.comp_lists.specs.Found.{found};
 ghost use Rattle.comp_roles.specs.CoreImports.{imports_from};
 ghost use Rattle.comp_roles.specs.Functions.{of_function};
@@ -19,18 +19,20 @@ ghost use Rattle.comp_state.specs.Causes.{IsCause, IsCauseAmong};
 ghost use Rattle.comp_state.specs.Tables.{AreSources};
 ghost use Rattle.comp_terms.specs.Planned.{IsItemFor, IsEntryFor, IsInlineInstanceFor, IsArgumentFor};
 ghost use Rattle.comp_terms.specs.Rules.{Grows};
-ghost use Rattle.comp_worlds.specs.Worlds.{core_imports};
+ghost use Rattle.comp_worlds.specs.Worlds.{IsResource, core_imports};
 ghost use Rattle.wit_data.specs.declared.worlds.WorldKey.TheVariants as keys;
 
 use crate::fault::StateFault;
 use byte_encoding::BuildFault;
 use comp_bytes::{CoreArgument, CoreInlineExport};
+use comp_imports::resource_index;
 use comp_items::ComponentItems;
 use comp_lists::{Keyed, Seq, Text};
 use comp_worlds::{ComponentWorld, FunctionKey, Import, ImportInstance};
 use standard_kinds::{ExportKind, StringEncoding};
 use std::alloc::{AllocError, Global};
-use wit_data::WorldKey;
+use wit_data::{TypeId, WorldKey};
+use wit_types::TypeEncodingMaps;
 
 /// Whether a table has the string encoding of a function, by the name of its key and its own.
 pub(crate) fn is_encoded(
@@ -58,11 +60,13 @@ fn path_of_import(alloc: Global, module: &Text, field: &Text) -> Result<Text, Al
     Ok(Text::from_string(place))
 }
 
-/// What the imports of main are given: functions of the world, and the root functions that were imported, by their names.
+/// What the imports of main are given: functions of the world, the root functions that were imported, by their names, and
+/// the types that were met.
 #[derive(Clone, Copy)]
 pub(crate) struct ImportSources<'a> {
     pub(crate) world: &'a ComponentWorld,
     pub(crate) functions: &'a Keyed<Text, u32>,
+    pub(crate) types: &'a TypeEncodingMaps,
 }
 
 impl ImportSources<'_> {
@@ -81,6 +85,20 @@ impl ImportSources<'_> {
         Ok(index)
     }
 
+    /// Makes the drop of handles of a resource of the world.
+    fn drop_resource(&self, component: &mut ComponentItems, id: TypeId) -> Result<u32, BuildFault>
+        requires sources { AreSources self.now component.old.defs }
+        requires resource { IsResource self.now.world.now.resolve.types id.index }
+        ensures extends { Extends component.old component.new }
+        ensures grows { OnOk result (Grows self.now.world.now component.old.defs component.new.defs []) }
+        ensures dropped { IfOk result (λ index. IsItemFor self.now.world.now component.new.defs CoreFunc index (Dropped id)) }
+        ensures cause { IfErr result IsRefusal }
+    {
+        let ty = resource_index(self.types, id).unwrap();
+        let index = component.drop_resource(ty)?;
+        Ok(index)
+    }
+
     /// What an import of main is given: the kind and the index of a core item.
     pub(crate) fn materialize(
         &self,
@@ -94,7 +112,7 @@ impl ImportSources<'_> {
         ensures extends { Extends component.old component.new }
         ensures grows { OnOk result (Grows self.now.world.now component.old.defs component.new.defs []) }
         ensures made { IfOk result (λ item. IsItemFor self.now.world.now component.new.defs (kind_space item.0) item.1 (link_of self.now.world.now Main import.now)) }
-        ensures encoded { OnOk result (IsSome (import_encoding self.now.world.now import.now)) }
+        ensures encoded { OnOk result (IsEncodedImport self.now.world.now import.now) }
         ensures cause { IfErr result (IsCauseAmong self.now.world.now (record { module_name = «module».now; field = field.now; role = import.now } ∷ []) []) }
     {
         match import {
@@ -106,6 +124,10 @@ impl ImportSources<'_> {
                     return Err(StateFault::NoEncoding { place });
                 }
                 let index = self.lower_function(component, name)?;
+                Ok((ExportKind::Func, index))
+            }
+            Import::ImportedResourceDrop(_, _, id) => {
+                let index = self.drop_resource(component, *id)?;
                 Ok((ExportKind::Func, index))
             }
             _ => unreachable!(),

@@ -7,7 +7,7 @@ ghost use Rattle.comp_builder.specs.Built.{nothing_built};
 ghost use Rattle.comp_bytes.specs.Spaces.{kind_space};
 ghost use Rattle.comp_items.specs.Items.{Extends};
 ghost use Rattle.comp_links.specs.Links.{link_of};
-ghost use Rattle.comp_links.specs.Roles.{import_encoding, export_encoding};
+ghost use Rattle.comp_links.specs.Roles.{IsEncodedImport, export_encoding};
 ghost use Rattle.comp_links.specs.Targets.{Main};
 ghost use Rattle.comp_state.specs.Causes.{IsCause, IsCauseAmong};
 ghost use Rattle.comp_state.specs.Encoding.{AreImported, IsFirstModule, IsRequiredLift};
@@ -78,7 +78,7 @@ impl<'a> Model for EncodingState<'a> {
 
     ghost view = { λ s. record { world = s.root.world.now; built = s.root.items; step = s.step } };
 
-    ghost invariant = { λ s. IsEncoding s.root.world.now s.root.items.defs s.root.maps s.step s.functions s.core_names s.main };
+    ghost invariant = { λ s. IsEncoding s.root.world.now s.root.last_type s.root.items.defs s.root.maps s.step s.functions s.core_names s.main };
 }
 
 impl<'a> EncodingState<'a> {
@@ -159,12 +159,13 @@ impl EncodingState<'_> {
         ensures extends { Extends self.old.built self.new.built }
         ensures grows { OnOk result (Grows self.old.world self.old.built.defs self.new.built.defs []) }
         ensures made { IfOk result (λ item. IsItemFor self.old.world self.new.built.defs (kind_space item.0) item.1 (link_of self.old.world Main import.now)) }
-        ensures encoded { OnOk result (IsSome (import_encoding self.old.world import.now)) }
+        ensures encoded { OnOk result (IsEncodedImport self.old.world import.now) }
         ensures cause { IfErr result (IsCauseAmong self.old.world (record { module_name = «module».now; field = field.now; role = import.now } ∷ []) []) }
     {
         let sources = ImportSources {
             world: self.root.world,
             functions: &self.functions,
+            types: &self.root.maps,
         };
         sources.materialize(&mut self.root.items, module, field, import)
     }
@@ -177,12 +178,13 @@ impl EncodingState<'_> {
         ensures step { OnOk result (self.new.step ≡ Instantiated) }
         ensures extends { Extends self.old.built self.new.built }
         ensures grows { OnOk result (Grows self.old.world self.old.built.defs self.new.built.defs (InstanceOf 0 ∷ [])) }
-        ensures encoded { OnOk result (AllByRecursion (λ i. IsSome (import_encoding self.old.world i.role)) (core_imports self.old.world)) }
+        ensures encoded { OnOk result (AllByRecursion (λ i. IsEncodedImport self.old.world i.role) (core_imports self.old.world)) }
         ensures cause { IfErr result (IsCause self.old.world) }
     {
         let sources = ImportSources {
             world: self.root.world,
             functions: &self.functions,
+            types: &self.root.maps,
         };
         let arguments = sources.arguments(&mut self.root.items)?;
         let index = self

@@ -6,7 +6,7 @@ use Rattle.comp_imports.proofs.Allowing.{root_allows}
 use Rattle.comp_imports.proofs.root_scope.RootScope+ComponentWorld.function_type.Goals as goal
 
 pub encode_func_type-requires-clause-allowed : goal.encode_func_type-requires-clause-allowed
-encode_func_type-requires-clause-allowed c = root_allows c.args.self.now.world.now c.requires.valid.types c.args.function.now
+encode_func_type-requires-clause-allowed c = root_allows c.args.self.now.world.now c.requires.valid c.args.self.now.last_type c.requires.passed c.args.function.now c.requires.present
 
 pub returns-clause-tables : goal.returns-clause-tables
 returns-clause-tables c =

@@ -7,10 +7,11 @@ use Rattle.wit_data.specs.declared.worlds.WorldItem.{WorldItem}
 use Rattle.comp_worlds.specs.Worlds.{items_of, world_type}
 use Rattle.comp_links.specs.Lists.{root_type}
 use Rattle.comp_terms.specs.Rules.{Grows, Imported}
-use Rattle.comp_imports.specs.RootScopes.{AreTablesRight}
+use Rattle.comp_imports.specs.RootScopes.{next_of, AreTablesRight}
 use Rattle.comp_imports.specs.Imports.{IsNextType}
+use Rattle.comp_imports.proofs.Passing.{tables_first}
 use Rattle.comp_imports.proofs.Looking.{entry_sound}
-use Rattle.comp_imports.proofs.Importing.{TypesSoFar, types_start, types_step, types_done, next_type}
+use Rattle.comp_imports.proofs.Importing.{TypesSoFar, types_start, types_step, types_done, types_passed, next_type}
 use Rattle.comp_imports.proofs.world_types.RootScope+ComponentWorld.import_types.Goals as goal
 
 pub loop-key-init : goal.loop-key-init
@@ -21,20 +22,20 @@ loop-key-init c =
       tt,
       tt,
       refl,
-      c.requires.tables,
-      subst (λ (es : List (WorldKey × WorldItem)). TypesSoFar w c.args.self.now.items c.args.self.now.items es) (sym items) (types_start w c.args.self.now.items c.requires.first),
+      tables_first w c.args.self.now.last_type c.args.self.now.items.defs c.args.self.now.maps c.requires.tables,
+      subst (λ (es : List (WorldKey × WorldItem)). TypesSoFar w c.args.self.now.items c.args.self.now.items 0 es) (sym items) (types_start w c.args.self.now.items 0 c.requires.valid c.requires.first refl),
     )
 
 pub import_type_item-requires-clause-present : goal.import_type_item-requires-clause-present
 import_type_item-requires-clause-present c =
-    let b : TypesSoFar c.args.self.now.world.now c.args.self.now.items c.loop-key.self.items ((c.in-Some.key.now, c.in-Some.item.now) ∷ c.next.new.self) =
-    subst (λ (es : List (WorldKey × WorldItem)). TypesSoFar c.args.self.now.world.now c.args.self.now.items c.loop-key.self.items es) c.in-Some.ensures.steps c.loop-key.invariant.4 in
+    let b : TypesSoFar c.args.self.now.world.now c.args.self.now.items c.loop-key.self.items (next_of c.loop-key.self.last_type) ((c.in-Some.key.now, c.in-Some.item.now) ∷ c.next.new.self) =
+    subst (λ (es : List (WorldKey × WorldItem)). TypesSoFar c.args.self.now.world.now c.args.self.now.items c.loop-key.self.items (next_of c.loop-key.self.last_type) es) c.in-Some.ensures.steps c.loop-key.invariant.4 in
     subst (λ x. HasEntry x.now.resolve (c.in-Some.key.now, c.in-Some.item.now)) (sym c.loop-key.invariant.2) (entry_sound c.args.self.now.world.now c.requires.valid b.done c.next.new.self (c.in-Some.key.now, c.in-Some.item.now) b.split)
 
 pub import_type_item-requires-clause-next : goal.import_type_item-requires-clause-next
 import_type_item-requires-clause-next c =
-    subst (λ x. IsNextType x.now c.loop-key.self.items.defs (c.in-Some.key.now, c.in-Some.item.now)) (sym c.loop-key.invariant.2)
-    (next_type c.args.self.now.world.now c.args.self.now.items c.loop-key.self.items (c.in-Some.key.now, c.in-Some.item.now) c.next.new.self (subst (λ (es : List (WorldKey × WorldItem)). TypesSoFar c.args.self.now.world.now c.args.self.now.items c.loop-key.self.items es) c.in-Some.ensures.steps c.loop-key.invariant.4))
+    subst (λ x. IsNextType x.now (next_of c.loop-key.self.last_type) c.loop-key.self.items.defs (c.in-Some.key.now, c.in-Some.item.now)) (sym c.loop-key.invariant.2)
+    (next_type c.args.self.now.world.now c.args.self.now.items c.loop-key.self.items (next_of c.loop-key.self.last_type) (c.in-Some.key.now, c.in-Some.item.now) c.next.new.self (subst (λ (es : List (WorldKey × WorldItem)). TypesSoFar c.args.self.now.world.now c.args.self.now.items c.loop-key.self.items (next_of c.loop-key.self.last_type) es) c.in-Some.ensures.steps c.loop-key.invariant.4))
 
 pub loop-key-preserved : goal.loop-key-preserved
 loop-key-preserved c =
@@ -47,11 +48,16 @@ loop-key-preserved c =
       tt,
       tt,
       of.world ∙ same,
-      subst (λ x. AreTablesRight x.now new.items.defs new.maps) same of.tables,
-      types_step w c.args.self.now.items mid new.items e c.next.new.self (subst (λ (es : List (WorldKey × WorldItem)). TypesSoFar c.args.self.now.world.now c.args.self.now.items c.loop-key.self.items es) c.in-Some.ensures.steps c.loop-key.invariant.4) of.extends (subst (λ x. Grows x.now mid.defs new.items.defs (map (λ (t : List ℕ × TypeId). Imported (root_type t.0)) (world_type e))) same of.grows),
+      subst (λ x. AreTablesRight x.now new.last_type new.items.defs new.maps) same of.tables,
+      types_step w c.args.self.now.items mid new.items (next_of c.loop-key.self.last_type) (next_of new.last_type) e c.next.new.self (subst (λ (es : List (WorldKey × WorldItem)). TypesSoFar c.args.self.now.world.now c.args.self.now.items c.loop-key.self.items (next_of c.loop-key.self.last_type) es) c.in-Some.ensures.steps c.loop-key.invariant.4) of.extends (subst (λ x. Grows x.now mid.defs new.items.defs (map (λ (t : List ℕ × TypeId). Imported (root_type t.0)) (world_type e))) same of.grows) of.next,
     )
 
 pub returns-clause-grows : goal.returns-clause-grows
 returns-clause-grows c =
-    types_done c.args.self.now.world.now c.args.self.now.items c.loop-key.self.items
-    (subst (λ (es : List (WorldKey × WorldItem)). TypesSoFar c.args.self.now.world.now c.args.self.now.items c.loop-key.self.items es) c.in-None.ensures.steps.0 c.loop-key.invariant.4)
+    types_done c.args.self.now.world.now c.args.self.now.items c.loop-key.self.items (next_of c.loop-key.self.last_type)
+    (subst (λ (es : List (WorldKey × WorldItem)). TypesSoFar c.args.self.now.world.now c.args.self.now.items c.loop-key.self.items (next_of c.loop-key.self.last_type) es) c.in-None.ensures.steps.0 c.loop-key.invariant.4)
+
+pub returns-clause-passed : goal.returns-clause-passed
+returns-clause-passed c =
+    types_passed c.args.self.now.world.now c.args.self.now.items c.loop-key.self.items c.loop-key.self.last_type
+    (subst (λ (es : List (WorldKey × WorldItem)). TypesSoFar c.args.self.now.world.now c.args.self.now.items c.loop-key.self.items (next_of c.loop-key.self.last_type) es) c.in-None.ensures.steps.0 c.loop-key.invariant.4)

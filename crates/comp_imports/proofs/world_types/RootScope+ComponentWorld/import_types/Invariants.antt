@@ -1,5 +1,5 @@
 use Rattle.std.proofs.Common.{◌≡◌}
-use Rattle.comp_imports.specs.RootScopes.{AreTablesRight}
+use Rattle.comp_imports.specs.RootScopes.{next_of, AreTablesRight}
 use Rattle.comp_imports.proofs.Importing.{TypesSoFar}
 use Rattle.comp_imports.proofs.world_types.RootScope+ComponentWorld.import_types.Given as goal
 
@@ -8,5 +8,5 @@ invariant-loop-key l =
     goal.iterator-loop-key.can_next l.key-iterator ×
     goal.iterator-loop-key.is_finite l.key-iterator ×
     (l.self.world ≡ l.fn.self.world) ×
-    AreTablesRight l.fn.self.world.now l.self.items.defs l.self.maps ×
-    TypesSoFar l.fn.self.world.now l.fn.self.items l.self.items l.key-iterator
+    AreTablesRight l.fn.self.world.now l.self.last_type l.self.items.defs l.self.maps ×
+    TypesSoFar l.fn.self.world.now l.fn.self.items l.self.items (next_of l.self.last_type) l.key-iterator

@@ -6,7 +6,7 @@ use Rattle.comp_bytes.specs.declared.def.Def.TheVariants as defs
 use Rattle.comp_bytes.specs.declared.def.Item.TheVariants as items
 use Rattle.comp_items.specs.Items.{Extends}
 use Rattle.comp_items.proofs.Extending.{extends_same, extends_then}
-use Rattle.comp_links.specs.Roles.{import_encoding}
+use Rattle.comp_links.specs.Roles.{IsEncodedImport}
 use Rattle.comp_terms.specs.Rules.{Grows, InstanceOf}
 use Rattle.comp_worlds.specs.Worlds.{core_imports}
 use Rattle.comp_state.specs.Encoding.{Encoding, AreImported, IsFirstModule}
@@ -45,5 +45,5 @@ returns-clause-grows c =
 
 pub returns-clause-encoded : goal.returns-clause-encoded
 returns-clause-encoded c =
-    subst (λ (e : Encoding). AllByRecursion (λ i. IsSome (import_encoding e.world i.role)) (core_imports e.world)) c.self.view_is
+    subst (λ (e : Encoding). AllByRecursion (λ i. IsEncodedImport e.world i.role) (core_imports e.world)) c.self.view_is
     (groups_encoded c.self.inside.root.world.now c.arguments.new.component.defs c.in_ok-arguments.arguments c.self.inside.root.world.now.main.imports.modules c.in_ok-arguments.ensures.serves)

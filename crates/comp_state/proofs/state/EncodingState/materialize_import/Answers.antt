@@ -2,7 +2,7 @@ use Rattle.std.proofs.Common.{[], ◌∷◌, subst, sym, Contains, IsSome}
 use Rattle.std.specs.Result.{OnOk, IfOk, IfErr}
 use Rattle.comp_bytes.specs.Spaces.{kind_space}
 use Rattle.comp_links.specs.Links.{link_of}
-use Rattle.comp_links.specs.Roles.{import_encoding}
+use Rattle.comp_links.specs.Roles.{IsEncodedImport}
 use Rattle.comp_links.specs.Targets.{Main}
 use Rattle.comp_terms.specs.Planned.{IsItemFor}
 use Rattle.comp_terms.specs.Rules.{Grows}
@@ -30,7 +30,7 @@ returns-clause-made c =
     subst (λ (e : Encoding). IfOk c.materialize.result (λ item. IsItemFor e.world c.materialize.new.component.defs (kind_space item.0) item.1 (link_of e.world Main c.args.import.now))) c.self.view_is c.materialize.ensures.made
 
 pub returns-clause-encoded : goal.returns-clause-encoded
-returns-clause-encoded c = subst (λ (e : Encoding). OnOk c.materialize.result (IsSome (import_encoding e.world c.args.import.now))) c.self.view_is c.materialize.ensures.encoded
+returns-clause-encoded c = subst (λ (e : Encoding). OnOk c.materialize.result (IsEncodedImport e.world c.args.import.now)) c.self.view_is c.materialize.ensures.encoded
 
 pub returns-clause-cause : goal.returns-clause-cause
 returns-clause-cause c =
