@@ -1,7 +1,6 @@
 -- Which types and functions of a world may be defined at the root of its component: those whose resources are in the tables.
-use Rattle.std.proofs.Common.{◌≡◌, ◌∙◌, ◌<◌, ◌≤◌, ◌&&◌, arith, ℕ, zero, suc, Bool, true, false, true≢false, List, [], ◌∷◌, length, map, refl, ap, sym, Option, Some, None, if◌then◌else◌, Contains, inl, inr, subst}
-use Rattle.std.specs.List.{AllByRecursion, list_all, list_any}
-use Rattle.std.specs.Prelude.{nat_lt, nat_eq}
+use Rattle.std.proofs.Common.{◌≡◌, ◌∙◌, ◌<◌, ◌≤◌, arith, ℕ, zero, suc, Bool, true, false, true≢false, List, [], ◌∷◌, length, map, refl, ap, sym, Option, Some, None, if◌then◌else◌, Contains, inl, inr, subst}
+use Rattle.std.specs.List.{AllByRecursion, list_all}
 use Rattle.std.proofs.lemmas.List.Folds.{list_all-map}
 use Rattle.std.proofs.lemmas.Bool.{lt-ltb}
 use Rattle.std.proofs.lemmas.Cmp.{nat_eq_equiv}
@@ -27,7 +26,7 @@ use Rattle.wit_types.specs.Allowing.{foreign, is_resource, may_make, may_define,
 use Rattle.wit_types.proofs.Permitting.{allowed_of_id, allowed_met}
 use Rattle.comp_imports.proofs.Elements.{contains_none, contains_cons}
 use Rattle.comp_imports.specs.Imports.{IsNextId}
-use Rattle.comp_imports.specs.RootScopes.{next_of, root_setting, is_imported_type, ArePassed}
+use Rattle.comp_imports.specs.RootScopes.{next_of, root_setting, ArePassed}
 
 not_foreign : (o : TypeOwner) → IsOwnerAtRoot o → foreign None o ≡ None
 not_foreign (owners.World id) h = refl

@@ -1,5 +1,5 @@
 -- A name without a version suffix is its text.
-use Rattle.std.proofs.Common.{◌≡◌, ap, List, ℕ, None}
+use Rattle.std.proofs.Common.{◌≡◌, ap, None}
 use Rattle.comp_bytes.specs.declared.types.ExternName.{ExternName}
 use Rattle.comp_links.specs.Lists.{plain_name}
 

@@ -1,6 +1,5 @@
 -- The tables of the root after a type of the world was imported and recorded.
 use Rattle.std.proofs.Common.{◌≡◌, ◌∙◌, ◌<◌, ◌&&◌, ◌==◌, arith, ℕ, suc, Bool, true, false, true≢false, List, map, Option, Some, None, is_some, refl, ap, sym, subst, IsTrue, Contains}
-use Rattle.std.specs.List.{list_any}
 use Rattle.std.specs.Prelude.{nat_lt}
 use Rattle.std.proofs.lemmas.Bool.{lt-ltb, ltb-true, ltb-false}
 use Rattle.std.proofs.lemmas.Bool.Decides.{Decides-eqb}
@@ -9,7 +8,7 @@ use Rattle.comp_lists.proofs.Lists.{AllByRecursion-weaker}
 use Rattle.comp_bytes.specs.declared.def.Def.{Def}
 use Rattle.comp_trees.specs.Inventories.{scope_of}
 use Rattle.wit_data.specs.declared.ids.TypeId.{TypeId}
-use Rattle.wit_types.specs.Maps.{HasIndex, Faithful}
+use Rattle.wit_types.specs.Maps.{HasIndex}
 use Rattle.wit_types.specs.Settings.{tree_in}
 use Rattle.wit_types.specs.declared.maps.TypeEncodingMaps.{TypeEncodingMaps}
 use Rattle.comp_worlds.specs.Worlds.{imported_types}

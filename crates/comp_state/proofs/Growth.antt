@@ -32,7 +32,7 @@ use Rattle.comp_items.specs.Items.{Extends}
 use Rattle.comp_items.proofs.Extending.{extends_none, extends_same, extends_then}
 use Rattle.comp_items.proofs.Remembering.{longer}
 use Rattle.comp_items.proofs.Kept.{Longer, at-kept, instance-kept, term-kept}
-use Rattle.comp_imports.specs.RootScopes.{AreTablesRight}
+use Rattle.comp_imports.specs.RootScopes.{AreTablesRight, ArePassed}
 use Rattle.comp_imports.specs.Imports.{FindsImports, FindsUsed}
 use Rattle.wit_types.specs.Maps.{no_maps}
 use Rattle.comp_imports.proofs.Growth.{tables_kept, tables_start}
@@ -70,13 +70,8 @@ module _ {w : ComponentWorld} {old new : List Def} (g : Longer old new) where
 
 -- ---- the look-ups hold what they held
 
-pub sources-kept : {s : ImportSources} {old new : Built} → Extends old new → AreSources s old.defs → AreSources s new.defs
-sources-kept {s} {old} {new} g h = record {
-  valid = h.valid;
-  imports = FindsImports-kept (longer g) h.imports;
-  used = h.used;
-  types = record { last = h.types.last; tables = tables_kept s.world.now h.types.last old new s.types.now g h.types.tables; passed = h.types.passed };
-}
+pub sources-kept : {w : ComponentWorld} {s : ImportSources} {last : Option TypeId} {old new : Built} {maps : TypeEncodingMaps} → Extends old new → AreSources w s last old.defs maps → AreSources w s last new.defs maps
+sources-kept {w} {s} {last} {old} {new} {maps} g h = record { valid = h.valid; imports = FindsImports-kept (longer g) h.imports; used = h.used; tables = tables_kept w last old new maps g h.tables; passed = h.passed }
 
 pub exports-kept : {w : ComponentWorld} {e : MainExports} {last : Option TypeId} {old new : Built} {maps now : TypeEncodingMaps} → Extends old new → AreTablesRight w last new.defs now → AreExports w e last old.defs maps → AreExports w e last new.defs now
 exports-kept g t h = record { valid = h.valid; named = h.named; made = instance-kept (longer g) h.made; tables = t; passed = h.passed }
@@ -124,8 +119,9 @@ encoding-instantiated {w} {last} {old} {new} {maps} index g s made h = record {
 }
 
 -- what the steps read of a state
-pub sources_of : (s : ImportSources) {last : Option TypeId} {ds : List Def} {step : Step} {core_names : List (List ℕ × List ℕ)} {main : Option ℕ} → IsEncoding s.world.now last ds s.types.now step s.functions.now core_names main → AreImported step → AreSources s ds
-sources_of s {last} h i = record { valid = h.valid; imports = h.imports i; used = h.used i; types = record { last = last; tables = h.tables; passed = h.passed i } }
+pub sources_of : (w : ComponentWorld) (s : ImportSources) {last : Option TypeId} {ds : List Def} {maps : TypeEncodingMaps} {step : Step} {core_names : List (List ℕ × List ℕ)} {main : Option ℕ} → IsEncoding w last ds maps step s.functions.now core_names main → AreImported step →
+    AreSources w s last ds maps
+sources_of w s h i = record { valid = h.valid; imports = h.imports i; used = h.used i; tables = h.tables; passed = h.passed i }
 
 pub exports_of : (w : ComponentWorld) (e : MainExports) {last : Option TypeId} {ds : List Def} {maps : TypeEncodingMaps} {step : Step} {functions : List (List ℕ × ℕ)} {main : Option ℕ} → IsEncoding w last ds maps step functions e.core_names.now main → step ≡ Instantiated → main ≡ Some e.instance →
     AreExports w e last ds maps

@@ -20,18 +20,13 @@ use Rattle.comp_state.specs.declared.exports.MainExports.{MainExports}
 pub record FindsCoreNames (w : ComponentWorld) (core_names : List (List ℕ × List ℕ)) : Type 0 where
   pub each : (text : List ℕ) → found text core_names ≡ core_name_of w (keys.Name text)
 
--- the tables of types are right, and each type that the world imports is in them
-pub record KnowsTypes (w : ComponentWorld) (ds : List Def) (maps : TypeEncodingMaps) : Type 0 where
-  pub last : Option TypeId
+-- what the imports of main are given is there, and the tables of types are right
+pub record AreSources (w : ComponentWorld) (s : ImportSources) (last : Option TypeId) (ds : List Def) (maps : TypeEncodingMaps) : Type 0 where
+  pub valid : IsWorld w
+  pub imports : FindsImports w ds s.functions.now
+  pub used : FindsUsed w s.functions.now
   pub tables : AreTablesRight w last ds maps
   pub passed : ArePassed w last
-
--- what the imports of main are given is there
-pub record AreSources (s : ImportSources) (ds : List Def) : Type 0 where
-  pub valid : IsWorld s.world.now
-  pub imports : FindsImports s.world.now ds s.functions.now
-  pub used : FindsUsed s.world.now s.functions.now
-  pub types : KnowsTypes s.world.now ds s.types.now
 
 -- what root functions are lifted from is there, and the tables of types are right
 pub record AreExports (w : ComponentWorld) (e : MainExports) (last : Option TypeId) (ds : List Def) (maps : TypeEncodingMaps) : Type 0 where

@@ -6,6 +6,7 @@ ghost use Rattle.comp_builder.specs.Naming.{with_names};
 ghost use Rattle.comp_bytes.specs.Scopes.{Scoped};
 ghost use Rattle.comp_worlds.specs.Worlds.{IsWorld};
 ghost use Rattle.comp_imports.specs.RootScopes.{IsRefusal};
+ghost use Rattle.comp_state.specs.declared.state.Step.TheVariants.{Started};
 ghost use Rattle.comp_state.specs.Causes.{IsCause, LacksEncoding, IsEncoded};
 ghost use Rattle.comp_terms.specs.Rules.{Grows, IsUnnamed, IsBuilt, expected};
 
@@ -37,7 +38,8 @@ impl EncodingState<'_> {
 
     /// All steps before the end, from the empty component.
     fn encode_all(&mut self) -> Result<(), StateFault>
-        requires { self.old.built.defs ≡ [] }
+        requires started { self.old.step ≡ Started }
+        requires empty { self.old.built.defs ≡ [] }
         ensures world { self.new.world ≡ self.old.world }
         ensures built { OnOk result (IsUnnamed self.old.world self.new.built.defs) }
         ensures encoded { OnOk result (IsEncoded self.old.world) }

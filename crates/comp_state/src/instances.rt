@@ -25,14 +25,12 @@ ghost use Rattle.wit_data.specs.declared.worlds.WorldKey.TheVariants as keys;
 use crate::fault::StateFault;
 use byte_encoding::BuildFault;
 use comp_bytes::{CoreArgument, CoreInlineExport};
-use comp_imports::resource_index;
-use comp_items::ComponentItems;
+use comp_imports::{RootScope, resource_index};
 use comp_lists::{Keyed, Seq, Text};
 use comp_worlds::{ComponentWorld, FunctionKey, Import, ImportInstance};
 use standard_kinds::{ExportKind, StringEncoding};
 use std::alloc::{AllocError, Global};
 use wit_data::{TypeId, WorldKey};
-use wit_types::TypeEncodingMaps;
 
 /// Whether a table has the string encoding of a function, by the name of its key and its own.
 pub(crate) fn is_encoded(
@@ -60,74 +58,75 @@ fn path_of_import(alloc: Global, module: &Text, field: &Text) -> Result<Text, Al
     Ok(Text::from_string(place))
 }
 
-/// What the imports of main are given: functions of the world, the root functions that were imported, by their names, and
-/// the types that were met.
+/// What the imports of main are given, beside what the root has: the root functions that were imported, by their names.
 #[derive(Clone, Copy)]
 pub(crate) struct ImportSources<'a> {
-    pub(crate) world: &'a ComponentWorld,
     pub(crate) functions: &'a Keyed<Text, u32>,
-    pub(crate) types: &'a TypeEncodingMaps,
 }
 
 impl ImportSources<'_> {
     /// Lowers a root function that was imported.
-    fn lower_function(&self, component: &mut ComponentItems, name: &Text) -> Result<u32, BuildFault>
-        requires sources { AreSources self.now component.old.defs }
+    fn lower_function(&self, root: &mut RootScope<'_, ComponentWorld>, name: &Text) -> Result<u32, BuildFault>
+        requires sources { AreSources root.old.world.now self.now root.old.last_type root.old.items.defs root.old.maps }
         requires used { IsSome (found name.now self.now.functions.now) }
-        ensures extends { Extends component.old component.new }
-        ensures grows { OnOk result (Grows self.now.world.now component.old.defs component.new.defs []) }
-        ensures lowered { IfOk result (λ index. IsItemFor self.now.world.now component.new.defs CoreFunc index (Lowered (OfRoot name.now) [])) }
+        ensures same { root.new ≡ record root.old { items = root.new.items } }
+        ensures extends { Extends root.old.items root.new.items }
+        ensures grows { OnOk result (Grows root.old.world.now root.old.items.defs root.new.items.defs []) }
+        ensures lowered { IfOk result (λ index. IsItemFor root.old.world.now root.new.items.defs CoreFunc index (Lowered (OfRoot name.now) [])) }
         ensures cause { IfErr result IsRefusal }
     {
         let function = *self.functions.get(name).unwrap();
-        let options = Seq::new(component.allocator());
-        let index = component.lower_function(Some(name.as_str()), function, options)?;
+        let options = Seq::new(root.items.allocator());
+        let index = root.items.lower_function(Some(name.as_str()), function, options)?;
         Ok(index)
     }
 
     /// Makes the drop of handles of a resource of the world.
-    fn drop_resource(&self, component: &mut ComponentItems, id: TypeId) -> Result<u32, BuildFault>
-        requires sources { AreSources self.now component.old.defs }
-        requires resource { IsResource self.now.world.now.resolve.types id.index }
-        ensures extends { Extends component.old component.new }
-        ensures grows { OnOk result (Grows self.now.world.now component.old.defs component.new.defs []) }
-        ensures dropped { IfOk result (λ index. IsItemFor self.now.world.now component.new.defs CoreFunc index (Dropped id)) }
+    fn drop_resource(&self, root: &mut RootScope<'_, ComponentWorld>, id: TypeId) -> Result<u32, BuildFault>
+        requires sources { AreSources root.old.world.now self.now root.old.last_type root.old.items.defs root.old.maps }
+        requires resource { IsResource root.old.world.now.resolve.types id.index }
+        ensures same { root.new ≡ record root.old { items = root.new.items } }
+        ensures extends { Extends root.old.items root.new.items }
+        ensures grows { OnOk result (Grows root.old.world.now root.old.items.defs root.new.items.defs []) }
+        ensures dropped { IfOk result (λ index. IsItemFor root.old.world.now root.new.items.defs CoreFunc index (Dropped id)) }
         ensures cause { IfErr result IsRefusal }
     {
-        let ty = resource_index(self.types, id).unwrap();
-        let index = component.drop_resource(ty)?;
+        let ty = resource_index(&root.maps, id).unwrap();
+        let index = root.items.drop_resource(ty)?;
         Ok(index)
     }
 
     /// What an import of main is given: the kind and the index of a core item.
     pub(crate) fn materialize(
         &self,
-        component: &mut ComponentItems,
+        root: &mut RootScope<'_, ComponentWorld>,
         module: &Text,
         field: &Text,
         import: &Import,
     ) -> Result<(ExportKind, u32), StateFault>
-        requires sources { AreSources self.now component.old.defs }
-        requires present { Contains (core_imports self.now.world.now) (record { module_name = «module».now; field = field.now; role = import.now }) }
-        ensures extends { Extends component.old component.new }
-        ensures grows { OnOk result (Grows self.now.world.now component.old.defs component.new.defs []) }
-        ensures made { IfOk result (λ item. IsItemFor self.now.world.now component.new.defs (kind_space item.0) item.1 (link_of self.now.world.now Main import.now)) }
-        ensures encoded { OnOk result (IsEncodedImport self.now.world.now import.now) }
-        ensures cause { IfErr result (IsCauseAmong self.now.world.now (record { module_name = «module».now; field = field.now; role = import.now } ∷ []) []) }
+        requires sources { AreSources root.old.world.now self.now root.old.last_type root.old.items.defs root.old.maps }
+        requires present { Contains (core_imports root.old.world.now) (record { module_name = «module».now; field = field.now; role = import.now }) }
+        ensures same { root.new ≡ record root.old { items = root.new.items } }
+        ensures extends { Extends root.old.items root.new.items }
+        ensures grows { OnOk result (Grows root.old.world.now root.old.items.defs root.new.items.defs []) }
+        ensures made { IfOk result (λ item. IsItemFor root.old.world.now root.new.items.defs (kind_space item.0) item.1 (link_of root.old.world.now Main import.now)) }
+        ensures encoded { OnOk result (IsEncodedImport root.old.world.now import.now) }
+        ensures cause { IfErr result (IsCauseAmong root.old.world.now (record { module_name = «module».now; field = field.now; role = import.now } ∷ []) []) }
     {
         match import {
             Import::WorldFunc(WorldKey::Name(name), function, _) => {
-                let alloc = component.allocator();
-                let encodings = &self.world.main.metadata.import_encodings;
+                let alloc = root.items.allocator();
+                let world = root.world;
+                let encodings = &world.main.metadata.import_encodings;
                 if !is_encoded(alloc, encodings, name, function)? {
                     let place = path_of_import(alloc, module, field)?;
                     return Err(StateFault::NoEncoding { place });
                 }
-                let index = self.lower_function(component, name)?;
+                let index = self.lower_function(root, name)?;
                 Ok((ExportKind::Func, index))
             }
             Import::ImportedResourceDrop(_, _, id) => {
-                let index = self.drop_resource(component, *id)?;
+                let index = self.drop_resource(root, *id)?;
                 Ok((ExportKind::Func, index))
             }
             _ => unreachable!(),
@@ -137,41 +136,43 @@ impl ImportSources<'_> {
     /// What the import of a field is given, as an entry of an inline instance.
     fn entry(
         &self,
-        component: &mut ComponentItems,
+        root: &mut RootScope<'_, ComponentWorld>,
         module: &Text,
         field: &Text,
         import: &Import,
     ) -> Result<CoreInlineExport, StateFault>
-        requires sources { AreSources self.now component.old.defs }
-        requires present { Contains (core_imports self.now.world.now) (record { module_name = «module».now; field = field.now; role = import.now }) }
-        ensures extends { Extends component.old component.new }
-        ensures grows { OnOk result (Grows self.now.world.now component.old.defs component.new.defs []) }
-        ensures serves { IfOk result (λ entry. IsEntryFor self.now.world.now Main component.new.defs entry (field.now, import.now)) }
-        ensures cause { IfErr result (IsCauseAmong self.now.world.now (record { module_name = «module».now; field = field.now; role = import.now } ∷ []) []) }
+        requires sources { AreSources root.old.world.now self.now root.old.last_type root.old.items.defs root.old.maps }
+        requires present { Contains (core_imports root.old.world.now) (record { module_name = «module».now; field = field.now; role = import.now }) }
+        ensures same { root.new ≡ record root.old { items = root.new.items } }
+        ensures extends { Extends root.old.items root.new.items }
+        ensures grows { OnOk result (Grows root.old.world.now root.old.items.defs root.new.items.defs []) }
+        ensures serves { IfOk result (λ entry. IsEntryFor root.old.world.now Main root.new.items.defs entry (field.now, import.now)) }
+        ensures cause { IfErr result (IsCauseAmong root.old.world.now (record { module_name = «module».now; field = field.now; role = import.now } ∷ []) []) }
     {
-        let name = field.clone(component.allocator())?;
-        let (kind, index) = self.materialize(component, module, field, import)?;
+        let name = field.clone(root.items.allocator())?;
+        let (kind, index) = self.materialize(root, module, field, import)?;
         Ok(CoreInlineExport { name, kind, index })
     }
 
     /// What the imports from one module are given, in order.
     fn entries(
         &self,
-        component: &mut ComponentItems,
+        root: &mut RootScope<'_, ComponentWorld>,
         module: &Text,
         fields: &Keyed<Text, Import>,
     ) -> Result<Seq<CoreInlineExport>, StateFault>
-        requires sources { AreSources self.now component.old.defs }
-        requires present { Contains self.now.world.now.main.imports.modules («module».now, Names fields.now) }
-        ensures extends { Extends component.old component.new }
-        ensures grows { OnOk result (Grows self.now.world.now component.old.defs component.new.defs []) }
-        ensures serves { IfOk result (λ entries. AllZip (IsEntryFor self.now.world.now Main component.new.defs) entries fields.now) }
+        requires sources { AreSources root.old.world.now self.now root.old.last_type root.old.items.defs root.old.maps }
+        requires present { Contains root.old.world.now.main.imports.modules («module».now, Names fields.now) }
+        ensures same { root.new ≡ record root.old { items = root.new.items } }
+        ensures extends { Extends root.old.items root.new.items }
+        ensures grows { OnOk result (Grows root.old.world.now root.old.items.defs root.new.items.defs []) }
+        ensures serves { IfOk result (λ entries. AllZip (IsEntryFor root.old.world.now Main root.new.items.defs) entries fields.now) }
         ensures apart { IfOk result (λ entries. IsDistinct bytes_eq (map (λ e. e.name) entries)) }
-        ensures cause { IfErr result (IsCauseAmong self.now.world.now (imports_from («module».now, Names fields.now)) []) }
+        ensures cause { IfErr result (IsCauseAmong root.old.world.now (imports_from («module».now, Names fields.now)) []) }
     {
-        let mut entries = Seq::new(component.allocator());
+        let mut entries = Seq::new(root.items.allocator());
         for (field, import) in fields.iter() {
-            let entry = self.entry(component, module, field, import)?;
+            let entry = self.entry(root, module, field, import)?;
             entries.push(entry)?;
         }
         Ok(entries)
@@ -180,39 +181,41 @@ impl ImportSources<'_> {
     /// Makes the inline instance for these imports from one module.
     fn inline_instance(
         &self,
-        component: &mut ComponentItems,
+        root: &mut RootScope<'_, ComponentWorld>,
         module: &Text,
         fields: &Keyed<Text, Import>,
     ) -> Result<CoreArgument, StateFault>
-        requires sources { AreSources self.now component.old.defs }
-        requires present { Contains self.now.world.now.main.imports.modules («module».now, Names fields.now) }
-        ensures extends { Extends component.old component.new }
-        ensures grows { OnOk result (Grows self.now.world.now component.old.defs component.new.defs []) }
-        ensures serves { IfOk result (λ argument. IsArgumentFor self.now.world.now Main component.new.defs argument («module».now, Names fields.now)) }
-        ensures cause { IfErr result (IsCauseAmong self.now.world.now (imports_from («module».now, Names fields.now)) []) }
+        requires sources { AreSources root.old.world.now self.now root.old.last_type root.old.items.defs root.old.maps }
+        requires present { Contains root.old.world.now.main.imports.modules («module».now, Names fields.now) }
+        ensures same { root.new ≡ record root.old { items = root.new.items } }
+        ensures extends { Extends root.old.items root.new.items }
+        ensures grows { OnOk result (Grows root.old.world.now root.old.items.defs root.new.items.defs []) }
+        ensures serves { IfOk result (λ argument. IsArgumentFor root.old.world.now Main root.new.items.defs argument («module».now, Names fields.now)) }
+        ensures cause { IfErr result (IsCauseAmong root.old.world.now (imports_from («module».now, Names fields.now)) []) }
     {
-        let name = module.clone(component.allocator())?;
-        let entries = self.entries(component, module, fields)?;
-        let instance = component.inline_instance(Some(module.as_str()), entries)?;
+        let name = module.clone(root.items.allocator())?;
+        let entries = self.entries(root, module, fields)?;
+        let instance = root.items.inline_instance(Some(module.as_str()), entries)?;
         Ok(CoreArgument { name, instance })
     }
 
     /// Makes the inline instance for the imports from one module.
     fn argument(
         &self,
-        component: &mut ComponentItems,
+        root: &mut RootScope<'_, ComponentWorld>,
         module: &Text,
         instance: &ImportInstance,
     ) -> Result<CoreArgument, StateFault>
-        requires sources { AreSources self.now component.old.defs }
-        requires present { Contains self.now.world.now.main.imports.modules («module».now, instance.now) }
-        ensures extends { Extends component.old component.new }
-        ensures grows { OnOk result (Grows self.now.world.now component.old.defs component.new.defs []) }
-        ensures serves { IfOk result (λ argument. IsArgumentFor self.now.world.now Main component.new.defs argument («module».now, instance.now)) }
-        ensures cause { IfErr result (IsCauseAmong self.now.world.now (imports_from («module».now, instance.now)) []) }
+        requires sources { AreSources root.old.world.now self.now root.old.last_type root.old.items.defs root.old.maps }
+        requires present { Contains root.old.world.now.main.imports.modules («module».now, instance.now) }
+        ensures same { root.new ≡ record root.old { items = root.new.items } }
+        ensures extends { Extends root.old.items root.new.items }
+        ensures grows { OnOk result (Grows root.old.world.now root.old.items.defs root.new.items.defs []) }
+        ensures serves { IfOk result (λ argument. IsArgumentFor root.old.world.now Main root.new.items.defs argument («module».now, instance.now)) }
+        ensures cause { IfErr result (IsCauseAmong root.old.world.now (imports_from («module».now, instance.now)) []) }
     {
         match instance {
-            ImportInstance::Names(fields) => self.inline_instance(component, module, fields),
+            ImportInstance::Names(fields) => self.inline_instance(root, module, fields),
             ImportInstance::Whole(_) => unreachable!(),
         }
     }
@@ -220,17 +223,19 @@ impl ImportSources<'_> {
     /// Makes an inline instance for each module that main imports from, in order.
     pub(crate) fn arguments(
         &self,
-        component: &mut ComponentItems,
+        root: &mut RootScope<'_, ComponentWorld>,
     ) -> Result<Seq<CoreArgument>, StateFault>
-        requires sources { AreSources self.now component.old.defs }
-        ensures extends { Extends component.old component.new }
-        ensures grows { OnOk result (Grows self.now.world.now component.old.defs component.new.defs []) }
-        ensures serves { IfOk result (λ arguments. AllZip (IsArgumentFor self.now.world.now Main component.new.defs) arguments self.now.world.now.main.imports.modules) }
-        ensures cause { IfErr result (IsCause self.now.world.now) }
+        requires sources { AreSources root.old.world.now self.now root.old.last_type root.old.items.defs root.old.maps }
+        ensures same { root.new ≡ record root.old { items = root.new.items } }
+        ensures extends { Extends root.old.items root.new.items }
+        ensures grows { OnOk result (Grows root.old.world.now root.old.items.defs root.new.items.defs []) }
+        ensures serves { IfOk result (λ arguments. AllZip (IsArgumentFor root.old.world.now Main root.new.items.defs) arguments root.old.world.now.main.imports.modules) }
+        ensures cause { IfErr result (IsCause root.old.world.now) }
     {
-        let mut arguments = Seq::new(component.allocator());
-        for (module, instance) in self.world.main.imports.modules.iter() {
-            let argument = self.argument(component, module, instance)?;
+        let world = root.world;
+        let mut arguments = Seq::new(root.items.allocator());
+        for (module, instance) in world.main.imports.modules.iter() {
+            let argument = self.argument(root, module, instance)?;
             arguments.push(argument)?;
         }
         Ok(arguments)

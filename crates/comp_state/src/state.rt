@@ -115,7 +115,8 @@ impl EncodingState<'_> {
 
     /// Imports the types of the world, and then the root functions that imports of main use, in the order of the world.
     pub fn encode_imports(&mut self) -> Result<(), StateFault>
-        requires { self.old.built.defs ≡ [] }
+        requires started { self.old.step ≡ Started }
+        requires empty { self.old.built.defs ≡ [] }
         ensures world { self.new.world ≡ self.old.world }
         ensures step { OnOk result (self.new.step ≡ Imported) }
         ensures extends { Extends self.old.built self.new.built }
@@ -163,11 +164,9 @@ impl EncodingState<'_> {
         ensures cause { IfErr result (IsCauseAmong self.old.world (record { module_name = «module».now; field = field.now; role = import.now } ∷ []) []) }
     {
         let sources = ImportSources {
-            world: self.root.world,
             functions: &self.functions,
-            types: &self.root.maps,
         };
-        sources.materialize(&mut self.root.items, module, field, import)
+        sources.materialize(&mut self.root, module, field, import)
     }
 
     /// Makes main's instance.
@@ -182,11 +181,9 @@ impl EncodingState<'_> {
         ensures cause { IfErr result (IsCause self.old.world) }
     {
         let sources = ImportSources {
-            world: self.root.world,
             functions: &self.functions,
-            types: &self.root.maps,
         };
-        let arguments = sources.arguments(&mut self.root.items)?;
+        let arguments = sources.arguments(&mut self.root)?;
         let index = self
             .root
             .items

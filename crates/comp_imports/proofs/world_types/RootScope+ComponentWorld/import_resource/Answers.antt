@@ -1,4 +1,4 @@
-use Rattle.std.proofs.Common.{◌≡◌, [], ◌∷◌, ap, sym, refl, subst, None}
+use Rattle.std.proofs.Common.{[], ◌∷◌, ap, subst, None}
 use Rattle.comp_bytes.specs.declared.space.Space.TheVariants as spaces
 use Rattle.comp_bytes.specs.declared.space.Sort.TheVariants as sorts
 use Rattle.comp_bytes.specs.declared.types.Description.TheVariants as descriptions
@@ -11,7 +11,7 @@ use Rattle.comp_trees.specs.DefinedTrees.{TypeTree}
 use Rattle.comp_trees.specs.Inventories.{scope_of}
 use Rattle.comp_items.specs.Items.{Extends}
 use Rattle.comp_items.proofs.Extending.{extends_adds}
-use Rattle.comp_links.specs.Lists.{root_type, type_of_world}
+use Rattle.comp_links.specs.Lists.{root_type}
 use Rattle.comp_terms.specs.Rules.{IsRight, Grows, Imported, ImportsType, resource_here}
 use Rattle.comp_terms.specs.Terms.{imports_in}
 use Rattle.comp_imports.specs.Growing.{Grows-by, Grows-then}

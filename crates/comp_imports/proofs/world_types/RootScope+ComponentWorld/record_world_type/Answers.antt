@@ -1,4 +1,4 @@
-use Rattle.std.proofs.Common.{◌≡◌, refl, subst}
+use Rattle.std.proofs.Common.{subst}
 use Rattle.comp_trees.specs.Inventories.{scope_of}
 use Rattle.wit_types.specs.Maps.{Faithful}
 use Rattle.comp_imports.specs.RootScopes.{any_index, AreTablesRight}

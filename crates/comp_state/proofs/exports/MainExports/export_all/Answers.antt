@@ -9,12 +9,13 @@ use Rattle.comp_state.proofs.Growth.{exports-kept}
 use Rattle.comp_state.proofs.exports.MainExports.export_all.Goals as goal
 
 pub loop-key-init : goal.loop-key-init
-loop-key-init c = (refl, c.requires.tables, exports_start c.args.root.now.world.now c.args.root.now.items)
+loop-key-init c = (refl, refl, c.requires.tables, exports_start c.args.root.now.world.now c.args.root.now.items)
 
 pub export-requires-clause-exports : goal.export-requires-clause-exports
 export-requires-clause-exports c =
     let i = c.loop-key.invariant in
-    subst (λ w. AreExports w.now c.args.self.now c.loop-key.root.items.defs c.loop-key.root.maps) (sym i.0) (exports-kept i.2.extends i.1 c.requires)
+    subst (λ w. AreExports w.now c.args.self.now c.loop-key.root.last_type c.loop-key.root.items.defs c.loop-key.root.maps) (sym i.0)
+    (subst (λ n. AreExports c.args.root.now.world.now c.args.self.now n c.loop-key.root.items.defs c.loop-key.root.maps) (sym i.1) (exports-kept i.3.extends i.2 c.requires))
 
 pub loop-key-preserved : goal.loop-key-preserved
 loop-key-preserved c =
@@ -24,7 +25,8 @@ loop-key-preserved c =
     let mid = c.loop-key.root.items in
     let new = c.export.new.root in (
       of.world ∙ i.0,
-      subst (λ x. AreTablesRight x.now new.items.defs new.maps) i.0 of.tables,
-      exports_step w c.args.root.now.items mid new.items c.as_slice-key-items.result.now c.loop-key.key-index c.key-item.result i.2 (omega arith) c.key-item.is of.extends
+      of.next ∙ i.1,
+      subst (λ n. AreTablesRight w n new.items.defs new.maps) i.1 (subst (λ x. AreTablesRight x.now c.loop-key.root.last_type new.items.defs new.maps) i.0 of.tables),
+      exports_step w c.args.root.now.items mid new.items c.as_slice-key-items.result.now c.loop-key.key-index c.key-item.result i.3 (omega arith) c.key-item.is of.extends
           (subst (λ x. Grows x.now mid.defs new.items.defs (named_export (name_of_key c.key-item.result) ∷ [])) i.0 of.grows) (subst (λ x. IsSome (export_encoding x.now c.key-item.result)) i.0 of.encoded),
     )

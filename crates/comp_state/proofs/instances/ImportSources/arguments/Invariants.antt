@@ -1,3 +1,4 @@
+use Rattle.std.proofs.Common.{◌≡◌}
 use Rattle.comp_state.proofs.Serving.{GroupsSoFar}
 use Rattle.comp_state.proofs.instances.ImportSources.arguments.Given as goal
 
@@ -5,4 +6,5 @@ abbrev pub invariant-loop-module : goal.invariant-loop-module
 invariant-loop-module l =
     goal.iterator-loop-module.can_next l.module-iterator ×
     goal.iterator-loop-module.is_finite l.module-iterator ×
-    GroupsSoFar l.self.world.now l.fn.component l.component l.arguments l.module-iterator
+    (l.root ≡ record l.fn.root { items = l.root.items }) ×
+    GroupsSoFar l.fn.root.world.now l.fn.root.items l.root.items l.arguments l.module-iterator

@@ -17,26 +17,26 @@ some_is P o x h e = subst (λ p. IsSomeAnd p P) e h
 pub unwrap-ty-requires : goal.unwrap-ty-requires
 unwrap-ty-requires c =
     let s = c.requires.sources in
-    by c.resource_index.result (c.resource_index.ensures c.args.self.now.world.now s.types.last c.args.component.now.defs s.valid c.requires.resource s.types.passed s.types.tables)
+    by c.resource_index.result (c.resource_index.ensures c.args.root.now.world.now c.args.root.now.last_type c.args.root.now.items.defs s.valid c.requires.resource s.passed s.tables)
   where
-    by : (o : Option ℕ) → IsSomeAnd o (λ index. IsResource c.args.component.now.defs index (resource_of c.args.self.now.world.now c.args.id)) → IsSome o
+    by : (o : Option ℕ) → IsSomeAnd o (λ index. IsResource c.args.root.now.items.defs index (resource_of c.args.root.now.world.now c.args.id)) → IsSome o
     by None h = absurd h
     by (Some x) h = refl
 
 pub returns-clause-grows : goal.returns-clause-grows
 returns-clause-grows c =
-    let w = c.args.self.now.world.now in
+    let w = c.args.root.now.world.now in
     let s = c.requires.sources in
-    let is : IsResource c.args.component.now.defs c.unwrap-ty.result (resource_of w c.args.id) =
-    some_is (λ index. IsResource c.args.component.now.defs index (resource_of w c.args.id)) c.resource_index.result c.unwrap-ty.result
-    (c.resource_index.ensures w s.types.last c.args.component.now.defs s.valid c.requires.resource s.types.passed s.types.tables) c.unwrap-ty.ensures in
+    let is : IsResource c.args.root.now.items.defs c.unwrap-ty.result (resource_of w c.args.id) =
+    some_is (λ index. IsResource c.args.root.now.items.defs index (resource_of w c.args.id)) c.resource_index.result c.unwrap-ty.result
+    (c.resource_index.ensures w c.args.root.now.last_type c.args.root.now.items.defs s.valid c.requires.resource s.passed s.tables) c.unwrap-ty.ensures in
     Grows-by (defs.Item (items.Intrinsic (intrinsics.ResourceDrop c.unwrap-ty.result))) (ap (λ (b : Built). b.defs) c.in_ok-index.ensures.adds.1) (record { resource = resource_of w c.args.id; is = is })
 
 pub returns-clause-dropped : goal.returns-clause-dropped
 returns-clause-dropped c =
-    let w = c.args.self.now.world.now in
+    let w = c.args.root.now.world.now in
     let s = c.requires.sources in
-    let is : IsResource c.args.component.now.defs c.unwrap-ty.result (resource_of w c.args.id) =
-    some_is (λ index. IsResource c.args.component.now.defs index (resource_of w c.args.id)) c.resource_index.result c.unwrap-ty.result
-    (c.resource_index.ensures w s.types.last c.args.component.now.defs s.valid c.requires.resource s.types.passed s.types.tables) c.unwrap-ty.ensures in
+    let is : IsResource c.args.root.now.items.defs c.unwrap-ty.result (resource_of w c.args.id) =
+    some_is (λ index. IsResource c.args.root.now.items.defs index (resource_of w c.args.id)) c.resource_index.result c.unwrap-ty.result
+    (c.resource_index.ensures w c.args.root.now.last_type c.args.root.now.items.defs s.valid c.requires.resource s.passed s.tables) c.unwrap-ty.ensures in
     record { term = terms.Dropping (resource_of w c.args.id); is = c.in_ok-index.ensures.dropped (resource_of w c.args.id) is; asked = refl }

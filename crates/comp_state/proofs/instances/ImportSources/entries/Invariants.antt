@@ -1,3 +1,4 @@
+use Rattle.std.proofs.Common.{◌≡◌}
 use Rattle.comp_state.proofs.Serving.{FieldsSoFar}
 use Rattle.comp_state.proofs.instances.ImportSources.entries.Given as goal
 
@@ -5,4 +6,5 @@ abbrev pub invariant-loop-field : goal.invariant-loop-field
 invariant-loop-field l =
     goal.iterator-loop-field.can_next l.field-iterator ×
     goal.iterator-loop-field.is_finite l.field-iterator ×
-    FieldsSoFar l.self.world.now l.fn.component l.component l.entries l.fields l.field-iterator
+    (l.root ≡ record l.fn.root { items = l.root.items }) ×
+    FieldsSoFar l.fn.root.world.now l.fn.root.items l.root.items l.entries l.fields l.field-iterator

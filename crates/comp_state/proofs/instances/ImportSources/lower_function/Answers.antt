@@ -10,7 +10,7 @@ use Rattle.comp_imports.specs.Imports.{IsRootImport}
 use Rattle.comp_imports.specs.Growing.{Grows-by}
 use Rattle.comp_state.proofs.instances.ImportSources.lower_function.Goals as goal
 
-imported : (c : goal.In_ok-index) → IsRootImport c.args.self.now.world.now c.args.component.now.defs c.unwrap-function.result.now c.args.name.now
+imported : (c : goal.In_ok-index) → IsRootImport c.args.root.now.world.now c.args.root.now.items.defs c.unwrap-function.result.now c.args.name.now
 imported c = c.requires.sources.imports.each c.args.name.now c.unwrap-function.result.now (search rules)
 
 pub returns-clause-grows : goal.returns-clause-grows
@@ -21,5 +21,5 @@ returns-clause-grows c =
 pub returns-clause-lowered : goal.returns-clause-lowered
 returns-clause-lowered c =
     let i = imported c in
-    let none : AllZip (IsOption c.args.component.now.defs) c.new-options.result [] = subst (λ (os : List CanonicalOption). AllZip (IsOption c.args.component.now.defs) os []) (sym c.new-options.ensures) tt in
+    let none : AllZip (IsOption c.args.root.now.items.defs) c.new-options.result [] = subst (λ (os : List CanonicalOption). AllZip (IsOption c.args.root.now.items.defs) os []) (sym c.new-options.ensures) tt in
     record { term = terms.Lowering i.origin i.type []; is = c.in_ok-index.ensures.lowered i.origin i.type [] i.is none; asked = (i.of, i.typed, tt) }

@@ -1,4 +1,4 @@
-use Rattle.std.proofs.Common.{◌≡◌, Some, IsTrue, rules}
+use Rattle.std.proofs.Common.{◌≡◌, Some, IsTrue, rules, subst}
 use Rattle.comp_links.specs.Roles.{is_used}
 use Rattle.comp_worlds.specs.Worlds.{imported_name, IsImportRole}
 use Rattle.comp_state.proofs.Serving.{import_role, used_by_import}
@@ -7,12 +7,18 @@ use Rattle.comp_state.proofs.instances.ImportSources.materialize.Goals as goal
 pub lower_function-requires-clause-used : goal.lower_function-requires-clause-used
 lower_function-requires-clause-used c =
     let named : imported_name c.args.import.now ≡ Some c.in-WorldFunc-Name-default-default.name = search rules in
-    let used : IsTrue (is_used c.args.self.now.world.now c.in-WorldFunc-Name-default-default.name) =
-    used_by_import c.args.self.now.world.now c.args.module.now c.args.field.now c.in-WorldFunc-Name-default-default.name c.args.import.now named c.requires.present in
+    let used : IsTrue (is_used c.args.root.now.world.now c.in-WorldFunc-Name-default-default.name) =
+    used_by_import c.args.root.now.world.now c.args.module.now c.args.field.now c.in-WorldFunc-Name-default-default.name c.args.import.now named c.requires.present in
     c.requires.sources.used.each c.in-WorldFunc-Name-default-default.name used
+
+pub drop_resource-requires-clause-resource : goal.drop_resource-requires-clause-resource
+drop_resource-requires-clause-resource c =
+    let w = c.args.root.now.world.now in
+    let role : IsImportRole w c.args.import.now = import_role w c.requires.sources.valid c.args.module.now c.args.field.now c.args.import.now c.requires.present in
+    subst (IsImportRole w) c.in-ImportedResourceDrop.is role
 
 pub unreachable-requires : goal.unreachable-requires
 unreachable-requires c =
-    let role : IsImportRole c.args.self.now.world.now c.args.import.now =
-    import_role c.args.self.now.world.now c.requires.sources.valid c.args.module.now c.args.field.now c.args.import.now c.requires.present in
+    let role : IsImportRole c.args.root.now.world.now c.args.import.now =
+    import_role c.args.root.now.world.now c.requires.sources.valid c.args.module.now c.args.field.now c.args.import.now c.requires.present in
     search rules

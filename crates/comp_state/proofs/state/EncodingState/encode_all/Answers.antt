@@ -14,7 +14,7 @@ returns-clause-built c =
     let main : Grows w c.encode_imports.new.self.built.defs c.encode_core_modules.new.self.built.defs (ModuleIs w.main.bytes ∷ []) = rw (← first) c.in_ok-encode_core_modules.ensures.grows in
     let instance : Grows w c.encode_core_modules.new.self.built.defs c.instantiate.new.self.built.defs (InstanceOf 0 ∷ []) = rw (← second) c.in_ok-instantiate.ensures.grows in
     let exports : Grows w c.instantiate.new.self.built.defs c.encode_exports.new.self.built.defs (exports_marked w) = rw (← third) c.in_ok-encode_exports.ensures.grows in
-    built_by_steps w c.args.self.now.built.defs c.encode_imports.new.self.built.defs c.encode_core_modules.new.self.built.defs c.instantiate.new.self.built.defs c.encode_exports.new.self.built.defs c.requires
+    built_by_steps w c.args.self.now.built.defs c.encode_imports.new.self.built.defs c.encode_core_modules.new.self.built.defs c.instantiate.new.self.built.defs c.encode_exports.new.self.built.defs c.requires.empty
     c.in_ok-encode_imports.ensures.grows main instance exports
 
 pub returns-clause-encoded : goal.returns-clause-encoded

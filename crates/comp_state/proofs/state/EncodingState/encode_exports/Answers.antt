@@ -7,6 +7,7 @@ use Rattle.comp_state.specs.Causes.{IsCause}
 use Rattle.comp_state.specs.Tables.{IsEncoding}
 use Rattle.comp_state.specs.Encoding.{Encoding}
 use Rattle.comp_state.proofs.Growth.{encoding-with, exports_of, main_known}
+use Rattle.comp_imports.specs.RootScopes.{AreTablesRight, ArePassed}
 use Rattle.comp_state.proofs.state.EncodingState.encode_exports.Goals as goal
 
 pub export_all-requires : goal.export_all-requires

@@ -1,5 +1,5 @@
 use Rattle.std.proofs.Common.{◌∙◌, ap, subst, sym}
-use Rattle.comp_state.specs.Encoding.{Encoding}
+use Rattle.comp_state.specs.Encoding.{Encoding, AreImported}
 use Rattle.comp_state.specs.Tables.{IsEncoding}
 use Rattle.comp_state.specs.declared.state.Step.TheVariants.{Imported}
 use Rattle.comp_state.proofs.Building.{no_definitions}
@@ -7,13 +7,14 @@ use Rattle.comp_state.proofs.Growth.{encoding-with, encoding-imported}
 use Rattle.comp_state.proofs.state.EncodingState.encode_imports.Goals as goal
 
 pub import_all-requires-clause-first : goal.import_all-requires-clause-first
-import_all-requires-clause-first c = no_definitions c.self.inside.root.items.defs (ap (λ (e : Encoding). e.built.defs) c.self.view_is ∙ c.requires)
+import_all-requires-clause-first c = no_definitions c.self.inside.root.items.defs (ap (λ (e : Encoding). e.built.defs) c.self.view_is ∙ c.requires.empty)
 
 pub invariant_of-self : goal.invariant_of-self
 invariant_of-self c =
     let new = c.import_all.new.self in
     let in' = c.self.inside in
-    subst (λ r. IsEncoding r.now new.last_type new.items.defs new.maps in'.step in'.functions in'.core_names in'.main) (sym c.in_err-functions.ensures.world) (encoding-with c.in_err-functions.ensures.extends c.in_err-functions.ensures.tables c.self.invariant)
+    subst (λ r. IsEncoding r.now new.last_type new.items.defs new.maps in'.step in'.functions in'.core_names in'.main) (sym c.in_err-functions.ensures.world) (encoding-with c.in_err-functions.ensures.extends c.in_err-functions.ensures.tables
+    (λ i. absurd (subst AreImported (ap (λ (e : Encoding). e.step) c.self.view_is ∙ c.requires.started) i)) c.self.invariant)
 
 pub invariant_of-self-2 : goal.invariant_of-self-2
 invariant_of-self-2 c =

@@ -6,6 +6,7 @@ use Rattle.comp_state.specs.Causes.{IsCauseAmong}
 use Rattle.comp_state.specs.Tables.{IsEncoding}
 use Rattle.comp_state.specs.Encoding.{Encoding, IsRequiredLift}
 use Rattle.comp_state.proofs.Growth.{encoding-with, exports_of, main_known}
+use Rattle.comp_imports.specs.RootScopes.{AreTablesRight, ArePassed}
 use Rattle.comp_state.proofs.state.EncodingState.encode_lift.Goals as goal
 
 pub lift-requires-clause-exports : goal.lift-requires-clause-exports

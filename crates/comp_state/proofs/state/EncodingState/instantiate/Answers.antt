@@ -1,4 +1,4 @@
-use Rattle.std.proofs.Common.{rules, [], ◌∷◌, ap, refl, subst, sym, IsSome}
+use Rattle.std.proofs.Common.{rules, [], ◌∷◌, ap, refl, subst, sym, IsSome, Some}
 use Rattle.std.specs.List.{AllByRecursion}
 use Rattle.comp_builder.specs.Built.{Built}
 use Rattle.comp_bytes.proofs.ItemIndices.{in_range}
@@ -14,31 +14,44 @@ use Rattle.comp_state.proofs.Exporting.{main_module}
 use Rattle.comp_imports.specs.Growing.{Grows-by, Grows-then, kept}
 use Rattle.comp_state.proofs.Growth.{encoding-kept, encoding-instantiated, sources_of}
 use Rattle.comp_state.proofs.Serving.{groups_encoded}
+use Rattle.comp_worlds.specs.declared.world.ComponentWorld.{ComponentWorld}
+use Rattle.comp_imports.specs.declared.root_scope.RootScope.{RootScope}
+use Rattle.comp_state.specs.Tables.{IsEncoding}
+use Rattle.comp_state.specs.declared.state.Step.TheVariants.{Instantiated}
 use Rattle.comp_state.proofs.state.EncodingState.instantiate.Goals as goal
 
+abbrev Root : Type 0
+Root = RootScope ComponentWorld
+
 pub arguments-requires : goal.arguments-requires
-arguments-requires c = record { sources = sources_of _ c.self.invariant (subst (λ (e : Encoding). AreImported e.step) (sym c.self.view_is) c.requires.imported) }
+arguments-requires c = record { sources = sources_of c.self.inside.root.world.now _ c.self.invariant (subst (λ (e : Encoding). AreImported e.step) (sym c.self.view_is) c.requires.imported) }
 
 pub invariant_of-self : goal.invariant_of-self
-invariant_of-self c = encoding-kept c.in_err-arguments.ensures.extends c.self.invariant
+invariant_of-self c =
+    let in' = c.self.inside in
+    subst (λ (r : Root). IsEncoding r.world.now r.last_type c.arguments.new.root.items.defs r.maps in'.step in'.functions in'.core_names in'.main) (sym c.in_err-arguments.ensures.same) (encoding-kept c.in_err-arguments.ensures.extends c.self.invariant)
 
 pub invariant_of-self-in_err-index : goal.invariant_of-self-in_err-index
 invariant_of-self-in_err-index c =
-    let last : Extends c.arguments.new.component c.core_instance.new.self = extends_same c.arguments.new.component c.core_instance.new.self c.in_err-index.ensures.adds.0 in
-    encoding-kept (extends_then c.self.inside.root.items c.arguments.new.component c.core_instance.new.self c.in_ok-arguments.ensures.extends last) c.self.invariant
+    let last : Extends c.arguments.new.root.items c.core_instance.new.self = extends_same c.arguments.new.root.items c.core_instance.new.self c.in_err-index.ensures.adds.0 in
+    let in' = c.self.inside in
+    subst (λ (r : Root). IsEncoding r.world.now r.last_type c.core_instance.new.self.defs r.maps in'.step in'.functions in'.core_names in'.main) (sym c.in_ok-arguments.ensures.same)
+    (encoding-kept (extends_then c.self.inside.root.items c.arguments.new.root.items c.core_instance.new.self c.in_ok-arguments.ensures.extends last) c.self.invariant)
 
 pub invariant_of-self-2 : goal.invariant_of-self-2
 invariant_of-self-2 c =
-    let last : Extends c.arguments.new.component c.core_instance.new.self = search rules in
-    let all : Extends c.self.inside.root.items c.core_instance.new.self = extends_then c.self.inside.root.items c.arguments.new.component c.core_instance.new.self c.in_ok-arguments.ensures.extends last in
-    encoding-instantiated c.in_ok-index.index all (subst (λ (e : Encoding). AreImported e.step) (sym c.self.view_is) c.requires.imported) c.in_ok-index.ensures.instance c.self.invariant
+    let last : Extends c.arguments.new.root.items c.core_instance.new.self = search rules in
+    let all : Extends c.self.inside.root.items c.core_instance.new.self = extends_then c.self.inside.root.items c.arguments.new.root.items c.core_instance.new.self c.in_ok-arguments.ensures.extends last in
+    let in' = c.self.inside in
+    subst (λ (r : Root). IsEncoding r.world.now r.last_type c.core_instance.new.self.defs r.maps Instantiated in'.functions in'.core_names (Some c.in_ok-index.index)) (sym c.in_ok-arguments.ensures.same)
+    (encoding-instantiated c.in_ok-index.index all (subst (λ (e : Encoding). AreImported e.step) (sym c.self.view_is) c.requires.imported) c.in_ok-index.ensures.instance c.self.invariant)
 
 pub returns-clause-grows : goal.returns-clause-grows
 returns-clause-grows c =
     let w = c.self.inside.root.world.now in
     let first : IsFirstModule w c.self.inside.root.items.defs = subst (λ (e : Encoding). IsFirstModule e.world e.built.defs) (sym c.self.view_is) c.requires.first in
     let scoped = in_range (kept c.in_ok-arguments.ensures.grows first.made) in
-    let last : Grows w c.arguments.new.component.defs c.core_instance.new.self.defs (InstanceOf 0 ∷ []) =
+    let last : Grows w c.arguments.new.root.items.defs c.core_instance.new.self.defs (InstanceOf 0 ∷ []) =
     Grows-by (defs.Item (items.CoreInstantiate 0 c.in_ok-arguments.arguments)) (ap (λ (b : Built). b.defs) c.in_ok-index.ensures.adds.1)
     (record { of = main_module w; listed = refl; scoped = scoped; each = c.in_ok-arguments.ensures.serves }) in
     subst (λ (e : Encoding). Grows e.world e.built.defs c.core_instance.new.self.defs (InstanceOf 0 ∷ [])) c.self.view_is (Grows-then c.in_ok-arguments.ensures.grows last)
@@ -46,4 +59,4 @@ returns-clause-grows c =
 pub returns-clause-encoded : goal.returns-clause-encoded
 returns-clause-encoded c =
     subst (λ (e : Encoding). AllByRecursion (λ i. IsEncodedImport e.world i.role) (core_imports e.world)) c.self.view_is
-    (groups_encoded c.self.inside.root.world.now c.arguments.new.component.defs c.in_ok-arguments.arguments c.self.inside.root.world.now.main.imports.modules c.in_ok-arguments.ensures.serves)
+    (groups_encoded c.self.inside.root.world.now c.arguments.new.root.items.defs c.in_ok-arguments.arguments c.self.inside.root.world.now.main.imports.modules c.in_ok-arguments.ensures.serves)
