@@ -66,7 +66,11 @@ pub(crate) struct ImportSources<'a> {
 
 impl ImportSources<'_> {
     /// Lowers a root function that was imported.
-    fn lower_function(&self, root: &mut RootScope<'_, ComponentWorld>, name: &Text) -> Result<u32, BuildFault>
+    fn lower_function(
+        &self,
+        root: &mut RootScope<'_, ComponentWorld>,
+        name: &Text,
+    ) -> Result<u32, BuildFault>
         requires sources { AreSources root.old.world.now self.now root.old.last_type root.old.items.defs root.old.maps }
         requires used { IsSome (found name.now self.now.functions.now) }
         ensures same { root.new ≡ record root.old { items = root.new.items } }
@@ -77,12 +81,18 @@ impl ImportSources<'_> {
     {
         let function = *self.functions.get(name).unwrap();
         let options = Seq::new(root.items.allocator());
-        let index = root.items.lower_function(Some(name.as_str()), function, options)?;
+        let index = root
+            .items
+            .lower_function(Some(name.as_str()), function, options)?;
         Ok(index)
     }
 
     /// Makes the drop of handles of a resource of the world.
-    fn drop_resource(&self, root: &mut RootScope<'_, ComponentWorld>, id: TypeId) -> Result<u32, BuildFault>
+    fn drop_resource(
+        &self,
+        root: &mut RootScope<'_, ComponentWorld>,
+        id: TypeId,
+    ) -> Result<u32, BuildFault>
         requires sources { AreSources root.old.world.now self.now root.old.last_type root.old.items.defs root.old.maps }
         requires resource { IsResource root.old.world.now.resolve.types id.index }
         ensures same { root.new ≡ record root.old { items = root.new.items } }

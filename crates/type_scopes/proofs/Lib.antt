@@ -2,3 +2,4 @@ pub mod Offering
 pub mod Scoping
 pub mod Naming
 pub mod Exporting
+pub mod Meeting

@@ -3,3 +3,4 @@ pub mod Members
 pub mod Exports
 pub mod Offers
 pub mod Interfaces
+pub mod Foreign

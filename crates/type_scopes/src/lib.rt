@@ -25,6 +25,7 @@
 //! imported. A refusal is out of memory, or more type indices than there can be.
 #![tactic(auto)]
 
+mod foreign_types;
 mod functions;
 mod instance_type;
 mod interface;
@@ -34,6 +35,7 @@ mod outer_type;
 mod outer_types;
 mod placement;
 
+pub use foreign_types::{ForeignTypes, foreign_types};
 pub use instance_type::InstanceTypeEncoder;
 pub use interface::encode_interface_type;
 pub use member_list::MemberList;

@@ -51,4 +51,5 @@ pub use calls::{
 };
 pub use encoder::ValtypeEncoder;
 pub use maps::{FuncTypeKey, TypeEncodingMaps};
+pub use reading::{foreign, owner_of};
 pub use type_list::{AloneType, ListedType, TypeList, encode_alone};

@@ -12,7 +12,7 @@ use std::alloc::{AllocError, Global};
 use wit_data::{InterfaceId, Type, TypeDef, TypeDefKind, TypeId, TypeOwner, part_of};
 
 /// The interface of a type, where it is another one than the given one.
-pub(crate) fn foreign(here: Option<InterfaceId>, owner: TypeOwner) -> Option<InterfaceId>
+pub fn foreign(here: Option<InterfaceId>, owner: TypeOwner) -> Option<InterfaceId>
     ensures { result ≡ foreign here owner }
 {
     match owner {
@@ -33,7 +33,7 @@ pub(crate) fn foreign(here: Option<InterfaceId>, owner: TypeOwner) -> Option<Int
 
 /// The owner of the type with an index.
 #[tactic(auto, using(crate::proofs::Owning::owner_there))]
-pub(crate) fn owner_of(types: &[TypeDef], id: TypeId) -> TypeOwner
+pub fn owner_of(types: &[TypeDef], id: TypeId) -> TypeOwner
     requires { id.index < length types.now }
     ensures { result ≡ owner_at types.now id.index }
 {
