@@ -20,3 +20,4 @@ mod WorkedInstances
 mod NotComposed
 mod WorkedTypes
 mod WorkedTypesLinked
+mod WorkedDrops

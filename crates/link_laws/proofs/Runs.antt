@@ -10,6 +10,7 @@ use Rattle.comp_bytes.specs.declared.space.Sort.TheVariants as sorts
 use Rattle.comp_bytes.specs.declared.types.Alias.TheVariants as aliases
 use Rattle.comp_bytes.specs.declared.types.Description.TheVariants as descriptions
 use Rattle.comp_bytes.specs.declared.canon.CanonicalOption.{CanonicalOption}
+use Rattle.comp_bytes.specs.declared.canon.Intrinsic.TheVariants as intrinsics
 use Rattle.comp_bytes.specs.declared.def.Item.TheVariants as items
 use Rattle.comp_bytes.specs.declared.def.Def.{Def}
 use Rattle.comp_bytes.specs.declared.def.Def.TheVariants as defs
@@ -33,7 +34,7 @@ use Rattle.link_laws.proofs.Zips.{each_listed}
 use Rattle.link_laws.proofs.Stores.{IsTypeEntry, IsFunctionEntry, Agrees}
 use Rattle.link_laws.proofs.Given.{scope_there}
 use Rattle.link_laws.proofs.Plain.{only_main, no_initialize}
-use Rattle.link_laws.proofs.Steps.{no_modules, machine, IsNow, IsGood, asks, events_of, seen_by, Steps, step_type, step_import, step_import_type, step_import_resource, step_lower, step_lift, step_inline_instance, step_alias, step_export, step_module, step_custom, step_instantiate}
+use Rattle.link_laws.proofs.Steps.{no_modules, machine, IsNow, IsGood, asks, events_of, seen_by, Steps, step_type, step_import, step_import_type, step_import_resource, step_lower, step_drop, step_lift, step_inline_instance, step_alias, step_export, step_module, step_custom, step_instantiate}
 use Rattle.link_laws.proofs.Marks.{root_imports, root_modules, root_instances, root_exports, root_export_names, no_customs}
 use Rattle.link_laws.proofs.ImportedTypes.{types_served}
 use Rattle.link_laws.proofs.Served.{users_served, stated_all, each_provided}
@@ -48,6 +49,7 @@ module _ {w : ComponentWorld} {earlier : List Def} {c : Scope} {s : Store} (a : 
   step ok (defs.Item (items.Lift core options kind)) h =
       subst (λ (o : List CanonicalOption). Steps w earlier c s g (defs.Item (items.Lift core o kind))) (sym h.1) (step_lift a g core kind h.0 h.2)
   step ok (defs.Item (items.Lower function options)) h = subst (λ (o : List CanonicalOption). Steps w earlier c s g (defs.Item (items.Lower function o))) (sym h.1) (step_lower a g function h.0)
+  step ok (defs.Item (items.Intrinsic (intrinsics.ResourceDrop type))) h = step_drop a g type h
   step ok (defs.Item (items.Import name (descriptions.Func kind))) h = step_import a g name kind h.1
   step ok (defs.Item (items.Import name (descriptions.TypeEqual index))) h = step_import_type a g name index h.1.0
   step ok (defs.Item (items.Import name descriptions.SubResource)) h = step_import_resource a g name

@@ -19,6 +19,7 @@ use Rattle.comp_bytes.specs.declared.types.TypeDef.{TypeDef}
 use Rattle.comp_bytes.specs.declared.types.TypeDef.TheVariants as types
 use Rattle.comp_bytes.specs.declared.types.Alias.TheVariants as aliases
 use Rattle.comp_bytes.specs.declared.types.Description.TheVariants as descriptions
+use Rattle.comp_bytes.specs.declared.canon.Intrinsic.TheVariants as intrinsics
 use Rattle.comp_bytes.specs.declared.def.CoreArgument.{CoreArgument}
 use Rattle.comp_bytes.specs.declared.def.CoreInlineExport.{CoreInlineExport}
 use Rattle.comp_bytes.specs.declared.def.Item.TheVariants as items
@@ -43,14 +44,14 @@ use Rattle.core_runs.specs.Values.{Value}
 use Rattle.core_types.specs.declared.types.ValType.TheVariants.{I32}
 use Rattle.core_runs.specs.Store.{Opaque, Answer, Gives, Traps, Event, Instantiated, Now, Cell, Foreign}
 use Rattle.core_runs.specs.Execution.{answered, seen, renewed}
-use Rattle.comp_runs.specs.Store.{Thing, Export, CoreItem, Lowering, ExportedBy, Function, Imported, Lifting, TypeItem, TreeOf, ImportedResource, ModuleInstance, Store}
+use Rattle.comp_runs.specs.Store.{Thing, Export, CoreItem, Lowering, IntrinsicOf, ExportedBy, Function, Imported, Lifting, TypeItem, TreeOf, ImportedResource, ModuleInstance, Store}
 use Rattle.comp_links.specs.Targets.{Main, Lifted}
 use Rattle.comp_links.specs.Modules.{WorldModule}
 use Rattle.comp_roles.specs.declared.offered.ExternType.{ExternType}
 use Rattle.comp_roles.specs.declared.offered.ExternType.TheVariants as externs
 use Rattle.comp_roles.specs.declared.offered.ImportType.{ImportType}
 use Rattle.comp_terms.specs.Planned.{type_of_function, IsLiftFor, IsArgumentFor}
-use Rattle.comp_terms.specs.Rules.{InstantiatesUser, AliasesUser, ExportsRequired, IsEntry, AreEntries, HasFunctionType, HasImportedFunction, IsTypeRight}
+use Rattle.comp_terms.specs.Rules.{InstantiatesUser, AliasesUser, ExportsRequired, IsEntry, AreEntries, HasFunctionType, HasResource, HasImportedFunction, IsTypeRight}
 use Rattle.comp_runs.specs.Machine.{Scope, Machine, Outcome, Done, Trapped, Open, Stuck, address_at, is_of, export_named, all_some, resumed, with_opaque}
 use Rattle.comp_runs.specs.Instances.{ExportTypes, exported_by, with_exports, with_module_instance, matching, argument_for, type_kind, given_to, new_user, type_scope, known_function, type_item}
 use Rattle.comp_runs.specs.Signatures.{core_signature}
@@ -58,8 +59,8 @@ use Rattle.comp_runs.specs.Running.{core_argument, core_entry, type_of_function 
 use Rattle.link_laws.specs.Composition.{GeneratedModules, at_root, item_instantiates}
 use Rattle.link_laws.specs.Linking.{module_meanings, LetsRun}
 use Rattle.link_laws.proofs.Zips.{AllZip-join, all_some-self, all_some-each, length-map, mapped_some}
-use Rattle.link_laws.proofs.Stores.{IsOpaqueOf, IsUserItem, IsUserExport, IsUserInstance, IsNamedEntry, IsTypeAt, Means, makes, IsTypeEntry, entry_of, IsFunctionEntry, main_module, IsPlanned, IsPlannedUser, IsLiftedFrom, IsLiftedExport, NumberedFrom, Agrees, Keeps, address_at-append, Means-kept, IsTypeEntry-kept, IsFunctionEntry-kept, IsPlannedUser-kept, IsLiftedExport-kept}
-use Rattle.link_laws.proofs.Given.{IsOffered, address_there, scope_there, entry_there, type_there, function_at, imported_there, user_there, offered_there, lift_there, arguments_there, given_there}
+use Rattle.link_laws.proofs.Stores.{IsOpaqueOf, IsUserItem, IsUserExport, IsUserInstance, IsNamedEntry, IsTypeAt, drop_core, IsHeldAs, Means, makes, IsTypeEntry, entry_of, IsFunctionEntry, main_module, IsPlanned, IsPlannedUser, IsLiftedFrom, IsLiftedExport, NumberedFrom, Agrees, Keeps, address_at-append, Means-kept, IsTypeEntry-kept, IsFunctionEntry-kept, IsPlannedUser-kept, IsLiftedExport-kept}
+use Rattle.link_laws.proofs.Given.{IsOffered, address_there, scope_there, entry_there, held_there, type_there, function_at, imported_there, user_there, offered_there, lift_there, arguments_there, given_there}
 use Rattle.link_laws.proofs.Plain.{IsFunctionImport, function_imports, listed_main}
 use Rattle.link_laws.proofs.UserExports.{Exports, Alike, all_exports, all_alike, same_exports, each_export}
 
@@ -447,6 +448,31 @@ module _ {w : ComponentWorld} {earlier : List Def} {c : Scope} {s : Store} (a : 
                 is = opaque_there item type s;
               };
             })
+            (tt, tt) refl refl refl refl refl refl,
+      )
+
+  pub step_drop : (type : ℕ) → HasResource earlier type → Steps w earlier c s g (defs.Item (items.Intrinsic (intrinsics.ResourceDrop type)))
+  step_drop type h =
+      let d : Def = defs.Item (items.Intrinsic (intrinsics.ResourceDrop type)) in
+      let x : (x : ℕ) × (address_at spaces.Type type c.items ≡ Some x) × IsHeldAs s (OfValues (ResourceAt h.resource)) x = held_there a h.is.denotes in
+      let t : Thing = record { space = spaces.CoreFunc; address = length s.code.functions } in
+      let item : CoreItem = IntrinsicOf (intrinsics.ResourceDrop x.0) in
+      let s' : Store = with_opaque item drop_core s in
+      let k : Keeps c.items (c.items ++ t ∷ []) s s' = record {
+        things = λ space i x e. address_at-append c.items (t ∷ []) space i x e;
+        code = λ i x e. slice_get-append s.code.functions (Opaque (length s.known) drop_core ∷ []) i x e;
+        known = λ i x e. slice_get-append s.known (item ∷ []) i x e;
+        instances = λ i x e. e;
+        functions = λ i x e. e;
+        types = λ i x e. e;
+        users = λ i x e. e;
+      } in (
+        with_thing c t,
+        s',
+        g,
+        quiet w d c s g (with_thing c t) s' refl (λ rest now. rw x.1 refl),
+        agrees_plain d s' t k
+            (record { space = refl; is = record { of = x.0; at = address_at-append c.items (t ∷ []) spaces.Type type x.0 x.1; is = opaque_there item drop_core s } })
             (tt, tt) refl refl refl refl refl refl,
       )
 

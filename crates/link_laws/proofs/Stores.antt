@@ -8,6 +8,7 @@ use Rattle.comp_bytes.specs.declared.space.Space.{Space}
 use Rattle.comp_bytes.specs.declared.space.Space.TheVariants as spaces
 use Rattle.standard_kinds.specs.declared.kinds.ExportKind.TheVariants as kinds
 use Rattle.comp_bytes.specs.declared.types.Alias.TheVariants as aliases
+use Rattle.comp_bytes.specs.declared.canon.Intrinsic.TheVariants as intrinsics
 use Rattle.comp_bytes.specs.declared.def.CoreInlineExport.{CoreInlineExport}
 use Rattle.comp_bytes.specs.declared.def.Item.{Item}
 use Rattle.comp_bytes.specs.declared.def.Item.TheVariants as items
@@ -15,9 +16,11 @@ use Rattle.comp_bytes.specs.declared.def.Def.{Def}
 use Rattle.comp_bytes.specs.declared.def.Def.TheVariants as defs
 use Rattle.comp_bytes.specs.ScopeNames.{def_export}
 use Rattle.core_types.specs.declared.types.FuncType.{FuncType}
-use Rattle.comp_trees.specs.Trees.{Origin, FunctionTree}
-use Rattle.comp_trees.specs.DefinedTrees.{OfFunctions}
+use Rattle.core_types.specs.declared.types.ValType.TheVariants.{I32}
+use Rattle.comp_trees.specs.Trees.{Origin, Resource, ResourceAt, FunctionTree}
+use Rattle.comp_trees.specs.DefinedTrees.{TypeTree, OfValues, OfFunctions}
 use Rattle.comp_trees.specs.Inventories.{TypeEntry, FunctionEntry, entry_tree, inventory}
+use Rattle.comp_roles.specs.CoreTypes.{function_type}
 use Rattle.comp_roles.specs.declared.offered.ExternType.{ExternType}
 use Rattle.comp_roles.specs.declared.offered.ExternType.TheVariants as externs
 use Rattle.comp_roles.specs.declared.offered.ImportType.{ImportType}
@@ -26,14 +29,14 @@ use Rattle.wit_data.specs.declared.worlds.WorldKey.TheVariants as keys
 use Rattle.world_values.specs.Items.{root_function_at}
 use Rattle.comp_worlds.specs.Worlds.{items_of, core_name_of}
 use Rattle.comp_worlds.specs.declared.world.ComponentWorld.{ComponentWorld}
-use Rattle.comp_links.specs.Targets.{Main, WorldFunction, Target, Lowered}
+use Rattle.comp_links.specs.Targets.{Main, WorldFunction, Target, Lowered, Dropped}
 use Rattle.comp_links.specs.Modules.{WorldModule}
-use Rattle.comp_links.specs.Lists.{IsOriginOf}
+use Rattle.comp_links.specs.Lists.{IsOriginOf, resource_of}
 use Rattle.comp_links.specs.Links.{link_at}
 use Rattle.comp_terms.specs.Terms.{imports_in}
 use Rattle.comp_terms.specs.Planned.{IsTypeOf, type_of_function}
 use Rattle.core_runs.specs.Store.{Func, Opaque}
-use Rattle.comp_runs.specs.Store.{Thing, Export, CoreItem, Lowering, ExportedBy, Function, Imported, Lifting, TypeItem, TreeOf, item_tree, ModuleInstance, Store}
+use Rattle.comp_runs.specs.Store.{Thing, Export, CoreItem, Lowering, IntrinsicOf, ExportedBy, Function, Imported, Lifting, TypeItem, TreeOf, item_tree, ModuleInstance, Store}
 use Rattle.comp_runs.specs.Instances.{type_space}
 use Rattle.comp_runs.specs.Machine.{Scope, address_at, is_of, export_named}
 use Rattle.comp_runs.specs.Signatures.{core_signature}
@@ -97,6 +100,16 @@ pub record IsTypeAt (things : List Thing) (s : Store) (kind : ℕ) (type : Funct
   pub at : address_at spaces.Type kind things ≡ Some address
   pub is : slice_get s.types address ≡ Some (TreeOf (OfFunctions type))
 
+-- the core type of a drop: a handle is a number
+abbrev pub drop_core : FuncType
+drop_core = function_type (I32 ∷ []) []
+
+-- the drop of the type at this index
+pub record IsDropItem (things : List Thing) (s : Store) (type address : ℕ) : Type 0 where
+  pub of : ℕ
+  pub at : address_at spaces.Type type things ≡ Some of
+  pub is : IsOpaqueOf s address drop_core (IntrinsicOf (intrinsics.ResourceDrop of))
+
 -- a lift of the core function at this index, of the type at this index
 pub record IsLiftedItem (things : List Thing) (s : Store) (core kind address : ℕ) : Type 0 where
   pub of : ℕ
@@ -121,6 +134,7 @@ ItemIs w things s (items.CoreExports entries) a = IsInlineInstance things s entr
 ItemIs w things s (items.Alias (aliases.CoreExport kinds.Func instance name)) a = IsAliasedItem things s instance name a
 ItemIs w things s (items.Lift core options kind) a = IsLiftedItem things s core kind a
 ItemIs w things s (items.Lower function options) a = IsLoweredItem things s function a
+ItemIs w things s (items.Intrinsic (intrinsics.ResourceDrop type)) a = IsDropItem things s type a
 ItemIs w things s _ a = Unit {0}
 
 abbrev pub DefIs : ComponentWorld → List Thing → Store → Def → ℕ → Type 0
@@ -166,9 +180,22 @@ pub record IsLoweredFor (w : ComponentWorld) (s : Store) (address : ℕ) (functi
   pub typed : IsTypeOf w function type
   pub lowered : IsLoweringOf s address origin type
 
+-- the type at this address denotes this
+pub record IsHeldAs (s : Store) (tree : TypeTree) (address : ℕ) : Type 0 where
+  pub item : TypeItem
+  pub present : slice_get s.types address ≡ Some item
+  pub denotes : item_tree address item ≡ tree
+
+-- the core function is the drop of handles of this resource
+pub record IsDropOf (s : Store) (address : ℕ) (resource : Resource) : Type 0 where
+  pub of : ℕ
+  pub is : IsOpaqueOf s address drop_core (IntrinsicOf (intrinsics.ResourceDrop of))
+  pub held : IsHeldAs s (OfValues (ResourceAt resource)) of
+
 -- the core function is what the target names
 abbrev pub IsServedAs : ComponentWorld → Store → ℕ → Target → Type 0
 IsServedAs w s address (Lowered function []) = IsLoweredFor w s address function
+IsServedAs w s address (Dropped id) = IsDropOf s address (resource_of w id)
 IsServedAs w s address target = ⊥
 
 -- main, as a user module
@@ -270,9 +297,13 @@ module _ {a b : List Thing} {s t : Store} (k : Keeps a b s t) where
   IsLoweringOf-kept : (address : ℕ) (origin : Origin) (type : FunctionTree) → IsLoweringOf s address origin type → IsLoweringOf t address origin type
   IsLoweringOf-kept address origin type h = record { of = h.of; is = IsOpaque-kept h.is; imported = k.functions h.of (Imported origin type) h.imported }
 
+  IsHeldAs-kept : (tree : TypeTree) (address : ℕ) → IsHeldAs s tree address → IsHeldAs t tree address
+  IsHeldAs-kept tree address h = record { item = h.item; present = k.types address h.item h.present; denotes = h.denotes }
+
   IsServedAs-kept : (w : ComponentWorld) (address : ℕ) (target : Target) → IsServedAs w s address target → IsServedAs w t address target
   IsServedAs-kept w address (Lowered function []) h =
       record { origin = h.origin; type = h.type; from = h.from; typed = h.typed; lowered = IsLoweringOf-kept address h.origin h.type h.lowered }
+  IsServedAs-kept w address (Dropped id) h = record { of = h.of; is = IsOpaque-kept h.is; held = IsHeldAs-kept (OfValues (ResourceAt (resource_of w id))) h.of h.held }
   IsServedAs-kept w address target h = absurd h
 
   pub IsPlanned-kept : (w : ComponentWorld) (x : Thing) (i : ImportType) → IsPlanned w s x i → IsPlanned w t x i
@@ -318,6 +349,7 @@ module _ (w : ComponentWorld) {a b : List Thing} {s t : Store} (k : Keeps a b s 
     imported = k.functions h.of (Imported h.origin h.type) h.imported;
     is = IsOpaque-kept k h.is;
   }
+  item-kept (items.Intrinsic (intrinsics.ResourceDrop type)) x h = record { of = h.of; at = k.things spaces.Type type h.of h.at; is = IsOpaque-kept k h.is }
   item-kept _ x h = tt
 
   def-kept : (d : Def) (x : ℕ) → DefIs w a s d x → DefIs w b t d x
