@@ -7,6 +7,7 @@ pub mod Steps
 mod Marks
 mod ImportedTypes
 mod Served
+mod NamedItem
 pub mod Runs
 mod Worked
 mod Crossed

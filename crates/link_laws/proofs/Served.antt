@@ -51,7 +51,7 @@ returned_same (core.Open now) = refl
 returned_same core.Stuck = refl
 
 -- a call of an opaque function is one call of it, with no hooks
-acts_alone : (store : CodeStore) (address what : ℕ) (signature : FuncType) (hook : ℕ) → slice_get store.functions address ≡ Some (Opaque what signature) → (arguments : List Value) (now : Now) →
+pub acts_alone : (store : CodeStore) (address what : ℕ) (signature : FuncType) (hook : ℕ) → slice_get store.functions address ≡ Some (Opaque what signature) → (arguments : List Value) (now : Now) →
     acts store address arguments now ≡ expected (around None Nothing) hook (record { address = address; signature = signature }) arguments now
 unfolding acts exec
 acts_alone store address what signature hook e arguments now = rw e (sym (returned_same (asked address signature arguments now)))

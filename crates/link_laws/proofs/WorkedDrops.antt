@@ -1,9 +1,9 @@
 -- A worked example: a world that imports two resources, of which main drops handles. Its list links, and with the two drops crossed
 -- it isn't linked.
 use Rattle.std.proofs.Common.{◌≡◌, ℕ, zero, suc, false, List, [], ◌∷◌, ◌++◌, refl, sym, ap, subst, Some, None, map, take, IsTrue, arith}
-use Rattle.std.proofs.lemmas.Option.{none-some, same_Some}
+use Rattle.std.proofs.lemmas.Option.{same_Some}
 use Rattle.std.specs.Prelude.{codes, Contains}
-use Rattle.std.specs.List.{slice_get, IsDistinct}
+use Rattle.std.specs.List.{IsDistinct}
 use Rattle.std.specs.Str.{bytes_eq}
 use Rattle.standard_kinds.specs.declared.kinds.ExportKind.TheVariants as kinds
 use Rattle.comp_bytes.proofs.Worked.{plain, root}
@@ -14,13 +14,7 @@ use Rattle.comp_bytes.specs.declared.def.Item.TheVariants as items
 use Rattle.comp_bytes.specs.declared.def.Def.{Def}
 use Rattle.comp_bytes.specs.declared.def.Def.TheVariants as defs
 use Rattle.core_types.specs.Core.{core_preamble}
-use Rattle.core_types.specs.declared.types.FuncType.{FuncType}
-use Rattle.core_runs.specs.declared.bracket.AfterHook.TheVariants.{Nothing}
-use Rattle.core_runs.specs.Hooks.{around}
-use Rattle.core_runs.specs.Values.{Value, I32Value, fit}
 use Rattle.core_runs.specs.Store.{Opaque, Instantiated}
-use Rattle.core_runs.specs.Execution.{exec, acts}
-use Rattle.core_runs.specs.Expected.{expected}
 use Rattle.wit_data.specs.Values.{values_from}
 use Rattle.wit_data.specs.declared.ids.TypeId.{TypeId}
 use Rattle.wit_data.specs.declared.types.TypeDef.{TypeDef}
@@ -45,7 +39,7 @@ use Rattle.comp_terms.specs.Terms.{IsResource as IsResourceAt, IsDropping}
 use Rattle.comp_terms.specs.Terms as terms
 use Rattle.comp_terms.specs.Planned.{IsEntryFor, IsArgumentFor}
 use Rattle.comp_terms.specs.Rules.{IsDescriptionRight, IsBuilt}
-use Rattle.comp_runs.specs.Store.{CoreItem, IntrinsicOf}
+use Rattle.comp_runs.specs.Store.{IntrinsicOf}
 use Rattle.comp_runs.specs.Machine.{Machine, Outcome}
 use Rattle.link_laws.specs.Meeting.{CoreMeets, ItemIsDrop, Meets}
 use Rattle.link_laws.specs.Linking.{outcome, IsServed, IsLinked, Links}
@@ -54,7 +48,7 @@ use Rattle.link_laws.proofs.Steps.{no_modules}
 use Rattle.link_laws.proofs.Runs.{links}
 use Rattle.link_laws.proofs.Worked.{root_import, Ended, ended, core_function, made, machine_of}
 use Rattle.link_laws.proofs.WorkedTypes.{one_apart}
-use Rattle.link_laws.proofs.Crossed.{traps_next, first_called, known_by, type_by}
+use Rattle.link_laws.proofs.NamedItem.{own_item}
 
 -- ---- the world
 
@@ -276,42 +270,14 @@ crossed_ends = refl
 abbrev m : Machine
 m = machine_of crossed
 
-abbrev a_handle : List Value
-a_handle = I32Value 7 ∷ []
-
--- a call of function 0 is a call of no other
-calls_its_own : (address hook : ℕ) (signature : FuncType) → drop_core ≡ signature →
-    acts m.store.code 0 a_handle traps_next ≡ expected (around None Nothing) hook (record { address = address; signature = signature }) a_handle traps_next → 0 ≡ address
-unfolding acts exec
-calls_its_own address hook signature same e =
-    let called : 0 ≡ first_called (expected (around None Nothing) hook (record { address = address; signature = signature }) a_handle traps_next) = ap first_called e in
-    subst (λ (t : FuncType). 0 ≡ first_called (expected (around None Nothing) hook (record { address = address; signature = t }) a_handle traps_next)) (sym same) called
-
 -- the number of the import that a resource is
 abbrev number_of : TypeTree → ℕ
 number_of (OfValues (ResourceAt (ImportedAt origin))) = origin.number
 number_of tree = 0
 
 -- function 0 drops the second resource
-not_of_r : (what : ℕ) (item : CoreItem) → 0 ≡ what → slice_get m.store.known what ≡ Some item → ItemIsDrop m (resource 0) item → ⊥
-not_of_r what item same known named =
-    let is : IntrinsicOf (intrinsics.ResourceDrop 1) ≡ item = same_Some (IntrinsicOf (intrinsics.ResourceDrop 1)) item (subst (λ n. slice_get m.store.known n ≡ Some item) (sym same) known) in
-    let other : 1 ≡ 0 = ap number_of (subst (ItemIsDrop m (resource 0)) (sym is) named) in
-    absurd (omega (arith, other))
-
-none_drops_r : (address what hook : ℕ) (signature : FuncType) (item : CoreItem) → slice_get m.store.code.functions address ≡ Some (Opaque what signature) → slice_get m.store.known what ≡ Some item →
-    ItemIsDrop m (resource 0) item → (drop_core ≡ signature → 0 ≡ address) → ⊥
-none_drops_r zero what hook signature item e known named called = not_of_r what item (ap known_by e) known named
-none_drops_r (suc zero) what hook signature item e known named called = let same : 0 ≡ 1 = called (same_core e) in absurd (omega (arith, same))
-  where
-    same_core : Some (Opaque 1 drop_core) ≡ Some (Opaque what signature) → drop_core ≡ signature
-    same_core x = ap type_by x
-none_drops_r (suc (suc n)) what hook signature item e known named called = absurd (none-some (Opaque what signature) e)
-
 no_drop_of_r : CoreMeets world m None 0 (ItemIsDrop m (resource 0)) → ⊥
-no_drop_of_r c =
-    none_drops_r c.target.address c.what c.hook c.target.signature c.item c.is c.known c.named
-    (λ same. calls_its_own c.target.address c.hook c.target.signature same (c.acts.same a_handle traps_next (subst (λ (t : FuncType). IsTrue (fit t.params a_handle)) same refl) tt))
+no_drop_of_r c = let other : 1 ≡ 0 = ap number_of (own_item world m 0 (ItemIsDrop m (resource 0)) c 0 drop_core (IntrinsicOf (intrinsics.ResourceDrop 1)) refl refl) in absurd (omega (arith, other))
 
 abbrev first_import : ImportType
 first_import = record { module_name = root; field = drop_r; ty = drop_type }
