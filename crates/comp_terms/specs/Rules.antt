@@ -2,10 +2,12 @@
 -- explainer: component definitions). They are what the steps guarantee to the proof that the list runs; no rule is
 -- part of a public guarantee.
 use Rattle.std.specs.Prelude.{◌≡◌, ◌<◌, ℕ, List, [], ◌∷◌, ◌++◌, Option, Some, None, true, length, map, filter, get_or, slice_get}
-use Rattle.std.specs.List.{AllByRecursion, AllZip, IsDistinct, filter_map}
+use Rattle.std.specs.List.{AllByRecursion, AllZip, IsDistinct, filter_map, list_any}
 use Rattle.std.specs.Str.{bytes_eq}
 use Rattle.comp_bytes.specs.Spaces.{items_in}
+use Rattle.comp_bytes.specs.declared.space.Space.{Space}
 use Rattle.comp_bytes.specs.declared.space.Space.TheVariants as spaces
+use Rattle.comp_bytes.specs.declared.space.ComponentExportKind.TheVariants as exports
 use Rattle.standard_kinds.specs.declared.kinds.ExportKind.TheVariants as kinds
 use Rattle.comp_bytes.specs.declared.space.Sort.{Sort}
 use Rattle.comp_bytes.specs.declared.space.Sort.TheVariants as sorts
@@ -14,6 +16,7 @@ use Rattle.comp_bytes.specs.declared.types.TypeDef.{TypeDef}
 use Rattle.comp_bytes.specs.declared.types.TypeDef.TheVariants as types
 use Rattle.comp_bytes.specs.declared.types.Alias.{Alias}
 use Rattle.comp_bytes.specs.declared.types.Alias.TheVariants as aliases
+use Rattle.comp_bytes.specs.declared.types.Member.{Member}
 use Rattle.comp_bytes.specs.declared.types.Description.{Description}
 use Rattle.comp_bytes.specs.declared.types.Description.TheVariants as descriptions
 use Rattle.comp_bytes.specs.declared.canon.Intrinsic.{Intrinsic}
@@ -31,7 +34,8 @@ use Rattle.wit_data.specs.declared.ids.TypeId.{TypeId}
 use Rattle.world_values.specs.Items.{root_function_at}
 use Rattle.comp_trees.specs.Trees.{Origin, Resource, ImportedAt, ResourceAt, FunctionTree, is_known, is_known_function}
 use Rattle.comp_trees.specs.DefinedTrees.{TypeTree, OfValues, OfOthers, defined_tree, function_tree}
-use Rattle.comp_trees.specs.Inventories.{scope_of}
+use Rattle.comp_trees.specs.Members.{AreMembersRight, exports_name}
+use Rattle.comp_trees.specs.Inventories.{ImportedInstance, surroundings_of, inventory, scope_of}
 use Rattle.comp_worlds.specs.Worlds.{items_of}
 use Rattle.wit_data.specs.Keys.{name_of_key}
 use Rattle.comp_roles.specs.declared.offered.ExternType.TheVariants as externs
@@ -81,7 +85,17 @@ pub record AreEntries (earlier : List Def) (entries : List CoreInlineExport) : T
   pub each : AllByRecursion (IsEntry earlier) entries
   pub apart : IsDistinct bytes_eq (map (λ e. e.name) entries)
 
+-- an alias of an export of an imported instance: a member of the instance's type exports this name in this space
+pub record AliasesImported (earlier : List Def) (space : Space) (instance : ℕ) (name : List ℕ) : Type 0 where
+  pub number : ℕ
+  pub outer : List TypeTree
+  pub members : List Member
+  pub imported : slice_get (inventory earlier).instances instance ≡ Some (ImportedInstance number outer members)
+  pub exported : list_any (exports_name space name) members ≡ true
+
 abbrev pub IsAliasRight : ComponentWorld → List Def → Alias → Type 0
+IsAliasRight w earlier (aliases.Export exports.Func instance name) = AliasesImported earlier spaces.Func instance name
+IsAliasRight w earlier (aliases.Export exports.Type instance name) = AliasesImported earlier spaces.Type instance name
 IsAliasRight w earlier (aliases.CoreExport kinds.Func instance name) = AliasesUser w earlier instance name
 IsAliasRight w earlier _ = ⊥
 
@@ -126,6 +140,10 @@ IsTypeRight scope (types.Func f) = is_known_function (function_tree scope f) ≡
 IsTypeRight scope (types.Defined t) = is_known (defined_tree scope t) ≡ true
 IsTypeRight scope (types.Resource destructor) = ⊥
 
+-- a type of instances with these members, which are right whatever the number of the import is
+abbrev pub AreRightMembers : List TypeTree → List Member → Type 0
+AreRightMembers scope members = (number : ℕ) → AreMembersRight (surroundings_of number scope) [] members
+
 -- an intrinsic: so far, the drop of a resource
 abbrev pub IsIntrinsicRight : List Def → Intrinsic → Type 0
 IsIntrinsicRight earlier (intrinsics.ResourceDrop type) = HasResource earlier type
@@ -143,7 +161,7 @@ IsItemRight w earlier (items.CoreExports entries) = AreEntries earlier entries
 IsItemRight w earlier (items.Instantiate component arguments) = ⊥
 IsItemRight w earlier (items.Alias a) = IsAliasRight w earlier a
 IsItemRight w earlier (items.Type t) = IsTypeRight (scope_of earlier) t
-IsItemRight w earlier (items.InstanceType t) = ⊥
+IsItemRight w earlier (items.InstanceType t) = AreRightMembers (scope_of earlier) t.members
 IsItemRight w earlier (items.Lift core options kind) = (core < items_in spaces.CoreFunc earlier) × (options ≡ []) × HasFunctionType earlier kind
 IsItemRight w earlier (items.Lower function options) = HasImportedFunction earlier function × (options ≡ [])
 IsItemRight w earlier (items.Intrinsic i) = IsIntrinsicRight earlier i

@@ -1,8 +1,9 @@
 -- What the members of an instance type denote, and what an instance of it exports (component model, explainer:
 -- `instancedecl`; binary: type indices).
-use Rattle.std.specs.Prelude.{ℕ, ◌≡◌, ◌<◌, Bool, true, List, [], ◌∷◌, ◌++◌, length, get_or, if◌then◌else◌}
+use Rattle.std.specs.Prelude.{ℕ, ◌≡◌, ◌<◌, Bool, true, false, ◌&&◌, List, [], ◌∷◌, ◌++◌, Some, length, get_or, if◌then◌else◌}
 use Rattle.std.specs.Str.{bytes_eq}
-use Rattle.comp_bytes.specs.Spaces.{is_space, member_space}
+use Rattle.comp_bytes.specs.Spaces.{is_space, description_space, member_space}
+use Rattle.comp_bytes.specs.declared.space.Space.{Space}
 use Rattle.comp_bytes.specs.declared.space.Space.TheVariants as spaces
 use Rattle.comp_bytes.specs.declared.types.Member.{Member}
 use Rattle.comp_bytes.specs.declared.types.Member.TheVariants as members
@@ -60,6 +61,11 @@ IsMemberRight s scope other = ⊥
 abbrev pub AreMembersRight : Surroundings → List TypeTree → List Member → Type 0
 AreMembersRight s scope [] = Unit {0}
 AreMembersRight s scope (m ∷ ms) = IsMemberRight s scope m × AreMembersRight s (with_member s scope m) ms
+
+-- whether a member exports this name in this space
+abbrev pub exports_name : Space → List ℕ → Member → Bool
+exports_name space name (members.Export n description) = is_space space (Some (description_space description)) && bytes_eq name n.name
+exports_name space name member = false
 
 -- the type, and the type of the function, that an instance exports under a name, where `all` is what the type indices of
 -- its instance type denote

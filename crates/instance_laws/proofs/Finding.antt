@@ -14,10 +14,10 @@ use Rattle.comp_bytes.specs.declared.types.Member.{Member}
 use Rattle.comp_bytes.specs.declared.types.Member.TheVariants as members
 use Rattle.comp_trees.specs.Trees.{ResourceAt}
 use Rattle.comp_trees.specs.DefinedTrees.{TypeTree, OfValues, OfOthers}
-use Rattle.comp_trees.specs.Members.{Surroundings, AreMembersRight, makes_type, member_tree, with_member, member_trees, type_exported, function_exported}
+use Rattle.comp_trees.specs.Members.{Surroundings, AreMembersRight, makes_type, member_tree, with_member, member_trees, exports_name, type_exported, function_exported}
 use Rattle.comp_runs.specs.Store.{Export, Function, TypeItem}
 use Rattle.comp_runs.specs.Machine.{export_in, export_of}
-use Rattle.instance_laws.specs.Instantiated.{IsHeldAs, member_exports, IsImportedFunction, IsExportedAs, exports_name, FindsFunction, FindsType}
+use Rattle.instance_laws.specs.Instantiated.{IsHeldAs, member_exports, IsImportedFunction, IsExportedAs, FindsFunction, FindsType}
 use Rattle.instance_laws.proofs.Held.{index_of_functions}
 
 -- ---- the type indices of the members before have the same meaning after all members

@@ -68,37 +68,45 @@ held_of_entries types v items h = entries_held types v.types (filter (is_of spac
 
 -- ---- what is held stays so where the store grows
 
-pub IsHeldAs-kept : (types more : List TypeItem) (tree : TypeTree) (address : ℕ) → IsHeldAs types tree address → IsHeldAs (types ++ more) tree address
-IsHeldAs-kept types more tree address h = record { item = h.item; present = slice_get-append types more address h.item h.present; denotes = h.denotes }
+-- a list that grew has at each index what it had
+pub record KeepsEntries {X : Type 0} (old new : List X) : Type 0 where
+  pub at : (i : ℕ) (x : X) → slice_get old i ≡ Some x → slice_get new i ≡ Some x
 
-pub AreHeldAs-kept : (types more : List TypeItem) (trees : List TypeTree) (items : List Thing) → AreHeldAs types trees items → AreHeldAs (types ++ more) trees items
-AreHeldAs-kept types more trees items h = AllZip-weaker (λ tree (t : Thing). IsHeldAs-kept types more tree t.address) trees (filter (is_of spaces.Type) items) h
+-- it is the same, or has more at its end
+pub keeps_same : {X : Type 0} {old new : List X} → new ≡ old → KeepsEntries old new
+keeps_same same = record { at = λ i x e. subst (λ l. slice_get l i ≡ Some x) (sym same) e }
 
-IsItemOf-kept : (number : ℕ) (types more : List TypeItem) (functions others : List Function) (space : Space) (name : List ℕ) (tree : TypeTree) (address : ℕ) →
-    IsItemOf number types functions space name tree address → IsItemOf number (types ++ more) (functions ++ others) space name tree address
-IsItemOf-kept number types more functions others spaces.Func name tree address h = record {
-  type = h.type;
-  present = slice_get-append functions others address (Imported (record { number = number; inner = Some name }) h.type) h.present;
-  denotes = h.denotes;
-}
-IsItemOf-kept number types more functions others spaces.Type name tree address h = IsHeldAs-kept types more tree address h
-IsItemOf-kept number types more functions others space name tree address h = absurd h
+pub keeps_more : {X : Type 0} (old more : List X) → KeepsEntries old (old ++ more)
+keeps_more old more = record { at = λ i x e. slice_get-append old more i x e }
 
-pub IsExportedAs-kept : (number : ℕ) (types more : List TypeItem) (functions others : List Function) (x : MemberExport) (e : Export) →
-    IsExportedAs number types functions x e → IsExportedAs number (types ++ more) (functions ++ others) x e
-IsExportedAs-kept number types more functions others x e h = record {
-  named = h.named;
-  space = h.space;
-  is = IsItemOf-kept number types more functions others x.space x.name x.tree e.address h.is;
-}
+pub keeps_then : {X : Type 0} {old new newest : List X} → KeepsEntries old new → KeepsEntries new newest → KeepsEntries old newest
+keeps_then k l = record { at = λ i x e. l.at i x (k.at i x e) }
 
-pub exports_kept : (number : ℕ) (types more : List TypeItem) (functions others : List Function) (xs : List MemberExport) (es : List Export) → AllZip (IsExportedAs number types functions) xs es →
-    AllZip (IsExportedAs number (types ++ more) (functions ++ others)) xs es
-exports_kept number types more functions others xs es h = AllZip-weaker (IsExportedAs-kept number types more functions others) xs es h
+pub keeps_grown : {X : Type 0} (old new more : List X) → new ≡ old ++ more → KeepsEntries old new
+keeps_grown old new more grew = subst (KeepsEntries old) (sym grew) (keeps_more old more)
 
--- what was at an address of a list that grew is there
-pub entry_kept : {X : Type 0} (old new more : List X) → new ≡ old ++ more → (i : ℕ) (x : X) → slice_get old i ≡ Some x → slice_get new i ≡ Some x
-entry_kept {X} old new more grew i x e = subst (λ (l : List X). slice_get l i ≡ Some x) (sym grew) (slice_get-append old more i x e)
+module _ {types types' : List TypeItem} (k : KeepsEntries types types') where
+  pub IsHeldAs-kept : (tree : TypeTree) (address : ℕ) → IsHeldAs types tree address → IsHeldAs types' tree address
+  IsHeldAs-kept tree address h = record { item = h.item; present = k.at address h.item h.present; denotes = h.denotes }
+
+  pub AreHeldAs-kept : (trees : List TypeTree) (items : List Thing) → AreHeldAs types trees items → AreHeldAs types' trees items
+  AreHeldAs-kept trees items h = AllZip-weaker (λ tree (t : Thing). IsHeldAs-kept tree t.address) trees (filter (is_of spaces.Type) items) h
+
+module _ (number : ℕ) {types types' : List TypeItem} {functions functions' : List Function} (k : KeepsEntries types types') (l : KeepsEntries functions functions') where
+  IsItemOf-kept : (space : Space) (name : List ℕ) (tree : TypeTree) (address : ℕ) → IsItemOf number types functions space name tree address → IsItemOf number types' functions' space name tree address
+  IsItemOf-kept spaces.Func name tree address h = record {
+    type = h.type;
+    present = l.at address (Imported (record { number = number; inner = Some name }) h.type) h.present;
+    denotes = h.denotes;
+  }
+  IsItemOf-kept spaces.Type name tree address h = IsHeldAs-kept k tree address h
+  IsItemOf-kept space name tree address h = absurd h
+
+  IsExportedAs-kept : (x : MemberExport) (e : Export) → IsExportedAs number types functions x e → IsExportedAs number types' functions' x e
+  IsExportedAs-kept x e h = record { named = h.named; space = h.space; is = IsItemOf-kept x.space x.name x.tree e.address h.is }
+
+  pub exports_kept : (xs : List MemberExport) (es : List Export) → AllZip (IsExportedAs number types functions) xs es → AllZip (IsExportedAs number types' functions') xs es
+  exports_kept xs es h = AllZip-weaker IsExportedAs-kept xs es h
 
 -- ---- one item more
 

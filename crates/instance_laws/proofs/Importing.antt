@@ -1,18 +1,18 @@
 -- A type of instances is imported, and the exports of the instance are aliased: the items are those of the inventory.
-use Rattle.std.proofs.Common.{◌≡◌, ◌∙◌, ℕ, true, List, [], ◌∷◌, ◌++◌, refl, ap, Option, Some}
+use Rattle.std.proofs.Common.{◌≡◌, ◌∙◌, ℕ, true, List, [], ◌∷◌, refl, ap, Option, Some}
 use Rattle.std.specs.List.{slice_get, list_any}
 use Rattle.comp_bytes.specs.declared.space.Space.TheVariants as spaces
 use Rattle.comp_bytes.specs.declared.types.Member.{Member}
 use Rattle.comp_trees.specs.Trees.{Origin}
 use Rattle.comp_trees.specs.DefinedTrees.{TypeTree}
-use Rattle.comp_trees.specs.Members.{AreMembersRight, member_trees, type_exported, function_exported}
+use Rattle.comp_trees.specs.Members.{AreMembersRight, member_trees, exports_name, type_exported, function_exported}
 use Rattle.comp_trees.specs.Inventories.{InstanceEntry, ImportedInstance, OtherInstance, Inventory, trees_in, entry_tree, surroundings_of, type_of_instance, function_of_instance}
 use Rattle.comp_runs.specs.Store.{Thing, Export, Function, TypeItem, InstanceTypeOf}
 use Rattle.comp_runs.specs.Machine.{Machine, with_some, address_at}
 use Rattle.comp_runs.specs.Instances.{type_at, instance_of_type}
-use Rattle.instance_laws.specs.Instantiated.{AreHeldAs, member_exports, exports_name, RunsInstanceType, FindsFunction, FindsType}
+use Rattle.instance_laws.specs.Instantiated.{AreHeldAs, member_exports, with_now, RunsInstanceType, FindsFunction, FindsType}
 use Rattle.instance_laws.specs.InstanceEntries.{IsInstanceType, IsImportedInstance, IsInstanceEntry, RunsImport, AliasesFunction, AliasesType}
-use Rattle.instance_laws.proofs.Held.{AreHeldAs-kept, exports_kept}
+use Rattle.instance_laws.proofs.Held.{KeepsEntries, AreHeldAs-kept, exports_kept}
 use Rattle.instance_laws.proofs.Members.{instance_runs}
 use Rattle.instance_laws.proofs.Finding.{finds_function, finds_type}
 
@@ -21,16 +21,13 @@ pub instance_type_made : (types : List TypeItem) (v : Inventory) (all : List Mem
     IsInstanceType types (trees_in v) all (InstanceTypeOf all (items ∷ around))
 instance_type_made types v all items around h = record { next_out = items; further = around; is = refl; outer_held = h }
 
-pub IsInstanceType-kept : (types more : List TypeItem) (outer : List TypeTree) (all : List Member) (item : TypeItem) → IsInstanceType types outer all item → IsInstanceType (types ++ more) outer all item
-IsInstanceType-kept types more outer all item h = record { next_out = h.next_out; further = h.further; is = h.is; outer_held = AreHeldAs-kept types more outer h.next_out h.outer_held }
+pub IsInstanceType-kept : {types types' : List TypeItem} → KeepsEntries types types' → (outer : List TypeTree) (all : List Member) (item : TypeItem) → IsInstanceType types outer all item → IsInstanceType types' outer all item
+IsInstanceType-kept k outer all item h = record { next_out = h.next_out; further = h.further; is = h.is; outer_held = AreHeldAs-kept k outer h.next_out h.outer_held }
 
-pub IsInstanceEntry-kept : (types more : List TypeItem) (functions others : List Function) (entry : InstanceEntry) (es : List Export) → IsInstanceEntry types functions entry es →
-    IsInstanceEntry (types ++ more) (functions ++ others) entry es
-IsInstanceEntry-kept types more functions others (ImportedInstance number outer all) es h = record {
-  right = h.right;
-  each = exports_kept number types more functions others (member_exports (surroundings_of number outer) [] all) es h.each;
-}
-IsInstanceEntry-kept types more functions others OtherInstance es h = tt
+pub IsInstanceEntry-kept : {types types' : List TypeItem} {functions functions' : List Function} → KeepsEntries types types' → KeepsEntries functions functions' → (entry : InstanceEntry) (es : List Export) →
+    IsInstanceEntry types functions entry es → IsInstanceEntry types' functions' entry es
+IsInstanceEntry-kept k l (ImportedInstance number outer all) es h = record { right = h.right; each = exports_kept number k l (member_exports (surroundings_of number outer) [] all) es h.each }
+IsInstanceEntry-kept k l OtherInstance es h = tt
 
 -- An import of a type of instances whose members are right runs, and makes an instance that is what its entry says.
 pub import_runs : (origin : Origin) (outer : List TypeTree) (all : List Member) (index : ℕ) (item : TypeItem) (m : Machine) → type_at index m ≡ Some item → IsInstanceType m.store.types outer all item →
@@ -46,9 +43,9 @@ import_runs origin outer all index item m at is right =
       types_grew = r.types_grew;
       functions_grew = r.functions_grew;
       is = record { right = right; each = r.each };
-      runs = λ next.
-          ap (λ (o : Option TypeItem). with_some o (λ t. instance_of_type origin t m next)) at
-          ∙ (ap (λ (t : TypeItem). instance_of_type origin t m next) is.is ∙ r.runs next);
+      runs = λ now next.
+          ap (λ (o : Option TypeItem). with_some o (λ t. instance_of_type origin t (with_now m now) next)) at
+          ∙ (ap (λ (t : TypeItem). instance_of_type origin t (with_now m now) next) is.is ∙ r.runs now next);
     }
 
 module _ (m : Machine) (instance address : ℕ) (es : List Export) (name : List ℕ) (number : ℕ) (outer : List TypeTree) (all : List Member) where

@@ -12,6 +12,7 @@ use Rattle.comp_bytes.specs.declared.types.Alias.TheVariants as aliases
 use Rattle.comp_bytes.specs.declared.types.Description.TheVariants as descriptions
 use Rattle.comp_bytes.specs.declared.types.Member.{Member}
 use Rattle.comp_bytes.specs.declared.types.Member.TheVariants as members
+use Rattle.core_runs.specs.Store.{Now}
 use Rattle.comp_trees.specs.Trees.{Origin, ImportedAt, ResourceAt, is_known, is_known_function}
 use Rattle.comp_trees.specs.DefinedTrees.{TypeTree, OfValues, OfFunctions, OfOthers, function_tree, defined_tree}
 use Rattle.comp_trees.specs.Members.{IsOfFunctions, IsMemberRight, AreMembersRight, with_member, member_trees}
@@ -19,13 +20,13 @@ use Rattle.comp_trees.specs.Inventories.{surroundings_of}
 use Rattle.comp_runs.specs.Store.{Thing, Export, Function, Imported, TypeItem, TreeOf, ImportedResource}
 use Rattle.comp_runs.specs.Machine.{Machine, Next, new_instance}
 use Rattle.comp_runs.specs.Instances.{type_scope, known_function, type_item, each_member}
-use Rattle.instance_laws.specs.Instantiated.{IsHeldAs, AreHeldAs, IsScopeOf, MemberExport, exports_of_member, member_exports, IsExportedAs, Grown, grown, RunMembers, RunsInstanceType}
-use Rattle.instance_laws.proofs.Held.{trees_of_held, AreHeldAs-kept, exports_kept, AreHeldAs-push, AreHeldAs-beside, new_held, IsTypeThere, type_there, index_of_functions, item_of_functions}
+use Rattle.instance_laws.specs.Instantiated.{IsHeldAs, AreHeldAs, IsScopeOf, MemberExport, exports_of_member, member_exports, IsExportedAs, Grown, grown, with_now, RunMembers, RunsInstanceType}
+use Rattle.instance_laws.proofs.Held.{trees_of_held, keeps_more, keeps_grown, AreHeldAs-kept, exports_kept, AreHeldAs-push, AreHeldAs-beside, new_held, IsTypeThere, type_there, index_of_functions, item_of_functions}
 
 -- one member runs, and the rest is run from this machine
 pub record RunsMember (number : ℕ) (outer scope : List TypeTree) (x : Member) (m : Machine) : Type 0 where
   pub growth : Grown number (with_member (surroundings_of number outer) scope x) (exports_of_member (surroundings_of number outer) scope x) m
-  pub runs : (rest : List Member) (next : Next) → each_member number (x ∷ rest) m next ≡ each_member number rest (grown m growth) next
+  pub runs : (now : Now) (rest : List Member) (next : Next) → each_member number (x ∷ rest) (with_now m now) next ≡ each_member number rest (with_now (grown m growth) now) next
 
 module _ (number : ℕ) {outer scope : List TypeTree} {m : Machine} (a : IsScopeOf outer scope m) where
   scoped : type_scope m ≡ scope
@@ -44,7 +45,7 @@ module _ (number : ℕ) {outer scope : List TypeTree} {m : Machine} (a : IsScope
     types_grew = refl;
     functions_grew = sym (append-nil m.store.functions);
     exports_grew = sym (append-nil m.scope.exports);
-    held = AreHeldAs-push (m.store.types ++ item ∷ []) scope m.scope.items tree (length m.store.types) (AreHeldAs-kept m.store.types (item ∷ []) scope m.scope.items a.held) h;
+    held = AreHeldAs-push (m.store.types ++ item ∷ []) scope m.scope.items tree (length m.store.types) (AreHeldAs-kept (keeps_more m.store.types (item ∷ [])) scope m.scope.items a.held) h;
     each = tt;
   }
 
@@ -54,7 +55,7 @@ module _ (number : ℕ) {outer scope : List TypeTree} {m : Machine} (a : IsScope
       let e : type_item (types.Func f) m ≡ Some (TreeOf tree) =
       ap (λ sc. option_map (λ tree. TreeOf tree) (known_function (function_tree sc f))) scoped
       ∙ ap (λ b. option_map (λ tree. TreeOf tree) (if b then Some tree else None)) h in
-      record { growth = type_growth (TreeOf tree) tree (new_held m.store.types (TreeOf tree) tree refl); runs = λ rest next. rw e refl }
+      record { growth = type_growth (TreeOf tree) tree (new_held m.store.types (TreeOf tree) tree refl); runs = λ now rest next. rw e refl }
 
   member_value_type : (t : DefinedType) → is_known (defined_tree scope t) ≡ true → RunsMember number outer scope (members.Type (types.Defined t)) m
   member_value_type t h =
@@ -62,7 +63,7 @@ module _ (number : ℕ) {outer scope : List TypeTree} {m : Machine} (a : IsScope
       let e : type_item (types.Defined t) m ≡ Some (TreeOf tree) =
       ap (λ sc. if is_known (defined_tree sc t) then Some (TreeOf (OfValues (defined_tree sc t))) else None) scoped
       ∙ ap (λ b. if b then Some (TreeOf tree) else None) h in
-      record { growth = type_growth (TreeOf tree) tree (new_held m.store.types (TreeOf tree) tree refl); runs = λ rest next. rw e refl }
+      record { growth = type_growth (TreeOf tree) tree (new_held m.store.types (TreeOf tree) tree refl); runs = λ now rest next. rw e refl }
 
   -- a type that is one of an outer scope
   member_outer : (index : ℕ) → index < length outer → RunsMember number outer scope (members.Alias (aliases.Outer 1 index)) m
@@ -83,7 +84,7 @@ module _ (number : ℕ) {outer scope : List TypeTree} {m : Machine} (a : IsScope
           held = AreHeldAs-push m.store.types scope m.scope.items (get_or outer index OfOthers) x.address a.held x.is;
           each = tt;
         };
-        runs = λ rest next. rw (a.around, x.at) refl;
+        runs = λ now rest next. rw (a.around, x.at) refl;
       }
 
   -- an export of a type that equals one is that one
@@ -106,7 +107,7 @@ module _ (number : ℕ) {outer scope : List TypeTree} {m : Machine} (a : IsScope
           held = AreHeldAs-push m.store.types scope m.scope.items (get_or scope index OfOthers) x.address a.held x.is;
           each = (record { named = refl; space = refl; is = x.is }, tt);
         };
-        runs = λ rest next. rw x.at refl;
+        runs = λ now rest next. rw x.at refl;
       }
 
   -- a resource is a new type, known by the import and its name
@@ -129,10 +130,10 @@ module _ (number : ℕ) {outer scope : List TypeTree} {m : Machine} (a : IsScope
           types_grew = refl;
           functions_grew = sym (append-nil m.store.functions);
           exports_grew = refl;
-          held = AreHeldAs-push (m.store.types ++ item ∷ []) scope m.scope.items tree (length m.store.types) (AreHeldAs-kept m.store.types (item ∷ []) scope m.scope.items a.held) h;
+          held = AreHeldAs-push (m.store.types ++ item ∷ []) scope m.scope.items tree (length m.store.types) (AreHeldAs-kept (keeps_more m.store.types (item ∷ [])) scope m.scope.items a.held) h;
           each = (record { named = refl; space = refl; is = h }, tt);
         };
-        runs = λ rest next. refl;
+        runs = λ now rest next. refl;
       }
 
   -- a function is a new one, known by the import and its name
@@ -157,7 +158,7 @@ module _ (number : ℕ) {outer scope : List TypeTree} {m : Machine} (a : IsScope
           held = AreHeldAs-beside m.store.types scope m.scope.items (length m.store.functions) a.held;
           each = (record { named = refl; space = refl; is = record { type = f.type; present = slice_get-end m.store.functions function; denotes = sym f.tree } }, tt);
         };
-        runs = λ rest next. rw (x.at, there) refl;
+        runs = λ now rest next. rw (x.at, there) refl;
       }
 
   -- a right member runs
@@ -173,7 +174,7 @@ module _ (number : ℕ) {outer scope : List TypeTree} {m : Machine} (a : IsScope
 -- ---- one after the other
 
 -- lists that are related, and those that follow
-each_joined : {A B : Type 0} (R : A → B → Type 0) (xs more : List A) (ys others : List B) → AllZip R xs ys → AllZip R more others → AllZip R (xs ++ more) (ys ++ others)
+pub each_joined : {A B : Type 0} (R : A → B → Type 0) (xs more : List A) (ys others : List B) → AllZip R xs ys → AllZip R more others → AllZip R (xs ++ more) (ys ++ others)
 each_joined R [] more [] others h k = k
 each_joined R (x ∷ xs) more (y ∷ ys) others h k = (h.0, each_joined R xs more ys others h.1 k)
 each_joined R [] more (y ∷ ys) others h k = absurd h
@@ -189,7 +190,7 @@ scope_after {number} {outer} {scope} {trees} {exported} {m} a g = record {
   next_out = a.next_out;
   further = a.further;
   around = a.around;
-  outer_held = subst (λ types. AreHeldAs types outer a.next_out) (sym g.types_grew) (AreHeldAs-kept m.store.types g.more_types outer a.next_out a.outer_held);
+  outer_held = AreHeldAs-kept (keeps_grown m.store.types g.types g.more_types g.types_grew) outer a.next_out a.outer_held;
   held = g.held;
 }
 
@@ -197,12 +198,9 @@ scope_after {number} {outer} {scope} {trees} {exported} {m} a g = record {
 exported_after : (number : ℕ) (trees trees' : List TypeTree) (first second : List MemberExport) (m : Machine) (g : Grown number trees first m) (k : Grown number trees' second (grown m g)) →
     AllZip (IsExportedAs number k.types k.functions) (first ++ second) (g.more_exports ++ k.more_exports)
 exported_after number trees trees' first second m g k =
-    let kept : AllZip (IsExportedAs number (g.types ++ k.more_types) (g.functions ++ k.more_functions)) first g.more_exports =
-    exports_kept number g.types k.more_types g.functions k.more_functions first g.more_exports g.each in
-    let now : AllZip (IsExportedAs number k.types k.functions) first g.more_exports =
-    subst (λ types. AllZip (IsExportedAs number types k.functions) first g.more_exports) (sym k.types_grew)
-    (subst (λ functions. AllZip (IsExportedAs number (g.types ++ k.more_types) functions) first g.more_exports) (sym k.functions_grew) kept) in
-    each_joined (IsExportedAs number k.types k.functions) first second g.more_exports k.more_exports now k.each
+    each_joined (IsExportedAs number k.types k.functions) first second g.more_exports k.more_exports
+    (exports_kept number (keeps_grown g.types k.types k.more_types k.types_grew) (keeps_grown g.functions k.functions k.more_functions k.functions_grew) first g.more_exports g.each)
+    k.each
 
 abbrev grown_twice : (number : ℕ) (trees trees' : List TypeTree) (first second : List MemberExport) (m : Machine) (g : Grown number trees first m) (k : Grown number trees' second (grown m g)) →
     Grown number trees' (first ++ second) m
@@ -241,14 +239,14 @@ not_grown number trees m h = record {
 -- and each member that exports has made an export that is what it says.
 pub members_run : (number : ℕ) (outer scope : List TypeTree) (all : List Member) (m : Machine) → IsScopeOf outer scope m → AreMembersRight (surroundings_of number outer) scope all →
     RunMembers number outer scope all m
-members_run number outer scope [] m a h = record { growth = not_grown number scope m a.held; runs = λ next. refl; scoped = trees_of_held m.store.types scope m.scope.items a.held }
+members_run number outer scope [] m a h = record { growth = not_grown number scope m a.held; runs = λ now next. refl; scoped = trees_of_held m.store.types scope m.scope.items a.held }
 members_run number outer scope (x ∷ xs) m a h =
     let one : RunsMember number outer scope x m = member_runs number a x h.0 in
     let trees : List TypeTree = with_member (surroundings_of number outer) scope x in
     let rest : RunMembers number outer trees xs (grown m one.growth) = members_run number outer trees xs (grown m one.growth) (scope_after a one.growth) h.1 in
     record {
       growth = grown_twice number trees (member_trees (surroundings_of number outer) trees xs) (exports_of_member (surroundings_of number outer) scope x) (member_exports (surroundings_of number outer) trees xs) m one.growth rest.growth;
-      runs = λ next. one.runs xs next ∙ rest.runs next;
+      runs = λ now next. one.runs now xs next ∙ rest.runs now next;
       scoped = rest.scoped;
     }
 
@@ -269,7 +267,7 @@ instance_runs origin outer all next_out further m outer_held h =
       types_grew = g.types_grew;
       functions_grew = g.functions_grew;
       each = subst (λ es. AllZip (IsExportedAs origin.number g.types g.functions) (member_exports (surroundings_of origin.number outer) [] all) es) (sym g.exports_grew) g.each;
-      runs = λ next. r.runs (λ inner. next (length inner.store.instances) (with_instance_of inner));
+      runs = λ now next. r.runs now (λ inner. next (length inner.store.instances) (with_instance_of inner));
     }
   where
     with_instance_of : Machine → Machine

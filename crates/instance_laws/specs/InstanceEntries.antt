@@ -6,6 +6,7 @@ use Rattle.comp_bytes.specs.declared.space.ComponentExportKind.TheVariants as ex
 use Rattle.comp_bytes.specs.declared.types.Alias.TheVariants as aliases
 use Rattle.comp_bytes.specs.declared.types.Description.TheVariants as descriptions
 use Rattle.comp_bytes.specs.declared.types.Member.{Member}
+use Rattle.core_runs.specs.Store.{Now}
 use Rattle.comp_trees.specs.Trees.{Origin, FunctionTree}
 use Rattle.comp_trees.specs.DefinedTrees.{TypeTree, OfFunctions}
 use Rattle.comp_trees.specs.Members.{AreMembersRight}
@@ -13,7 +14,7 @@ use Rattle.comp_trees.specs.Inventories.{FunctionEntry, InstanceEntry, ImportedI
 use Rattle.comp_runs.specs.Store.{Thing, Export, Function, Imported, TypeItem, InstanceTypeOf}
 use Rattle.comp_runs.specs.Machine.{Machine, Next}
 use Rattle.comp_runs.specs.Instances.{aliased, described, instance_of_type}
-use Rattle.instance_laws.specs.Instantiated.{IsHeldAs, AreHeldAs, member_exports, IsExportedAs, with_instance}
+use Rattle.instance_laws.specs.Instantiated.{IsHeldAs, AreHeldAs, member_exports, IsExportedAs, with_now, with_instance}
 
 -- a type of instances with these members, of a scope whose types denote `outer`
 pub record IsInstanceType (types : List TypeItem) (outer : List TypeTree) (all : List Member) (item : TypeItem) : Type 0 where
@@ -42,7 +43,7 @@ pub record RunsImport (origin : Origin) (outer : List TypeTree) (all : List Memb
   pub types_grew : types ≡ m.store.types ++ more_types
   pub functions_grew : functions ≡ m.store.functions ++ more_functions
   pub is : IsImportedInstance origin.number outer all types functions exports
-  pub runs : (next : ℕ → Next) → described instance_of_type origin (descriptions.Instance index) m next ≡ next (length m.store.instances) (with_instance m types functions exports)
+  pub runs : (now : Now) (next : ℕ → Next) → described instance_of_type origin (descriptions.Instance index) (with_now m now) next ≡ next (length m.store.instances) (with_instance (with_now m now) types functions exports)
 
 -- an alias of a function, and of a type, is what its entry says
 pub record AliasesFunction (m : Machine) (instance : ℕ) (name : List ℕ) (entry : FunctionEntry) : Type 0 where

@@ -1,9 +1,8 @@
 -- What a run has after the members of an instance type: what the type indices denote, and what the instance exports
 -- (component model, explainer: `instancedecl`, instance types).
-use Rattle.std.specs.Prelude.{ℕ, ◌≡◌, Bool, false, ◌&&◌, List, [], ◌∷◌, ◌++◌, Some, get_or, filter, length, slice_get}
-use Rattle.std.specs.Str.{bytes_eq}
+use Rattle.std.specs.Prelude.{ℕ, ◌≡◌, List, [], ◌∷◌, ◌++◌, Some, get_or, filter, length, slice_get}
 use Rattle.std.specs.List.{AllZip}
-use Rattle.comp_bytes.specs.Spaces.{is_space, description_space}
+use Rattle.comp_bytes.specs.Spaces.{description_space}
 use Rattle.comp_bytes.specs.declared.space.Space.{Space}
 use Rattle.comp_bytes.specs.declared.space.Space.TheVariants as spaces
 use Rattle.comp_bytes.specs.declared.types.ExternName.{ExternName}
@@ -11,6 +10,7 @@ use Rattle.comp_bytes.specs.declared.types.Description.{Description}
 use Rattle.comp_bytes.specs.declared.types.Description.TheVariants as descriptions
 use Rattle.comp_bytes.specs.declared.types.Member.{Member}
 use Rattle.comp_bytes.specs.declared.types.Member.TheVariants as members
+use Rattle.core_runs.specs.Store.{Now}
 use Rattle.comp_trees.specs.Trees.{Origin, FunctionTree}
 use Rattle.comp_trees.specs.DefinedTrees.{TypeTree, OfFunctions, OfOthers}
 use Rattle.comp_trees.specs.Members.{Surroundings, member_tree, with_member, member_trees}
@@ -101,10 +101,14 @@ grown m g = record m {
   store = record m.store { types = g.types; functions = g.functions };
 }
 
--- the members run
+-- the machine, where a run has seen this so far
+abbrev pub with_now : Machine → Now → Machine
+with_now m now = record m { now = now }
+
+-- the members run, whatever was seen so far
 pub record RunMembers (number : ℕ) (outer scope : List TypeTree) (all : List Member) (m : Machine) : Type 0 where
   pub growth : Grown number (member_trees (surroundings_of number outer) scope all) (member_exports (surroundings_of number outer) scope all) m
-  pub runs : (next : Next) → each_member number all m next ≡ next (grown m growth)
+  pub runs : (now : Now) (next : Next) → each_member number all (with_now m now) next ≡ next (with_now (grown m growth) now)
   pub scoped : type_scope (grown m growth) ≡ member_trees (surroundings_of number outer) scope all
 
 -- the machine with an instance that has these exports
@@ -121,12 +125,7 @@ pub record RunsInstanceType (origin : Origin) (outer : List TypeTree) (all : Lis
   pub types_grew : types ≡ m.store.types ++ more_types
   pub functions_grew : functions ≡ m.store.functions ++ more_functions
   pub each : AllZip (IsExportedAs origin.number types functions) (member_exports (surroundings_of origin.number outer) [] all) exports
-  pub runs : (next : ℕ → Next) → instance_of_type origin (InstanceTypeOf all around) m next ≡ next (length m.store.instances) (with_instance m types functions exports)
-
--- whether a member exports this name in this space
-abbrev pub exports_name : Space → List ℕ → Member → Bool
-exports_name space name (members.Export n description) = is_space space (Some (description_space description)) && bytes_eq name n.name
-exports_name space name member = false
+  pub runs : (now : Now) (next : ℕ → Next) → instance_of_type origin (InstanceTypeOf all around) (with_now m now) next ≡ next (length m.store.instances) (with_instance (with_now m now) types functions exports)
 
 -- an export of a function is found by its name, and of a type
 pub record FindsFunction (number : ℕ) (functions : List Function) (exports : List Export) (name : List ℕ) (tree : TypeTree) : Type 0 where

@@ -1,7 +1,8 @@
 -- What the definitions so far have added to the store, and what main's imports find among the arguments.
 use Rattle.std.proofs.Common.{◌≡◌, ◌∙◌, ℕ, ◌<◌, true, List, [], ◌∷◌, length, map, filter, get_or, refl, sym, ap, ap₂, subst, Option, Some, None, is_some}
+use Rattle.std.proofs.lemmas.List.{length-map}
 use Rattle.std.proofs.lemmas.List.Sums.{length-filter}
-use Rattle.std.proofs.lemmas.Option.{same_Some, none-some, slice_get-map, get_or_from_slice_get}
+use Rattle.std.proofs.lemmas.Option.{same_Some, none-some, get_or_from_slice_get}
 use Rattle.std.specs.List.{slice_get, AllZip, AllByRecursion}
 use Rattle.std.specs.Option.{option_map, option_and_then}
 use Rattle.comp_lists.specs.Found.{found}
@@ -9,6 +10,7 @@ use Rattle.comp_lists.proofs.Lists.{AllZip-at, AllZip-weaker, there}
 use Rattle.comp_bytes.specs.Spaces.{kind_space, is_space, space_of, items_in}
 use Rattle.comp_bytes.specs.ItemIndices.{in_space, IsAt}
 use Rattle.core_types.specs.declared.types.FuncType.{FuncType}
+use Rattle.core_runs.specs.Store.{Now}
 use Rattle.comp_bytes.specs.declared.space.Space.{Space}
 use Rattle.comp_bytes.specs.declared.space.Space.TheVariants as spaces
 use Rattle.standard_kinds.specs.declared.kinds.ExportKind.{ExportKind}
@@ -16,18 +18,21 @@ use Rattle.standard_kinds.specs.declared.kinds.ExportKind.TheVariants as kinds
 use Rattle.comp_bytes.specs.declared.def.CoreArgument.{CoreArgument}
 use Rattle.comp_bytes.specs.declared.def.CoreInlineExport.{CoreInlineExport}
 use Rattle.comp_bytes.specs.declared.types.Alias.TheVariants as aliases
+use Rattle.comp_bytes.specs.declared.types.Member.{Member}
+use Rattle.comp_bytes.specs.declared.canon.Intrinsic.TheVariants as intrinsics
 use Rattle.comp_bytes.specs.declared.def.Item.TheVariants as items
 use Rattle.comp_bytes.specs.declared.def.Def.{Def}
 use Rattle.comp_bytes.specs.declared.def.Def.TheVariants as defs
 use Rattle.wit_data.specs.declared.worlds.WorldKey.TheVariants as keys
 use Rattle.wit_data.specs.declared.functions.AbiVariant.TheVariants.{GuestImport}
-use Rattle.comp_trees.specs.Trees.{Origin, FunctionTree}
-use Rattle.comp_trees.specs.DefinedTrees.{TypeTree, OfFunctions, OfOthers}
-use Rattle.comp_trees.specs.Inventories.{TypeEntry, FunctionEntry, entry_tree, no_function, inventory, scope_of}
+use Rattle.comp_trees.specs.Trees.{Origin, Resource, ResourceAt, FunctionTree}
+use Rattle.comp_trees.specs.DefinedTrees.{TypeTree, OfValues, OfFunctions}
+use Rattle.comp_trees.specs.DefinedScopes.{Denotes}
+use Rattle.comp_trees.specs.Inventories.{TypeEntry, OfInstances, FunctionEntry, InstanceEntry, entry_tree, no_function, inventory, scope_of}
 use Rattle.world_values.specs.Items.{root_function_at}
 use Rattle.comp_roles.specs.CoreImports.{fields_of}
 use Rattle.comp_roles.specs.CoreTypes.{called_type}
-use Rattle.comp_worlds.specs.Typed.{type_of_import}
+use Rattle.comp_worlds.specs.Typed.{drop_type, type_of_import}
 use Rattle.comp_worlds.specs.Worlds.{IsWorld, IsImportRole, IsImportGroup, items_of, core_name_of}
 use Rattle.wit_data.specs.declared.worlds.WorldKey.{WorldKey}
 use Rattle.comp_roles.specs.declared.imports.Import.{Import}
@@ -35,23 +40,27 @@ use Rattle.comp_roles.specs.declared.imports.Import.TheVariants as imports
 use Rattle.comp_roles.specs.declared.imports.ImportInstance.{ImportInstance}
 use Rattle.comp_roles.specs.declared.imports.ImportInstance.TheVariants as instances
 use Rattle.comp_worlds.specs.declared.world.ComponentWorld.{ComponentWorld}
-use Rattle.comp_runs.specs.Store.{Thing, Export, CoreItem, Lowering, ExportedBy, Function, Imported, Lifting, TypeItem, TreeOf, ImportedResource, OwnResource, InstanceTypeOf, item_tree, tree_held, Store}
+use Rattle.comp_runs.specs.Store.{Thing, Export, CoreItem, Lowering, IntrinsicOf, ExportedBy, Function, Imported, Lifting, TypeItem, TreeOf, tree_held, Store}
 use Rattle.comp_roles.specs.declared.offered.ExternType.{ExternType}
 use Rattle.comp_roles.specs.declared.offered.ExternType.TheVariants as externs
 use Rattle.comp_roles.specs.declared.offered.ImportType.{ImportType}
-use Rattle.comp_links.specs.Targets.{Main, Target, OfRoot, Lowered, Lifted}
+use Rattle.comp_links.specs.Targets.{Main, Target, OfRoot, Lowered, Dropped, Lifted}
+use Rattle.comp_links.specs.Lists.{resource_of}
 use Rattle.comp_links.specs.Links.{link_of, link_in, link_at}
-use Rattle.comp_terms.specs.Terms.{CoreExport, TermOption, Term, Is, IsFunctionType, IsImportedFunction, IsInstanceOf, IsExported, IsLowering, IsLifting}
+use Rattle.comp_terms.specs.Terms.{CoreExport, TermOption, Term, Is, IsFunctionType, IsResource, IsImportedFunction, IsInstanceOf, IsExported, IsLowering, IsDropping, IsLifting}
 use Rattle.comp_terms.specs.Terms as terms
 use Rattle.comp_terms.specs.Planned.{IsTermFor, IsItemFor, IsLiftFor, IsEntryFor, IsArgumentFor}
 use Rattle.comp_runs.specs.Machine.{Scope, Machine, address_at, is_of, all_some, export_named}
-use Rattle.comp_runs.specs.Instances.{type_space, of_kind, matching, given_to}
+use Rattle.comp_runs.specs.Instances.{type_space, of_kind, matching, given_to, type_at}
 use Rattle.comp_runs.specs.Signatures.{core_signature}
 use Rattle.comp_runs.specs.Running.{core_argument}
-use Rattle.link_laws.proofs.Zips.{AllZip-filter, AllZip-back, mapped_some, filter-both, length-map, all_some-zip, found-zip, found-each}
+use Rattle.instance_laws.specs.Instantiated.{IsHeldAs, AreHeldAs}
+use Rattle.instance_laws.specs.InstanceEntries.{IsInstanceType, IsInstanceEntry}
+use Rattle.instance_laws.proofs.Held.{trees_of_held, held_of_entries, IsTypeThere, type_there as held_at, item_of_functions}
+use Rattle.link_laws.proofs.Zips.{AllZip-filter, AllZip-back, mapped_some, filter-both, all_some-zip, found-zip, found-each}
 use Rattle.comp_worlds.proofs.Roles.{bound_some}
 use Rattle.link_laws.proofs.Plain.{IsFunctionImport, lowered_type, same_signature-refl, function_type_in, core_offered, only_main_is, fields_right}
-use Rattle.link_laws.proofs.Stores.{IsOpaqueOf, IsInstance, IsUserItem, IsUserExport, IsUserInstance, IsNamedEntry, IsInlineInstance, IsLoweredItem, IsTypeAt, IsLiftedItem, IsAliasedItem, DefIs, Means, makes, IsTypeEntry, entry_of, IsFunctionEntry, IsLoweringOf, IsServedAs, main_module, IsPlanned, IsLiftedFrom, Agrees}
+use Rattle.link_laws.proofs.Stores.{IsOpaqueOf, IsInstance, IsUserItem, IsUserExport, IsUserInstance, IsNamedEntry, IsInlineInstance, IsLoweredItem, IsTypeAt, IsDropItem, IsLiftedItem, IsAliasedItem, DefIs, Means, makes, IsTypeEntry, entry_of, IsFunctionEntry, IsInstanceThing, IsLoweringOf, IsDropOf, IsServedAs, main_module, IsPlanned, IsLiftedFrom, Agrees}
 
 makes-space : (space : Space) (d : Def) → is_space space (space_of d) ≡ true → makes d ≡ true
 makes-space space d e = by (space_of d) e
@@ -89,21 +98,6 @@ exports_named s user [] [] k = tt
 exports_named s user (e ∷ es) (o ∷ os) k = ((k.0.named, (k.0.space, k.0.is)), exports_named s user es os k.1)
 exports_named s user [] (o ∷ os) k = absurd k
 exports_named s user (e ∷ es) [] k = absurd k
-
--- the types of a scope, where each is what its entry says
-trees_held : (s : Store) (es : List TypeEntry) (ts : List Thing) → AllZip (IsTypeEntry s) es ts → map (λ (t : Thing). tree_held s.types t.address) ts ≡ map entry_tree es
-trees_held s [] [] h = refl
-trees_held s (e ∷ es) (t ∷ ts) h =
-    ap₂ (λ x xs. x ∷ xs) (ap (λ o. elim o [ None ↦ OfOthers | Some i ↦ item_tree t.address i ]) h.0.present ∙ h.0.denotes) (trees_held s es ts h.1)
-trees_held s [] (t ∷ ts) h = absurd h
-trees_held s (e ∷ es) [] h = absurd h
-
--- what denotes a type of functions is its tree
-item_of_tree : (address : ℕ) (item : TypeItem) (type : FunctionTree) → item_tree address item ≡ OfFunctions type → item ≡ TreeOf (OfFunctions type)
-item_of_tree address (TreeOf tree) type e = ap (λ (t : TypeTree). TreeOf t) e
-item_of_tree address (ImportedResource origin) type e = cc
-item_of_tree address (OwnResource destructor) type e = cc
-item_of_tree address (InstanceTypeOf members around) type e = cc
 
 abbrev function_in_tree : FunctionTree → TypeItem → FunctionTree
 function_in_tree other (TreeOf (OfFunctions type)) = type
@@ -162,29 +156,48 @@ module _ {w : ComponentWorld} {earlier : List Def} {c : Scope} {s : Store} (a : 
       (x.0, x.1)
 
   -- the types of the scope denote what the inventory says
+  pub all_held : AreHeldAs s.types (scope_of earlier) c.items
+  all_held =
+      held_of_entries s.types (inventory earlier) c.items
+      (AllZip-weaker (λ e (t : Thing) (h : IsTypeEntry s e t). record { item = h.item; present = h.present; denotes = h.denotes }) (inventory earlier).types (filter (is_of spaces.Type) c.items) a.types)
+
   pub scope_there : map (λ (t : Thing). tree_held s.types t.address) (filter (is_of spaces.Type) c.items) ≡ scope_of earlier
-  scope_there = trees_held s (inventory earlier).types (filter (is_of spaces.Type) c.items) a.types
+  scope_there = trees_of_held s.types (scope_of earlier) c.items all_held
 
   -- an index of a type has an entry, and names a type that is what the entry says
   pub entry_there : {index : ℕ} → index < length (scope_of earlier) →
       (e : TypeEntry) × (slice_get (inventory earlier).types index ≡ Some e) × (t : Thing) × (slice_get (filter (is_of spaces.Type) c.items) index ≡ Some t) × IsTypeEntry s e t
   entry_there {index} l =
       let es : List TypeEntry = (inventory earlier).types in
-      let e : (e : TypeEntry) × (slice_get es index ≡ Some e) = there es index (subst (λ n. index < n) (length-map entry_tree es) l) in
+      let e : (e : TypeEntry) × (slice_get es index ≡ Some e) = there es index (subst (λ n. index < n) (length-map es entry_tree) l) in
       let t = AllZip-at (IsTypeEntry s) es (filter (is_of spaces.Type) c.items) index e.0 a.types e.1 in
       (e.0, e.1, t.0, t.1, t.2)
+
+  -- what the type of this index denotes, it denotes in the run
+  pub held_there : {index : ℕ} {tree : TypeTree} → Denotes (scope_of earlier) index tree → (x : ℕ) × (address_at spaces.Type index c.items ≡ Some x) × IsHeldAs s.types tree x
+  held_there {index} {tree} h =
+      let x : IsTypeThere s.types (scope_of earlier) c.items index = held_at s.types (scope_of earlier) c.items index all_held h.within in
+      (x.address, x.at, subst (λ tree. IsHeldAs s.types tree x.address) h.tree x.is)
 
   -- the type of this index is this type of functions
   pub type_there : {index : ℕ} {type : FunctionTree} → IsFunctionType earlier index type → IsTypeAt c.items s index type
   type_there {index} {type} h =
-      let x = entry_there h.denotes.within in
-      let found : slice_get (scope_of earlier) index ≡ Some (entry_tree x.0) = slice_get-map entry_tree (inventory earlier).types index ∙ ap (option_map entry_tree) x.1 in
-      let tree : entry_tree x.0 ≡ OfFunctions type = sym (get_or_from_slice_get (scope_of earlier) index (entry_tree x.0) OfOthers found) ∙ h.denotes.tree in
-      record {
-        address = x.2.address;
-        at = ap (option_map (λ (t : Thing). t.address)) x.3;
-        is = x.4.present ∙ ap (λ (i : TypeItem). Some i) (item_of_tree x.2.address x.4.item type (x.4.denotes ∙ tree));
-      }
+      let x = held_there h.denotes in
+      record { address = x.0; at = x.1; is = x.2.present ∙ ap (λ (i : TypeItem). Some i) (item_of_functions x.0 x.2.item type x.2.denotes) }
+
+  -- the type of instances of this index
+  pub instance_type_there : (index : ℕ) (outer : List TypeTree) (members : List Member) → slice_get (inventory earlier).types index ≡ Some (OfInstances outer members) →
+      (item : TypeItem) × ((now : Now) → type_at index (record { scope = c; store = s; now = now }) ≡ Some item) × IsInstanceType s.types outer members item
+  instance_type_there index outer members h =
+      let t = AllZip-at (IsTypeEntry s) (inventory earlier).types (filter (is_of spaces.Type) c.items) index (OfInstances outer members) a.types h in
+      (t.2.item, λ now. ap (λ (o : Option Thing). option_and_then (slice_get s.types) (option_map (λ (t : Thing). t.address) o)) t.1 ∙ t.2.present, t.2.is)
+
+  -- the instance of this index is what the inventory says
+  pub instance_there : (index : ℕ) (e : InstanceEntry) → slice_get (inventory earlier).instances index ≡ Some e →
+      (x : ℕ) × (address_at spaces.Instance index c.items ≡ Some x) × (exports : List Export) × (slice_get s.instances x ≡ Some exports) × IsInstanceEntry s.types s.functions e exports
+  instance_there index e h =
+      let t = AllZip-at (IsInstanceThing s) (inventory earlier).instances (filter (is_of spaces.Instance) c.items) index e a.instances h in
+      (t.0.address, ap (option_map (λ (t : Thing). t.address)) t.1, t.2.exports, t.2.present, t.2.is)
 
   -- a function of the inventory
   function_there : (index : ℕ) (e : FunctionEntry) → slice_get (inventory earlier).functions index ≡ Some e → (x : ℕ) × (address_at spaces.Func index c.items ≡ Some x) × IsFunctionEntry s e (record { space = spaces.Func; address = x })
@@ -219,6 +232,13 @@ module _ {w : ComponentWorld} {earlier : List Def} {c : Scope} {s : Store} (a : 
       let imported : slice_get s.functions l.2.of ≡ Some (Imported origin type) = subst (λ n. slice_get s.functions n ≡ Some (Imported origin type)) same f.2 in
       let typed : l.2.type ≡ type = ap type_in (same_Some (Imported l.2.origin l.2.type) (Imported origin type) (sym l.2.imported ∙ imported)) in
       (l.0, l.1, record { of = l.2.of; is = subst (λ t. IsOpaqueOf s l.0 (core_signature t []) (Lowering l.2.of [])) typed l.2.is; imported = imported })
+
+  pub dropped_there : {index : ℕ} {resource : Resource} → IsDropping earlier index resource → (x : ℕ) × (address_at spaces.CoreFunc index c.items ≡ Some x) × IsDropOf s x resource
+  dropped_there {index} {resource} h =
+      let l : (x : ℕ) × (address_at spaces.CoreFunc index c.items ≡ Some x) × IsDropItem c.items s h.type x = thing_there h.made in
+      let t : (x : ℕ) × (address_at spaces.Type h.type c.items ≡ Some x) × IsHeldAs s.types (OfValues (ResourceAt resource)) x = held_there h.of.denotes in
+      let same : t.0 ≡ l.2.of = same_Some t.0 l.2.of (sym t.1 ∙ l.2.at) in
+      (l.0, l.1, record { of = l.2.of; is = l.2.is; held = subst (IsHeldAs s.types (OfValues (ResourceAt resource))) same t.2 })
 
   pub user_there : {index number : ℕ} → IsInstanceOf earlier index number → (x : ℕ) × (address_at spaces.CoreInstance index c.items ≡ Some x) × IsUserInstance w s number x
   user_there h = let x = thing_there h.made in (x.0, x.1, x.2)
@@ -278,6 +298,15 @@ module _ {w : ComponentWorld} {earlier : List Def} {c : Scope} {s : Store} (a : 
       by kinds.Memory (terms.Lowering origin type options) is asked = absurd is
       by kinds.Global (terms.Lowering origin type options) is asked = absurd is
       by kind term is asked = absurd asked
+  item_there kind index (imports.ImportedResourceDrop key interface id) right h = by kind h.term h.is h.asked
+    where
+      by : (kind : ExportKind) (term : Term) → Is earlier (kind_space kind) index term → IsTermFor w (Dropped id) term →
+          (kind ≡ kinds.Func) × (x : ℕ) × (address_at spaces.CoreFunc index c.items ≡ Some x) × IsDropOf s x (resource_of w id)
+      by kinds.Func (terms.Dropping resource) is asked = let l = dropped_there is in (refl, l.0, l.1, subst (IsDropOf s l.0) asked l.2)
+      by kinds.Table (terms.Dropping resource) is asked = absurd is
+      by kinds.Memory (terms.Dropping resource) is asked = absurd is
+      by kinds.Global (terms.Dropping resource) is asked = absurd is
+      by kind term is asked = absurd asked
   item_there kind index role right h = absurd right
 
   -- the entries of an inline instance, as they were put into the store
@@ -330,6 +359,8 @@ served_opaque w s address (imports.WorldFunc (keys.Name text) function abi) type
     (sym (ap (option_map (called_type w.resolve GuestImport)) h.typed.imported) ∙ (ap (λ abi. option_map (called_type w.resolve abi) (root_function_at (items_of w).imports (keys.Name text))) (sym right.2) ∙ fits)) in
     let typed : externs.Func (core_signature h.type []) ≡ externs.Func type = lowered_type w h.type h.typed.wit h.typed.typed ∙ asked in
     (Lowering h.lowered.of [], subst (λ t. IsOpaqueOf s address t (Lowering h.lowered.of [])) (ap (function_type_in type) typed) h.lowered.is)
+served_opaque w s address (imports.ImportedResourceDrop key interface id) type right fits h =
+    (IntrinsicOf (intrinsics.ResourceDrop h.of), subst (λ t. IsOpaqueOf s address t (IntrinsicOf (intrinsics.ResourceDrop h.of))) (ap (function_type_in type) (same_Some drop_type (externs.Func type) fits)) h.is)
 served_opaque w s address role type right fits h = absurd right
 
 -- an import that has a role is to be given what the link table says of the role

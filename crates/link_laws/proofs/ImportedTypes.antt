@@ -119,19 +119,7 @@ after_import w earlier name description ds (x ∷ es) h r e rest =
 after_one : (w : ComponentWorld) (earlier : List Def) (d : Def) (ds : List Def) (es : List ImportEntry) → IsRight w earlier d → Remaining w (imports_in earlier) es → flat_map (at_root item_imports) (d ∷ ds) ≡ map stated_import es →
     Rest w earlier d ds → types_imported (inventory earlier) (d ∷ ds) ≡ flat_map (trees_of w) es
 after_one w earlier (defs.Item (items.Import name description)) ds es h r e rest = after_import w earlier name description ds es h.1 r e rest
-after_one w earlier (defs.Item (items.CoreModule bytes)) ds es h r e rest = other w earlier (defs.Item (items.CoreModule bytes)) ds rest es refl refl r e
-after_one w earlier (defs.Item (items.CoreInstantiate number arguments)) ds es h r e rest = other w earlier (defs.Item (items.CoreInstantiate number arguments)) ds rest es refl refl r e
-after_one w earlier (defs.Item (items.CoreExports entries)) ds es h r e rest = other w earlier (defs.Item (items.CoreExports entries)) ds rest es refl refl r e
-after_one w earlier (defs.Item (items.Instantiate component arguments)) ds es h r e rest = other w earlier (defs.Item (items.Instantiate component arguments)) ds rest es refl refl r e
-after_one w earlier (defs.Item (items.Alias a)) ds es h r e rest = other w earlier (defs.Item (items.Alias a)) ds rest es refl refl r e
-after_one w earlier (defs.Item (items.Type t)) ds es h r e rest = other w earlier (defs.Item (items.Type t)) ds rest es refl refl r e
-after_one w earlier (defs.Item (items.InstanceType t)) ds es h r e rest = other w earlier (defs.Item (items.InstanceType t)) ds rest es refl refl r e
-after_one w earlier (defs.Item (items.Lift core options kind)) ds es h r e rest = other w earlier (defs.Item (items.Lift core options kind)) ds rest es refl refl r e
-after_one w earlier (defs.Item (items.Lower function options)) ds es h r e rest = other w earlier (defs.Item (items.Lower function options)) ds rest es refl refl r e
-after_one w earlier (defs.Item (items.Intrinsic i)) ds es h r e rest = other w earlier (defs.Item (items.Intrinsic i)) ds rest es refl refl r e
-after_one w earlier (defs.Item (items.Export name sort index description)) ds es h r e rest = other w earlier (defs.Item (items.Export name sort index description)) ds rest es refl refl r e
-after_one w earlier (defs.Item (items.Custom name contents)) ds es h r e rest = other w earlier (defs.Item (items.Custom name contents)) ds rest es refl refl r e
-after_one w earlier (defs.Component inner) ds es h r e rest = absurd h
+after_one w earlier d ds es h r e rest = other w earlier d ds rest es refl refl r e
 
 types_after : (w : ComponentWorld) (earlier rest : List Def) (es : List ImportEntry) → RightAfter w earlier rest → Remaining w (imports_in earlier) es → flat_map (at_root item_imports) rest ≡ map stated_import es →
     types_imported (inventory earlier) rest ≡ flat_map (trees_of w) es
@@ -158,38 +146,12 @@ IsSame v ds = imported_among (in_space spaces.Type ds) (trees_made v ds) ≡ typ
 
 -- one definition more
 same_after : (v : Inventory) (d : Def) (ds : List Def) → IsSame (with_def v d) ds → IsSame v (d ∷ ds)
-same_after v (defs.Component inner) ds rest = rest
-same_after v (defs.Item (items.CoreModule bytes)) ds rest = rest
-same_after v (defs.Item (items.CoreInstantiate number arguments)) ds rest = rest
-same_after v (defs.Item (items.CoreExports entries)) ds rest = rest
-same_after v (defs.Item (items.Instantiate component arguments)) ds rest = rest
-same_after v (defs.Item (items.Alias (aliases.Export exports.Func instance name))) ds rest = rest
-same_after v (defs.Item (items.Alias (aliases.Export exports.Type instance name))) ds rest = rest
-same_after v (defs.Item (items.Alias (aliases.Export exports.Component instance name))) ds rest = rest
-same_after v (defs.Item (items.Alias (aliases.Export exports.Instance instance name))) ds rest = rest
-same_after v (defs.Item (items.Alias (aliases.CoreExport kinds.Func instance name))) ds rest = rest
-same_after v (defs.Item (items.Alias (aliases.CoreExport kinds.Table instance name))) ds rest = rest
-same_after v (defs.Item (items.Alias (aliases.CoreExport kinds.Memory instance name))) ds rest = rest
-same_after v (defs.Item (items.Alias (aliases.CoreExport kinds.Global instance name))) ds rest = rest
-same_after v (defs.Item (items.Alias (aliases.Outer count index))) ds rest = rest
-same_after v (defs.Item (items.Type t)) ds rest = rest
-same_after v (defs.Item (items.InstanceType t)) ds rest = rest
-same_after v (defs.Item (items.Lift core options kind)) ds rest = rest
-same_after v (defs.Item (items.Lower function options)) ds rest = rest
-same_after v (defs.Item (items.Intrinsic i)) ds rest = rest
-same_after v (defs.Item (items.Import name (descriptions.Func kind))) ds rest = rest
 same_after v (defs.Item (items.Import name (descriptions.TypeEqual index))) ds rest = ap (λ l. entry_tree (get_or v.types index no_type) ∷ l) rest
 same_after v (defs.Item (items.Import name descriptions.SubResource)) ds rest = ap (λ l. OfValues (ResourceAt (ImportedAt (record { number = v.imports; inner = None }))) ∷ l) rest
-same_after v (defs.Item (items.Import name (descriptions.Instance kind))) ds rest = rest
+same_after v (defs.Item (items.Alias (aliases.Export exports.Func instance name))) ds rest = rest
+same_after v (defs.Item (items.Alias (aliases.CoreExport kinds.Func instance name))) ds rest = rest
 same_after v (defs.Item (items.Export name (sorts.Core kinds.Func) index description)) ds rest = rest
-same_after v (defs.Item (items.Export name (sorts.Core kinds.Table) index description)) ds rest = rest
-same_after v (defs.Item (items.Export name (sorts.Core kinds.Memory) index description)) ds rest = rest
-same_after v (defs.Item (items.Export name (sorts.Core kinds.Global) index description)) ds rest = rest
-same_after v (defs.Item (items.Export name sorts.Func index description)) ds rest = rest
-same_after v (defs.Item (items.Export name sorts.Type index description)) ds rest = rest
-same_after v (defs.Item (items.Export name sorts.Component index description)) ds rest = rest
-same_after v (defs.Item (items.Export name sorts.Instance index description)) ds rest = rest
-same_after v (defs.Item (items.Custom name contents)) ds rest = rest
+same_after v d ds rest = rest
 
 same_types : (v : Inventory) (ds : List Def) → IsSame v ds
 same_types v [] = refl

@@ -7,6 +7,7 @@ pub mod Steps
 mod Marks
 mod ImportedTypes
 mod Served
+mod NamedItem
 pub mod Runs
 mod Worked
 mod Crossed
@@ -20,3 +21,4 @@ mod WorkedInstances
 mod NotComposed
 mod WorkedTypes
 mod WorkedTypesLinked
+mod WorkedDrops

@@ -38,100 +38,28 @@ custom_mark (CustomNamed name) = name ∷ []
 custom_mark _ = []
 
 import_is : (d : Def) → at_root item_imports d ≡ flat_map import_mark (filter_map landmark (d ∷ []))
-import_is (defs.Component inner) = refl
 import_is (defs.Item (items.CoreModule bytes)) = refl
-import_is (defs.Item (items.CoreInstantiate number arguments)) = refl
-import_is (defs.Item (items.CoreExports entries)) = refl
-import_is (defs.Item (items.Instantiate component arguments)) = refl
-import_is (defs.Item (items.Alias a)) = refl
-import_is (defs.Item (items.Type t)) = refl
-import_is (defs.Item (items.InstanceType t)) = refl
-import_is (defs.Item (items.Lift core options kind)) = refl
-import_is (defs.Item (items.Lower function options)) = refl
-import_is (defs.Item (items.Intrinsic i)) = refl
-import_is (defs.Item (items.Import name description)) = refl
-import_is (defs.Item (items.Export name sort index description)) = refl
-import_is (defs.Item (items.Custom name contents)) = refl
+import_is d = refl
 
 module_is : (d : Def) → at_root item_module d ≡ flat_map module_mark (filter_map landmark (d ∷ []))
-module_is (defs.Component inner) = refl
 module_is (defs.Item (items.CoreModule bytes)) = refl
-module_is (defs.Item (items.CoreInstantiate number arguments)) = refl
-module_is (defs.Item (items.CoreExports entries)) = refl
-module_is (defs.Item (items.Instantiate component arguments)) = refl
-module_is (defs.Item (items.Alias a)) = refl
-module_is (defs.Item (items.Type t)) = refl
-module_is (defs.Item (items.InstanceType t)) = refl
-module_is (defs.Item (items.Lift core options kind)) = refl
-module_is (defs.Item (items.Lower function options)) = refl
-module_is (defs.Item (items.Intrinsic i)) = refl
-module_is (defs.Item (items.Import name description)) = refl
-module_is (defs.Item (items.Export name sort index description)) = refl
-module_is (defs.Item (items.Custom name contents)) = refl
+module_is d = refl
 
 instance_is : (d : Def) → at_root item_instantiates d ≡ flat_map instance_mark (filter_map landmark (d ∷ []))
-instance_is (defs.Component inner) = refl
 instance_is (defs.Item (items.CoreModule bytes)) = refl
-instance_is (defs.Item (items.CoreInstantiate number arguments)) = refl
-instance_is (defs.Item (items.CoreExports entries)) = refl
-instance_is (defs.Item (items.Instantiate component arguments)) = refl
-instance_is (defs.Item (items.Alias a)) = refl
-instance_is (defs.Item (items.Type t)) = refl
-instance_is (defs.Item (items.InstanceType t)) = refl
-instance_is (defs.Item (items.Lift core options kind)) = refl
-instance_is (defs.Item (items.Lower function options)) = refl
-instance_is (defs.Item (items.Intrinsic i)) = refl
-instance_is (defs.Item (items.Import name description)) = refl
-instance_is (defs.Item (items.Export name sort index description)) = refl
-instance_is (defs.Item (items.Custom name contents)) = refl
+instance_is d = refl
 
 export_is : (d : Def) → at_root item_exports d ≡ flat_map export_mark (filter_map landmark (d ∷ []))
-export_is (defs.Component inner) = refl
 export_is (defs.Item (items.CoreModule bytes)) = refl
-export_is (defs.Item (items.CoreInstantiate number arguments)) = refl
-export_is (defs.Item (items.CoreExports entries)) = refl
-export_is (defs.Item (items.Instantiate component arguments)) = refl
-export_is (defs.Item (items.Alias a)) = refl
-export_is (defs.Item (items.Type t)) = refl
-export_is (defs.Item (items.InstanceType t)) = refl
-export_is (defs.Item (items.Lift core options kind)) = refl
-export_is (defs.Item (items.Lower function options)) = refl
-export_is (defs.Item (items.Intrinsic i)) = refl
-export_is (defs.Item (items.Import name description)) = refl
-export_is (defs.Item (items.Export name sort index description)) = refl
-export_is (defs.Item (items.Custom name contents)) = refl
+export_is d = refl
 
 name_is : (d : Def) → def_export d ≡ flat_map name_mark (filter_map landmark (d ∷ []))
-name_is (defs.Component inner) = refl
 name_is (defs.Item (items.CoreModule bytes)) = refl
-name_is (defs.Item (items.CoreInstantiate number arguments)) = refl
-name_is (defs.Item (items.CoreExports entries)) = refl
-name_is (defs.Item (items.Instantiate component arguments)) = refl
-name_is (defs.Item (items.Alias a)) = refl
-name_is (defs.Item (items.Type t)) = refl
-name_is (defs.Item (items.InstanceType t)) = refl
-name_is (defs.Item (items.Lift core options kind)) = refl
-name_is (defs.Item (items.Lower function options)) = refl
-name_is (defs.Item (items.Intrinsic i)) = refl
-name_is (defs.Item (items.Import name description)) = refl
-name_is (defs.Item (items.Export name sort index description)) = refl
-name_is (defs.Item (items.Custom name contents)) = refl
+name_is d = refl
 
 custom_is : (d : Def) → at_root item_customs d ≡ flat_map custom_mark (filter_map landmark (d ∷ []))
-custom_is (defs.Component inner) = refl
 custom_is (defs.Item (items.CoreModule bytes)) = refl
-custom_is (defs.Item (items.CoreInstantiate number arguments)) = refl
-custom_is (defs.Item (items.CoreExports entries)) = refl
-custom_is (defs.Item (items.Instantiate component arguments)) = refl
-custom_is (defs.Item (items.Alias a)) = refl
-custom_is (defs.Item (items.Type t)) = refl
-custom_is (defs.Item (items.InstanceType t)) = refl
-custom_is (defs.Item (items.Lift core options kind)) = refl
-custom_is (defs.Item (items.Lower function options)) = refl
-custom_is (defs.Item (items.Intrinsic i)) = refl
-custom_is (defs.Item (items.Import name description)) = refl
-custom_is (defs.Item (items.Export name sort index description)) = refl
-custom_is (defs.Item (items.Custom name contents)) = refl
+custom_is d = refl
 
 module _ {A : Type 0} (f : Landmark → List A) where
   none_of : {X : Type 0} (mark : X → Landmark) → ((x : X) → f (mark x) ≡ []) → (xs : List X) → flat_map f (map mark xs) ≡ []
@@ -150,20 +78,7 @@ map-same (x ∷ xs) = ap (λ l. x ∷ l) (map-same xs)
 names_nothing : {A : Type 0} (f : Def → List A) → ((name contents : List ℕ) → f (defs.Item (items.Custom name contents)) ≡ []) → (ds : List Def) → AreNames ds → flat_map f ds ≡ []
 names_nothing f e [] h = refl
 names_nothing f e (defs.Item (items.Custom name contents) ∷ []) h = rw (e name contents) refl
-names_nothing f e (defs.Item (items.Custom name contents) ∷ d ∷ ds) h = absurd h
-names_nothing f e (defs.Component inner ∷ ds) h = absurd h
-names_nothing f e (defs.Item (items.CoreModule bytes) ∷ ds) h = absurd h
-names_nothing f e (defs.Item (items.CoreInstantiate number arguments) ∷ ds) h = absurd h
-names_nothing f e (defs.Item (items.CoreExports entries) ∷ ds) h = absurd h
-names_nothing f e (defs.Item (items.Instantiate component arguments) ∷ ds) h = absurd h
-names_nothing f e (defs.Item (items.Alias a) ∷ ds) h = absurd h
-names_nothing f e (defs.Item (items.Type t) ∷ ds) h = absurd h
-names_nothing f e (defs.Item (items.InstanceType t) ∷ ds) h = absurd h
-names_nothing f e (defs.Item (items.Lift core options kind) ∷ ds) h = absurd h
-names_nothing f e (defs.Item (items.Lower function options) ∷ ds) h = absurd h
-names_nothing f e (defs.Item (items.Intrinsic i) ∷ ds) h = absurd h
-names_nothing f e (defs.Item (items.Import name description) ∷ ds) h = absurd h
-names_nothing f e (defs.Item (items.Export name sort index description) ∷ ds) h = absurd h
+names_nothing f e ds h = absurd h
 
 module _ (w : ComponentWorld) (ds : List Def) (built : IsBuilt w ds) where
   -- what is read of all definitions but the section of names

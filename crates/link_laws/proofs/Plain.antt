@@ -39,7 +39,7 @@ use Rattle.comp_roles.specs.declared.offered.ImportType.{ImportType}
 use Rattle.comp_roles.specs.Lookups.{first_export, is_initialize, is_task_hook}
 use Rattle.world_values.specs.Items.{function_in, root_function_at, root_export}
 use Rattle.comp_worlds.proofs.Roles.{role_right}
-use Rattle.comp_worlds.specs.Typed.{type_of_import, type_of_export, FitsImport, FitsExport}
+use Rattle.comp_worlds.specs.Typed.{drop_type, type_of_import, type_of_export, FitsImport, FitsExport}
 use Rattle.comp_worlds.specs.Worlds.{IsWorld, IsExportItem, IsImportRole, IsImportGroup, IsExportRole, items_of, core_name_of}
 use Rattle.comp_worlds.specs.declared.world.ComponentWorld.{ComponentWorld}
 use Rattle.comp_worlds.specs.declared.world.WorldAdapter.{WorldAdapter}
@@ -51,7 +51,7 @@ use Rattle.comp_runs.specs.Signatures.{core_signature}
 use Rattle.comp_trees.specs.Trees.{FunctionTree}
 use Rattle.comp_trees.proofs.Signing.{signatures_of_trees}
 use Rattle.link_laws.proofs.Zips.{mapped_some}
-use Rattle.link_laws.proofs.Stores.{main_module}
+use Rattle.link_laws.proofs.Stores.{drop_core, main_module}
 
 abbrev Entries : Type 0
 Entries = List (WorldKey × WorldItem)
@@ -157,12 +157,13 @@ pub record IsFunctionImport (w : ComponentWorld) (i : ImportType) : Type 0 where
   pub fits : type_of_import w.resolve (items_of w) role ≡ Some (externs.Func type)
   pub typed : i.ty ≡ externs.Func type
 
--- the role of a root function requires a core type of functions
+-- the role of an import requires a core type of functions
 import_type : (w : ComponentWorld) (role : Import) (type : ExternType) → IsImportRole w role → type_of_import w.resolve (items_of w) role ≡ Some type → (t : FuncType) × (type ≡ externs.Func t)
 import_type w (imports.WorldFunc (keys.Name text) function abi) type right fits =
     let x : (f : Function) × (root_function_at (items_of w).imports (keys.Name text) ≡ Some f) × (called_type w.resolve abi f ≡ type) =
     mapped_some (called_type w.resolve abi) (root_function_at (items_of w).imports (keys.Name text)) type fits in
     (core_type (signature abi w.resolve.types x.0), sym x.2)
+import_type w (imports.ImportedResourceDrop key interface id) type right fits = (drop_core, sym (same_Some drop_type type fits))
 import_type w role type right fits = absurd right
 
 one_import : (w : ComponentWorld) → IsWorld w → (i : ImportType) → FitsImport w.resolve (items_of w) w.main i → IsFunctionImport w i

@@ -7,9 +7,11 @@ use Rattle.standard_kinds.specs.declared.kinds.ExportKind.TheVariants as kinds
 use Rattle.comp_bytes.specs.ItemIndices.{in_space}
 use Rattle.comp_bytes.specs.declared.space.Space.TheVariants as spaces
 use Rattle.comp_bytes.specs.declared.space.Sort.TheVariants as sorts
+use Rattle.comp_bytes.specs.declared.space.ComponentExportKind.TheVariants as exports
 use Rattle.comp_bytes.specs.declared.types.Alias.TheVariants as aliases
 use Rattle.comp_bytes.specs.declared.types.Description.TheVariants as descriptions
 use Rattle.comp_bytes.specs.declared.canon.CanonicalOption.{CanonicalOption}
+use Rattle.comp_bytes.specs.declared.canon.Intrinsic.TheVariants as intrinsics
 use Rattle.comp_bytes.specs.declared.def.Item.TheVariants as items
 use Rattle.comp_bytes.specs.declared.def.Def.{Def}
 use Rattle.comp_bytes.specs.declared.def.Def.TheVariants as defs
@@ -30,10 +32,10 @@ use Rattle.link_laws.specs.Meeting.{task_hook}
 use Rattle.link_laws.specs.Composition.{IsComposed, numbers_from, instance_order, at_root, item_instantiates}
 use Rattle.link_laws.specs.Linking.{module_meanings, outcome, EndsAt, StartCall, start_calls, initialization, questions, LetsRun, IsLinked, imported_among, TypesServed, Links}
 use Rattle.link_laws.proofs.Zips.{each_listed}
-use Rattle.link_laws.proofs.Stores.{IsTypeEntry, IsFunctionEntry, Agrees}
+use Rattle.link_laws.proofs.Stores.{IsTypeEntry, IsFunctionEntry, IsInstanceThing, Agrees}
 use Rattle.link_laws.proofs.Given.{scope_there}
 use Rattle.link_laws.proofs.Plain.{only_main, no_initialize}
-use Rattle.link_laws.proofs.Steps.{no_modules, machine, IsNow, IsGood, asks, events_of, seen_by, Steps, step_type, step_import, step_import_type, step_import_resource, step_lower, step_lift, step_inline_instance, step_alias, step_export, step_module, step_custom, step_instantiate}
+use Rattle.link_laws.proofs.Steps.{no_modules, machine, IsNow, IsGood, asks, events_of, seen_by, Steps, step_type, step_instance_type, step_import, step_import_type, step_import_resource, step_alias_function, step_alias_type, step_lower, step_drop, step_lift, step_inline_instance, step_alias, step_export, step_module, step_custom, step_instantiate}
 use Rattle.link_laws.proofs.Marks.{root_imports, root_modules, root_instances, root_exports, root_export_names, no_customs}
 use Rattle.link_laws.proofs.ImportedTypes.{types_served}
 use Rattle.link_laws.proofs.Served.{users_served, stated_all, each_provided}
@@ -44,10 +46,14 @@ module _ {w : ComponentWorld} {earlier : List Def} {c : Scope} {s : Store} (a : 
   step ok (defs.Item (items.CoreInstantiate number arguments)) h = step_instantiate a g ok number arguments h
   step ok (defs.Item (items.CoreExports entries)) h = step_inline_instance a g entries h
   step ok (defs.Item (items.Alias (aliases.CoreExport kinds.Func instance name))) h = step_alias a g ok instance name h
+  step ok (defs.Item (items.Alias (aliases.Export exports.Func instance name))) h = step_alias_function a g instance name h
+  step ok (defs.Item (items.Alias (aliases.Export exports.Type instance name))) h = step_alias_type a g instance name h
   step ok (defs.Item (items.Type t)) h = step_type a g t h
+  step ok (defs.Item (items.InstanceType t)) h = step_instance_type a g t
   step ok (defs.Item (items.Lift core options kind)) h =
       subst (λ (o : List CanonicalOption). Steps w earlier c s g (defs.Item (items.Lift core o kind))) (sym h.1) (step_lift a g core kind h.0 h.2)
   step ok (defs.Item (items.Lower function options)) h = subst (λ (o : List CanonicalOption). Steps w earlier c s g (defs.Item (items.Lower function o))) (sym h.1) (step_lower a g function h.0)
+  step ok (defs.Item (items.Intrinsic (intrinsics.ResourceDrop type))) h = step_drop a g type h
   step ok (defs.Item (items.Import name (descriptions.Func kind))) h = step_import a g name kind h.1
   step ok (defs.Item (items.Import name (descriptions.TypeEqual index))) h = step_import_type a g name index h.1.0
   step ok (defs.Item (items.Import name descriptions.SubResource)) h = step_import_resource a g name
@@ -102,7 +108,7 @@ no_calls : (w : ComponentWorld) → IsWorld w → start_calls w ≡ []
 no_calls w ok = ap (initialization (task_hook w)) (no_initialize w w.main.exports.exports ok.main.export_roles)
 
 start : (w : ComponentWorld) → Agrees w [] (fresh_machine []).scope (fresh_machine []).store
-start w = record { means = tt; types = subst (λ (v : Inventory). AllZip (IsTypeEntry (fresh_machine []).store) v.types []) (sym inventory-empty) tt; functions = subst (λ (v : Inventory). AllZip (IsFunctionEntry (fresh_machine []).store) v.functions []) (sym inventory-empty) tt; modules = refl; instances = refl; served = tt; exports = refl; lifted = tt; imports = sym (ap (λ (v : Inventory). v.imports) inventory-empty) }
+start w = record { means = tt; types = subst (λ (v : Inventory). AllZip (IsTypeEntry (fresh_machine []).store) v.types []) (sym inventory-empty) tt; functions = subst (λ (v : Inventory). AllZip (IsFunctionEntry (fresh_machine []).store) v.functions []) (sym inventory-empty) tt; instances = subst (λ (v : Inventory). AllZip (IsInstanceThing (fresh_machine []).store) v.instances []) (sym inventory-empty) tt; modules = refl; instantiated = refl; served = tt; exports = refl; lifted = tt; imports = sym (ap (λ (v : Inventory). v.imports) inventory-empty) }
 
 -- the end of a run is linked
 linked_at_end : (w : ComponentWorld) (ds : List Def) (m : Machine) → IsWorld w → IsBuilt w ds → Agrees w ds m.scope m.store → m.now.events ≡ Instantiated 0 ∷ [] → IsLinked w no_modules m
@@ -110,7 +116,7 @@ linked_at_end w ds m ok built a events =
     record {
       origins = resource_of w;
       start_events = [];
-      instances = a.instances ∙ (root_instances w ds built ∙ sym (ap (λ (us : List WorldModule). instance_order (length us) no_modules) (only_main w ok)));
+      instances = a.instantiated ∙ (root_instances w ds built ∙ sym (ap (λ (us : List WorldModule). instance_order (length us) no_modules) (only_main w ok)));
       imports = users_served w ok m a.served;
       exports = each_provided w ok m (a.exports ∙ root_export_names w ds built) a.lifted w.main_exports ok.main.required (each_listed name_of_key w.main_exports);
       events = events ∙ sym (ap (λ (us : List WorldModule). map (λ n. Instantiated n) (numbers_from 0 (length us)) ++ []) (only_main w ok));

@@ -7,6 +7,7 @@ use Rattle.std.specs.Option.{option_map, option_and_then}
 use Rattle.comp_lists.proofs.Lists.{AllZip-weaker, AllByRecursion-weaker}
 use Rattle.comp_bytes.specs.declared.space.Space.{Space}
 use Rattle.comp_bytes.specs.declared.space.Space.TheVariants as spaces
+use Rattle.comp_bytes.specs.declared.canon.Intrinsic.TheVariants as intrinsics
 use Rattle.core_types.specs.declared.types.FuncType.{FuncType}
 use Rattle.core_runs.specs.declared.bracket.Bracketed.{Bracketed}
 use Rattle.core_runs.specs.declared.bracket.AfterHook.TheVariants.{Nothing}
@@ -27,17 +28,18 @@ use Rattle.comp_worlds.specs.Worlds.{IsWorld, IsRequired, items_of, imported_typ
 use Rattle.comp_worlds.specs.declared.world.ComponentWorld.{ComponentWorld}
 use Rattle.comp_worlds.specs.declared.world.WorldAdapter.{WorldAdapter}
 use Rattle.comp_trees.specs.Trees.{FunctionTree}
-use Rattle.comp_links.specs.Targets.{Main, WorldFunction, Target, Lowered, Lifted}
+use Rattle.comp_trees.specs.DefinedTrees.{OfOthers}
+use Rattle.comp_links.specs.Targets.{Main, WorldFunction, Target, Lowered, Dropped, Lifted}
 use Rattle.comp_links.specs.Modules.{WorldModule, adapter_module, user_modules}
 use Rattle.comp_links.specs.Lists.{resource_of, root_function, stated_export, functions_required, functions_in}
 use Rattle.comp_terms.specs.Planned.{type_of_function}
 use Rattle.comp_runs.specs.Signatures.{core_signature}
-use Rattle.comp_runs.specs.Store.{Thing, Export, CoreItem, Lowering, ExportedBy, Imported, Lifting, ModuleInstance}
+use Rattle.comp_runs.specs.Store.{Thing, Export, CoreItem, Lowering, IntrinsicOf, ExportedBy, Imported, Lifting, item_tree, ModuleInstance}
 use Rattle.comp_runs.specs.Machine.{Machine, export_named, export_in, export_of}
-use Rattle.link_laws.specs.Meeting.{CoreMeets, task_hook, hooks_round, ItemIsExport, ItemIsLowering, Meets, MeetsIn, entry_kind}
+use Rattle.link_laws.specs.Meeting.{CoreMeets, task_hook, hooks_round, ItemIsExport, ItemIsLowering, ItemIsDrop, Meets, MeetsIn, entry_kind}
 use Rattle.link_laws.specs.Linking.{IsServed, AreServed, UsersServed, IsProvided, exports_at, function_in}
 use Rattle.link_laws.proofs.Zips.{filter-all, found-each, found-listed, AllByRecursion-join}
-use Rattle.link_laws.proofs.Stores.{IsOpaqueOf, IsLoweredFor, IsServedAs, main_module, IsPlanned, IsPlannedUser, IsMainExport, IsLiftedExport}
+use Rattle.link_laws.proofs.Stores.{IsOpaqueOf, drop_core, IsLoweredFor, IsDropOf, IsServedAs, main_module, IsPlanned, IsPlannedUser, IsMainExport, IsLiftedExport}
 use Rattle.link_laws.proofs.Plain.{IsFoundFunction, key_found, root_found, no_hook}
 
 -- ---- opaque functions
@@ -49,7 +51,7 @@ returned_same (core.Open now) = refl
 returned_same core.Stuck = refl
 
 -- a call of an opaque function is one call of it, with no hooks
-acts_alone : (store : CodeStore) (address what : ℕ) (signature : FuncType) (hook : ℕ) → slice_get store.functions address ≡ Some (Opaque what signature) → (arguments : List Value) (now : Now) →
+pub acts_alone : (store : CodeStore) (address what : ℕ) (signature : FuncType) (hook : ℕ) → slice_get store.functions address ≡ Some (Opaque what signature) → (arguments : List Value) (now : Now) →
     acts store address arguments now ≡ expected (around None Nothing) hook (record { address = address; signature = signature }) arguments now
 unfolding acts exec
 acts_alone store address what signature hook e arguments now = rw e (sym (returned_same (asked address signature arguments now)))
@@ -96,9 +98,15 @@ module _ (w : ComponentWorld) (ok : IsWorld w) (m : Machine) where
         tt,
       )
 
+  drop_meets : (address : ℕ) (id : TypeId) → IsDropOf m.store address (resource_of w id) → CoreMeets w m None address (ItemIsDrop m (resource_of w id))
+  drop_meets address id h =
+      opaque_meets w ok m None address drop_core (IntrinsicOf (intrinsics.ResourceDrop h.of)) (ItemIsDrop m (resource_of w id)) h.is
+      (ap (λ o. elim o [ None ↦ OfOthers | Some i ↦ item_tree h.of i ]) h.held.present ∙ h.held.denotes)
+
   thing_meets : (t : Thing) (target : Target) → t.space ≡ spaces.CoreFunc → IsServedAs w m.store t.address target → Meets w m (resource_of w) t target
   thing_meets t (Lowered function []) space h =
       subst (λ space. MeetsIn w m (resource_of w) space t.address (Lowered function [])) (sym space) (import_meets t.address function h)
+  thing_meets t (Dropped id) space h = subst (λ space. MeetsIn w m (resource_of w) space t.address (Dropped id)) (sym space) (drop_meets t.address id h)
   thing_meets t target space h = absurd h
 
   planned_served : (t : Thing) (i : ImportType) → IsPlanned w m.store t i → IsServed w m (resource_of w) (main_module w) t i

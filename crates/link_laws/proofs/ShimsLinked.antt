@@ -1,13 +1,12 @@
 -- A worked example: the list with shims is linked, whatever the outside returns, and with the slots crossed it isn't.
-use Rattle.std.proofs.Common.{◌≡◌, ◌∙◌, ℕ, zero, suc, true≢false, List, [], ◌∷◌, refl, sym, ap, subst, Option, Some, None, IsTrue, arith}
+use Rattle.std.proofs.Common.{◌≡◌, ◌∙◌, ℕ, zero, suc, true≢false, List, [], ◌∷◌, refl, sym, ap, subst, Some, None, IsTrue, arith}
 use Rattle.std.proofs.lemmas.Option.{none-some, same_Some}
 use Rattle.std.specs.List.{slice_get}
 use Rattle.comp_bytes.proofs.Worked.{f, root}
-use Rattle.core_types.specs.declared.types.FuncType.{FuncType}
 use Rattle.core_runs.specs.declared.bracket.AfterHook.TheVariants.{Nothing}
 use Rattle.core_runs.specs.Hooks.{around}
 use Rattle.core_runs.specs.Values.{Value, fit}
-use Rattle.core_runs.specs.Store.{Func, Generated, Opaque, Answer, Gives, Now}
+use Rattle.core_runs.specs.Store.{Answer, Gives, Now}
 use Rattle.core_runs.specs.Execution.{exec, acts}
 use Rattle.core_runs.specs.Expected.{expected}
 use Rattle.wit_data.specs.declared.ids.TypeId.{TypeId}
@@ -19,13 +18,14 @@ use Rattle.comp_roles.specs.declared.offered.ImportType.{ImportType}
 use Rattle.comp_links.specs.Targets.{Main, OfRoot, Lowered}
 use Rattle.comp_links.specs.Modules.{WorldModule, user_modules}
 use Rattle.comp_links.specs.Lists.{RootFunction, import_entries}
-use Rattle.comp_runs.specs.Store.{CoreItem, Lowering, ModuleInstance}
+use Rattle.comp_runs.specs.Store.{Lowering, ModuleInstance}
 use Rattle.comp_runs.specs.Machine.{Machine}
 use Rattle.link_laws.specs.Meeting.{CoreMeets, ItemIsLowering, IsImport, Meets}
 use Rattle.link_laws.specs.Linking.{outcome, AreServed, IsServed, IsLinked}
 use Rattle.link_laws.proofs.Worked.{plain_core}
 use Rattle.link_laws.proofs.Worked.{machine_of, root_import, core_function, h}
-use Rattle.link_laws.proofs.Crossed.{traps_next, first_called, known_by, type_by, import_number, first_letter}
+use Rattle.link_laws.proofs.NamedItem.{traps_next, named_item}
+use Rattle.link_laws.proofs.Crossed.{import_number, first_letter}
 use Rattle.link_laws.proofs.WorkedShims.{world, generated, whole, shims_instance, main_instance, fixup_instance, opaque_at, one_call, straight, crossed, shim_0_calls_f, shim_1_calls_h}
 
 -- ---- the straight list
@@ -114,13 +114,11 @@ module _ (number : ℕ) (rest : List Answer) where
 abbrev c : Machine
 c = machine_of crossed
 
--- a call of shim 0 is a call of no function but 3
-calls_3 : (address hook : ℕ) (signature : FuncType) → plain_core ≡ signature →
-    acts c.store.code 0 [] traps_next ≡ expected (around None Nothing) hook (record { address = address; signature = signature }) [] traps_next → 3 ≡ address
+-- a call of shim 0 is a call of function 3
+calls_3 : (arguments : List Value) → acts c.store.code 0 arguments (traps_next c) ≡ expected (around None Nothing) 0 (opaque_at 3) arguments (traps_next c)
 unfolding acts exec
-calls_3 address hook signature s e =
-    let same : 3 ≡ first_called (expected (around None Nothing) hook (record { address = address; signature = signature }) [] traps_next) = ap first_called e in
-    subst (λ (t : FuncType). 3 ≡ first_called (expected (around None Nothing) hook (record { address = address; signature = t }) [] traps_next)) (sym s) same
+calls_3 [] = refl
+calls_3 (v ∷ vs) = refl
 
 -- the second import is h
 not_of_f : (origins : TypeId → Resource) → IsImport world c origins 1 (OfRoot f) → ⊥
@@ -130,29 +128,9 @@ not_of_f origins i =
     let same : 0x68 ≡ 0x66 = ap first_letter named in
     absurd (omega (arith, same))
 
--- a generated function is not opaque
-abbrev is_generated : Option Func → ℕ
-is_generated (Some (Generated frame signature locals code)) = 1
-is_generated function = 0
-
--- no opaque function is a lowering of f and acts as shim 0
-none_serves : (origins : TypeId → Resource) (address what : ℕ) (signature : FuncType) (item : CoreItem) → slice_get c.store.code.functions address ≡ Some (Opaque what signature) →
-    slice_get c.store.known what ≡ Some item → ItemIsLowering world c origins (OfRoot f) [] item → (plain_core ≡ signature → 3 ≡ address) → ⊥
-none_serves origins zero what signature item e known named called = let same : 1 ≡ 0 = ap is_generated e in absurd (omega (arith, same))
-none_serves origins (suc zero) what signature item e known named called = let same : 1 ≡ 0 = ap is_generated e in absurd (omega (arith, same))
-none_serves origins (suc (suc zero)) what signature item e known named called = let same : 3 ≡ 2 = called (ap type_by e) in absurd (omega (arith, same))
-none_serves origins (suc (suc (suc zero))) what signature item e known named called =
-    let same : 1 ≡ what = ap known_by e in
-    let lowers : Some (Lowering 1 []) ≡ Some item = subst (λ n. slice_get c.store.known n ≡ Some item) (sym same) known in
-    let of_f : ItemIsLowering world c origins (OfRoot f) [] (Lowering 1 []) = subst (ItemIsLowering world c origins (OfRoot f) []) (sym (same_Some (Lowering 1 []) item lowers)) named in
-    not_of_f origins of_f.0
-none_serves origins (suc (suc (suc (suc n)))) what signature item e known named called = absurd (none-some (Opaque what signature) e)
-
+-- function 3 is a lowering of it
 no_lowering_of_f : (origins : TypeId → Resource) → CoreMeets world c None 0 (ItemIsLowering world c origins (OfRoot f) []) → ⊥
-no_lowering_of_f origins x =
-    none_serves origins x.target.address x.what x.target.signature x.item x.is x.known x.named
-    (λ s. calls_3 x.target.address x.hook x.target.signature s
-    (x.acts.same [] traps_next (subst (λ (t : FuncType). IsTrue (fit t.params [])) s refl) tt))
+no_lowering_of_f origins x = not_of_f origins (named_item world c 0 (ItemIsLowering world c origins (OfRoot f) []) x (opaque_at 3) 1 (Lowering 1 []) refl refl calls_3).0
 
 -- main's first import, which is to be f
 abbrev first_import : ImportType

@@ -1,24 +1,28 @@
 -- A definition that keeps its rule runs, and the store agrees with the longer list.
 use Rattle.std.proofs.Common.{arith, ◌≤◌, ◌+◌, ◌≡◌, ◌∙◌, ℕ, zero, suc, ◌<◌, Bool, true, false, List, [], ◌∷◌, ◌++◌, length, map, filter, get_or, refl, sym, ap, ap₂, subst, append-nil, append_assoc, add-one, length-append, Option, Some, None, is_some, IsTrue, if◌then◌else◌}
-use Rattle.std.proofs.lemmas.List.{map-append}
+use Rattle.std.proofs.lemmas.List.{map-append, length-map}
 use Rattle.std.proofs.lemmas.List.Elements.{filter-append}
 use Rattle.std.proofs.lemmas.Grind.{flat_map-append}
 use Rattle.std.proofs.lemmas.Option.{none-some, get_or_from_slice_get}
 use Rattle.std.specs.List.{slice_get, flat_map, AllZip, AllByRecursion}
 use Rattle.std.specs.Option.{option_map, option_and_then}
 use Rattle.comp_lists.specs.Found.{found}
-use Rattle.comp_lists.proofs.Lists.{slice_get-append, slice_get-end, AllZip-weaker, AllZip-end, AllByRecursion-weaker, AllByRecursion-push}
+use Rattle.comp_lists.proofs.Lists.{slice_get-end, AllZip-weaker, AllZip-end, AllByRecursion-weaker, AllByRecursion-push}
 use Rattle.comp_bytes.specs.Spaces.{kind_space, space_of, items_in}
 use Rattle.comp_bytes.specs.ScopeNames.{def_export}
 use Rattle.comp_bytes.specs.declared.space.Space.{Space}
 use Rattle.comp_bytes.specs.declared.space.Space.TheVariants as spaces
 use Rattle.standard_kinds.specs.declared.kinds.ExportKind.TheVariants as kinds
 use Rattle.comp_bytes.specs.declared.space.Sort.TheVariants as sorts
+use Rattle.comp_bytes.specs.declared.space.ComponentExportKind.TheVariants as exports
 use Rattle.comp_bytes.specs.declared.types.ExternName.{ExternName}
 use Rattle.comp_bytes.specs.declared.types.TypeDef.{TypeDef}
 use Rattle.comp_bytes.specs.declared.types.TypeDef.TheVariants as types
 use Rattle.comp_bytes.specs.declared.types.Alias.TheVariants as aliases
+use Rattle.comp_bytes.specs.declared.types.Member.{Member}
+use Rattle.comp_bytes.specs.declared.types.InstanceType.{InstanceType as InstanceTypeDef}
 use Rattle.comp_bytes.specs.declared.types.Description.TheVariants as descriptions
+use Rattle.comp_bytes.specs.declared.canon.Intrinsic.TheVariants as intrinsics
 use Rattle.comp_bytes.specs.declared.def.CoreArgument.{CoreArgument}
 use Rattle.comp_bytes.specs.declared.def.CoreInlineExport.{CoreInlineExport}
 use Rattle.comp_bytes.specs.declared.def.Item.TheVariants as items
@@ -33,7 +37,7 @@ use Rattle.comp_worlds.specs.Worlds.{IsWorld, items_of, core_name_of}
 use Rattle.comp_trees.specs.Trees.{Origin, ImportedAt, DefinedAt, ResourceAt, FunctionTree, is_known}
 use Rattle.comp_trees.specs.DefinedTrees.{TypeTree, OfValues, OfFunctions, OfOthers, function_tree, defined_tree}
 use Rattle.comp_trees.specs.DefinedScopes.{type_tree}
-use Rattle.comp_trees.specs.Inventories.{Inventory, FunctionEntry, entry_tree, no_type, no_function, types_made, functions_made, imports_made, inventory, scope_of}
+use Rattle.comp_trees.specs.Inventories.{Inventory, OfInstances, FunctionEntry, InstanceEntry, ImportedInstance, OtherInstance, entry_tree, no_type, no_function, type_of_instance, function_of_instance, instance_imported, types_made, functions_made, instances_made, imports_made, inventory, scope_of}
 use Rattle.comp_trees.proofs.Inventories.{inventory-push}
 use Rattle.core_types.specs.declared.types.FuncType.{FuncType}
 use Rattle.comp_roles.specs.declared.imports.ImportInstance.{ImportInstance}
@@ -43,23 +47,28 @@ use Rattle.core_runs.specs.Values.{Value}
 use Rattle.core_types.specs.declared.types.ValType.TheVariants.{I32}
 use Rattle.core_runs.specs.Store.{Opaque, Answer, Gives, Traps, Event, Instantiated, Now, Cell, Foreign}
 use Rattle.core_runs.specs.Execution.{answered, seen, renewed}
-use Rattle.comp_runs.specs.Store.{Thing, Export, CoreItem, Lowering, ExportedBy, Function, Imported, Lifting, TypeItem, TreeOf, ImportedResource, ModuleInstance, Store}
+use Rattle.comp_runs.specs.Store.{Thing, Export, CoreItem, Lowering, IntrinsicOf, ExportedBy, Function, Imported, Lifting, TypeItem, TreeOf, ImportedResource, InstanceTypeOf, ModuleInstance, Store}
 use Rattle.comp_links.specs.Targets.{Main, Lifted}
 use Rattle.comp_links.specs.Modules.{WorldModule}
 use Rattle.comp_roles.specs.declared.offered.ExternType.{ExternType}
 use Rattle.comp_roles.specs.declared.offered.ExternType.TheVariants as externs
 use Rattle.comp_roles.specs.declared.offered.ImportType.{ImportType}
 use Rattle.comp_terms.specs.Planned.{type_of_function, IsLiftFor, IsArgumentFor}
-use Rattle.comp_terms.specs.Rules.{InstantiatesUser, AliasesUser, ExportsRequired, IsEntry, AreEntries, HasFunctionType, HasImportedFunction, IsTypeRight}
-use Rattle.comp_runs.specs.Machine.{Scope, Machine, Outcome, Done, Trapped, Open, Stuck, address_at, is_of, export_named, all_some, resumed, with_opaque}
+use Rattle.comp_terms.specs.Rules.{InstantiatesUser, AliasesUser, ExportsRequired, IsEntry, AreEntries, AliasesImported, HasFunctionType, HasResource, HasImportedFunction, IsTypeRight, AreRightMembers}
+use Rattle.comp_runs.specs.Machine.{Scope, Machine, Outcome, Done, Trapped, Open, Stuck, with_some, address_at, is_of, export_named, all_some, resumed, with_opaque}
 use Rattle.comp_runs.specs.Instances.{ExportTypes, exported_by, with_exports, with_module_instance, matching, argument_for, type_kind, given_to, new_user, type_scope, known_function, type_item}
 use Rattle.comp_runs.specs.Signatures.{core_signature}
 use Rattle.comp_runs.specs.Running.{core_argument, core_entry, type_of_function as function_type_of, lowered_signature, run}
+use Rattle.instance_laws.specs.Instantiated.{IsHeldAs}
+use Rattle.instance_laws.specs.InstanceEntries.{IsInstanceType, IsInstanceEntry, RunsImport, AliasesFunction, AliasesType}
+use Rattle.instance_laws.proofs.Held.{keeps_same, keeps_more, keeps_grown, AreHeldAs-kept}
+use Rattle.instance_laws.proofs.Members.{each_joined}
+use Rattle.instance_laws.proofs.Importing.{instance_type_made, import_runs, aliases_function, aliases_type}
 use Rattle.link_laws.specs.Composition.{GeneratedModules, at_root, item_instantiates}
 use Rattle.link_laws.specs.Linking.{module_meanings, LetsRun}
-use Rattle.link_laws.proofs.Zips.{AllZip-join, all_some-self, all_some-each, length-map, mapped_some}
-use Rattle.link_laws.proofs.Stores.{IsOpaqueOf, IsUserItem, IsUserExport, IsUserInstance, IsNamedEntry, IsTypeAt, Means, makes, IsTypeEntry, entry_of, IsFunctionEntry, main_module, IsPlanned, IsPlannedUser, IsLiftedFrom, IsLiftedExport, NumberedFrom, Agrees, Keeps, address_at-append, Means-kept, IsTypeEntry-kept, IsFunctionEntry-kept, IsPlannedUser-kept, IsLiftedExport-kept}
-use Rattle.link_laws.proofs.Given.{IsOffered, address_there, scope_there, entry_there, type_there, function_at, imported_there, user_there, offered_there, lift_there, arguments_there, given_there}
+use Rattle.link_laws.proofs.Zips.{all_some-self, all_some-each, mapped_some}
+use Rattle.link_laws.proofs.Stores.{IsOpaqueOf, IsUserItem, IsUserExport, IsUserInstance, IsNamedEntry, IsTypeAt, drop_core, Means, makes, IsTypeEntry, entry_of, IsFunctionEntry, IsInstanceThing, main_module, IsPlanned, IsPlannedUser, IsLiftedFrom, IsLiftedExport, NumberedFrom, Agrees, Keeps, address_at-append, things_kept, keeps_store, keeps_type, keeps_function, keeps_opaque, keeps_core_instance, keeps_module, Means-kept, IsTypeEntry-kept, IsFunctionEntry-kept, IsInstanceThing-kept, IsPlannedUser-kept, IsLiftedExport-kept}
+use Rattle.link_laws.proofs.Given.{IsOffered, address_there, all_held, scope_there, entry_there, held_there, type_there, instance_type_there, instance_there, function_at, imported_there, user_there, offered_there, lift_there, arguments_there, given_there}
 use Rattle.link_laws.proofs.Plain.{IsFunctionImport, function_imports, listed_main}
 use Rattle.link_laws.proofs.UserExports.{Exports, Alike, all_exports, all_alike, same_exports, each_export}
 
@@ -114,7 +123,7 @@ pub good_answered : (c : Scope) (s : Store) (g : ℕ) (es : List Event) (questio
     IsGood c s g es ([] ∷ questions) answers (resumed (answered [] answers now) m next)
 good_answered c s g es questions [] now m next few h = (λ l. l, few)
 good_answered c s g es questions (Traps ∷ answers) now m next few h = (λ l. l, few)
-good_answered c s g es questions (Gives [] number ∷ answers) now m next few h = one_more c s g es questions number answers _ (h [] _ refl refl (length-map (renewed number) now.globals))
+good_answered c s g es questions (Gives [] number ∷ answers) now m next few h = one_more c s g es questions number answers _ (h [] _ refl refl (length-map now.globals (renewed number)))
 good_answered c s g es questions (Gives (v ∷ values) number ∷ answers) now m next few h = (λ l. absurd (no l.0), few)
   where
     no : IsTrue false → ⊥
@@ -192,15 +201,7 @@ exported_by_name w (keys.Interface id) name wit e h = absurd (none-some name e)
 matching_same : (c : Scope) (s : Store) (now : Now) (type : FuncType) (space : Space) (address : ℕ) →
     matching (machine c s now) (externs.Func type) (record { space = space; address = address }) ≡ matching (machine c s no_answers) (externs.Func type) (record { space = space; address = address })
 matching_same c s now type spaces.CoreFunc address = refl
-matching_same c s now type spaces.CoreTable address = refl
-matching_same c s now type spaces.CoreMemory address = refl
-matching_same c s now type spaces.CoreGlobal address = refl
-matching_same c s now type spaces.CoreModule address = refl
-matching_same c s now type spaces.CoreInstance address = refl
-matching_same c s now type spaces.Func address = refl
-matching_same c s now type spaces.Type address = refl
-matching_same c s now type spaces.Component address = refl
-matching_same c s now type spaces.Instance address = refl
+matching_same c s now type space address = refl
 
 given_one : (c : Scope) (s : Store) (now : Now) (type : FuncType) (o : Option Thing) →
     option_and_then (matching (machine c s now) (externs.Func type)) o ≡ option_and_then (matching (machine c s no_answers) (externs.Func type)) o
@@ -248,17 +249,18 @@ module _ (s : Store) (core_instances : List (List Export)) (module_instances : L
 
   item_beside : (e : Export) (type : ExternType) → IsUserItem s user e type → IsUserItem with_instances user e type
   item_beside e (externs.Func type) h = record { what = h.what; present = h.present; known = h.known }
-  item_beside e (externs.Table type) h = tt
-  item_beside e (externs.Memory type) h = tt
-  item_beside e (externs.Global type) h = tt
+  item_beside e type h = tt
 
   export_beside : (e : Export) (found : List ℕ × ExternType) → IsUserExport s user e found → IsUserExport with_instances user e found
   export_beside e found h = record { named = h.named; space = h.space; is = item_beside e found.1 h.is }
 
 module _ {w : ComponentWorld} {earlier : List Def} {c : Scope} {s : Store} (a : Agrees w earlier c s) (g : ℕ) where
-  -- the types and functions that this definition makes are those of this item
+  -- the types, functions and instances that this definition makes are those of this item
   abbrev Makes : Def → Store → Thing → Type 0
-  Makes d s' t = AllZip (IsTypeEntry s') (types_made (inventory earlier) d) (filter (is_of spaces.Type) (t ∷ [])) × AllZip (IsFunctionEntry s') (functions_made (inventory earlier) d) (filter (is_of spaces.Func) (t ∷ []))
+  Makes d s' t =
+      AllZip (IsTypeEntry s') (types_made (inventory earlier) d) (filter (is_of spaces.Type) (t ∷ []))
+      × AllZip (IsFunctionEntry s') (functions_made (inventory earlier) d) (filter (is_of spaces.Func) (t ∷ []))
+      × AllZip (IsInstanceThing s') (instances_made (inventory earlier) d) (filter (is_of spaces.Instance) (t ∷ []))
 
   -- the step of a definition that makes an item
   agrees_with : (d : Def) (c' : Scope) (s' : Store) (t : Thing) → c'.items ≡ c.items ++ t ∷ [] → Keeps c.items c'.items s s' →
@@ -266,24 +268,28 @@ module _ {w : ComponentWorld} {earlier : List Def} {c : Scope} {s : Store} (a : 
       map (λ (u : ModuleInstance). u.module_number) s'.module_instances ≡ map (λ (u : ModuleInstance). u.module_number) s.module_instances ++ at_root item_instantiates d →
       AllByRecursion (IsPlannedUser w s') s'.module_instances → map (λ (e : Export). e.name) c'.exports ≡ map (λ (e : Export). e.name) c.exports ++ def_export d → AllByRecursion (IsLiftedExport w s') c'.exports →
       c'.imports ≡ imports_made (inventory earlier) d → Agrees w (earlier ++ d ∷ []) c' s'
-  agrees_with d c' s' t grew keeps means made modules instances served exports lifted imports =
+  agrees_with d c' s' t grew keeps means made modules instantiated served exports lifted imports =
       let before : List Def = filter makes earlier in
       let old : Inventory = inventory earlier in
       let kept : AllZip (Means w c'.items s') before c.items = AllZip-weaker (Means-kept w keeps) before c.items a.means in
       let pushed : AllZip (Means w c'.items s') (before ++ d ∷ []) (c.items ++ t ∷ []) = AllZip-end (Means w c'.items s') before c.items d t kept means in
       let of : (space : Space) → filter (is_of space) c'.items ≡ filter (is_of space) c.items ++ filter (is_of space) (t ∷ []) = λ space. ap (filter (is_of space)) grew ∙ filter-append (is_of space) c.items (t ∷ []) in
       let more_types : AllZip (IsTypeEntry s') (old.types ++ types_made old d) (filter (is_of spaces.Type) c.items ++ filter (is_of spaces.Type) (t ∷ [])) =
-      AllZip-join (IsTypeEntry s') old.types (types_made old d) (filter (is_of spaces.Type) c.items) (filter (is_of spaces.Type) (t ∷ [])) (AllZip-weaker (IsTypeEntry-kept keeps) old.types (filter (is_of spaces.Type) c.items) a.types) made.0 in
+      each_joined (IsTypeEntry s') old.types (types_made old d) (filter (is_of spaces.Type) c.items) (filter (is_of spaces.Type) (t ∷ [])) (AllZip-weaker (IsTypeEntry-kept keeps) old.types (filter (is_of spaces.Type) c.items) a.types) made.0 in
       let more_functions : AllZip (IsFunctionEntry s') (old.functions ++ functions_made old d) (filter (is_of spaces.Func) c.items ++ filter (is_of spaces.Func) (t ∷ [])) =
-      AllZip-join (IsFunctionEntry s') old.functions (functions_made old d) (filter (is_of spaces.Func) c.items) (filter (is_of spaces.Func) (t ∷ [])) (AllZip-weaker (IsFunctionEntry-kept keeps) old.functions (filter (is_of spaces.Func) c.items) a.functions) made.1 in
+      each_joined (IsFunctionEntry s') old.functions (functions_made old d) (filter (is_of spaces.Func) c.items) (filter (is_of spaces.Func) (t ∷ [])) (AllZip-weaker (IsFunctionEntry-kept keeps) old.functions (filter (is_of spaces.Func) c.items) a.functions) made.1 in
+      let more_instances : AllZip (IsInstanceThing s') (old.instances ++ instances_made old d) (filter (is_of spaces.Instance) c.items ++ filter (is_of spaces.Instance) (t ∷ [])) =
+      each_joined (IsInstanceThing s') old.instances (instances_made old d) (filter (is_of spaces.Instance) c.items) (filter (is_of spaces.Instance) (t ∷ [])) (AllZip-weaker (IsInstanceThing-kept keeps) old.instances (filter (is_of spaces.Instance) c.items) a.instances) made.2 in
       record {
         means = subst (λ ds. AllZip (Means w c'.items s') ds c'.items) (sym (made-push earlier d t.space means.space)) (subst (λ ts. AllZip (Means w c'.items s') (before ++ d ∷ []) ts) (sym grew) pushed);
         types = subst (λ (v : Inventory). AllZip (IsTypeEntry s') v.types (filter (is_of spaces.Type) c'.items)) (sym (inventory-push earlier d))
             (subst (λ ts. AllZip (IsTypeEntry s') (old.types ++ types_made old d) ts) (sym (of spaces.Type)) more_types);
         functions = subst (λ (v : Inventory). AllZip (IsFunctionEntry s') v.functions (filter (is_of spaces.Func) c'.items)) (sym (inventory-push earlier d))
             (subst (λ ts. AllZip (IsFunctionEntry s') (old.functions ++ functions_made old d) ts) (sym (of spaces.Func)) more_functions);
+        instances = subst (λ (v : Inventory). AllZip (IsInstanceThing s') v.instances (filter (is_of spaces.Instance) c'.items)) (sym (inventory-push earlier d))
+            (subst (λ ts. AllZip (IsInstanceThing s') (old.instances ++ instances_made old d) ts) (sym (of spaces.Instance)) more_instances);
         modules = modules;
-        instances = instances ∙ (ap (λ l. l ++ at_root item_instantiates d) a.instances ∙ sym (flat-push (at_root item_instantiates) earlier d));
+        instantiated = instantiated ∙ (ap (λ l. l ++ at_root item_instantiates d) a.instantiated ∙ sym (flat-push (at_root item_instantiates) earlier d));
         served = served;
         exports = exports ∙ (ap (λ l. l ++ def_export d) a.exports ∙ sym (flat-push def_export earlier d));
         lifted = lifted;
@@ -318,20 +324,12 @@ module _ {w : ComponentWorld} {earlier : List Def} {c : Scope} {s : Store} (a : 
       let t : Thing = record { space = spaces.Type; address = length s.types } in
       let item : TypeItem = TreeOf (type_tree (scope_of earlier) (DefinedAt 0) type) in
       let s' : Store = record s { types = s.types ++ item ∷ [] } in
-      let k : Keeps c.items (c.items ++ t ∷ []) s s' = record {
-        things = λ space i x e. address_at-append c.items (t ∷ []) space i x e;
-        code = λ i x e. e;
-        known = λ i x e. e;
-        instances = λ i x e. e;
-        functions = λ i x e. e;
-        types = λ i x e. slice_get-append s.types (item ∷ []) i x e;
-        users = λ i x e. e;
-      } in (
+      let k : Keeps c.items (c.items ++ t ∷ []) s s' = keeps_type c.items t s item in (
         with_thing c t,
         s',
         g,
         quiet w d c s g (with_thing c t) s' refl (λ rest now. rw (type_made (scope_of earlier) type h (machine c s now) (scope_there a)) refl),
-        agrees_plain d s' t k (record { space = refl; is = tt }) ((record { item = item; present = slice_get-end s.types item; denotes = refl }, tt), tt) refl refl refl refl refl refl,
+        agrees_plain d s' t k (record { space = refl; is = tt }) ((record { item = item; present = slice_get-end s.types item; denotes = refl; is = tt }, tt), tt, tt) refl refl refl refl refl refl,
       )
 
   pub step_import : (name : ExternName) (kind : ℕ) → HasFunctionType earlier kind → Steps w earlier c s g (defs.Item (items.Import name (descriptions.Func kind)))
@@ -341,15 +339,7 @@ module _ {w : ComponentWorld} {earlier : List Def} {c : Scope} {s : Store} (a : 
       let c' : Scope = record c { items = c.items ++ t ∷ []; imports = suc c.imports } in
       let f : Function = Imported (record { number = c.imports; inner = None }) h.type in
       let s' : Store = record s { functions = s.functions ++ f ∷ [] } in
-      let k : Keeps c.items (c.items ++ t ∷ []) s s' = record {
-        things = λ space i x e. address_at-append c.items (t ∷ []) space i x e;
-        code = λ i x e. e;
-        known = λ i x e. e;
-        instances = λ i x e. e;
-        functions = λ i x e. slice_get-append s.functions (f ∷ []) i x e;
-        types = λ i x e. e;
-        users = λ i x e. e;
-      } in
+      let k : Keeps c.items (c.items ++ t ∷ []) s s' = keeps_function c.items t s f in
       let y : IsTypeAt c.items s kind h.type = type_there a h.is in
       let entry : entry_of f ≡ record { origin = Some (record { number = (inventory earlier).imports; inner = None }); type = get_or (scope_of earlier) kind OfOthers } =
       ap₂ (λ n tree. record { origin = Some (record { number = n; inner = None }); type = tree }) a.imports (sym h.is.denotes.tree) in (
@@ -357,7 +347,7 @@ module _ {w : ComponentWorld} {earlier : List Def} {c : Scope} {s : Store} (a : 
         s',
         g,
         quiet w d c s g c' s' refl (λ rest now. rw (y.at, y.is) refl),
-        agrees_at d c' s' t refl refl k (record { space = refl; is = tt }) (tt, (record { function = f; present = slice_get-end s.functions f; same = entry }, tt)) refl refl refl refl refl (ap suc a.imports),
+        agrees_at d c' s' t refl refl k (record { space = refl; is = tt }) (tt, (record { function = f; present = slice_get-end s.functions f; same = entry }, tt), tt) refl refl refl refl refl (ap suc a.imports),
       )
 
   -- a type that equals another is that one
@@ -368,15 +358,7 @@ module _ {w : ComponentWorld} {earlier : List Def} {c : Scope} {s : Store} (a : 
       let t : Thing = record { space = spaces.Type; address = x.2.address } in
       let c' : Scope = record c { items = c.items ++ t ∷ []; imports = suc c.imports } in
       let s' : Store = s in
-      let k : Keeps c.items (c.items ++ t ∷ []) s s' = record {
-        things = λ space i x e. address_at-append c.items (t ∷ []) space i x e;
-        code = λ i x e. e;
-        known = λ i x e. e;
-        instances = λ i x e. e;
-        functions = λ i x e. e;
-        types = λ i x e. e;
-        users = λ i x e. e;
-      } in
+      let k : Keeps c.items (c.items ++ t ∷ []) s s' = keeps_store c.items t s in
       let at : address_at spaces.Type index c.items ≡ Some x.2.address = ap (option_map (λ (t : Thing). t.address)) x.3 in
       let entry : get_or (inventory earlier).types index no_type ≡ x.0 = get_or_from_slice_get (inventory earlier).types index x.0 no_type x.1 in (
         c',
@@ -384,7 +366,7 @@ module _ {w : ComponentWorld} {earlier : List Def} {c : Scope} {s : Store} (a : 
         g,
         quiet w d c s g c' s refl (λ rest now. rw at refl),
         agrees_at d c' s t refl refl k (record { space = refl; is = tt })
-            ((record { item = x.4.item; present = x.4.present; denotes = x.4.denotes ∙ ap entry_tree (sym entry) }, tt), tt)
+            ((subst (λ e. IsTypeEntry s e t) (sym entry) (record { item = x.4.item; present = x.4.present; denotes = x.4.denotes; is = x.4.is }), tt), tt, tt)
             refl refl refl refl refl (ap suc a.imports),
       )
 
@@ -396,22 +378,101 @@ module _ {w : ComponentWorld} {earlier : List Def} {c : Scope} {s : Store} (a : 
       let c' : Scope = record c { items = c.items ++ t ∷ []; imports = suc c.imports } in
       let item : TypeItem = ImportedResource (record { number = c.imports; inner = None }) in
       let s' : Store = record s { types = s.types ++ item ∷ [] } in
-      let k : Keeps c.items (c.items ++ t ∷ []) s s' = record {
-        things = λ space i x e. address_at-append c.items (t ∷ []) space i x e;
-        code = λ i x e. e;
-        known = λ i x e. e;
-        instances = λ i x e. e;
-        functions = λ i x e. e;
-        types = λ i x e. slice_get-append s.types (item ∷ []) i x e;
-        users = λ i x e. e;
-      } in (
+      let k : Keeps c.items (c.items ++ t ∷ []) s s' = keeps_type c.items t s item in (
         c',
         s',
         g,
         quiet w d c s g c' s' refl (λ rest now. refl),
         agrees_at d c' s' t refl refl k (record { space = refl; is = tt })
-            ((record { item = item; present = slice_get-end s.types item; denotes = ap (λ n. OfValues (ResourceAt (ImportedAt (record { number = n; inner = None })))) a.imports }, tt), tt)
+            ((record { item = item; present = slice_get-end s.types item; denotes = ap (λ n. OfValues (ResourceAt (ImportedAt (record { number = n; inner = None })))) a.imports; is = tt }, tt), tt, tt)
             refl refl refl refl refl (ap suc a.imports),
+      )
+
+  -- a type of instances has the members that the inventory says
+  pub step_instance_type : (type : InstanceTypeDef) → Steps w earlier c s g (defs.Item (items.InstanceType type))
+  step_instance_type type =
+      let d : Def = defs.Item (items.InstanceType type) in
+      let t : Thing = record { space = spaces.Type; address = length s.types } in
+      let item : TypeItem = InstanceTypeOf type.members (c.items ∷ c.around) in
+      let s' : Store = record s { types = s.types ++ item ∷ [] } in
+      let is : IsInstanceType s'.types (scope_of earlier) type.members item =
+      instance_type_made s'.types (inventory earlier) type.members c.items c.around (AreHeldAs-kept (keeps_more s.types (item ∷ [])) (scope_of earlier) c.items (all_held a)) in (
+        with_thing c t,
+        s',
+        g,
+        quiet w d c s g (with_thing c t) s' refl (λ rest now. refl),
+        agrees_plain d s' t (keeps_type c.items t s item) (record { space = refl; is = tt }) ((record { item = item; present = slice_get-end s.types item; denotes = refl; is = is }, tt), tt, tt) refl refl refl refl refl refl,
+      )
+
+  -- An import of a type of instances makes types and functions, and one item: the instance.
+  pub step_import_instance : (name : ExternName) (index : ℕ) (outer : List TypeTree) (members : List Member) → slice_get (inventory earlier).types index ≡ Some (OfInstances outer members) → AreRightMembers outer members →
+      Steps w earlier c s g (defs.Item (items.Import name (descriptions.Instance index)))
+  step_import_instance name index outer members h right =
+      let d : Def = defs.Item (items.Import name (descriptions.Instance index)) in
+      let origin : Origin = record { number = c.imports; inner = None } in
+      let x = instance_type_there a index outer members h in
+      let m : Machine = machine (record c { imports = suc c.imports }) s no_answers in
+      let r : RunsImport origin outer members index m = import_runs origin outer members index x.0 m (x.1 no_answers) x.2 (right c.imports) in
+      let t : Thing = record { space = spaces.Instance; address = length s.instances } in
+      let c' : Scope = record c { items = c.items ++ t ∷ []; imports = suc c.imports } in
+      let s' : Store = record s { types = r.types; functions = r.functions; instances = s.instances ++ r.exports ∷ [] } in
+      let k : Keeps c.items (c.items ++ t ∷ []) s s' = record {
+        things = things_kept c.items t s;
+        code = keeps_same refl;
+        known = keeps_same refl;
+        core_instances = keeps_same refl;
+        functions = keeps_grown s.functions r.functions r.more_functions r.functions_grew;
+        types = keeps_grown s.types r.types r.more_types r.types_grew;
+        instances = keeps_more s.instances (r.exports ∷ []);
+        users = keeps_same refl;
+      } in
+      let entry : ImportedInstance c.imports outer members ≡ instance_imported (inventory earlier).imports (get_or (inventory earlier).types index no_type) =
+      ap₂ (λ n e. instance_imported n e) a.imports (sym (get_or_from_slice_get (inventory earlier).types index (OfInstances outer members) no_type h)) in (
+        c',
+        s',
+        g,
+        quiet w d c s g c' s' refl (λ rest now. r.runs now (λ address after. run (module_meanings w no_modules) rest after)),
+        agrees_at d c' s' t refl refl k (record { space = refl; is = tt })
+            (tt, tt, (record { exports = r.exports; present = slice_get-end s.instances r.exports; is = subst (λ e. IsInstanceEntry r.types r.functions e r.exports) entry r.is }, tt))
+            refl refl refl refl refl (ap suc a.imports),
+      )
+
+  -- an alias of what an imported instance exports is that item
+  pub step_alias_function : (instance : ℕ) (name : List ℕ) → AliasesImported earlier spaces.Func instance name → Steps w earlier c s g (defs.Item (items.Alias (aliases.Export exports.Func instance name)))
+  step_alias_function instance name h =
+      let d : Def = defs.Item (items.Alias (aliases.Export exports.Func instance name)) in
+      let of : InstanceEntry = ImportedInstance h.number h.outer h.members in
+      let x = instance_there a instance of h.imported in
+      let entry : get_or (inventory earlier).instances instance OtherInstance ≡ of = get_or_from_slice_get (inventory earlier).instances instance of OtherInstance h.imported in
+      let f : AliasesFunction (machine c s no_answers) instance name (function_of_instance name of) =
+      aliases_function (machine c s no_answers) instance x.0 x.2 name h.number h.outer h.members x.1 x.3 x.4 h.exported in
+      let t : Thing = record { space = spaces.Func; address = f.address } in (
+        with_thing c t,
+        s,
+        g,
+        quiet w d c s g (with_thing c t) s refl (λ rest now. ap (λ o. with_some o (λ (x : Thing). run (module_meanings w no_modules) rest (machine (with_thing c x) s now))) f.at),
+        agrees_plain d s t (keeps_store c.items t s) (record { space = refl; is = tt })
+            (tt, (record { function = Imported f.origin f.type; present = f.present; same = f.same ∙ ap (function_of_instance name) (sym entry) }, tt), tt)
+            refl refl refl refl refl refl,
+      )
+
+  pub step_alias_type : (instance : ℕ) (name : List ℕ) → AliasesImported earlier spaces.Type instance name → Steps w earlier c s g (defs.Item (items.Alias (aliases.Export exports.Type instance name)))
+  step_alias_type instance name h =
+      let d : Def = defs.Item (items.Alias (aliases.Export exports.Type instance name)) in
+      let of : InstanceEntry = ImportedInstance h.number h.outer h.members in
+      let x = instance_there a instance of h.imported in
+      let entry : get_or (inventory earlier).instances instance OtherInstance ≡ of = get_or_from_slice_get (inventory earlier).instances instance of OtherInstance h.imported in
+      let f : AliasesType (machine c s no_answers) instance name (entry_tree (type_of_instance name of)) =
+      aliases_type (machine c s no_answers) instance x.0 x.2 name h.number h.outer h.members x.1 x.3 x.4 h.exported in
+      let t : Thing = record { space = spaces.Type; address = f.address } in
+      let is : IsTypeEntry s (type_of_instance name of) t = record { item = f.is.item; present = f.is.present; denotes = f.is.denotes; is = tt } in (
+        with_thing c t,
+        s,
+        g,
+        quiet w d c s g (with_thing c t) s refl (λ rest now. ap (λ o. with_some o (λ (x : Thing). run (module_meanings w no_modules) rest (machine (with_thing c x) s now))) f.at),
+        agrees_plain d s t (keeps_store c.items t s) (record { space = refl; is = tt })
+            ((subst (λ e. IsTypeEntry s (type_of_instance name e) t) (sym entry) is, tt), tt, tt)
+            refl refl refl refl refl refl,
       )
 
   pub step_lower : (function : ℕ) → HasImportedFunction earlier function → Steps w earlier c s g (defs.Item (items.Lower function []))
@@ -422,15 +483,7 @@ module _ {w : ComponentWorld} {earlier : List Def} {c : Scope} {s : Store} (a : 
       let item : CoreItem = Lowering x.0 [] in
       let type : FuncType = core_signature h.type [] in
       let s' : Store = with_opaque item type s in
-      let k : Keeps c.items (c.items ++ t ∷ []) s s' = record {
-        things = λ space i x e. address_at-append c.items (t ∷ []) space i x e;
-        code = λ i x e. slice_get-append s.code.functions (Opaque (length s.known) type ∷ []) i x e;
-        known = λ i x e. slice_get-append s.known (item ∷ []) i x e;
-        instances = λ i x e. e;
-        functions = λ i x e. e;
-        types = λ i x e. e;
-        users = λ i x e. e;
-      } in (
+      let k : Keeps c.items (c.items ++ t ∷ []) s s' = keeps_opaque c.items t s item type in (
         with_thing c t,
         s',
         g,
@@ -447,7 +500,24 @@ module _ {w : ComponentWorld} {earlier : List Def} {c : Scope} {s : Store} (a : 
                 is = opaque_there item type s;
               };
             })
-            (tt, tt) refl refl refl refl refl refl,
+            (tt, tt, tt) refl refl refl refl refl refl,
+      )
+
+  pub step_drop : (type : ℕ) → HasResource earlier type → Steps w earlier c s g (defs.Item (items.Intrinsic (intrinsics.ResourceDrop type)))
+  step_drop type h =
+      let d : Def = defs.Item (items.Intrinsic (intrinsics.ResourceDrop type)) in
+      let x : (x : ℕ) × (address_at spaces.Type type c.items ≡ Some x) × IsHeldAs s.types (OfValues (ResourceAt h.resource)) x = held_there a h.is.denotes in
+      let t : Thing = record { space = spaces.CoreFunc; address = length s.code.functions } in
+      let item : CoreItem = IntrinsicOf (intrinsics.ResourceDrop x.0) in
+      let s' : Store = with_opaque item drop_core s in
+      let k : Keeps c.items (c.items ++ t ∷ []) s s' = keeps_opaque c.items t s item drop_core in (
+        with_thing c t,
+        s',
+        g,
+        quiet w d c s g (with_thing c t) s' refl (λ rest now. rw x.1 refl),
+        agrees_plain d s' t k
+            (record { space = refl; is = record { of = x.0; at = address_at-append c.items (t ∷ []) spaces.Type type x.0 x.1; is = opaque_there item drop_core s } })
+            (tt, tt, tt) refl refl refl refl refl refl,
       )
 
   pub step_lift : (core kind : ℕ) → core < items_in spaces.CoreFunc earlier → HasFunctionType earlier kind → Steps w earlier c s g (defs.Item (items.Lift core [] kind))
@@ -458,15 +528,7 @@ module _ {w : ComponentWorld} {earlier : List Def} {c : Scope} {s : Store} (a : 
       let t : Thing = record { space = spaces.Func; address = length s.functions } in
       let f : Function = Lifting x.0 [] h.type in
       let s' : Store = record s { functions = s.functions ++ f ∷ [] } in
-      let k : Keeps c.items (c.items ++ t ∷ []) s s' = record {
-        things = λ space i x e. address_at-append c.items (t ∷ []) space i x e;
-        code = λ i x e. e;
-        known = λ i x e. e;
-        instances = λ i x e. e;
-        functions = λ i x e. slice_get-append s.functions (f ∷ []) i x e;
-        types = λ i x e. e;
-        users = λ i x e. e;
-      } in (
+      let k : Keeps c.items (c.items ++ t ∷ []) s s' = keeps_function c.items t s f in (
         with_thing c t,
         s',
         g,
@@ -482,7 +544,7 @@ module _ {w : ComponentWorld} {earlier : List Def} {c : Scope} {s : Store} (a : 
                 is = slice_get-end s.functions f;
               };
             })
-            (tt, (record { function = f; present = slice_get-end s.functions f; same = ap (λ tree. record { origin = None; type = tree }) (sym h.is.denotes.tree) }, tt))
+            (tt, (record { function = f; present = slice_get-end s.functions f; same = ap (λ tree. record { origin = None; type = tree }) (sym h.is.denotes.tree) }, tt), tt)
             refl refl refl refl refl refl,
       )
 
@@ -497,15 +559,7 @@ module _ {w : ComponentWorld} {earlier : List Def} {c : Scope} {s : Store} (a : 
       (record { space = spaces.CoreFunc; name = e.name; address = at.0 }, rw (k.kind, at.1) refl, record { named = refl; space = rw k.kind refl; at = rw k.kind at.1 }))
       entries h.each in
       let s' : Store = record s { core_instances = s.core_instances ++ found.0 ∷ [] } in
-      let k : Keeps c.items (c.items ++ t ∷ []) s s' = record {
-        things = λ space i y e. address_at-append c.items (t ∷ []) space i y e;
-        code = λ i y e. e;
-        known = λ i y e. e;
-        instances = λ i y e. slice_get-append s.core_instances (found.0 ∷ []) i y e;
-        functions = λ i y e. e;
-        types = λ i y e. e;
-        users = λ i y e. e;
-      } in (
+      let k : Keeps c.items (c.items ++ t ∷ []) s s' = keeps_core_instance c.items t s found.0 in (
         with_thing c t,
         s',
         g,
@@ -519,7 +573,7 @@ module _ {w : ComponentWorld} {earlier : List Def} {c : Scope} {s : Store} (a : 
                 each = AllZip-weaker (λ e x n. record { named = n.named; space = n.space; at = address_at-append c.items (t ∷ []) (kind_space e.kind) e.index x.address n.at }) entries found.0 found.2;
               };
             })
-            (tt, tt) refl refl refl refl refl refl,
+            (tt, tt, tt) refl refl refl refl refl refl,
       )
 
   pub step_alias : IsWorld w → (instance : ℕ) (name : List ℕ) → AliasesUser w earlier instance name → Steps w earlier c s g (defs.Item (items.Alias (aliases.CoreExport kinds.Func instance name)))
@@ -530,15 +584,7 @@ module _ {w : ComponentWorld} {earlier : List Def} {c : Scope} {s : Store} (a : 
       let offered : found name w.main.offered ≡ Some (externs.Func h.type) = subst (λ (o : WorldModule). found name o.found.offered ≡ Some (externs.Func h.type)) (sym main) h.offered in
       let x : (e : Export) × (export_named name m.2.exports ≡ Some e) × (e.space ≡ spaces.CoreFunc) × IsOpaqueOf s e.address h.type (ExportedBy m.2.user e.name) = offered_there a h.number m.0 m.2 name h.type offered in
       let t : Thing = record { space = spaces.CoreFunc; address = x.0.address } in
-      let k : Keeps c.items (c.items ++ t ∷ []) s s = record {
-        things = λ space i y e. address_at-append c.items (t ∷ []) space i y e;
-        code = λ i y e. e;
-        known = λ i y e. e;
-        instances = λ i y e. e;
-        functions = λ i y e. e;
-        types = λ i y e. e;
-        users = λ i y e. e;
-      } in (
+      let k : Keeps c.items (c.items ++ t ∷ []) s s = keeps_store c.items t s in (
         with_thing c t,
         s,
         g,
@@ -556,7 +602,7 @@ module _ {w : ComponentWorld} {earlier : List Def} {c : Scope} {s : Store} (a : 
                 is = refl;
               };
             })
-            (tt, tt) refl refl refl refl refl refl,
+            (tt, tt, tt) refl refl refl refl refl refl,
       )
 
   pub step_export : IsWorld w → (name : ExternName) (index : ℕ) → ExportsRequired w earlier name index → Steps w earlier c s g (defs.Item (items.Export name sorts.Func index None))
@@ -569,15 +615,7 @@ module _ {w : ComponentWorld} {earlier : List Def} {c : Scope} {s : Store} (a : 
       let t : Thing = record { space = spaces.Func; address = f.0 } in
       let x : Export = record { space = spaces.Func; name = name.name; address = f.0 } in
       let c' : Scope = record c { items = c.items ++ t ∷ []; exports = c.exports ++ x ∷ [] } in
-      let k : Keeps c.items (c.items ++ t ∷ []) s s = record {
-        things = λ space i y e. address_at-append c.items (t ∷ []) space i y e;
-        code = λ i y e. e;
-        known = λ i y e. e;
-        instances = λ i y e. e;
-        functions = λ i y e. e;
-        types = λ i y e. e;
-        users = λ i y e. e;
-      } in
+      let k : Keeps c.items (c.items ++ t ∷ []) s s = keeps_store c.items t s in
       let own : (e : FunctionEntry) × IsFunctionEntry s e t × (get_or (inventory earlier).functions index no_function ≡ e) = function_at a index f.0 f.1 in
       let text : name.name ≡ name_of_key h.key = ap (λ (n : ExternName). n.name) h.named in (
         c',
@@ -586,7 +624,7 @@ module _ {w : ComponentWorld} {earlier : List Def} {c : Scope} {s : Store} (a : 
         quiet w d c s g c' s refl (λ rest now. rw f.1 refl),
         agrees_with d c' s t refl k
             (record { space = refl; is = tt })
-            (tt, (record { function = own.1.function; present = own.1.present; same = own.1.same ∙ sym own.2 }, tt))
+            (tt, (record { function = own.1.function; present = own.1.present; same = own.1.same ∙ sym own.2 }, tt), tt)
             (rw (filter-push (is_of spaces.CoreModule) false c.items t refl) a.modules)
             (sym (append-nil (map (λ (u : ModuleInstance). u.module_number) s.module_instances)))
             (AllByRecursion-weaker (IsPlannedUser-kept w k) s.module_instances a.served)
@@ -607,20 +645,12 @@ module _ {w : ComponentWorld} {earlier : List Def} {c : Scope} {s : Store} (a : 
       let d : Def = defs.Item (items.CoreModule bytes) in
       let t : Thing = record { space = spaces.CoreModule; address = length s.core_modules } in
       let s' : Store = record s { core_modules = s.core_modules ++ bytes ∷ [] } in
-      let k : Keeps c.items (c.items ++ t ∷ []) s s' = record {
-        things = λ space i y e. address_at-append c.items (t ∷ []) space i y e;
-        code = λ i y e. e;
-        known = λ i y e. e;
-        instances = λ i y e. e;
-        functions = λ i y e. e;
-        types = λ i y e. e;
-        users = λ i y e. e;
-      } in (
+      let k : Keeps c.items (c.items ++ t ∷ []) s s' = keeps_module c.items t s bytes in (
         with_thing c t,
         s',
         g,
         quiet w d c s g (with_thing c t) s' refl (λ rest now. refl),
-        agrees_with d (with_thing c t) s' t refl k (record { space = refl; is = tt }) (tt, tt)
+        agrees_with d (with_thing c t) s' t refl k (record { space = refl; is = tt }) (tt, tt, tt)
             (rw (filter-push (is_of spaces.CoreModule) true c.items t refl, length-append s.core_modules (bytes ∷ []), add-one (length s.core_modules)) (consecutive-push 0 (filter (is_of spaces.CoreModule) c.items) (length s.core_modules) t a.modules refl))
             (sym (append-nil (map (λ (u : ModuleInstance). u.module_number) s.module_instances)))
             (AllByRecursion-weaker (IsPlannedUser-kept w k) s.module_instances a.served)
@@ -644,8 +674,10 @@ module _ {w : ComponentWorld} {earlier : List Def} {c : Scope} {s : Store} (a : 
               (subst (λ es. AllZip (IsTypeEntry s) es (filter (is_of spaces.Type) c.items)) (sym (append-nil old.types)) a.types);
           functions = subst (λ (v : Inventory). AllZip (IsFunctionEntry s) v.functions (filter (is_of spaces.Func) c.items)) (sym (inventory-push earlier d))
               (subst (λ es. AllZip (IsFunctionEntry s) es (filter (is_of spaces.Func) c.items)) (sym (append-nil old.functions)) a.functions);
+          instances = subst (λ (v : Inventory). AllZip (IsInstanceThing s) v.instances (filter (is_of spaces.Instance) c.items)) (sym (inventory-push earlier d))
+              (subst (λ es. AllZip (IsInstanceThing s) es (filter (is_of spaces.Instance) c.items)) (sym (append-nil old.instances)) a.instances);
           modules = a.modules;
-          instances = a.instances ∙ sym (flat-push (at_root item_instantiates) earlier d ∙ append-nil (flat_map (at_root item_instantiates) earlier));
+          instantiated = a.instantiated ∙ sym (flat-push (at_root item_instantiates) earlier d ∙ append-nil (flat_map (at_root item_instantiates) earlier));
           served = a.served;
           exports = a.exports ∙ sym (flat-push def_export earlier d ∙ append-nil (flat_map def_export earlier));
           lifted = a.lifted;
@@ -685,25 +717,27 @@ module _ {w : ComponentWorld} {earlier : List Def} {c : Scope} {s : Store} (a : 
       let instance : ModuleInstance = record { module_number = 0; given = found.0; exports = own } in
       let t : Thing = record { space = spaces.CoreInstance; address = length m1.store.core_instances } in
       let s' : Store = record m1.store { core_instances = m1.store.core_instances ++ own ∷ []; module_instances = m1.store.module_instances ++ instance ∷ [] } in
+      let users : m1.store.module_instances ≡ s.module_instances = ap (λ (m : Machine). m.store.module_instances) more.same in
       let k : Keeps c.items (c.items ++ t ∷ []) s s' = record {
-        things = λ space i y e. address_at-append c.items (t ∷ []) space i y e;
+        things = things_kept c.items t s;
         code = more.code;
         known = more.known;
-        instances = λ i y e. slice_get-append m1.store.core_instances (own ∷ []) i y (subst (λ l. slice_get l i ≡ Some y) (sym more.core_instances) e);
-        functions = λ i y e. subst (λ l. slice_get l i ≡ Some y) (sym more.functions) e;
-        types = λ i y e. subst (λ l. slice_get l i ≡ Some y) (sym more.types) e;
-        users = λ i y e. slice_get-append m1.store.module_instances (instance ∷ []) i y (subst (λ l. slice_get l i ≡ Some y) (sym more.module_instances) e);
+        core_instances = keeps_grown s.core_instances (m1.store.core_instances ++ own ∷ []) (own ∷ []) (ap (λ (m : Machine). m.store.core_instances ++ own ∷ []) more.same);
+        functions = keeps_same (ap (λ (m : Machine). m.store.functions) more.same);
+        types = keeps_same (ap (λ (m : Machine). m.store.types) more.same);
+        instances = keeps_same (ap (λ (m : Machine). m.store.instances) more.same);
+        users = keeps_grown s.module_instances (m1.store.module_instances ++ instance ∷ []) (instance ∷ []) (ap (λ l. l ++ instance ∷ []) users);
       } in
       let scoped : 0 < items_in spaces.CoreModule earlier = subst (λ n. n < items_in spaces.CoreModule earlier) of_main.0 h.scoped in
       let planned : AllByRecursion (IsPlannedUser w s') (m1.store.module_instances ++ instance ∷ []) =
       AllByRecursion-push (IsPlannedUser w s') m1.store.module_instances instance
-      (subst (AllByRecursion (IsPlannedUser w s')) (sym more.module_instances) (AllByRecursion-weaker (IsPlannedUser-kept w k) s.module_instances a.served))
+      (subst (AllByRecursion (IsPlannedUser w s')) (sym users) (AllByRecursion-weaker (IsPlannedUser-kept w k) s.module_instances a.served))
       (IsPlannedUser-kept w k instance found.2) in
       let alike : (after : Now) → length after.globals ≡ g → Alike (machine c s after) m0 = λ after count. record { store = refl; globals = count ∙ sym (length-cells g) } in
       let new : (after : Now) → length after.globals ≡ g → new_user 0 es found.0 (machine c s after) ≡ machine (with_thing c t) s' (with_exports user es (machine c s after)).now = λ after count.
       ap₂ (λ l m. with_module_instance (record { module_number = 0; given = found.0; exports = l }) m)
       (same_exports user es (machine c s after) m0 (alike after count))
-      (ap₂ (λ x y. machine x y (with_exports user es (machine c s after)).now) (all_exports user es (machine c s after)).scope (all_alike user es (machine c s after) m0 (alike after count)).store) in
+      (ap₂ (λ x y. machine x y (with_exports user es (machine c s after)).now) (ap (λ (m : Machine). m.scope) (all_exports user es (machine c s after)).same) (all_alike user es (machine c s after) m0 (alike after count)).store) in
       let steps : Steps w earlier c s g d = (
         with_thing c t,
         s',
@@ -717,9 +751,9 @@ module _ {w : ComponentWorld} {earlier : List Def} {c : Scope} {s : Store} (a : 
               let b : Machine = with_exports user es (machine c s after) in
               let added : Exports (machine c s after) b = all_exports user es (machine c s after) in
               let is_now : IsNow (events ++ Instantiated 0 ∷ []) (length m1.now.globals) b.now =
-              one_event events g (length m1.now.globals) now b.now at (added.events ∙ same_events) (added.moments ∙ same_moments) (all_alike user es (machine c s after) m0 (alike after count)).globals in
+              one_event events g (length m1.now.globals) now b.now at (ap (λ (m : Machine). m.now.events) added.same ∙ same_events) (ap (λ (m : Machine). m.now.moments) added.same ∙ same_moments) (all_alike user es (machine c s after) m0 (alike after count)).globals in
               subst (λ (m : Machine). IsGood e u n (events ++ (Instantiated 0 ∷ seen_by rest)) questions after.answers (run (module_meanings w no_modules) rest m)) (sym (new after count))
-              (subst (λ l. IsGood e u n (events ++ (Instantiated 0 ∷ seen_by rest)) questions l (run (module_meanings w no_modules) rest (machine (with_thing c t) s' b.now))) added.answers
+              (subst (λ l. IsGood e u n (events ++ (Instantiated 0 ∷ seen_by rest)) questions l (run (module_meanings w no_modules) rest (machine (with_thing c t) s' b.now))) (ap (λ (m : Machine). m.now.answers) added.same)
               (subst (λ l. IsGood e u n l questions b.now.answers (run (module_meanings w no_modules) rest (machine (with_thing c t) s' b.now))) (append_assoc events (Instantiated 0 ∷ []) (seen_by rest))
               (go b.now is_now)))));
         },
@@ -732,15 +766,15 @@ module _ {w : ComponentWorld} {earlier : List Def} {c : Scope} {s : Store} (a : 
                 present = slice_get-end m1.store.core_instances own;
                 is = record {
                   instance = instance;
-                  present = subst (λ n. slice_get (m1.store.module_instances ++ instance ∷ []) n ≡ Some instance) (ap (λ (l : List ModuleInstance). length l) more.module_instances) (slice_get-end m1.store.module_instances instance);
+                  present = subst (λ n. slice_get (m1.store.module_instances ++ instance ∷ []) n ≡ Some instance) (ap (λ (l : List ModuleInstance). length l) users) (slice_get-end m1.store.module_instances instance);
                   of = refl;
                 };
                 each = AllZip-weaker (export_beside m1.store s'.core_instances s'.module_instances user) own es (each_export user es m0);
               };
             })
-            (tt, tt)
-            (subst (λ (l : List (List ℕ)). NumberedFrom 0 (filter (is_of spaces.CoreModule) (c.items ++ t ∷ [])) (length l)) (sym more.core_modules) (rw (filter-push (is_of spaces.CoreModule) false c.items t refl) a.modules))
-            (map-append (λ (u : ModuleInstance). u.module_number) m1.store.module_instances (instance ∷ []) ∙ ap (λ (l : List ModuleInstance). map (λ (u : ModuleInstance). u.module_number) l ++ 0 ∷ []) more.module_instances)
+            (tt, tt, tt)
+            (subst (λ (l : List (List ℕ)). NumberedFrom 0 (filter (is_of spaces.CoreModule) (c.items ++ t ∷ [])) (length l)) (ap (λ (m : Machine). m.store.core_modules) (sym more.same)) (rw (filter-push (is_of spaces.CoreModule) false c.items t refl) a.modules))
+            (map-append (λ (u : ModuleInstance). u.module_number) m1.store.module_instances (instance ∷ []) ∙ ap (λ (l : List ModuleInstance). map (λ (u : ModuleInstance). u.module_number) l ++ 0 ∷ []) users)
             planned
             (sym (append-nil (map (λ (e : Export). e.name) c.exports)))
             (AllByRecursion-weaker (IsLiftedExport-kept w k) c.exports a.lifted)

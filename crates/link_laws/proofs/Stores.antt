@@ -1,5 +1,5 @@
 -- What the items of a run are, next to the definitions that made them.
-use Rattle.std.proofs.Common.{None, ◌≡◌, ℕ, suc, Bool, List, [], ◌∷◌, ◌++◌, length, map, filter, ap, Some, is_some}
+use Rattle.std.proofs.Common.{None, ◌≡◌, ℕ, suc, Bool, List, [], ◌∷◌, ◌++◌, length, map, filter, refl, ap, Some, is_some}
 use Rattle.std.proofs.lemmas.List.Elements.{filter-append}
 use Rattle.std.specs.List.{slice_get, flat_map, AllZip, AllByRecursion}
 use Rattle.comp_lists.proofs.Lists.{slice_get-append, AllZip-weaker}
@@ -8,6 +8,7 @@ use Rattle.comp_bytes.specs.declared.space.Space.{Space}
 use Rattle.comp_bytes.specs.declared.space.Space.TheVariants as spaces
 use Rattle.standard_kinds.specs.declared.kinds.ExportKind.TheVariants as kinds
 use Rattle.comp_bytes.specs.declared.types.Alias.TheVariants as aliases
+use Rattle.comp_bytes.specs.declared.canon.Intrinsic.TheVariants as intrinsics
 use Rattle.comp_bytes.specs.declared.def.CoreInlineExport.{CoreInlineExport}
 use Rattle.comp_bytes.specs.declared.def.Item.{Item}
 use Rattle.comp_bytes.specs.declared.def.Item.TheVariants as items
@@ -15,9 +16,11 @@ use Rattle.comp_bytes.specs.declared.def.Def.{Def}
 use Rattle.comp_bytes.specs.declared.def.Def.TheVariants as defs
 use Rattle.comp_bytes.specs.ScopeNames.{def_export}
 use Rattle.core_types.specs.declared.types.FuncType.{FuncType}
-use Rattle.comp_trees.specs.Trees.{Origin, FunctionTree}
-use Rattle.comp_trees.specs.DefinedTrees.{OfFunctions}
-use Rattle.comp_trees.specs.Inventories.{TypeEntry, FunctionEntry, entry_tree, inventory}
+use Rattle.core_types.specs.declared.types.ValType.TheVariants.{I32}
+use Rattle.comp_trees.specs.Trees.{Origin, Resource, ResourceAt, FunctionTree}
+use Rattle.comp_trees.specs.DefinedTrees.{OfValues, OfFunctions}
+use Rattle.comp_trees.specs.Inventories.{TypeEntry, Denoting, OfInstances, FunctionEntry, InstanceEntry, entry_tree, inventory}
+use Rattle.comp_roles.specs.CoreTypes.{function_type}
 use Rattle.comp_roles.specs.declared.offered.ExternType.{ExternType}
 use Rattle.comp_roles.specs.declared.offered.ExternType.TheVariants as externs
 use Rattle.comp_roles.specs.declared.offered.ImportType.{ImportType}
@@ -26,17 +29,21 @@ use Rattle.wit_data.specs.declared.worlds.WorldKey.TheVariants as keys
 use Rattle.world_values.specs.Items.{root_function_at}
 use Rattle.comp_worlds.specs.Worlds.{items_of, core_name_of}
 use Rattle.comp_worlds.specs.declared.world.ComponentWorld.{ComponentWorld}
-use Rattle.comp_links.specs.Targets.{Main, WorldFunction, Target, Lowered}
+use Rattle.comp_links.specs.Targets.{Main, WorldFunction, Target, Lowered, Dropped}
 use Rattle.comp_links.specs.Modules.{WorldModule}
-use Rattle.comp_links.specs.Lists.{IsOriginOf}
+use Rattle.comp_links.specs.Lists.{IsOriginOf, resource_of}
 use Rattle.comp_links.specs.Links.{link_at}
 use Rattle.comp_terms.specs.Terms.{imports_in}
 use Rattle.comp_terms.specs.Planned.{IsTypeOf, type_of_function}
-use Rattle.core_runs.specs.Store.{Func, Opaque}
-use Rattle.comp_runs.specs.Store.{Thing, Export, CoreItem, Lowering, ExportedBy, Function, Imported, Lifting, TypeItem, TreeOf, item_tree, ModuleInstance, Store}
+use Rattle.core_runs.specs.Store.{Opaque}
+use Rattle.comp_runs.specs.Store.{Thing, Export, CoreItem, Lowering, IntrinsicOf, ExportedBy, Function, Imported, Lifting, TypeItem, TreeOf, item_tree, ModuleInstance, Store}
 use Rattle.comp_runs.specs.Instances.{type_space}
-use Rattle.comp_runs.specs.Machine.{Scope, address_at, is_of, export_named}
+use Rattle.comp_runs.specs.Machine.{Scope, address_at, is_of, export_named, with_opaque}
 use Rattle.comp_runs.specs.Signatures.{core_signature}
+use Rattle.instance_laws.specs.Instantiated.{IsHeldAs}
+use Rattle.instance_laws.specs.InstanceEntries.{IsInstanceType, IsInstanceEntry}
+use Rattle.instance_laws.proofs.Held.{KeepsEntries, keeps_same, keeps_more, IsHeldAs-kept}
+use Rattle.instance_laws.proofs.Importing.{IsInstanceType-kept, IsInstanceEntry-kept}
 use Rattle.link_laws.specs.Composition.{at_root, item_instantiates}
 use Rattle.link_laws.proofs.Zips.{mapped_some}
 
@@ -97,6 +104,16 @@ pub record IsTypeAt (things : List Thing) (s : Store) (kind : ℕ) (type : Funct
   pub at : address_at spaces.Type kind things ≡ Some address
   pub is : slice_get s.types address ≡ Some (TreeOf (OfFunctions type))
 
+-- the core type of a drop: a handle is a number
+abbrev pub drop_core : FuncType
+drop_core = function_type (I32 ∷ []) []
+
+-- the drop of the type at this index
+pub record IsDropItem (things : List Thing) (s : Store) (type address : ℕ) : Type 0 where
+  pub of : ℕ
+  pub at : address_at spaces.Type type things ≡ Some of
+  pub is : IsOpaqueOf s address drop_core (IntrinsicOf (intrinsics.ResourceDrop of))
+
 -- a lift of the core function at this index, of the type at this index
 pub record IsLiftedItem (things : List Thing) (s : Store) (core kind address : ℕ) : Type 0 where
   pub of : ℕ
@@ -121,6 +138,7 @@ ItemIs w things s (items.CoreExports entries) a = IsInlineInstance things s entr
 ItemIs w things s (items.Alias (aliases.CoreExport kinds.Func instance name)) a = IsAliasedItem things s instance name a
 ItemIs w things s (items.Lift core options kind) a = IsLiftedItem things s core kind a
 ItemIs w things s (items.Lower function options) a = IsLoweredItem things s function a
+ItemIs w things s (items.Intrinsic (intrinsics.ResourceDrop type)) a = IsDropItem things s type a
 ItemIs w things s _ a = Unit {0}
 
 abbrev pub DefIs : ComponentWorld → List Thing → Store → Def → ℕ → Type 0
@@ -136,11 +154,17 @@ pub record Means (w : ComponentWorld) (things : List Thing) (s : Store) (d : Def
 abbrev pub makes : Def → Bool
 makes d = is_some (space_of d)
 
--- the type denotes what the entry of the inventory does
+-- a type of instances has the members that its entry says
+abbrev pub IsEntryItem : List TypeItem → TypeEntry → TypeItem → Type 0
+IsEntryItem types (Denoting tree) item = Unit {0}
+IsEntryItem types (OfInstances outer members) item = IsInstanceType types outer members item
+
+-- the type is what the entry of the inventory says
 pub record IsTypeEntry (s : Store) (e : TypeEntry) (t : Thing) : Type 0 where
   pub item : TypeItem
   pub present : slice_get s.types t.address ≡ Some item
   pub denotes : item_tree t.address item ≡ entry_tree e
+  pub is : IsEntryItem s.types e item
 
 -- the function is what the entry of the inventory says
 abbrev pub entry_of : Function → FunctionEntry
@@ -151,6 +175,12 @@ pub record IsFunctionEntry (s : Store) (e : FunctionEntry) (t : Thing) : Type 0 
   pub function : Function
   pub present : slice_get s.functions t.address ≡ Some function
   pub same : entry_of function ≡ e
+
+-- the instance is what the entry of the inventory says
+pub record IsInstanceThing (s : Store) (e : InstanceEntry) (t : Thing) : Type 0 where
+  pub exports : List Export
+  pub present : slice_get s.instances t.address ≡ Some exports
+  pub is : IsInstanceEntry s.types s.functions e exports
 
 -- the core function is a lowering of the import of this origin, which has this type
 pub record IsLoweringOf (s : Store) (address : ℕ) (origin : Origin) (type : FunctionTree) : Type 0 where
@@ -166,9 +196,16 @@ pub record IsLoweredFor (w : ComponentWorld) (s : Store) (address : ℕ) (functi
   pub typed : IsTypeOf w function type
   pub lowered : IsLoweringOf s address origin type
 
+-- the core function is the drop of handles of this resource
+pub record IsDropOf (s : Store) (address : ℕ) (resource : Resource) : Type 0 where
+  pub of : ℕ
+  pub is : IsOpaqueOf s address drop_core (IntrinsicOf (intrinsics.ResourceDrop of))
+  pub held : IsHeldAs s.types (OfValues (ResourceAt resource)) of
+
 -- the core function is what the target names
 abbrev pub IsServedAs : ComponentWorld → Store → ℕ → Target → Type 0
 IsServedAs w s address (Lowered function []) = IsLoweredFor w s address function
+IsServedAs w s address (Dropped id) = IsDropOf s address (resource_of w id)
 IsServedAs w s address target = ⊥
 
 -- main, as a user module
@@ -217,8 +254,9 @@ pub record Agrees (w : ComponentWorld) (earlier : List Def) (c : Scope) (s : Sto
   pub means : AllZip (Means w c.items s) (filter makes earlier) c.items
   pub types : AllZip (IsTypeEntry s) (inventory earlier).types (filter (is_of spaces.Type) c.items)
   pub functions : AllZip (IsFunctionEntry s) (inventory earlier).functions (filter (is_of spaces.Func) c.items)
+  pub instances : AllZip (IsInstanceThing s) (inventory earlier).instances (filter (is_of spaces.Instance) c.items)
   pub modules : NumberedFrom 0 (filter (is_of spaces.CoreModule) c.items) (length s.core_modules)
-  pub instances : map (λ (u : ModuleInstance). u.module_number) s.module_instances ≡ flat_map (at_root item_instantiates) earlier
+  pub instantiated : map (λ (u : ModuleInstance). u.module_number) s.module_instances ≡ flat_map (at_root item_instantiates) earlier
   pub served : AllByRecursion (IsPlannedUser w s) s.module_instances
   pub exports : map (λ (e : Export). e.name) c.exports ≡ flat_map def_export earlier
   pub lifted : AllByRecursion (IsLiftedExport w s) c.exports
@@ -227,12 +265,13 @@ pub record Agrees (w : ComponentWorld) (earlier : List Def) (c : Scope) (s : Sto
 -- every entry of the old scope and store is unchanged in the new ones
 pub record Keeps (a b : List Thing) (s t : Store) : Type 0 where
   pub things : (space : Space) (i x : ℕ) → address_at space i a ≡ Some x → address_at space i b ≡ Some x
-  pub code : (i : ℕ) (x : Func) → slice_get s.code.functions i ≡ Some x → slice_get t.code.functions i ≡ Some x
-  pub known : (i : ℕ) (x : CoreItem) → slice_get s.known i ≡ Some x → slice_get t.known i ≡ Some x
-  pub instances : (i : ℕ) (x : List Export) → slice_get s.core_instances i ≡ Some x → slice_get t.core_instances i ≡ Some x
-  pub functions : (i : ℕ) (x : Function) → slice_get s.functions i ≡ Some x → slice_get t.functions i ≡ Some x
-  pub types : (i : ℕ) (x : TypeItem) → slice_get s.types i ≡ Some x → slice_get t.types i ≡ Some x
-  pub users : (i : ℕ) (x : ModuleInstance) → slice_get s.module_instances i ≡ Some x → slice_get t.module_instances i ≡ Some x
+  pub code : KeepsEntries s.code.functions t.code.functions
+  pub known : KeepsEntries s.known t.known
+  pub core_instances : KeepsEntries s.core_instances t.core_instances
+  pub functions : KeepsEntries s.functions t.functions
+  pub types : KeepsEntries s.types t.types
+  pub instances : KeepsEntries s.instances t.instances
+  pub users : KeepsEntries s.module_instances t.module_instances
 
 -- the items of a scope that grew
 pub address_at-append : (a more : List Thing) (space : Space) (i x : ℕ) → address_at space i a ≡ Some x → address_at space i (a ++ more) ≡ Some x
@@ -240,22 +279,109 @@ address_at-append a more space i x e =
     let m : (t : Thing) × (slice_get (filter (is_of space) a) i ≡ Some t) × (t.address ≡ x) = mapped_some (λ (t : Thing). t.address) (slice_get (filter (is_of space) a) i) x e in
     rw (filter-append (is_of space) a more, slice_get-append (filter (is_of space) a) (filter (is_of space) more) i m.0 m.1) (ap (λ (n : ℕ). Some n) m.2)
 
+-- ---- a scope with one item more, and a store with at most one entry more
+
+module _ (items : List Thing) (t : Thing) (s : Store) where
+  pub things_kept : (space : Space) (i x : ℕ) → address_at space i items ≡ Some x → address_at space i (items ++ t ∷ []) ≡ Some x
+  things_kept space i x e = address_at-append items (t ∷ []) space i x e
+
+  pub keeps_store : Keeps items (items ++ t ∷ []) s s
+  keeps_store = record {
+    things = things_kept;
+    code = keeps_same refl;
+    known = keeps_same refl;
+    core_instances = keeps_same refl;
+    functions = keeps_same refl;
+    types = keeps_same refl;
+    instances = keeps_same refl;
+    users = keeps_same refl;
+  }
+
+  pub keeps_type : (item : TypeItem) → Keeps items (items ++ t ∷ []) s (record s { types = s.types ++ item ∷ [] })
+  keeps_type item = record {
+    things = things_kept;
+    code = keeps_same refl;
+    known = keeps_same refl;
+    core_instances = keeps_same refl;
+    functions = keeps_same refl;
+    types = keeps_more s.types (item ∷ []);
+    instances = keeps_same refl;
+    users = keeps_same refl;
+  }
+
+  pub keeps_function : (f : Function) → Keeps items (items ++ t ∷ []) s (record s { functions = s.functions ++ f ∷ [] })
+  keeps_function f = record {
+    things = things_kept;
+    code = keeps_same refl;
+    known = keeps_same refl;
+    core_instances = keeps_same refl;
+    functions = keeps_more s.functions (f ∷ []);
+    types = keeps_same refl;
+    instances = keeps_same refl;
+    users = keeps_same refl;
+  }
+
+  pub keeps_opaque : (item : CoreItem) (type : FuncType) → Keeps items (items ++ t ∷ []) s (with_opaque item type s)
+  keeps_opaque item type = record {
+    things = things_kept;
+    code = keeps_more s.code.functions (Opaque (length s.known) type ∷ []);
+    known = keeps_more s.known (item ∷ []);
+    core_instances = keeps_same refl;
+    functions = keeps_same refl;
+    types = keeps_same refl;
+    instances = keeps_same refl;
+    users = keeps_same refl;
+  }
+
+  pub keeps_core_instance : (es : List Export) → Keeps items (items ++ t ∷ []) s (record s { core_instances = s.core_instances ++ es ∷ [] })
+  keeps_core_instance es = record {
+    things = things_kept;
+    code = keeps_same refl;
+    known = keeps_same refl;
+    core_instances = keeps_more s.core_instances (es ∷ []);
+    functions = keeps_same refl;
+    types = keeps_same refl;
+    instances = keeps_same refl;
+    users = keeps_same refl;
+  }
+
+  pub keeps_module : (bytes : List ℕ) → Keeps items (items ++ t ∷ []) s (record s { core_modules = s.core_modules ++ bytes ∷ [] })
+  keeps_module bytes = record {
+    things = things_kept;
+    code = keeps_same refl;
+    known = keeps_same refl;
+    core_instances = keeps_same refl;
+    functions = keeps_same refl;
+    types = keeps_same refl;
+    instances = keeps_same refl;
+    users = keeps_same refl;
+  }
+
+-- ---- what is kept
+
 module _ {a b : List Thing} {s t : Store} (k : Keeps a b s t) where
   pub IsInstance-kept : {user number : ℕ} → IsInstance s user number → IsInstance t user number
-  IsInstance-kept {user} h = record { instance = h.instance; present = k.users user h.instance h.present; of = h.of }
+  IsInstance-kept {user} h = record { instance = h.instance; present = k.users.at user h.instance h.present; of = h.of }
 
   pub IsOpaque-kept : {address : ℕ} {type : FuncType} {item : CoreItem} → IsOpaqueOf s address type item → IsOpaqueOf t address type item
   IsOpaque-kept {address} {type} {item} h =
-      record { what = h.what; present = k.code address (Opaque h.what type) h.present; known = k.known h.what item h.known }
+      record { what = h.what; present = k.code.at address (Opaque h.what type) h.present; known = k.known.at h.what item h.known }
+
+  IsEntryItem-kept : (e : TypeEntry) (item : TypeItem) → IsEntryItem s.types e item → IsEntryItem t.types e item
+  IsEntryItem-kept (Denoting tree) item h = tt
+  IsEntryItem-kept (OfInstances outer members) item h = IsInstanceType-kept k.types outer members item h
 
   pub IsTypeEntry-kept : (e : TypeEntry) (x : Thing) → IsTypeEntry s e x → IsTypeEntry t e x
-  IsTypeEntry-kept e x h = record { item = h.item; present = k.types x.address h.item h.present; denotes = h.denotes }
+  IsTypeEntry-kept e x h = record { item = h.item; present = k.types.at x.address h.item h.present; denotes = h.denotes; is = IsEntryItem-kept e h.item h.is }
+
+  pub IsInstanceThing-kept : (e : InstanceEntry) (x : Thing) → IsInstanceThing s e x → IsInstanceThing t e x
+  IsInstanceThing-kept e x h = record { exports = h.exports; present = k.instances.at x.address h.exports h.present; is = IsInstanceEntry-kept k.types k.functions e h.exports h.is }
 
   pub IsFunctionEntry-kept : (e : FunctionEntry) (x : Thing) → IsFunctionEntry s e x → IsFunctionEntry t e x
-  IsFunctionEntry-kept e x h = record { function = h.function; present = k.functions x.address h.function h.present; same = h.same }
+  IsFunctionEntry-kept e x h = record { function = h.function; present = k.functions.at x.address h.function h.present; same = h.same }
 
   IsTypeAt-kept : (kind : ℕ) (type : FunctionTree) → IsTypeAt a s kind type → IsTypeAt b t kind type
-  IsTypeAt-kept kind type h = record { address = h.address; at = k.things spaces.Type kind h.address h.at; is = k.types h.address (TreeOf (OfFunctions type)) h.is }
+  IsTypeAt-kept kind type h = record { address = h.address; at = k.things spaces.Type kind h.address h.at; is = k.types.at h.address (TreeOf (OfFunctions type)) h.is }
 
   item_of_user-kept : (user : ℕ) (e : Export) (type : ExternType) → IsUserItem s user e type → IsUserItem t user e type
   item_of_user-kept user e (externs.Func type) h = IsOpaque-kept h
@@ -268,11 +394,12 @@ module _ {a b : List Thing} {s t : Store} (k : Keeps a b s t) where
   entry-kept e x h = record { named = h.named; space = h.space; at = k.things (kind_space e.kind) e.index x.address h.at }
 
   IsLoweringOf-kept : (address : ℕ) (origin : Origin) (type : FunctionTree) → IsLoweringOf s address origin type → IsLoweringOf t address origin type
-  IsLoweringOf-kept address origin type h = record { of = h.of; is = IsOpaque-kept h.is; imported = k.functions h.of (Imported origin type) h.imported }
+  IsLoweringOf-kept address origin type h = record { of = h.of; is = IsOpaque-kept h.is; imported = k.functions.at h.of (Imported origin type) h.imported }
 
   IsServedAs-kept : (w : ComponentWorld) (address : ℕ) (target : Target) → IsServedAs w s address target → IsServedAs w t address target
   IsServedAs-kept w address (Lowered function []) h =
       record { origin = h.origin; type = h.type; from = h.from; typed = h.typed; lowered = IsLoweringOf-kept address h.origin h.type h.lowered }
+  IsServedAs-kept w address (Dropped id) h = record { of = h.of; is = IsOpaque-kept h.is; held = IsHeldAs-kept k.types (OfValues (ResourceAt (resource_of w id))) h.of h.held }
   IsServedAs-kept w address target h = absurd h
 
   pub IsPlanned-kept : (w : ComponentWorld) (x : Thing) (i : ImportType) → IsPlanned w s x i → IsPlanned w t x i
@@ -286,20 +413,20 @@ module _ (w : ComponentWorld) {a b : List Thing} {s t : Store} (k : Keeps a b s 
   instance-kept number address h = record {
     exports = h.exports;
     user = h.user;
-    present = k.instances address h.exports h.present;
+    present = k.core_instances.at address h.exports h.present;
     is = IsInstance-kept k h.is;
     each = AllZip-weaker (exports-kept k h.user) h.exports w.main.offered h.each;
   }
 
   item-kept : (i : Item) (x : ℕ) → ItemIs w a s i x → ItemIs w b t i x
   item-kept (items.CoreInstantiate number arguments) x h = instance-kept number x h
-  item-kept (items.CoreExports entries) x h = record { exports = h.exports; present = k.instances x h.exports h.present; each = AllZip-weaker (entry-kept k) entries h.exports h.each }
+  item-kept (items.CoreExports entries) x h = record { exports = h.exports; present = k.core_instances.at x h.exports h.present; each = AllZip-weaker (entry-kept k) entries h.exports h.each }
   item-kept (items.Alias (aliases.CoreExport kinds.Func instance name)) x h = record {
     from = h.from;
     exports = h.exports;
     export = h.export;
     at = k.things spaces.CoreInstance instance h.from h.at;
-    present = k.instances h.from h.exports h.present;
+    present = k.core_instances.at h.from h.exports h.present;
     found = h.found;
     is = h.is;
   }
@@ -308,16 +435,17 @@ module _ (w : ComponentWorld) {a b : List Thing} {s t : Store} (k : Keeps a b s 
     type = h.type;
     at = k.things spaces.CoreFunc core h.of h.at;
     typed = IsTypeAt-kept k kind h.type h.typed;
-    is = k.functions x (Lifting h.of [] h.type) h.is;
+    is = k.functions.at x (Lifting h.of [] h.type) h.is;
   }
   item-kept (items.Lower function options) x h = record {
     of = h.of;
     origin = h.origin;
     type = h.type;
     at = k.things spaces.Func function h.of h.at;
-    imported = k.functions h.of (Imported h.origin h.type) h.imported;
+    imported = k.functions.at h.of (Imported h.origin h.type) h.imported;
     is = IsOpaque-kept k h.is;
   }
+  item-kept (items.Intrinsic (intrinsics.ResourceDrop type)) x h = record { of = h.of; at = k.things spaces.Type type h.of h.at; is = IsOpaque-kept k h.is }
   item-kept _ x h = tt
 
   def-kept : (d : Def) (x : ℕ) → DefIs w a s d x → DefIs w b t d x
@@ -337,5 +465,5 @@ module _ (w : ComponentWorld) {a b : List Thing} {s t : Store} (k : Keeps a b s 
     space = h.space;
     role = h.role;
     exported = h.exported;
-    is = record { core = h.is.core; is = k.functions e.address (Lifting h.is.core [] (type_of_function w h.wit)) h.is.is; of = IsMainExport-kept k h.is.of };
+    is = record { core = h.is.core; is = k.functions.at e.address (Lifting h.is.core [] (type_of_function w h.wit)) h.is.is; of = IsMainExport-kept k h.is.of };
   }

@@ -1,113 +1,36 @@
 -- What an instance of a user module adds to a machine: its exports, each at an address of its own.
-use Rattle.std.proofs.Common.{◌≡◌, ◌∙◌, ◌+◌, ℕ, List, [], ◌∷◌, ◌++◌, length, refl, sym, ap, ap₂, length-append, Some}
-use Rattle.std.specs.List.{slice_get, AllZip}
-use Rattle.comp_lists.proofs.Lists.{slice_get-append, slice_get-end}
-use Rattle.core_runs.specs.Store.{Func, Opaque, Foreign}
+use Rattle.std.proofs.Common.{◌≡◌, ◌∙◌, ◌+◌, ℕ, List, [], ◌∷◌, ◌++◌, length, refl, sym, ap, ap₂, length-append}
+use Rattle.std.specs.List.{AllZip}
+use Rattle.comp_lists.proofs.Lists.{slice_get-end}
+use Rattle.core_runs.specs.Store.{Opaque, Foreign}
 use Rattle.core_runs.specs.Instances.{empty_table}
 use Rattle.comp_roles.specs.declared.offered.ExternType.{ExternType}
 use Rattle.comp_roles.specs.declared.offered.ExternType.TheVariants as externs
 use Rattle.comp_runs.specs.Store.{Export, CoreItem, ExportedBy, Store}
 use Rattle.comp_runs.specs.Machine.{Machine, with_opaque}
 use Rattle.comp_runs.specs.Instances.{ExportTypes, type_space, next_address, with_export, exported_by, with_exports}
+use Rattle.instance_laws.proofs.Held.{KeepsEntries, keeps_same, keeps_more, keeps_then}
 use Rattle.link_laws.proofs.Stores.{IsUserItem, IsUserExport}
+
+-- a machine without its core code, its known items and its globals
+abbrev pub beside_code : Machine → Machine
+beside_code m = record m { store = record m.store { code = record { functions = []; tables = []; memories = [] }; known = [] }; now = record m.now { globals = [] } }
 
 -- the second machine has all that the first has, with more core functions, and more known items, at the end
 pub record Exports (m n : Machine) : Type 0 where
-  pub scope : n.scope ≡ m.scope
-  pub answers : n.now.answers ≡ m.now.answers
-  pub events : n.now.events ≡ m.now.events
-  pub moments : n.now.moments ≡ m.now.moments
-  pub core_modules : n.store.core_modules ≡ m.store.core_modules
-  pub core_instances : n.store.core_instances ≡ m.store.core_instances
-  pub functions : n.store.functions ≡ m.store.functions
-  pub types : n.store.types ≡ m.store.types
-  pub module_instances : n.store.module_instances ≡ m.store.module_instances
-  pub code : (i : ℕ) (x : Func) → slice_get m.store.code.functions i ≡ Some x → slice_get n.store.code.functions i ≡ Some x
-  pub known : (i : ℕ) (x : CoreItem) → slice_get m.store.known i ≡ Some x → slice_get n.store.known i ≡ Some x
-
-unchanged : (m : Machine) → Exports m m
-unchanged m = record {
-  scope = refl;
-  answers = refl;
-  events = refl;
-  moments = refl;
-  core_modules = refl;
-  core_instances = refl;
-  functions = refl;
-  types = refl;
-  module_instances = refl;
-  code = λ i x e. e;
-  known = λ i x e. e;
-}
-
-and_then : (m n o : Machine) → Exports m n → Exports n o → Exports m o
-and_then m n o a b = record {
-  scope = b.scope ∙ a.scope;
-  answers = b.answers ∙ a.answers;
-  events = b.events ∙ a.events;
-  moments = b.moments ∙ a.moments;
-  core_modules = b.core_modules ∙ a.core_modules;
-  core_instances = b.core_instances ∙ a.core_instances;
-  functions = b.functions ∙ a.functions;
-  types = b.types ∙ a.types;
-  module_instances = b.module_instances ∙ a.module_instances;
-  code = λ i x e. b.code i x (a.code i x e);
-  known = λ i x e. b.known i x (a.known i x e);
-}
+  pub same : beside_code n ≡ beside_code m
+  pub code : KeepsEntries m.store.code.functions n.store.code.functions
+  pub known : KeepsEntries m.store.known n.store.known
 
 one_export : (item : CoreItem) (type : ExternType) (m : Machine) → Exports m (with_export item type m)
 one_export item (externs.Func type) m = record {
-  scope = refl;
-  answers = refl;
-  events = refl;
-  moments = refl;
-  core_modules = refl;
-  core_instances = refl;
-  functions = refl;
-  types = refl;
-  module_instances = refl;
-  code = λ i x e. slice_get-append m.store.code.functions (Opaque (length m.store.known) type ∷ []) i x e;
-  known = λ i x e. slice_get-append m.store.known (item ∷ []) i x e;
+  same = refl;
+  code = keeps_more m.store.code.functions (Opaque (length m.store.known) type ∷ []);
+  known = keeps_more m.store.known (item ∷ []);
 }
-one_export item (externs.Table type) m = record {
-  scope = refl;
-  answers = refl;
-  events = refl;
-  moments = refl;
-  core_modules = refl;
-  core_instances = refl;
-  functions = refl;
-  types = refl;
-  module_instances = refl;
-  code = λ i x e. e;
-  known = λ i x e. e;
-}
-one_export item (externs.Memory type) m = record {
-  scope = refl;
-  answers = refl;
-  events = refl;
-  moments = refl;
-  core_modules = refl;
-  core_instances = refl;
-  functions = refl;
-  types = refl;
-  module_instances = refl;
-  code = λ i x e. e;
-  known = λ i x e. e;
-}
-one_export item (externs.Global type) m = record {
-  scope = refl;
-  answers = refl;
-  events = refl;
-  moments = refl;
-  core_modules = refl;
-  core_instances = refl;
-  functions = refl;
-  types = refl;
-  module_instances = refl;
-  code = λ i x e. e;
-  known = λ i x e. slice_get-append m.store.known (item ∷ []) i x e;
-}
+one_export item (externs.Table type) m = record { same = refl; code = keeps_same refl; known = keeps_same refl }
+one_export item (externs.Memory type) m = record { same = refl; code = keeps_same refl; known = keeps_same refl }
+one_export item (externs.Global type) m = record { same = refl; code = keeps_same refl; known = keeps_more m.store.known (item ∷ []) }
 
 -- ---- what is added doesn't depend on what a run changes, but for the number of globals
 
@@ -136,10 +59,11 @@ one_address (externs.Global type) m n a = a.globals
 
 module _ (user : ℕ) where
   pub all_exports : (es : ExportTypes) (m : Machine) → Exports m (with_exports user es m)
-  all_exports [] m = unchanged m
+  all_exports [] m = record { same = refl; code = keeps_same refl; known = keeps_same refl }
   all_exports ((name, type) ∷ es) m =
-      let next : Machine = with_export (ExportedBy user name) type m in
-      and_then m next (with_exports user es next) (one_export (ExportedBy user name) type m) (all_exports es next)
+      let first : Exports m (with_export (ExportedBy user name) type m) = one_export (ExportedBy user name) type m in
+      let rest : Exports (with_export (ExportedBy user name) type m) (with_exports user es (with_export (ExportedBy user name) type m)) = all_exports es (with_export (ExportedBy user name) type m) in
+      record { same = rest.same ∙ first.same; code = keeps_then first.code rest.code; known = keeps_then first.known rest.known }
 
   pub all_alike : (es : ExportTypes) (m n : Machine) → Alike m n → Alike (with_exports user es m) (with_exports user es n)
   all_alike [] m n a = a
@@ -159,15 +83,11 @@ module _ (user : ℕ) where
     present = slice_get-end m.store.code.functions (Opaque (length m.store.known) type);
     known = slice_get-end m.store.known (ExportedBy user name);
   }
-  item_added name (externs.Table type) m = tt
-  item_added name (externs.Memory type) m = tt
-  item_added name (externs.Global type) m = tt
+  item_added name type m = tt
 
   item_unchanged : (m n : Machine) → Exports m n → (e : Export) (type : ExternType) → IsUserItem m.store user e type → IsUserItem n.store user e type
-  item_unchanged m n u e (externs.Func type) h = record { what = h.what; present = u.code e.address (Opaque h.what type) h.present; known = u.known h.what (ExportedBy user e.name) h.known }
-  item_unchanged m n u e (externs.Table type) h = tt
-  item_unchanged m n u e (externs.Memory type) h = tt
-  item_unchanged m n u e (externs.Global type) h = tt
+  item_unchanged m n u e (externs.Func type) h = record { what = h.what; present = u.code.at e.address (Opaque h.what type) h.present; known = u.known.at h.what (ExportedBy user e.name) h.known }
+  item_unchanged m n u e type h = tt
 
   pub each_export : (es : ExportTypes) (m : Machine) → AllZip (IsUserExport (with_exports user es m).store user) (exported_by user es m) es
   each_export [] m = tt

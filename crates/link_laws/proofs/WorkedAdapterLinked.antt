@@ -1,13 +1,12 @@
 -- A worked example: the list with an adapter is composed and linked, and with two of the adapter's imports crossed it isn't linked.
-use Rattle.std.proofs.Common.{◌≡◌, ◌∙◌, ◌≤◌, ℕ, zero, suc, true≢false, List, [], ◌∷◌, refl, sym, ap, subst, Option, Some, None, IsTrue, arith}
+use Rattle.std.proofs.Common.{◌≡◌, ◌∙◌, ◌≤◌, ℕ, zero, suc, true≢false, List, [], ◌∷◌, refl, sym, ap, subst, Option, Some, None, arith}
 use Rattle.std.proofs.lemmas.Option.{none-some, same_Some}
 use Rattle.std.specs.List.{slice_get}
 use Rattle.comp_bytes.proofs.Worked.{g}
-use Rattle.core_types.specs.declared.types.FuncType.{FuncType}
 use Rattle.core_runs.specs.declared.bracket.Bracketed.{Bracketed}
 use Rattle.core_runs.specs.declared.bracket.AfterHook.TheVariants.{Nothing}
 use Rattle.core_runs.specs.Hooks.{around}
-use Rattle.core_runs.specs.Values.{Value, fit}
+use Rattle.core_runs.specs.Values.{Value}
 use Rattle.core_runs.specs.Store.{Store as CodeStore, Opaque, Cell, Answer, Gives, Traps, Now, Outcome as CoreOutcome, Returned}
 use Rattle.core_runs.specs.Store as core
 use Rattle.core_runs.specs.Execution.{and_then, asked, exec, acts}
@@ -23,7 +22,7 @@ use Rattle.comp_bytes.specs.ItemIndices.{in_space}
 use Rattle.comp_runs.specs.Instances.{type_scope}
 use Rattle.link_laws.proofs.ImportedTypes.{none_imported}
 use Rattle.comp_bytes.specs.declared.space.Space.TheVariants as spaces
-use Rattle.comp_runs.specs.Store.{CoreItem, ExportedBy, ModuleInstance}
+use Rattle.comp_runs.specs.Store.{ExportedBy, ModuleInstance}
 use Rattle.comp_runs.specs.Machine.{Machine, Outcome, Done, Trapped, Open, Stuck}
 use Rattle.link_laws.specs.Composition.{IsComposed}
 use Rattle.link_laws.specs.Meeting.{ItemIsExport, CoreExportMeets, hooks_round, IsMainMemory, Meets, entry_kind}
@@ -31,7 +30,7 @@ use Rattle.link_laws.specs.Linking.{outcome, questions, LetsRun, EndsAt, AreServ
 use Rattle.link_laws.proofs.Worked.{plain_core}
 use Rattle.link_laws.proofs.Steps.{no_modules}
 use Rattle.link_laws.proofs.Worked.{machine_of, core_function, k, a}
-use Rattle.link_laws.proofs.Crossed.{traps_next, first_called, known_by, type_by}
+use Rattle.link_laws.proofs.NamedItem.{own_item}
 use Rattle.link_laws.proofs.WorkedAdapter.{adapter, functions, world, wit_of_g, definitions, crossed_definitions, memory_at, main_instance, adapter_instance, straight, crossed}
 
 -- ---- the lists
@@ -240,14 +239,6 @@ straight_links = record {
 abbrev c : Machine
 c = machine_of crossed
 
--- a call of function 0 is a call of no other
-calls_0 : (address hook : ℕ) (signature : FuncType) → plain_core ≡ signature →
-    acts c.store.code 0 [] traps_next ≡ expected (around None Nothing) hook (record { address = address; signature = signature }) [] traps_next → 0 ≡ address
-unfolding acts exec
-calls_0 address hook signature s e =
-    let same : 0 ≡ first_called (expected (around None Nothing) hook (record { address = address; signature = signature }) [] traps_next) = ap first_called e in
-    subst (λ (t : FuncType). 0 ≡ first_called (expected (around None Nothing) hook (record { address = address; signature = t }) [] traps_next)) (sym s) same
-
 abbrev first_byte : List ℕ → ℕ
 first_byte [] = 0
 first_byte (b ∷ bs) = b
@@ -256,21 +247,9 @@ first_byte (b ∷ bs) = b
 g_is_not_k : ItemIsExport world c (of_main k) (ExportedBy 0 g) → ⊥
 g_is_not_k h = let same : 0x67 ≡ 0x6b = ap first_byte h.same_name in absurd (omega (arith, same))
 
--- no opaque function is k and acts as function 0
-none_serves : (address what : ℕ) (signature : FuncType) (item : CoreItem) → slice_get c.store.code.functions address ≡ Some (Opaque what signature) → slice_get c.store.known what ≡ Some item →
-    ItemIsExport world c (of_main k) item → (plain_core ≡ signature → 0 ≡ address) → ⊥
-none_serves zero what signature item e known named called =
-    let same : 0 ≡ what = ap known_by e in
-    let is_g : Some (ExportedBy 0 g) ≡ Some item = subst (λ n. slice_get c.store.known n ≡ Some item) (sym same) known in
-    g_is_not_k (subst (ItemIsExport world c (of_main k)) (sym (same_Some (ExportedBy 0 g) item is_g)) named)
-none_serves (suc zero) what signature item e known named called = let same : 0 ≡ 1 = called (ap type_by e) in absurd (omega (arith, same))
-none_serves (suc (suc n)) what signature item e known named called = absurd (none-some (Opaque what signature) e)
-
+-- function 0 is g
 not_k : CoreExportMeets world c None 0 (of_main k) → ⊥
-not_k x =
-    none_serves x.target.address x.what x.target.signature x.item x.is x.known x.named
-    (λ s. calls_0 x.target.address x.hook x.target.signature s
-    (x.acts.same [] traps_next (subst (λ (t : FuncType). IsTrue (fit t.params [])) s refl) tt))
+not_k x = g_is_not_k (own_item world c 0 (ItemIsExport world c (of_main k)) x 0 plain_core (ExportedBy 0 g) refl refl)
 
 -- the adapter's import of k
 abbrev import_of_k : ImportType

@@ -1,6 +1,6 @@
 -- A worked example: a world that imports a record and a function of it, and exports a function of a tuple.
-use Rattle.std.proofs.Common.{◌≡◌, ℕ, false, List, [], ◌∷◌, ◌++◌, refl, Some, None, map, arith}
-use Rattle.std.specs.Prelude.{codes}
+use Rattle.std.proofs.Common.{◌≡◌, ℕ, zero, suc, false, List, [], ◌∷◌, ◌++◌, refl, Some, None, map, arith}
+use Rattle.std.specs.Prelude.{codes, Contains}
 use Rattle.std.specs.List.{IsDistinct}
 use Rattle.std.specs.Str.{bytes_eq}
 use Rattle.standard_kinds.specs.declared.kinds.ExportKind.TheVariants as kinds
@@ -38,7 +38,7 @@ use Rattle.comp_roles.specs.declared.imports.Import.TheVariants as imports
 use Rattle.comp_roles.specs.declared.imports.ImportInstance.TheVariants as instances
 use Rattle.comp_roles.specs.declared.offered.ExternType.TheVariants as externs
 use Rattle.comp_worlds.specs.WorldTables.{whole_of}
-use Rattle.comp_worlds.specs.Worlds.{IsPlain, IsWorld}
+use Rattle.comp_worlds.specs.Worlds.{IsPlain, IsResource, IsWorld}
 use Rattle.comp_worlds.specs.declared.world.ComponentWorld.{ComponentWorld}
 use Rattle.comp_trees.specs.Trees.{PrimitiveOf, RecordOf, TupleOf, Nil, Cons, FunctionTree}
 use Rattle.comp_runs.specs.Store.{Lowering, ExportedBy, Imported, Lifting}
@@ -111,11 +111,17 @@ one_apart name = (tt, tt)
 -- no call of them needs an option
 f_plain : IsPlain wit_types wit_f
 unfolding values_from
-f_plain = record { kind = refl; imported = refl; exported = refl }
+f_plain = record { kind = tt; imported = refl; exported = refl }
 
 g_plain : IsPlain wit_types wit_g
 unfolding values_from
-g_plain = record { kind = refl; imported = refl; exported = refl }
+g_plain = record { kind = tt; imported = refl; exported = refl }
+
+-- none of the types is a resource
+no_resource : (n : ℕ) → IsResource wit_types n → Contains (0 ∷ []) n
+no_resource zero h = let k = h.kind in cc
+no_resource (suc zero) h = let k = h.kind in cc
+no_resource (suc (suc n)) h = let l = h.present in absurd (omega (arith, l))
 
 pub is_world : IsWorld world
 unfolding values_from
@@ -134,7 +140,8 @@ is_world = record {
     );
   };
   present = omega arith;
-  types = (record { owner = tt; values = λ e. cc }, (record { owner = tt; values = λ e. cc }, tt));
+  types = (record { owner = tt }, (record { owner = tt }, tt));
+  resources = record { ordered = (omega arith, tt); each = no_resource };
   imports = (tt, ((refl, f_plain), tt));
   exports = ((refl, g_plain), tt);
   import_names_apart = one_apart f;

@@ -1,5 +1,5 @@
 -- Lists that are related elementwise, and look-ups in them.
-use Rattle.std.proofs.Common.{◌≡◌, ◌∙◌, ℕ, zero, suc, Bool, true, false, true≢false, List, [], ◌∷◌, ◌++◌, length, map, filter, refl, sym, ap, subst, Option, Some, None, cond, if◌then◌else◌, ◌||◌, append_assoc}
+use Rattle.std.proofs.Common.{◌≡◌, ◌∙◌, ℕ, zero, suc, Bool, true, false, true≢false, List, [], ◌∷◌, ◌++◌, map, filter, refl, sym, ap, subst, Option, Some, None, cond, if◌then◌else◌, ◌||◌, append_assoc}
 use Rattle.std.proofs.lemmas.Option.{same_Some, none-some}
 use Rattle.std.proofs.lemmas.Bool.{false_from_ne_true}
 use Rattle.std.proofs.lemmas.Slice.Eq.{bytes_eq-Decides}
@@ -43,10 +43,6 @@ filter-all p (x ∷ xs) h = rw h.0 (ap (λ l. x ∷ l) (filter-all p xs h.1))
 pub mapped_some : {A B : Type 0} (f : A → B) (o : Option A) (y : B) → option_map f o ≡ Some y → (x : A) × (o ≡ Some x) × (f x ≡ y)
 mapped_some f None y e = absurd (none-some y e)
 mapped_some f (Some x) y e = (x, refl, same_Some (f x) y e)
-
-pub length-map : {A B : Type 0} (f : A → B) (xs : List A) → length (map f xs) ≡ length xs
-length-map f [] = refl
-length-map f (x ∷ xs) = ap suc (length-map f xs)
 
 -- where each is found, all are, and each is related to its own
 pub all_some-each : {A C : Type 0} (R : C → A → Type 0) (f : A → Option C) (xs : List A) →
@@ -142,13 +138,6 @@ each_listed {X} text (x ∷ xs) = (rw ((bytes_eq-Decides (text x) (text x)).1 re
     later : (ys : List X) → AllByRecursion (λ y. list_any (bytes_eq (text y)) (map text xs) ≡ true) ys → AllByRecursion (λ y. list_any (bytes_eq (text y)) (map text (x ∷ xs)) ≡ true) ys
     later [] h = tt
     later (y ∷ ys) h = (or_true (bytes_eq (text y) (text x)) (list_any (bytes_eq (text y)) (map text xs)) h.0, later ys h.1)
-
--- two related lists after two others
-pub AllZip-join : {A B : Type 0} (R : A → B → Type 0) (xs more : List A) (ys others : List B) → AllZip R xs ys → AllZip R more others → AllZip R (xs ++ more) (ys ++ others)
-AllZip-join R [] more [] others h k = k
-AllZip-join R (x ∷ xs) more (y ∷ ys) others h k = (h.0, AllZip-join R xs more ys others h.1 k)
-AllZip-join R [] more (y ∷ ys) others h k = absurd h
-AllZip-join R (x ∷ xs) more [] others h k = absurd h
 
 -- the first list has an element where the second has one
 pub AllZip-back : {A B : Type 0} (R : A → B → Type 0) (xs : List A) (ys : List B) (i : ℕ) (y : B) → AllZip R xs ys → slice_get ys i ≡ Some y → (x : A) × (slice_get xs i ≡ Some x) × R x y
