@@ -1,12 +1,17 @@
 -- A table of types of other interfaces that gets those that are met.
-use Rattle.std.proofs.Common.{◌≡◌, ◌∙◌, ◌+◌, ◌<◌, ◌≤◌, ℕ, zero, suc, arith, Bool, true, false, true≢false, List, [], ◌∷◌, ◌++◌, length, map, drop, refl, ap, sym, subst, Option, Some, None, is_some, get_or, cond, if◌then◌else◌}
+use Rattle.std.proofs.Common.{◌≡◌, ◌∙◌, ◌+◌, ◌<◌, ◌≤◌, ℕ, zero, suc, arith, Bool, true, false, true≢false, List, [], ◌∷◌, ◌++◌, length, map, drop, refl, ap, sym, subst, Option, Some, None, is_some, get_or, cond, if◌then◌else◌, rules}
 use Rattle.std.specs.List.{AllByRecursion, flat_map}
-use Rattle.std.specs.Map.{lookup, with_first}
+use Rattle.std.specs.Map.{lookup}
+use Rattle.comp_lists.specs.Tables.{with_first}
 use Rattle.comp_lists.proofs.Lists.{AllByRecursion-weaker}
 use Rattle.wit_data.specs.declared.ids.InterfaceId.{InterfaceId}
 use Rattle.wit_data.specs.declared.ids.TypeId.{TypeId}
 use Rattle.wit_data.specs.declared.types.TypeDef.{TypeDef}
+use Rattle.wit_data.specs.declared.functions.Function.{Function}
 use Rattle.wit_data.specs.declared.types.TypeOwner.{TypeOwner}
+use Rattle.std.proofs.lemmas.Grind.{flat_map-append}
+use Rattle.std.proofs.lemmas.List.Concat.{flat_map-cons}
+use Rattle.type_scopes.specs.Interfaces.{used_function, used_among}
 use Rattle.wit_data.specs.contracts.ids.TypeIdPartialEq.TheImpl as same_id
 use Rattle.wit_data.specs.Parts.{RefersBack}
 use Rattle.wit_data.specs.Values.{values, part_values}
@@ -17,9 +22,14 @@ use Rattle.wit_types.specs.Settings.{owner_at}
 use Rattle.wit_types.proofs.Growing.{holds_of_found, holds_of_added}
 use Rattle.wit_types.proofs.SameKeys.{one_id}
 use Rattle.type_scopes.specs.Foreign.{meeting, with_each, IsListed, KnowsEntered}
-use Rattle.type_scopes.specs.declared.foreign_types.ForeignTypes.{ForeignTypes}
+use Rattle.type_scopes.specs.declared.other_interfaces.ForeignTypes.{ForeignTypes}
 use Rattle.type_scopes.specs.declared.outer_type.OuterType.{OuterType}
 use Rattle.type_scopes.specs.contracts.outer_type.OuterTypePartialEq.TheImpl as same_type
+
+-- what is met in the type of a number with these parts, where this other interface owns it, or none does
+abbrev met_by : ℕ → List (List OuterType) → Option InterfaceId → List OuterType
+met_by id parts None = flat_map (λ ts. ts) parts
+met_by id parts (Some other) = record { interface = other; id = record { index = id } } ∷ []
 
 abbrev Table : Type 0
 Table = List (OuterType × Unit {0})
@@ -93,7 +103,7 @@ met_step old now next n found l is h =
           ∙ (sym (with_both now (get_or found n []) rest) ∙ (sym (ap (λ fs. with_each now (flat_map (λ ts. ts) fs)) (drop_next found n [] l)) ∙ h.so_far));
     }
 
-pub met_end : (old now : Table) (n : ℕ) (found : List (List OuterType)) → n ≡ length found → MetSoFar old now n found → now ≡ with_each old (flat_map (λ ts. ts) found)
+pub met_end : (old now : Table) (n : ℕ) (found : List (List OuterType)) → length found ≤ n → MetSoFar old now n found → now ≡ with_each old (flat_map (λ ts. ts) found)
 met_end old now n found e h = sym (ap (λ fs. with_each now (flat_map (λ ts. ts) fs)) (drop_all found n e)) ∙ h.so_far
 
 -- a loop over items, in each of which something is met
@@ -111,7 +121,7 @@ items_step f old now next n items d l is h =
           ∙ (sym (with_both now (f (get_or items n d)) rest) ∙ (sym (ap (λ xs. with_each now (flat_map f xs)) (drop_next items n d l)) ∙ h.so_far));
     }
 
-pub items_end : {X : Type 0} (f : X → List OuterType) (old now : Table) (n : ℕ) (items : List X) → n ≡ length items → ItemsMet f old now n items → now ≡ with_each old (flat_map f items)
+pub items_end : {X : Type 0} (f : X → List OuterType) (old now : Table) (n : ℕ) (items : List X) → length items ≤ n → ItemsMet f old now n items → now ≡ with_each old (flat_map f items)
 items_end f old now n items e h = sym (ap (λ xs. with_each now (flat_map f xs)) (drop_all items n e)) ∙ h.so_far
 
 -- ---- types that were entered
@@ -119,10 +129,10 @@ items_end f old now n items e h = sym (ap (λ xs. with_each now (flat_map f xs))
 -- a type that was entered adds nothing
 pub entered_before : (types : List TypeDef) (here : InterfaceId) (met : ForeignTypes) (id : TypeId) (there : Bool) → KnowsEntered types here met → there ≡ is_some (lookup (same_id.eq-value.it id) met.entered) → there ≡ true →
     met.types ≡ with_each met.types (get_or (values (meeting types here) types) id.index [])
-entered_before types here met id there h is yes = sym (with_known met.types (get_or (values (meeting types here) types) id.index []) (by (lookup (same_id.eq-value.it id) met.entered) refl))
+entered_before types here met id there h is found = sym (with_known met.types (get_or (values (meeting types here) types) id.index []) (by (lookup (same_id.eq-value.it id) met.entered) refl))
   where
     by : (o : Option (Unit {0})) → lookup (same_id.eq-value.it id) met.entered ≡ o → AllByRecursion (IsListed met.types) (get_or (values (meeting types here) types) id.index [])
-    by None e = let no = ap is_some (sym e) ∙ (sym is ∙ yes) in absurd (true≢false (sym no))
+    by None e = let no = ap is_some (sym e) ∙ (sym is ∙ found) in absurd (true≢false (sym no))
     by (Some x) e = holds_of_found same_id.eq-value.it one_id (λ p. AllByRecursion (IsListed met.types) (get_or (values (meeting types here) types) p.0.index [])) id met.entered x h.each e
 
 -- a type is entered
@@ -146,9 +156,23 @@ entered_kept types here old new ts h met same =
     }
 
 -- what is met in a type, by its owner
-pub met_inside : (types : List TypeDef) (here : InterfaceId) (id : ℕ) (owner : TypeOwner) (o : Option InterfaceId) → RefersBack types → id < length types → owner ≡ owner_at types id → o ≡ foreign (Some here) owner →
-    get_or (values (meeting types here) types) id [] ≡ elim o [ None ↦ flat_map (λ ts. ts) (part_values (meeting types here) types id) | Some other ↦ record { interface = other; id = record { index = id } } ∷ [] ]
+met_inside : (types : List TypeDef) (here : InterfaceId) (id : ℕ) (owner : TypeOwner) (o : Option InterfaceId) → RefersBack types → id < length types → owner ≡ owner_at types id → o ≡ foreign (Some here) owner →
+    get_or (values (meeting types here) types) id [] ≡ met_by id (part_values (meeting types here) types id) o
 met_inside types here id owner o back l is of =
-    made_whole (meeting types here) types id back l
-    ∙ ap (λ (p : Option InterfaceId). elim p [ None ↦ flat_map (λ ts. ts) (part_values (meeting types here) types id) | Some other ↦ record { interface = other; id = record { index = id } } ∷ [] ])
-    (sym (of ∙ ap (foreign (Some here)) is))
+    made_whole (meeting types here) types id back l ∙ ap (met_by id (part_values (meeting types here) types id)) (sym (of ∙ ap (foreign (Some here)) is))
+
+pub met_other : (types : List TypeDef) (here other : InterfaceId) (id : ℕ) (owner : TypeOwner) (o : Option InterfaceId) → RefersBack types → id < length types → owner ≡ owner_at types id → o ≡ foreign (Some here) owner → o ≡ Some other →
+    get_or (values (meeting types here) types) id [] ≡ record { interface = other; id = record { index = id } } ∷ []
+met_other types here other id owner o back l is of found = met_inside types here id owner o back l is of ∙ ap (met_by id (part_values (meeting types here) types id)) found
+
+pub met_own : (types : List TypeDef) (here : InterfaceId) (id : ℕ) (owner : TypeOwner) (o : Option InterfaceId) → RefersBack types → id < length types → owner ≡ owner_at types id → o ≡ foreign (Some here) owner → o ≡ None →
+    get_or (values (meeting types here) types) id [] ≡ flat_map (λ ts. ts) (part_values (meeting types here) types id)
+met_own types here id owner o back l is of none = met_inside types here id owner o back l is of ∙ ap (met_by id (part_values (meeting types here) types id)) none
+
+-- one entry of functions more
+pub functions_met : (f : Function → List OuterType) (used : List (List ℕ × Unit {0})) (now next : Table) (entry : List ℕ × Function) (rest : List (List ℕ × Function)) → next ≡ with_each now (flat_map f (used_function used entry)) →
+    with_each next (flat_map f (used_among used rest)) ≡ with_each now (flat_map f (used_among used (entry ∷ rest)))
+functions_met f used now next entry rest is =
+    ap (λ t. with_each t (flat_map f (used_among used rest))) is
+    ∙ (sym (with_both now (flat_map f (used_function used entry)) (flat_map f (used_among used rest)))
+    ∙ ap (with_each now) (sym (flat_map-append f (used_function used entry) (used_among used rest)) ∙ ap (flat_map f) (sym (flat_map-cons (used_function used) entry rest))))

@@ -2,7 +2,8 @@
 -- WIT: `use`).
 use Rattle.std.specs.Prelude.{◌≡◌, ℕ, true, List, [], ◌∷◌, ◌++◌, Option, Some, None, get_or, is_some}
 use Rattle.std.specs.List.{AllByRecursion, flat_map}
-use Rattle.std.specs.Map.{lookup, with_first}
+use Rattle.std.specs.Map.{lookup}
+use Rattle.comp_lists.specs.Tables.{with_first}
 use Rattle.wit_data.specs.declared.functions.Function.{Function}
 use Rattle.wit_data.specs.declared.ids.InterfaceId.{InterfaceId}
 use Rattle.wit_data.specs.declared.ids.TypeId.{TypeId}
@@ -12,7 +13,7 @@ use Rattle.wit_data.specs.declared.types.TypeDef.{TypeDef}
 use Rattle.wit_data.specs.Values.{Making, value, values}
 use Rattle.wit_types.specs.Allowing.{foreign}
 use Rattle.wit_types.specs.Settings.{owner_at}
-use Rattle.type_scopes.specs.declared.foreign_types.ForeignTypes.{ForeignTypes}
+use Rattle.type_scopes.specs.declared.other_interfaces.ForeignTypes.{ForeignTypes}
 use Rattle.type_scopes.specs.declared.outer_type.OuterType.{OuterType}
 use Rattle.type_scopes.specs.contracts.outer_type.OuterTypePartialEq.TheImpl as same_type
 

@@ -25,20 +25,20 @@
 //! imported. A refusal is out of memory, or more type indices than there can be.
 #![tactic(auto)]
 
-mod foreign_types;
 mod functions;
 mod instance_type;
 mod interface;
 mod member_list;
 mod named_types;
+mod other_interfaces;
 mod outer_type;
 mod outer_types;
 mod placement;
 
-pub use foreign_types::{ForeignTypes, foreign_types};
 pub use instance_type::InstanceTypeEncoder;
 pub use interface::encode_interface_type;
 pub use member_list::MemberList;
+pub use other_interfaces::{ForeignTypes, foreign_types};
 pub use outer_type::OuterType;
 pub use outer_types::OuterTypes;
 pub use placement::Placement;

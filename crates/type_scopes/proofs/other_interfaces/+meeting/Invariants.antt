@@ -3,7 +3,7 @@ use Rattle.wit_data.specs.Values.{part_values}
 use Rattle.wit_data.specs.Parts.{height}
 use Rattle.type_scopes.specs.Foreign.{meeting, KnowsEntered}
 use Rattle.type_scopes.proofs.Meeting.{MetSoFar}
-use Rattle.type_scopes.proofs.foreign_types.+meeting.Given as goal
+use Rattle.type_scopes.proofs.other_interfaces.+meeting.Given as goal
 
 abbrev pub decreases-meet_part : goal.decreases-meet_part
 decreases-meet_part l = 4 * height l.part

@@ -2,7 +2,7 @@ use Rattle.std.specs.Prelude.{[], Some, get_or}
 use Rattle.wit_data.specs.Values.{values}
 use Rattle.type_scopes.specs.Foreign.{meeting, met_in, KnowsEntered}
 use Rattle.type_scopes.proofs.Meeting.{ItemsMet}
-use Rattle.type_scopes.proofs.foreign_types.meet_types.Given as goal
+use Rattle.type_scopes.proofs.other_interfaces.meet_params.Given as goal
 
 abbrev pub invariant-loop-n : goal.invariant-loop-n
-invariant-loop-n l = ItemsMet (λ id. get_or (values (meeting l.types l.here) l.types) id.index []) l.fn.met.types l.met.types l.n l.ids × KnowsEntered l.types l.here l.met
+invariant-loop-n l = ItemsMet (λ p. met_in l.types l.here (Some p.ty)) l.fn.met.types l.met.types l.n l.params × KnowsEntered l.types l.here l.met

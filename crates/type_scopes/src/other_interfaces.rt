@@ -47,7 +47,7 @@ impl ForeignTypes {
 
     /// Those that were met.
     fn into_types(self) -> Keyed<OuterType, ()>
-        ensures { result ≡ self.entry.types }
+        ensures { result ≡ self.types }
     {
         let ForeignTypes { types, entered: _ } = self;
         types
