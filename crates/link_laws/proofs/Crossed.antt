@@ -5,16 +5,16 @@ use Rattle.std.specs.List.{slice_get}
 use Rattle.comp_bytes.proofs.Worked.{f}
 use Rattle.wit_data.specs.declared.ids.TypeId.{TypeId}
 use Rattle.comp_trees.specs.Trees.{Resource}
-use Rattle.comp_links.specs.Targets.{Main, OfRoot, Lowered}
+use Rattle.comp_links.specs.Targets.{OfRoot, Lowered}
 use Rattle.comp_roles.specs.declared.offered.ExternType.TheVariants as externs
 use Rattle.comp_roles.specs.declared.offered.ImportType.{ImportType}
-use Rattle.comp_links.specs.Modules.{WorldModule}
 use Rattle.comp_links.specs.Lists.{ImportEntry, RootFunction, import_entries}
 use Rattle.comp_runs.specs.Store.{Lowering, Function, Imported}
 use Rattle.comp_runs.specs.Machine.{Machine}
 use Rattle.link_laws.specs.Meeting.{CoreMeets, ItemIsLowering, IsImport, Meets}
 use Rattle.link_laws.specs.Linking.{IsServed, IsLinked}
 use Rattle.link_laws.proofs.Worked.{plain_core}
+use Rattle.link_laws.proofs.Stores.{main_module}
 use Rattle.link_laws.proofs.Steps.{no_modules}
 use Rattle.link_laws.proofs.NamedItem.{own_item}
 use Rattle.link_laws.proofs.Worked.{two_twice, crossed, machine_of, core_function, a}
@@ -23,10 +23,7 @@ use Rattle.link_laws.proofs.Worked.{two_twice, crossed, machine_of, core_functio
 abbrev m : Machine
 m = machine_of crossed
 
--- main, and its first import
-abbrev main_module : WorldModule
-main_module = record { of = Main; found = two_twice.main }
-
+-- main's first import
 abbrev first_import : ImportType
 first_import = record { module_name = a; field = f; ty = externs.Func plain_core }
 
@@ -52,7 +49,7 @@ no_lowering_of_f : (origins : TypeId → Resource) → CoreMeets two_twice m Non
 no_lowering_of_f origins c = not_of_f origins (own_item two_twice m 0 (ItemIsLowering two_twice m origins (OfRoot f) []) c 0 plain_core (Lowering 1 []) refl refl).0
 
 -- the first import is to be f
-first_meets : (origins : TypeId → Resource) → IsServed two_twice m origins main_module (core_function 0) first_import → CoreMeets two_twice m None 0 (ItemIsLowering two_twice m origins (OfRoot f) [])
+first_meets : (origins : TypeId → Resource) → IsServed two_twice m origins (main_module two_twice) (core_function 0) first_import → CoreMeets two_twice m None 0 (ItemIsLowering two_twice m origins (OfRoot f) [])
 first_meets origins s = subst (Meets two_twice m origins (core_function 0)) (same_Some s.target (Lowered (OfRoot f) []) (sym s.said)) s.meets
 
 pub crossed_is_not_linked : IsLinked two_twice no_modules (machine_of crossed) → ⊥

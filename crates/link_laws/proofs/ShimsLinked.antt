@@ -15,7 +15,7 @@ use Rattle.wit_data.specs.declared.functions.Function.{Function as WitFunction}
 use Rattle.wit_data.specs.declared.functions.FunctionKind.TheVariants.{Freestanding}
 use Rattle.comp_roles.specs.declared.offered.ExternType.TheVariants as externs
 use Rattle.comp_roles.specs.declared.offered.ImportType.{ImportType}
-use Rattle.comp_links.specs.Targets.{Main, OfRoot, Lowered}
+use Rattle.comp_links.specs.Targets.{OfRoot, Lowered}
 use Rattle.comp_links.specs.Modules.{WorldModule, user_modules}
 use Rattle.comp_links.specs.Lists.{RootFunction, import_entries}
 use Rattle.comp_runs.specs.Store.{Lowering, ModuleInstance}
@@ -24,15 +24,12 @@ use Rattle.link_laws.specs.Meeting.{CoreMeets, ItemIsLowering, IsImport, Meets}
 use Rattle.link_laws.specs.Linking.{outcome, AreServed, IsServed, IsLinked}
 use Rattle.link_laws.proofs.Worked.{plain_core}
 use Rattle.link_laws.proofs.Worked.{machine_of, root_import, core_function, h}
+use Rattle.link_laws.proofs.Stores.{main_module}
 use Rattle.link_laws.proofs.NamedItem.{traps_next, named_item}
 use Rattle.link_laws.proofs.Crossed.{import_number, first_letter}
 use Rattle.link_laws.proofs.WorkedShims.{world, generated, whole, shims_instance, main_instance, fixup_instance, opaque_at, one_call, straight, crossed, shim_0_calls_f, shim_1_calls_h}
 
 -- ---- the straight list
-
--- main, as a user module
-abbrev main_module : WorldModule
-main_module = record { of = Main; found = world.main }
 
 abbrev wit_of : List ℕ → WitFunction
 wit_of name = record { name = name; kind = Freestanding; params = []; result = None }
@@ -82,7 +79,7 @@ module _ (number : ℕ) (rest : List Answer) where
     acts = record { same = λ arguments now fits kept. shim_1 arguments now fits };
   }
 
-  main_served : AreServed world m no_origins main_module main_instance
+  main_served : AreServed world m no_origins (main_module world) main_instance
   main_served = (record { target = Lowered (OfRoot f) []; said = refl; meets = meets_f }, (record { target = Lowered (OfRoot h) []; said = refl; meets = meets_h }, tt))
 
   -- an instance of a generated module is none of a user module
@@ -93,8 +90,8 @@ module _ (number : ℕ) (rest : List Answer) where
   served zero i of e u = absurd (of_no_user shims_instance i of (same_Some shims_instance i e) refl u)
   served (suc zero) i of e u =
       let same : main_instance ≡ i = same_Some main_instance i e in
-      let module_same : main_module ≡ of = same_Some main_module of (subst (λ (x : ModuleInstance). slice_get (user_modules world) x.module_number ≡ Some of) (sym same) u) in
-      subst (λ x. AreServed world m no_origins x i) module_same (subst (λ x. AreServed world m no_origins main_module x) same main_served)
+      let module_same : main_module world ≡ of = same_Some (main_module world) of (subst (λ (x : ModuleInstance). slice_get (user_modules world) x.module_number ≡ Some of) (sym same) u) in
+      subst (λ x. AreServed world m no_origins x i) module_same (subst (λ x. AreServed world m no_origins (main_module world) x) same main_served)
   served (suc (suc zero)) i of e u = absurd (of_no_user fixup_instance i of (same_Some fixup_instance i e) refl u)
   served (suc (suc (suc n))) i of e u = absurd (none-some i e)
 
@@ -136,7 +133,7 @@ no_lowering_of_f origins x = not_of_f origins (named_item world c 0 (ItemIsLower
 abbrev first_import : ImportType
 first_import = record { module_name = root; field = f; ty = externs.Func plain_core }
 
-first_meets : (origins : TypeId → Resource) → IsServed world c origins main_module (core_function 0) first_import → CoreMeets world c None 0 (ItemIsLowering world c origins (OfRoot f) [])
+first_meets : (origins : TypeId → Resource) → IsServed world c origins (main_module world) (core_function 0) first_import → CoreMeets world c None 0 (ItemIsLowering world c origins (OfRoot f) [])
 first_meets origins s = subst (Meets world c origins (core_function 0)) (same_Some s.target (Lowered (OfRoot f) []) (sym s.said)) s.meets
 
 pub crossed_is_not_linked : IsLinked world (generated (1 ∷ 0 ∷ [])) (machine_of crossed) → ⊥

@@ -161,9 +161,9 @@ made-push earlier d space e = filter-push makes true earlier d (ap is_some e)
 flat-push : {X A : Type 0} (f : X → List A) (xs : List X) (x : X) → flat_map f (xs ++ x ∷ []) ≡ flat_map f xs ++ f x
 flat-push f xs x = rw (flat_map-append f xs (x ∷ [])) (ap (λ l. flat_map f xs ++ l) (append-nil (f x)))
 
--- a scope with one item more
-abbrev pub with_thing : Scope → Thing → Scope
-with_thing c t = record c { items = c.items ++ t ∷ [] }
+-- a scope with one item more, where there have been this many imports
+abbrev pub with_thing : Scope → Thing → ℕ → Scope
+with_thing c t count = record c { items = c.items ++ t ∷ []; imports = count }
 
 consecutive-push : (k : ℕ) (ts : List Thing) (n : ℕ) (t : Thing) → NumberedFrom k ts n → t.address ≡ n → NumberedFrom k (ts ++ t ∷ []) (suc n)
 consecutive-push k [] n t h e = (e ∙ sym h, ap suc h)
@@ -296,27 +296,24 @@ module _ {w : ComponentWorld} {earlier : List Def} {c : Scope} {s : Store} (a : 
         imports = imports ∙ sym (ap (λ (v : Inventory). v.imports) (inventory-push earlier d));
       }
 
-  -- the step of a definition that is no module, no instantiation and no export
-  agrees_at : (d : Def) (c' : Scope) (s' : Store) (t : Thing) → c'.items ≡ c.items ++ t ∷ [] → c'.exports ≡ c.exports → Keeps c.items (c.items ++ t ∷ []) s s' →
-      Means w (c.items ++ t ∷ []) s' d t → Makes d s' t → is_of spaces.CoreModule t ≡ false → s'.core_modules ≡ s.core_modules → s'.module_instances ≡ s.module_instances →
-      at_root item_instantiates d ≡ [] → def_export d ≡ [] → c'.imports ≡ imports_made (inventory earlier) d → Agrees w (earlier ++ d ∷ []) c' s'
-  agrees_at d c' s' t grew listed keeps means made other modules users none no_export imports =
-      agrees_with d c' s' t grew
-      (subst (λ l. Keeps c.items l s s') (sym grew) keeps)
-      (subst (λ l. Means w l s' d t) (sym grew) means)
-      made
-      (subst (λ l. NumberedFrom 0 (filter (is_of spaces.CoreModule) l) (length s'.core_modules)) (sym grew) (rw (filter-push (is_of spaces.CoreModule) false c.items t other, modules) a.modules))
-      (rw (users, none) (sym (append-nil (map (λ (u : ModuleInstance). u.module_number) s.module_instances))))
-      (subst (AllByRecursion (IsPlannedUser w s')) (sym users) (AllByRecursion-weaker (IsPlannedUser-kept w keeps) s.module_instances a.served))
-      (rw (listed, no_export) (sym (append-nil (map (λ (e : Export). e.name) c.exports))))
-      (subst (AllByRecursion (IsLiftedExport w s')) (sym listed) (AllByRecursion-weaker (IsLiftedExport-kept w keeps) c.exports a.lifted))
-      imports
-
-  agrees_plain : (d : Def) (s' : Store) (t : Thing) → Keeps c.items (c.items ++ t ∷ []) s s' → Means w (c.items ++ t ∷ []) s' d t → Makes d s' t →
-      is_of spaces.CoreModule t ≡ false → s'.core_modules ≡ s.core_modules → s'.module_instances ≡ s.module_instances → at_root item_instantiates d ≡ [] → def_export d ≡ [] →
-      imports_made (inventory earlier) d ≡ (inventory earlier).imports → Agrees w (earlier ++ d ∷ []) (with_thing c t) s'
-  agrees_plain d s' t keeps means made other modules users none no_export no_import =
-      agrees_at d (with_thing c t) s' t refl refl keeps means made other modules users none no_export (a.imports ∙ sym no_import)
+  -- The step of a definition that calls nothing outside, and is no module and no export: it makes this item, and there have
+  -- been this many imports after it.
+  quiet_step : (d : Def) (count : ℕ) (s' : Store) (t : Thing) → ((rest : List Def) (now : Now) → run (module_meanings w no_modules) (d ∷ rest) (machine c s now) ≡ run (module_meanings w no_modules) rest (machine (with_thing c t count) s' now)) →
+      Keeps c.items (c.items ++ t ∷ []) s s' → Means w (c.items ++ t ∷ []) s' d t → Makes d s' t → is_of spaces.CoreModule t ≡ false → s'.core_modules ≡ s.core_modules → s'.module_instances ≡ s.module_instances →
+      at_root item_instantiates d ≡ [] → def_export d ≡ [] → count ≡ imports_made (inventory earlier) d → Steps w earlier c s g d
+  quiet_step d count s' t same keeps means made other modules users none no_export imports = (
+    with_thing c t count,
+    s',
+    g,
+    quiet w d c s g (with_thing c t count) s' none same,
+    agrees_with d (with_thing c t count) s' t refl keeps means made
+        (rw (filter-push (is_of spaces.CoreModule) false c.items t other, modules) a.modules)
+        (rw (users, none) (sym (append-nil (map (λ (u : ModuleInstance). u.module_number) s.module_instances))))
+        (subst (AllByRecursion (IsPlannedUser w s')) (sym users) (AllByRecursion-weaker (IsPlannedUser-kept w keeps) s.module_instances a.served))
+        (rw no_export (sym (append-nil (map (λ (e : Export). e.name) c.exports))))
+        (AllByRecursion-weaker (IsLiftedExport-kept w keeps) c.exports a.lifted)
+        imports,
+  )
 
   pub step_type : (t : TypeDef) → IsTypeRight (scope_of earlier) t → Steps w earlier c s g (defs.Item (items.Type t))
   step_type type h =
@@ -324,31 +321,20 @@ module _ {w : ComponentWorld} {earlier : List Def} {c : Scope} {s : Store} (a : 
       let t : Thing = record { space = spaces.Type; address = length s.types } in
       let item : TypeItem = TreeOf (type_tree (scope_of earlier) (DefinedAt 0) type) in
       let s' : Store = record s { types = s.types ++ item ∷ [] } in
-      let k : Keeps c.items (c.items ++ t ∷ []) s s' = keeps_type c.items t s item in (
-        with_thing c t,
-        s',
-        g,
-        quiet w d c s g (with_thing c t) s' refl (λ rest now. rw (type_made (scope_of earlier) type h (machine c s now) (scope_there a)) refl),
-        agrees_plain d s' t k (record { space = refl; is = tt }) ((record { item = item; present = slice_get-end s.types item; denotes = refl; is = tt }, tt), tt, tt) refl refl refl refl refl refl,
-      )
+      quiet_step d c.imports s' t (λ rest now. rw (type_made (scope_of earlier) type h (machine c s now) (scope_there a)) refl) (keeps_type c.items t s item)
+      (record { space = refl; is = tt }) ((record { item = item; present = slice_get-end s.types item; denotes = refl; is = tt }, tt), tt, tt) refl refl refl refl refl a.imports
 
   pub step_import : (name : ExternName) (kind : ℕ) → HasFunctionType earlier kind → Steps w earlier c s g (defs.Item (items.Import name (descriptions.Func kind)))
   step_import name kind h =
       let d : Def = defs.Item (items.Import name (descriptions.Func kind)) in
       let t : Thing = record { space = spaces.Func; address = length s.functions } in
-      let c' : Scope = record c { items = c.items ++ t ∷ []; imports = suc c.imports } in
       let f : Function = Imported (record { number = c.imports; inner = None }) h.type in
       let s' : Store = record s { functions = s.functions ++ f ∷ [] } in
-      let k : Keeps c.items (c.items ++ t ∷ []) s s' = keeps_function c.items t s f in
       let y : IsTypeAt c.items s kind h.type = type_there a h.is in
       let entry : entry_of f ≡ record { origin = Some (record { number = (inventory earlier).imports; inner = None }); type = get_or (scope_of earlier) kind OfOthers } =
-      ap₂ (λ n tree. record { origin = Some (record { number = n; inner = None }); type = tree }) a.imports (sym h.is.denotes.tree) in (
-        c',
-        s',
-        g,
-        quiet w d c s g c' s' refl (λ rest now. rw (y.at, y.is) refl),
-        agrees_at d c' s' t refl refl k (record { space = refl; is = tt }) (tt, (record { function = f; present = slice_get-end s.functions f; same = entry }, tt), tt) refl refl refl refl refl (ap suc a.imports),
-      )
+      ap₂ (λ n tree. record { origin = Some (record { number = n; inner = None }); type = tree }) a.imports (sym h.is.denotes.tree) in
+      quiet_step d (suc c.imports) s' t (λ rest now. rw (y.at, y.is) refl) (keeps_function c.items t s f)
+      (record { space = refl; is = tt }) (tt, (record { function = f; present = slice_get-end s.functions f; same = entry }, tt), tt) refl refl refl refl refl (ap suc a.imports)
 
   -- a type that equals another is that one
   pub step_import_type : (name : ExternName) (index : ℕ) → index < length (scope_of earlier) → Steps w earlier c s g (defs.Item (items.Import name (descriptions.TypeEqual index)))
@@ -356,37 +342,20 @@ module _ {w : ComponentWorld} {earlier : List Def} {c : Scope} {s : Store} (a : 
       let d : Def = defs.Item (items.Import name (descriptions.TypeEqual index)) in
       let x = entry_there a l in
       let t : Thing = record { space = spaces.Type; address = x.2.address } in
-      let c' : Scope = record c { items = c.items ++ t ∷ []; imports = suc c.imports } in
-      let s' : Store = s in
-      let k : Keeps c.items (c.items ++ t ∷ []) s s' = keeps_store c.items t s in
       let at : address_at spaces.Type index c.items ≡ Some x.2.address = ap (option_map (λ (t : Thing). t.address)) x.3 in
-      let entry : get_or (inventory earlier).types index no_type ≡ x.0 = get_or_from_slice_get (inventory earlier).types index x.0 no_type x.1 in (
-        c',
-        s,
-        g,
-        quiet w d c s g c' s refl (λ rest now. rw at refl),
-        agrees_at d c' s t refl refl k (record { space = refl; is = tt })
-            ((subst (λ e. IsTypeEntry s e t) (sym entry) (record { item = x.4.item; present = x.4.present; denotes = x.4.denotes; is = x.4.is }), tt), tt, tt)
-            refl refl refl refl refl (ap suc a.imports),
-      )
+      let entry : get_or (inventory earlier).types index no_type ≡ x.0 = get_or_from_slice_get (inventory earlier).types index x.0 no_type x.1 in
+      quiet_step d (suc c.imports) s t (λ rest now. rw at refl) (keeps_store c.items t s)
+      (record { space = refl; is = tt }) ((subst (λ e. IsTypeEntry s e t) (sym entry) (record { item = x.4.item; present = x.4.present; denotes = x.4.denotes; is = x.4.is }), tt), tt, tt) refl refl refl refl refl (ap suc a.imports)
 
   -- a resource is a new type, known by the number of the import
   pub step_import_resource : (name : ExternName) → Steps w earlier c s g (defs.Item (items.Import name descriptions.SubResource))
   step_import_resource name =
       let d : Def = defs.Item (items.Import name descriptions.SubResource) in
       let t : Thing = record { space = spaces.Type; address = length s.types } in
-      let c' : Scope = record c { items = c.items ++ t ∷ []; imports = suc c.imports } in
       let item : TypeItem = ImportedResource (record { number = c.imports; inner = None }) in
       let s' : Store = record s { types = s.types ++ item ∷ [] } in
-      let k : Keeps c.items (c.items ++ t ∷ []) s s' = keeps_type c.items t s item in (
-        c',
-        s',
-        g,
-        quiet w d c s g c' s' refl (λ rest now. refl),
-        agrees_at d c' s' t refl refl k (record { space = refl; is = tt })
-            ((record { item = item; present = slice_get-end s.types item; denotes = ap (λ n. OfValues (ResourceAt (ImportedAt (record { number = n; inner = None })))) a.imports; is = tt }, tt), tt, tt)
-            refl refl refl refl refl (ap suc a.imports),
-      )
+      quiet_step d (suc c.imports) s' t (λ rest now. refl) (keeps_type c.items t s item)
+      (record { space = refl; is = tt }) ((record { item = item; present = slice_get-end s.types item; denotes = ap (λ n. OfValues (ResourceAt (ImportedAt (record { number = n; inner = None })))) a.imports; is = tt }, tt), tt, tt) refl refl refl refl refl (ap suc a.imports)
 
   -- a type of instances has the members that the inventory says
   pub step_instance_type : (type : InstanceTypeDef) → Steps w earlier c s g (defs.Item (items.InstanceType type))
@@ -396,13 +365,9 @@ module _ {w : ComponentWorld} {earlier : List Def} {c : Scope} {s : Store} (a : 
       let item : TypeItem = InstanceTypeOf type.members (c.items ∷ c.around) in
       let s' : Store = record s { types = s.types ++ item ∷ [] } in
       let is : IsInstanceType s'.types (scope_of earlier) type.members item =
-      instance_type_made s'.types (inventory earlier) type.members c.items c.around (AreHeldAs-kept (keeps_more s.types (item ∷ [])) (scope_of earlier) c.items (all_held a)) in (
-        with_thing c t,
-        s',
-        g,
-        quiet w d c s g (with_thing c t) s' refl (λ rest now. refl),
-        agrees_plain d s' t (keeps_type c.items t s item) (record { space = refl; is = tt }) ((record { item = item; present = slice_get-end s.types item; denotes = refl; is = is }, tt), tt, tt) refl refl refl refl refl refl,
-      )
+      instance_type_made s'.types (inventory earlier) type.members c.items c.around (AreHeldAs-kept (keeps_more s.types (item ∷ [])) (scope_of earlier) c.items (all_held a)) in
+      quiet_step d c.imports s' t (λ rest now. refl) (keeps_type c.items t s item)
+      (record { space = refl; is = tt }) ((record { item = item; present = slice_get-end s.types item; denotes = refl; is = is }, tt), tt, tt) refl refl refl refl refl a.imports
 
   -- An import of a type of instances makes types and functions, and one item: the instance.
   pub step_import_instance : (name : ExternName) (index : ℕ) (outer : List TypeTree) (members : List Member) → slice_get (inventory earlier).types index ≡ Some (OfInstances outer members) → AreRightMembers outer members →
@@ -414,7 +379,6 @@ module _ {w : ComponentWorld} {earlier : List Def} {c : Scope} {s : Store} (a : 
       let m : Machine = machine (record c { imports = suc c.imports }) s no_answers in
       let r : RunsImport origin outer members index m = import_runs origin outer members index x.0 m (x.1 no_answers) x.2 (right c.imports) in
       let t : Thing = record { space = spaces.Instance; address = length s.instances } in
-      let c' : Scope = record c { items = c.items ++ t ∷ []; imports = suc c.imports } in
       let s' : Store = record s { types = r.types; functions = r.functions; instances = s.instances ++ r.exports ∷ [] } in
       let k : Keeps c.items (c.items ++ t ∷ []) s s' = record {
         things = things_kept c.items t s;
@@ -427,15 +391,9 @@ module _ {w : ComponentWorld} {earlier : List Def} {c : Scope} {s : Store} (a : 
         users = keeps_same refl;
       } in
       let entry : ImportedInstance c.imports outer members ≡ instance_imported (inventory earlier).imports (get_or (inventory earlier).types index no_type) =
-      ap₂ (λ n e. instance_imported n e) a.imports (sym (get_or_from_slice_get (inventory earlier).types index (OfInstances outer members) no_type h)) in (
-        c',
-        s',
-        g,
-        quiet w d c s g c' s' refl (λ rest now. r.runs now (λ address after. run (module_meanings w no_modules) rest after)),
-        agrees_at d c' s' t refl refl k (record { space = refl; is = tt })
-            (tt, tt, (record { exports = r.exports; present = slice_get-end s.instances r.exports; is = subst (λ e. IsInstanceEntry r.types r.functions e r.exports) entry r.is }, tt))
-            refl refl refl refl refl (ap suc a.imports),
-      )
+      ap₂ (λ n e. instance_imported n e) a.imports (sym (get_or_from_slice_get (inventory earlier).types index (OfInstances outer members) no_type h)) in
+      quiet_step d (suc c.imports) s' t (λ rest now. r.runs now (λ address after. run (module_meanings w no_modules) rest after)) k
+      (record { space = refl; is = tt }) (tt, tt, (record { exports = r.exports; present = slice_get-end s.instances r.exports; is = subst (λ e. IsInstanceEntry r.types r.functions e r.exports) entry r.is }, tt)) refl refl refl refl refl (ap suc a.imports)
 
   -- an alias of what an imported instance exports is that item
   pub step_alias_function : (instance : ℕ) (name : List ℕ) → AliasesImported earlier spaces.Func instance name → Steps w earlier c s g (defs.Item (items.Alias (aliases.Export exports.Func instance name)))
@@ -446,15 +404,9 @@ module _ {w : ComponentWorld} {earlier : List Def} {c : Scope} {s : Store} (a : 
       let entry : get_or (inventory earlier).instances instance OtherInstance ≡ of = get_or_from_slice_get (inventory earlier).instances instance of OtherInstance h.imported in
       let f : AliasesFunction (machine c s no_answers) instance name (function_of_instance name of) =
       aliases_function (machine c s no_answers) instance x.0 x.2 name h.number h.outer h.members x.1 x.3 x.4 h.exported in
-      let t : Thing = record { space = spaces.Func; address = f.address } in (
-        with_thing c t,
-        s,
-        g,
-        quiet w d c s g (with_thing c t) s refl (λ rest now. ap (λ o. with_some o (λ (x : Thing). run (module_meanings w no_modules) rest (machine (with_thing c x) s now))) f.at),
-        agrees_plain d s t (keeps_store c.items t s) (record { space = refl; is = tt })
-            (tt, (record { function = Imported f.origin f.type; present = f.present; same = f.same ∙ ap (function_of_instance name) (sym entry) }, tt), tt)
-            refl refl refl refl refl refl,
-      )
+      let t : Thing = record { space = spaces.Func; address = f.address } in
+      quiet_step d c.imports s t (λ rest now. ap (λ o. with_some o (λ (x : Thing). run (module_meanings w no_modules) rest (machine (with_thing c x c.imports) s now))) f.at) (keeps_store c.items t s)
+      (record { space = refl; is = tt }) (tt, (record { function = Imported f.origin f.type; present = f.present; same = f.same ∙ ap (function_of_instance name) (sym entry) }, tt), tt) refl refl refl refl refl a.imports
 
   pub step_alias_type : (instance : ℕ) (name : List ℕ) → AliasesImported earlier spaces.Type instance name → Steps w earlier c s g (defs.Item (items.Alias (aliases.Export exports.Type instance name)))
   step_alias_type instance name h =
@@ -465,15 +417,9 @@ module _ {w : ComponentWorld} {earlier : List Def} {c : Scope} {s : Store} (a : 
       let f : AliasesType (machine c s no_answers) instance name (entry_tree (type_of_instance name of)) =
       aliases_type (machine c s no_answers) instance x.0 x.2 name h.number h.outer h.members x.1 x.3 x.4 h.exported in
       let t : Thing = record { space = spaces.Type; address = f.address } in
-      let is : IsTypeEntry s (type_of_instance name of) t = record { item = f.is.item; present = f.is.present; denotes = f.is.denotes; is = tt } in (
-        with_thing c t,
-        s,
-        g,
-        quiet w d c s g (with_thing c t) s refl (λ rest now. ap (λ o. with_some o (λ (x : Thing). run (module_meanings w no_modules) rest (machine (with_thing c x) s now))) f.at),
-        agrees_plain d s t (keeps_store c.items t s) (record { space = refl; is = tt })
-            ((subst (λ e. IsTypeEntry s (type_of_instance name e) t) (sym entry) is, tt), tt, tt)
-            refl refl refl refl refl refl,
-      )
+      let is : IsTypeEntry s (type_of_instance name of) t = record { item = f.is.item; present = f.is.present; denotes = f.is.denotes; is = tt } in
+      quiet_step d c.imports s t (λ rest now. ap (λ o. with_some o (λ (x : Thing). run (module_meanings w no_modules) rest (machine (with_thing c x c.imports) s now))) f.at) (keeps_store c.items t s)
+      (record { space = refl; is = tt }) ((subst (λ e. IsTypeEntry s (type_of_instance name e) t) (sym entry) is, tt), tt, tt) refl refl refl refl refl a.imports
 
   pub step_lower : (function : ℕ) → HasImportedFunction earlier function → Steps w earlier c s g (defs.Item (items.Lower function []))
   step_lower function h =
@@ -483,25 +429,19 @@ module _ {w : ComponentWorld} {earlier : List Def} {c : Scope} {s : Store} (a : 
       let item : CoreItem = Lowering x.0 [] in
       let type : FuncType = core_signature h.type [] in
       let s' : Store = with_opaque item type s in
-      let k : Keeps c.items (c.items ++ t ∷ []) s s' = keeps_opaque c.items t s item type in (
-        with_thing c t,
-        s',
-        g,
-        quiet w d c s g (with_thing c t) s' refl (λ rest now. rw (x.1, import_lowered (machine c s now) x.0 h.origin h.type x.2) refl),
-        agrees_plain d s' t k
-            (record {
-              space = refl;
-              is = record {
-                of = x.0;
-                origin = h.origin;
-                type = h.type;
-                at = address_at-append c.items (t ∷ []) spaces.Func function x.0 x.1;
-                imported = x.2;
-                is = opaque_there item type s;
-              };
-            })
-            (tt, tt, tt) refl refl refl refl refl refl,
-      )
+      quiet_step d c.imports s' t (λ rest now. rw (x.1, import_lowered (machine c s now) x.0 h.origin h.type x.2) refl) (keeps_opaque c.items t s item type)
+      (record {
+        space = refl;
+        is = record {
+          of = x.0;
+          origin = h.origin;
+          type = h.type;
+          at = address_at-append c.items (t ∷ []) spaces.Func function x.0 x.1;
+          imported = x.2;
+          is = opaque_there item type s;
+        };
+      })
+      (tt, tt, tt) refl refl refl refl refl a.imports
 
   pub step_drop : (type : ℕ) → HasResource earlier type → Steps w earlier c s g (defs.Item (items.Intrinsic (intrinsics.ResourceDrop type)))
   step_drop type h =
@@ -510,15 +450,9 @@ module _ {w : ComponentWorld} {earlier : List Def} {c : Scope} {s : Store} (a : 
       let t : Thing = record { space = spaces.CoreFunc; address = length s.code.functions } in
       let item : CoreItem = IntrinsicOf (intrinsics.ResourceDrop x.0) in
       let s' : Store = with_opaque item drop_core s in
-      let k : Keeps c.items (c.items ++ t ∷ []) s s' = keeps_opaque c.items t s item drop_core in (
-        with_thing c t,
-        s',
-        g,
-        quiet w d c s g (with_thing c t) s' refl (λ rest now. rw x.1 refl),
-        agrees_plain d s' t k
-            (record { space = refl; is = record { of = x.0; at = address_at-append c.items (t ∷ []) spaces.Type type x.0 x.1; is = opaque_there item drop_core s } })
-            (tt, tt, tt) refl refl refl refl refl refl,
-      )
+      quiet_step d c.imports s' t (λ rest now. rw x.1 refl) (keeps_opaque c.items t s item drop_core)
+      (record { space = refl; is = record { of = x.0; at = address_at-append c.items (t ∷ []) spaces.Type type x.0 x.1; is = opaque_there item drop_core s } })
+      (tt, tt, tt) refl refl refl refl refl a.imports
 
   pub step_lift : (core kind : ℕ) → core < items_in spaces.CoreFunc earlier → HasFunctionType earlier kind → Steps w earlier c s g (defs.Item (items.Lift core [] kind))
   step_lift core kind l h =
@@ -528,25 +462,18 @@ module _ {w : ComponentWorld} {earlier : List Def} {c : Scope} {s : Store} (a : 
       let t : Thing = record { space = spaces.Func; address = length s.functions } in
       let f : Function = Lifting x.0 [] h.type in
       let s' : Store = record s { functions = s.functions ++ f ∷ [] } in
-      let k : Keeps c.items (c.items ++ t ∷ []) s s' = keeps_function c.items t s f in (
-        with_thing c t,
-        s',
-        g,
-        quiet w d c s g (with_thing c t) s' refl (λ rest now. rw (x.1, y.at, y.is) refl),
-        agrees_plain d s' t k
-            (record {
-              space = refl;
-              is = record {
-                of = x.0;
-                type = h.type;
-                at = address_at-append c.items (t ∷ []) spaces.CoreFunc core x.0 x.1;
-                typed = record { address = y.address; at = address_at-append c.items (t ∷ []) spaces.Type kind y.address y.at; is = y.is };
-                is = slice_get-end s.functions f;
-              };
-            })
-            (tt, (record { function = f; present = slice_get-end s.functions f; same = ap (λ tree. record { origin = None; type = tree }) (sym h.is.denotes.tree) }, tt), tt)
-            refl refl refl refl refl refl,
-      )
+      quiet_step d c.imports s' t (λ rest now. rw (x.1, y.at, y.is) refl) (keeps_function c.items t s f)
+      (record {
+        space = refl;
+        is = record {
+          of = x.0;
+          type = h.type;
+          at = address_at-append c.items (t ∷ []) spaces.CoreFunc core x.0 x.1;
+          typed = record { address = y.address; at = address_at-append c.items (t ∷ []) spaces.Type kind y.address y.at; is = y.is };
+          is = slice_get-end s.functions f;
+        };
+      })
+      (tt, (record { function = f; present = slice_get-end s.functions f; same = ap (λ tree. record { origin = None; type = tree }) (sym h.is.denotes.tree) }, tt), tt) refl refl refl refl refl a.imports
 
   pub step_inline_instance : (entries : List CoreInlineExport) → AreEntries earlier entries → Steps w earlier c s g (defs.Item (items.CoreExports entries))
   step_inline_instance entries h =
@@ -559,22 +486,16 @@ module _ {w : ComponentWorld} {earlier : List Def} {c : Scope} {s : Store} (a : 
       (record { space = spaces.CoreFunc; name = e.name; address = at.0 }, rw (k.kind, at.1) refl, record { named = refl; space = rw k.kind refl; at = rw k.kind at.1 }))
       entries h.each in
       let s' : Store = record s { core_instances = s.core_instances ++ found.0 ∷ [] } in
-      let k : Keeps c.items (c.items ++ t ∷ []) s s' = keeps_core_instance c.items t s found.0 in (
-        with_thing c t,
-        s',
-        g,
-        quiet w d c s g (with_thing c t) s' refl (λ rest now. rw found.1 refl),
-        agrees_plain d s' t k
-            (record {
-              space = refl;
-              is = record {
-                exports = found.0;
-                present = slice_get-end s.core_instances found.0;
-                each = AllZip-weaker (λ e x n. record { named = n.named; space = n.space; at = address_at-append c.items (t ∷ []) (kind_space e.kind) e.index x.address n.at }) entries found.0 found.2;
-              };
-            })
-            (tt, tt, tt) refl refl refl refl refl refl,
-      )
+      quiet_step d c.imports s' t (λ rest now. rw found.1 refl) (keeps_core_instance c.items t s found.0)
+      (record {
+        space = refl;
+        is = record {
+          exports = found.0;
+          present = slice_get-end s.core_instances found.0;
+          each = AllZip-weaker (λ e x n. record { named = n.named; space = n.space; at = address_at-append c.items (t ∷ []) (kind_space e.kind) e.index x.address n.at }) entries found.0 found.2;
+        };
+      })
+      (tt, tt, tt) refl refl refl refl refl a.imports
 
   pub step_alias : IsWorld w → (instance : ℕ) (name : List ℕ) → AliasesUser w earlier instance name → Steps w earlier c s g (defs.Item (items.Alias (aliases.CoreExport kinds.Func instance name)))
   step_alias ok instance name h =
@@ -584,26 +505,20 @@ module _ {w : ComponentWorld} {earlier : List Def} {c : Scope} {s : Store} (a : 
       let offered : found name w.main.offered ≡ Some (externs.Func h.type) = subst (λ (o : WorldModule). found name o.found.offered ≡ Some (externs.Func h.type)) (sym main) h.offered in
       let x : (e : Export) × (export_named name m.2.exports ≡ Some e) × (e.space ≡ spaces.CoreFunc) × IsOpaqueOf s e.address h.type (ExportedBy m.2.user e.name) = offered_there a h.number m.0 m.2 name h.type offered in
       let t : Thing = record { space = spaces.CoreFunc; address = x.0.address } in
-      let k : Keeps c.items (c.items ++ t ∷ []) s s = keeps_store c.items t s in (
-        with_thing c t,
-        s,
-        g,
-        quiet w d c s g (with_thing c t) s refl (λ rest now. rw (m.1, m.2.present, x.1, x.2) refl),
-        agrees_plain d s t k
-            (record {
-              space = refl;
-              is = record {
-                from = m.0;
-                exports = m.2.exports;
-                export = x.0;
-                at = address_at-append c.items (t ∷ []) spaces.CoreInstance instance m.0 m.1;
-                present = m.2.present;
-                found = x.1;
-                is = refl;
-              };
-            })
-            (tt, tt, tt) refl refl refl refl refl refl,
-      )
+      quiet_step d c.imports s t (λ rest now. rw (m.1, m.2.present, x.1, x.2) refl) (keeps_store c.items t s)
+      (record {
+        space = refl;
+        is = record {
+          from = m.0;
+          exports = m.2.exports;
+          export = x.0;
+          at = address_at-append c.items (t ∷ []) spaces.CoreInstance instance m.0 m.1;
+          present = m.2.present;
+          found = x.1;
+          is = refl;
+        };
+      })
+      (tt, tt, tt) refl refl refl refl refl a.imports
 
   pub step_export : IsWorld w → (name : ExternName) (index : ℕ) → ExportsRequired w earlier name index → Steps w earlier c s g (defs.Item (items.Export name sorts.Func index None))
   step_export ok name index h =
@@ -646,11 +561,11 @@ module _ {w : ComponentWorld} {earlier : List Def} {c : Scope} {s : Store} (a : 
       let t : Thing = record { space = spaces.CoreModule; address = length s.core_modules } in
       let s' : Store = record s { core_modules = s.core_modules ++ bytes ∷ [] } in
       let k : Keeps c.items (c.items ++ t ∷ []) s s' = keeps_module c.items t s bytes in (
-        with_thing c t,
+        with_thing c t c.imports,
         s',
         g,
-        quiet w d c s g (with_thing c t) s' refl (λ rest now. refl),
-        agrees_with d (with_thing c t) s' t refl k (record { space = refl; is = tt }) (tt, tt, tt)
+        quiet w d c s g (with_thing c t c.imports) s' refl (λ rest now. refl),
+        agrees_with d (with_thing c t c.imports) s' t refl k (record { space = refl; is = tt }) (tt, tt, tt)
             (rw (filter-push (is_of spaces.CoreModule) true c.items t refl, length-append s.core_modules (bytes ∷ []), add-one (length s.core_modules)) (consecutive-push 0 (filter (is_of spaces.CoreModule) c.items) (length s.core_modules) t a.modules refl))
             (sym (append-nil (map (λ (u : ModuleInstance). u.module_number) s.module_instances)))
             (AllByRecursion-weaker (IsPlannedUser-kept w k) s.module_instances a.served)
@@ -734,12 +649,12 @@ module _ {w : ComponentWorld} {earlier : List Def} {c : Scope} {s : Store} (a : 
       (subst (AllByRecursion (IsPlannedUser w s')) (sym users) (AllByRecursion-weaker (IsPlannedUser-kept w k) s.module_instances a.served))
       (IsPlannedUser-kept w k instance found.2) in
       let alike : (after : Now) → length after.globals ≡ g → Alike (machine c s after) m0 = λ after count. record { store = refl; globals = count ∙ sym (length-cells g) } in
-      let new : (after : Now) → length after.globals ≡ g → new_user 0 es found.0 (machine c s after) ≡ machine (with_thing c t) s' (with_exports user es (machine c s after)).now = λ after count.
+      let new : (after : Now) → length after.globals ≡ g → new_user 0 es found.0 (machine c s after) ≡ machine (with_thing c t c.imports) s' (with_exports user es (machine c s after)).now = λ after count.
       ap₂ (λ l m. with_module_instance (record { module_number = 0; given = found.0; exports = l }) m)
       (same_exports user es (machine c s after) m0 (alike after count))
       (ap₂ (λ x y. machine x y (with_exports user es (machine c s after)).now) (ap (λ (m : Machine). m.scope) (all_exports user es (machine c s after)).same) (all_alike user es (machine c s after) m0 (alike after count)).store) in
       let steps : Steps w earlier c s g d = (
-        with_thing c t,
+        with_thing c t c.imports,
         s',
         length m1.now.globals,
         record {
@@ -753,11 +668,11 @@ module _ {w : ComponentWorld} {earlier : List Def} {c : Scope} {s : Store} (a : 
               let is_now : IsNow (events ++ Instantiated 0 ∷ []) (length m1.now.globals) b.now =
               one_event events g (length m1.now.globals) now b.now at (ap (λ (m : Machine). m.now.events) added.same ∙ same_events) (ap (λ (m : Machine). m.now.moments) added.same ∙ same_moments) (all_alike user es (machine c s after) m0 (alike after count)).globals in
               subst (λ (m : Machine). IsGood e u n (events ++ (Instantiated 0 ∷ seen_by rest)) questions after.answers (run (module_meanings w no_modules) rest m)) (sym (new after count))
-              (subst (λ l. IsGood e u n (events ++ (Instantiated 0 ∷ seen_by rest)) questions l (run (module_meanings w no_modules) rest (machine (with_thing c t) s' b.now))) (ap (λ (m : Machine). m.now.answers) added.same)
-              (subst (λ l. IsGood e u n l questions b.now.answers (run (module_meanings w no_modules) rest (machine (with_thing c t) s' b.now))) (append_assoc events (Instantiated 0 ∷ []) (seen_by rest))
+              (subst (λ l. IsGood e u n (events ++ (Instantiated 0 ∷ seen_by rest)) questions l (run (module_meanings w no_modules) rest (machine (with_thing c t c.imports) s' b.now))) (ap (λ (m : Machine). m.now.answers) added.same)
+              (subst (λ l. IsGood e u n l questions b.now.answers (run (module_meanings w no_modules) rest (machine (with_thing c t c.imports) s' b.now))) (append_assoc events (Instantiated 0 ∷ []) (seen_by rest))
               (go b.now is_now)))));
         },
-        agrees_with d (with_thing c t) s' t refl k
+        agrees_with d (with_thing c t c.imports) s' t refl k
             (record {
               space = refl;
               is = record {

@@ -406,7 +406,7 @@ g_lifted = record {
   asked = (record { of = record { world_module = main_module one_each; listed = refl; same = refl }; named = refl }, tt);
 }
 
-one_apart : (name : List ℕ) → IsDistinct bytes_eq (name ∷ [])
+pub one_apart : (name : List ℕ) → IsDistinct bytes_eq (name ∷ [])
 unfolding IsDistinct
 one_apart name = (tt, tt)
 

@@ -30,6 +30,7 @@ use Rattle.link_laws.specs.Linking.{outcome, questions, LetsRun, EndsAt, AreServ
 use Rattle.link_laws.proofs.Worked.{plain_core}
 use Rattle.link_laws.proofs.Steps.{no_modules}
 use Rattle.link_laws.proofs.Worked.{machine_of, core_function, k, a}
+use Rattle.link_laws.proofs.Stores.{main_module}
 use Rattle.link_laws.proofs.NamedItem.{own_item}
 use Rattle.link_laws.proofs.WorkedAdapter.{adapter, functions, world, wit_of_g, definitions, crossed_definitions, memory_at, main_instance, adapter_instance, straight, crossed}
 
@@ -81,10 +82,7 @@ no_hooks (Some kind) = refl
 
 -- ---- the end of a run
 
--- the user modules
-abbrev main_module : WorldModule
-main_module = record { of = Main; found = world.main }
-
+-- the adapter, as a user module
 abbrev the_adapter : WorldModule
 the_adapter = adapter_module (a, adapter)
 
@@ -95,7 +93,7 @@ abbrev of_main : List ℕ → ExportRef
 of_main name = record { of = Main; name = name }
 
 is_main : IsModule world 0 Main
-is_main = record { world_module = main_module; listed = refl; same = refl }
+is_main = record { world_module = main_module world; listed = refl; same = refl }
 
 abbrev no_origins : TypeId → Resource
 no_origins id = DefinedAt 0
@@ -154,7 +152,7 @@ module _ (number number' : ℕ) (rest : List Answer) where
       subst (λ x. AreServed world m no_origins x j) module_same (subst (λ x. AreServed world m no_origins of' x) same h)
 
   served : (instance : ℕ) (i : ModuleInstance) (of : WorldModule) → slice_get m.store.module_instances instance ≡ Some i → slice_get (user_modules world) i.module_number ≡ Some of → AreServed world m no_origins of i
-  served zero i of e u = served_same main_instance i of main_module (same_Some main_instance i e) refl u tt
+  served zero i of e u = served_same main_instance i of (main_module world) (same_Some main_instance i e) refl u tt
   served (suc zero) i of e u = served_same made_adapter i of the_adapter (same_Some made_adapter i e) refl u adapter_served
   served (suc (suc n)) i of e u = absurd (none-some i e)
 

@@ -46,8 +46,7 @@ use Rattle.link_laws.specs.Linking.{outcome, IsServed, IsLinked, Links}
 use Rattle.link_laws.proofs.Stores.{drop_core, main_module}
 use Rattle.link_laws.proofs.Steps.{no_modules}
 use Rattle.link_laws.proofs.Runs.{links}
-use Rattle.link_laws.proofs.Worked.{root_import, Ended, ended, core_function, made, machine_of}
-use Rattle.link_laws.proofs.WorkedTypes.{one_apart}
+use Rattle.link_laws.proofs.Worked.{root_import, Ended, ended, core_function, made, machine_of, one_apart}
 use Rattle.link_laws.proofs.NamedItem.{own_item}
 
 -- ---- the world

@@ -1,8 +1,6 @@
 -- A worked example: a world that imports a record and a function of it, and exports a function of a tuple.
 use Rattle.std.proofs.Common.{◌≡◌, ℕ, zero, suc, false, List, [], ◌∷◌, ◌++◌, refl, Some, None, map, arith}
 use Rattle.std.specs.Prelude.{codes, Contains}
-use Rattle.std.specs.List.{IsDistinct}
-use Rattle.std.specs.Str.{bytes_eq}
 use Rattle.standard_kinds.specs.declared.kinds.ExportKind.TheVariants as kinds
 use Rattle.standard_kinds.specs.declared.kinds.Primitive.{Primitive}
 use Rattle.standard_kinds.specs.declared.kinds.Primitive.TheVariants as primitives
@@ -44,7 +42,7 @@ use Rattle.comp_trees.specs.Trees.{PrimitiveOf, RecordOf, TupleOf, Nil, Cons, Fu
 use Rattle.comp_runs.specs.Store.{Lowering, ExportedBy, Imported, Lifting}
 use Rattle.link_laws.specs.Linking.{outcome}
 use Rattle.link_laws.proofs.Steps.{no_modules}
-use Rattle.link_laws.proofs.Worked.{Ended, ended, root_import, core_function, core_export, made, a}
+use Rattle.link_laws.proofs.Worked.{Ended, ended, root_import, core_function, core_export, made, a, one_apart}
 
 -- ---- the world
 
@@ -103,10 +101,6 @@ world = whole_of (record {
   adapters = [];
   can_use_context_slot_1 = false;
 })
-
-pub one_apart : (name : List ℕ) → IsDistinct bytes_eq (name ∷ [])
-unfolding IsDistinct
-one_apart name = (tt, tt)
 
 -- no call of them needs an option
 f_plain : IsPlain wit_types wit_f

@@ -36,10 +36,10 @@ use Rattle.link_laws.specs.Linking.{outcome, LiftMeets, IsProvided, IsLinked, Li
 use Rattle.link_laws.proofs.Stores.{main_module}
 use Rattle.link_laws.proofs.Steps.{no_modules}
 use Rattle.link_laws.proofs.Runs.{composed, links}
-use Rattle.link_laws.proofs.Worked.{root_import, made, machine_of, a}
+use Rattle.link_laws.proofs.Worked.{root_import, made, machine_of, a, one_apart}
 use Rattle.comp_bytes.specs.declared.types.Description.TheVariants as descriptions
 use Rattle.comp_terms.specs.Rules.{IsDescriptionRight, ExportsRequired}
-use Rattle.link_laws.proofs.WorkedTypes.{p, wit_f, wit_g, g_core, world, is_world, one_apart, typed_list, misnamed, f_tree, g_tree}
+use Rattle.link_laws.proofs.WorkedTypes.{p, wit_f, wit_g, g_core, world, is_world, typed_list, misnamed, f_tree, g_tree}
 
 -- ---- it keeps the rules
 
