@@ -3,3 +3,4 @@ pub mod Scoping
 pub mod Naming
 pub mod Exporting
 pub mod Meeting
+pub mod Allowed

@@ -1,5 +1,5 @@
 -- A table of types of other interfaces that gets those that are met.
-use Rattle.std.proofs.Common.{◌≡◌, ◌∙◌, ◌+◌, ◌<◌, ◌≤◌, ℕ, zero, suc, arith, Bool, true, false, true≢false, List, [], ◌∷◌, ◌++◌, length, map, drop, refl, ap, sym, subst, Option, Some, None, is_some, get_or, cond, if◌then◌else◌, rules}
+use Rattle.std.proofs.Common.{◌≡◌, ◌∙◌, ◌+◌, ◌<◌, ◌≤◌, ℕ, Bool, true, false, true≢false, List, [], ◌∷◌, ◌++◌, length, drop, refl, ap, sym, subst, Option, Some, None, is_some, get_or, cond, if◌then◌else◌, rules}
 use Rattle.std.specs.List.{AllByRecursion, flat_map}
 use Rattle.std.specs.Map.{lookup}
 use Rattle.comp_lists.specs.Tables.{with_first}

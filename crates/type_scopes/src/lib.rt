@@ -11,18 +11,21 @@
 //!
 //! In reading order: `outer_type` (the key of that table), `placement` (what proofs know of the outer scope),
 //! `outer_types` (the table), `member_list` (the members, and the number of their type indices), `instance_type` (the scope),
-//! `named_types` (types, one after the other), `functions` (functions, one after the other), `interface` (both).
+//! `named_types` (types, one after the other), `functions` (functions, one after the other), `interface` (both), and
+//! `other_interfaces` (the types of other interfaces of which they are made).
 //!
 //! In `specs/`: `Places` (where an instance type is defined), `Members` (how many type indices members make), `Exports` (what
 //! is exported, and how members grow), `Offers` (what the outer scope offers, and what definitions take as given),
-//! `Interfaces` (what the types and functions of an interface are in a scope).
+//! `Interfaces` (what the types and functions of an interface are in a scope), `Foreign` (which types of other interfaces are met,
+//! and in which order).
 //!
 //! Upward this crate promises: each call of [`InstanceTypeEncoder`] adds the one member that it names, or none and says
 //! why; and where [`encode_interface_type`] succeeds, each given type has a value type in the instance type that denotes
 //! its tree, which is that of its export where it is a type of the scope that has a name and belongs to the interface, and
 //! the functions that are exported are those of the given ones whose names are used, in their order, each of a type that
 //! denotes the function's; and each member is right (`AreMembersRight` of `comp_trees`), so that an instance of the type can be
-//! imported. A refusal is out of memory, or more type indices than there can be.
+//! imported. [`foreign_types`] lists the types of other interfaces that the outer scope has to offer for it: where they are offered,
+//! everything of the interface may be encoded (`proofs/Allowed.antt`). A refusal is out of memory, or more type indices than there can be.
 #![tactic(auto)]
 
 mod functions;

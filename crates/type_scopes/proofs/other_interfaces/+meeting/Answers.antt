@@ -1,7 +1,6 @@
-use Rattle.std.proofs.Common.{◌≡◌, ◌∙◌, ◌<◌, arith, ℕ, List, [], ◌∷◌, ap, refl, sym, subst, length, get_or, OnOk}
-use Rattle.std.specs.List.{flat_map}
+use Rattle.std.proofs.Common.{◌≡◌, ◌∙◌, ◌<◌, arith, List, [], ◌∷◌, ap, refl, sym, subst, length, get_or, OnOk}
 use Rattle.wit_data.specs.Parts.{parts}
-use Rattle.wit_data.specs.Values.{kind_at, values, part_values}
+use Rattle.wit_data.specs.Values.{kind_at, part_values}
 use Rattle.wit_data.proofs.Meeting.{met_at, parts_long}
 use Rattle.type_scopes.specs.Foreign.{meeting, met_in, with_each}
 use Rattle.type_scopes.specs.declared.outer_type.OuterType.{OuterType}
@@ -12,11 +11,11 @@ pub enter_type-returns-in_ok-insert_if_absent-in-Some-clause-met : goal.enter_ty
 enter_type-returns-in_ok-insert_if_absent-in-Some-clause-met t c =
     let types = c.args.types.now in
     let inside = met_other types c.args.here c.in-Some.interface c.args.id.index c.owner_of.result c.foreign.result c.requires.back c.requires.present c.owner_of.ensures c.foreign.ensures c.in-Some.is in
-    c.in_ok-insert_if_absent.ensures.ok ∙ ap (with_each c.args.met.now.types) (sym inside)
+    c.in_ok-insert_if_absent-in-Some.ensures.ok ∙ ap (with_each c.args.met.now.types) (sym inside)
 
 pub enter_type-returns-in_ok-insert_if_absent-in-Some-clause-entered : goal.enter_type-returns-in_ok-insert_if_absent-in-Some-clause-entered
 enter_type-returns-in_ok-insert_if_absent-in-Some-clause-entered t c =
-    entered_kept c.args.types.now c.args.here c.args.met.now (record c.args.met.now { types = c.insert_if_absent.new.self }) (record { interface = c.in-Some.interface; id = c.args.id } ∷ []) c.requires.entered c.in_ok-insert_if_absent.ensures.ok refl
+    entered_kept c.args.types.now c.args.here c.args.met.now (record c.args.met.now { types = c.insert_if_absent.new.self }) (record { interface = c.in-Some.interface; id = c.args.id } ∷ []) c.requires.entered c.in_ok-insert_if_absent-in-Some.ensures.ok refl
 
 pub enter_type-returns-in-None-clause-met : goal.enter_type-returns-in-None-clause-met
 enter_type-returns-in-None-clause-met t c =

@@ -1,6 +1,5 @@
-use Rattle.std.proofs.Common.{◌<◌, arith, [], length, get_or, Some}
-use Rattle.wit_data.specs.Values.{values}
-use Rattle.type_scopes.specs.Foreign.{meeting, met_in}
+use Rattle.std.proofs.Common.{◌<◌, arith, length, Some}
+use Rattle.type_scopes.specs.Foreign.{met_in}
 use Rattle.type_scopes.proofs.Meeting.{items_step}
 use Rattle.type_scopes.proofs.other_interfaces.meet_params.Goals as goal
 

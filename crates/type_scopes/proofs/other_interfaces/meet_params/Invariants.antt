@@ -1,6 +1,5 @@
-use Rattle.std.specs.Prelude.{[], Some, get_or}
-use Rattle.wit_data.specs.Values.{values}
-use Rattle.type_scopes.specs.Foreign.{meeting, met_in, KnowsEntered}
+use Rattle.std.specs.Prelude.{Some}
+use Rattle.type_scopes.specs.Foreign.{met_in, KnowsEntered}
 use Rattle.type_scopes.proofs.Meeting.{ItemsMet}
 use Rattle.type_scopes.proofs.other_interfaces.meet_params.Given as goal
 

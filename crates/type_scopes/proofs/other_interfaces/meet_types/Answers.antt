@@ -1,6 +1,6 @@
-use Rattle.std.proofs.Common.{◌<◌, arith, [], length, get_or, Some}
+use Rattle.std.proofs.Common.{◌<◌, arith, [], length, get_or}
 use Rattle.wit_data.specs.Values.{values}
-use Rattle.type_scopes.specs.Foreign.{meeting, met_in}
+use Rattle.type_scopes.specs.Foreign.{meeting}
 use Rattle.type_scopes.proofs.Meeting.{items_step}
 use Rattle.type_scopes.proofs.other_interfaces.meet_types.Goals as goal
 

@@ -1,6 +1,6 @@
-use Rattle.std.specs.Prelude.{[], Some, get_or}
+use Rattle.std.specs.Prelude.{[], get_or}
 use Rattle.wit_data.specs.Values.{values}
-use Rattle.type_scopes.specs.Foreign.{meeting, met_in, KnowsEntered}
+use Rattle.type_scopes.specs.Foreign.{meeting, KnowsEntered}
 use Rattle.type_scopes.proofs.Meeting.{ItemsMet}
 use Rattle.type_scopes.proofs.other_interfaces.meet_types.Given as goal
 
