@@ -1,31 +1,17 @@
 -- The options that a canonical function needs, by the types that it passes (Canonical ABI: lifting and
 -- lowering; component model, binary format: `canonopt`). A set of options is a number of four bits: 1 for
 -- a memory, 2 for a realloc, 4 for a string encoding, 8 for an asynchronous call.
-use Rattle.std.specs.Prelude.{ℕ, List, [], ◌∷◌, ◌++◌, map, Bool, true, false, ◌==◌, ◌&&◌, ◌||◌, not, Option, Some, None, is_some, ◌-◌}
+use Rattle.std.specs.Prelude.{ℕ, List, [], ◌∷◌, map, Bool, true, false, ◌==◌, ◌||◌, Some}
 use Rattle.std.specs.Int.RustNames.{bit_and, bit_or}
-use Rattle.comp_bytes.specs.declared.canon.CanonicalOption.{CanonicalOption}
-use Rattle.comp_bytes.specs.declared.canon.CanonicalOption.TheVariants as canonical
-use Rattle.wit_data.specs.declared.types.Type.{«Type» as Ty}
 use Rattle.wit_data.specs.declared.types.TypeDef.{TypeDef}
-use Rattle.wit_data.specs.declared.types.TypeDefKind.{TypeDefKind}
-use Rattle.wit_data.specs.declared.types.TypeDefKind.TheVariants as kinds
 use Rattle.wit_data.specs.declared.functions.Function.{Function}
 use Rattle.wit_data.specs.declared.functions.Param.{Param}
 use Rattle.wit_data.specs.declared.functions.AbiVariant.{AbiVariant}
 use Rattle.wit_data.specs.declared.functions.AbiVariant.TheVariants as abis
-use Rattle.wit_data.specs.declared.resolve.Resolve.{Resolve}
-use Rattle.wit_data.specs.Values.{kind_at}
-use Rattle.wit_data.specs.Contents.{contents_bits, carried_by}
+use Rattle.wit_data.specs.Contents.{contents_bits}
 use Rattle.wit_data.specs.Signatures.{is_indirect, is_returned_in_memory}
-use Rattle.wit_data.specs.Sound.{HasTypeId}
 use Rattle.comp_options.specs.declared.required.Direction.{Direction}
 use Rattle.comp_options.specs.declared.required.Direction.TheVariants as ways
-use Rattle.standard_kinds.specs.declared.kinds.StringEncoding.{StringEncoding}
-use Rattle.standard_kinds.specs.declared.kinds.StringEncoding.TheVariants as encodings
-use Rattle.comp_roles.specs.declared.payloads.PayloadType.{PayloadType}
-use Rattle.comp_roles.specs.declared.payloads.PayloadType.TheVariants as payloads
-use Rattle.comp_roles.specs.declared.payloads.PayloadFuncKind.{PayloadFuncKind}
-use Rattle.comp_roles.specs.declared.payloads.PayloadFuncKind.TheVariants as ends
 
 -- ---- sets
 
@@ -90,62 +76,3 @@ task_return_set types f = without_realloc (import_set abis.GuestImport types f)
 abbrev pub export_set : AbiVariant → List TypeDef → Function → ℕ
 export_set abi types f =
     with_if (is_async_export abi) (task_return_set types f) (with_if (is_async_export abi) 8 (with_if (is_indirect abi types f) 2 (with_if (passes_memory abi types f) 1 (lifted (contents_bits types f.result) (pass_all ways.Lower (param_contents types f.params) 0)))))
-
--- ---- of a stream or a future
-
--- the type of its elements
-abbrev pub carried : List TypeDef → PayloadType → Option Ty
-carried types (payloads.Typed id function) = carried_by (kind_at types id.index)
-carried types _ = None
-
--- written elements are lifted, read elements are lowered
-abbrev pub way_of : PayloadFuncKind → Direction
-way_of ends.FutureWrite = ways.Lift
-way_of ends.StreamWrite = ways.Lift
-way_of ends.FutureRead = ways.Lower
-way_of ends.StreamRead = ways.Lower
-
--- elements are passed in memory
-abbrev pub payload_set : List TypeDef → PayloadType → PayloadFuncKind → Bool → ℕ
-payload_set types payload kind is_async = with_if is_async 8 (bit_or (passed (way_of kind) (contents_bits types (carried types payload)) 0) 1)
-
--- its type exists in the resolve
-abbrev pub HasPayload : Resolve → PayloadType → Type 0
-HasPayload r (payloads.Typed id function) = HasTypeId r id
-HasPayload r _ = Unit {0}
-
--- ---- as a list
-
--- a value, if there is one, as one option
-abbrev pub one_if : {A : Type 0} → (A → CanonicalOption) → Option A → List CanonicalOption
-one_if f (Some x) = f x ∷ []
-one_if f None = []
-
-abbrev pub async_if : Bool → List CanonicalOption
-async_if true = canonical.Async ∷ []
-async_if false = []
-
-abbrev pub encoding_option : StringEncoding → CanonicalOption
-encoding_option encodings.UTF8 = canonical.Utf8
-encoding_option encodings.UTF16 = canonical.Utf16
-encoding_option encodings.CompactUTF16 = canonical.CompactUtf16
-
--- the four options, in order
-abbrev pub in_order : Option ℕ → Option ℕ → Option StringEncoding → Bool → List CanonicalOption
-in_order memory realloc encoding is_async = one_if canonical.Memory memory ++ (one_if canonical.Realloc realloc ++ (one_if encoding_option encoding ++ async_if is_async))
-
--- a value, if the set needs it
-abbrev pub when : {A : Type 0} → Bool → Option A → Option A
-when true x = x
-when false x = None
-
--- memory, realloc, encoding, asynchronous: each if it is in the set
-abbrev pub options_of : ℕ → StringEncoding → Option ℕ → Option ℕ → List CanonicalOption
-options_of set encoding memory realloc = in_order (when (needs set 1) memory) (when (needs set 2) realloc) (when (needs set 4) (Some encoding)) (needs set 8)
-
--- an option that is needed and missing
-abbrev pub lacks_memory : ℕ → Option ℕ → Bool
-lacks_memory set memory = needs set 1 && not (is_some memory)
-
-abbrev pub lacks_realloc : ℕ → Option ℕ → Bool
-lacks_realloc set realloc = needs set 2 && not (is_some realloc)

@@ -8,7 +8,9 @@ ghost use Rattle.std.specs.Iterator.{YieldsFirst, item_count};
 ghost use Rattle.std.specs.List.{AllByRecursion};
 ghost use Rattle.wit_data.specs.Contents.{contents_bits};
 ghost use Rattle.wit_data.specs.Sound.{IsSound, HasFunction, HasType};
-ghost use Rattle.comp_options.specs.Options.{lifted, lowered, passed, pass_all, param_contents, passes_memory, is_async_export, import_set, export_set, task_return_set, way_of, carried, payload_set, options_of, encoding_option, lacks_memory, lacks_realloc, HasPayload};
+ghost use Rattle.comp_options.specs.Options.{lifted, lowered, passed, pass_all, param_contents, passes_memory, is_async_export, import_set, export_set, task_return_set};
+ghost use Rattle.comp_options.specs.OptionLists.{options_of, encoding_option, lacks_memory, lacks_realloc};
+ghost use Rattle.comp_options.specs.Payloads.{way_of, carried, payload_set, HasPayload};
 ghost use Rattle.comp_options.specs.declared.required.OptionFault.TheVariants.{NoMemory, NoRealloc};
 
 use bitflags::{Flag, Flags, bitflag_items};
@@ -280,7 +282,7 @@ pub struct Options {
 impl Model for Options {
     ghost use Rattle.std.specs.Prelude.{List};
     ghost use Rattle.comp_bytes.specs.declared.canon.CanonicalOption.{CanonicalOption};
-    ghost use Rattle.comp_options.specs.Options.{in_order};
+    ghost use Rattle.comp_options.specs.OptionLists.{in_order};
 
     ghost Value = { List CanonicalOption };
 
