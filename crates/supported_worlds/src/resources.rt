@@ -1,8 +1,8 @@
 //! Whether the types that a world imports come in their order, with all resources among them.
 
-ghost use Rattle.std.specs.Prelude.{◌≡◌, ◌≤◌, ◌<◌, length, not, IfSome};
+ghost use Rattle.std.specs.Prelude.{◌≡◌, ◌≤◌, ◌<◌, length, IfSome};
 ghost use Rattle.std.specs.List.{AllByRecursion, list_any};
-ghost use Rattle.std.specs.Option.{option_copied, option_map_or};
+ghost use Rattle.std.specs.Option.{option_copied};
 ghost use Rattle.wit_data.specs.Sound.{HasEntry};
 ghost use Rattle.supported_worlds.specs.LeftOut.{is_resource, imported_numbers, are_in_place, resources_left_out, drop_left_out};
 ghost use Rattle.supported_worlds.specs.Places.{Follows, FollowsImport};
