@@ -70,18 +70,27 @@ function_typed f s e =
     ap (λ (o : Option (List ValType)). o >>= λ ps. value_types f.results >>= λ rs. Some (made ps rs)) (all_values f.params s.params b.0)
     ∙ ap (λ (o : Option (List ValType)). o >>= λ rs. Some (made (map value_of s.params) rs)) (all_values f.results s.results b.1)
 
--- an entity that is a function of the type that is required
-entity_typed : (core : CoreModule) (r : Resolve) (abi : AbiVariant) (e : EntityType) (o : Option Function) (ty : ExternType) → is_function core e (option_map (called r abi) o) ≡ true
-    → option_map (called_type r abi) o ≡ Some ty → extern_type core e ≡ Some ty
-entity_typed core r abi (entities.Function n) (Some f) ty fits is = by (slice_get core.types n) refl fits
+-- an entity that is a function of the type of a signature
+entity_of : (core : CoreModule) (e : EntityType) (s : WasmSignature) → is_function core e (Some (function (map number s.params) (map number s.results))) ≡ true → extern_type core e ≡ Some (externs.Func (core_type s))
+entity_of core (entities.Function n) s fits = by (slice_get core.types n) refl fits
   where
-    by : (t : Option CoreFunc) → slice_get core.types n ≡ t → option_map_or (λ g. is_asked g (Some (called r abi f))) t false ≡ true → extern_type core (entities.Function n) ≡ Some ty
+    by : (t : Option CoreFunc) → slice_get core.types n ≡ t → option_map_or (λ g. is_asked g (Some (function (map number s.params) (map number s.results)))) t false ≡ true
+        → extern_type core (entities.Function n) ≡ Some (externs.Func (core_type s))
     by None at fits = absurd (true≢false (sym fits))
     by (Some g) at fits =
         ap (λ (t : Option CoreFunc). t >>= λ h. option_map externs.Func (func_type h)) at
-        ∙ ap (λ (t : Option FuncType). option_map externs.Func t) (function_typed g (signature abi r.types f) fits) ∙ is
-entity_typed core r abi (entities.Function n) None ty fits is = absurd (none-some ty is)
-entity_typed core r abi e o ty fits is = absurd (true≢false (sym fits))
+        ∙ ap (λ (t : Option FuncType). option_map externs.Func t) (function_typed g s fits)
+entity_of core e s fits = absurd (true≢false (sym fits))
+
+-- an entity that is a function of the type that is required
+entity_typed : (core : CoreModule) (r : Resolve) (abi : AbiVariant) (e : EntityType) (o : Option Function) (ty : ExternType) → is_function core e (option_map (called r abi) o) ≡ true
+    → option_map (called_type r abi) o ≡ Some ty → extern_type core e ≡ Some ty
+entity_typed core r abi e (Some f) ty fits is = entity_of core e (signature abi r.types f) fits ∙ is
+entity_typed core r abi e None ty fits is = absurd (none-some ty is)
+
+-- `resource.drop` takes a handle
+abbrev dropping : WasmSignature
+dropping = record { params = numbers.I32 ∷ []; results = []; indirect_params = false; retptr = false }
 
 -- ---- roles
 
@@ -98,6 +107,7 @@ module _ (r : Resolve) (present : 0 < length r.worlds) (core : CoreModule) where
       let asked : is_function core e (option_map (called r abi) (root_function_at the_items.imports key)) ≡ true =
       ap (λ (o : Option World). is_function core e (option_map (called r abi) (option_and_then (λ w. root_function_at w.imports key) o))) (sym the_world) ∙ fits in
       entity_typed core r abi e (root_function_at the_items.imports key) ty asked is
+  import_typed (imports.ImportedResourceDrop key interface id) e ty fits is = entity_of core e dropping fits ∙ is
   import_typed role e ty fits is = absurd (none-some ty is)
 
   -- and so has an export

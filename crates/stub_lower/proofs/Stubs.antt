@@ -63,7 +63,8 @@ valid_of bytes core = record {
   sound = sound;
   present = omega arith;
   types = tt;
-  imports = ((refl, record { kind = refl; imported = refl; exported = refl }), tt);
+  resources = record { ordered = tt; each = λ n r. let l = r.present in absurd (omega (arith, l)) };
+  imports = ((refl, record { kind = tt; imported = refl; exported = refl }), tt);
   exports = tt;
   import_names_apart = alone (codes "f");
   export_names_apart = none;

@@ -1,4 +1,5 @@
 mod Lists
+mod Places
 mod Reporting
 mod Valid
 mod Walking

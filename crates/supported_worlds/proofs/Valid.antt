@@ -1,9 +1,9 @@
 -- A world of which nothing is left out keeps the invariant of worlds.
 use Rattle.std.proofs.Common.{arith, rules, ◌≡◌, ◌<◌, length, ℕ, zero, suc, Bool, true, false, cond, ◌&&◌, List, [], ◌∷◌, map, Option, Some, None, refl, sym, ap, subst, ◌∙◌, true≢false}
-use Rattle.std.specs.Prelude.{◌==◌, nat_eq, is_some, slice_get, slice_index_or, Contains, IsSome, option_map}
+use Rattle.std.specs.Prelude.{◌==◌, nat_eq, is_some, slice_get, slice_index_or, Contains, IsSome, option_map, codes, if◌then◌else◌}
 use Rattle.std.specs.List.{IsDistinct, AllByRecursion, flat_map}
 use Rattle.std.specs.Map.{lookup, keys_of}
-use Rattle.std.specs.Option.{option_and_then}
+use Rattle.std.specs.Option.{option_and_then, option_map_or}
 use Rattle.std.specs.Str.{bytes_eq}
 use Rattle.std.proofs.lemmas.Option.{slice_get-get_or}
 use Rattle.std.proofs.lemmas.Slice.Eq.{bytes_eq-Decides}
@@ -13,7 +13,7 @@ use Rattle.wit_data.specs.Keys.{is_same_key}
 use Rattle.wit_data.specs.declared.functions.AbiVariant.TheVariants.{GuestImport, GuestExport, GuestImportAsync}
 use Rattle.wit_data.specs.declared.functions.Function.{Function}
 use Rattle.wit_data.specs.declared.functions.FunctionKind.{FunctionKind}
-use Rattle.wit_data.specs.declared.functions.FunctionKind.TheVariants.{Freestanding}
+use Rattle.wit_data.specs.declared.functions.FunctionKind.TheVariants as functions
 use Rattle.wit_data.specs.declared.ids.InterfaceId.{InterfaceId}
 use Rattle.wit_data.specs.declared.ids.TypeId.{TypeId}
 use Rattle.wit_data.specs.declared.types.TypeDef.{TypeDef}
@@ -36,7 +36,7 @@ use Rattle.comp_roles.specs.declared.imports.ImportInstance.TheVariants as insta
 use Rattle.comp_roles.specs.declared.offered.ImportType.{ImportType}
 use Rattle.world_values.specs.Items.{no_items, function_in, root_function_at}
 use Rattle.comp_worlds.specs.Typed.{type_of_import, type_of_export, FitsImport, FitsExport}
-use Rattle.comp_worlds.specs.Worlds.{root_function, core_name_in, IsWorld, IsUserModule, IsPlain, IsImportItem, IsExportItem, IsOwnerAtRoot, IsRootType, IsImportRole, IsImportGroup, IsExportRole, IsRequired}
+use Rattle.comp_worlds.specs.Worlds.{root_function, core_name_in, IsWorld, IsUserModule, IsSynchronous, IsPlain, IsImportItem, IsExportItem, IsOwnerAtRoot, IsRootType, IsResource, IsImportRole, IsImportGroup, IsExportRole, IsRequired}
 use Rattle.comp_worlds.specs.WorldTables.{whole_of}
 use Rattle.comp_worlds.specs.declared.world.WorldAdapter.{WorldAdapter}
 use Rattle.comp_worlds.specs.declared.world.ComponentWorld.{ComponentWorld}
@@ -46,9 +46,10 @@ use Rattle.record_core_types.specs.Asked.{imported_function, exported_function}
 use Rattle.record_core_types.specs.Guarantees.{IsCalled, IsLifted, IsKept}
 use Rattle.record_resolve.specs.Resolved.{IsNamed}
 use Rattle.supported_worlds.specs.Apart.{FieldsApart, AreApart}
-use Rattle.supported_worlds.specs.LeftOut.{items_of, kind_left_out, needs_no_option, unless_plain, function_left_out, import_item_left_out, export_item_left_out, owner_left_out, resource_left_out, type_left_out, import_left_out, export_left_out, group_left_out, left_out}
+use Rattle.supported_worlds.specs.LeftOut.{items_of, kind_left_out, needs_no_option, unless_plain, function_left_out, import_item_left_out, export_item_left_out, owner_left_out, type_left_out, is_resource, import_left_out, export_left_out, group_left_out, left_out}
 use Rattle.supported_worlds.specs.Guarantees.{HasFoundImport, OffersExport, HasSoundParts}
 use Rattle.supported_worlds.proofs.Lists.{nothing, at_front, after, neither, none_picked}
+use Rattle.supported_worlds.proofs.Places.{resource_kind}
 use Rattle.supported_worlds.proofs.Reporting.{IsEncoded, all_encoded}
 
 abbrev Entries : Type 0
@@ -65,9 +66,11 @@ no_options zero zero h = (refl, refl)
 no_options zero (suc n) h = nothing _ (ap unless_plain (sym (not_zero n)) ∙ h)
 no_options (suc n) b h = nothing _ (ap (λ t. unless_plain (t && b == 0)) (sym (not_zero n)) ∙ h)
 
-synchronous : (kind : FunctionKind) → kind_left_out kind ≡ None → kind ≡ Freestanding
-synchronous Freestanding h = refl
-synchronous kind h = nothing _ h
+synchronous : (kind : FunctionKind) → kind_left_out kind ≡ None → IsSynchronous kind
+synchronous functions.AsyncFreestanding h = nothing _ h
+synchronous (functions.AsyncMethod id) h = nothing _ h
+synchronous (functions.AsyncStatic id) h = nothing _ h
+synchronous kind h = tt
 
 plain : (types : List TypeDef) (f : Function) → function_left_out types f ≡ None → IsPlain types f
 plain types f h =
@@ -105,9 +108,17 @@ root_owner (owners.Interface id) h = nothing _ h
 root_owner owners.«None» h = tt
 
 root_type : (t : TypeDef) → type_left_out t ≡ None → IsRootType t
-root_type t h =
-    let both = neither (owner_left_out t.owner) (resource_left_out t.kind) h in
-    record { owner = root_owner t.owner both.0; values = λ is. nothing _ (ap resource_left_out (sym is) ∙ both.1) }
+root_type t h = record { owner = root_owner t.owner h }
+
+-- a type that may be dropped is a resource
+dropped : (types : List TypeDef) (number : ℕ) → (if option_map_or is_resource (slice_get types number) false then None else Some (codes "imported-drop")) ≡ None → IsResource types number
+dropped [] number h = nothing _ h
+dropped (t ∷ ts) zero h = by (is_resource t) refl h
+  where
+    by : (b : Bool) → is_resource t ≡ b → (if b then None else Some (codes "imported-drop")) ≡ None → IsResource (t ∷ ts) zero
+    by true is h = record { present = omega arith; kind = resource_kind t.kind is }
+    by false is h = nothing _ h
+dropped (t ∷ ts) (suc number) h = let r = dropped ts number h in let l = r.present in record { present = omega (arith, l); kind = r.kind }
 
 -- ---- names
 
@@ -247,23 +258,24 @@ module _ (p : WorldParts) (present : HasSoundParts p) (encoded : IsEncoded p) (a
   exported_is : (key : WorldKey) → exported_function p.resolve p.world key ≡ root_function_at (items_of p).exports key
   exported_is key = ap (λ (o : Option World). option_and_then (λ w. root_function_at w.exports key) o) the_world
 
-  import_role : (role : Import) → import_left_out role ≡ None → IsCalled p.resolve p.world role → IsImportRole (whole_of p) role
+  import_role : (role : Import) → import_left_out p.resolve.types role ≡ None → IsCalled p.resolve p.world role → IsImportRole (whole_of p) role
   import_role (imports.WorldFunc (keys.Name text) name GuestImport) h called =
       (name_there text (items_of p).imports (subst (λ (o : Option Function). IsSome o) (imported_is (keys.Name text)) called.1), called.0, refl)
   import_role (imports.WorldFunc (keys.Interface id) name GuestImportAsync) h called = nothing _ h
+  import_role (imports.ImportedResourceDrop key interface id) h called = dropped p.resolve.types id.index h
   import_role role h called = nothing _ h
 
-  field_roles : (name : List ℕ) (fields : List (List ℕ × Import)) → AllByRecursion (λ f. import_left_out f.1 ≡ None) fields
+  field_roles : (name : List ℕ) (fields : List (List ℕ × Import)) → AllByRecursion (λ f. import_left_out p.resolve.types f.1 ≡ None) fields
       → AllByRecursion (λ i. IsCalled p.resolve p.world i.role) (imports_from (name, instances.Names fields)) → AllByRecursion (λ f. IsImportRole (whole_of p) f.1) fields
   field_roles name [] h called = tt
   field_roles name (f ∷ fields) h called = (import_role f.1 h.0 called.0, field_roles name fields h.1 called.1)
 
-  import_group : (group : List ℕ × ImportInstance) → group_left_out group ≡ None → FieldsApart group.1 → AllByRecursion (λ i. IsCalled p.resolve p.world i.role) (imports_from group)
+  import_group : (group : List ℕ × ImportInstance) → group_left_out p.resolve.types group ≡ None → FieldsApart group.1 → AllByRecursion (λ i. IsCalled p.resolve p.world i.role) (imports_from group)
       → IsImportGroup (whole_of p) group
-  import_group (name, instances.Names fields) h alone called = (alone, field_roles name fields (none_picked (λ f. import_left_out f.1) fields h) called)
+  import_group (name, instances.Names fields) h alone called = (alone, field_roles name fields (none_picked (λ f. import_left_out p.resolve.types f.1) fields h) called)
   import_group (name, instances.Whole which) h alone called = nothing _ h
 
-  import_groups : (groups : List (List ℕ × ImportInstance)) → AllByRecursion (λ g. group_left_out g ≡ None) groups → AllByRecursion (λ g. FieldsApart g.1) groups
+  import_groups : (groups : List (List ℕ × ImportInstance)) → AllByRecursion (λ g. group_left_out p.resolve.types g ≡ None) groups → AllByRecursion (λ g. FieldsApart g.1) groups
       → AllByRecursion (λ i. IsCalled p.resolve p.world i.role) (flat_map imports_from groups) → AllByRecursion (IsImportGroup (whole_of p)) groups
   import_groups [] h alone called = tt
   import_groups (g ∷ groups) h alone called = (
@@ -286,6 +298,7 @@ module _ (p : WorldParts) (present : HasSoundParts p) (encoded : IsEncoded p) (a
   import_typed : (role : Import) → IsImportRole (whole_of p) role → IsSome (type_of_import p.resolve (items_of p) role)
   import_typed (imports.WorldFunc (keys.Name text) function abi) h =
       mapped_there (called_type p.resolve abi) (root_function_at (items_of p).imports (keys.Name text)) (name_at text (items_of p).imports h.0.0 apart.items.imports h.0.1 h.0.2)
+  import_typed (imports.ImportedResourceDrop key interface id) h = refl
   import_typed role h = absurd h
 
   found_import : AllByRecursion (IsImportGroup (whole_of p)) p.main.imports.modules → (i : ImportType) → HasFoundImport p i → FitsImport p.resolve (items_of p) p.main i
@@ -338,6 +351,7 @@ module _ (p : WorldParts) (present : HasSoundParts p) (encoded : IsEncoded p) (a
     sound = present.sound;
     present = present.present;
     types = AllByRecursion-weaker root_type p.resolve.types encoded.types;
+    resources = encoded.resources;
     imports = imports_are;
     exports = exports_are;
     import_names_apart = names_apart (items_of p).imports apart.items.imports;

@@ -6,7 +6,7 @@ use Rattle.standard_kinds.specs.declared.kinds.Primitive.TheVariants as prims
 use Rattle.wit_data.specs.declared.functions.AbiVariant.TheVariants.{GuestImport, GuestExport, GuestImportAsync, GuestExportAsync}
 use Rattle.wit_data.specs.declared.functions.Function.{Function}
 use Rattle.wit_data.specs.declared.functions.FunctionKind.{FunctionKind}
-use Rattle.wit_data.specs.declared.functions.FunctionKind.TheVariants.{Freestanding, AsyncFreestanding, Method}
+use Rattle.wit_data.specs.declared.functions.FunctionKind.TheVariants.{Freestanding, AsyncFreestanding, Method, AsyncMethod, Static, AsyncStatic, Constructor}
 use Rattle.wit_data.specs.declared.ids.TypeId.{TypeId}
 use Rattle.wit_data.specs.declared.ids.InterfaceId.{InterfaceId}
 use Rattle.wit_data.specs.declared.types.Type.{«Type» as Ty}
@@ -15,6 +15,7 @@ use Rattle.wit_data.specs.declared.types.TypeDef.{TypeDef}
 use Rattle.wit_data.specs.declared.types.TypeDefKind.{TypeDefKind}
 use Rattle.wit_data.specs.declared.types.TypeDefKind.TheVariants as kinds
 use Rattle.wit_data.specs.declared.types.TypeOwner.TheVariants as owners
+use Rattle.wit_data.specs.declared.worlds.World.{World}
 use Rattle.wit_data.specs.declared.worlds.WorldItem.TheVariants as items
 use Rattle.wit_data.specs.declared.worlds.WorldKey.{WorldKey}
 use Rattle.wit_data.specs.declared.worlds.WorldKey.TheVariants as keys
@@ -29,6 +30,9 @@ use Rattle.supported_worlds.specs.LeftOut.{function_left_out, world_left_out, ty
 
 abbrev a_type : TypeId
 a_type = record { index = 0 }
+
+abbrev another_type : TypeId
+another_type = record { index = 1 }
 
 abbrev an_interface : InterfaceId
 an_interface = record { index = 0 }
@@ -59,6 +63,13 @@ of_primitive p = function_left_out [] (function Freestanding (Primitive p ∷ []
 
 abbrev f : WorldKey
 f = keys.Name (codes "f")
+
+abbrev nothing_imported : World
+nothing_imported = record { imports = []; exports = [] }
+
+-- a world that imports these types
+abbrev importing : List TypeId → World
+importing ids = record { imports = map (λ id. (keys.Name (codes "t"), items.NamedType id)) ids; exports = [] }
 
 -- ---- functions
 
@@ -134,8 +145,22 @@ more_params_need_memory = refl
 async_is_reported_first : function_left_out [] (function AsyncFreestanding (Primitive prims.«String» ∷ []) None) ≡ Some (codes "async")
 async_is_reported_first = refl
 
-method_is_of_a_type : function_left_out [] (function (Method a_type) [] None) ≡ Some (codes "type")
-method_is_of_a_type = refl
+-- a synchronous function may belong to a resource
+method_is_encoded : function_left_out [] (function (Method a_type) [] None) ≡ None
+method_is_encoded = refl
+
+static_is_encoded : function_left_out [] (function (Static a_type) [] None) ≡ None
+static_is_encoded = refl
+
+constructor_is_encoded : function_left_out (unnamed kinds.Resource ∷ unnamed (kinds.Own a_type) ∷ []) (function (Constructor a_type) [] (Some (Id another_type))) ≡ None
+unfolding values_from
+constructor_is_encoded = refl
+
+async_method_is_reported : function_left_out [] (function (AsyncMethod a_type) [] None) ≡ Some (codes "async")
+async_method_is_reported = refl
+
+async_static_is_reported : function_left_out [] (function (AsyncStatic a_type) [] None) ≡ Some (codes "async")
+async_static_is_reported = refl
 
 -- ---- items and types
 
@@ -153,25 +178,64 @@ first_is_reported : world_left_out [] (record {
 }) ≡ Some (codes "type")
 first_is_reported = refl
 
-interface_type_is_reported : types_left_out (of_world (kinds.Enum (codes "a" ∷ [])) ∷ an_interface_type ∷ of_world kinds.Resource ∷ []) ≡ Some (codes "interface")
+interface_type_is_reported : types_left_out (of_world (kinds.Enum (codes "a" ∷ [])) ∷ an_interface_type ∷ []) nothing_imported ≡ Some (codes "interface")
 interface_type_is_reported = refl
 
-resource_is_reported : types_left_out (of_world kinds.Resource ∷ an_interface_type ∷ []) ≡ Some (codes "type")
-resource_is_reported = refl
-
-values_are_encoded : types_left_out (of_world (kinds.«List» (Primitive prims.«String»)) ∷ unnamed (kinds.Stream None) ∷ []) ≡ None
+values_are_encoded : types_left_out (of_world (kinds.«List» (Primitive prims.«String»)) ∷ unnamed (kinds.Stream None) ∷ []) nothing_imported ≡ None
 values_are_encoded = refl
+
+-- ---- resources
+
+resource_is_imported : types_left_out (of_world kinds.Resource ∷ []) (importing (a_type ∷ [])) ≡ None
+resource_is_imported = refl
+
+resource_is_missing : types_left_out (of_world kinds.Resource ∷ []) nothing_imported ≡ Some (codes "type")
+resource_is_missing = refl
+
+-- of two resources the first, or the last
+first_is_missing : types_left_out (of_world kinds.Resource ∷ of_world kinds.Resource ∷ []) (importing (another_type ∷ [])) ≡ Some (codes "type")
+first_is_missing = refl
+
+last_is_missing : types_left_out (of_world kinds.Resource ∷ of_world kinds.Resource ∷ []) (importing (a_type ∷ [])) ≡ Some (codes "type")
+last_is_missing = refl
+
+both_are_imported : types_left_out (of_world kinds.Resource ∷ of_world kinds.Resource ∷ []) (importing (a_type ∷ another_type ∷ [])) ≡ None
+both_are_imported = refl
+
+-- other types need not be imported, but no type comes before an earlier one or twice
+handle_is_passed_over : types_left_out (of_world kinds.Resource ∷ unnamed (kinds.Own a_type) ∷ of_world kinds.Resource ∷ []) (importing (a_type ∷ record { index = 2 } ∷ [])) ≡ None
+handle_is_passed_over = refl
+
+order_is_reported : types_left_out (of_world (kinds.Stream None) ∷ of_world (kinds.Stream None) ∷ []) (importing (another_type ∷ a_type ∷ [])) ≡ Some (codes "type")
+order_is_reported = refl
+
+twice_is_reported : types_left_out (of_world kinds.Resource ∷ []) (importing (a_type ∷ a_type ∷ [])) ≡ Some (codes "type")
+twice_is_reported = refl
+
+-- functions between them make no difference
+function_is_no_type : types_left_out (of_world kinds.Resource ∷ []) (record { imports = (f, items.Function plain) ∷ (keys.Name (codes "t"), items.NamedType a_type) ∷ []; exports = [] }) ≡ None
+function_is_no_type = refl
 
 -- ---- roles
 
-call_is_encoded : import_left_out (imports.WorldFunc f (codes "f") GuestImport) ≡ None
+call_is_encoded : import_left_out [] (imports.WorldFunc f (codes "f") GuestImport) ≡ None
 call_is_encoded = refl
 
-async_call_is_reported : import_left_out (imports.WorldFunc f (codes "f") GuestImportAsync) ≡ Some (codes "async")
+async_call_is_reported : import_left_out [] (imports.WorldFunc f (codes "f") GuestImportAsync) ≡ Some (codes "async")
 async_call_is_reported = refl
 
-exported_form_is_none : import_left_out (imports.WorldFunc f (codes "f") GuestExport) ≡ Some (codes "world-func")
+exported_form_is_none : import_left_out [] (imports.WorldFunc f (codes "f") GuestExport) ≡ Some (codes "world-func")
 exported_form_is_none = refl
+
+-- the drop of a resource, and of what is none
+drop_is_encoded : import_left_out (of_world kinds.Resource ∷ []) (imports.ImportedResourceDrop f None a_type) ≡ None
+drop_is_encoded = refl
+
+drop_of_values_is_reported : import_left_out (of_world (kinds.Stream None) ∷ []) (imports.ImportedResourceDrop f None a_type) ≡ Some (codes "imported-drop")
+drop_of_values_is_reported = refl
+
+drop_of_nothing_is_reported : import_left_out (of_world kinds.Resource ∷ []) (imports.ImportedResourceDrop f None another_type) ≡ Some (codes "imported-drop")
+drop_of_nothing_is_reported = refl
 
 async_lift_is_reported : export_left_out (exports.WorldFunc f (codes "f") GuestExportAsync) ≡ Some (codes "async")
 async_lift_is_reported = refl
@@ -180,10 +244,10 @@ realloc_is_reported : export_left_out exports.GeneralPurposeRealloc ≡ Some (co
 realloc_is_reported = refl
 
 -- of the imports from one module the first that is left out is reported
-first_field_is_reported : group_left_out (codes "$root", instances.Names ((codes "f", imports.WorldFunc f (codes "f") GuestImport) ∷ (codes "s", imports.WaitableSetNew) ∷ (codes "i", imports.BackpressureInc) ∷ [])) ≡ Some (codes "waitable-set-new")
+first_field_is_reported : group_left_out [] (codes "$root", instances.Names ((codes "f", imports.WorldFunc f (codes "f") GuestImport) ∷ (codes "s", imports.WaitableSetNew) ∷ (codes "i", imports.BackpressureInc) ∷ [])) ≡ Some (codes "waitable-set-new")
 first_field_is_reported = refl
 
-whole_is_a_library : group_left_out (codes "m", instances.Whole modules.Main) ≡ Some (codes "library")
+whole_is_a_library : group_left_out [] (codes "m", instances.Whole modules.Main) ≡ Some (codes "library")
 whole_is_a_library = refl
 
 -- an export of another module has its own kind and no other

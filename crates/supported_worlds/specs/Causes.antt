@@ -8,6 +8,8 @@ use Rattle.comp_roles.specs.CoreImports.{CoreImport, imports_from}
 use Rattle.comp_roles.specs.declared.exports.Export.{Export}
 use Rattle.comp_roles.specs.declared.imports.ImportInstance.TheVariants as instances
 use Rattle.comp_roles.specs.declared.libraries.MainOrAdapter.{MainOrAdapter}
+use Rattle.comp_worlds.specs.Worlds.{ImportsResources}
+use Rattle.comp_worlds.specs.WorldTables.{whole_of}
 use Rattle.comp_worlds.specs.declared.world.WorldAdapter.{WorldAdapter}
 use Rattle.comp_worlds.specs.declared.world.WorldParts.{WorldParts}
 use Rattle.record_faults.specs.declared.fault.Refusal.{Refusal}
@@ -18,10 +20,11 @@ pub data IsLeftOut (p : WorldParts) : Refusal → Type 0 where
   -- an import or an export of the world
   imported : (entry : WorldKey × WorldItem) (what : List ℕ) → Contains (items_of p).imports entry → import_item_left_out p.resolve.types entry ≡ Some what → IsLeftOut p (refusals.LeftOut what)
   exported : (entry : WorldKey × WorldItem) (what : List ℕ) → Contains (items_of p).exports entry → export_item_left_out p.resolve.types entry ≡ Some what → IsLeftOut p (refusals.LeftOut what)
-  -- a type of the resolve
+  -- a type of the resolve; and the imports, where their types are out of order or lack a resource of the resolve
   type_def : (def : TypeDef) (what : List ℕ) → Contains p.resolve.types def → type_left_out def ≡ Some what → IsLeftOut p (refusals.LeftOut what)
+  resources : (ImportsResources (whole_of p) → ⊥) → IsLeftOut p (refusals.LeftOut (codes "type"))
   -- the role of an import or an export of main
-  import_role : (import : CoreImport) (what : List ℕ) → Contains (flat_map imports_from p.main.imports.modules) import → import_left_out import.role ≡ Some what → IsLeftOut p (refusals.LeftOut what)
+  import_role : (import : CoreImport) (what : List ℕ) → Contains (flat_map imports_from p.main.imports.modules) import → import_left_out p.resolve.types import.role ≡ Some what → IsLeftOut p (refusals.LeftOut what)
   export_role : (entry : List ℕ × Export) (what : List ℕ) → Contains p.main.exports.exports entry → export_left_out entry.1 ≡ Some what → IsLeftOut p (refusals.LeftOut what)
   -- a whole module provides what main imports from one
   whole_module : (name : List ℕ) (which : MainOrAdapter) → Contains p.main.imports.modules (name, instances.Whole which) → IsLeftOut p (refusals.LeftOut (codes "library"))

@@ -1,13 +1,15 @@
 -- Which parts of a world are encoded yet: functions at its root that are synchronous and whose calls need no option of the
--- Canonical ABI (component model, binary format: `canonopt`), types of values that it imports, and core imports and exports
--- with the role of such a function. All else is left out, and reported by the name of its kind. (The names are those of
--- this project's record.)
-use Rattle.std.specs.Prelude.{ℕ, Bool, ◌==◌, ◌&&◌, List, [], ◌∷◌, codes, Option, Some, None, Result, Ok, Err, get_or, if◌then◌else◌}
-use Rattle.std.specs.Option.{option_or}
+-- Canonical ABI (component model, binary format: `canonopt`), types that it imports, in their order and with all resources
+-- among them, core imports and exports with the role of such a function, and core imports that drop such a resource. All
+-- else is left out, and reported by the name of its kind. (The names are those of this project's record.)
+use Rattle.std.specs.Prelude.{ℕ, suc, Bool, true, false, ◌==◌, nat_le, not, ◌&&◌, ◌||◌, List, [], ◌∷◌, map, drop, codes, Option, Some, None, Result, Ok, Err, get_or, slice_get, if◌then◌else◌}
+use Rattle.std.specs.List.{list_any, flat_map}
+use Rattle.std.specs.Option.{option_or, option_map_or}
 use Rattle.wit_data.specs.declared.functions.AbiVariant.TheVariants.{GuestImport, GuestExport, GuestImportAsync}
 use Rattle.wit_data.specs.declared.functions.Function.{Function}
 use Rattle.wit_data.specs.declared.functions.FunctionKind.{FunctionKind}
-use Rattle.wit_data.specs.declared.functions.FunctionKind.TheVariants.{Freestanding, AsyncFreestanding}
+use Rattle.wit_data.specs.declared.functions.FunctionKind.TheVariants as functions
+use Rattle.wit_data.specs.declared.ids.TypeId.{TypeId}
 use Rattle.wit_data.specs.declared.types.TypeDef.{TypeDef}
 use Rattle.wit_data.specs.declared.types.TypeDefKind.{TypeDefKind}
 use Rattle.wit_data.specs.declared.types.TypeDefKind.TheVariants as kinds
@@ -28,6 +30,7 @@ use Rattle.comp_roles.specs.declared.imports.ImportInstance.{ImportInstance}
 use Rattle.comp_roles.specs.declared.imports.ImportInstance.TheVariants as instances
 use Rattle.world_values.specs.Items.{no_items}
 use Rattle.comp_worlds.specs.WorldTables.{whole_of}
+use Rattle.comp_worlds.specs.Worlds.{world_type}
 use Rattle.comp_worlds.specs.declared.world.ComponentWorld.{ComponentWorld}
 use Rattle.comp_worlds.specs.declared.world.ValidatedModule.{ValidatedModule}
 use Rattle.comp_worlds.specs.declared.world.WorldAdapter.{WorldAdapter}
@@ -39,11 +42,12 @@ use Rattle.supported_worlds.specs.Kinds.{import_kind, export_kind}
 
 -- ---- items of a world
 
--- a kind of function that is asynchronous, or that belongs to a resource
+-- a kind of function that is asynchronous
 abbrev pub kind_left_out : FunctionKind → Option (List ℕ)
-kind_left_out Freestanding = None
-kind_left_out AsyncFreestanding = Some (codes "async")
-kind_left_out kind = Some (codes "type")
+kind_left_out functions.AsyncFreestanding = Some (codes "async")
+kind_left_out (functions.AsyncMethod id) = Some (codes "async")
+kind_left_out (functions.AsyncStatic id) = Some (codes "async")
+kind_left_out kind = None
 
 -- calls of a function, from a core module and into one, need no option
 abbrev pub needs_no_option : List TypeDef → Function → Bool
@@ -74,21 +78,53 @@ abbrev pub owner_left_out : TypeOwner → Option (List ℕ)
 owner_left_out (owners.Interface id) = Some (codes "interface")
 owner_left_out owner = None
 
-abbrev pub resource_left_out : TypeDefKind → Option (List ℕ)
-resource_left_out kinds.Resource = Some (codes "type")
-resource_left_out kind = None
-
--- a type of the resolve that belongs to an interface, or that is a resource
+-- a type of the resolve that belongs to an interface
 abbrev pub type_left_out : TypeDef → Option (List ℕ)
-type_left_out t = option_or (owner_left_out t.owner) (resource_left_out t.kind)
+type_left_out t = owner_left_out t.owner
+
+-- ---- resources
+
+abbrev pub is_resource_kind : TypeDefKind → Bool
+is_resource_kind kinds.Resource = true
+is_resource_kind kind = false
+
+abbrev pub is_resource : TypeDef → Bool
+is_resource t = is_resource_kind t.kind
+
+-- the numbers of the types among the imports of a world, in order
+abbrev pub imported_numbers : List (WorldKey × WorldItem) → List ℕ
+imported_numbers entries = map (λ t. t.1.index) (flat_map world_type entries)
+
+-- whether these numbers ascend, and the first is at least this
+abbrev pub ascend_from : ℕ → List ℕ → Bool
+ascend_from k [] = true
+ascend_from k (n ∷ ns) = nat_le k n && ascend_from (suc n) ns
+
+-- whether each resource is one of these, among types of which the first has this number
+abbrev pub have_resources : List ℕ → ℕ → List TypeDef → Bool
+have_resources ns k [] = true
+have_resources ns k (t ∷ ts) = (not (is_resource t) || list_any (λ n. n == k) ns) && have_resources ns (suc k) ts
+
+-- of the types from this number on, these are in order, and each resource is one of them
+abbrev pub are_in_place : List TypeDef → ℕ → List ℕ → Bool
+are_in_place types k ns = ascend_from k ns && have_resources ns k (drop k types)
+
+-- the world's imports, unless their types come in the order of the resolve and each resource is one of them
+abbrev pub resources_left_out : List TypeDef → List (WorldKey × WorldItem) → Option (List ℕ)
+resources_left_out types entries = if are_in_place types 0 (imported_numbers entries) then None else Some (codes "type")
 
 -- ---- roles
 
--- an import of main, unless it is a root function that is called synchronously
-abbrev pub import_left_out : Import → Option (List ℕ)
-import_left_out (imports.WorldFunc (keys.Name text) name GuestImport) = None
-import_left_out (imports.WorldFunc key name GuestImportAsync) = Some (codes "async")
-import_left_out role = Some (import_kind role)
+-- the drop of a type, unless it is a resource
+abbrev pub drop_left_out : List TypeDef → TypeId → Option (List ℕ)
+drop_left_out types id = if option_map_or is_resource (slice_get types id.index) false then None else Some (codes "imported-drop")
+
+-- an import of main, unless it is a root function that is called synchronously, or drops a resource
+abbrev pub import_left_out : List TypeDef → Import → Option (List ℕ)
+import_left_out types (imports.WorldFunc (keys.Name text) name GuestImport) = None
+import_left_out types (imports.WorldFunc key name GuestImportAsync) = Some (codes "async")
+import_left_out types (imports.ImportedResourceDrop key interface id) = drop_left_out types id
+import_left_out types role = Some (import_kind role)
 
 -- an export of main, unless it is a root function that is called synchronously
 abbrev pub export_left_out : Export → Option (List ℕ)
@@ -98,12 +134,12 @@ export_left_out (exports.WorldFunc key name abi) = Some (codes "async")
 export_left_out role = Some (export_kind role)
 
 -- the imports from one module: the first that is left out, or all of them where a whole module provides them
-abbrev pub instance_left_out : ImportInstance → Option (List ℕ)
-instance_left_out (instances.Names fields) = first_some (λ f. import_left_out f.1) fields
-instance_left_out (instances.Whole which) = Some (codes "library")
+abbrev pub instance_left_out : List TypeDef → ImportInstance → Option (List ℕ)
+instance_left_out types (instances.Names fields) = first_some (λ f. import_left_out types f.1) fields
+instance_left_out types (instances.Whole which) = Some (codes "library")
 
-abbrev pub group_left_out : List ℕ × ImportInstance → Option (List ℕ)
-group_left_out group = instance_left_out group.1
+abbrev pub group_left_out : List TypeDef → List ℕ × ImportInstance → Option (List ℕ)
+group_left_out types group = instance_left_out types group.1
 
 -- ---- the whole
 
@@ -115,13 +151,13 @@ items_of p = get_or p.resolve.worlds p.world.index no_items
 abbrev pub world_left_out : List TypeDef → World → Option (List ℕ)
 world_left_out types w = option_or (first_some (import_item_left_out types) w.imports) (first_some (export_item_left_out types) w.exports)
 
--- the first of the types that is left out
-abbrev pub types_left_out : List TypeDef → Option (List ℕ)
-types_left_out types = first_some type_left_out types
+-- the first of the types that is left out, or else the imports where they don't have the types in place
+abbrev pub types_left_out : List TypeDef → World → Option (List ℕ)
+types_left_out types w = option_or (first_some type_left_out types) (resources_left_out types w.imports)
 
 -- the first import or export of a module that is left out
-abbrev pub module_left_out : ValidatedModule → Option (List ℕ)
-module_left_out m = option_or (first_some group_left_out m.imports.modules) (first_some (λ e. export_left_out e.1) m.exports.exports)
+abbrev pub module_left_out : List TypeDef → ValidatedModule → Option (List ℕ)
+module_left_out types m = option_or (first_some (group_left_out types) m.imports.modules) (first_some (λ e. export_left_out e.1) m.exports.exports)
 
 -- an adapter, if there is one
 abbrev pub adapters_left_out : List (List ℕ × WorldAdapter) → Option (List ℕ)
@@ -130,11 +166,11 @@ adapters_left_out (a ∷ more) = Some (codes "adapter")
 
 -- what of the modules is left out: of main first, then of the adapters
 abbrev pub modules_left_out : WorldParts → Option (List ℕ)
-modules_left_out p = option_or (module_left_out p.main) (adapters_left_out p.adapters)
+modules_left_out p = option_or (module_left_out p.resolve.types p.main) (adapters_left_out p.adapters)
 
 -- what of a world is not encoded yet: of its items first, then of the types, then of the modules
-abbrev pub left_out : WorldParts → Option (List ℕ)
-left_out p = option_or (world_left_out p.resolve.types (items_of p)) (option_or (types_left_out p.resolve.types) (modules_left_out p))
+unfoldable pub left_out : WorldParts → Option (List ℕ)
+left_out p = option_or (world_left_out p.resolve.types (items_of p)) (option_or (types_left_out p.resolve.types (items_of p)) (modules_left_out p))
 
 -- the refusal of what is left out
 abbrev pub refused : List ℕ → Failure

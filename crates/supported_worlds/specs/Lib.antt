@@ -1,5 +1,6 @@
 pub mod Kinds
 pub mod LeftOut
+pub mod Places
 pub mod Guarantees
 pub mod Apart
 pub mod Causes

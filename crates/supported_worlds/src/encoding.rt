@@ -60,13 +60,14 @@ fn modules_left_out(parts: &WorldParts) -> Option<&'static str>
     ensures reported { option_copied result ≡ modules_left_out parts.now }
     ensures apart { option_copied result ≡ None → GroupsApart parts.now.main.imports.modules }
 {
-    match module_left_out(&parts.main) {
+    match module_left_out(parts.resolve.types.as_slice(), &parts.main) {
         Some(what) => Some(what),
         None => adapters_left_out(&parts.adapters),
     }
 }
 
 /// What of a world is not encoded yet; where nothing is left out, no key occurs twice.
+#[tactic(auto, unfolding(crate::specs::LeftOut::left_out))]
 fn left_out(parts: &WorldParts) -> Option<&'static str>
     requires sound { IsSound parts.now.resolve }
     requires present { parts.now.world.index < length parts.now.resolve.worlds }
@@ -77,7 +78,7 @@ fn left_out(parts: &WorldParts) -> Option<&'static str>
     if let Some(what) = world_left_out(&parts.resolve, world) {
         return Some(what);
     }
-    match types_left_out(parts.resolve.types.as_slice()) {
+    match types_left_out(&parts.resolve, world) {
         Some(what) => Some(what),
         None => modules_left_out(parts),
     }
@@ -106,11 +107,11 @@ fn unless_left_out(alloc: Global, parts: WorldParts) -> Result<ComponentWorld, F
 /// The world of these parts, where all of it is encoded yet.
 ///
 /// It refuses with `LeftOut` and the kind of something of the world that is not encoded yet: `async`,
-/// `type`, `world-func` or `interface` of an item of the world, `interface` or `type` of a type, the kind
-/// of a role of main's imports or exports, `library`, or `adapter`. The only other refusal is out of
-/// memory. On top of `world_of_parts` it takes time linear in the number of items, of the nodes of
-/// their functions' types, of types, of core imports and of core exports, and no memory but that of
-/// the refusal's text.
+/// `world-func`, `interface` or, of an export, `type` of an item of the world; `interface` of a type;
+/// `type` where the imported types are out of order or lack a resource; the kind of a role of main's
+/// imports or exports, `library`, or `adapter`. The only other refusal is out of memory. On top of
+/// `world_of_parts` it takes time linear in the number of items, of the nodes of their functions'
+/// types, of types, of core imports and of core exports, and no memory but that of the refusal's text.
 #[tactic(auto, using(crate::proofs::Reporting::no_cause, crate::proofs::Reporting::has_cause))]
 pub fn encoded_world(alloc: Global, parts: WorldParts) -> Result<ComponentWorld, Failure>
     requires { HasSoundParts parts }

@@ -19,9 +19,10 @@ fn kind_left_out(kind: FunctionKind) -> Option<&'static str>
     ensures { option_copied result ≡ kind_left_out kind }
 {
     match kind {
-        FunctionKind::Freestanding => None,
-        FunctionKind::AsyncFreestanding => Some("async"),
-        _ => Some("type"),
+        FunctionKind::AsyncFreestanding
+        | FunctionKind::AsyncMethod(_)
+        | FunctionKind::AsyncStatic(_) => Some("async"),
+        _ => None,
     }
 }
 

@@ -10,17 +10,19 @@ ghost use Rattle.supported_worlds.specs.Apart.{FieldsApart, GroupsApart};
 ghost use Rattle.supported_worlds.specs.LeftOut.{import_left_out, export_left_out, instance_left_out, group_left_out, module_left_out};
 
 use crate::kinds::{export_kind, import_kind};
+use crate::resources::drop_left_out;
 use comp_lists::{Keyed, Text};
 use comp_roles::{Export, Import, ImportInstance};
 use comp_worlds::ValidatedModule;
-use wit_data::{AbiVariant, WorldKey};
+use wit_data::{AbiVariant, TypeDef, WorldKey};
 
-fn import_left_out(role: &Import) -> Option<&'static str>
-    ensures { option_copied result ≡ import_left_out role.now }
+fn import_left_out(types: &[TypeDef], role: &Import) -> Option<&'static str>
+    ensures { option_copied result ≡ import_left_out types.now role.now }
 {
     match role {
         Import::WorldFunc(WorldKey::Name(_), _, AbiVariant::GuestImport) => None,
         Import::WorldFunc(_, _, AbiVariant::GuestImportAsync) => Some("async"),
+        Import::ImportedResourceDrop(_, _, id) => drop_left_out(types, *id),
         _ => Some(import_kind(role)),
     }
 }
@@ -37,12 +39,12 @@ fn export_left_out(role: &Export) -> Option<&'static str>
 }
 
 /// What of the fields that are imported from one module is left out.
-fn fields_left_out(fields: &Keyed<Text, Import>) -> Option<&'static str>
-    ensures reported { option_copied result ≡ first_some (λ f. import_left_out f.1) fields.now }
+fn fields_left_out(types: &[TypeDef], fields: &Keyed<Text, Import>) -> Option<&'static str>
+    ensures reported { option_copied result ≡ first_some (λ f. import_left_out types.now f.1) fields.now }
     ensures apart { IsDistinct bytes_eq (keys_of fields.now) }
 {
     for (_, role) in fields.iter() {
-        if let Some(what) = import_left_out(role) {
+        if let Some(what) = import_left_out(types, role) {
             return Some(what);
         }
     }
@@ -50,24 +52,24 @@ fn fields_left_out(fields: &Keyed<Text, Import>) -> Option<&'static str>
 }
 
 /// What of the imports from one module is left out; its fields are apart.
-fn instance_left_out(instance: &ImportInstance) -> Option<&'static str>
-    ensures reported { option_copied result ≡ instance_left_out instance.now }
+fn instance_left_out(types: &[TypeDef], instance: &ImportInstance) -> Option<&'static str>
+    ensures reported { option_copied result ≡ instance_left_out types.now instance.now }
     ensures apart { FieldsApart instance.now }
 {
     match instance {
-        ImportInstance::Names(fields) => fields_left_out(fields),
+        ImportInstance::Names(fields) => fields_left_out(types, fields),
         ImportInstance::Whole(_) => Some("library"),
     }
 }
 
 /// What of all imports is left out; where nothing is, no module and no field of one occurs twice.
 #[tactic(auto, using(crate::proofs::Walking::start, crate::proofs::Walking::step, crate::proofs::Walking::end))]
-fn groups_left_out(groups: &Keyed<Text, ImportInstance>) -> Option<&'static str>
-    ensures reported { option_copied result ≡ first_some group_left_out groups.now }
+fn groups_left_out(types: &[TypeDef], groups: &Keyed<Text, ImportInstance>) -> Option<&'static str>
+    ensures reported { option_copied result ≡ first_some (group_left_out types.now) groups.now }
     ensures apart { option_copied result ≡ None → GroupsApart groups.now }
 {
     for (_, instance) in groups.iter() {
-        if let Some(what) = instance_left_out(instance) {
+        if let Some(what) = instance_left_out(types, instance) {
             return Some(what);
         }
     }
@@ -86,11 +88,11 @@ fn exports_left_out(exports: &Keyed<Text, Export>) -> Option<&'static str>
 }
 
 /// What of a module's imports and exports is left out; where nothing is, no import occurs twice.
-pub(crate) fn module_left_out(main: &ValidatedModule) -> Option<&'static str>
-    ensures reported { option_copied result ≡ module_left_out main.now }
+pub(crate) fn module_left_out(types: &[TypeDef], main: &ValidatedModule) -> Option<&'static str>
+    ensures reported { option_copied result ≡ module_left_out types.now main.now }
     ensures apart { option_copied result ≡ None → GroupsApart main.now.imports.modules }
 {
-    match groups_left_out(&main.imports.modules) {
+    match groups_left_out(types, &main.imports.modules) {
         Some(what) => Some(what),
         None => exports_left_out(&main.exports.exports),
     }
