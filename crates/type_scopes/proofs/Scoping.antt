@@ -32,7 +32,7 @@ longer_with : (scope : List TypeTree) (t : TypeTree) (b : Bool) → Longer scope
 longer_with scope t true = record { more = t ∷ []; longer = refl }
 longer_with scope t false = longer_none scope
 
-longer_after : (s : Surroundings) (scope : List TypeTree) (ms : List Member) → Longer scope (member_trees s scope ms)
+pub longer_after : (s : Surroundings) (scope : List TypeTree) (ms : List Member) → Longer scope (member_trees s scope ms)
 longer_after s scope [] = longer_none scope
 longer_after s scope (m ∷ ms) = longer_on (longer_with scope (member_tree s scope m) (makes_type m)) (longer_after s (with_member s scope m) ms)
 
