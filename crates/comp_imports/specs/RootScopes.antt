@@ -39,6 +39,7 @@ root_setting w last =
       origin = resource_of w;
       met = λ id. nat_lt id.index (next_of last) && is_imported_type w id;
       may_import = λ other id. false;
+      may_own = λ n. true;
       may_export = λ name. false;
       resource = λ name. ImportedAt (record { number = 0; inner = None });
     }

@@ -2,5 +2,6 @@ pub mod Offering
 pub mod Scoping
 pub mod Naming
 pub mod Exporting
+pub mod Exported
 pub mod Meeting
 pub mod Allowed

@@ -18,7 +18,7 @@ use Rattle.wit_types.proofs.Parting.{take_whole}
 use Rattle.type_scopes.specs.Interfaces.{TypeIn, TypesIn}
 
 value_named_on : (s : Setting) (N M : List ℕ → ℕ → Type 0) (id : TypeId) (v : ComponentValType) → ((name : List ℕ) (i : ℕ) → N name i → M name i) → IsNamedValue s N (Id id) v → IsNamedValue s M (Id id) v
-value_named_on s N M id (values.Primitive p) kept h = tt
+value_named_on s N M id (values.Primitive p) kept h = h
 value_named_on s N M id (values.Defined i) kept h = named_on s N M id i kept h
 
 type_on : (s : Setting) (old new : List TypeTree) (N M : List ℕ → ℕ → Type 0) (id : TypeId) → Longer old new → ((name : List ℕ) (i : ℕ) → N name i → M name i) → TypeIn s old N id → TypeIn s new M id

@@ -15,7 +15,8 @@ use Rattle.wit_types.specs.Denoting.{Longer, Makes}
 use Rattle.wit_types.proofs.Growing.{longer_none, longer_on}
 use Rattle.comp_trees.specs.Members.{Surroundings, IsMemberRight, makes_type, member_tree, with_member, member_trees}
 use Rattle.type_scopes.specs.Members.{types_in}
-use Rattle.type_scopes.specs.Exports.{IsExport, MembersExtend, MembersGrow, exported_function, members_same, members_append}
+use Rattle.type_scopes.specs.Exports.{IsExport, IsOwnExport, MembersExtend, MembersGrow, exported_function, members_same, members_append}
+use Rattle.wit_types.specs.Settings.{Setting}
 
 one_of : Member → ℕ
 one_of m = cond (makes_type m) 1 0
@@ -31,13 +32,13 @@ longer_with : (scope : List TypeTree) (t : TypeTree) (b : Bool) → Longer scope
 longer_with scope t true = record { more = t ∷ []; longer = refl }
 longer_with scope t false = longer_none scope
 
-longer_after : (s : Surroundings) (scope : List TypeTree) (ms : List Member) → Longer scope (member_trees s scope ms)
+pub longer_after : (s : Surroundings) (scope : List TypeTree) (ms : List Member) → Longer scope (member_trees s scope ms)
 longer_after s scope [] = longer_none scope
 longer_after s scope (m ∷ ms) = longer_on (longer_with scope (member_tree s scope m) (makes_type m)) (longer_after s (with_member s scope m) ms)
 
 -- more members make a longer scope
-pub trees_extend : (s : Surroundings) (old new : List Member) → MembersExtend s old new → Longer (member_trees s [] old) (member_trees s [] new)
-trees_extend s old new g =
+pub trees_extend : (t : Setting) (s : Surroundings) (old new : List Member) → MembersExtend t s old new → Longer (member_trees s [] old) (member_trees s [] new)
+trees_extend t s old new g =
     subst (λ ts. Longer (member_trees s [] old) ts) (sym (ap (member_trees s []) g.grown ∙ members_append s [] old g.more)) (longer_after s (member_trees s [] old) g.more)
 
 one_more : (s : Surroundings) (ms : List Member) (m : Member) → makes_type m ≡ true → member_trees s [] (ms ++ m ∷ []) ≡ member_trees s [] ms ++ member_tree s (member_trees s [] ms) m ∷ []
@@ -86,9 +87,9 @@ exported_if old new name description (Ok i) makes at is = exported_new old new n
 exported_if old new name description (Err e) makes at is = tt
 
 -- members with one more, which is right and exports no function
-pub grown_by : (s : Surroundings) (old new : List Member) (m : Member) → exported_function m ≡ [] → IsMemberRight s (member_trees s [] old) m → new ≡ old ++ m ∷ [] → MembersGrow s old new
-grown_by s old new m none right is = record { more = m ∷ []; grown = is; right = (right, tt); types = ap (λ es. es ++ []) none }
+pub grown_by : (t : Setting) (s : Surroundings) (old new : List Member) (m : Member) → exported_function m ≡ [] → IsMemberRight s (member_trees s [] old) m → IsOwnExport t s (member_trees s [] old) m → new ≡ old ++ m ∷ [] → MembersGrow t s old new
+grown_by t s old new m none right own is = record { more = m ∷ []; grown = is; right = (right, tt); own = (own, tt); types = ap (λ es. es ++ []) none }
 
-pub grown_if : {A E : Type 0} (s : Surroundings) (old new : List Member) (m : Member) (r : Result A E) → exported_function m ≡ [] → IsMemberRight s (member_trees s [] old) m → OnOk r (new ≡ old ++ m ∷ []) → OnErr r (new ≡ old) → MembersGrow s old new
-grown_if s old new m (Ok i) none right is same = grown_by s old new m none right is
-grown_if s old new m (Err e) none right is same = subst (λ ms. MembersGrow s old ms) (sym same) (members_same s old)
+pub grown_if : {A E : Type 0} (t : Setting) (s : Surroundings) (old new : List Member) (m : Member) (r : Result A E) → exported_function m ≡ [] → IsMemberRight s (member_trees s [] old) m → IsOwnExport t s (member_trees s [] old) m → OnOk r (new ≡ old ++ m ∷ []) → OnErr r (new ≡ old) → MembersGrow t s old new
+grown_if t s old new m (Ok i) none right own is same = grown_by t s old new m none right own is
+grown_if t s old new m (Err e) none right own is same = subst (λ ms. MembersGrow t s old ms) (sym same) (members_same t s old)

@@ -1,24 +1,27 @@
 -- What the types and functions of an interface are in a scope (component model, WIT: interfaces; explainer: instance
 -- types).
-use Rattle.std.specs.Prelude.{ℕ, ◌≡◌, List, [], ◌∷◌, ◌++◌, Some, is_some, if◌then◌else◌}
+use Rattle.std.specs.Prelude.{ℕ, ◌≡◌, ◌<◌, true, List, [], ◌∷◌, ◌++◌, length, Some, is_some, if◌then◌else◌}
 use Rattle.std.specs.Str.{bytes_eq}
 use Rattle.std.specs.Map.{lookup}
-use Rattle.std.specs.List.{AllByRecursion, AllZip, flat_map}
+use Rattle.std.specs.List.{AllByRecursion, AllZip, flat_map, list_any}
 use Rattle.wit_data.specs.declared.ids.TypeId.{TypeId}
 use Rattle.wit_data.specs.declared.ids.InterfaceId.{InterfaceId}
 use Rattle.wit_data.specs.declared.types.Type.TheVariants.{Id}
+use Rattle.wit_data.specs.declared.types.TypeDef.{TypeDef}
+use Rattle.wit_data.specs.declared.types.TypeOwner.TheVariants as owners
 use Rattle.wit_data.specs.declared.functions.Function.{Function}
 use Rattle.comp_bytes.specs.declared.types.ComponentValType.{ComponentValType}
+use Rattle.comp_bytes.specs.declared.space.Space.TheVariants as spaces
 use Rattle.comp_bytes.specs.declared.types.Member.{Member}
 use Rattle.comp_trees.specs.Trees.{Resource}
 use Rattle.comp_trees.specs.WitTrees.{wit_tree, wit_function_tree}
-use Rattle.comp_trees.specs.DefinedTrees.{TypeTree, OfFunctions}
-use Rattle.wit_types.specs.Settings.{Setting}
+use Rattle.comp_trees.specs.DefinedTrees.{TypeTree, OfValues, OfFunctions}
+use Rattle.wit_types.specs.Settings.{Setting, owner_at, name_at}
 use Rattle.comp_trees.specs.DefinedScopes.{Denotes}
 use Rattle.wit_types.specs.Denoting.{ValueDenotes}
 use Rattle.wit_types.specs.declared.maps.TypeEncodingMaps.{TypeEncodingMaps}
 use Rattle.wit_types.specs.Maps.{IsNamedValue, Faithful}
-use Rattle.comp_trees.specs.Members.{Surroundings, member_trees}
+use Rattle.comp_trees.specs.Members.{Surroundings, member_trees, exports_name, type_exported}
 use Rattle.type_scopes.specs.Exports.{IsExport}
 use Rattle.type_scopes.specs.Offers.{Offer, placed}
 
@@ -30,6 +33,27 @@ pub record TypeIn (s : Setting) (scope : List TypeTree) (names : List ℕ → �
 
 pub record TypesIn (s : Setting) (scope : List TypeTree) (names : List ℕ → ℕ → Type 0) (ids : List TypeId) : Type 0 where
   pub each : AllByRecursion (TypeIn s scope names) ids
+
+-- a type of the interface with this name
+pub record IsTitled (types : List TypeDef) (here : InterfaceId) (id : TypeId) (name : List ℕ) : Type 0 where
+  pub present : id.index < length types
+  pub owner : owner_at types id.index ≡ owners.Interface here
+  pub named : name_at types id.index ≡ Some name
+
+pub record HasTitle (types : List TypeDef) (here : InterfaceId) (id : TypeId) : Type 0 where
+  pub name : List ℕ
+  pub is : IsTitled types here id name
+
+-- no two types of the interface have one name
+pub record AreTitlesApart (types : List TypeDef) (here : InterfaceId) : Type 0 where
+  pub each : (a b : TypeId) (name : List ℕ) → IsTitled types here a name → IsTitled types here b name → a ≡ b
+
+-- an instance exports a type of the interface under its name
+pub record ExportsType (s : Surroundings) (origin : TypeId → Resource) (types : List TypeDef) (here : InterfaceId) (ms : List Member) (id : TypeId) : Type 0 where
+  pub name : List ℕ
+  pub titled : IsTitled types here id name
+  pub there : list_any (exports_name spaces.Type name) ms ≡ true
+  pub tree : type_exported s (member_trees s [] ms) name ms ≡ OfValues (wit_tree origin types (Some (Id id)))
 
 -- a function is exported under its name, and its type is this one of the scope
 pub record FunctionIn (s : Setting) (scope : List TypeTree) (export : List ℕ × ℕ) (f : Function) : Type 0 where

@@ -1,6 +1,6 @@
 -- What the outer scope of an instance type offers to it, and what the definitions in it take as given (component model,
 -- WIT: `use`; explainer: outer aliases).
-use Rattle.std.specs.Prelude.{ℕ, List, Option, Some, true, false, is_some}
+use Rattle.std.specs.Prelude.{ℕ, ◌==◌, Bool, List, Option, Some, None, true, false, is_some}
 use Rattle.std.specs.Map.{lookup}
 use Rattle.std.specs.List.{AllByRecursion}
 use Rattle.wit_data.specs.declared.ids.TypeId.{TypeId}
@@ -10,7 +10,9 @@ use Rattle.wit_data.specs.declared.types.TypeDef.{TypeDef}
 use Rattle.comp_trees.specs.Trees.{Resource}
 use Rattle.comp_trees.specs.DefinedTrees.{OfValues}
 use Rattle.comp_trees.specs.WitTrees.{wit_tree}
-use Rattle.wit_types.specs.Settings.{Setting}
+use Rattle.wit_data.specs.declared.types.TypeOwner.{TypeOwner}
+use Rattle.wit_data.specs.declared.types.TypeOwner.TheVariants as owners
+use Rattle.wit_types.specs.Settings.{Setting, owner_at, name_at}
 use Rattle.comp_trees.specs.DefinedScopes.{Denotes}
 use Rattle.type_scopes.specs.declared.outer_type.OuterType.{OuterType}
 use Rattle.type_scopes.specs.contracts.outer_type.OuterTypePartialEq.TheImpl as same_type
@@ -29,8 +31,14 @@ pub record IsOffered (s : Surroundings) (origin : TypeId → Resource) (o : Offe
 abbrev pub offered : Offer → InterfaceId → TypeId → Option ℕ
 offered o other id = lookup (same_type.eq-value.it (record { interface = other; id = id })) o.table
 
--- What the definitions in the instance type of an interface take as given: what is offered may be imported, and any name
--- exported.
+-- a type belongs to the interface, or has no name
+abbrev pub belongs : InterfaceId → TypeOwner → Option (List ℕ) → Bool
+belongs here owner None = true
+belongs here (owners.Interface i) (Some name) = here.index == i.index
+belongs here owner (Some name) = false
+
+-- What the definitions in the instance type of an interface take as given: what is offered may be imported, types without a
+-- name and the interface's own may be defined, and any name exported.
 abbrev pub placed : Surroundings → (TypeId → Resource) → Offer → InterfaceId → Setting
 placed s origin o here =
     record {
@@ -38,6 +46,7 @@ placed s origin o here =
       interface = Some here;
       origin = origin;
       may_import = λ other id. is_some (offered o other id);
+      may_own = λ n. belongs here (owner_at o.types n) (name_at o.types n);
       may_export = λ name. true;
       resource = s.resource;
       met = λ id. false;

@@ -35,7 +35,7 @@ pub(crate) fn encode_functions<P: Placement>(
     requires right { IsRight P.surroundings P.origin encoder.old.outer encoder.old.interface encoder.old.members encoder.old.maps }
     requires first { function_exports encoder.old.members ≡ [] }
     ensures functions { OnOk result (FunctionsIn (placed P.surroundings P.origin encoder.old.outer encoder.old.interface) (member_trees P.surroundings [] encoder.new.members) (function_exports encoder.new.members) (used_among used.now functions.now)) }
-    ensures extends { MembersExtend P.surroundings encoder.old.members encoder.new.members }
+    ensures extends { MembersExtend (placed P.surroundings P.origin encoder.old.outer encoder.old.interface) P.surroundings encoder.old.members encoder.new.members }
     ensures cause { IfErr result (IsCause is_full encoder.new.members) }
 {
     for (name, function) in functions.iter() {
@@ -59,7 +59,7 @@ fn encode_used<P: Placement>(
     requires allowed { AllByRecursion (λ f. allows_function (placed P.surroundings P.origin encoder.old.outer encoder.old.interface) f ≡ true) (used_function used.now (name.now, function.now)) }
     requires right { IsRight P.surroundings P.origin encoder.old.outer encoder.old.interface encoder.old.members encoder.old.maps }
     ensures functions { OnOk result (AddsFunctions (placed P.surroundings P.origin encoder.old.outer encoder.old.interface) (member_trees P.surroundings [] encoder.new.members) (function_exports encoder.old.members) (function_exports encoder.new.members) (used_function used.now (name.now, function.now))) }
-    ensures extends { MembersExtend P.surroundings encoder.old.members encoder.new.members }
+    ensures extends { MembersExtend (placed P.surroundings P.origin encoder.old.outer encoder.old.interface) P.surroundings encoder.old.members encoder.new.members }
     ensures setting { placed P.surroundings P.origin encoder.new.outer encoder.new.interface ≡ placed P.surroundings P.origin encoder.old.outer encoder.old.interface }
     ensures right { IsRight P.surroundings P.origin encoder.new.outer encoder.new.interface encoder.new.members encoder.new.maps }
     ensures cause { IfErr result (IsCause is_full encoder.new.members) }
@@ -84,7 +84,7 @@ fn encode_function<P: Placement>(
     requires allowed { IsTrue (allows_function (placed P.surroundings P.origin encoder.old.outer encoder.old.interface) function.now) }
     requires right { IsRight P.surroundings P.origin encoder.old.outer encoder.old.interface encoder.old.members encoder.old.maps }
     ensures function { OnOk result (AddsFunctions (placed P.surroundings P.origin encoder.old.outer encoder.old.interface) (member_trees P.surroundings [] encoder.new.members) (function_exports encoder.old.members) (function_exports encoder.new.members) (function.now ∷ [])) }
-    ensures extends { MembersExtend P.surroundings encoder.old.members encoder.new.members }
+    ensures extends { MembersExtend (placed P.surroundings P.origin encoder.old.outer encoder.old.interface) P.surroundings encoder.old.members encoder.new.members }
     ensures setting { placed P.surroundings P.origin encoder.new.outer encoder.new.interface ≡ placed P.surroundings P.origin encoder.old.outer encoder.old.interface }
     ensures right { IsRight P.surroundings P.origin encoder.new.outer encoder.new.interface encoder.new.members encoder.new.maps }
     ensures cause { IfErr result (IsCause is_full encoder.new.members) }

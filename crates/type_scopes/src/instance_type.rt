@@ -10,12 +10,12 @@ ghost use Rattle.comp_bytes.specs.declared.types.TypeDef.TheVariants as types;
 ghost use Rattle.wit_data.specs.declared.types.Type.TheVariants.{Id};
 ghost use Rattle.comp_trees.specs.Trees.{ResourceAt, is_known, is_known_function};
 ghost use Rattle.comp_trees.specs.DefinedTrees.{OfValues, OfFunctions, OfOthers, defined_tree, function_tree};
-ghost use Rattle.wit_types.specs.Settings.{tree_in};
+ghost use Rattle.wit_types.specs.Settings.{tree_in, NamesType};
 ghost use Rattle.wit_types.specs.Denoting.{Makes, MayMake, IsCause, exported_or};
 ghost use Rattle.wit_types.specs.Maps.{no_maps};
 ghost use Rattle.comp_trees.specs.Members.{member_trees};
 ghost use Rattle.type_scopes.specs.Members.{types_in, is_full};
-ghost use Rattle.type_scopes.specs.Exports.{IsExport, MembersGrow, export_on, members_same, members_on};
+ghost use Rattle.type_scopes.specs.Exports.{IsExport, MembersGrow, export_on, members_same, follow_on};
 ghost use Rattle.type_scopes.specs.Offers.{offered, placed};
 
 use crate::member_list::MemberList;
@@ -102,19 +102,19 @@ impl<'a, P: Placement> ValtypeEncoder for InstanceTypeEncoder<'a, P> {
 
     ghost with_maps = { λ e m. record e { maps = m } };
 
-    ghost follows = { λ old new. MembersGrow P.surroundings old.members new.members };
+    ghost follows = { λ old new. (placed P.surroundings P.origin new.outer new.interface ≡ placed P.surroundings P.origin old.outer old.interface) × MembersGrow (placed P.surroundings P.origin old.outer old.interface) P.surroundings old.members new.members };
 
     ghost names = { λ e name index. IsExport e.members name index };
 
     ghost refuses = { λ e count. is_full e.members count };
 
-    ghost follows_itself = { λ e. members_same P.surroundings e.members };
+    ghost follows_itself = { λ e. (refl, members_same (placed P.surroundings P.origin e.outer e.interface) P.surroundings e.members) };
 
-    ghost follows_on = { λ a b c g h. members_on P.surroundings a.members b.members c.members g h };
+    ghost follows_on = { λ a b c g h. follow_on (placed P.surroundings P.origin a.outer a.interface) (placed P.surroundings P.origin b.outer b.interface) (placed P.surroundings P.origin c.outer c.interface) P.surroundings a.members b.members c.members g h };
 
-    ghost names_kept = { λ a b g name index h. export_on P.surroundings a.members b.members g name index h };
+    ghost names_kept = { λ a b g name index h. export_on (placed P.surroundings P.origin a.outer a.interface) P.surroundings a.members b.members g.1 name index h };
 
-    ghost follows_maps = { λ e m. members_same P.surroundings e.members };
+    ghost follows_maps = { λ e m. (refl, members_same (placed P.surroundings P.origin e.outer e.interface) P.surroundings e.members) };
 
     ghost maps_given = { λ e m. refl };
 
@@ -130,7 +130,7 @@ impl<'a, P: Placement> ValtypeEncoder for InstanceTypeEncoder<'a, P> {
         ensures makes { Makes (member_trees P.surroundings [] self.old.members) (member_trees P.surroundings [] self.new.members) result (OfValues (defined_tree (member_trees P.surroundings [] self.old.members) ty)) }
         ensures setting { placed P.surroundings P.origin self.new.outer self.new.interface ≡ placed P.surroundings P.origin self.old.outer self.old.interface }
         ensures maps { self.new.maps ≡ self.old.maps }
-        ensures follows { MembersGrow P.surroundings self.old.members self.new.members }
+        ensures follows { (placed P.surroundings P.origin self.new.outer self.new.interface ≡ placed P.surroundings P.origin self.old.outer self.old.interface) × MembersGrow (placed P.surroundings P.origin self.old.outer self.old.interface) P.surroundings self.old.members self.new.members }
         ensures cause { IfErr result (IsCause is_full self.new.members) }
     {
         self.members.add_type(Member::Type(TypeDef::Defined(ty)))
@@ -144,7 +144,7 @@ impl<'a, P: Placement> ValtypeEncoder for InstanceTypeEncoder<'a, P> {
         ensures makes { Makes (member_trees P.surroundings [] self.old.members) (member_trees P.surroundings [] self.new.members) result (OfFunctions (function_tree (member_trees P.surroundings [] self.old.members) ty)) }
         ensures setting { placed P.surroundings P.origin self.new.outer self.new.interface ≡ placed P.surroundings P.origin self.old.outer self.old.interface }
         ensures maps { self.new.maps ≡ self.old.maps }
-        ensures follows { MembersGrow P.surroundings self.old.members self.new.members }
+        ensures follows { (placed P.surroundings P.origin self.new.outer self.new.interface ≡ placed P.surroundings P.origin self.old.outer self.old.interface) × MembersGrow (placed P.surroundings P.origin self.old.outer self.old.interface) P.surroundings self.old.members self.new.members }
         ensures cause { IfErr result (IsCause is_full self.new.members) }
     {
         self.members.add_type(Member::Type(TypeDef::Func(ty)))
@@ -152,6 +152,7 @@ impl<'a, P: Placement> ValtypeEncoder for InstanceTypeEncoder<'a, P> {
 
     fn export_type(&mut self, index: u32, name: ExternName) -> Result<Option<u32>, BuildFault>
         requires present { index < length (member_trees P.surroundings [] self.old.members) }
+        requires named { NamesType (placed P.surroundings P.origin self.old.outer self.old.interface) name (get_or (member_trees P.surroundings [] self.old.members) index OfOthers) }
         ensures added { OnOk result (self.new ≡ record self.old { members = self.old.members ++ members.Export name (descriptions.TypeEqual index) ∷ [] }) }
         ensures index { IfOk result (λ index. index ≡ Some (types_in self.old.members)) }
         ensures kept { OnErr result (self.new ≡ self.old) }
@@ -159,7 +160,7 @@ impl<'a, P: Placement> ValtypeEncoder for InstanceTypeEncoder<'a, P> {
         ensures makes { MayMake (member_trees P.surroundings [] self.old.members) (member_trees P.surroundings [] self.new.members) result (get_or (member_trees P.surroundings [] self.old.members) index OfOthers) }
         ensures setting { placed P.surroundings P.origin self.new.outer self.new.interface ≡ placed P.surroundings P.origin self.old.outer self.old.interface }
         ensures maps { self.new.maps ≡ self.old.maps }
-        ensures follows { MembersGrow P.surroundings self.old.members self.new.members }
+        ensures follows { (placed P.surroundings P.origin self.new.outer self.new.interface ≡ placed P.surroundings P.origin self.old.outer self.old.interface) × MembersGrow (placed P.surroundings P.origin self.old.outer self.old.interface) P.surroundings self.old.members self.new.members }
         ensures cause { IfErr result (IsCause is_full self.new.members) }
     {
         let description = Description::TypeEqual(index);
@@ -167,6 +168,7 @@ impl<'a, P: Placement> ValtypeEncoder for InstanceTypeEncoder<'a, P> {
     }
 
     fn export_resource(&mut self, name: ExternName) -> Result<u32, BuildFault>
+        requires named { NamesType (placed P.surroundings P.origin self.old.outer self.old.interface) name (OfValues (ResourceAt (P.surroundings.resource name.name))) }
         ensures added { OnOk result (self.new ≡ record self.old { members = self.old.members ++ members.Export name descriptions.SubResource ∷ [] }) }
         ensures index { IfOk result (λ index. index ≡ types_in self.old.members) }
         ensures kept { OnErr result (self.new ≡ self.old) }
@@ -174,7 +176,7 @@ impl<'a, P: Placement> ValtypeEncoder for InstanceTypeEncoder<'a, P> {
         ensures makes { Makes (member_trees P.surroundings [] self.old.members) (member_trees P.surroundings [] self.new.members) result (OfValues (ResourceAt (P.surroundings.resource name.name))) }
         ensures setting { placed P.surroundings P.origin self.new.outer self.new.interface ≡ placed P.surroundings P.origin self.old.outer self.old.interface }
         ensures maps { self.new.maps ≡ self.old.maps }
-        ensures follows { MembersGrow P.surroundings self.old.members self.new.members }
+        ensures follows { (placed P.surroundings P.origin self.new.outer self.new.interface ≡ placed P.surroundings P.origin self.old.outer self.old.interface) × MembersGrow (placed P.surroundings P.origin self.old.outer self.old.interface) P.surroundings self.old.members self.new.members }
         ensures cause { IfErr result (IsCause is_full self.new.members) }
     {
         let description = Description::SubResource;
@@ -189,7 +191,7 @@ impl<'a, P: Placement> ValtypeEncoder for InstanceTypeEncoder<'a, P> {
         ensures makes { Makes (member_trees P.surroundings [] self.old.members) (member_trees P.surroundings [] self.new.members) result (OfValues (tree_in (placed P.surroundings P.origin self.old.outer self.old.interface) (Some (Id id)))) }
         ensures setting { placed P.surroundings P.origin self.new.outer self.new.interface ≡ placed P.surroundings P.origin self.old.outer self.old.interface }
         ensures maps { self.new.maps ≡ self.old.maps }
-        ensures follows { MembersGrow P.surroundings self.old.members self.new.members }
+        ensures follows { (placed P.surroundings P.origin self.new.outer self.new.interface ≡ placed P.surroundings P.origin self.old.outer self.old.interface) × MembersGrow (placed P.surroundings P.origin self.old.outer self.old.interface) P.surroundings self.old.members self.new.members }
         ensures cause { IfErr result (IsCause is_full self.new.members) }
     {
         match self.outer.index_of(interface, id) {

@@ -10,7 +10,7 @@ ghost use Rattle.type_scopes.specs.Places.{Place};
 ghost use Rattle.type_scopes.specs.Members.{IsExcess};
 ghost use Rattle.type_scopes.specs.Exports.{IsExport, function_exports};
 ghost use Rattle.type_scopes.specs.Offers.{IsOffered, placed};
-ghost use Rattle.type_scopes.specs.Interfaces.{TypesIn, FunctionsIn, used_among};
+ghost use Rattle.type_scopes.specs.Interfaces.{TypesIn, FunctionsIn, HasTitle, AreTitlesApart, ExportsType, used_among};
 
 use crate::functions::encode_functions;
 use crate::instance_type::InstanceTypeEncoder;
@@ -26,7 +26,8 @@ use std::marker::Brand;
 use wit_data::{Function, InterfaceId, Resolve, TypeId};
 
 /// The instance type of an interface that has these types, and then those of these functions whose names are used. Types
-/// of other interfaces are those of the outer scope, whose indices there the table has.
+/// of other interfaces are those of the outer scope, whose indices there the table has. An instance of it exports each of
+/// the interface's types under its name.
 pub fn encode_interface_type(
     alloc: Global,
     resolve: &Resolve,
@@ -41,9 +42,12 @@ pub fn encode_interface_type(
     requires offered { IsOffered place.surroundings place.origin (record { types = resolve.now.types; table = table.now }) }
     requires types { AllByRecursion (λ id. HasTypeId resolve.now id) types.now }
     requires functions { AllByRecursion (λ e. HasFunction resolve.now e.1) functions.now }
+    requires titled { AllByRecursion (HasTitle resolve.now.types interface) types.now }
+    requires apart { AreTitlesApart resolve.now.types interface }
     requires allowed { AllByRecursion (λ id. is_allowed (placed place.surroundings place.origin (record { types = resolve.now.types; table = table.now }) interface) (Some (Id id)) ≡ true) types.now }
     requires allows { AllByRecursion (λ f. allows_function (placed place.surroundings place.origin (record { types = resolve.now.types; table = table.now }) interface) f ≡ true) (used_among used.now functions.now) }
     ensures types { IfOk result (λ ty. TypesIn (placed place.surroundings place.origin (record { types = resolve.now.types; table = table.now }) interface) (member_trees place.surroundings [] ty.members) (IsExport ty.members) types.now) }
+    ensures exported { IfOk result (λ ty. AllByRecursion (ExportsType place.surroundings place.origin resolve.now.types interface ty.members) types.now) }
     ensures functions { IfOk result (λ ty. FunctionsIn (placed place.surroundings place.origin (record { types = resolve.now.types; table = table.now }) interface) (member_trees place.surroundings [] ty.members) (function_exports ty.members) (used_among used.now functions.now)) }
     ensures members { IfOk result (λ ty. AreMembersRight place.surroundings [] ty.members) }
     ensures cause { IfErr result IsExcess }
@@ -65,9 +69,12 @@ fn encode_placed<P: Placement>(
     requires offered { IsOffered P.surroundings P.origin (record { types = resolve.now.types; table = table.now }) }
     requires types { AllByRecursion (λ id. HasTypeId resolve.now id) types.now }
     requires functions { AllByRecursion (λ e. HasFunction resolve.now e.1) functions.now }
+    requires titled { AllByRecursion (HasTitle resolve.now.types interface) types.now }
+    requires apart { AreTitlesApart resolve.now.types interface }
     requires allowed { AllByRecursion (λ id. is_allowed (placed P.surroundings P.origin (record { types = resolve.now.types; table = table.now }) interface) (Some (Id id)) ≡ true) types.now }
     requires allows { AllByRecursion (λ f. allows_function (placed P.surroundings P.origin (record { types = resolve.now.types; table = table.now }) interface) f ≡ true) (used_among used.now functions.now) }
     ensures types { IfOk result (λ ty. TypesIn (placed P.surroundings P.origin (record { types = resolve.now.types; table = table.now }) interface) (member_trees P.surroundings [] ty.members) (IsExport ty.members) types.now) }
+    ensures exported { IfOk result (λ ty. AllByRecursion (ExportsType P.surroundings P.origin resolve.now.types interface ty.members) types.now) }
     ensures functions { IfOk result (λ ty. FunctionsIn (placed P.surroundings P.origin (record { types = resolve.now.types; table = table.now }) interface) (member_trees P.surroundings [] ty.members) (function_exports ty.members) (used_among used.now functions.now)) }
     ensures members { IfOk result (λ ty. AreMembersRight P.surroundings [] ty.members) }
     ensures cause { IfErr result IsExcess }

@@ -18,7 +18,7 @@ use Rattle.comp_trees.specs.Trees.{Tree, Resource, ResourceAt, same_resource}
 use Rattle.comp_trees.proofs.Resources.{one_resource}
 use Rattle.comp_trees.specs.DefinedTrees.{TypeTree, OfValues}
 use Rattle.comp_trees.specs.WitTrees.{kind_tree, making_trees, wit_tree}
-use Rattle.wit_types.specs.Settings.{Setting, tree_in, owner_at, name_at}
+use Rattle.wit_types.specs.Settings.{Setting, NamesType, tree_in, owner_at, name_at}
 use Rattle.comp_bytes.specs.declared.types.ComponentValType.{ComponentValType}
 use Rattle.comp_bytes.specs.declared.types.ComponentValType.TheVariants as values
 use Rattle.comp_trees.specs.DefinedScopes.{Denotes}
@@ -51,9 +51,17 @@ import_here : (s : Setting) (id : TypeId) (other : InterfaceId) → RefersBack s
 import_here s id other back within unmet allowed is =
     sym (ap (may_make s id.index (kind_at s.types id.index) (map (is_allowed s) (parts (kind_at s.types id.index)))) is) ∙ may_be_made s id back within unmet allowed
 
+both_of : (a b : Bool) → (a && b) ≡ true → (a ≡ true) × (b ≡ true)
+both_of true b e = (refl, e)
+both_of false b e = absurd (true≢false (sym e))
+
+own_made : (s : Setting) (id : TypeId) → RefersBack s.types → id.index < length s.types → s.met id ≡ false → is_allowed s (Some (Id id)) ≡ true → foreign s.interface (owner_at s.types id.index) ≡ None → (s.may_own id.index ≡ true) × (may_define s id.index (kind_at s.types id.index) (map (is_allowed s) (parts (kind_at s.types id.index))) ≡ true)
+own_made s id back within unmet allowed is =
+    both_of (s.may_own id.index) (may_define s id.index (kind_at s.types id.index) (map (is_allowed s) (parts (kind_at s.types id.index))))
+    (sym (ap (may_make s id.index (kind_at s.types id.index) (map (is_allowed s) (parts (kind_at s.types id.index)))) is) ∙ may_be_made s id back within unmet allowed)
+
 own_kind : (s : Setting) (id : TypeId) → RefersBack s.types → id.index < length s.types → s.met id ≡ false → is_allowed s (Some (Id id)) ≡ true → foreign s.interface (owner_at s.types id.index) ≡ None → may_define s id.index (kind_at s.types id.index) (map (is_allowed s) (parts (kind_at s.types id.index))) ≡ true
-own_kind s id back within unmet allowed is =
-    sym (ap (may_make s id.index (kind_at s.types id.index) (map (is_allowed s) (parts (kind_at s.types id.index)))) is) ∙ may_be_made s id back within unmet allowed
+own_kind s id back within unmet allowed is = (own_made s id back within unmet allowed is).1
 
 resource_is : (k : TypeDefKind) → is_resource k ≡ true → k ≡ kinds.Resource
 resource_is kinds.Resource e = refl
@@ -118,6 +126,9 @@ may_import s types id other same = subst (λ ts. RefersBack ts → id.index < le
 pub may_export : (s : Setting) (types : List TypeDef) (id : TypeId) → s.types ≡ types → RefersBack types → id.index < length types → s.met id ≡ false → is_allowed s (Some (Id id)) ≡ true → foreign s.interface (owner_at types id.index) ≡ None → is_resource (kind_at types id.index) ≡ true → may_export_as s id.index (name_at types id.index) ≡ true
 may_export s types id same = subst (λ ts. RefersBack ts → id.index < length ts → s.met id ≡ false → is_allowed s (Some (Id id)) ≡ true → foreign s.interface (owner_at ts id.index) ≡ None → is_resource (kind_at ts id.index) ≡ true → may_export_as s id.index (name_at ts id.index) ≡ true) same (export_here s id)
 
+pub owned_here : (s : Setting) (types : List TypeDef) (id : TypeId) → s.types ≡ types → RefersBack types → id.index < length types → s.met id ≡ false → is_allowed s (Some (Id id)) ≡ true → foreign s.interface (owner_at types id.index) ≡ None → s.may_own id.index ≡ true
+owned_here s types id same = subst (λ ts. RefersBack ts → id.index < length ts → s.met id ≡ false → is_allowed s (Some (Id id)) ≡ true → foreign s.interface (owner_at ts id.index) ≡ None → s.may_own id.index ≡ true) same (λ back within unmet allowed is. (own_made s id back within unmet allowed is).0)
+
 pub defined_here : (s : Setting) (types : List TypeDef) (id : TypeId) → s.types ≡ types → RefersBack types → id.index < length types → s.met id ≡ false → is_allowed s (Some (Id id)) ≡ true → foreign s.interface (owner_at types id.index) ≡ None → is_resource (kind_at types id.index) ≡ false → IsDefinedHere s (kind_at types id.index)
 defined_here s types id same = subst (λ ts. RefersBack ts → id.index < length ts → s.met id ≡ false → is_allowed s (Some (Id id)) ≡ true → foreign s.interface (owner_at ts id.index) ≡ None → is_resource (kind_at ts id.index) ≡ false → IsDefinedHere s (kind_at ts id.index)) same (defined_inside s id)
 
@@ -138,6 +149,18 @@ unnamed_resource s n (Some name) e h = cc
 pub resource_tree : (s : Setting) (types : List TypeDef) (id : TypeId) (named : Resource) → s.types ≡ types → RefersBack types → id.index < length types → is_resource (kind_at types id.index) ≡ true → named ≡ s.origin id → ResourceAt named ≡ tree_in s (Some (Id id))
 resource_tree s types id named same back within resource is =
     ap ResourceAt is ∙ sym (tree_of_id s types id same back within ∙ ap (λ k. kind_tree s.origin id.index k (map (tree_in s) (parts k))) (resource_is (kind_at types id.index) resource))
+
+-- a resource that may be exported under its name is known by it
+pub names_resource : (s : Setting) (types : List TypeDef) (id : TypeId) (name : List ℕ) → s.types ≡ types → RefersBack types → id.index < length types → is_resource (kind_at types id.index) ≡ true → name_at types id.index ≡ Some name → s.may_own id.index ≡ true →
+    may_export_as s id.index (Some name) ≡ true → NamesType s (record { name = name; version_suffix = None }) (OfValues (ResourceAt (s.resource name)))
+names_resource s types id name same back within resource titled own may = record {
+  id = id;
+  present = subst (λ ts. id.index < length ts) (sym same) within;
+  named = ap (λ ts. name_at ts id.index) same ∙ titled;
+  plain = refl;
+  own = own;
+  tree = ap OfValues (resource_tree s types id (s.resource name) same back within resource (named_resource s id.index name may).1);
+}
 
 pub index_denotes : (scope : List TypeTree) (v : ComponentValType) (index : ℕ) (t : Tree) → ValueDenotes scope v t → v ≡ values.Defined index → Denotes scope index (OfValues t)
 index_denotes scope v index t d is = (subst (λ w. ValueDenotes scope w t) is d).is

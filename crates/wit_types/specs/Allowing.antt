@@ -38,7 +38,7 @@ may_define s n kind parts = list_all (λ b. b) parts
 
 abbrev pub may_make : Setting → ℕ → TypeDefKind → List Bool → Option InterfaceId → Bool
 may_make s n kind parts (Some other) = s.may_import other (record { index = n })
-may_make s n kind parts None = may_define s n kind parts
+may_make s n kind parts None = s.may_own n && may_define s n kind parts
 
 -- a type that is in the tables needs no permission, whatever it is made of
 abbrev pub may_have : Setting → ℕ → TypeDefKind → List Bool → Bool

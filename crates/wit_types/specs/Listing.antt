@@ -34,6 +34,7 @@ standing_alone types =
       interface = None;
       origin = λ id. DefinedAt id.index;
       may_import = λ other id. true;
+      may_own = λ n. true;
       may_export = λ name. is_some (number_from 0 name types);
       resource = resource_named types;
       met = λ id. false;

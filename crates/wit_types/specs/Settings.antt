@@ -1,6 +1,6 @@
 -- What the definitions of types in a scope take as given (component model, WIT: interfaces and worlds; explainer: type
 -- definitions).
-use Rattle.std.specs.Prelude.{ℕ, suc, zero, ◌≡◌, ◌<◌, length, Bool, List, [], ◌∷◌, Option, Some, None}
+use Rattle.std.specs.Prelude.{ℕ, suc, zero, ◌≡◌, ◌<◌, length, Bool, true, List, [], ◌∷◌, Option, Some, None}
 use Rattle.wit_data.specs.declared.ids.TypeId.{TypeId}
 use Rattle.wit_data.specs.declared.ids.InterfaceId.{InterfaceId}
 use Rattle.wit_data.specs.declared.types.Type.{«Type» as Ty}
@@ -22,6 +22,8 @@ pub record Setting : Type 0 where
   pub origin : TypeId → Resource
   -- which types of other interfaces may be imported
   pub may_import : InterfaceId → TypeId → Bool
+  -- which types may be defined in the scope, by their numbers
+  pub may_own : ℕ → Bool
   -- under which names a resource may be exported, and what the resource is that is
   pub may_export : List ℕ → Bool
   pub resource : List ℕ → Resource
@@ -49,4 +51,5 @@ pub record NamesType (s : Setting) (name : ExternName) (t : TypeTree) : Type 0 w
   pub present : id.index < length s.types
   pub named : name_at s.types id.index ≡ Some name.name
   pub plain : name.version_suffix ≡ None
+  pub own : s.may_own id.index ≡ true
   pub tree : t ≡ OfValues (tree_in s (Some (Id id)))

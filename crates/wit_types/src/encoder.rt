@@ -87,7 +87,8 @@ pub trait ValtypeEncoder {
 
     /// Exports the resource that is known by a name.
     fn export_resource(&mut self, name: ExternName) -> Result<u32, BuildFault>
-        requires { IsTrue ((setting self.old).may_export name.name) }
+        requires may { IsTrue ((setting self.old).may_export name.name) }
+        requires named { NamesType (setting self.old) name (OfValues (ResourceAt ((setting self.old).resource name.name))) }
         ensures names { IfOk result (λ index. names self.new name.name index) }
         ensures makes { Makes (scope self.old) (scope self.new) result (OfValues (ResourceAt ((setting self.old).resource name.name))) }
         ensures setting { setting self.new ≡ setting self.old }

@@ -23,7 +23,7 @@ use wit_data::{InterfaceId, TypeDef, TypeId, kind_of};
 
 /// The index of a type that needs no definition of its own: one that was met, a type of another interface, a resource,
 /// or a type without a name that is equal to one that was met.
-#[tactic(auto, using(crate::proofs::Permitting::defined_here))]
+#[tactic(auto, using(crate::proofs::Permitting::defined_here, crate::proofs::Permitting::owned_here))]
 pub(crate) fn find_type<E: ValtypeEncoder>(
     alloc: Global,
     encoder: &mut E,
@@ -39,6 +39,7 @@ pub(crate) fn find_type<E: ValtypeEncoder>(
     ensures recorded { IfOk result (λ found. IfSome found (λ index. HasIndex (E.maps encoder.new) id)) }
     ensures named { IfOk result (λ found. IfSome found (λ index. IsNamed (E.setting encoder.old) (E.names encoder.new) id index)) }
     ensures defined { IfOk result (λ found. found ≡ None → IsDefinedHere (E.setting encoder.old) (kind_at types.now id.index)) }
+    ensures own { IfOk result (λ found. found ≡ None → (E.setting encoder.old).may_own id.index ≡ true) }
     ensures grows { Longer (E.scope encoder.old) (E.scope encoder.new) }
     ensures setting { E.setting encoder.new ≡ E.setting encoder.old }
     ensures faithful { Faithful (E.setting encoder.new) (E.scope encoder.new) (E.names encoder.new) (E.maps encoder.new) }
@@ -129,6 +130,7 @@ fn export_resource_as<E: ValtypeEncoder>(
     requires present { id.index < length types.now }
     requires title { name_at types.now id.index ≡ Some name }
     requires named { IsTrue (may_export_as (E.setting encoder.old) id.index (Some name)) }
+    requires own { (E.setting encoder.old).may_own id.index ≡ true }
     requires resource { is_resource (kind_at types.now id.index) ≡ true }
     ensures denotes { IfOk result (λ index. Denotes (E.scope encoder.new) index (OfValues (tree_in (E.setting encoder.old) (Some (Id id))))) }
     ensures recorded { IfOk result (λ index. HasIndex (E.maps encoder.new) id) }

@@ -1,6 +1,6 @@
 //! A type that was defined is exported where it has a name, and recorded in the tables.
 
-ghost use Rattle.std.specs.Prelude.{◌≡◌, ◌<◌, length, IfOk, IfErr, Some, None, false};
+ghost use Rattle.std.specs.Prelude.{◌≡◌, ◌<◌, length, IfOk, IfErr, Some, None, false, true};
 ghost use Rattle.comp_trees.specs.DefinedTrees.{OfValues};
 ghost use Rattle.wit_data.specs.Parts.{RefersBack};
 ghost use Rattle.wit_data.specs.Values.{kind_at};
@@ -33,6 +33,7 @@ pub(crate) fn export_and_record<E: ValtypeEncoder>(
     requires same { (E.setting encoder.old).types ≡ types.now }
     requires faithful { Faithful (E.setting encoder.old) (E.scope encoder.old) (E.names encoder.old) (E.maps encoder.old) }
     requires present { id.index < length types.now }
+    requires own { (E.setting encoder.old).may_own id.index ≡ true }
     requires values { is_resource (kind_at types.now id.index) ≡ false }
     requires value { ValueDenotes (E.scope encoder.old) value (tree_in (E.setting encoder.old) (Some (Id id))) }
     ensures value { IfOk result (λ v. ValueDenotes (E.scope encoder.new) v (tree_in (E.setting encoder.old) (Some (Id id)))) }
@@ -62,6 +63,7 @@ fn record_named<E: ValtypeEncoder>(
     requires same { (E.setting encoder.old).types ≡ types.now }
     requires faithful { Faithful (E.setting encoder.old) (E.scope encoder.old) (E.names encoder.old) (E.maps encoder.old) }
     requires present { id.index < length types.now }
+    requires own { (E.setting encoder.old).may_own id.index ≡ true }
     requires named { name_at types.now id.index ≡ Some name }
     requires value { ValueDenotes (E.scope encoder.old) value (tree_in (E.setting encoder.old) (Some (Id id))) }
     ensures value { IfOk result (λ v. ValueDenotes (E.scope encoder.new) v (tree_in (E.setting encoder.old) (Some (Id id)))) }
@@ -91,6 +93,7 @@ fn export_index<E: ValtypeEncoder>(
     requires same { (E.setting encoder.old).types ≡ types.now }
     requires faithful { Faithful (E.setting encoder.old) (E.scope encoder.old) (E.names encoder.old) (E.maps encoder.old) }
     requires present { id.index < length types.now }
+    requires own { (E.setting encoder.old).may_own id.index ≡ true }
     requires named { name_at types.now id.index ≡ Some name }
     requires denotes { Denotes (E.scope encoder.old) defined (OfValues (tree_in (E.setting encoder.old) (Some (Id id)))) }
     ensures named { IfOk result (λ index. IsNamed (E.setting encoder.old) (E.names encoder.new) id index) }

@@ -5,7 +5,7 @@ use Rattle.wit_data.specs.Sound.{HasFunction}
 use Rattle.wit_types.specs.Settings.{Setting}
 use Rattle.wit_types.specs.Allowing.{allows_function}
 use Rattle.comp_trees.specs.Members.{member_trees}
-use Rattle.type_scopes.specs.Exports.{function_exports}
+use Rattle.type_scopes.specs.Exports.{MembersExtend, function_exports}
 use Rattle.type_scopes.specs.Offers.{placed}
 use Rattle.type_scopes.specs.Interfaces.{AddsFunctions, used_function, used_among}
 use Rattle.type_scopes.proofs.Exporting.{FunctionsSoFar, functions_step, of_entry, extends_on}
@@ -25,7 +25,7 @@ loop-name-preserved g c =
       tt,
       record {
         so_far = functions_step t s c.args.used.now first old new c.args.functions.now entry c.next.new.self
-            (subst (λ (es : List (List ℕ × Function)). FunctionsSoFar t s c.args.used.now first old c.args.functions.now es) c.in-Some.ensures.steps i.so_far) e.extends
+            (subst (λ (es : List (List ℕ × Function)). FunctionsSoFar t s c.args.used.now first old c.args.functions.now es) c.in-Some.ensures.steps i.so_far) (subst (λ (r : Setting). MembersExtend r s old new) i.setting e.extends)
             (subst (λ (r : Setting). AddsFunctions r (member_trees s [] new) (function_exports old) (function_exports new) (used_function c.args.used.now entry)) i.setting e.functions);
         present = (subst (λ (es : List (List ℕ × Function)). AllByRecursion (λ x. HasFunction c.args.resolve.now x.1) es) c.in-Some.ensures.steps i.present).1;
         allowed = (of_entry (λ f. allows_function t f ≡ true) c.args.used.now entry c.next.new.self
@@ -48,5 +48,7 @@ encode_used-requires-clause-allowed g c =
 
 pub returns-in_err-encode_used-clause-extends : goal.returns-in_err-encode_used-clause-extends
 returns-in_err-encode_used-clause-extends g c =
-    extends_on g.P.Placement.surroundings c.args.encoder.now.members c.loop-name.encoder.members c.encode_used.new.encoder.members
-    c.loop-name.invariant.2.so_far.extends c.in_err-encode_used.ensures.extends
+    let s = g.P.Placement.surroundings in
+    let t = placed s g.P.Placement.origin c.args.encoder.now.outer c.args.encoder.now.interface in
+    extends_on t s c.args.encoder.now.members c.loop-name.encoder.members c.encode_used.new.encoder.members c.loop-name.invariant.2.so_far.extends
+    (subst (λ (r : Setting). MembersExtend r s c.loop-name.encoder.members c.encode_used.new.encoder.members) c.loop-name.invariant.2.setting c.in_err-encode_used.ensures.extends)

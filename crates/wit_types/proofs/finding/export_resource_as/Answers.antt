@@ -3,11 +3,15 @@ use Rattle.comp_trees.specs.DefinedTrees.{OfValues}
 use Rattle.wit_data.specs.declared.types.Type.TheVariants.{Id}
 use Rattle.wit_types.specs.Settings.{Setting, tree_in}
 use Rattle.wit_types.proofs.Growing.{faithful_after, denotes_as, named_by}
-use Rattle.wit_types.proofs.Permitting.{named_resource, resource_tree}
+use Rattle.wit_types.proofs.Permitting.{named_resource, names_resource, resource_tree}
 use Rattle.wit_types.proofs.finding.export_resource_as.Goals as goal
 
-pub export_resource-requires : goal.export_resource-requires
-export_resource-requires g c = (named_resource (g.E.ValtypeEncoder.setting c.args.encoder.now) c.args.id.index c.args.name c.requires.named).0
+pub export_resource-requires-clause-may : goal.export_resource-requires-clause-may
+export_resource-requires-clause-may g c = (named_resource (g.E.ValtypeEncoder.setting c.args.encoder.now) c.args.id.index c.args.name c.requires.named).0
+
+pub export_resource-requires-clause-named : goal.export_resource-requires-clause-named
+export_resource-requires-clause-named g c =
+    names_resource (g.E.ValtypeEncoder.setting c.args.encoder.now) c.args.types.now c.args.id c.args.name c.requires.same c.requires.back c.requires.present c.requires.resource c.requires.title c.requires.own c.requires.named
 
 pub returns-in_err-index-clause-faithful : goal.returns-in_err-index-clause-faithful
 returns-in_err-index-clause-faithful g c = faithful_after _ _ _ _ _ _ _ _ c.requires.faithful c.in_err-index.ensures.makes c.in_err-index.ensures.setting c.in_err-index.ensures.maps (g.E.ValtypeEncoder.names_kept _ _ c.in_err-index.ensures.follows)
