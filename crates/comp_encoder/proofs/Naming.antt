@@ -1,10 +1,10 @@
--- The names in a component that was built for a world: those of its imports and exports are the stated ones, and
--- all other names are distinct in their lists.
-use Rattle.std.proofs.Common.{ap, ◌∙◌, ◌≡◌, ℕ, zero, suc, Some, Bool, IsTrue, List, [], ◌∷◌, ◌++◌, refl, sym, ap₂, subst, map, inl, inr, ◌⊎◌}
+-- The names in a component that was built for a world: those of its imports and exports are the stated ones, those of its
+-- types of instances are as the world says, and all other names are distinct in their lists.
+use Rattle.std.proofs.Common.{◌≡◌, ℕ, zero, suc, Some, Bool, IsTrue, List, [], ◌∷◌, ◌++◌, refl, sym, ap₂, subst, map, arith}
 use Rattle.std.specs.Prelude.{Contains}
 use Rattle.std.specs.List.{AllByRecursion, AllZip, IsDistinct, flat_map}
 use Rattle.std.specs.Str.{bytes_eq}
-use Rattle.std.proofs.lemmas.List.Elements.{Contains-append_left, Contains-append_right, Contains-append_cases}
+use Rattle.std.proofs.lemmas.List.Elements.{Contains-append_right}
 use Rattle.std.proofs.lemmas.List.{map-append}
 use Rattle.comp_links.specs.Lists.{Stated}
 use Rattle.comp_bytes.specs.ScopeNames.{Names, item_names, def_names, def_import, def_export, names}
@@ -30,12 +30,13 @@ use Rattle.comp_check.proofs.Faults.{fault_no}
 use Rattle.comp_check.specs.Faults.{IsUnchecked}
 use Rattle.comp_check.specs.declared.fault.CheckFault.{CheckFault}
 use Rattle.comp_check.specs.declared.fault.CheckFault.TheVariants as checks
-use Rattle.comp_lists.proofs.Lists.{AllByRecursion-contains, AllByRecursion-weaker}
+use Rattle.comp_lists.proofs.Lists.{AllByRecursion-contains, AllByRecursion-weaker, AllByRecursion-front, AllByRecursion-back}
 use Rattle.comp_names.proofs.Judging.{not_distinct}
 use Rattle.comp_names.specs.NameForm.{IsFormed}
 use Rattle.comp_names.specs.Names.{OccursTwice, NamesOk}
 use Rattle.link_laws.specs.Composition.{GeneratedModules, IsComposed, at_root, item_imports, item_exports}
-use Rattle.comp_encoder.specs.Outputs.{stated_names, import_names, export_names, IsNameCause, IsOutputRefusal}
+use Rattle.link_laws.proofs.Marks.{item_type_names, root_type_names}
+use Rattle.comp_encoder.specs.Outputs.{stated_names, name_lists, IsNameCause, IsOutputRefusal}
 use Rattle.comp_encoder.specs.declared.output.OutputFault.TheVariants as outputs
 
 all_both : {A : Type 0} (P : A → Type 0) (xs ys : List A) → AllByRecursion P xs → AllByRecursion P ys → AllByRecursion P (xs ++ ys)
@@ -64,153 +65,131 @@ module _ (w : ComponentWorld) (valid : IsWorld w) where
   user_module_apart zero of e = subst ImportsApart (same_Some (record { of = Main; found = w.main }) of e) valid.main.modules_apart
   user_module_apart (suc number) of e = adapter_apart w w.adapters valid.adapters number of e
 
-  item_apart : (earlier : List Def) (i : Item) → IsItemRight w earlier i → AllByRecursion (IsDistinct bytes_eq) (item_names i)
-  item_apart earlier (items.CoreModule bytes) h = tt
-  item_apart earlier (items.CoreInstantiate number arguments) h =
-      (subst (λ (ns : Names). IsDistinct bytes_eq ns) (sym (argument_names w h.of.of earlier arguments h.of.found.imports.modules h.each)) (user_module_apart number h.of h.listed), tt)
-  item_apart earlier (items.CoreExports entries) h = (h.apart, tt)
-  item_apart earlier (items.Instantiate component arguments) h = absurd h
-  item_apart earlier (items.Alias a) h = tt
-  item_apart earlier (items.Type t) h = tt
-  item_apart earlier (items.InstanceType t) h = absurd h
-  item_apart earlier (items.Lift core options kind) h = tt
-  item_apart earlier (items.Lower function options) h = tt
-  item_apart earlier (items.Intrinsic i) h = tt
-  item_apart earlier (items.Import name description) h = tt
-  item_apart earlier (items.Export name sort index description) h = tt
-  item_apart earlier (items.Custom name contents) h = tt
+  -- what holds of distinct names, and of those of each type of instances, holds of each list of names of the definitions
+  module _ (P : Names → Type 0) (apart : (list : Names) → IsDistinct bytes_eq list → P list) where
+    item_lists : (earlier : List Def) (i : Item) → IsItemRight w earlier i → AllByRecursion P (item_type_names i) → AllByRecursion P (item_names i)
+    item_lists earlier (items.CoreInstantiate number arguments) h k =
+        let names : map (λ (a : CoreArgument). a.name) arguments ≡ map (λ g. g.0) h.of.found.imports.modules = argument_names w h.of.of earlier arguments h.of.found.imports.modules h.each in
+        (apart (map (λ a. a.name) arguments) (subst (λ (ns : Names). IsDistinct bytes_eq ns) (sym names) (user_module_apart number h.of h.listed)), tt)
+    item_lists earlier (items.CoreExports entries) h k = (apart (map (λ e. e.name) entries) h.apart, tt)
+    item_lists earlier (items.Instantiate component arguments) h k = absurd h
+    item_lists earlier (items.InstanceType t) h k = k
+    item_lists earlier i h k = tt
 
-  def_apart : (earlier : List Def) (d : Def) → IsRight w earlier d → AllByRecursion (IsDistinct bytes_eq) (def_names d)
-  def_apart earlier (defs.Item i) h = item_apart earlier i h
-  def_apart earlier (defs.Component inner) h = absurd h
+    def_lists : (earlier : List Def) (d : Def) → IsRight w earlier d → AllByRecursion P (at_root item_type_names d) → AllByRecursion P (def_names d)
+    def_lists earlier (defs.Item i) h k = item_lists earlier i h k
+    def_lists earlier (defs.Component inner) h k = absurd h
 
-  pub lists_apart : (earlier ds : List Def) → RightAfter w earlier ds → AllByRecursion (IsDistinct bytes_eq) (flat_map def_names ds)
-  lists_apart earlier [] h = tt
-  lists_apart earlier (d ∷ ds) h = all_both (IsDistinct bytes_eq) (def_names d) (flat_map def_names ds) (def_apart earlier d h.0) (lists_apart (earlier ++ d ∷ []) ds h.1)
+    pub each_list : (earlier ds : List Def) → RightAfter w earlier ds → AllByRecursion P (flat_map (at_root item_type_names) ds) → AllByRecursion P (flat_map def_names ds)
+    each_list earlier [] h k = tt
+    each_list earlier (d ∷ ds) h k =
+        all_both P (def_names d) (flat_map def_names ds)
+        (def_lists earlier d h.0 (AllByRecursion-front P (at_root item_type_names d) (flat_map (at_root item_type_names) ds) k))
+        (each_list (earlier ++ d ∷ []) ds h.1 (AllByRecursion-back P (at_root item_type_names d) (flat_map (at_root item_type_names) ds) k))
 
-module _ (w : ComponentWorld) where
-  def_externs : (earlier : List Def) (d : Def) → IsRight w earlier d → def_extern_names d ≡ def_import d ++ def_export d
-  def_externs earlier (defs.Item (items.CoreModule bytes)) h = refl
-  def_externs earlier (defs.Item (items.CoreInstantiate number arguments)) h = refl
-  def_externs earlier (defs.Item (items.CoreExports entries)) h = refl
-  def_externs earlier (defs.Item (items.Instantiate component arguments)) h = refl
-  def_externs earlier (defs.Item (items.Alias a)) h = refl
-  def_externs earlier (defs.Item (items.Type t)) h = refl
-  def_externs earlier (defs.Item (items.InstanceType t)) h = absurd h
-  def_externs earlier (defs.Item (items.Lift core options kind)) h = refl
-  def_externs earlier (defs.Item (items.Lower function options)) h = refl
-  def_externs earlier (defs.Item (items.Intrinsic i)) h = refl
-  def_externs earlier (defs.Item (items.Import name description)) h = refl
-  def_externs earlier (defs.Item (items.Export name sort index description)) h = refl
-  def_externs earlier (defs.Item (items.Custom name contents)) h = refl
-  def_externs earlier (defs.Component inner) h = absurd h
+-- and what holds of these lists holds of those of the types of instances
+module _ (P : Names → Type 0) where
+  type_lists : (d : Def) → AllByRecursion P (def_names d) → AllByRecursion P (at_root item_type_names d)
+  type_lists (defs.Item (items.InstanceType t)) h = h
+  type_lists d h = tt
 
-  -- a name of an import or an export is one of the stated imports or exports
-  pub externs_stated : (earlier ds : List Def) → RightAfter w earlier ds → (name : List ℕ) → Contains (extern_names ds) name →
-      Contains (flat_map def_import ds) name ⊎ Contains (flat_map def_export ds) name
-  externs_stated earlier [] h name c = inl c
-  externs_stated earlier (d ∷ ds) h name c =
-      elim (Contains-append_cases (def_extern_names d) (extern_names ds) name c) [
-        | inl first ↦ elim (Contains-append_cases (def_import d) (def_export d) name (subst (λ (ns : Names). Contains ns name) (def_externs earlier d h.0) first)) [
-          | inl i ↦ inl (Contains-append_left (def_import d) (flat_map def_import ds) name i)
-          | inr e ↦ inr (Contains-append_left (def_export d) (flat_map def_export ds) name e)
-        ]
-        | inr later ↦ elim (externs_stated (earlier ++ d ∷ []) ds h.1 name later) [
-          | inl i ↦ inl (Contains-append_right (def_import d) (flat_map def_import ds) name i)
-          | inr e ↦ inr (Contains-append_right (def_export d) (flat_map def_export ds) name e)
-        ]
-      ]
+  each_type_list : (ds : List Def) → AllByRecursion P (flat_map def_names ds) → AllByRecursion P (flat_map (at_root item_type_names) ds)
+  each_type_list [] h = tt
+  each_type_list (d ∷ ds) h =
+      all_both P (at_root item_type_names d) (flat_map (at_root item_type_names) ds)
+      (type_lists d (AllByRecursion-front P (def_names d) (flat_map def_names ds) h))
+      (each_type_list ds (AllByRecursion-back P (def_names d) (flat_map def_names ds) h))
 
-  -- and each stated name is a name of an import or an export
-  pub stated_externs : (earlier ds : List Def) → RightAfter w earlier ds → (name : List ℕ) → Contains (flat_map def_import ds) name ⊎ Contains (flat_map def_export ds) name →
-      Contains (extern_names ds) name
-  stated_externs earlier [] h name (inl c) = c
-  stated_externs earlier [] h name (inr c) = c
-  stated_externs earlier (d ∷ ds) h name (inl c) =
-      elim (Contains-append_cases (def_import d) (flat_map def_import ds) name c) [
-        | inl i ↦ here (Contains-append_left (def_import d) (def_export d) name i)
-        | inr i ↦ Contains-append_right (def_extern_names d) (extern_names ds) name (stated_externs (earlier ++ d ∷ []) ds h.1 name (inl i))
-      ]
-    where
-      here : Contains (def_import d ++ def_export d) name → Contains (extern_names (d ∷ ds)) name
-      here i = Contains-append_left (def_extern_names d) (extern_names ds) name (subst (λ (ns : Names). Contains ns name) (sym (def_externs earlier d h.0)) i)
-  stated_externs earlier (d ∷ ds) h name (inr c) =
-      elim (Contains-append_cases (def_export d) (flat_map def_export ds) name c) [
-        | inl i ↦ here (Contains-append_right (def_import d) (def_export d) name i)
-        | inr i ↦ Contains-append_right (def_extern_names d) (extern_names ds) name (stated_externs (earlier ++ d ∷ []) ds h.1 name (inr i))
-      ]
-    where
-      here : Contains (def_import d ++ def_export d) name → Contains (extern_names (d ∷ ds)) name
-      here i = Contains-append_left (def_extern_names d) (extern_names ds) name (subst (λ (ns : Names). Contains ns name) (sym (def_externs earlier d h.0)) i)
+-- the lists of names of imports and exports in a list of definitions
+abbrev extern_lists : List Def → List Names
+extern_lists ds = flat_map def_import ds ∷ flat_map def_export ds ∷ flat_map (at_root item_type_names) ds
+
+-- what holds of each name in them holds of all names of imports and exports, and the other way round
+module _ (w : ComponentWorld) (P : List ℕ → Type 0) where
+  def_externs : (earlier : List Def) (d : Def) → IsRight w earlier d → AllByRecursion P (def_import d) → AllByRecursion P (def_export d) → AllByRecursion (AllByRecursion P) (at_root item_type_names d) →
+      AllByRecursion P (def_extern_names d)
+  def_externs earlier (defs.Component inner) h i e t = absurd h
+  def_externs earlier (defs.Item (items.Import name description)) h i e t = i
+  def_externs earlier (defs.Item (items.Export name sort index description)) h i e t = e
+  def_externs earlier (defs.Item (items.InstanceType type)) h i e t = t.0
+  def_externs earlier d h i e t = tt
+
+  all_externs : (earlier ds : List Def) → RightAfter w earlier ds → AllByRecursion (AllByRecursion P) (extern_lists ds) → AllByRecursion P (extern_names ds)
+  all_externs earlier [] h k = tt
+  all_externs earlier (d ∷ ds) h k =
+      all_both P (def_extern_names d) (extern_names ds)
+      (def_externs earlier d h.0 (AllByRecursion-front P (def_import d) (flat_map def_import ds) k.0) (AllByRecursion-front P (def_export d) (flat_map def_export ds) k.1.0)
+      (AllByRecursion-front (AllByRecursion P) (at_root item_type_names d) (flat_map (at_root item_type_names) ds) k.1.1))
+      (all_externs (earlier ++ d ∷ []) ds h.1 (
+        AllByRecursion-back P (def_import d) (flat_map def_import ds) k.0,
+        (AllByRecursion-back P (def_export d) (flat_map def_export ds) k.1.0, AllByRecursion-back (AllByRecursion P) (at_root item_type_names d) (flat_map (at_root item_type_names) ds) k.1.1),
+      ))
+
+  externs_of : (d : Def) → AllByRecursion P (def_extern_names d) → AllByRecursion P (def_import d) × AllByRecursion P (def_export d) × AllByRecursion (AllByRecursion P) (at_root item_type_names d)
+  externs_of (defs.Item (items.Import name description)) h = (h, tt, tt)
+  externs_of (defs.Item (items.Export name sort index description)) h = (tt, h, tt)
+  externs_of (defs.Item (items.InstanceType type)) h = (tt, tt, (h, tt))
+  externs_of d h = (tt, tt, tt)
+
+  each_extern_list : (ds : List Def) → AllByRecursion P (extern_names ds) → AllByRecursion (AllByRecursion P) (extern_lists ds)
+  each_extern_list [] h = (tt, (tt, tt))
+  each_extern_list (d ∷ ds) h =
+      let first = externs_of d (AllByRecursion-front P (def_extern_names d) (extern_names ds) h) in
+      let rest : AllByRecursion (AllByRecursion P) (extern_lists ds) = each_extern_list ds (AllByRecursion-back P (def_extern_names d) (extern_names ds) h) in
+      (
+        all_both P (def_import d) (flat_map def_import ds) first.0 rest.0,
+        (all_both P (def_export d) (flat_map def_export ds) first.1 rest.1.0, all_both (AllByRecursion P) (at_root item_type_names d) (flat_map (at_root item_type_names) ds) first.2 rest.1.1),
+      )
 
 -- the names of what is stated
 import_name : (d : Def) → def_import d ≡ stated_names (at_root item_imports d)
-import_name (defs.Component inner) = refl
 import_name (defs.Item (items.CoreModule bytes)) = refl
-import_name (defs.Item (items.CoreInstantiate number arguments)) = refl
-import_name (defs.Item (items.CoreExports entries)) = refl
-import_name (defs.Item (items.Instantiate component arguments)) = refl
-import_name (defs.Item (items.Alias a)) = refl
-import_name (defs.Item (items.Type t)) = refl
-import_name (defs.Item (items.InstanceType t)) = refl
-import_name (defs.Item (items.Lift core options kind)) = refl
-import_name (defs.Item (items.Lower function options)) = refl
-import_name (defs.Item (items.Intrinsic i)) = refl
-import_name (defs.Item (items.Import name description)) = refl
-import_name (defs.Item (items.Export name sort index description)) = refl
-import_name (defs.Item (items.Custom name contents)) = refl
+import_name d = refl
 
 import_names_of : (ds : List Def) → flat_map def_import ds ≡ stated_names (flat_map (at_root item_imports) ds)
 import_names_of [] = refl
 import_names_of (d ∷ ds) = rw (import_name d, import_names_of ds) (sym (map-append (λ (s : Stated). s.name.name) (at_root item_imports d) (flat_map (at_root item_imports) ds)))
 
 export_name : (d : Def) → def_export d ≡ stated_names (at_root item_exports d)
-export_name (defs.Component inner) = refl
 export_name (defs.Item (items.CoreModule bytes)) = refl
-export_name (defs.Item (items.CoreInstantiate number arguments)) = refl
-export_name (defs.Item (items.CoreExports entries)) = refl
-export_name (defs.Item (items.Instantiate component arguments)) = refl
-export_name (defs.Item (items.Alias a)) = refl
-export_name (defs.Item (items.Type t)) = refl
-export_name (defs.Item (items.InstanceType t)) = refl
-export_name (defs.Item (items.Lift core options kind)) = refl
-export_name (defs.Item (items.Lower function options)) = refl
-export_name (defs.Item (items.Intrinsic i)) = refl
-export_name (defs.Item (items.Import name description)) = refl
-export_name (defs.Item (items.Export name sort index description)) = refl
-export_name (defs.Item (items.Custom name contents)) = refl
+export_name d = refl
 
 export_names_of : (ds : List Def) → flat_map def_export ds ≡ stated_names (flat_map (at_root item_exports) ds)
 export_names_of [] = refl
 export_names_of (d ∷ ds) = rw (export_name d, export_names_of ds) (sym (map-append (λ (s : Stated). s.name.name) (at_root item_exports d) (flat_map (at_root item_exports) ds)))
 
+each_contained : {X : Type 0} (xs : List X) → AllByRecursion (Contains xs) xs
+each_contained [] = tt
+each_contained (x ∷ xs) = ((0, omega arith, refl), AllByRecursion-weaker (λ y c. Contains-append_right (x ∷ []) xs y c) xs (each_contained xs))
+
 never_twice : (name : List ℕ) (list : Names) → IsDistinct bytes_eq list → OccursTwice name list → ⊥
 never_twice name list apart twice = not_distinct name twice.before twice.between twice.after (subst (λ (ns : Names). IsDistinct bytes_eq ns) twice.parts apart)
 
+-- a name of one of these lists
+abbrev IsIn : List Names → List ℕ → Type 0
+IsIn lists name = (list : Names) × Contains lists list × Contains list name
+
+each_in : (lists : List Names) → AllByRecursion (AllByRecursion (IsIn lists)) lists
+each_in lists = AllByRecursion-weaker (λ list c. AllByRecursion-weaker (λ name k. (list, c, k)) list (each_contained list)) lists (each_contained lists)
+
 module _ (w : ComponentWorld) (ds : List Def) (valid : IsWorld w) (built : IsBuilt w ds) (g : GeneratedModules) (composed : IsComposed w g ds) where
-  imports_are : flat_map def_import ds ≡ import_names w
-  imports_are = import_names_of ds ∙ ap stated_names composed.imports
+  lists_are : extern_lists ds ≡ name_lists w
+  lists_are =
+      rw (import_names_of ds, export_names_of ds, composed.imports, composed.exports, root_type_names w ds built) refl
 
-  exports_are : flat_map def_export ds ≡ export_names w
-  exports_are = export_names_of ds ∙ ap stated_names composed.exports
-
-  -- a name that occurs twice in a list of names is a stated one
-  twice_stated : (name : List ℕ) (list : Names) → Contains (names ds) list → OccursTwice name list → OccursTwice name (import_names w) ⊎ OccursTwice name (export_names w)
+  -- a name that occurs twice in a list of names does so in one of these lists
+  twice_stated : (name : List ℕ) (list : Names) → Contains (names ds) list → OccursTwice name list → IsNameCause w (checks.NameTwice name)
   twice_stated name list there twice =
-      let P : Names → Type 0 = λ l. OccursTwice name l → OccursTwice name (import_names w) ⊎ OccursTwice name (export_names w) in
-      AllByRecursion-contains P (names ds) list (
-        (λ t. inl (subst (λ (l : Names). OccursTwice name l) imports_are t)),
-        (
-          (λ t. inr (subst (λ (l : Names). OccursTwice name l) exports_are t)),
-          AllByRecursion-weaker (λ l apart t. absurd (never_twice name l apart t)) (flat_map def_names ds) (lists_apart w valid [] ds built.right),
-        ),
-      ) there twice
+      let P : Names → Type 0 = λ l. OccursTwice name l → IsNameCause w (checks.NameTwice name) in
+      let stated : AllByRecursion P (extern_lists ds) = subst (AllByRecursion P) (sym lists_are) (AllByRecursion-weaker {Q = P} (λ l c t. (l, c, t)) (name_lists w) (each_contained (name_lists w))) in
+      let others : AllByRecursion P (flat_map def_names ds) = each_list w valid P (λ l apart t. absurd (never_twice name l apart t)) [] ds built.right stated.1.1 in
+      AllByRecursion-contains P (names ds) list (stated.0, (stated.1.0, others)) there twice
 
-  stated : (name : List ℕ) → Contains (extern_names ds) name → Contains (import_names w ++ export_names w) name
-  stated name c = elim (externs_stated w [] ds built.right name c) [
-    | inl i ↦ Contains-append_left (import_names w) (export_names w) name (subst (λ (ns : Names). Contains ns name) imports_are i)
-    | inr e ↦ Contains-append_right (import_names w) (export_names w) name (subst (λ (ns : Names). Contains ns name) exports_are e)
-  ]
+  -- each name of an import or export is in one of them
+  extern_stated : (name : List ℕ) → Contains (extern_names ds) name → IsIn (name_lists w) name
+  extern_stated name c =
+      let P : List ℕ → Type 0 = IsIn (name_lists w) in
+      AllByRecursion-contains P (extern_names ds) name (all_externs w P [] ds built.right (subst (AllByRecursion (AllByRecursion P)) (sym lists_are) (each_in (name_lists w)))) c
 
   -- a refusal by the check has its cause
   pub check_refusal : Scoped ds → (validate : Bool) (fault : CheckFault) → IsTrue validate × IsUnchecked ds fault → IsOutputRefusal w validate (outputs.Check fault)
@@ -218,19 +197,17 @@ module _ (w : ComponentWorld) (ds : List Def) (valid : IsWorld w) (built : IsBui
   check_refusal scoped validate (checks.Grammar place) h = absurd h.1
   check_refusal scoped validate (checks.Index definition space index) h = absurd (fault_no ds definition space index h.1 scoped)
   check_refusal scoped validate (checks.NameTwice name) h = (h.0, twice_stated name h.1.0 h.1.1 h.1.2)
-  check_refusal scoped validate (checks.NameForm name) h = (h.0, (stated name h.1.0, h.1.1))
+  check_refusal scoped validate (checks.NameForm name) h = let there : IsIn (name_lists w) name = extern_stated name h.1.0 in (h.0, (there.0, there.1, there.2, h.1.1))
 
-  -- where the names of what was built are right, so are the stated ones
+  -- where the names of what was built are right, so are those of these lists
   pub no_name_cause : NamesOk ds → (fault : CheckFault) → IsNameCause w fault → ⊥
   no_name_cause ok checks.Memory h = h
   no_name_cause ok (checks.Grammar place) h = h
   no_name_cause ok (checks.Index definition space index) h = h
-  no_name_cause ok (checks.NameTwice name) (inl t) = never_twice name (import_names w) (subst (λ (l : Names). IsDistinct bytes_eq l) imports_are ok.0.0) t
-  no_name_cause ok (checks.NameTwice name) (inr t) = never_twice name (export_names w) (subst (λ (l : Names). IsDistinct bytes_eq l) exports_are ok.0.1.0) t
-  no_name_cause ok (checks.NameForm name) h = h.1 (AllByRecursion-contains IsFormed (extern_names ds) name ok.1 (stated_externs w [] ds built.right name (back name h.0)))
-    where
-      back : (name : List ℕ) → Contains (import_names w ++ export_names w) name → Contains (flat_map def_import ds) name ⊎ Contains (flat_map def_export ds) name
-      back name c = elim (Contains-append_cases (import_names w) (export_names w) name c) [
-        | inl i ↦ inl (subst (λ (ns : Names). Contains ns name) (sym imports_are) i)
-        | inr e ↦ inr (subst (λ (ns : Names). Contains ns name) (sym exports_are) e)
-      ]
+  no_name_cause ok (checks.NameTwice name) h =
+      let P : Names → Type 0 = IsDistinct bytes_eq in
+      let apart : AllByRecursion P (name_lists w) = subst (AllByRecursion P) lists_are (ok.0.0, (ok.0.1.0, each_type_list P ds ok.0.1.1)) in
+      never_twice name h.0 (AllByRecursion-contains P (name_lists w) h.0 apart h.1) h.2
+  no_name_cause ok (checks.NameForm name) h =
+      let formed : AllByRecursion (AllByRecursion IsFormed) (name_lists w) = subst (AllByRecursion (AllByRecursion IsFormed)) lists_are (each_extern_list w IsFormed ds ok.1) in
+      h.3 (AllByRecursion-contains IsFormed h.0 name (AllByRecursion-contains (AllByRecursion IsFormed) (name_lists w) h.0 formed h.1) h.2)

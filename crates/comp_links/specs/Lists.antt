@@ -131,6 +131,10 @@ functions_required w r = map (λ name. record { of = r.of; key = r.key; function
 abbrev pub required_functions : ComponentWorld → List RequiredFunction
 required_functions w = flat_map (functions_required w) (required_keys w)
 
+-- the names that each type of instances of the component exports: so far, it has no such type
+abbrev pub instance_type_names : ComponentWorld → List (List (List ℕ))
+instance_type_names w = []
+
 -- the section with the names of the items, where there is one
 abbrev pub AreNames : List Def → Type 0
 AreNames [] = Unit {0}

@@ -1,6 +1,7 @@
 -- A list that keeps the rules names earlier items, each by its index and space.
 use Rattle.std.proofs.Common.{◌≡◌, ℕ, ◌<◌, length, List, [], ◌∷◌, ◌++◌, sym, subst, Some, None}
 use Rattle.std.specs.List.{AllByRecursion, AllZip, flat_map}
+use Rattle.std.proofs.lemmas.Option.{slice_get_within}
 use Rattle.comp_bytes.specs.Spaces.{items_in, space_of, kind_space}
 use Rattle.comp_bytes.specs.References.{Reference, own, type_references, options_references, intrinsic_references, type_at}
 use Rattle.comp_bytes.specs.declared.canon.Intrinsic.{Intrinsic}
@@ -8,7 +9,9 @@ use Rattle.comp_bytes.specs.declared.canon.Intrinsic.TheVariants as intrinsics
 use Rattle.comp_bytes.specs.Scopes.{InScope, EachIn, DefScoped, Scoped, scope_of}
 use Rattle.comp_bytes.proofs.ItemIndices.{in_range}
 use Rattle.comp_bytes.specs.declared.canon.CanonicalOption.{CanonicalOption}
+use Rattle.comp_bytes.specs.declared.space.Space.{Space}
 use Rattle.comp_bytes.specs.declared.space.Space.TheVariants as spaces
+use Rattle.comp_bytes.specs.declared.space.ComponentExportKind.TheVariants as exports
 use Rattle.standard_kinds.specs.declared.kinds.ExportKind.TheVariants as kinds
 use Rattle.comp_bytes.specs.declared.space.Sort.TheVariants as sorts
 use Rattle.comp_bytes.specs.declared.types.TypeDef.{TypeDef}
@@ -25,10 +28,13 @@ use Rattle.comp_worlds.specs.declared.world.ComponentWorld.{ComponentWorld}
 use Rattle.comp_links.specs.Targets.{UserModule}
 use Rattle.comp_terms.specs.Planned.{IsArgumentFor}
 use Rattle.comp_trees.specs.Inventories as inventories
+use Rattle.comp_trees.specs.Inventories.{surroundings_of}
+use Rattle.comp_trees.proofs.Counting.{instances-counted}
 use Rattle.comp_trees.proofs.InventoryGrowth.{scope_counted}
 use Rattle.comp_trees.proofs.KnownScopes.{known_defined, known_function_names}
+use Rattle.comp_trees.proofs.MemberScopes.{members_scoped}
 use Rattle.comp_items.proofs.Kept.{function_in_range}
-use Rattle.comp_terms.specs.Rules.{IsTypeRight, IsIntrinsicRight, IsRight, RightAfter, IsEntry, IsBuilt}
+use Rattle.comp_terms.specs.Rules.{AliasesImported, IsTypeRight, IsIntrinsicRight, IsRight, RightAfter, IsEntry, IsBuilt}
 
 abbrev Within : List Def → Reference → Type 0
 Within earlier = InScope (scope_of space_of earlier ∷ [])
@@ -60,20 +66,28 @@ intrinsic_within : (earlier : List Def) (i : Intrinsic) → IsIntrinsicRight ear
 intrinsic_within earlier (intrinsics.ResourceDrop type) h = (type_named earlier type h.is.denotes.within, tt)
 intrinsic_within earlier i h = absurd h
 
+-- an alias names an instance of the list, since one is imported there
+instance_in_range : (earlier : List Def) (space : Space) (instance : ℕ) (name : List ℕ) → AliasesImported earlier space instance name → instance < items_in spaces.Instance earlier
+instance_in_range earlier space instance name h =
+    subst (λ n. instance < n) (instances-counted earlier) (slice_get_within (inventories.inventory earlier).instances instance (inventories.ImportedInstance h.number h.outer h.members) h.imported)
+
 within : (w : ComponentWorld) (earlier : List Def) (d : Def) → IsRight w earlier d → DefScoped (scope_of space_of earlier) d
 within w earlier (defs.Component inner) h = absurd h
 within w earlier (defs.Item (items.CoreModule bytes)) h = (tt, tt)
 within w earlier (defs.Item (items.CoreInstantiate number arguments)) h = ((h.scoped, arguments_within w h.of.of earlier arguments h.of.found.imports.modules h.each), tt)
 within w earlier (defs.Item (items.CoreExports entries)) h = (entries_within earlier entries h.each, tt)
 within w earlier (defs.Item (items.Instantiate component arguments)) h = absurd h
-within w earlier (defs.Item (items.Alias (aliases.Export sort instance name))) h = absurd h
+within w earlier (defs.Item (items.Alias (aliases.Export exports.Func instance name))) h = ((instance_in_range earlier spaces.Func instance name h, tt), tt)
+within w earlier (defs.Item (items.Alias (aliases.Export exports.Type instance name))) h = ((instance_in_range earlier spaces.Type instance name h, tt), tt)
+within w earlier (defs.Item (items.Alias (aliases.Export exports.Component instance name))) h = absurd h
+within w earlier (defs.Item (items.Alias (aliases.Export exports.Instance instance name))) h = absurd h
 within w earlier (defs.Item (items.Alias (aliases.CoreExport kinds.Func instance name))) h = ((in_range h.is.made, tt), tt)
 within w earlier (defs.Item (items.Alias (aliases.CoreExport kinds.Table instance name))) h = absurd h
 within w earlier (defs.Item (items.Alias (aliases.CoreExport kinds.Memory instance name))) h = absurd h
 within w earlier (defs.Item (items.Alias (aliases.CoreExport kinds.Global instance name))) h = absurd h
 within w earlier (defs.Item (items.Alias (aliases.Outer count index))) h = absurd h
 within w earlier (defs.Item (items.Type t)) h = (type_within earlier t h, tt)
-within w earlier (defs.Item (items.InstanceType t)) h = absurd h
+within w earlier (defs.Item (items.InstanceType t)) h = (tt, members_scoped (surroundings_of 0 (inventories.scope_of earlier)) (scope_of space_of earlier) (scope_counted earlier) t.members (h 0))
 within w earlier (defs.Item (items.Lift core options kind)) h =
     ((h.0, subst (λ (o : List CanonicalOption). AllByRecursion (Within earlier) (options_references o ++ type_at kind)) (sym h.1) (type_named earlier kind h.2.is.denotes.within, tt)), tt)
 within w earlier (defs.Item (items.Lower function options)) h = ((function_in_range h.0.is, no_options earlier options h.1), tt)

@@ -2,9 +2,10 @@
 -- explainer: component definitions). They are what the steps guarantee to the proof that the list runs; no rule is
 -- part of a public guarantee.
 use Rattle.std.specs.Prelude.{◌≡◌, ◌<◌, ℕ, List, [], ◌∷◌, ◌++◌, Option, Some, None, true, length, map, filter, get_or, slice_get}
-use Rattle.std.specs.List.{AllByRecursion, AllZip, IsDistinct, filter_map, list_any}
+use Rattle.std.specs.List.{AllByRecursion, AllZip, IsDistinct, flat_map, filter_map, list_any}
 use Rattle.std.specs.Str.{bytes_eq}
 use Rattle.comp_bytes.specs.Spaces.{items_in}
+use Rattle.comp_bytes.specs.ScopeNames.{member_export}
 use Rattle.comp_bytes.specs.declared.space.Space.{Space}
 use Rattle.comp_bytes.specs.declared.space.Space.TheVariants as spaces
 use Rattle.comp_bytes.specs.declared.space.ComponentExportKind.TheVariants as exports
@@ -185,6 +186,7 @@ pub data Landmark : Type 0 where
   InstanceOf : (number : ℕ) → Landmark
   Exported : (stated : Stated) → Landmark
   CustomNamed : (name : List ℕ) → Landmark
+  InstanceTypeOf : (names : List (List ℕ)) → Landmark
 
 -- a function that is imported, or exported, at the root
 abbrev pub named_import : List ℕ → Landmark
@@ -196,6 +198,7 @@ named_export text = Exported (root_function text)
 abbrev pub item_landmark : Item → Option Landmark
 item_landmark (items.CoreModule bytes) = Some (ModuleIs bytes)
 item_landmark (items.CoreInstantiate number arguments) = Some (InstanceOf number)
+item_landmark (items.InstanceType t) = Some (InstanceTypeOf (flat_map member_export t.members))
 item_landmark (items.Import name description) = Some (Imported (record { name = name; sort = described_sort description }))
 item_landmark (items.Export name sort index description) = Some (Exported (record { name = name; sort = sort }))
 item_landmark (items.Custom name contents) = Some (CustomNamed name)

@@ -8,5 +8,6 @@ pub mod Inventories
 pub mod Counting
 pub mod InventoryGrowth
 pub mod KnownScopes
+pub mod MemberScopes
 mod Worked
 mod WorkedScopes

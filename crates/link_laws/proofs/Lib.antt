@@ -4,7 +4,7 @@ mod Plain
 mod Given
 mod UserExports
 pub mod Steps
-mod Marks
+pub mod Marks
 mod ImportedTypes
 mod Served
 mod NamedItem

@@ -2,14 +2,15 @@
 use Rattle.std.proofs.Common.{◌≡◌, ◌∙◌, ℕ, List, [], ◌∷◌, ◌++◌, map, refl, ap, append-nil}
 use Rattle.std.proofs.lemmas.Grind.{flat_map-append}
 use Rattle.std.specs.List.{flat_map, filter_map}
-use Rattle.comp_bytes.specs.ScopeNames.{def_export}
+use Rattle.comp_bytes.specs.ScopeNames.{Names, member_export, def_export}
+use Rattle.comp_bytes.specs.declared.def.Item.{Item}
 use Rattle.comp_bytes.specs.declared.def.Item.TheVariants as items
 use Rattle.comp_bytes.specs.declared.def.Def.{Def}
 use Rattle.comp_bytes.specs.declared.def.Def.TheVariants as defs
 use Rattle.wit_data.specs.Keys.{name_of_key}
 use Rattle.comp_worlds.specs.declared.world.ComponentWorld.{ComponentWorld}
-use Rattle.comp_links.specs.Lists.{Stated, root_function, stated_imports, AreNames}
-use Rattle.comp_terms.specs.Rules.{Landmark, Imported, ModuleIs, InstanceOf, Exported, CustomNamed, landmark, imports_marked, exports_marked, IsBuilt}
+use Rattle.comp_links.specs.Lists.{Stated, root_function, stated_imports, instance_type_names, AreNames}
+use Rattle.comp_terms.specs.Rules.{Landmark, Imported, ModuleIs, InstanceOf, Exported, CustomNamed, InstanceTypeOf, landmark, imports_marked, exports_marked, IsBuilt}
 use Rattle.link_laws.specs.Composition.{at_root, item_module, item_instantiates, item_imports, item_exports, item_customs}
 use Rattle.link_laws.proofs.Zips.{flat_map-marked}
 
@@ -37,6 +38,15 @@ abbrev custom_mark : Landmark → List (List ℕ)
 custom_mark (CustomNamed name) = name ∷ []
 custom_mark _ = []
 
+-- the names that a type of instances exports
+abbrev pub item_type_names : Item → List Names
+item_type_names (items.InstanceType t) = flat_map member_export t.members ∷ []
+item_type_names _ = []
+
+abbrev type_mark : Landmark → List Names
+type_mark (InstanceTypeOf names) = names ∷ []
+type_mark _ = []
+
 import_is : (d : Def) → at_root item_imports d ≡ flat_map import_mark (filter_map landmark (d ∷ []))
 import_is (defs.Item (items.CoreModule bytes)) = refl
 import_is d = refl
@@ -60,6 +70,10 @@ name_is d = refl
 custom_is : (d : Def) → at_root item_customs d ≡ flat_map custom_mark (filter_map landmark (d ∷ []))
 custom_is (defs.Item (items.CoreModule bytes)) = refl
 custom_is d = refl
+
+type_is : (d : Def) → at_root item_type_names d ≡ flat_map type_mark (filter_map landmark (d ∷ []))
+type_is (defs.Item (items.CoreModule bytes)) = refl
+type_is d = refl
 
 module _ {A : Type 0} (f : Landmark → List A) where
   none_of : {X : Type 0} (mark : X → Landmark) → ((x : X) → f (mark x) ≡ []) → (xs : List X) → flat_map f (map mark xs) ≡ []
@@ -118,6 +132,11 @@ module _ (w : ComponentWorld) (ds : List Def) (built : IsBuilt w ds) where
   root_export_names =
       read_marks def_export name_mark name_is (λ n c. refl)
       ∙ rw (none_of name_mark Imported (λ t. refl) (stated_imports w), all_of name_mark (λ key. Exported (root_function (name_of_key key))) name_of_key (λ key. refl) w.main_exports) refl
+
+  pub root_type_names : flat_map (at_root item_type_names) ds ≡ instance_type_names w
+  root_type_names =
+      read_marks (at_root item_type_names) type_mark type_is (λ n c. refl)
+      ∙ rw (none_of type_mark Imported (λ t. refl) (stated_imports w), none_of type_mark (λ key. Exported (root_function (name_of_key key))) (λ key. refl) w.main_exports) refl
 
   pub no_customs : flat_map (at_root item_customs) built.front ≡ []
   no_customs =
