@@ -1,5 +1,5 @@
 -- The root of a component as a scope of types (component model, explainer: type definitions, import definitions).
-use Rattle.std.specs.Prelude.{ℕ, suc, Bool, ◌+◌, ◌<◌, ◌≤◌, ◌==◌, ◌&&◌, ◌^◌, ◌≡◌, nat_lt, false, List, [], map, Option, Some, None}
+use Rattle.std.specs.Prelude.{ℕ, suc, Bool, ◌+◌, ◌<◌, ◌≤◌, ◌==◌, ◌&&◌, ◌^◌, ◌≡◌, nat_lt, true, false, List, [], map, Option, Some, None}
 use Rattle.std.specs.List.{AllByRecursion, list_any}
 use Rattle.byte_encoding.specs.declared.fault.BuildFault.{BuildFault}
 use Rattle.byte_encoding.specs.declared.fault.BuildFault.TheVariants.{Memory, TooMany}
