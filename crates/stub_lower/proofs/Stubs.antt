@@ -1,6 +1,6 @@
 -- The stub's world is a validated one, and the stub refuses no good module.
 use Rattle.std.proofs.Common.{◌≡◌, ℕ, List, map, refl, subst, sym, ap, take, inl, inr, [], ◌∷◌, arith, length, ◌<◌, Some, Result, Ok, Err}
-use Rattle.std.specs.Prelude.{⊤, codes, IfOk, IsOk}
+use Rattle.std.specs.Prelude.{⊤, codes, Contains, IfOk, IsOk}
 use Rattle.std.specs.Option.{option_map}
 use Rattle.comp_worlds.specs.Gathering.{gathered_module, HasModules}
 use Rattle.world_values.specs.declared.gathered.Part.{Part}
@@ -12,7 +12,7 @@ use Rattle.comp_worlds.specs.declared.world.WorldParts.{WorldParts}
 use Rattle.world_values.specs.Mentions.{HasRole}
 use Rattle.comp_worlds.specs.Uses.{all_imports}
 use Rattle.core_types.specs.Core.{core_preamble}
-use Rattle.comp_worlds.specs.Worlds.{IsWorld}
+use Rattle.comp_worlds.specs.Worlds.{IsResource, IsWorld}
 use Rattle.comp_worlds.specs.WorldTables.{HasTables}
 use Rattle.comp_worlds.proofs.WholeTables.{whole_has_tables}
 use Rattle.comp_encoder.specs.Encoder.{main_bytes}
@@ -57,13 +57,16 @@ pub parts_roles : (p : WorldParts) (bytes : List ℕ) → p ≡ stub_parts bytes
 unfolding stub_parts
 parts_roles p bytes is = subst (λ (x : WorldParts). AllByRecursion (λ i. HasRole x.resolve i.role) (all_imports x.main x.adapters)) (sym is) (tt, tt)
 
+no_resource : (n : ℕ) → IsResource [] n → Contains [] n
+no_resource n h = let within = h.present in absurd (omega (arith, within))
+
 valid_of : (bytes : List ℕ) → take 8 bytes ≡ core_preamble → IsWorld (stub_world bytes)
 unfolding stub_parts stub_world
 valid_of bytes core = record {
   sound = sound;
   present = omega arith;
   types = tt;
-  resources = record { ordered = tt; each = λ n r. let l = r.present in absurd (omega (arith, l)) };
+  resources = record { ordered = tt; each = no_resource };
   imports = ((refl, record { kind = tt; imported = refl; exported = refl }), tt);
   exports = tt;
   import_names_apart = alone (codes "f");
