@@ -135,8 +135,7 @@ module _ (w : ComponentWorld) (P : List ℕ → Type 0) where
   each_extern_list [] h = (tt, (tt, tt))
   each_extern_list (d ∷ ds) h =
       let first = externs_of d (AllByRecursion-front P (def_extern_names d) (extern_names ds) h) in
-      let rest : AllByRecursion (AllByRecursion P) (extern_lists ds) = each_extern_list ds (AllByRecursion-back P (def_extern_names d) (extern_names ds) h) in
-      (
+      let rest : AllByRecursion (AllByRecursion P) (extern_lists ds) = each_extern_list ds (AllByRecursion-back P (def_extern_names d) (extern_names ds) h) in (
         all_both P (def_import d) (flat_map def_import ds) first.0 rest.0,
         (all_both P (def_export d) (flat_map def_export ds) first.1 rest.1.0, all_both (AllByRecursion P) (at_root item_type_names d) (flat_map (at_root item_type_names) ds) first.2 rest.1.1),
       )

@@ -38,7 +38,7 @@ returns-clause-exported g c =
     let out = c.into_type.result.members in
     let later : MembersExtend t s mid new = subst (λ (r : Setting). MembersExtend r s mid new) c.in_ok-encode_types.ensures.setting c.in_ok-encode_functions.ensures.extends in
     let own : AreOwnExports t s [] out = own_whole t s e.members mid new out c.new-encoder.ensures.members
-        (extends_on t s e.members mid new (extends_by t s e.members mid mid c.in_ok-encode_types.ensures.follows.1 refl) later) c.into_type.ensures in
+    (extends_on t s e.members mid new (extends_by t s e.members mid mid c.in_ok-encode_types.ensures.follows.1 refl) later) c.into_type.ensures in
     let same : t ≡ placed s g.P.Placement.origin o c.args.interface = ap (λ q. placed s g.P.Placement.origin q e.interface) (c.new-encoder.ensures.outer ∙ c.new-outer.ensures) ∙ ap (placed s g.P.Placement.origin o) c.new-encoder.ensures.interface in
     types_found s g.P.Placement.origin o c.args.interface out c.requires.apart (returns-clause-members g c) (subst (λ (r : Setting). AreOwnExports r s [] out) same own)
     c.args.types.now c.requires.titled (returns-clause-types g c).each
