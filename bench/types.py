@@ -57,6 +57,15 @@ def exported_functions(count):
     return module(record, [("$root", "f")], b"\1" + I32, b"\0", names)
 
 
+def resources_that_are_dropped(count):
+    names = [f"r{n}" for n in range(count)]
+    record = {
+        "imports": [{"type": {"name": name, "type": {"resource": True}}} for name in names],
+        "core-imports": [{"module": "$root", "field": name, "role": ["imported-drop", None, name]} for name in names],
+    }
+    return module(record, [("$root", name) for name in names], b"\1" + I32)
+
+
 print("world of                               1,000 s   10,000 s   ratio")
 for make in (
     functions_of_one_type,
@@ -64,6 +73,7 @@ for make in (
     types_of_the_world,
     types_that_name_another,
     exported_functions,
+    resources_that_are_dropped,
 ):
     seconds = []
     for count in (1000, 10000):
