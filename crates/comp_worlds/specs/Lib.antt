@@ -4,5 +4,6 @@ pub mod Uses
 pub mod Imported
 pub mod Typed
 pub mod Worlds
+pub mod Encodable
 pub mod WorldTables
 pub mod Gathering

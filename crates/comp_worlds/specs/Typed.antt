@@ -14,7 +14,7 @@ use Rattle.core_types.specs.declared.types.ValType.TheVariants.{I32}
 use Rattle.comp_roles.specs.declared.offered.ExternType.{ExternType}
 use Rattle.comp_roles.specs.declared.offered.ExternType.TheVariants as externs
 use Rattle.comp_roles.specs.declared.offered.ImportType.{ImportType}
-use Rattle.world_values.specs.Items.{root_function_at}
+use Rattle.world_values.specs.Items.{functions_of, root_function_at}
 use Rattle.comp_worlds.specs.declared.world.ValidatedModule.{ValidatedModule}
 
 -- the type of `resource.drop`: a handle is a number
@@ -24,6 +24,7 @@ drop_type = externs.Func (record { params = I32 ∷ []; results = [] })
 -- the type that the role of an import, or of an export, requires, as far as such roles are encoded
 abbrev pub type_of_import : Resolve → World → Import → Option ExternType
 type_of_import r items (imports.WorldFunc key function abi) = option_map (called_type r abi) (root_function_at items.imports key)
+type_of_import r items (imports.InterfaceFunc key id function abi) = option_map (called_type r abi) (found function (functions_of r id))
 type_of_import r items (imports.ImportedResourceDrop key interface id) = Some drop_type
 type_of_import r items role = None
 

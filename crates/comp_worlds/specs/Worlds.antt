@@ -1,6 +1,6 @@
 -- What a validated world contains, and what holds of it (component model: the imports and exports of a
 -- world; core standard, binary format: the preamble of a module).
-use Rattle.std.specs.Prelude.{◌≡◌, ◌<◌, ◌≤◌, ℕ, suc, List, [], ◌∷◌, Option, Some, None, map, get_or, length, Contains, IsSome}
+use Rattle.std.specs.Prelude.{◌≡◌, ◌<◌, ℕ, List, [], ◌∷◌, Option, Some, None, map, get_or, length, Contains, IsSome}
 use Rattle.std.specs.List.{flat_map, IsDistinct, AllByRecursion}
 use Rattle.std.specs.Str.{bytes_eq}
 use Rattle.comp_lists.specs.Found.{found}
@@ -12,14 +12,12 @@ use Rattle.wit_data.specs.declared.functions.AbiVariant.TheVariants.{GuestImport
 use Rattle.wit_data.specs.declared.ids.TypeId.{TypeId}
 use Rattle.wit_data.specs.declared.types.TypeDef.{TypeDef}
 use Rattle.wit_data.specs.declared.types.TypeDefKind.TheVariants as kinds
-use Rattle.wit_data.specs.declared.types.TypeOwner.{TypeOwner}
-use Rattle.wit_data.specs.declared.types.TypeOwner.TheVariants as owners
+use Rattle.wit_data.specs.declared.resolve.Resolve.{Resolve}
 use Rattle.wit_data.specs.declared.worlds.WorldKey.{WorldKey}
 use Rattle.wit_data.specs.declared.worlds.WorldKey.TheVariants as keys
 use Rattle.wit_data.specs.declared.worlds.WorldItem.{WorldItem}
 use Rattle.wit_data.specs.declared.worlds.WorldItem.TheVariants as items
 use Rattle.wit_data.specs.declared.worlds.World.{World}
-use Rattle.wit_data.specs.Sound.{IsSound}
 use Rattle.wit_data.specs.Values.{kind_at}
 use Rattle.comp_options.specs.Options.{import_set, export_set}
 use Rattle.comp_roles.specs.declared.imports.Import.{Import}
@@ -31,7 +29,7 @@ use Rattle.comp_roles.specs.declared.exports.Export.TheVariants as exports
 use Rattle.comp_worlds.specs.declared.world.ComponentWorld.{ComponentWorld}
 use Rattle.comp_worlds.specs.declared.world.ValidatedModule.{ValidatedModule}
 use Rattle.comp_roles.specs.CoreImports.{CoreImport, imports_from}
-use Rattle.world_values.specs.Items.{no_items, root_export}
+use Rattle.world_values.specs.Items.{no_items, functions_of, root_export}
 use Rattle.comp_worlds.specs.Typed.{FitsImport, FitsExport}
 
 -- ---- its contents
@@ -92,43 +90,33 @@ pub record IsPlain (types : List TypeDef) (f : Function) : Type 0 where
   pub imported : import_set GuestImport types f ≡ 0
   pub exported : export_set GuestExport types f ≡ 0
 
--- the world imports plain functions at its root, each under its name, and types
-abbrev pub IsImportItem : List TypeDef → WorldKey × WorldItem → Type 0
-IsImportItem types (keys.Name text, items.Function f) = (text ≡ f.name) × IsPlain types f
-IsImportItem types (keys.Name text, items.NamedType id) = Unit {0}
-IsImportItem types entry = ⊥
+-- a plain function under its name
+abbrev pub IsNamedPlain : List TypeDef → List ℕ × Function → Type 0
+IsNamedPlain types e = (e.0 ≡ e.1.name) × IsPlain types e.1
+
+-- the world imports plain functions at its root, each under its name, types, and interfaces of such functions
+abbrev pub IsImportItem : Resolve → WorldKey × WorldItem → Type 0
+IsImportItem r (keys.Name text, items.Function f) = IsNamedPlain r.types (text, f)
+IsImportItem r (keys.Name text, items.NamedType id) = Unit {0}
+IsImportItem r (keys.Name text, items.Interface id) = AllByRecursion (IsNamedPlain r.types) (functions_of r id)
+IsImportItem r (keys.Interface other, items.Interface id) = AllByRecursion (IsNamedPlain r.types) (functions_of r id)
+IsImportItem r entry = ⊥
 
 -- it exports plain functions at its root, each under its name
 abbrev pub IsExportItem : List TypeDef → WorldKey × WorldItem → Type 0
-IsExportItem types (keys.Name text, items.Function f) = (text ≡ f.name) × IsPlain types f
+IsExportItem types (keys.Name text, items.Function f) = IsNamedPlain types (text, f)
 IsExportItem types entry = ⊥
-
-abbrev pub IsOwnerAtRoot : TypeOwner → Type 0
-IsOwnerAtRoot (owners.Interface id) = ⊥
-IsOwnerAtRoot owner = Unit {0}
-
--- a type that belongs to no interface
-pub record IsRootType (t : TypeDef) : Type 0 where
-  pub owner : IsOwnerAtRoot t.owner
 
 -- the type of this number is a resource
 pub record IsResource (types : List TypeDef) (number : ℕ) : Type 0 where
   pub present : number < length types
   pub kind : kind_at types number ≡ kinds.Resource
 
--- the numbers ascend, and the first is at least this
-abbrev pub AscendFrom : ℕ → List ℕ → Type 0
-AscendFrom k [] = Unit {0}
-AscendFrom k (n ∷ ns) = (k ≤ n) × AscendFrom (suc n) ns
-
--- the types that the world imports come in the order of the resolve, and each resource is one of them
-pub record ImportsResources (w : ComponentWorld) : Type 0 where
-  pub ordered : AscendFrom 0 (map (λ t. t.1.index) (imported_types w))
-  pub each : (n : ℕ) → IsResource w.resolve.types n → Contains (map (λ t. t.1.index) (imported_types w)) n
-
--- the role of an import is a function that the world imports, called in the right form, or the drop of a resource
+-- the role of an import is a function that the world imports, at its root or in an interface, called in the right form, or
+-- the drop of a resource
 abbrev pub IsImportRole : ComponentWorld → Import → Type 0
 IsImportRole w (imports.WorldFunc (keys.Name text) function abi) = Contains (imported_functions w) text × (function ≡ text) × (abi ≡ GuestImport)
+IsImportRole w (imports.InterfaceFunc key id function abi) = Contains (items_of w).imports (key, items.Interface id) × Contains (map (λ e. e.0) (functions_of w.resolve id)) function × (abi ≡ GuestImport)
 IsImportRole w (imports.ImportedResourceDrop key interface id) = IsResource w.resolve.types id.index
 IsImportRole w role = ⊥
 
@@ -160,11 +148,8 @@ pub record IsUserModule (w : ComponentWorld) (m : ValidatedModule) (keys : List 
 
 -- what holds of every validated world
 pub record IsWorld (w : ComponentWorld) : Type 0 where
-  pub sound : IsSound w.resolve
   pub present : w.world.index < length w.resolve.worlds
-  pub types : AllByRecursion IsRootType w.resolve.types
-  pub resources : ImportsResources w
-  pub imports : AllByRecursion (IsImportItem w.resolve.types) (items_of w).imports
+  pub imports : AllByRecursion (IsImportItem w.resolve) (items_of w).imports
   pub exports : AllByRecursion (IsExportItem w.resolve.types) (items_of w).exports
   pub import_names_apart : IsDistinct bytes_eq (imported_functions w)
   pub export_names_apart : IsDistinct bytes_eq (exported_functions w)

@@ -2,7 +2,7 @@
 //! modules, and prepares the validated world.
 
 ghost use Rattle.std.specs.Prelude.{◌≡◌, ℕ, List, Bool, false, IfOk, IfErr, IsSome, IsOk};
-ghost use Rattle.comp_worlds.specs.Worlds.{IsWorld};
+ghost use Rattle.comp_worlds.specs.Encodable.{IsEncodable};
 ghost use Rattle.comp_worlds.specs.WorldTables.{HasTables};
 ghost use Rattle.comp_worlds.specs.Gathering.{HasModules};
 ghost use Rattle.comp_worlds.specs.declared.world.ComponentWorld.{ComponentWorld};
@@ -74,7 +74,7 @@ pub trait Lower {
     ) -> Result<ComponentWorld, Self::Fault>
         requires { IsSome gathered.now.main }
         ensures ok { IfOk result (λ w. w ≡ prepared self.now gathered.now) }
-        ensures valid { IfOk result IsWorld }
+        ensures valid { IfOk result IsEncodable }
         ensures tables { IfOk result HasTables }
         ensures modules { IfOk result (HasModules gathered.now) }
         ensures refused { IsOk result → (f : Self.Fault) → ¬ prepare_cause self.now gathered.now f }
