@@ -1,4 +1,5 @@
 pub mod Targets
+pub mod Naming
 pub mod Modules
 pub mod Roles
 pub mod Lists

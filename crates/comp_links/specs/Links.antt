@@ -14,7 +14,7 @@ use Rattle.comp_roles.specs.declared.imports.ImportInstance.TheVariants as insta
 use Rattle.comp_roles.specs.declared.libraries.MainOrAdapter.{MainOrAdapter}
 use Rattle.comp_roles.specs.declared.libraries.MainOrAdapter.TheVariants as modules
 use Rattle.comp_worlds.specs.declared.world.ComponentWorld.{ComponentWorld}
-use Rattle.comp_links.specs.Targets.{UserModule, Main, Adapter, TargetOption, Target, OfRoot, Lowered, ExportOf, MainMemory, Dropped, Lifted, Unlinked}
+use Rattle.comp_links.specs.Targets.{UserModule, Main, Adapter, TargetOption, Target, OfRoot, OfInterface, Lowered, ExportOf, MainMemory, Dropped, Lifted, Unlinked}
 use Rattle.comp_links.specs.Modules.{WorldModule}
 use Rattle.comp_links.specs.Lists.{RequiredFunction}
 
@@ -31,10 +31,11 @@ abbrev pub module_of : MainOrAdapter → UserModule
 module_of modules.Main = Main
 module_of (modules.Adapter name) = Adapter name
 
--- what an import of a user module is to be given, by its role: a root function is lowered, handles of a resource are
+-- what an import of a user module is to be given, by its role: a function of the world is lowered, handles of a resource are
 -- dropped, and what another module exports is given as it is
 abbrev pub link_of : ComponentWorld → UserModule → Import → Target
 link_of w m (imports.WorldFunc (keys.Name text) function abi) = Lowered (OfRoot text) (lower_options w m (keys.Name text))
+link_of w m (imports.InterfaceFunc key id function abi) = Lowered (OfInterface id function) (lower_options w m key)
 link_of w m (imports.ImportedResourceDrop key interface id) = Dropped id
 link_of w m (imports.MainModuleMemory type) = MainMemory
 link_of w m (imports.MainModuleExport name kind) = ExportOf (record { of = Main; name = name })

@@ -1,7 +1,8 @@
 -- What a component imports and exports, in order, and the section of its names (component model: the imports and exports
 -- of a component; binary format: name section).
-use Rattle.std.specs.Prelude.{◌≡◌, ◌==◌, ◌++◌, ℕ, suc, List, [], ◌∷◌, codes, map, Option, Some, None, slice_get, if◌then◌else◌}
+use Rattle.std.specs.Prelude.{◌≡◌, ◌==◌, ◌++◌, ℕ, suc, List, [], ◌∷◌, codes, map, Option, Some, None, slice_get, if◌then◌else◌, unwrap_or}
 use Rattle.std.specs.List.{flat_map}
+use Rattle.std.specs.Option.{option_and_then}
 use Rattle.std.specs.Map.{lookup}
 use Rattle.comp_bytes.specs.declared.space.Sort.{Sort}
 use Rattle.comp_bytes.specs.declared.space.Sort.TheVariants as sorts
@@ -11,13 +12,14 @@ use Rattle.comp_bytes.specs.declared.types.Description.TheVariants as descriptio
 use Rattle.comp_bytes.specs.declared.def.Item.TheVariants as parts
 use Rattle.comp_bytes.specs.declared.def.Def.{Def}
 use Rattle.comp_bytes.specs.declared.def.Def.TheVariants as defs
-use Rattle.wit_data.specs.Names.{key_text}
+use Rattle.wit_data.specs.Names.{text_of}
 use Rattle.wit_data.specs.Keys.{is_same_key}
 use Rattle.wit_data.specs.declared.resolve.Resolve.{Resolve}
 use Rattle.wit_data.specs.declared.worlds.WorldItem.{WorldItem}
 use Rattle.wit_data.specs.declared.worlds.WorldItem.TheVariants as items
 use Rattle.wit_data.specs.declared.worlds.WorldKey.{WorldKey}
 use Rattle.world_values.specs.Items.{functions_of}
+use Rattle.wit_data.specs.declared.ids.InterfaceId.{InterfaceId}
 use Rattle.wit_data.specs.declared.ids.TypeId.{TypeId}
 use Rattle.comp_worlds.specs.Worlds.{items_of, imported_types}
 use Rattle.comp_worlds.specs.declared.world.ComponentWorld.{ComponentWorld}
@@ -26,7 +28,8 @@ use Rattle.comp_trees.specs.Trees.{Origin, Resource, ImportedAt}
 use Rattle.comp_trees.specs.WitTrees.{wit_tree}
 use Rattle.comp_trees.specs.DefinedTrees.{TypeTree, OfValues}
 use Rattle.comp_links.specs.Targets.{UserModule, Main, WorldFunction, OfRoot, OfInterface}
-use Rattle.comp_links.specs.Roles.{used_functions}
+use Rattle.comp_links.specs.Naming.{Naming, plain_name, name_of, import_name}
+use Rattle.comp_links.specs.Roles.{used_functions, used_functions_of}
 
 -- the sort of what an import is said to be
 abbrev pub described_sort : Description → Sort
@@ -40,10 +43,6 @@ pub record Stated : Type 0 where
   pub name : ExternName
   pub sort : Sort
 
--- a name without a version suffix
-abbrev pub plain_name : List ℕ → ExternName
-plain_name text = record { name = text; version_suffix = None }
-
 -- a function at the root
 abbrev pub root_function : List ℕ → Stated
 root_function name = record { name = plain_name name; sort = sorts.Func }
@@ -52,14 +51,38 @@ root_function name = record { name = plain_name name; sort = sorts.Func }
 abbrev pub root_type : List ℕ → Stated
 root_type name = record { name = plain_name name; sort = sorts.Type }
 
--- an import of the component: so far, a type of the world, or a function at its root
+-- ---- imports
+
+-- the types of an imported interface that the component needs
+abbrev pub needed_types : ComponentWorld → InterfaceId → List TypeId
+needed_types w id = unwrap_or (lookup (λ (other : InterfaceId). id.index == other.index) w.live_type_imports) []
+
+abbrev pub type_name : ComponentWorld → TypeId → List ℕ
+type_name w id = text_of (option_and_then (λ t. t.name) (slice_get w.resolve.types id.index))
+
+-- the names that the instance type of an imported interface exports: those of its types that are needed, then those of its
+-- functions that core imports use
+abbrev pub names_of_interface : ComponentWorld → InterfaceId → List (List ℕ)
+names_of_interface w id = map (type_name w) (needed_types w id) ++ used_functions_of w id
+
+-- an import of the component: an interface under its key, a type of the world, or a function at its root
 pub data ImportEntry : Type 0 where
+  ImportedInterface : (key : WorldKey) (id : InterfaceId) → ImportEntry
   WorldType : (name : List ℕ) (id : TypeId) → ImportEntry
   RootFunction : (name : List ℕ) → ImportEntry
 
+-- an interface is imported where something of it is needed
+abbrev pub unless_empty : List (List ℕ) → ImportEntry → List ImportEntry
+unless_empty [] e = []
+unless_empty (name ∷ names) e = e ∷ []
+
+abbrev pub interface_entry : ComponentWorld → WorldKey × WorldItem → List ImportEntry
+interface_entry w (key, items.Interface id) = unless_empty (names_of_interface w id) (ImportedInterface key id)
+interface_entry w entry = []
+
 -- the imports of the component, by what of the world they are
 abbrev pub import_entries : ComponentWorld → List ImportEntry
-import_entries w = map (λ t. WorldType t.0 t.1) (imported_types w) ++ map RootFunction (used_functions w)
+import_entries w = flat_map (interface_entry w) (items_of w).imports ++ (map (λ t. WorldType t.0 t.1) (imported_types w) ++ map RootFunction (used_functions w))
 
 -- the number of the import of a type
 abbrev pub number_of_type : TypeId → List ImportEntry → ℕ
@@ -78,17 +101,28 @@ type_of_world w id = OfValues (wit_tree (resource_of w) w.resolve.types (Some (I
 abbrev pub stated_types : ComponentWorld → List TypeTree
 stated_types w = map (λ t. type_of_world w t.1) (imported_types w)
 
--- where a function of the world is imported
+-- where a function of the world is imported: at the root, or in an instance
 abbrev pub IsOriginOf : ComponentWorld → WorldFunction → Origin → Type 0
 IsOriginOf w (OfRoot name) o = (slice_get (import_entries w) o.number ≡ Some (RootFunction name)) × (o.inner ≡ None)
-IsOriginOf w (OfInterface interface name) o = ⊥
+IsOriginOf w (OfInterface id name) o = (key : WorldKey) × (slice_get (import_entries w) o.number ≡ Some (ImportedInterface key id)) × (o.inner ≡ Some name)
 
-abbrev pub stated_import : ImportEntry → Stated
-stated_import (WorldType name id) = root_type name
-stated_import (RootFunction name) = root_function name
+abbrev pub stated_import : Naming → ComponentWorld → ImportEntry → Stated
+stated_import n w (ImportedInterface key id) = record { name = import_name n w.resolve key; sort = sorts.Instance }
+stated_import n w (WorldType name id) = root_type name
+stated_import n w (RootFunction name) = root_function name
 
-abbrev pub stated_imports : ComponentWorld → List Stated
-stated_imports w = map stated_import (import_entries w)
+abbrev pub stated_imports : Naming → ComponentWorld → List Stated
+stated_imports n w = map (stated_import n w) (import_entries w)
+
+-- the names that each type of instances of the component exports
+abbrev pub names_in : ComponentWorld → ImportEntry → List (List (List ℕ))
+names_in w (ImportedInterface key id) = names_of_interface w id ∷ []
+names_in w e = []
+
+abbrev pub instance_type_names : ComponentWorld → List (List (List ℕ))
+instance_type_names w = flat_map (names_in w) (import_entries w)
+
+-- ---- exports
 
 -- the key of an export that a user module has to provide
 pub record RequiredKey : Type 0 where
@@ -107,11 +141,11 @@ sort_of (Some (items.Function f)) = sorts.Func
 sort_of (Some (items.NamedType id)) = sorts.Type
 sort_of item = sorts.Instance
 
-abbrev pub stated_export : ComponentWorld → RequiredKey → Stated
-stated_export w r = record { name = plain_name (key_text w.resolve r.key); sort = sort_of (exported_item w r.key) }
+abbrev pub stated_export : Naming → ComponentWorld → RequiredKey → Stated
+stated_export n w r = record { name = name_of n w.resolve r.key; sort = sort_of (exported_item w r.key) }
 
-abbrev pub stated_exports : ComponentWorld → List Stated
-stated_exports w = map (stated_export w) (required_keys w)
+abbrev pub stated_exports : Naming → ComponentWorld → List Stated
+stated_exports n w = map (stated_export n w) (required_keys w)
 
 -- the functions of an item: itself, or those of an interface
 abbrev pub functions_in : Resolve → Option WorldItem → List (List ℕ)
@@ -130,10 +164,6 @@ functions_required w r = map (λ name. record { of = r.of; key = r.key; function
 
 abbrev pub required_functions : ComponentWorld → List RequiredFunction
 required_functions w = flat_map (functions_required w) (required_keys w)
-
--- the names that each type of instances of the component exports: so far, it has no such type
-abbrev pub instance_type_names : ComponentWorld → List (List (List ℕ))
-instance_type_names w = []
 
 -- the section with the names of the items, where there is one
 abbrev pub AreNames : List Def → Type 0

@@ -1,13 +1,15 @@
 -- What the roles of a world need (component model: a function is imported once, under its name;
 -- Canonical ABI: each function is called with a string encoding).
-use Rattle.std.specs.Prelude.{ℕ, Bool, true, false, List, ◌∷◌, ◌++◌, Option, Some, None, filter, IsTrue, IsSome}
+use Rattle.std.specs.Prelude.{◌==◌, ℕ, Bool, true, false, List, ◌∷◌, ◌++◌, Option, Some, None, filter, map, if◌then◌else◌, IsTrue, IsSome}
 use Rattle.std.specs.List.{list_any}
 use Rattle.std.specs.Str.{bytes_eq}
 use Rattle.wit_data.specs.Keys.{name_of_key}
 use Rattle.comp_roles.specs.Functions.{of_function}
 use Rattle.comp_roles.specs.CoreImports.{fields_of}
 use Rattle.comp_worlds.specs.Worlds.{imported_name, imported_functions}
+use Rattle.wit_data.specs.declared.ids.InterfaceId.{InterfaceId}
 use Rattle.wit_data.specs.declared.worlds.WorldKey.{WorldKey}
+use Rattle.world_values.specs.Items.{functions_of}
 use Rattle.standard_kinds.specs.declared.kinds.StringEncoding.{StringEncoding}
 use Rattle.comp_roles.specs.declared.imports.Import.{Import}
 use Rattle.comp_roles.specs.declared.imports.Import.TheVariants as imports
@@ -34,6 +36,19 @@ is_used w text = list_any (uses_from text) w.main.imports.modules
 abbrev pub used_functions : ComponentWorld → List (List ℕ)
 used_functions w = filter (is_used w) (imported_functions w)
 
+-- the name of the function of this interface that an import uses, if it uses one
+abbrev pub interface_function : InterfaceId → Import → Option (List ℕ)
+interface_function id (imports.InterfaceFunc key other name abi) = if id.index == other.index then Some name else None
+interface_function id role = None
+
+-- whether an import of main uses the function of this name of an interface
+abbrev pub is_used_of : ComponentWorld → InterfaceId → List ℕ → Bool
+is_used_of w id text = list_any (λ g. list_any (λ f. is_named text (interface_function id f.1)) (fields_of g.1)) w.main.imports.modules
+
+-- the functions of an interface that core imports use, in its order
+abbrev pub used_functions_of : ComponentWorld → InterfaceId → List (List ℕ)
+used_functions_of w id = filter (is_used_of w id) (map (λ f. f.0) (functions_of w.resolve id))
+
 -- whether an import is called with a string encoding: a function of the world is, and `task.return`
 abbrev pub needs_encoding : Import → Bool
 needs_encoding (imports.WorldFunc key function abi) = true
@@ -44,6 +59,7 @@ needs_encoding role = false
 -- the encoding with which an import is called
 abbrev pub import_encoding : ComponentWorld → Import → Option StringEncoding
 import_encoding w (imports.WorldFunc key function abi) = of_function key function w.main.metadata.import_encodings
+import_encoding w (imports.InterfaceFunc key interface function abi) = of_function key function w.main.metadata.import_encodings
 import_encoding w role = None
 
 -- an import that is called with a string encoding has one

@@ -31,12 +31,13 @@ use Rattle.comp_bytes.specs.declared.def.Def.TheVariants as defs
 use Rattle.core_types.specs.declared.types.FuncType.{FuncType}
 use Rattle.comp_lists.specs.Found.{found}
 use Rattle.wit_data.specs.declared.functions.Function.{Function as WitFunction}
+use Rattle.wit_data.specs.declared.ids.InterfaceId.{InterfaceId}
 use Rattle.wit_data.specs.declared.ids.TypeId.{TypeId}
 use Rattle.world_values.specs.Items.{root_function_at}
 use Rattle.comp_trees.specs.Trees.{Origin, Resource, ImportedAt, ResourceAt, FunctionTree, is_known, is_known_function}
 use Rattle.comp_trees.specs.DefinedTrees.{TypeTree, OfValues, OfOthers, defined_tree, function_tree}
 use Rattle.comp_trees.specs.Members.{AreMembersRight, exports_name}
-use Rattle.comp_trees.specs.Inventories.{ImportedInstance, surroundings_of, inventory, scope_of}
+use Rattle.comp_trees.specs.Inventories.{OfInstances, ImportedInstance, surroundings_of, inventory, scope_of}
 use Rattle.comp_worlds.specs.Worlds.{items_of}
 use Rattle.wit_data.specs.Keys.{name_of_key}
 use Rattle.comp_roles.specs.declared.offered.ExternType.TheVariants as externs
@@ -45,7 +46,8 @@ use Rattle.comp_worlds.specs.declared.world.ComponentWorld.{ComponentWorld}
 use Rattle.comp_links.specs.Roles.{is_used}
 use Rattle.comp_links.specs.Targets.{Main, Target}
 use Rattle.comp_links.specs.Modules.{WorldModule, user_modules}
-use Rattle.comp_links.specs.Lists.{WorldType, import_entries, type_of_world, Stated, plain_name, root_function, described_sort, stated_imports, AreNames}
+use Rattle.comp_links.specs.Naming.{Naming, plain_name}
+use Rattle.comp_links.specs.Lists.{ImportEntry, ImportedInterface, WorldType, RootFunction, import_entries, names_of_interface, type_of_world, Stated, root_function, root_type, described_sort, stated_import, AreNames}
 use Rattle.comp_links.specs.Links.{lift_of}
 use Rattle.comp_terms.specs.Terms.{InstanceOf as InstanceTerm, imports_in, IsFunctionType, IsResource, IsImportedFunction, Is}
 use Rattle.comp_terms.specs.Planned.{type_of_function, IsLiftFor, IsArgumentFor}
@@ -126,24 +128,31 @@ pub record ImportsType (w : ComponentWorld) (earlier : List Def) (name : List �
 abbrev pub resource_here : List Def → TypeTree
 resource_here earlier = OfValues (ResourceAt (ImportedAt (record { number = imports_in earlier; inner = None })))
 
+-- a type of instances with these members, which are right whatever the number of the import is
+abbrev pub AreRightMembers : List TypeTree → List Member → Type 0
+AreRightMembers scope members = (number : ℕ) → AreMembersRight (surroundings_of number scope) [] members
+
+-- the next import is, in the world, an interface, and the index names a type of instances with members that are right
+pub record ImportsInterface (w : ComponentWorld) (earlier : List Def) (index : ℕ) : Type 0 where
+  pub key : WorldKey
+  pub id : InterfaceId
+  pub stated : slice_get (import_entries w) (imports_in earlier) ≡ Some (ImportedInterface key id)
+  pub outer : List TypeTree
+  pub members : List Member
+  pub is : slice_get (inventory earlier).types index ≡ Some (OfInstances outer members)
+  pub right : AreRightMembers outer members
+
 abbrev pub IsDescriptionRight : ComponentWorld → List Def → List ℕ → Description → Type 0
 IsDescriptionRight w earlier name (descriptions.Func kind) = HasFunctionType earlier kind
 IsDescriptionRight w earlier name (descriptions.TypeEqual index) = (index < length (scope_of earlier)) × ImportsType w earlier name (get_or (scope_of earlier) index OfOthers)
 IsDescriptionRight w earlier name descriptions.SubResource = ImportsType w earlier name (resource_here earlier)
-IsDescriptionRight w earlier name (descriptions.Instance index) = ⊥
-
-abbrev pub IsImportRight : ComponentWorld → List Def → ExternName → Description → Type 0
-IsImportRight w earlier name description = (name ≡ plain_name name.name) × IsDescriptionRight w earlier name.name description
+IsDescriptionRight w earlier name (descriptions.Instance index) = ImportsInterface w earlier index
 
 -- a type of values or functions whose parts are types of values
 abbrev pub IsTypeRight : List TypeTree → TypeDef → Type 0
 IsTypeRight scope (types.Func f) = is_known_function (function_tree scope f) ≡ true
 IsTypeRight scope (types.Defined t) = is_known (defined_tree scope t) ≡ true
 IsTypeRight scope (types.Resource destructor) = ⊥
-
--- a type of instances with these members, which are right whatever the number of the import is
-abbrev pub AreRightMembers : List TypeTree → List Member → Type 0
-AreRightMembers scope members = (number : ℕ) → AreMembersRight (surroundings_of number scope) [] members
 
 -- an intrinsic: so far, the drop of a resource
 abbrev pub IsIntrinsicRight : List Def → Intrinsic → Type 0
@@ -166,7 +175,7 @@ IsItemRight w earlier (items.InstanceType t) = AreRightMembers (scope_of earlier
 IsItemRight w earlier (items.Lift core options kind) = (core < items_in spaces.CoreFunc earlier) × (options ≡ []) × HasFunctionType earlier kind
 IsItemRight w earlier (items.Lower function options) = HasImportedFunction earlier function × (options ≡ [])
 IsItemRight w earlier (items.Intrinsic i) = IsIntrinsicRight earlier i
-IsItemRight w earlier (items.Import name description) = IsImportRight w earlier name description
+IsItemRight w earlier (items.Import name description) = IsDescriptionRight w earlier name.name description
 IsItemRight w earlier (items.Export name sort index description) = IsExportRight w earlier name sort index description
 IsItemRight w earlier (items.Custom name contents) = Unit {0}
 
@@ -222,27 +231,33 @@ pub record Grows (w : ComponentWorld) (old new : List Def) (marks : List Landmar
 abbrev pub names_marked : ComponentWorld → List (List ℕ) → List Landmark
 names_marked w names = map named_import (filter (is_used w) names)
 
+-- the landmarks of an import: an interface has a type of instances of its own
+abbrev pub import_marked : Naming → ComponentWorld → ImportEntry → List Landmark
+import_marked n w (ImportedInterface key id) = InstanceTypeOf (names_of_interface w id) ∷ Imported (stated_import n w (ImportedInterface key id)) ∷ []
+import_marked n w (WorldType name id) = Imported (root_type name) ∷ []
+import_marked n w (RootFunction name) = Imported (root_function name) ∷ []
+
 -- the landmarks of the imports, and of the exports
-abbrev pub imports_marked : ComponentWorld → List Landmark
-imports_marked w = map Imported (stated_imports w)
+abbrev pub imports_marked : Naming → ComponentWorld → List Landmark
+imports_marked n w = flat_map (import_marked n w) (import_entries w)
 
 abbrev pub exports_marked : ComponentWorld → List Landmark
 exports_marked w = map (λ key. named_export (name_of_key key)) w.main_exports
 
 -- the landmarks of a component without the names of its items
-abbrev pub expected : ComponentWorld → List Landmark
-expected w = imports_marked w ++ ModuleIs w.main.bytes ∷ InstanceOf 0 ∷ exports_marked w
+abbrev pub expected : Naming → ComponentWorld → List Landmark
+expected n w = imports_marked n w ++ ModuleIs w.main.bytes ∷ InstanceOf 0 ∷ exports_marked w
 
 -- a component for the world, without the names of its items
-pub record IsUnnamed (w : ComponentWorld) (ds : List Def) : Type 0 where
+pub record IsUnnamed (n : Naming) (w : ComponentWorld) (ds : List Def) : Type 0 where
   pub right : RightAfter w [] ds
-  pub marked : landmarks ds ≡ expected w
+  pub marked : landmarks ds ≡ expected n w
 
 -- a whole component for the world
-pub record IsBuilt (w : ComponentWorld) (ds : List Def) : Type 0 where
+pub record IsBuilt (n : Naming) (w : ComponentWorld) (ds : List Def) : Type 0 where
   pub front : List Def
   pub names : List Def
   pub whole : ds ≡ front ++ names
   pub right : RightAfter w [] ds
-  pub marked : landmarks front ≡ expected w
+  pub marked : landmarks front ≡ expected n w
   pub named : AreNames names

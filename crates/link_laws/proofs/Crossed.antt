@@ -1,4 +1,5 @@
 -- A worked example: the list whose first two lowerings are swapped runs to its end, but it isn't linked.
+use Rattle.link_laws.proofs.Plain.{own_names}
 use Rattle.std.proofs.Common.{◌≡◌, ℕ, [], ◌∷◌, refl, sym, ap, subst, Option, Some, None, arith}
 use Rattle.std.proofs.lemmas.Option.{same_Some}
 use Rattle.std.specs.List.{slice_get}
@@ -52,5 +53,5 @@ no_lowering_of_f origins c = not_of_f origins (own_item two_twice m 0 (ItemIsLow
 first_meets : (origins : TypeId → Resource) → IsServed two_twice m origins (main_module two_twice) (core_function 0) first_import → CoreMeets two_twice m None 0 (ItemIsLowering two_twice m origins (OfRoot f) [])
 first_meets origins s = subst (Meets two_twice m origins (core_function 0)) (same_Some s.target (Lowered (OfRoot f) []) (sym s.said)) s.meets
 
-pub crossed_is_not_linked : IsLinked two_twice no_modules (machine_of crossed) → ⊥
+pub crossed_is_not_linked : IsLinked own_names two_twice no_modules (machine_of crossed) → ⊥
 crossed_is_not_linked l = no_lowering_of_f l.origins (first_meets l.origins (l.imports.each 0 _ _ refl refl).0)

@@ -29,7 +29,7 @@ use Rattle.comp_trees.specs.Trees.{Origin, Resource, ResourceAt, FunctionTree}
 use Rattle.comp_trees.specs.DefinedTrees.{TypeTree, OfValues, OfFunctions}
 use Rattle.comp_trees.specs.DefinedScopes.{Denotes}
 use Rattle.comp_trees.specs.Inventories.{TypeEntry, OfInstances, FunctionEntry, InstanceEntry, entry_tree, no_function, inventory, scope_of}
-use Rattle.world_values.specs.Items.{root_function_at}
+use Rattle.world_values.specs.Items.{functions_of, root_function_at}
 use Rattle.comp_roles.specs.CoreImports.{fields_of}
 use Rattle.comp_roles.specs.CoreTypes.{called_type}
 use Rattle.comp_worlds.specs.Typed.{drop_type, type_of_import}
@@ -357,6 +357,12 @@ served_opaque w s address (imports.WorldFunc (keys.Name text) function abi) type
     let asked : called_type w.resolve GuestImport h.typed.wit ≡ externs.Func type =
     same_Some (called_type w.resolve GuestImport h.typed.wit) (externs.Func type)
     (sym (ap (option_map (called_type w.resolve GuestImport)) h.typed.imported) ∙ (ap (λ abi. option_map (called_type w.resolve abi) (root_function_at (items_of w).imports (keys.Name text))) (sym right.2) ∙ fits)) in
+    let typed : externs.Func (core_signature h.type []) ≡ externs.Func type = lowered_type w h.type h.typed.wit h.typed.typed ∙ asked in
+    (Lowering h.lowered.of [], subst (λ t. IsOpaqueOf s address t (Lowering h.lowered.of [])) (ap (function_type_in type) typed) h.lowered.is)
+served_opaque w s address (imports.InterfaceFunc key id function abi) type right fits h =
+    let asked : called_type w.resolve GuestImport h.typed.wit ≡ externs.Func type =
+    same_Some (called_type w.resolve GuestImport h.typed.wit) (externs.Func type)
+    (sym (ap (option_map (called_type w.resolve GuestImport)) h.typed.imported) ∙ (ap (λ abi. option_map (called_type w.resolve abi) (found function (functions_of w.resolve id))) (sym right.2) ∙ fits)) in
     let typed : externs.Func (core_signature h.type []) ≡ externs.Func type = lowered_type w h.type h.typed.wit h.typed.typed ∙ asked in
     (Lowering h.lowered.of [], subst (λ t. IsOpaqueOf s address t (Lowering h.lowered.of [])) (ap (function_type_in type) typed) h.lowered.is)
 served_opaque w s address (imports.ImportedResourceDrop key interface id) type right fits h =

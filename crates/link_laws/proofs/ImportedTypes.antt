@@ -1,6 +1,7 @@
 -- The types that a list imports denote what the world's do.
 use Rattle.std.proofs.Common.{◌≡◌, ◌∙◌, ◌+◌, ℕ, suc, List, [], ◌∷◌, ◌++◌, map, get_or, refl, sym, ap, ap₂, subst, zero-add, add-zero, append-nil, append_assoc, Some, None, arith}
 use Rattle.std.proofs.lemmas.List.{map-append}
+use Rattle.std.proofs.lemmas.Grind.{flat_map-append}
 use Rattle.std.proofs.Math.ListN.{get_or-map}
 use Rattle.std.proofs.lemmas.Option.{same_Some}
 use Rattle.std.specs.List.{slice_get, flat_map, AllByRecursion}
@@ -17,14 +18,19 @@ use Rattle.comp_bytes.specs.declared.types.Description.TheVariants as descriptio
 use Rattle.comp_bytes.specs.declared.def.Item.TheVariants as items
 use Rattle.comp_bytes.specs.declared.def.Def.{Def}
 use Rattle.comp_bytes.specs.declared.def.Def.TheVariants as defs
+use Rattle.wit_data.specs.declared.ids.InterfaceId.{InterfaceId}
 use Rattle.wit_data.specs.declared.ids.TypeId.{TypeId}
-use Rattle.comp_worlds.specs.Worlds.{imported_types}
+use Rattle.wit_data.specs.declared.worlds.WorldItem.{WorldItem}
+use Rattle.wit_data.specs.declared.worlds.WorldItem.TheVariants as world_items
+use Rattle.wit_data.specs.declared.worlds.WorldKey.{WorldKey}
+use Rattle.comp_worlds.specs.Worlds.{items_of, imported_types}
 use Rattle.comp_worlds.specs.declared.world.ComponentWorld.{ComponentWorld}
 use Rattle.comp_trees.specs.Trees.{ImportedAt, ResourceAt}
 use Rattle.comp_trees.specs.DefinedTrees.{TypeTree, OfValues}
 use Rattle.comp_trees.specs.Inventories.{Inventory, entry_tree, no_type, trees_in, types_made, imported_type, imports_made, with_def, inventory_after, inventory, scope_of, empty_inventory}
 use Rattle.comp_trees.proofs.Inventories.{inventory-push}
-use Rattle.comp_links.specs.Lists.{ImportEntry, WorldType, RootFunction, import_entries, type_of_world, Stated, stated_import, stated_imports, stated_types, described_sort}
+use Rattle.comp_links.specs.Naming.{Naming}
+use Rattle.comp_links.specs.Lists.{ImportEntry, ImportedInterface, WorldType, RootFunction, import_entries, unless_empty, interface_entry, names_of_interface, type_of_world, Stated, stated_import, stated_imports, stated_types, described_sort}
 use Rattle.comp_links.specs.Roles.{used_functions}
 use Rattle.comp_terms.specs.Terms.{imports_in}
 use Rattle.comp_terms.specs.Rules.{IsDescriptionRight, IsRight, RightAfter}
@@ -43,6 +49,7 @@ types_imported v (d ∷ ds) = type_imported v d ++ types_imported (with_def v d)
 
 -- what an import of the component denotes, where it is a type
 abbrev trees_of : ComponentWorld → ImportEntry → List TypeTree
+trees_of w (ImportedInterface key id) = []
 trees_of w (WorldType name id) = type_of_world w id ∷ []
 trees_of w (RootFunction name) = []
 
@@ -54,23 +61,44 @@ pub types_first : (w : ComponentWorld) (ts : List (List ℕ × TypeId)) (names :
 types_first w [] names = functions_none w names
 types_first w (t ∷ ts) names = ap (λ l. type_of_world w t.1 ∷ l) (types_first w ts names)
 
+interface_none : (w : ComponentWorld) (names : List (List ℕ)) (key : WorldKey) (id : InterfaceId) → flat_map (trees_of w) (unless_empty names (ImportedInterface key id)) ≡ []
+interface_none w [] key id = refl
+interface_none w (name ∷ names) key id = refl
+
+entry_none : (w : ComponentWorld) (entry : WorldKey × WorldItem) → flat_map (trees_of w) (interface_entry w entry) ≡ []
+entry_none w (key, world_items.Interface id) = interface_none w (names_of_interface w id) key id
+entry_none w (key, world_items.Function f) = refl
+entry_none w (key, world_items.NamedType id) = refl
+
+interfaces_none : (w : ComponentWorld) (entries : List (WorldKey × WorldItem)) → flat_map (trees_of w) (flat_map (interface_entry w) entries) ≡ []
+interfaces_none w [] = refl
+interfaces_none w (x ∷ xs) =
+    flat_map-append (trees_of w) (interface_entry w x) (flat_map (interface_entry w) xs) ∙ ap₂ (λ l m. l ++ m) (entry_none w x) (interfaces_none w xs)
+
+-- the types of all imports are those of the world
+pub types_of_entries : (w : ComponentWorld) → flat_map (trees_of w) (import_entries w) ≡ stated_types w
+types_of_entries w =
+    flat_map-append (trees_of w) (flat_map (interface_entry w) (items_of w).imports) (map (λ t. WorldType t.0 t.1) (imported_types w) ++ map RootFunction (used_functions w))
+    ∙ ap₂ (λ l m. l ++ m) (interfaces_none w (items_of w).imports) (types_first w (imported_types w) (used_functions w))
+
 -- an import that is said to be a function is none of a type
-function_none : (w : ComponentWorld) (e : ImportEntry) → (stated_import e).sort ≡ sorts.Func → [] ≡ trees_of w e
-function_none w (WorldType name id) same = cc
-function_none w (RootFunction name) same = refl
+function_none : (n : Naming) (w : ComponentWorld) (e : ImportEntry) → (stated_import n w e).sort ≡ sorts.Func → [] ≡ trees_of w e
+function_none n w (ImportedInterface key id) same = cc
+function_none n w (WorldType name id) same = cc
+function_none n w (RootFunction name) same = refl
 
 -- the import with the next number
-one_import : (w : ComponentWorld) (earlier : List Def) (name : ExternName) (description : Description) (e : ImportEntry) → IsDescriptionRight w earlier name.name description →
-    slice_get (import_entries w) (imports_in earlier) ≡ Some e → (stated_import e).sort ≡ described_sort description → map entry_tree (imported_type (inventory earlier) description) ≡ trees_of w e
-one_import w earlier name (descriptions.Func kind) e h at same = function_none w e same
-one_import w earlier name (descriptions.TypeEqual index) e h at same =
+one_import : (n : Naming) (w : ComponentWorld) (earlier : List Def) (name : ExternName) (description : Description) (e : ImportEntry) → IsDescriptionRight w earlier name.name description →
+    slice_get (import_entries w) (imports_in earlier) ≡ Some e → (stated_import n w e).sort ≡ described_sort description → map entry_tree (imported_type (inventory earlier) description) ≡ trees_of w e
+one_import n w earlier name (descriptions.Func kind) e h at same = function_none n w e same
+one_import n w earlier name (descriptions.TypeEqual index) e h at same =
     let is : WorldType name.name h.1.id ≡ e = same_Some (WorldType name.name h.1.id) e (sym h.1.stated ∙ at) in
     let tree : entry_tree (get_or (inventory earlier).types index no_type) ≡ type_of_world w h.1.id = sym (get_or-map entry_tree (inventory earlier).types index no_type) ∙ h.1.same in
     ap (λ t. t ∷ []) tree ∙ ap (trees_of w) is
-one_import w earlier name descriptions.SubResource e h at same =
+one_import n w earlier name descriptions.SubResource e h at same =
     let is : WorldType name.name h.id ≡ e = same_Some (WorldType name.name h.id) e (sym h.stated ∙ at) in
     ap (λ t. t ∷ []) h.same ∙ ap (trees_of w) is
-one_import w earlier name (descriptions.Instance index) e h at same = absurd h
+one_import n w earlier name (descriptions.Instance index) e h at same = ap (trees_of w) (same_Some (ImportedInterface h.key h.id) e (sym h.stated ∙ at))
 
 -- ---- definition by definition
 
@@ -82,19 +110,19 @@ imports_after : (earlier : List Def) (d : Def) → imports_in (earlier ++ d ∷ 
 imports_after earlier d = ap (λ (v : Inventory). v.imports) (inventory-push earlier d)
 
 -- the types of what follows a definition are those of the entries that remain
-abbrev Rest : ComponentWorld → List Def → Def → List Def → Type 0
-Rest w earlier d ds = (es : List ImportEntry) → Remaining w (imports_in (earlier ++ d ∷ [])) es → flat_map (at_root item_imports) ds ≡ map stated_import es → types_imported (inventory (earlier ++ d ∷ [])) ds ≡ flat_map (trees_of w) es
+abbrev Rest : Naming → ComponentWorld → List Def → Def → List Def → Type 0
+Rest n w earlier d ds = (es : List ImportEntry) → Remaining w (imports_in (earlier ++ d ∷ [])) es → flat_map (at_root item_imports) ds ≡ map (stated_import n w) es → types_imported (inventory (earlier ++ d ∷ [])) ds ≡ flat_map (trees_of w) es
 
-module _ (w : ComponentWorld) (earlier : List Def) (d : Def) (ds : List Def) (rest : Rest w earlier d ds) where
+module _ (n : Naming) (w : ComponentWorld) (earlier : List Def) (d : Def) (ds : List Def) (rest : Rest n w earlier d ds) where
   -- what follows a definition
-  following : (es : List ImportEntry) (n : ℕ) → imports_made (inventory earlier) d ≡ n → Remaining w n es → flat_map (at_root item_imports) ds ≡ map stated_import es →
+  following : (es : List ImportEntry) (number : ℕ) → imports_made (inventory earlier) d ≡ number → Remaining w number es → flat_map (at_root item_imports) ds ≡ map (stated_import n w) es →
       types_imported (with_def (inventory earlier) d) ds ≡ flat_map (trees_of w) es
-  following es n count r e =
+  following es number count r e =
       subst (λ v. types_imported v ds ≡ flat_map (trees_of w) es) (inventory-push earlier d)
-      (rest es (subst (λ n. Remaining w n es) (sym (imports_after earlier d ∙ count)) r) e)
+      (rest es (subst (λ number. Remaining w number es) (sym (imports_after earlier d ∙ count)) r) e)
 
   -- a definition that is no import
-  other : (es : List ImportEntry) → type_imported (inventory earlier) d ≡ [] → imports_made (inventory earlier) d ≡ imports_in earlier → Remaining w (imports_in earlier) es → flat_map (at_root item_imports) ds ≡ map stated_import es →
+  other : (es : List ImportEntry) → type_imported (inventory earlier) d ≡ [] → imports_made (inventory earlier) d ≡ imports_in earlier → Remaining w (imports_in earlier) es → flat_map (at_root item_imports) ds ≡ map (stated_import n w) es →
       type_imported (inventory earlier) d ++ types_imported (with_def (inventory earlier) d) ds ≡ flat_map (trees_of w) es
   other es none count r e = ap (λ l. l ++ types_imported (with_def (inventory earlier) d) ds) none ∙ following es (imports_in earlier) count r e
 
@@ -106,26 +134,26 @@ abbrev all_after : List Stated → List Stated
 all_after [] = []
 all_after (s ∷ rest) = rest
 
-after_import : (w : ComponentWorld) (earlier : List Def) (name : ExternName) (description : Description) (ds : List Def) (es : List ImportEntry) → IsDescriptionRight w earlier name.name description → Remaining w (imports_in earlier) es →
-    flat_map (at_root item_imports) (defs.Item (items.Import name description) ∷ ds) ≡ map stated_import es → Rest w earlier (defs.Item (items.Import name description)) ds →
+after_import : (n : Naming) (w : ComponentWorld) (earlier : List Def) (name : ExternName) (description : Description) (ds : List Def) (es : List ImportEntry) → IsDescriptionRight w earlier name.name description → Remaining w (imports_in earlier) es →
+    flat_map (at_root item_imports) (defs.Item (items.Import name description) ∷ ds) ≡ map (stated_import n w) es → Rest n w earlier (defs.Item (items.Import name description)) ds →
     types_imported (inventory earlier) (defs.Item (items.Import name description) ∷ ds) ≡ flat_map (trees_of w) es
-after_import w earlier name description ds [] h r e rest = cc
-after_import w earlier name description ds (x ∷ es) h r e rest =
+after_import n w earlier name description ds [] h r e rest = cc
+after_import n w earlier name description ds (x ∷ es) h r e rest =
     let at : slice_get (import_entries w) (imports_in earlier) ≡ Some x = ap (slice_get (import_entries w)) (sym (add-zero (imports_in earlier))) ∙ r 0 in
     let next : Remaining w (suc (imports_in earlier)) es = λ k. let same : suc (imports_in earlier) + k ≡ imports_in earlier + suc k = omega arith in ap (slice_get (import_entries w)) same ∙ r (suc k) in
-    ap₂ (λ xs ys. xs ++ ys) (one_import w earlier name description x h at (sym (ap first_sort e)))
-    (following w earlier (defs.Item (items.Import name description)) ds rest es (suc (imports_in earlier)) refl next (ap all_after e))
+    ap₂ (λ xs ys. xs ++ ys) (one_import n w earlier name description x h at (sym (ap first_sort e)))
+    (following n w earlier (defs.Item (items.Import name description)) ds rest es (suc (imports_in earlier)) refl next (ap all_after e))
 
-after_one : (w : ComponentWorld) (earlier : List Def) (d : Def) (ds : List Def) (es : List ImportEntry) → IsRight w earlier d → Remaining w (imports_in earlier) es → flat_map (at_root item_imports) (d ∷ ds) ≡ map stated_import es →
-    Rest w earlier d ds → types_imported (inventory earlier) (d ∷ ds) ≡ flat_map (trees_of w) es
-after_one w earlier (defs.Item (items.Import name description)) ds es h r e rest = after_import w earlier name description ds es h.1 r e rest
-after_one w earlier d ds es h r e rest = other w earlier d ds rest es refl refl r e
+after_one : (n : Naming) (w : ComponentWorld) (earlier : List Def) (d : Def) (ds : List Def) (es : List ImportEntry) → IsRight w earlier d → Remaining w (imports_in earlier) es → flat_map (at_root item_imports) (d ∷ ds) ≡ map (stated_import n w) es →
+    Rest n w earlier d ds → types_imported (inventory earlier) (d ∷ ds) ≡ flat_map (trees_of w) es
+after_one n w earlier (defs.Item (items.Import name description)) ds es h r e rest = after_import n w earlier name description ds es h r e rest
+after_one n w earlier d ds es h r e rest = other n w earlier d ds rest es refl refl r e
 
-types_after : (w : ComponentWorld) (earlier rest : List Def) (es : List ImportEntry) → RightAfter w earlier rest → Remaining w (imports_in earlier) es → flat_map (at_root item_imports) rest ≡ map stated_import es →
+types_after : (n : Naming) (w : ComponentWorld) (earlier rest : List Def) (es : List ImportEntry) → RightAfter w earlier rest → Remaining w (imports_in earlier) es → flat_map (at_root item_imports) rest ≡ map (stated_import n w) es →
     types_imported (inventory earlier) rest ≡ flat_map (trees_of w) es
-types_after w earlier [] [] h r e = refl
-types_after w earlier [] (x ∷ es) h r e = cc
-types_after w earlier (d ∷ ds) es h r e = after_one w earlier d ds es h.0 r e (λ fs s g. types_after w (earlier ++ d ∷ []) ds fs h.1 s g)
+types_after n w earlier [] [] h r e = refl
+types_after n w earlier [] (x ∷ es) h r e = cc
+types_after n w earlier (d ∷ ds) es h r e = after_one n w earlier d ds es h.0 r e (λ fs s g. types_after n w (earlier ++ d ∷ []) ds fs h.1 s g)
 
 -- ---- the same in a run
 
@@ -158,14 +186,14 @@ same_types v [] = refl
 same_types v (d ∷ ds) = same_after v d ds (same_types (with_def v d) ds)
 
 -- where the trees of the list are those of the run, each type that is imported denotes what the world's does
-pub types_served : (w : ComponentWorld) (ds : List Def) → RightAfter w [] ds → flat_map (at_root item_imports) ds ≡ stated_imports w → imported_among (in_space spaces.Type ds) (scope_of ds) ≡ stated_types w
+pub types_served : (n : Naming) (w : ComponentWorld) (ds : List Def) → RightAfter w [] ds → flat_map (at_root item_imports) ds ≡ stated_imports n w → imported_among (in_space spaces.Type ds) (scope_of ds) ≡ stated_types w
 unfolding inventory
-types_served w ds h e =
+types_served n w ds h e =
     let start : Remaining w (imports_in []) (import_entries w) = λ k. ap (slice_get (import_entries w)) (zero-add k) in
     ap (imported_among (in_space spaces.Type ds)) (trees_after empty_inventory ds)
     ∙ (same_types empty_inventory ds
-    ∙ (types_after w [] ds (import_entries w) h start e
-    ∙ types_first w (imported_types w) (used_functions w)))
+    ∙ (types_after n w [] ds (import_entries w) h start e
+    ∙ types_of_entries w))
 
 -- where no type is imported
 pub none_imported : (ds : List Def) (trees : List TypeTree) → AllByRecursion (λ d. (tree : TypeTree) → if_imported d tree ≡ []) ds → imported_among ds trees ≡ []

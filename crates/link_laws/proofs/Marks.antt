@@ -1,5 +1,5 @@
 -- The landmarks of a list of definitions, and what they say of it.
-use Rattle.std.proofs.Common.{◌≡◌, ◌∙◌, ℕ, List, [], ◌∷◌, ◌++◌, map, refl, ap, append-nil}
+use Rattle.std.proofs.Common.{◌≡◌, ◌∙◌, ℕ, List, [], ◌∷◌, ◌++◌, map, refl, ap, ap₂, append-nil}
 use Rattle.std.proofs.lemmas.Grind.{flat_map-append}
 use Rattle.std.specs.List.{flat_map, filter_map}
 use Rattle.comp_bytes.specs.ScopeNames.{Names, member_export, def_export}
@@ -9,8 +9,9 @@ use Rattle.comp_bytes.specs.declared.def.Def.{Def}
 use Rattle.comp_bytes.specs.declared.def.Def.TheVariants as defs
 use Rattle.wit_data.specs.Keys.{name_of_key}
 use Rattle.comp_worlds.specs.declared.world.ComponentWorld.{ComponentWorld}
-use Rattle.comp_links.specs.Lists.{Stated, root_function, stated_imports, instance_type_names, AreNames}
-use Rattle.comp_terms.specs.Rules.{Landmark, Imported, ModuleIs, InstanceOf, Exported, CustomNamed, InstanceTypeOf, landmark, imports_marked, exports_marked, IsBuilt}
+use Rattle.comp_links.specs.Naming.{Naming}
+use Rattle.comp_links.specs.Lists.{ImportEntry, ImportedInterface, WorldType, RootFunction, Stated, root_function, root_type, import_entries, names_of_interface, stated_import, stated_imports, names_in, instance_type_names, AreNames}
+use Rattle.comp_terms.specs.Rules.{Landmark, Imported, ModuleIs, InstanceOf, Exported, CustomNamed, InstanceTypeOf, landmark, import_marked, imports_marked, exports_marked, IsBuilt}
 use Rattle.link_laws.specs.Composition.{at_root, item_module, item_instantiates, item_imports, item_exports, item_customs}
 use Rattle.link_laws.proofs.Zips.{flat_map-marked}
 
@@ -84,61 +85,95 @@ module _ {A : Type 0} (f : Landmark → List A) where
   all_of mark g e [] = refl
   all_of mark g e (x ∷ xs) = rw (e x, all_of mark g e xs) refl
 
-map-same : {X : Type 0} (xs : List X) → map (λ x. x) xs ≡ xs
-map-same [] = refl
-map-same (x ∷ xs) = ap (λ l. x ∷ l) (map-same xs)
-
 -- the section of names has nothing of what others have
 names_nothing : {A : Type 0} (f : Def → List A) → ((name contents : List ℕ) → f (defs.Item (items.Custom name contents)) ≡ []) → (ds : List Def) → AreNames ds → flat_map f ds ≡ []
 names_nothing f e [] h = refl
 names_nothing f e (defs.Item (items.Custom name contents) ∷ []) h = rw (e name contents) refl
 names_nothing f e ds h = absurd h
 
-module _ (w : ComponentWorld) (ds : List Def) (built : IsBuilt w ds) where
+-- the landmarks of the imports, seen through a function
+of_entries : {A : Type 0} (n : Naming) (w : ComponentWorld) (f : Landmark → List A) (g : ImportEntry → List A) → ((e : ImportEntry) → flat_map f (import_marked n w e) ≡ g e) → (es : List ImportEntry) →
+    flat_map f (flat_map (import_marked n w) es) ≡ flat_map g es
+of_entries n w f g same [] = refl
+of_entries n w f g same (e ∷ es) = flat_map-append f (import_marked n w e) (flat_map (import_marked n w) es) ∙ ap₂ (λ xs ys. xs ++ ys) (same e) (of_entries n w f g same es)
+
+-- what reads nothing of imports and of types of instances
+reads_nothing : {A : Type 0} (n : Naming) (w : ComponentWorld) (f : Landmark → List A) → ((s : Stated) → f (Imported s) ≡ []) → ((names : Names) → f (InstanceTypeOf names) ≡ []) → (es : List ImportEntry) →
+    flat_map f (flat_map (import_marked n w) es) ≡ []
+reads_nothing n w f i t [] = refl
+reads_nothing n w f i t (ImportedInterface key id ∷ es) = rw (t (names_of_interface w id), i (stated_import n w (ImportedInterface key id))) (reads_nothing n w f i t es)
+reads_nothing n w f i t (WorldType name id ∷ es) = rw (i (root_type name)) (reads_nothing n w f i t es)
+reads_nothing n w f i t (RootFunction name ∷ es) = rw (i (root_function name)) (reads_nothing n w f i t es)
+
+each_of : {A : Type 0} (g : ImportEntry → A) (es : List ImportEntry) → flat_map (λ e. g e ∷ []) es ≡ map g es
+each_of g [] = refl
+each_of g (e ∷ es) = ap (λ l. g e ∷ l) (each_of g es)
+
+import_of : (n : Naming) (w : ComponentWorld) (e : ImportEntry) → flat_map import_mark (import_marked n w e) ≡ stated_import n w e ∷ []
+import_of n w (ImportedInterface key id) = refl
+import_of n w (WorldType name id) = refl
+import_of n w (RootFunction name) = refl
+
+type_of : (n : Naming) (w : ComponentWorld) (e : ImportEntry) → flat_map type_mark (import_marked n w e) ≡ names_in w e
+type_of n w (ImportedInterface key id) = refl
+type_of n w (WorldType name id) = refl
+type_of n w (RootFunction name) = refl
+
+module _ (n : Naming) (w : ComponentWorld) (ds : List Def) (built : IsBuilt n w ds) where
+  -- what the landmarks of the imports say
+  said_by : {A : Type 0} (g : Landmark → List A) → ((s : Stated) → g (Imported s) ≡ []) → ((names : Names) → g (InstanceTypeOf names) ≡ []) → flat_map g (imports_marked n w) ≡ []
+  said_by g i t = reads_nothing n w g i t (import_entries w)
+
+  imports_said : flat_map import_mark (imports_marked n w) ≡ stated_imports n w
+  imports_said = of_entries n w import_mark (λ e. stated_import n w e ∷ []) (import_of n w) (import_entries w) ∙ each_of (stated_import n w) (import_entries w)
+
+  types_said : flat_map type_mark (imports_marked n w) ≡ instance_type_names w
+  types_said = of_entries n w type_mark (names_in w) (type_of n w) (import_entries w)
+
   -- what is read of all definitions but the section of names
   front_marks : {A : Type 0} (f : Def → List A) (g : Landmark → List A) → ((d : Def) → f d ≡ flat_map g (filter_map landmark (d ∷ []))) →
-      flat_map f built.front ≡ flat_map g (imports_marked w) ++ flat_map g (ModuleIs w.main.bytes ∷ InstanceOf 0 ∷ exports_marked w)
-  front_marks f g same = flat_map-marked f landmark g same built.front ∙ (ap (flat_map g) built.marked ∙ flat_map-append g (imports_marked w) (ModuleIs w.main.bytes ∷ InstanceOf 0 ∷ exports_marked w))
+      flat_map f built.front ≡ flat_map g (imports_marked n w) ++ flat_map g (ModuleIs w.main.bytes ∷ InstanceOf 0 ∷ exports_marked w)
+  front_marks f g same = flat_map-marked f landmark g same built.front ∙ (ap (flat_map g) built.marked ∙ flat_map-append g (imports_marked n w) (ModuleIs w.main.bytes ∷ InstanceOf 0 ∷ exports_marked w))
 
   read_marks : {A : Type 0} (f : Def → List A) (g : Landmark → List A) → ((d : Def) → f d ≡ flat_map g (filter_map landmark (d ∷ []))) → ((name contents : List ℕ) → f (defs.Item (items.Custom name contents)) ≡ []) →
-      flat_map f ds ≡ flat_map g (imports_marked w) ++ flat_map g (ModuleIs w.main.bytes ∷ InstanceOf 0 ∷ exports_marked w)
+      flat_map f ds ≡ flat_map g (imports_marked n w) ++ flat_map g (ModuleIs w.main.bytes ∷ InstanceOf 0 ∷ exports_marked w)
   read_marks f g same none =
       ap (flat_map f) built.whole
       ∙ (flat_map-append f built.front built.names
       ∙ (ap (λ l. flat_map f built.front ++ l) (names_nothing f none built.names built.named) ∙ (append-nil (flat_map f built.front) ∙ front_marks f g same)))
 
-  pub root_imports : flat_map (at_root item_imports) ds ≡ stated_imports w
+  pub root_imports : flat_map (at_root item_imports) ds ≡ stated_imports n w
   root_imports =
       read_marks (at_root item_imports) import_mark import_is (λ n c. refl)
-      ∙ rw (all_of import_mark Imported (λ stated. stated) (λ t. refl) (stated_imports w), none_of import_mark (λ key. Exported (root_function (name_of_key key))) (λ key. refl) w.main_exports)
-      (append-nil (map (λ stated. stated) (stated_imports w)) ∙ map-same (stated_imports w))
+      ∙ rw (imports_said, none_of import_mark (λ key. Exported (root_function (name_of_key key))) (λ key. refl) w.main_exports)
+      (append-nil (stated_imports n w))
 
   pub root_modules : flat_map (at_root item_module) ds ≡ w.main.bytes ∷ []
   root_modules =
       read_marks (at_root item_module) module_mark module_is (λ n c. refl)
-      ∙ rw (none_of module_mark Imported (λ t. refl) (stated_imports w), none_of module_mark (λ key. Exported (root_function (name_of_key key))) (λ key. refl) w.main_exports) refl
+      ∙ rw (said_by module_mark (λ s. refl) (λ names. refl), none_of module_mark (λ key. Exported (root_function (name_of_key key))) (λ key. refl) w.main_exports) refl
 
   pub root_instances : flat_map (at_root item_instantiates) ds ≡ 0 ∷ []
   root_instances =
       read_marks (at_root item_instantiates) instance_mark instance_is (λ n c. refl)
-      ∙ rw (none_of instance_mark Imported (λ t. refl) (stated_imports w), none_of instance_mark (λ key. Exported (root_function (name_of_key key))) (λ key. refl) w.main_exports) refl
+      ∙ rw (said_by instance_mark (λ s. refl) (λ names. refl), none_of instance_mark (λ key. Exported (root_function (name_of_key key))) (λ key. refl) w.main_exports) refl
 
   pub root_exports : flat_map (at_root item_exports) ds ≡ map (λ key. root_function (name_of_key key)) w.main_exports
   root_exports =
       read_marks (at_root item_exports) export_mark export_is (λ n c. refl)
-      ∙ rw (none_of export_mark Imported (λ t. refl) (stated_imports w), all_of export_mark (λ key. Exported (root_function (name_of_key key))) (λ key. root_function (name_of_key key)) (λ key. refl) w.main_exports) refl
+      ∙ rw (said_by export_mark (λ s. refl) (λ names. refl), all_of export_mark (λ key. Exported (root_function (name_of_key key))) (λ key. root_function (name_of_key key)) (λ key. refl) w.main_exports) refl
 
   pub root_export_names : flat_map def_export ds ≡ map name_of_key w.main_exports
   root_export_names =
       read_marks def_export name_mark name_is (λ n c. refl)
-      ∙ rw (none_of name_mark Imported (λ t. refl) (stated_imports w), all_of name_mark (λ key. Exported (root_function (name_of_key key))) name_of_key (λ key. refl) w.main_exports) refl
+      ∙ rw (said_by name_mark (λ s. refl) (λ names. refl), all_of name_mark (λ key. Exported (root_function (name_of_key key))) name_of_key (λ key. refl) w.main_exports) refl
 
   pub root_type_names : flat_map (at_root item_type_names) ds ≡ instance_type_names w
   root_type_names =
       read_marks (at_root item_type_names) type_mark type_is (λ n c. refl)
-      ∙ rw (none_of type_mark Imported (λ t. refl) (stated_imports w), none_of type_mark (λ key. Exported (root_function (name_of_key key))) (λ key. refl) w.main_exports) refl
+      ∙ rw (types_said, none_of type_mark (λ key. Exported (root_function (name_of_key key))) (λ key. refl) w.main_exports) (append-nil (instance_type_names w))
 
   pub no_customs : flat_map (at_root item_customs) built.front ≡ []
   no_customs =
       front_marks (at_root item_customs) custom_mark custom_is
-      ∙ rw (none_of custom_mark Imported (λ t. refl) (stated_imports w), none_of custom_mark (λ key. Exported (root_function (name_of_key key))) (λ key. refl) w.main_exports) refl
+      ∙ rw (said_by custom_mark (λ s. refl) (λ names. refl), none_of custom_mark (λ key. Exported (root_function (name_of_key key))) (λ key. refl) w.main_exports) refl

@@ -1,4 +1,5 @@
 -- A worked example: a list whose export has a version suffix isn't composed as the world says.
+use Rattle.link_laws.proofs.Plain.{own_names}
 use Rattle.std.proofs.Common.{◌≡◌, ◌++◌, Bool, false, true≢false, List, [], ◌∷◌, take, ap, Some, None, refl}
 use Rattle.std.specs.Prelude.{codes, is_some}
 use Rattle.comp_bytes.proofs.Worked.{plain, f, g, root, core, one_import_one_export}
@@ -25,7 +26,7 @@ pub is_the_worked_list : exported_under (plain g) ≡ one_import_one_export
 is_the_worked_list = refl
 
 -- without a suffix it is composed
-pub plain_is_composed : IsComposed one_each no_modules (exported_under (plain g))
+pub plain_is_composed : IsComposed own_names one_each no_modules (exported_under (plain g))
 plain_is_composed = record {
   generated = [];
   modules = refl;
@@ -43,5 +44,5 @@ abbrev is_suffixed : List Stated → Bool
 is_suffixed [] = false
 is_suffixed (s ∷ rest) = is_some s.name.version_suffix
 
-pub suffixed_is_not_composed : IsComposed one_each no_modules (exported_under suffixed) → ⊥
+pub suffixed_is_not_composed : IsComposed own_names one_each no_modules (exported_under suffixed) → ⊥
 suffixed_is_not_composed c = true≢false (ap is_suffixed c.exports)

@@ -37,7 +37,8 @@ use Rattle.comp_roles.specs.declared.offered.ExternType.{ExternType}
 use Rattle.comp_roles.specs.declared.offered.ExternType.TheVariants as externs
 use Rattle.comp_roles.specs.declared.offered.ImportType.{ImportType}
 use Rattle.comp_roles.specs.Lookups.{first_export, is_initialize, is_task_hook}
-use Rattle.world_values.specs.Items.{function_in, root_function_at, root_export}
+use Rattle.world_values.specs.Items.{function_in, functions_of, root_function_at, root_export}
+use Rattle.comp_links.specs.Naming.{Naming}
 use Rattle.comp_worlds.proofs.Roles.{role_right}
 use Rattle.comp_worlds.specs.Typed.{drop_type, type_of_import, type_of_export, FitsImport, FitsExport}
 use Rattle.comp_worlds.specs.Worlds.{IsWorld, IsExportItem, IsImportRole, IsImportGroup, IsExportRole, items_of, core_name_of}
@@ -141,6 +142,10 @@ listed_main w ok number of e = by number (ap (λ l. slice_get l number) (sym (on
 pub only_main_is : (w : ComponentWorld) → IsWorld w → (number : ℕ) {of : UserModule} → IsModule w number of → number ≡ 0
 only_main_is w ok number m = (listed_main w ok number m.world_module m.listed).0
 
+-- names with their whole version, none of them given another one
+abbrev pub own_names : Naming
+own_names = record { canonical = false; renamed = λ text. None }
+
 -- ---- what main imports
 
 -- the roles of a group
@@ -162,6 +167,10 @@ import_type : (w : ComponentWorld) (role : Import) (type : ExternType) → IsImp
 import_type w (imports.WorldFunc (keys.Name text) function abi) type right fits =
     let x : (f : Function) × (root_function_at (items_of w).imports (keys.Name text) ≡ Some f) × (called_type w.resolve abi f ≡ type) =
     mapped_some (called_type w.resolve abi) (root_function_at (items_of w).imports (keys.Name text)) type fits in
+    (core_type (signature abi w.resolve.types x.0), sym x.2)
+import_type w (imports.InterfaceFunc key id function abi) type right fits =
+    let x : (f : Function) × (found function (functions_of w.resolve id) ≡ Some f) × (called_type w.resolve abi f ≡ type) =
+    mapped_some (called_type w.resolve abi) (found function (functions_of w.resolve id)) type fits in
     (core_type (signature abi w.resolve.types x.0), sym x.2)
 import_type w (imports.ImportedResourceDrop key interface id) type right fits = (drop_core, sym (same_Some drop_type type fits))
 import_type w role type right fits = absurd right

@@ -18,6 +18,7 @@ use Rattle.comp_bytes.specs.declared.def.Def.TheVariants as defs
 use Rattle.wit_data.specs.Keys.{name_of_key}
 use Rattle.comp_worlds.specs.Worlds.{IsWorld}
 use Rattle.comp_worlds.specs.declared.world.ComponentWorld.{ComponentWorld}
+use Rattle.comp_links.specs.Naming.{Naming}
 use Rattle.comp_links.specs.Modules.{WorldModule}
 use Rattle.comp_links.specs.Lists.{resource_of}
 use Rattle.comp_trees.specs.Inventories.{Inventory}
@@ -35,7 +36,7 @@ use Rattle.link_laws.proofs.Zips.{each_listed}
 use Rattle.link_laws.proofs.Stores.{IsTypeEntry, IsFunctionEntry, IsInstanceThing, Agrees}
 use Rattle.link_laws.proofs.Given.{scope_there}
 use Rattle.link_laws.proofs.Plain.{only_main, no_initialize}
-use Rattle.link_laws.proofs.Steps.{no_modules, machine, IsNow, IsGood, asks, events_of, seen_by, Steps, step_type, step_instance_type, step_import, step_import_type, step_import_resource, step_alias_function, step_alias_type, step_lower, step_drop, step_lift, step_inline_instance, step_alias, step_export, step_module, step_custom, step_instantiate}
+use Rattle.link_laws.proofs.Steps.{no_modules, machine, IsNow, IsGood, asks, events_of, seen_by, Steps, step_type, step_instance_type, step_import, step_import_type, step_import_resource, step_import_instance, step_alias_function, step_alias_type, step_lower, step_drop, step_lift, step_inline_instance, step_alias, step_export, step_module, step_custom, step_instantiate}
 use Rattle.link_laws.proofs.Marks.{root_imports, root_modules, root_instances, root_exports, root_export_names, no_customs}
 use Rattle.link_laws.proofs.ImportedTypes.{types_served}
 use Rattle.link_laws.proofs.Served.{users_served, stated_all, each_provided}
@@ -54,10 +55,10 @@ module _ {w : ComponentWorld} {earlier : List Def} {c : Scope} {s : Store} (a : 
       subst (λ (o : List CanonicalOption). Steps w earlier c s g (defs.Item (items.Lift core o kind))) (sym h.1) (step_lift a g core kind h.0 h.2)
   step ok (defs.Item (items.Lower function options)) h = subst (λ (o : List CanonicalOption). Steps w earlier c s g (defs.Item (items.Lower function o))) (sym h.1) (step_lower a g function h.0)
   step ok (defs.Item (items.Intrinsic (intrinsics.ResourceDrop type))) h = step_drop a g type h
-  step ok (defs.Item (items.Import name (descriptions.Func kind))) h = step_import a g name kind h.1
-  step ok (defs.Item (items.Import name (descriptions.TypeEqual index))) h = step_import_type a g name index h.1.0
+  step ok (defs.Item (items.Import name (descriptions.Func kind))) h = step_import a g name kind h
+  step ok (defs.Item (items.Import name (descriptions.TypeEqual index))) h = step_import_type a g name index h.0
   step ok (defs.Item (items.Import name descriptions.SubResource)) h = step_import_resource a g name
-  step ok (defs.Item (items.Import name (descriptions.Instance index))) h = absurd h.1
+  step ok (defs.Item (items.Import name (descriptions.Instance index))) h = step_import_instance a g name index h.outer h.members h.is h.right
   step ok (defs.Item (items.Export name sorts.Func index None)) h = step_export a g ok name index h
   step ok (defs.Item (items.Custom name contents)) h = step_custom a g name contents
   step ok _ h = absurd h
@@ -91,15 +92,15 @@ seen-each (d ∷ ds) = rw (seen-each ds) (sym (map-append (λ (n : ℕ). Instant
 -- ---- as a list
 
 -- what was built is composed as the world says
-pub composed : (w : ComponentWorld) (ds : List Def) → IsWorld w → IsBuilt w ds → IsComposed w no_modules ds
-composed w ds ok built = record {
+pub composed : (n : Naming) (w : ComponentWorld) (ds : List Def) → IsWorld w → IsBuilt n w ds → IsComposed n w no_modules ds
+composed n w ds ok built = record {
   generated = [];
-  modules = root_modules w ds built ∙ sym (ap (λ us. map (λ (u : WorldModule). u.found.bytes) us ++ []) (only_main w ok));
+  modules = root_modules n w ds built ∙ sym (ap (λ us. map (λ (u : WorldModule). u.found.bytes) us ++ []) (only_main w ok));
   encoded = tt;
-  imports = root_imports w ds built;
-  exports = root_exports w ds built ∙ stated_all w ok w.main_exports ok.main.required;
-  instances = root_instances w ds built ∙ sym (ap (λ (us : List WorldModule). instance_order (length us) no_modules) (only_main w ok));
-  customs = record { front = built.front; names = built.names; whole = built.whole; none_before = no_customs w ds built; named = built.named };
+  imports = root_imports n w ds built;
+  exports = root_exports n w ds built ∙ stated_all n w ok w.main_exports ok.main.required;
+  instances = root_instances n w ds built ∙ sym (ap (λ (us : List WorldModule). instance_order (length us) no_modules) (only_main w ok));
+  customs = record { front = built.front; names = built.names; whole = built.whole; none_before = no_customs n w ds built; named = built.named };
 }
 
 -- ---- as a run
@@ -111,21 +112,21 @@ start : (w : ComponentWorld) → Agrees w [] (fresh_machine []).scope (fresh_mac
 start w = record { means = tt; types = subst (λ (v : Inventory). AllZip (IsTypeEntry (fresh_machine []).store) v.types []) (sym inventory-empty) tt; functions = subst (λ (v : Inventory). AllZip (IsFunctionEntry (fresh_machine []).store) v.functions []) (sym inventory-empty) tt; instances = subst (λ (v : Inventory). AllZip (IsInstanceThing (fresh_machine []).store) v.instances []) (sym inventory-empty) tt; modules = refl; instantiated = refl; served = tt; exports = refl; lifted = tt; imports = sym (ap (λ (v : Inventory). v.imports) inventory-empty) }
 
 -- the end of a run is linked
-linked_at_end : (w : ComponentWorld) (ds : List Def) (m : Machine) → IsWorld w → IsBuilt w ds → Agrees w ds m.scope m.store → m.now.events ≡ Instantiated 0 ∷ [] → IsLinked w no_modules m
-linked_at_end w ds m ok built a events =
+linked_at_end : (n : Naming) (w : ComponentWorld) (ds : List Def) (m : Machine) → IsWorld w → IsBuilt n w ds → Agrees w ds m.scope m.store → m.now.events ≡ Instantiated 0 ∷ [] → IsLinked n w no_modules m
+linked_at_end n w ds m ok built a events =
     record {
       origins = resource_of w;
       start_events = [];
-      instances = a.instantiated ∙ (root_instances w ds built ∙ sym (ap (λ (us : List WorldModule). instance_order (length us) no_modules) (only_main w ok)));
+      instances = a.instantiated ∙ (root_instances n w ds built ∙ sym (ap (λ (us : List WorldModule). instance_order (length us) no_modules) (only_main w ok)));
       imports = users_served w ok m a.served;
-      exports = each_provided w ok m (a.exports ∙ root_export_names w ds built) a.lifted w.main_exports ok.main.required (each_listed name_of_key w.main_exports);
+      exports = each_provided n w ok m (a.exports ∙ root_export_names n w ds built) a.lifted w.main_exports ok.main.required (each_listed name_of_key w.main_exports);
       events = events ∙ sym (ap (λ (us : List WorldModule). map (λ n. Instantiated n) (numbers_from 0 (length us)) ++ []) (only_main w ok));
       started = rw (no_calls w ok) tt;
     }
 
 -- and the types that it imports are the world's
-types_at_end : (w : ComponentWorld) (ds : List Def) (m : Machine) → IsBuilt w ds → Agrees w ds m.scope m.store → TypesServed w ds m
-types_at_end w ds m built a = ap (imported_among (in_space spaces.Type ds)) (scope_there a) ∙ types_served w ds built.right (root_imports w ds built)
+types_at_end : (n : Naming) (w : ComponentWorld) (ds : List Def) (m : Machine) → IsBuilt n w ds → Agrees w ds m.scope m.store → TypesServed w ds m
+types_at_end n w ds m built a = ap (imported_among (in_space spaces.Type ds)) (scope_there a) ∙ types_served n w ds built.right (root_imports n w ds built)
 
 module _ (e : Scope) (t : Store) (g : ℕ) (es : List Event) (questions : List (List ValType)) (answers : List Answer) where
   not_stuck : (o : Outcome) → IsGood e t g es questions answers o → o ≡ Stuck → ⊥
@@ -151,14 +152,14 @@ no_later : {A : Type 0} (xs : List A) (n : ℕ) (x : A) → length xs ≤ 1 → 
 no_later xs n x few late e = let within = slice_get_within xs n x e in omega (arith, few, late, within)
 
 -- what was built links, whatever the outside returns
-pub links : (w : ComponentWorld) (ds : List Def) → IsWorld w → IsBuilt w ds → Links w no_modules ds
-links w ds ok built =
+pub links : (n : Naming) (w : ComponentWorld) (ds : List Def) → IsWorld w → IsBuilt n w ds → Links n w no_modules ds
+links n w ds ok built =
     let all : Resolves w [] ds (fresh_machine []).scope (fresh_machine []).store 0 = resolves w ok [] ds (fresh_machine []).scope (fresh_machine []).store 0 (start w) built.right in
     let asked : asked_by ds ≡ questions w =
     asked-each ds
-    ∙ (ap (map (λ (n : ℕ). [])) (root_instances w ds built)
+    ∙ (ap (map (λ (n : ℕ). [])) (root_instances n w ds built)
     ∙ sym (ap₂ (λ (us : List WorldModule) (cs : List StartCall). map (λ m. []) us ++ map (λ c. []) cs) (only_main w ok) (no_calls w ok))) in
-    let seen : seen_by ds ≡ Instantiated 0 ∷ [] = seen-each ds ∙ ap (map (λ (n : ℕ). Instantiated n)) (root_instances w ds built) in
+    let seen : seen_by ds ≡ Instantiated 0 ∷ [] = seen-each ds ∙ ap (map (λ (n : ℕ). Instantiated n)) (root_instances n w ds built) in
     let one : List Event = Instantiated 0 ∷ [] in
     let good : (answers : List Answer) → IsGood all.0 all.1 all.2 one (questions w) answers (outcome w no_modules ds answers) =
     λ answers. subst (λ q. IsGood all.0 all.1 all.2 one q answers (outcome w no_modules ds answers)) asked
@@ -168,10 +169,10 @@ links w ds ok built =
       ends = λ answers. is_done all.0 all.1 all.2 one (questions w) answers (outcome w no_modules ds answers) (good answers);
       linked = λ answers m done.
           let is : (m.scope ≡ all.0) × (m.store ≡ all.1) × IsNow one all.2 m.now = done_with all.0 all.1 all.2 one (questions w) answers (outcome w no_modules ds answers) m (good answers) done in
-          linked_at_end w ds m ok built (subst (λ s. Agrees w ds m.scope s) (sym is.1) (subst (λ c. Agrees w ds c all.1) (sym is.0) all.4)) is.2.events;
+          linked_at_end n w ds m ok built (subst (λ s. Agrees w ds m.scope s) (sym is.1) (subst (λ c. Agrees w ds c all.1) (sym is.0) all.4)) is.2.events;
       types = λ answers m done.
           let is : (m.scope ≡ all.0) × (m.store ≡ all.1) × IsNow one all.2 m.now = done_with all.0 all.1 all.2 one (questions w) answers (outcome w no_modules ds answers) m (good answers) done in
-          types_at_end w ds m built (subst (λ s. Agrees w ds m.scope s) (sym is.1) (subst (λ c. Agrees w ds c all.1) (sym is.0) all.4));
+          types_at_end n w ds m built (subst (λ s. Agrees w ds m.scope s) (sym is.1) (subst (λ c. Agrees w ds c all.1) (sym is.0) all.4));
       traps_before = record { each = λ before after whole quiet there answers m done address shim. absurd (no there) };
       served_throughout = record {
         each = λ answers m ends event globals late at.

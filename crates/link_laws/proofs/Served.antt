@@ -31,6 +31,7 @@ use Rattle.comp_trees.specs.Trees.{FunctionTree}
 use Rattle.comp_trees.specs.DefinedTrees.{OfOthers}
 use Rattle.comp_links.specs.Targets.{Main, WorldFunction, Target, Lowered, Dropped, Lifted}
 use Rattle.comp_links.specs.Modules.{WorldModule, adapter_module, user_modules}
+use Rattle.comp_links.specs.Naming.{Naming, plain_name, name_of}
 use Rattle.comp_links.specs.Lists.{resource_of, root_function, stated_export, functions_required, functions_in}
 use Rattle.comp_terms.specs.Planned.{type_of_function}
 use Rattle.comp_runs.specs.Signatures.{core_signature}
@@ -153,15 +154,22 @@ function_key w ok (keys.Name text) h = by (core_name_of w (keys.Name text)) refl
 function_key w ok (keys.Interface id) h = let no = h.present in cc
 
 -- what is stated of a required key is a root function
-stated_function : (w : ComponentWorld) (key : WorldKey) → IsFunctionKey w key → stated_export w (record { of = Main; key = key }) ≡ root_function (name_of_key key)
-stated_function w key h = rw (h.is, h.found.present) refl
+own_name : (n : Naming) (w : ComponentWorld) (text : List ℕ) → name_of n w.resolve (keys.Name text) ≡ plain_name text
+own_name n w text = by n.canonical
+  where
+    by : (b : Bool) → (if b then plain_name text else plain_name text) ≡ plain_name text
+    by true = refl
+    by false = refl
 
-pub stated_all : (w : ComponentWorld) → IsWorld w → (required : List WorldKey) → AllByRecursion (IsRequired w w.main) required →
-    map (λ key. root_function (name_of_key key)) required ≡ map (stated_export w) (map (λ key. record { of = Main; key = key }) required)
-stated_all w ok [] h = refl
-stated_all w ok (key ∷ required) h = rw (stated_function w key (function_key w ok key h.0), stated_all w ok required h.1) refl
+stated_function : (n : Naming) (w : ComponentWorld) (key : WorldKey) → IsFunctionKey w key → stated_export n w (record { of = Main; key = key }) ≡ root_function (name_of_key key)
+stated_function n w key h = rw (h.is, h.found.present) (ap (λ x. record { name = x; sort = sorts.Func }) (own_name n w h.text))
 
-module _ (w : ComponentWorld) (ok : IsWorld w) (m : Machine) (names : map (λ (e : Export). e.name) m.scope.exports ≡ map name_of_key w.main_exports) (lifted : AllByRecursion (IsLiftedExport w m.store) m.scope.exports) where
+pub stated_all : (n : Naming) (w : ComponentWorld) → IsWorld w → (required : List WorldKey) → AllByRecursion (IsRequired w w.main) required →
+    map (λ key. root_function (name_of_key key)) required ≡ map (stated_export n w) (map (λ key. record { of = Main; key = key }) required)
+stated_all n w ok [] h = refl
+stated_all n w ok (key ∷ required) h = rw (stated_function n w key (function_key w ok key h.0), stated_all n w ok required h.1) refl
+
+module _ (n : Naming) (w : ComponentWorld) (ok : IsWorld w) (m : Machine) (names : map (λ (e : Export). e.name) m.scope.exports ≡ map name_of_key w.main_exports) (lifted : AllByRecursion (IsLiftedExport w m.store) m.scope.exports) where
   functions_all : filter (export_in spaces.Func) m.scope.exports ≡ m.scope.exports
   functions_all = filter-all (export_in spaces.Func) m.scope.exports (AllByRecursion-weaker (λ (e : Export) h. rw h.space refl) m.scope.exports lifted)
 
@@ -180,7 +188,7 @@ module _ (w : ComponentWorld) (ok : IsWorld w) (m : Machine) (names : map (λ (e
 
   -- the export of a root function
   provided : (text core : List ℕ) → core_name_of w (keys.Name text) ≡ Some core → (at : IsFoundFunction (items_of w).exports text) → list_any (bytes_eq text) (map name_of_key w.main_exports) ≡ true →
-      IsProvided w m (resource_of w) (record { of = Main; key = keys.Name text; function = at.function.name })
+      IsProvided n w m (resource_of w) (record { of = Main; key = keys.Name text; function = at.function.name })
   provided text core role at h =
       let listed : list_any (bytes_eq text) (map (λ (e : Export). e.name) m.scope.exports) ≡ true = subst (λ l. list_any (bytes_eq text) l ≡ true) (sym names) h in
       let x : (e : Export) × (export_named text m.scope.exports ≡ Some e) = found-listed (λ (e : Export). e.name) text m.scope.exports listed in
@@ -195,7 +203,7 @@ module _ (w : ComponentWorld) (ok : IsWorld w) (m : Machine) (names : map (λ (e
         address = x.0.address;
         target = Lifted (record { of = Main; name = is.1.name }) [];
         wit = at.function;
-        provided = ap (λ o. option_and_then (export_of spaces.Func at.function.name) (exports_at w m text o)) at.present
+        provided = ap (λ o. option_and_then (export_of spaces.Func at.function.name) (exports_at w m (name_of n w.resolve (keys.Name text)).name o)) at.present
             ∙ subst (λ n. export_of spaces.Func n m.scope.exports ≡ Some (record { space = spaces.Func; name = n; address = x.0.address })) at.same at_root;
         said = ap (option_map (λ n. Lifted (record { of = Main; name = n }) [])) (ap (λ t. core_name_of w (keys.Name t)) (sym is.0) ∙ is.1.role);
         type_of = ap (function_in w at.function.name) at.present;
@@ -210,15 +218,15 @@ module _ (w : ComponentWorld) (ok : IsWorld w) (m : Machine) (names : map (λ (e
 
   -- the functions of a required key
   key_provided : (key : WorldKey) → IsFunctionKey w key → list_any (bytes_eq (name_of_key key)) (map name_of_key w.main_exports) ≡ true →
-      AllByRecursion (IsProvided w m (resource_of w)) (functions_required w (record { of = Main; key = key }))
+      AllByRecursion (IsProvided n w m (resource_of w)) (functions_required w (record { of = Main; key = key }))
   key_provided key k h =
-      subst (λ key. AllByRecursion (IsProvided w m (resource_of w)) (functions_required w (record { of = Main; key = key }))) (sym k.is)
-      (subst (λ o. AllByRecursion (IsProvided w m (resource_of w)) (map (λ name. record { of = Main; key = keys.Name k.text; function = name }) (functions_in w.resolve o))) (sym k.found.present)
+      subst (λ key. AllByRecursion (IsProvided n w m (resource_of w)) (functions_required w (record { of = Main; key = key }))) (sym k.is)
+      (subst (λ o. AllByRecursion (IsProvided n w m (resource_of w)) (map (λ name. record { of = Main; key = keys.Name k.text; function = name }) (functions_in w.resolve o))) (sym k.found.present)
       (provided k.text k.core k.role k.found (subst (λ key. list_any (bytes_eq (name_of_key key)) (map name_of_key w.main_exports) ≡ true) k.is h), tt))
 
   pub each_provided : (required : List WorldKey) → AllByRecursion (IsRequired w w.main) required → AllByRecursion (λ key. list_any (bytes_eq (name_of_key key)) (map name_of_key w.main_exports) ≡ true) required →
-      AllByRecursion (IsProvided w m (resource_of w)) (flat_map (functions_required w) (map (λ key. record { of = Main; key = key }) required))
+      AllByRecursion (IsProvided n w m (resource_of w)) (flat_map (functions_required w) (map (λ key. record { of = Main; key = key }) required))
   each_provided [] r h = tt
   each_provided (key ∷ required) r h =
-      AllByRecursion-join (IsProvided w m (resource_of w)) (functions_required w (record { of = Main; key = key })) (flat_map (functions_required w) (map (λ key. record { of = Main; key = key }) required))
+      AllByRecursion-join (IsProvided n w m (resource_of w)) (functions_required w (record { of = Main; key = key })) (flat_map (functions_required w) (map (λ key. record { of = Main; key = key }) required))
       (key_provided key (function_key w ok key r.0) h.0) (each_provided required r.1 h.1)

@@ -1,4 +1,5 @@
 -- A worked example: the list with shims links, in every run; with the slots crossed it doesn't.
+use Rattle.link_laws.proofs.Plain.{own_names}
 use Rattle.std.proofs.Common.{◌≡◌, ◌∙◌, ◌≤◌, ◌++◌, ℕ, zero, suc, Bool, true, false, true≢false, List, [], ◌∷◌, take, refl, sym, ap, subst, Some, None, IsTrue, inl, inr, ◌⊎◌, arith}
 use Rattle.std.proofs.lemmas.Option.{none-some, same_Some}
 use Rattle.std.specs.Prelude.{Contains, is_some}
@@ -53,10 +54,10 @@ ends (Traps ∷ answers) lets = absurd lets
 ends (Gives [] number ∷ answers) lets = (end number answers, refl)
 ends (Gives (v ∷ vs) number ∷ answers) lets = absurd (true≢false (sym lets.0))
 
-linked : (answers : List Answer) (m : Machine) → outcome world straight_modules definitions answers ≡ Done m → IsLinked world straight_modules m
+linked : (answers : List Answer) (m : Machine) → outcome world straight_modules definitions answers ≡ Done m → IsLinked own_names world straight_modules m
 linked [] m e = absurd (true≢false (sym (ap is_done e)))
 linked (Traps ∷ answers) m e = absurd (true≢false (sym (ap is_done e)))
-linked (Gives [] number ∷ answers) m e = subst (IsLinked world straight_modules) (ap machine_of e) (straight_is_linked number answers)
+linked (Gives [] number ∷ answers) m e = subst (IsLinked own_names world straight_modules) (ap machine_of e) (straight_is_linked number answers)
 linked (Gives (v ∷ vs) number ∷ answers) m e = absurd (true≢false (sym (ap is_done e)))
 
 -- nothing is seen after the instance of main
@@ -228,7 +229,7 @@ module _ (first second : List ℕ) where
 
 -- ---- the two lists
 
-pub straight_links : Links world straight_modules definitions
+pub straight_links : Links own_names world straight_modules definitions
 straight_links = record {
   never_stuck = never_stuck;
   ends = ends;
@@ -238,5 +239,5 @@ straight_links = record {
   served_throughout = record { each = λ answers m e event globals late found. absurd (no_second m.now.moments event globals (one_moment answers m e) late found) };
 }
 
-pub crossed_does_not_link : Links world (generated (1 ∷ 0 ∷ [])) (whole (1 ∷ 0 ∷ [])) → ⊥
+pub crossed_does_not_link : Links own_names world (generated (1 ∷ 0 ∷ [])) (whole (1 ∷ 0 ∷ [])) → ⊥
 crossed_does_not_link l = crossed_is_not_linked (l.linked made _ refl)

@@ -1,4 +1,5 @@
 -- A worked example: the list with shims is linked, whatever the outside returns, and with the slots crossed it isn't.
+use Rattle.link_laws.proofs.Plain.{own_names}
 use Rattle.std.proofs.Common.{◌≡◌, ◌∙◌, ℕ, zero, suc, true≢false, List, [], ◌∷◌, refl, sym, ap, subst, Some, None, IsTrue, arith}
 use Rattle.std.proofs.lemmas.Option.{none-some, same_Some}
 use Rattle.std.specs.List.{slice_get}
@@ -95,7 +96,7 @@ module _ (number : ℕ) (rest : List Answer) where
   served (suc (suc zero)) i of e u = absurd (of_no_user fixup_instance i of (same_Some fixup_instance i e) refl u)
   served (suc (suc (suc n))) i of e u = absurd (none-some i e)
 
-  pub straight_is_linked : IsLinked world (generated (0 ∷ 1 ∷ [])) m
+  pub straight_is_linked : IsLinked own_names world (generated (0 ∷ 1 ∷ [])) m
   straight_is_linked = record {
     origins = no_origins;
     start_events = [];
@@ -136,5 +137,5 @@ first_import = record { module_name = root; field = f; ty = externs.Func plain_c
 first_meets : (origins : TypeId → Resource) → IsServed world c origins (main_module world) (core_function 0) first_import → CoreMeets world c None 0 (ItemIsLowering world c origins (OfRoot f) [])
 first_meets origins s = subst (Meets world c origins (core_function 0)) (same_Some s.target (Lowered (OfRoot f) []) (sym s.said)) s.meets
 
-pub crossed_is_not_linked : IsLinked world (generated (1 ∷ 0 ∷ [])) (machine_of crossed) → ⊥
+pub crossed_is_not_linked : IsLinked own_names world (generated (1 ∷ 0 ∷ [])) (machine_of crossed) → ⊥
 crossed_is_not_linked l = no_lowering_of_f l.origins (first_meets l.origins (l.imports.each 1 _ _ refl refl).0)

@@ -1,4 +1,5 @@
 -- Worked examples: worlds, lists of definitions, and how running them ends.
+use Rattle.link_laws.proofs.Plain.{own_names}
 use Rattle.std.proofs.Common.{◌≡◌, ℕ, zero, suc, List, [], ◌∷◌, refl, true, false, Option, Some, None, map, take, arith}
 use Rattle.std.specs.Option.{option_map}
 use Rattle.std.specs.List.{slice_get, flat_map}
@@ -410,7 +411,7 @@ pub one_apart : (name : List ℕ) → IsDistinct bytes_eq (name ∷ [])
 unfolding IsDistinct
 one_apart name = (tt, tt)
 
-pub keeps_the_rules : IsBuilt one_each one_import_one_export
+pub keeps_the_rules : IsBuilt own_names one_each one_import_one_export
 keeps_the_rules = record {
   front = one_import_one_export;
   names = [];

@@ -1,4 +1,5 @@
 -- A worked example: the list with an adapter is composed and linked, and with two of the adapter's imports crossed it isn't linked.
+use Rattle.link_laws.proofs.Plain.{own_names}
 use Rattle.std.proofs.Common.{◌≡◌, ◌∙◌, ◌≤◌, ℕ, zero, suc, true≢false, List, [], ◌∷◌, refl, sym, ap, subst, Option, Some, None, arith}
 use Rattle.std.proofs.lemmas.Option.{none-some, same_Some}
 use Rattle.std.specs.List.{slice_get}
@@ -36,7 +37,7 @@ use Rattle.link_laws.proofs.WorkedAdapter.{adapter, functions, world, wit_of_g, 
 
 -- ---- the lists
 
-pub straight_is_composed : IsComposed world no_modules definitions
+pub straight_is_composed : IsComposed own_names world no_modules definitions
 straight_is_composed = record {
   generated = [];
   modules = refl;
@@ -47,7 +48,7 @@ straight_is_composed = record {
   customs = record { front = definitions; names = []; whole = refl; none_before = refl; named = tt };
 }
 
-pub crossed_is_composed : IsComposed world no_modules crossed_definitions
+pub crossed_is_composed : IsComposed own_names world no_modules crossed_definitions
 crossed_is_composed = record {
   generated = [];
   modules = refl;
@@ -156,7 +157,7 @@ module _ (number number' : ℕ) (rest : List Answer) where
   served (suc zero) i of e u = served_same made_adapter i of the_adapter (same_Some made_adapter i e) refl u adapter_served
   served (suc (suc n)) i of e u = absurd (none-some i e)
 
-  g_provided : IsProvided world m no_origins (record { of = Main; key = keys.Name g; function = g })
+  g_provided : IsProvided own_names world m no_origins (record { of = Main; key = keys.Name g; function = g })
   g_provided = record {
     address = 0;
     target = Lifted (of_main g) [];
@@ -167,7 +168,7 @@ module _ (number number' : ℕ) (rest : List Answer) where
     meets = record { core = 0; held = []; is = refl; enters = meets_g (Some (entry_kind [])); same = tt };
   }
 
-  pub straight_is_linked : IsLinked world no_modules m
+  pub straight_is_linked : IsLinked own_names world no_modules m
   straight_is_linked = record {
     origins = no_origins;
     start_events = [];
@@ -178,7 +179,7 @@ module _ (number number' : ℕ) (rest : List Answer) where
     started = tt;
   }
 
-pub ends_linked : IsLinked world no_modules (machine_of straight)
+pub ends_linked : IsLinked own_names world no_modules (machine_of straight)
 ends_linked = straight_is_linked 0 0 []
 
 -- ---- every run
@@ -189,7 +190,7 @@ SeesTwo m = (n : ℕ) → slice_get m.now.moments (suc (suc n)) ≡ None
 
 -- how a run with these answers may end
 abbrev IsRightEnd : List Answer → Outcome → Type 0
-IsRightEnd answers (Done m) = IsLinked world no_modules m × SeesTwo m
+IsRightEnd answers (Done m) = IsLinked own_names world no_modules m × SeesTwo m
 IsRightEnd answers (Trapped m) = (LetsRun (questions world) answers → ⊥) × SeesTwo m
 IsRightEnd answers (Open m) = (LetsRun (questions world) answers → ⊥) × SeesTwo m
 IsRightEnd answers Stuck = ⊥
@@ -220,7 +221,7 @@ no_third m zero globals h late e = absurd (omega (arith, late))
 no_third m (suc zero) globals h late e = absurd (omega (arith, late))
 no_third m (suc (suc n)) globals h late e = none-some globals (sym (h n) ∙ e)
 
-pub straight_links : Links world no_modules definitions
+pub straight_links : Links own_names world no_modules definitions
 straight_links = record {
   never_stuck = λ answers e. subst (IsRightEnd answers) e (runs answers);
   ends = λ answers lets. done answers (outcome world no_modules definitions answers) (runs answers) lets;
@@ -256,5 +257,5 @@ import_of_k = record { module_name = functions; field = k; ty = externs.Func pla
 k_meets : (origins : TypeId → Resource) → IsServed world c origins the_adapter (core_function 0) import_of_k → CoreExportMeets world c None 0 (of_main k)
 k_meets origins s = subst (Meets world c origins (core_function 0)) (same_Some s.target (ExportOf (of_main k)) (sym s.said)) s.meets
 
-pub crossed_is_not_linked : IsLinked world no_modules (machine_of crossed) → ⊥
+pub crossed_is_not_linked : IsLinked own_names world no_modules (machine_of crossed) → ⊥
 crossed_is_not_linked l = not_k (k_meets l.origins (l.imports.each 1 _ _ refl refl).1.0)

@@ -1,5 +1,6 @@
 -- A worked example: a world that imports two resources, of which main drops handles. Its list links, and with the two drops crossed
 -- it isn't linked.
+use Rattle.link_laws.proofs.Plain.{own_names}
 use Rattle.std.proofs.Common.{◌≡◌, ℕ, zero, suc, false, List, [], ◌∷◌, ◌++◌, refl, sym, ap, subst, Some, None, map, take, IsTrue, arith}
 use Rattle.std.proofs.lemmas.Option.{same_Some}
 use Rattle.std.specs.Prelude.{codes, Contains}
@@ -224,7 +225,7 @@ s_given = record { named = refl; serves = record { term = terms.Dropping (resour
 both_given : IsArgumentFor world Main (ds 6) (record { name = root; instance = 0 }) (root, instances.Names fields)
 both_given = record { named = refl; serves = record { entries = entries; made = record { made = refl }; each = (r_given, (s_given, tt)) } }
 
-keeps_the_rules : IsBuilt world (list_of 0 1)
+keeps_the_rules : IsBuilt own_names world (list_of 0 1)
 keeps_the_rules = record {
   front = list_of 0 1;
   names = [];
@@ -252,10 +253,10 @@ keeps_the_rules = record {
   named = tt;
 }
 
-pub drops_link : Links world no_modules (list_of 0 1)
+pub drops_link : Links own_names world no_modules (list_of 0 1)
 drops_link = links world (list_of 0 1) is_world keeps_the_rules
 
-pub drops_are_linked : IsLinked world no_modules (machine_of (outcome world no_modules (list_of 0 1) made))
+pub drops_are_linked : IsLinked own_names world no_modules (machine_of (outcome world no_modules (list_of 0 1) made))
 drops_are_linked = drops_link.linked made (machine_of (outcome world no_modules (list_of 0 1) made)) refl
 
 -- ---- where the drops are crossed, the run ends, but it isn't linked
@@ -286,5 +287,5 @@ first_meets : (origins : TypeId → Resource) → origins (record { index = 0 })
 first_meets origins is served =
     subst (λ o. CoreMeets world m None 0 (ItemIsDrop m o)) is (subst (Meets world m origins (core_function 0)) (same_Some served.target (Dropped (record { index = 0 })) (sym served.said)) served.meets)
 
-pub crossed_is_not_linked : IsLinked world no_modules m → ⊥
+pub crossed_is_not_linked : IsLinked own_names world no_modules m → ⊥
 crossed_is_not_linked l = no_drop_of_r (first_meets l.origins l.imports.resources.0 (l.imports.each 0 _ _ refl refl).0)

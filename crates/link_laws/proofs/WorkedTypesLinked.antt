@@ -1,5 +1,6 @@
 -- A worked example: the list with types keeps the rules, so that it links; with another type of its lift, or of its import, it
 -- does not.
+use Rattle.link_laws.proofs.Plain.{own_names}
 use Rattle.std.proofs.Common.{◌≡◌, ◌∙◌, ℕ, Bool, true, false, true≢false, List, [], ◌∷◌, refl, sym, ap, subst, Option, Some, None, take, arith}
 use Rattle.std.proofs.lemmas.Option.{same_Some}
 use Rattle.std.specs.List.{slice_get}
@@ -130,7 +131,7 @@ g_required = record {
   lifted = subst (IsLiftFor world (ds 12) 1 (LiftedFrom (record { of = Main; name = g }) [])) g_as_said g_lifted;
 }
 
-keeps_the_rules : IsBuilt world (typed_list 4)
+keeps_the_rules : IsBuilt own_names world (typed_list 4)
 keeps_the_rules = record {
   front = typed_list 4;
   names = [];
@@ -141,13 +142,13 @@ keeps_the_rules = record {
 }
 
 -- so it is composed as the world says, and linked at its end
-pub typed_list_is_composed : IsComposed world no_modules (typed_list 4)
+pub typed_list_is_composed : IsComposed own_names world no_modules (typed_list 4)
 typed_list_is_composed = composed world (typed_list 4) is_world keeps_the_rules
 
-pub typed_list_links : Links world no_modules (typed_list 4)
+pub typed_list_links : Links own_names world no_modules (typed_list 4)
 typed_list_links = links world (typed_list 4) is_world keeps_the_rules
 
-pub typed_list_is_linked : IsLinked world no_modules (machine_of (outcome world no_modules (typed_list 4) made))
+pub typed_list_is_linked : IsLinked own_names world no_modules (machine_of (outcome world no_modules (typed_list 4) made))
 typed_list_is_linked = typed_list_links.linked made (machine_of (outcome world no_modules (typed_list 4) made)) refl
 
 -- ---- where the lift is of the type of f, the list isn't linked
@@ -160,7 +161,7 @@ result_of function = 4
 abbrev exchanged : Machine
 exchanged = machine_of (outcome world no_modules (typed_list 2) made)
 
-lift_of_g : (origins : TypeId → Resource) → IsProvided world exchanged origins (record { of = Main; key = keys.Name g; function = g }) → ⊥
+lift_of_g : (origins : TypeId → Resource) → IsProvided own_names world exchanged origins (record { of = Main; key = keys.Name g; function = g }) → ⊥
 lift_of_g origins x =
     let address : 1 ≡ x.address = ap (λ (e : Export). e.address) (same_Some (record { space = spaces.Func; name = g; address = 1 }) (record { space = spaces.Func; name = g; address = x.address }) x.provided) in
     let wit : wit_g ≡ x.wit = same_Some wit_g x.wit x.type_of in
@@ -173,7 +174,7 @@ lift_of_g origins x =
     let same : 1 ≡ 2 = ap result_of of_g in
     absurd (omega (arith, same))
 
-pub exchanged_is_not_linked : IsLinked world no_modules (machine_of (outcome world no_modules (typed_list 2) made)) → ⊥
+pub exchanged_is_not_linked : IsLinked own_names world no_modules (machine_of (outcome world no_modules (typed_list 2) made)) → ⊥
 exchanged_is_not_linked l = lift_of_g l.origins l.exports.0
 
 -- ---- the list that imports a u8 under the name of the record doesn't link
@@ -186,5 +187,5 @@ record_stated : is_record (stated_types world) ≡ true
 unfolding values_from
 record_stated = refl
 
-pub misnamed_does_not_link : Links world no_modules misnamed → ⊥
+pub misnamed_does_not_link : Links own_names world no_modules misnamed → ⊥
 misnamed_does_not_link l = true≢false (sym record_stated ∙ sym (ap is_record (l.types made (machine_of (outcome world no_modules misnamed made)) refl)))

@@ -19,7 +19,6 @@ use Rattle.core_runs.specs.Store as core
 use Rattle.core_runs.specs.Execution.{acts}
 use Rattle.core_runs.specs.Expected.{Known, Is}
 use Rattle.core_runs.specs.Sections.{parts_of}
-use Rattle.wit_data.specs.Names.{key_text}
 use Rattle.wit_data.specs.declared.ids.TypeId.{TypeId}
 use Rattle.wit_data.specs.declared.functions.Function.{Function as WitFunction}
 use Rattle.wit_data.specs.declared.worlds.WorldItem.{WorldItem}
@@ -33,6 +32,7 @@ use Rattle.comp_trees.specs.Trees.{Resource}
 use Rattle.comp_trees.specs.DefinedTrees.{TypeTree}
 use Rattle.comp_trees.specs.WitTrees.{wit_function_tree}
 use Rattle.comp_links.specs.Targets.{Main, ExportRef, Target, Lifted}
+use Rattle.comp_links.specs.Naming.{Naming, name_of}
 use Rattle.comp_links.specs.Modules.{WorldModule, user_modules}
 use Rattle.comp_links.specs.Lists.{RequiredFunction, required_functions, exported_item, resource_of, stated_types}
 use Rattle.comp_links.specs.Links.{link_at, lift_of}
@@ -128,11 +128,11 @@ LiftMeets w m origins address wit (Lifted entry options) = IsLift w m address (w
 LiftMeets w m origins address wit target = ⊥
 
 -- a required function is found by its sort and name, and is what the link table says, with its type
-pub record IsProvided (w : ComponentWorld) (m : Machine) (origins : TypeId → Resource) (r : RequiredFunction) : Type 0 where
+pub record IsProvided (n : Naming) (w : ComponentWorld) (m : Machine) (origins : TypeId → Resource) (r : RequiredFunction) : Type 0 where
   pub address : ℕ
   pub target : Target
   pub wit : WitFunction
-  pub provided : option_and_then (export_of spaces.Func r.function) (exports_at w m (key_text w.resolve r.key) (exported_item w r.key)) ≡ Some (record { space = spaces.Func; name = r.function; address = address })
+  pub provided : option_and_then (export_of spaces.Func r.function) (exports_at w m (name_of n w.resolve r.key).name (exported_item w r.key)) ≡ Some (record { space = spaces.Func; name = r.function; address = address })
   pub said : lift_of w r ≡ Some target
   pub type_of : function_in w r.function (exported_item w r.key) ≡ Some wit
   pub meets : LiftMeets w m origins address wit target
@@ -148,12 +148,12 @@ MakesCall w m event call = ⊥
 
 -- At the end: each module has one instance, in order; each import is served, and each required function is provided;
 -- and what was seen from outside is the instantiation of each user module, and then the start calls.
-pub record IsLinked (w : ComponentWorld) (g : GeneratedModules) (m : Machine) : Type 0 where
+pub record IsLinked (n : Naming) (w : ComponentWorld) (g : GeneratedModules) (m : Machine) : Type 0 where
   pub origins : TypeId → Resource
   pub start_events : List Event
   pub instances : map (λ (i : ModuleInstance). i.module_number) m.store.module_instances ≡ instance_order (length (user_modules w)) g
   pub imports : UsersServed w m origins
-  pub exports : AllByRecursion (IsProvided w m origins) (required_functions w)
+  pub exports : AllByRecursion (IsProvided n w m origins) (required_functions w)
   pub events : m.now.events ≡ map (λ n. Instantiated n) (numbers_from 0 (length (user_modules w))) ++ start_events
   pub started : AllZip (MakesCall w m) start_events (start_calls w)
 
@@ -215,10 +215,10 @@ pub record ServedThroughout (w : ComponentWorld) (g : GeneratedModules) (ds : Li
 -- When it is run, whatever the outside returns: it is never stuck; it is done where the answers let it; where it is done
 -- it is linked, and the types that it imports are the world's; shims trap before they are filled, and are filled before
 -- anything is called.
-pub record Links (w : ComponentWorld) (g : GeneratedModules) (ds : List Def) : Type 0 where
+pub record Links (n : Naming) (w : ComponentWorld) (g : GeneratedModules) (ds : List Def) : Type 0 where
   pub never_stuck : (answers : List Answer) → outcome w g ds answers ≢ Stuck
   pub ends : (answers : List Answer) → LetsRun (questions w) answers → (m : Machine) × (outcome w g ds answers ≡ Done m)
-  pub linked : (answers : List Answer) (m : Machine) → outcome w g ds answers ≡ Done m → IsLinked w g m
+  pub linked : (answers : List Answer) (m : Machine) → outcome w g ds answers ≡ Done m → IsLinked n w g m
   pub types : (answers : List Answer) (m : Machine) → outcome w g ds answers ≡ Done m → TypesServed w ds m
   pub traps_before : ShimsTrapBefore w g ds
   pub served_throughout : ServedThroughout w g ds
