@@ -19,7 +19,8 @@ use Rattle.wit_data.specs.Parts.{parts, IsBelow}
 use Rattle.wit_data.specs.Sound.{HasFunction}
 use Rattle.wit_data.specs.Values.{kind_at}
 use Rattle.wit_data.proofs.Values.{parts_below}
-use Rattle.comp_worlds.specs.Worlds.{IsOwnerAtRoot, IsRootType, IsResource, IsWorld, imported_types}
+use Rattle.comp_worlds.specs.Encodable.{IsOwnerAtRoot, IsRootType, IsEncodable}
+use Rattle.comp_worlds.specs.Worlds.{IsResource, imported_types}
 use Rattle.comp_worlds.specs.declared.world.ComponentWorld.{ComponentWorld}
 use Rattle.wit_types.specs.Settings.{Setting, owner_at}
 use Rattle.wit_types.specs.Allowing.{foreign, is_resource, may_make, may_define, is_allowed, IsDefinedHere, allows_function}
@@ -59,7 +60,7 @@ below_next (t ∷ ts) next n h c = elim (contains_cons t.1.index (map (λ t. t.1
 abbrev pub AreMet : ComponentWorld → Option TypeId → ℕ → Type 0
 AreMet w last k = (n : ℕ) → n < k → IsResource w.resolve.types n → (root_setting w last).met (record { index = n }) ≡ true
 
-module _ (w : ComponentWorld) (ok : IsWorld w) (last : Option TypeId) where
+module _ (w : ComponentWorld) (ok : IsEncodable w) (last : Option TypeId) where
   abbrev s : Setting
   s = root_setting w last
 

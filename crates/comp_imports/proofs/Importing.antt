@@ -27,7 +27,9 @@ use Rattle.comp_roles.specs.declared.imports.Import.{Import}
 use Rattle.comp_roles.specs.declared.imports.Import.TheVariants as imports
 use Rattle.comp_roles.specs.declared.imports.ImportInstance.{ImportInstance}
 use Rattle.comp_roles.specs.declared.imports.ImportInstance.TheVariants as instances
-use Rattle.comp_worlds.specs.Worlds.{items_of, root_function, world_type, imported_functions, imported_types, imported_name, AscendFrom, IsImportRole, IsImportGroup, IsWorld}
+use Rattle.comp_worlds.specs.Encodable.{IsEncodable}
+use Rattle.comp_worlds.specs.Worlds.{items_of, root_function, world_type, imported_functions, imported_types, imported_name, IsImportRole, IsImportGroup}
+use Rattle.comp_worlds.specs.Encodable.{AscendFrom}
 use Rattle.comp_worlds.specs.declared.world.ComponentWorld.{ComponentWorld}
 use Rattle.comp_links.specs.Lists.{ImportEntry, WorldType, RootFunction, import_entries, number_of_type, stated_import, root_type}
 use Rattle.comp_links.specs.Roles.{is_named, is_any_import, uses_from, is_used, used_functions}
@@ -50,6 +52,7 @@ IsWorldImport w text = Contains (imported_functions w) text
 role_is_imported : (w : ComponentWorld) (text : List ℕ) (role : Import) → is_named text (imported_name role) ≡ true → IsImportRole w role → IsWorldImport w text
 role_is_imported w text (imports.WorldFunc (keys.Name name) function abi) same h = subst (IsWorldImport w) (sym ((bytes_eq-Decides text name).0 same)) h.0
 role_is_imported w text (imports.ImportedResourceDrop key interface id) same h = cc
+role_is_imported w text (imports.InterfaceFunc key interface function abi) same h = cc
 role_is_imported w text role same h = absurd h
 
 field_is_imported : (w : ComponentWorld) (text : List ℕ) (fs : List (List ℕ × Import)) → AllByRecursion (λ f. IsImportRole w f.1) fs → is_any_import text fs ≡ true → IsWorldImport w text
@@ -73,8 +76,8 @@ groups_are_imported w text (g ∷ gs) h e = by (uses_from text g) refl e (groups
     by false apart u rest = rest u
 
 -- a root function that an import of main uses is one that the world imports
-pub used_is_imported : (w : ComponentWorld) → IsWorld w → (text : List ℕ) → IsTrue (is_used w text) → IsWorldImport w text
-used_is_imported w valid text u = groups_are_imported w text w.main.imports.modules valid.main.import_roles u
+pub used_is_imported : (w : ComponentWorld) → IsEncodable w → (text : List ℕ) → IsTrue (is_used w text) → IsWorldImport w text
+used_is_imported w valid text u = groups_are_imported w text w.main.imports.modules valid.valid.main.import_roles u
 
 -- ---- how many imports there are
 
@@ -115,8 +118,12 @@ types_counted : (ts : List (List ℕ × TypeId)) → length (filter is_imported 
 types_counted [] = refl
 types_counted (t ∷ ts) = ap suc (types_counted ts)
 
+-- how many imports come before the functions at the root: interfaces and types
+abbrev pub first_imports : ComponentWorld → ℕ
+first_imports w = length (interface_entries w) + length (imported_types w)
+
 -- after the types of the world, as many imports are there
-pub types_imported : (w : ComponentWorld) (old new : List Def) → imports_in old ≡ 0 → Grows w old new (map (λ t. Imported (root_type t.0)) (imported_types w)) → imports_in new ≡ length (imported_types w)
+pub types_imported : (w : ComponentWorld) (old new : List Def) → imports_in old ≡ length (interface_entries w) → Grows w old new (map (λ t. Imported (root_type t.0)) (imported_types w)) → imports_in new ≡ first_imports w
 types_imported w old new none g =
     let more = grown_imports g in
     let count = types_counted (imported_types w) in
@@ -148,17 +155,17 @@ pub record ImportsSoFar (w : ComponentWorld) (old new : Built) (functions : List
   pub split : done ++ rest ≡ (items_of w).imports
   pub extends : Extends old new
   pub grows : Grows w old.defs new.defs (names_marked w (flat_map root_function done))
-  pub count : imports_in new.defs ≡ length (imported_types w) + length (filter (is_used w) (flat_map root_function done))
+  pub count : imports_in new.defs ≡ first_imports w + length (filter (is_used w) (flat_map root_function done))
   pub imports : FindsImports w new.defs functions
   pub finds : AllByRecursion (λ t. IsTrue (is_used w t) → IsSome (found t functions)) (flat_map root_function done)
 
-pub imports_start : (w : ComponentWorld) (old : Built) → imports_in old.defs ≡ length (imported_types w) → ImportsSoFar w old old [] (items_of w).imports
+pub imports_start : (w : ComponentWorld) (old : Built) → imports_in old.defs ≡ first_imports w → ImportsSoFar w old old [] (items_of w).imports
 imports_start w old types = record {
   done = [];
   split = refl;
   extends = extends_none old;
   grows = Grows-none w old.defs;
-  count = types ∙ sym (add-zero (length (imported_types w)));
+  count = types ∙ sym (add-zero (first_imports w));
   imports = record { each = λ t i e. cc };
   finds = tt;
 }
@@ -215,8 +222,20 @@ entry_at (x ∷ ts) names n t h = subst (λ k. slice_get (x ∷ (ts ++ map RootF
     one_more : (k : ℕ) → suc (k + n) ≡ suc k + n
     one_more k = omega arith
 
+-- the imports before the functions at the root
+abbrev first_entries : ComponentWorld → List ImportEntry
+first_entries w = interface_entries w ++ map (λ (t : List ℕ × TypeId). WorldType t.0 t.1) (imported_types w)
+
+entries_split : (w : ComponentWorld) → import_entries w ≡ first_entries w ++ map RootFunction (used_functions w)
+entries_split w = sym (append_assoc (interface_entries w) (map (λ (t : List ℕ × TypeId). WorldType t.0 t.1) (imported_types w)) (map RootFunction (used_functions w)))
+
+length_first : (w : ComponentWorld) → length (first_entries w) ≡ first_imports w
+length_first w =
+    length-append (interface_entries w) (map (λ (t : List ℕ × TypeId). WorldType t.0 t.1) (imported_types w))
+    ∙ ap (λ n. length (interface_entries w) + n) (length-map (imported_types w) (λ (t : List ℕ × TypeId). WorldType t.0 t.1))
+
 -- the function of the next item, where it is used, is the next one that is imported
-pub next_item : (w : ComponentWorld) (old mid : Built) (functions : List (List ℕ × ℕ)) (e : WorldKey × WorldItem) (rest : List (WorldKey × WorldItem)) → IsWorld w → IsDistinct is_same_key (keys_of (items_of w).imports) → ImportsSoFar w old mid functions (e ∷ rest) →
+pub next_item : (w : ComponentWorld) (old mid : Built) (functions : List (List ℕ × ℕ)) (e : WorldKey × WorldItem) (rest : List (WorldKey × WorldItem)) → IsEncodable w → IsDistinct is_same_key (keys_of (items_of w).imports) → ImportsSoFar w old mid functions (e ∷ rest) →
     IsNextItem w mid.defs e
 next_item w old mid functions (keys.Interface id, item) rest ok apart h = tt
 next_item w old mid functions (keys.Name text, world_items.Interface id) rest ok apart h = tt
@@ -229,8 +248,8 @@ next_item w old mid functions (keys.Name text, world_items.Function f) rest ok a
         sym (flat_map-append root_function h.done ((keys.Name text, world_items.Function f) ∷ rest)) ∙ ap (flat_map root_function) h.split in
         let next : slice_get (used_functions w) (length (filter (is_used w) (flat_map root_function h.done))) ≡ Some text =
         ap (λ l. slice_get (filter (is_used w) l) (length (filter (is_used w) (flat_map root_function h.done)))) (sym here) ∙ next_in (is_used w) (flat_map root_function h.done) (flat_map root_function rest) text used in
-        ap (slice_get (import_entries w)) (h.count ∙ ap (λ n. n + length (filter (is_used w) (flat_map root_function h.done))) (sym (length-map (imported_types w) (λ (t : List ℕ × TypeId). WorldType t.0 t.1))))
-        ∙ entry_at (map (λ (t : List ℕ × TypeId). WorldType t.0 t.1) (imported_types w)) (used_functions w) (length (filter (is_used w) (flat_map root_function h.done))) text next;
+        ap₂ (λ es n. slice_get es n) (entries_split w) (h.count ∙ ap (λ n. n + length (filter (is_used w) (flat_map root_function h.done))) (sym (length_first w)))
+        ∙ entry_at (first_entries w) (used_functions w) (length (filter (is_used w) (flat_map root_function h.done))) text next;
   },
   (entry_sound w ok h.done rest (keys.Name text, world_items.Function f) h.split).1,
 )
@@ -241,7 +260,7 @@ imports_marks w old new functions h =
     let all : h.done ≡ (items_of w).imports = sym (append-nil h.done) ∙ h.split in
     subst (λ es. Grows w old.defs new.defs (names_marked w (flat_map root_function es))) all h.grows
 
-pub imports_found : (w : ComponentWorld) (old new : Built) (functions : List (List ℕ × ℕ)) → IsWorld w → ImportsSoFar w old new functions [] → FindsUsed w functions
+pub imports_found : (w : ComponentWorld) (old new : Built) (functions : List (List ℕ × ℕ)) → IsEncodable w → ImportsSoFar w old new functions [] → FindsUsed w functions
 imports_found w old new functions valid h = record {
   each = λ t u.
       let all : h.done ≡ (items_of w).imports = sym (append-nil h.done) ∙ h.split in
@@ -252,20 +271,26 @@ imports_found w old new functions valid h = record {
 
 -- ---- both steps
 
--- the types and the functions are all imports that the world states
-pub all_marked : (w : ComponentWorld) → map (λ t. Imported (root_type t.0)) (imported_types w) ++ map named_import (used_functions w) ≡ imports_marked w
-all_marked w = sym (both (imported_types w) (used_functions w))
+-- the landmarks of the imported interfaces
+abbrev pub interfaces_marked : ComponentWorld → List Landmark
+interfaces_marked w = flat_map (import_marked own_names w) (interface_entries w)
+
+-- the interfaces, the types and the functions are all imports that the world states
+all_marked : (w : ComponentWorld) → interfaces_marked w ++ (map (λ t. Imported (root_type t.0)) (imported_types w) ++ map named_import (used_functions w)) ≡ imports_marked own_names w
+all_marked w =
+    sym (flat_map-append (import_marked own_names w) (interface_entries w) (map (λ (t : List ℕ × TypeId). WorldType t.0 t.1) (imported_types w) ++ map RootFunction (used_functions w))
+    ∙ ap (λ l. interfaces_marked w ++ l) (both (imported_types w) (used_functions w)))
   where
-    functions : (fs : List (List ℕ)) → map Imported (map stated_import (map RootFunction fs)) ≡ map named_import fs
+    functions : (fs : List (List ℕ)) → flat_map (import_marked own_names w) (map RootFunction fs) ≡ map named_import fs
     functions [] = refl
     functions (f ∷ fs) = ap (λ l. named_import f ∷ l) (functions fs)
 
-    both : (ts : List (List ℕ × TypeId)) (fs : List (List ℕ)) → map Imported (map stated_import (map (λ t. WorldType t.0 t.1) ts ++ map RootFunction fs)) ≡ map (λ t. Imported (root_type t.0)) ts ++ map named_import fs
+    both : (ts : List (List ℕ × TypeId)) (fs : List (List ℕ)) → flat_map (import_marked own_names w) (map (λ t. WorldType t.0 t.1) ts ++ map RootFunction fs) ≡ map (λ t. Imported (root_type t.0)) ts ++ map named_import fs
     both [] fs = functions fs
     both (t ∷ ts) fs = ap (λ l. Imported (root_type t.0) ∷ l) (both ts fs)
 
-pub imports_made : {w : ComponentWorld} {a b c : List Def} → Grows w a b (map (λ t. Imported (root_type t.0)) (imported_types w)) → Grows w b c (map named_import (used_functions w)) → Grows w a c (imports_marked w)
-imports_made {w} {a} {b} {c} g h = subst (λ m. Grows w a c m) (all_marked w) (Grows-then g h)
+pub imports_made : {w : ComponentWorld} {a b c d : List Def} → Grows w a b (interfaces_marked w) → Grows w b c (map (λ t. Imported (root_type t.0)) (imported_types w)) → Grows w c d (map named_import (used_functions w)) → Grows w a d (imports_marked own_names w)
+imports_made {w} {a} {b} {c} {d} g h k = subst (λ m. Grows w a d m) (all_marked w) (Grows-then g (Grows-then h k))
 
 -- ---- the loop over types
 
@@ -280,17 +305,17 @@ pub record TypesSoFar (w : ComponentWorld) (old new : Built) (next : ℕ) (rest 
   pub split : done ++ rest ≡ (items_of w).imports
   pub extends : Extends old new
   pub grows : Grows w old.defs new.defs (map (λ t. Imported (root_type t.0)) (flat_map world_type done))
-  pub count : imports_in new.defs ≡ length (flat_map world_type done)
+  pub count : imports_in new.defs ≡ length (interface_entries w) + length (flat_map world_type done)
   pub below : AllByRecursion (λ t. t.1.index < next) (flat_map world_type done)
   pub ahead : AscendFrom next (indexes (flat_map world_type rest))
 
-pub types_start : (w : ComponentWorld) (old : Built) (next : ℕ) → IsWorld w → imports_in old.defs ≡ 0 → next ≡ 0 → TypesSoFar w old old next (items_of w).imports
+pub types_start : (w : ComponentWorld) (old : Built) (next : ℕ) → IsEncodable w → imports_in old.defs ≡ length (interface_entries w) → next ≡ 0 → TypesSoFar w old old next (items_of w).imports
 types_start w old next ok none zero = record {
   done = [];
   split = refl;
   extends = extends_none old;
   grows = Grows-none w old.defs;
-  count = none;
+  count = none ∙ sym (add-zero (length (interface_entries w)));
   below = tt;
   ahead = subst (λ n. AscendFrom n (indexes (imported_types w))) (sym zero) ok.resources.ordered;
 }
@@ -357,6 +382,32 @@ number_behind (t ∷ ts) more entries name id next h l = by (id.index == t.1.ind
     by true e more = let same = (Decides-eqb id.index t.1.index).0 e in let small = h.0 in absurd (omega (arith, same, small, l))
     by false e more = ap (λ b. if b then 0 else suc rest) e ∙ ap suc more
 
+-- interfaces have no number among the types
+behind_names : (id : TypeId) (names : List (List ℕ)) (key : WorldKey) (i : InterfaceId) (rest : List ImportEntry) →
+    number_of_type id (unless_empty names (ImportedInterface key i) ++ rest) ≡ length (unless_empty names (ImportedInterface key i)) + number_of_type id rest
+behind_names id [] key i rest = sym (zero-add (number_of_type id rest))
+behind_names id (name ∷ names) key i rest = let n : suc (number_of_type id rest) ≡ 1 + number_of_type id rest = omega arith in n
+
+behind_entry : (w : ComponentWorld) (id : TypeId) (e : WorldKey × WorldItem) (rest : List ImportEntry) → number_of_type id (interface_entry w e ++ rest) ≡ length (interface_entry w e) + number_of_type id rest
+behind_entry w id (key, world_items.Interface i) rest = behind_names id (names_of_interface w i) key i rest
+behind_entry w id (key, world_items.Function f) rest = sym (zero-add (number_of_type id rest))
+behind_entry w id (key, world_items.NamedType t) rest = sym (zero-add (number_of_type id rest))
+
+behind_interfaces : (w : ComponentWorld) (id : TypeId) (es : List (WorldKey × WorldItem)) (rest : List ImportEntry) →
+    number_of_type id (flat_map (interface_entry w) es ++ rest) ≡ length (flat_map (interface_entry w) es) + number_of_type id rest
+behind_interfaces w id [] rest = sym (zero-add (number_of_type id rest))
+behind_interfaces w id (e ∷ es) rest =
+    let split = ap (number_of_type id) (append_assoc (interface_entry w e) (flat_map (interface_entry w) es) rest) in
+    let one = behind_entry w id e (flat_map (interface_entry w) es ++ rest) in
+    let more = behind_interfaces w id es rest in
+    let all = length-append (interface_entry w e) (flat_map (interface_entry w) es) in
+    omega (arith, split, one, more, all)
+
+-- an entry behind the interfaces
+entry_behind : (xs ys : List ImportEntry) (n : ℕ) (e : ImportEntry) → slice_get ys n ≡ Some e → slice_get (xs ++ ys) (length xs + n) ≡ Some e
+entry_behind [] ys n e h = subst (λ k. slice_get ys k ≡ Some e) (sym (zero-add n)) h
+entry_behind (x ∷ xs) ys n e h = let k : suc (length xs + n) ≡ suc (length xs) + n = omega arith in subst (λ k. slice_get (x ∷ (xs ++ ys)) k ≡ Some e) k (entry_behind xs ys n e h)
+
 -- the type of the next item is the next import
 pub next_type : (w : ComponentWorld) (old mid : Built) (next : ℕ) (e : WorldKey × WorldItem) (rest : List (WorldKey × WorldItem)) → TypesSoFar w old mid next (e ∷ rest) → IsNextType w next mid.defs e
 next_type w old mid next (keys.Interface id, item) rest h = tt
@@ -372,9 +423,14 @@ next_type w old mid next (keys.Name text, world_items.NamedType id) rest h =
     let entry : slice_get (map (λ (t : List ℕ × TypeId). WorldType t.0 t.1) (imported_types w)) (length done) ≡ Some (WorldType text id) =
     slice_get-map (λ (t : List ℕ × TypeId). WorldType t.0 t.1) (imported_types w) (length done) ∙ ap (option_map (λ (t : List ℕ × TypeId). WorldType t.0 t.1)) there in
     record {
-      stated = ap (slice_get (import_entries w)) h.count ∙ slice_get-append (map (λ (t : List ℕ × TypeId). WorldType t.0 t.1) (imported_types w)) (map RootFunction (used_functions w)) (length done) (WorldType text id) entry;
-      number = ap (λ ts. number_of_type id (map (λ (t : List ℕ × TypeId). WorldType t.0 t.1) ts ++ map RootFunction (used_functions w))) all
-          ∙ (number_behind done more (map RootFunction (used_functions w)) text id next h.below h.ahead.0 ∙ sym h.count);
+      stated = ap (slice_get (import_entries w)) h.count
+          ∙ entry_behind (interface_entries w) (map (λ (t : List ℕ × TypeId). WorldType t.0 t.1) (imported_types w) ++ map RootFunction (used_functions w)) (length done) (WorldType text id)
+          (slice_get-append (map (λ (t : List ℕ × TypeId). WorldType t.0 t.1) (imported_types w)) (map RootFunction (used_functions w)) (length done) (WorldType text id) entry);
+      number = behind_interfaces w id (items_of w).imports (map (λ (t : List ℕ × TypeId). WorldType t.0 t.1) (imported_types w) ++ map RootFunction (used_functions w))
+          ∙ (ap (λ n. length (interface_entries w) + n)
+          (ap (λ ts. number_of_type id (map (λ (t : List ℕ × TypeId). WorldType t.0 t.1) ts ++ map RootFunction (used_functions w))) all
+          ∙ number_behind done more (map RootFunction (used_functions w)) text id next h.below h.ahead.0)
+          ∙ sym h.count);
       order = record { earlier = λ n l c. earlier n l (subst (λ ns. Contains ns n) (ap indexes all ∙ map-append (λ (t : List ℕ × TypeId). t.1.index) done ((text, id) ∷ more)) c) };
     }
   where

@@ -16,7 +16,8 @@ use Rattle.wit_data.specs.declared.worlds.WorldKey.TheVariants as keys
 use Rattle.wit_data.specs.Sound.{HasWorld, HasEntry}
 use Rattle.wit_data.specs.declared.resolve.Resolve.{Resolve}
 use Rattle.wit_data.specs.declared.worlds.World.{World}
-use Rattle.comp_worlds.specs.Worlds.{IsWorld, items_of}
+use Rattle.comp_worlds.specs.Encodable.{IsEncodable}
+use Rattle.comp_worlds.specs.Worlds.{items_of}
 use Rattle.comp_worlds.specs.declared.world.ComponentWorld.{ComponentWorld}
 use Rattle.world_values.specs.Items.{no_items, function_in, root_function_at}
 
@@ -70,8 +71,8 @@ world_at r [] n l h = absurd (omega (arith, l))
 world_at r (x ∷ xs) zero l h = h.0
 world_at r (x ∷ xs) (suc n) l h = world_at r xs n (omega (arith, l)) h.1
 
-pub world_sound : (w : ComponentWorld) → IsWorld w → AllByRecursion (HasEntry w.resolve) (items_of w).imports
-world_sound w ok = (world_at w.resolve w.resolve.worlds w.world.index ok.present ok.sound.worlds).imports
+pub world_sound : (w : ComponentWorld) → IsEncodable w → AllByRecursion (HasEntry w.resolve) (items_of w).imports
+world_sound w ok = (world_at w.resolve w.resolve.worlds w.world.index ok.valid.present ok.sound.worlds).imports
 
-pub entry_sound : (w : ComponentWorld) → IsWorld w → (done rest : Entries) (e : WorldKey × WorldItem) → done ++ e ∷ rest ≡ (items_of w).imports → HasEntry w.resolve e
+pub entry_sound : (w : ComponentWorld) → IsEncodable w → (done rest : Entries) (e : WorldKey × WorldItem) → done ++ e ∷ rest ≡ (items_of w).imports → HasEntry w.resolve e
 entry_sound w ok done rest e split = (AllByRecursion-back (HasEntry w.resolve) done (e ∷ rest) (subst (λ es. AllByRecursion (HasEntry w.resolve) es) (sym split) (world_sound w ok))).0

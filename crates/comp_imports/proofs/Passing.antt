@@ -20,7 +20,8 @@ use Rattle.comp_terms.specs.Terms as terms
 use Rattle.comp_trees.specs.DefinedScopes.{Denotes}
 use Rattle.comp_trees.specs.DefinedTrees.{OfValues}
 use Rattle.comp_trees.specs.Trees.{ResourceAt}
-use Rattle.comp_worlds.specs.Worlds.{IsResource, IsWorld}
+use Rattle.comp_worlds.specs.Encodable.{IsEncodable}
+use Rattle.comp_worlds.specs.Worlds.{IsResource}
 use Rattle.wit_data.specs.contracts.ids.TypeIdPartialEq.TheImpl as same_id
 use Rattle.wit_data.specs.declared.types.Type.TheVariants.{Id}
 use Rattle.wit_types.proofs.Growing.{id_found}
@@ -84,7 +85,7 @@ tables_next w last id ds maps order recorded h = record {
     by j e false apart = h.met j (met_next w last id j order e apart)
 
 -- a resource of the world is found in the tables
-pub resource_found : (w : ComponentWorld) (last : Option TypeId) (ds : List Def) (maps : TypeEncodingMaps) (id : TypeId) (o : Option ℕ) → IsWorld w → IsResource w.resolve.types id.index → ArePassed w last → AreTablesRight w last ds maps →
+pub resource_found : (w : ComponentWorld) (last : Option TypeId) (ds : List Def) (maps : TypeEncodingMaps) (id : TypeId) (o : Option ℕ) → IsEncodable w → IsResource w.resolve.types id.index → ArePassed w last → AreTablesRight w last ds maps →
     o ≡ lookup (same_id.eq-value.it id) maps.id_to_index → IsSomeAnd o (λ index. terms.IsResource ds index (resource_of w id))
 resource_found w last ds maps id o ok r passed h is = by o is (id_found id o h is)
   where

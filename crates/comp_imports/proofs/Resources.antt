@@ -10,7 +10,7 @@ use Rattle.wit_types.specs.Allowing.{is_resource}
 use Rattle.comp_trees.specs.Trees.{ResourceAt, ImportedAt}
 use Rattle.comp_trees.specs.DefinedTrees.{OfValues}
 use Rattle.comp_trees.specs.WitTrees.{kind_tree, making_trees}
-use Rattle.comp_worlds.specs.Worlds.{IsWorld}
+use Rattle.comp_worlds.specs.Encodable.{IsEncodable}
 use Rattle.comp_worlds.specs.declared.world.ComponentWorld.{ComponentWorld}
 use Rattle.comp_links.specs.Lists.{import_entries, number_of_type, resource_of, type_of_world}
 
@@ -19,7 +19,7 @@ kind_is kinds.Resource e = refl
 kind_is k e = absurd (true≢false (sym e))
 
 -- a resource of the world is known by the number of its import
-pub resource_numbered : (w : ComponentWorld) → IsWorld w → (id : TypeId) (n : ℕ) → id.index < length w.resolve.types → is_resource (kind_at w.resolve.types id.index) ≡ true → number_of_type id (import_entries w) ≡ n →
+pub resource_numbered : (w : ComponentWorld) → IsEncodable w → (id : TypeId) (n : ℕ) → id.index < length w.resolve.types → is_resource (kind_at w.resolve.types id.index) ≡ true → number_of_type id (import_entries w) ≡ n →
     OfValues (ResourceAt (ImportedAt (record { number = n; inner = None }))) ≡ type_of_world w id
 resource_numbered w ok id n l resource number =
     sym (ap OfValues

@@ -9,7 +9,8 @@ ghost use Rattle.comp_links.specs.Roles.{is_used, used_functions};
 ghost use Rattle.comp_terms.specs.Planned.{type_of_function};
 ghost use Rattle.comp_terms.specs.Rules.{Grows, named_import, names_marked};
 ghost use Rattle.comp_terms.specs.Terms.{IsImportedFunction, imports_in};
-ghost use Rattle.comp_worlds.specs.Worlds.{IsWorld, items_of, imported_types, root_function};
+ghost use Rattle.comp_worlds.specs.Encodable.{IsEncodable};
+ghost use Rattle.comp_worlds.specs.Worlds.{items_of, imported_types, root_function};
 ghost use Rattle.wit_data.specs.Sound.{HasFunction};
 ghost use Rattle.comp_imports.specs.Imports.{FindsImports, FindsMore, FindsUsed, IsNext, IsNextItem};
 ghost use Rattle.comp_imports.specs.RootScopes.{AreTablesRight, ArePassed, IsRefusal};
@@ -25,7 +26,7 @@ use wit_data::{Function, WorldItem, WorldKey};
 impl RootScope<'_, ComponentWorld> {
     /// Imports a root function under its name, with its type.
     fn import_function(&mut self, name: &Text, function: &Function) -> Result<u32, BuildFault>
-        requires valid { IsWorld self.old.world.now }
+        requires valid { IsEncodable self.old.world.now }
         requires present { HasFunction self.old.world.now.resolve function.now }
         requires passed { ArePassed self.old.world.now self.old.last_type }
         requires tables { AreTablesRight self.old.world.now self.old.last_type self.old.items.defs self.old.maps }
@@ -54,7 +55,7 @@ impl RootScope<'_, ComponentWorld> {
         name: &Text,
         function: &Function,
     ) -> Result<(), BuildFault>
-        requires valid { IsWorld self.old.world.now }
+        requires valid { IsEncodable self.old.world.now }
         requires present { HasFunction self.old.world.now.resolve function.now }
         requires passed { ArePassed self.old.world.now self.old.last_type }
         requires tables { AreTablesRight self.old.world.now self.old.last_type self.old.items.defs self.old.maps }
@@ -88,7 +89,7 @@ impl RootScope<'_, ComponentWorld> {
         key: &WorldKey,
         item: &WorldItem,
     ) -> Result<(), BuildFault>
-        requires valid { IsWorld self.old.world.now }
+        requires valid { IsEncodable self.old.world.now }
         requires passed { ArePassed self.old.world.now self.old.last_type }
         requires tables { AreTablesRight self.old.world.now self.old.last_type self.old.items.defs self.old.maps }
         requires used { (text : List ℕ) → is_some (found text used.now) ≡ is_used self.old.world.now text }
@@ -118,7 +119,7 @@ impl RootScope<'_, ComponentWorld> {
         used: &Keyed<Text, ()>,
         items: &Keyed<WorldKey, WorldItem>,
     ) -> Result<Keyed<Text, u32>, BuildFault>
-        requires valid { IsWorld self.old.world.now }
+        requires valid { IsEncodable self.old.world.now }
         requires items { items.now ≡ (items_of self.old.world.now).imports }
         requires used { (text : List ℕ) → is_some (found text used.now) ≡ is_used self.old.world.now text }
         requires types { imports_in self.old.items.defs ≡ length (imported_types self.old.world.now) }
@@ -143,7 +144,7 @@ impl RootScope<'_, ComponentWorld> {
     /// Imports the root functions that imports of main use, in the order of the world, and returns their
     /// indices by their names. The types of the world are imported before.
     pub(crate) fn import_functions(&mut self) -> Result<Keyed<Text, u32>, BuildFault>
-        requires valid { IsWorld self.old.world.now }
+        requires valid { IsEncodable self.old.world.now }
         requires types { imports_in self.old.items.defs ≡ length (imported_types self.old.world.now) }
         requires passed { ArePassed self.old.world.now self.old.last_type }
         requires tables { AreTablesRight self.old.world.now self.old.last_type self.old.items.defs self.old.maps }

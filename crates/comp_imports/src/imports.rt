@@ -5,7 +5,7 @@ ghost use Rattle.std.specs.Prelude.{◌≡◌, IfOk, IfErr, OnOk};
 ghost use Rattle.comp_items.specs.Items.{Extends};
 ghost use Rattle.comp_terms.specs.Rules.{Grows, imports_marked};
 ghost use Rattle.comp_terms.specs.Terms.{imports_in};
-ghost use Rattle.comp_worlds.specs.Worlds.{IsWorld};
+ghost use Rattle.comp_worlds.specs.Encodable.{IsEncodable};
 ghost use Rattle.comp_imports.specs.Imports.{FindsImports, FindsUsed};
 ghost use Rattle.comp_imports.specs.RootScopes.{AreTablesRight, ArePassed, IsRefusal};
 
@@ -20,7 +20,7 @@ impl RootScope<'_, ComponentWorld> {
     ///
     /// Refused when out of memory, and where a space would have more than 2^32 - 1 items.
     pub fn import_all(&mut self) -> Result<Keyed<Text, u32>, BuildFault>
-        requires valid { IsWorld self.old.world.now }
+        requires valid { IsEncodable self.old.world.now }
         requires first { imports_in self.old.items.defs ≡ 0 }
         requires tables { AreTablesRight self.old.world.now self.old.last_type self.old.items.defs self.old.maps }
         ensures world { self.new.world ≡ self.old.world }

@@ -16,7 +16,7 @@ ghost use Rattle.wit_types.specs.Denoting.{AreTypes, Makes, MayMake, IsCause, ex
 ghost use Rattle.wit_types.specs.Maps.{no_maps};
 ghost use Rattle.comp_terms.specs.Planned.{type_of_function};
 ghost use Rattle.comp_terms.specs.Terms.{IsFunctionType};
-ghost use Rattle.comp_worlds.specs.Worlds.{IsWorld};
+ghost use Rattle.comp_worlds.specs.Encodable.{IsEncodable};
 ghost use Rattle.comp_imports.specs.RootScopes.{root_setting, any_index, RootGrows, is_full, AreTablesRight, ArePassed};
 ghost use Rattle.comp_imports.specs.Growing.{root_same, root_on};
 
@@ -46,6 +46,8 @@ pub struct RootScope<'a, W: HasWorld> {
     pub maps: TypeEncodingMaps,
     /// The last type of the world that was imported: it and those before it in the resolve are in the tables.
     pub last_type: Option<TypeId>,
+    /// The instances of the interfaces that were imported.
+    pub instances: Keyed<InterfaceId, u32>,
 }
 
 impl<'a, W: HasWorld> Drop for RootScope<'a, W> {
@@ -55,6 +57,7 @@ impl<'a, W: HasWorld> Drop for RootScope<'a, W> {
             items: _,
             maps: _,
             last_type: _,
+            instances: _,
         } = self;
     }
 }
@@ -66,12 +69,14 @@ impl<'a> RootScope<'a, ComponentWorld> {
         ensures items { result.items ≡ nothing_built }
         ensures maps { result.maps ≡ no_maps }
         ensures next { result.last_type ≡ None }
+        ensures instances { result.instances ≡ [] }
     {
         RootScope {
             world,
             items: ComponentItems::new(alloc),
             maps: TypeEncodingMaps::new(alloc),
             last_type: None,
+            instances: Keyed::new(alloc),
         }
     }
 
@@ -84,13 +89,14 @@ impl<'a> RootScope<'a, ComponentWorld> {
             items,
             maps: _,
             last_type: _,
+            instances: _,
         } = self;
         items
     }
 
     /// The index of the type of a function of the world, which is defined, where it is not yet.
     pub fn function_type(&mut self, function: &Function) -> Result<u32, BuildFault>
-        requires valid { IsWorld self.old.world.now }
+        requires valid { IsEncodable self.old.world.now }
         requires present { HasFunction self.old.world.now.resolve function.now }
         requires passed { ArePassed self.old.world.now self.old.last_type }
         requires tables { AreTablesRight self.old.world.now self.old.last_type self.old.items.defs self.old.maps }

@@ -10,7 +10,8 @@ ghost use Rattle.comp_worlds.specs.Worlds as worlds;
 ghost use Rattle.comp_terms.specs.Rules.{Grows, Imported};
 ghost use Rattle.comp_terms.specs.Terms.{imports_in};
 ghost use Rattle.comp_imports.specs.Imports.{IsNextId, IsNextTypeImport, IsNextType, next_after};
-ghost use Rattle.comp_worlds.specs.Worlds.{IsWorld, world_type, imported_types, items_of};
+ghost use Rattle.comp_worlds.specs.Encodable.{IsEncodable};
+ghost use Rattle.comp_worlds.specs.Worlds.{world_type, imported_types, items_of};
 ghost use Rattle.wit_data.specs.Sound.{HasEntry};
 ghost use Rattle.wit_data.specs.Values.{kind_at};
 ghost use Rattle.wit_types.specs.Allowing.{is_resource};
@@ -29,7 +30,7 @@ use wit_types::{TypeEncodingMaps, encode_definition, record_type_index};
 
 /// The index of a resource of the world in these tables, once the types of the world are imported.
 pub fn resource_index(maps: &TypeEncodingMaps, id: TypeId) -> Option<u32>
-    ensures { (w : ComponentWorld) (last : Option TypeId) (ds : List Def) → IsWorld w → worlds.IsResource w.resolve.types id.index → ArePassed w last → AreTablesRight w last ds maps.now → IsSomeAnd result (λ index. terms.IsResource ds index (resource_of w id)) }
+    ensures { (w : ComponentWorld) (last : Option TypeId) (ds : List Def) → IsEncodable w → worlds.IsResource w.resolve.types id.index → ArePassed w last → AreTablesRight w last ds maps.now → IsSomeAnd result (λ index. terms.IsResource ds index (resource_of w id)) }
 {
     maps.type_index(id)
 }
@@ -44,7 +45,7 @@ fn is_resource(kind: &TypeDefKind) -> bool
 impl RootScope<'_, ComponentWorld> {
     /// Records the index of a type of the world that was imported.
     fn record_world_type(&mut self, id: TypeId, index: u32) -> Result<(), AllocError>
-        requires valid { IsWorld self.old.world.now }
+        requires valid { IsEncodable self.old.world.now }
         requires present { id.index < length self.old.world.now.resolve.types }
         requires order { IsNextId self.old.world.now (next_of self.old.last_type) id }
         requires tables { AreTablesRight self.old.world.now self.old.last_type self.old.items.defs self.old.maps }
@@ -62,7 +63,7 @@ impl RootScope<'_, ComponentWorld> {
 
     /// Defines a type of values of the world, and imports it under its name.
     fn import_value_type(&mut self, name: ExternName, id: TypeId) -> Result<(), BuildFault>
-        requires valid { IsWorld self.old.world.now }
+        requires valid { IsEncodable self.old.world.now }
         requires present { id.index < length self.old.world.now.resolve.types }
         requires values { is_resource (kind_at self.old.world.now.resolve.types id.index) ≡ false }
         requires plain { name.version_suffix ≡ None }
@@ -85,7 +86,7 @@ impl RootScope<'_, ComponentWorld> {
 
     /// Imports a resource of the world under its name.
     fn import_resource(&mut self, name: ExternName, id: TypeId) -> Result<(), BuildFault>
-        requires valid { IsWorld self.old.world.now }
+        requires valid { IsEncodable self.old.world.now }
         requires present { id.index < length self.old.world.now.resolve.types }
         requires resource { is_resource (kind_at self.old.world.now.resolve.types id.index) ≡ true }
         requires plain { name.version_suffix ≡ None }
@@ -105,7 +106,7 @@ impl RootScope<'_, ComponentWorld> {
 
     /// Imports a type of the world under its name.
     fn import_world_type(&mut self, name: &Text, id: TypeId) -> Result<(), BuildFault>
-        requires valid { IsWorld self.old.world.now }
+        requires valid { IsEncodable self.old.world.now }
         requires present { id.index < length self.old.world.now.resolve.types }
         requires next { IsNextTypeImport self.old.world.now (next_of self.old.last_type) self.old.items.defs name.now id }
         requires tables { AreTablesRight self.old.world.now self.old.last_type self.old.items.defs self.old.maps }
@@ -130,7 +131,7 @@ impl RootScope<'_, ComponentWorld> {
 
     /// Imports an item of the world, if it is a type.
     fn import_type_item(&mut self, key: &WorldKey, item: &WorldItem) -> Result<(), BuildFault>
-        requires valid { IsWorld self.old.world.now }
+        requires valid { IsEncodable self.old.world.now }
         requires present { HasEntry self.old.world.now.resolve (key.now, item.now) }
         requires next { IsNextType self.old.world.now (next_of self.old.last_type) self.old.items.defs (key.now, item.now) }
         requires tables { AreTablesRight self.old.world.now self.old.last_type self.old.items.defs self.old.maps }
@@ -149,7 +150,7 @@ impl RootScope<'_, ComponentWorld> {
 
     /// Imports the types of the world, in its order. They are the first imports of the component.
     pub(crate) fn import_types(&mut self) -> Result<(), BuildFault>
-        requires valid { IsWorld self.old.world.now }
+        requires valid { IsEncodable self.old.world.now }
         requires first { imports_in self.old.items.defs ≡ 0 }
         requires tables { AreTablesRight self.old.world.now self.old.last_type self.old.items.defs self.old.maps }
         ensures world { self.new.world ≡ self.old.world }

@@ -80,9 +80,12 @@ abbrev pub interface_entry : ComponentWorld → WorldKey × WorldItem → List I
 interface_entry w (key, items.Interface id) = unless_empty (names_of_interface w id) (ImportedInterface key id)
 interface_entry w entry = []
 
+abbrev pub interface_entries : ComponentWorld → List ImportEntry
+interface_entries w = flat_map (interface_entry w) (items_of w).imports
+
 -- the imports of the component, by what of the world they are
 abbrev pub import_entries : ComponentWorld → List ImportEntry
-import_entries w = flat_map (interface_entry w) (items_of w).imports ++ (map (λ t. WorldType t.0 t.1) (imported_types w) ++ map RootFunction (used_functions w))
+import_entries w = interface_entries w ++ (map (λ t. WorldType t.0 t.1) (imported_types w) ++ map RootFunction (used_functions w))
 
 -- the number of the import of a type
 abbrev pub number_of_type : TypeId → List ImportEntry → ℕ

@@ -1,6 +1,6 @@
 -- The names under which interfaces are imported and exported (component model, explainer: `interfacename`, `canonversion`;
 -- binary format: `versionsuffix`).
-use Rattle.std.specs.Prelude.{ℕ, Bool, List, Option, Some, None, if◌then◌else◌}
+use Rattle.std.specs.Prelude.{ℕ, Bool, false, List, Option, Some, None, if◌then◌else◌}
 use Rattle.comp_bytes.specs.declared.types.ExternName.{ExternName}
 use Rattle.wit_data.specs.declared.resolve.Resolve.{Resolve}
 use Rattle.wit_data.specs.declared.worlds.WorldKey.{WorldKey}
@@ -20,6 +20,10 @@ plain_name text = record { name = text; version_suffix = None }
 abbrev pub suffix_of : Resolve → WorldKey → Option (List ℕ)
 suffix_of r (keys.Name text) = None
 suffix_of r (keys.Interface id) = option_and_then version_suffix (id_name_of r id)
+
+-- names with their whole version, none of them given another one
+abbrev pub own_names : Naming
+own_names = record { canonical = false; renamed = λ text. None }
 
 -- the name of a key
 abbrev pub name_of : Naming → Resolve → WorldKey → ExternName

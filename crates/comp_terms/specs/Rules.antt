@@ -128,11 +128,8 @@ pub record ImportsType (w : ComponentWorld) (earlier : List Def) (name : List �
 abbrev pub resource_here : List Def → TypeTree
 resource_here earlier = OfValues (ResourceAt (ImportedAt (record { number = imports_in earlier; inner = None })))
 
--- a type of instances with these members, which are right whatever the number of the import is
-abbrev pub AreRightMembers : List TypeTree → List Member → Type 0
-AreRightMembers scope members = (number : ℕ) → AreMembersRight (surroundings_of number scope) [] members
-
--- the next import is, in the world, an interface, and the index names a type of instances with members that are right
+-- the next import is, in the world, an interface, and the index names a type of instances with members that are right in this
+-- import
 pub record ImportsInterface (w : ComponentWorld) (earlier : List Def) (index : ℕ) : Type 0 where
   pub key : WorldKey
   pub id : InterfaceId
@@ -140,7 +137,7 @@ pub record ImportsInterface (w : ComponentWorld) (earlier : List Def) (index : �
   pub outer : List TypeTree
   pub members : List Member
   pub is : slice_get (inventory earlier).types index ≡ Some (OfInstances outer members)
-  pub right : AreRightMembers outer members
+  pub right : AreMembersRight (surroundings_of (imports_in earlier) outer) [] members
 
 abbrev pub IsDescriptionRight : ComponentWorld → List Def → List ℕ → Description → Type 0
 IsDescriptionRight w earlier name (descriptions.Func kind) = HasFunctionType earlier kind
@@ -171,7 +168,7 @@ IsItemRight w earlier (items.CoreExports entries) = AreEntries earlier entries
 IsItemRight w earlier (items.Instantiate component arguments) = ⊥
 IsItemRight w earlier (items.Alias a) = IsAliasRight w earlier a
 IsItemRight w earlier (items.Type t) = IsTypeRight (scope_of earlier) t
-IsItemRight w earlier (items.InstanceType t) = AreRightMembers (scope_of earlier) t.members
+IsItemRight w earlier (items.InstanceType t) = Unit {0}
 IsItemRight w earlier (items.Lift core options kind) = (core < items_in spaces.CoreFunc earlier) × (options ≡ []) × HasFunctionType earlier kind
 IsItemRight w earlier (items.Lower function options) = HasImportedFunction earlier function × (options ≡ [])
 IsItemRight w earlier (items.Intrinsic i) = IsIntrinsicRight earlier i

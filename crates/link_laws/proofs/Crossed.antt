@@ -1,5 +1,5 @@
 -- A worked example: the list whose first two lowerings are swapped runs to its end, but it isn't linked.
-use Rattle.link_laws.proofs.Plain.{own_names}
+use Rattle.comp_links.specs.Naming.{own_names}
 use Rattle.std.proofs.Common.{◌≡◌, ℕ, [], ◌∷◌, refl, sym, ap, subst, Option, Some, None, arith}
 use Rattle.std.proofs.lemmas.Option.{same_Some}
 use Rattle.std.specs.List.{slice_get}

@@ -1,5 +1,5 @@
 -- A worked example: a list whose export has a version suffix isn't composed as the world says.
-use Rattle.link_laws.proofs.Plain.{own_names}
+use Rattle.comp_links.specs.Naming.{own_names}
 use Rattle.std.proofs.Common.{◌≡◌, ◌++◌, Bool, false, true≢false, List, [], ◌∷◌, take, ap, Some, None, refl}
 use Rattle.std.specs.Prelude.{codes, is_some}
 use Rattle.comp_bytes.proofs.Worked.{plain, f, g, root, core, one_import_one_export}

@@ -38,7 +38,6 @@ use Rattle.comp_roles.specs.declared.offered.ExternType.TheVariants as externs
 use Rattle.comp_roles.specs.declared.offered.ImportType.{ImportType}
 use Rattle.comp_roles.specs.Lookups.{first_export, is_initialize, is_task_hook}
 use Rattle.world_values.specs.Items.{function_in, functions_of, root_function_at, root_export}
-use Rattle.comp_links.specs.Naming.{Naming}
 use Rattle.comp_worlds.proofs.Roles.{role_right}
 use Rattle.comp_worlds.specs.Typed.{drop_type, type_of_import, type_of_export, FitsImport, FitsExport}
 use Rattle.comp_worlds.specs.Worlds.{IsWorld, IsExportItem, IsImportRole, IsImportGroup, IsExportRole, items_of, core_name_of}
@@ -141,10 +140,6 @@ listed_main w ok number of e = by number (ap (λ l. slice_get l number) (sym (on
 
 pub only_main_is : (w : ComponentWorld) → IsWorld w → (number : ℕ) {of : UserModule} → IsModule w number of → number ≡ 0
 only_main_is w ok number m = (listed_main w ok number m.world_module m.listed).0
-
--- names with their whole version, none of them given another one
-abbrev pub own_names : Naming
-own_names = record { canonical = false; renamed = λ text. None }
 
 -- ---- what main imports
 

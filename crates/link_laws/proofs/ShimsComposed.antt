@@ -1,6 +1,6 @@
 -- A worked example: the list with shims is composed as the world says, where the generated modules' counts and sizes are
 -- below 2 ^ 32.
-use Rattle.link_laws.proofs.Plain.{own_names}
+use Rattle.comp_links.specs.Naming.{own_names}
 use Rattle.std.proofs.Common.{[], ◌∷◌, refl}
 use Rattle.core_bytes.specs.Modules.{Encodes}
 use Rattle.link_laws.specs.Composition.{IsComposed}

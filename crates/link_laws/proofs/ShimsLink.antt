@@ -1,5 +1,5 @@
 -- A worked example: the list with shims links, in every run; with the slots crossed it doesn't.
-use Rattle.link_laws.proofs.Plain.{own_names}
+use Rattle.comp_links.specs.Naming.{own_names}
 use Rattle.std.proofs.Common.{◌≡◌, ◌∙◌, ◌≤◌, ◌++◌, ℕ, zero, suc, Bool, true, false, true≢false, List, [], ◌∷◌, take, refl, sym, ap, subst, Some, None, IsTrue, inl, inr, ◌⊎◌, arith}
 use Rattle.std.proofs.lemmas.Option.{none-some, same_Some}
 use Rattle.std.specs.Prelude.{Contains, is_some}

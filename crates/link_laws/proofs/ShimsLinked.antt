@@ -1,5 +1,5 @@
 -- A worked example: the list with shims is linked, whatever the outside returns, and with the slots crossed it isn't.
-use Rattle.link_laws.proofs.Plain.{own_names}
+use Rattle.comp_links.specs.Naming.{own_names}
 use Rattle.std.proofs.Common.{◌≡◌, ◌∙◌, ℕ, zero, suc, true≢false, List, [], ◌∷◌, refl, sym, ap, subst, Some, None, IsTrue, arith}
 use Rattle.std.proofs.lemmas.Option.{none-some, same_Some}
 use Rattle.std.specs.List.{slice_get}

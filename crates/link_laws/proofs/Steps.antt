@@ -37,7 +37,9 @@ use Rattle.comp_worlds.specs.Worlds.{IsWorld, items_of, core_name_of}
 use Rattle.comp_trees.specs.Trees.{Origin, ImportedAt, DefinedAt, ResourceAt, FunctionTree, is_known}
 use Rattle.comp_trees.specs.DefinedTrees.{TypeTree, OfValues, OfFunctions, OfOthers, function_tree, defined_tree}
 use Rattle.comp_trees.specs.DefinedScopes.{type_tree}
-use Rattle.comp_trees.specs.Inventories.{Inventory, OfInstances, FunctionEntry, InstanceEntry, ImportedInstance, OtherInstance, entry_tree, no_type, no_function, type_of_instance, function_of_instance, instance_imported, types_made, functions_made, instances_made, imports_made, inventory, scope_of}
+use Rattle.comp_trees.specs.Inventories.{Inventory, OfInstances, FunctionEntry, InstanceEntry, ImportedInstance, OtherInstance, entry_tree, no_type, no_function, type_of_instance, function_of_instance, instance_imported, types_made, functions_made, instances_made, imports_made, surroundings_of, inventory, scope_of}
+use Rattle.comp_trees.specs.Members.{AreMembersRight}
+use Rattle.comp_terms.specs.Terms.{imports_in}
 use Rattle.comp_trees.proofs.Inventories.{inventory-push}
 use Rattle.core_types.specs.declared.types.FuncType.{FuncType}
 use Rattle.comp_roles.specs.declared.imports.ImportInstance.{ImportInstance}
@@ -54,7 +56,7 @@ use Rattle.comp_roles.specs.declared.offered.ExternType.{ExternType}
 use Rattle.comp_roles.specs.declared.offered.ExternType.TheVariants as externs
 use Rattle.comp_roles.specs.declared.offered.ImportType.{ImportType}
 use Rattle.comp_terms.specs.Planned.{type_of_function, IsLiftFor, IsArgumentFor}
-use Rattle.comp_terms.specs.Rules.{InstantiatesUser, AliasesUser, ExportsRequired, IsEntry, AreEntries, AliasesImported, HasFunctionType, HasResource, HasImportedFunction, IsTypeRight, AreRightMembers}
+use Rattle.comp_terms.specs.Rules.{InstantiatesUser, AliasesUser, ExportsRequired, IsEntry, AreEntries, AliasesImported, HasFunctionType, HasResource, HasImportedFunction, IsTypeRight}
 use Rattle.comp_runs.specs.Machine.{Scope, Machine, Outcome, Done, Trapped, Open, Stuck, with_some, address_at, is_of, export_named, all_some, resumed, with_opaque}
 use Rattle.comp_runs.specs.Instances.{ExportTypes, exported_by, with_exports, with_module_instance, matching, argument_for, type_kind, given_to, new_user, type_scope, known_function, type_item}
 use Rattle.comp_runs.specs.Signatures.{core_signature}
@@ -370,14 +372,14 @@ module _ {w : ComponentWorld} {earlier : List Def} {c : Scope} {s : Store} (a : 
       (record { space = refl; is = tt }) ((record { item = item; present = slice_get-end s.types item; denotes = refl; is = is }, tt), tt, tt) refl refl refl refl refl a.imports
 
   -- An import of a type of instances makes types and functions, and one item: the instance.
-  pub step_import_instance : (name : ExternName) (index : ℕ) (outer : List TypeTree) (members : List Member) → slice_get (inventory earlier).types index ≡ Some (OfInstances outer members) → AreRightMembers outer members →
+  pub step_import_instance : (name : ExternName) (index : ℕ) (outer : List TypeTree) (members : List Member) → slice_get (inventory earlier).types index ≡ Some (OfInstances outer members) → AreMembersRight (surroundings_of (imports_in earlier) outer) [] members →
       Steps w earlier c s g (defs.Item (items.Import name (descriptions.Instance index)))
   step_import_instance name index outer members h right =
       let d : Def = defs.Item (items.Import name (descriptions.Instance index)) in
       let origin : Origin = record { number = c.imports; inner = None } in
       let x = instance_type_there a index outer members h in
       let m : Machine = machine (record c { imports = suc c.imports }) s no_answers in
-      let r : RunsImport origin outer members index m = import_runs origin outer members index x.0 m (x.1 no_answers) x.2 (right c.imports) in
+      let r : RunsImport origin outer members index m = import_runs origin outer members index x.0 m (x.1 no_answers) x.2 (subst (λ (n : ℕ). AreMembersRight (surroundings_of n outer) [] members) (sym a.imports) right) in
       let t : Thing = record { space = spaces.Instance; address = length s.instances } in
       let s' : Store = record s { types = r.types; functions = r.functions; instances = s.instances ++ r.exports ∷ [] } in
       let k : Keeps c.items (c.items ++ t ∷ []) s s' = record {

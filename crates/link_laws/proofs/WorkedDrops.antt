@@ -1,6 +1,6 @@
 -- A worked example: a world that imports two resources, of which main drops handles. Its list links, and with the two drops crossed
 -- it isn't linked.
-use Rattle.link_laws.proofs.Plain.{own_names}
+use Rattle.comp_links.specs.Naming.{own_names}
 use Rattle.std.proofs.Common.{◌≡◌, ℕ, zero, suc, false, List, [], ◌∷◌, ◌++◌, refl, sym, ap, subst, Some, None, map, take, IsTrue, arith}
 use Rattle.std.proofs.lemmas.Option.{same_Some}
 use Rattle.std.specs.Prelude.{codes, Contains}

@@ -13,8 +13,9 @@ use Rattle.comp_bytes.specs.declared.def.Def.TheVariants as defs
 use Rattle.comp_bytes.specs.declared.def.Item.TheVariants as items
 use Rattle.comp_bytes.specs.declared.space.Space.TheVariants as spaces
 use Rattle.comp_trees.specs.Trees.{Origin}
-use Rattle.comp_trees.specs.Inventories.{inventory}
-use Rattle.comp_terms.specs.Rules.{AliasesImported, AreRightMembers}
+use Rattle.comp_trees.specs.Inventories.{inventory, surroundings_of}
+use Rattle.comp_trees.specs.Members.{AreMembersRight}
+use Rattle.comp_terms.specs.Rules.{AliasesImported}
 use Rattle.comp_runs.specs.Store.{CoreItem, Lowering, Function, Imported}
 use Rattle.link_laws.specs.Linking.{outcome}
 use Rattle.link_laws.proofs.Steps.{no_modules}
@@ -52,7 +53,7 @@ pub each_is_its_own : functions_made (ended (outcome (root_world core [] [] [] [
 each_is_its_own = refl
 
 -- the type of instances and the aliases keep their rules
-pub type_is_right : AreRightMembers [] exports_f
+pub type_is_right : (number : ℕ) → AreMembersRight (surroundings_of number []) [] exports_f
 type_is_right number = (refl, (record { type = plain_tree; tree = refl }, tt))
 
 pub first_is_right : AliasesImported (take 3 (two_instances 0 1)) spaces.Func 0 f

@@ -15,7 +15,7 @@ use Rattle.comp_items.proofs.Extending.{extends_adds}
 use Rattle.comp_links.specs.Lists.{root_type, WorldType, import_entries, type_of_world}
 use Rattle.comp_terms.specs.Rules.{IsRight, Grows, Imported, ImportsType}
 use Rattle.comp_terms.specs.Terms.{imports_in}
-use Rattle.comp_worlds.specs.Worlds.{IsWorld}
+use Rattle.comp_worlds.specs.Encodable.{IsEncodable}
 use Rattle.wit_types.specs.Maps.{Faithful}
 use Rattle.comp_imports.specs.Growing.{Grows-by, Grows-then}
 use Rattle.comp_imports.specs.Imports.{IsNextId}
@@ -42,7 +42,7 @@ returns-in_err-index-2-clause-tables c =
     subst (λ n. AreTablesRight c.args.self.now.world.now n c.import_type.new.self.defs mid.maps) (sym c.in_ok-index.ensures.follows.1) after
 
 pub record_world_type-requires-clause-valid : goal.record_world_type-requires-clause-valid
-record_world_type-requires-clause-valid c = subst (λ r. IsWorld r.now) (sym c.in_ok-index.ensures.follows.0) c.requires.valid
+record_world_type-requires-clause-valid c = subst (λ r. IsEncodable r.now) (sym c.in_ok-index.ensures.follows.0) c.requires.valid
 
 pub record_world_type-requires-clause-order : goal.record_world_type-requires-clause-order
 record_world_type-requires-clause-order c =

@@ -1,0 +1,185 @@
+//! The interfaces that are imported, each as an instance of a type of its own.
+#![tactic(auto, using(crate::proofs::Growth::growing))]
+
+ghost use Rattle.std.specs.Prelude.{◌≡◌, ◌≢◌, [], List, ℕ, Some, IfOk, IfErr, OnOk, IsTrue, length, slice_get};
+ghost use Rattle.std.specs.List.{AllByRecursion, flat_map};
+ghost use Rattle.comp_bytes.specs.ScopeNames.{member_export};
+ghost use Rattle.comp_trees.specs.Members.{AreMembersRight};
+ghost use Rattle.comp_trees.specs.Inventories.{surroundings_of};
+ghost use Rattle.comp_trees.specs.DefinedTrees.{TypeTree};
+ghost use Rattle.comp_items.specs.Items.{Extends};
+ghost use Rattle.comp_links.specs.Naming.{own_names};
+ghost use Rattle.comp_links.specs.Lists.{ImportedInterface, interface_entry, import_entries};
+ghost use Rattle.comp_links.specs.Roles.{used_functions_of};
+ghost use Rattle.comp_terms.specs.Rules.{Grows, import_marked};
+ghost use Rattle.comp_terms.specs.Terms.{imports_in};
+ghost use Rattle.comp_worlds.specs.Encodable.{IsEncodable, IsBare};
+ghost use Rattle.comp_worlds.specs.Worlds.{IsNamedPlain, items_of};
+ghost use Rattle.wit_data.specs.Sound.{HasInterface};
+ghost use Rattle.wit_data.specs.declared.worlds.WorldItem.TheVariants as world_items;
+ghost use Rattle.world_values.specs.Items.{functions_of};
+ghost use Rattle.comp_imports.specs.Interfaces.{AreInterfaceUses, AreUsedNames, ExportsUsed, FindsInterfaces, FindsInterfacesStill, FindsUsedInterfaces, IsFoundItem, IsInterfaceImport, IsNextInterface, IsNextInterfaceItem, interfaces_marked};
+ghost use Rattle.comp_imports.specs.RootScopes.{AreTablesRight, IsRefusal};
+
+use crate::interface_function::InterfaceFunction;
+use crate::root_scope::RootScope;
+use crate::used::{interface_uses, is_empty, used_names};
+use byte_encoding::BuildFault;
+use comp_bytes::{ExternName, InstanceType};
+use comp_lists::{Keyed, Text};
+use comp_worlds::ComponentWorld;
+use std::alloc::{AllocError, Global};
+use type_scopes::encode_interface_type;
+use wit_data::{InterfaceId, WorldItem, WorldKey};
+
+/// The instance type of an imported interface, which exports those of its functions whose names are used.
+///
+/// It needs nothing of the outer scope, since no type with a name occurs in these functions.
+fn interface_type(
+    alloc: Global,
+    world: &ComponentWorld,
+    interface: InterfaceId,
+    used: &Keyed<Text, ()>,
+) -> Result<InstanceType, BuildFault>
+    ghost number: { ℕ }
+    ghost outer: { List TypeTree }
+    requires valid { IsEncodable world.now }
+    requires present { HasInterface world.now.resolve interface }
+    requires plain { AllByRecursion (IsNamedPlain world.now.resolve.types) (functions_of world.now.resolve interface) }
+    requires bare { IsBare world.now.resolve (world_items.Interface interface) }
+    requires used { AreUsedNames world.now interface used.now }
+    ensures members { IfOk result (λ ty. AreMembersRight (surroundings_of number outer) [] ty.members) }
+    ensures functions { IfOk result (λ ty. ExportsUsed world.now interface number outer ty.members) }
+    ensures names { IfOk result (λ ty. flat_map member_export ty.members ≡ used_functions_of world.now interface) }
+    ensures cause { IfErr result IsRefusal }
+{
+    let functions = &world.resolve.interfaces.as_slice()[interface.index].functions;
+    encode_interface_type(alloc, &world.resolve, &Keyed::new(alloc), interface, &[], used, functions)
+}
+
+impl RootScope<'_, ComponentWorld> {
+    /// Imports an interface under the name of its key, as an instance that exports those of its functions whose names are
+    /// used, and returns the instance's index. The type of the instance comes before it.
+    fn import_functions_of(
+        &mut self,
+        key: &WorldKey,
+        interface: InterfaceId,
+        used: &Keyed<Text, ()>,
+    ) -> Result<u32, BuildFault>
+        requires valid { IsEncodable self.old.world.now }
+        requires next { IsNextInterface self.old.world.now self.old.items.defs key.now interface }
+        requires used { AreUsedNames self.old.world.now interface used.now }
+        requires some { used_functions_of self.old.world.now interface ≢ [] }
+        requires tables { AreTablesRight self.old.world.now self.old.last_type self.old.items.defs self.old.maps }
+        ensures world { self.new.world ≡ self.old.world }
+        ensures next { self.new.last_type ≡ self.old.last_type }
+        ensures instances { self.new.instances ≡ self.old.instances }
+        ensures extends { Extends self.old.items self.new.items }
+        ensures grows { OnOk result (Grows self.old.world.now self.old.items.defs self.new.items.defs (import_marked own_names self.old.world.now (ImportedInterface key.now interface))) }
+        ensures tables { AreTablesRight self.old.world.now self.old.last_type self.new.items.defs self.new.maps }
+        ensures imported { IfOk result (IsInterfaceImport self.old.world.now self.new.items.defs interface) }
+        ensures cause { IfErr result IsRefusal }
+    {
+        let world = self.world;
+        let alloc = self.items.allocator();
+        let name = world.resolve.name_world_key(alloc, key)?;
+        let debug = debug_name(alloc, &name)?;
+        let ty = interface_type(alloc, world, interface, used)?;
+        let index = self.items.instance_type(Some(debug.as_str()), ty)?;
+        let version_suffix = None;
+        let name = ExternName { name, version_suffix };
+        let instance = self.items.import_instance(name, index)?;
+        Ok(instance)
+    }
+
+    /// Imports an interface, if imports of main use one of its functions.
+    fn import_interface(
+        &mut self,
+        uses: &Keyed<InterfaceFunction, ()>,
+        key: &WorldKey,
+        interface: InterfaceId,
+    ) -> Result<(), BuildFault>
+        requires valid { IsEncodable self.old.world.now }
+        requires uses { AreInterfaceUses self.old.world.now uses.now }
+        requires next { IsNextInterface self.old.world.now self.old.items.defs key.now interface }
+        requires tables { AreTablesRight self.old.world.now self.old.last_type self.old.items.defs self.old.maps }
+        requires finds { FindsInterfaces self.old.world.now self.old.items.defs self.old.instances }
+        ensures world { self.new.world ≡ self.old.world }
+        ensures next { self.new.last_type ≡ self.old.last_type }
+        ensures extends { Extends self.old.items self.new.items }
+        ensures grows { OnOk result (Grows self.old.world.now self.old.items.defs self.new.items.defs (flat_map (import_marked own_names self.old.world.now) (interface_entry self.old.world.now (key.now, world_items.Interface interface)))) }
+        ensures tables { AreTablesRight self.old.world.now self.old.last_type self.new.items.defs self.new.maps }
+        ensures finds { OnOk result (FindsInterfaces self.old.world.now self.new.items.defs self.new.instances) }
+        ensures still { FindsInterfacesStill self.old.instances self.new.instances }
+        ensures found { OnOk result (IsFoundItem self.old.world.now self.new.instances (key.now, world_items.Interface interface)) }
+        ensures cause { IfErr result IsRefusal }
+    {
+        let used = used_names(self.items.allocator(), self.world, uses, interface)?;
+        if is_empty(&used) {
+            return Ok(());
+        }
+        let instance = self.import_functions_of(key, interface, &used)?;
+        self.instances.insert_if_absent(interface, instance)?;
+        Ok(())
+    }
+
+    /// Imports an item of the world, if it is an interface of which imports of main use a function.
+    fn import_interface_item(
+        &mut self,
+        uses: &Keyed<InterfaceFunction, ()>,
+        key: &WorldKey,
+        item: &WorldItem,
+    ) -> Result<(), BuildFault>
+        requires valid { IsEncodable self.old.world.now }
+        requires uses { AreInterfaceUses self.old.world.now uses.now }
+        requires next { IsNextInterfaceItem self.old.world.now self.old.items.defs (key.now, item.now) }
+        requires tables { AreTablesRight self.old.world.now self.old.last_type self.old.items.defs self.old.maps }
+        requires finds { FindsInterfaces self.old.world.now self.old.items.defs self.old.instances }
+        ensures world { self.new.world ≡ self.old.world }
+        ensures next { self.new.last_type ≡ self.old.last_type }
+        ensures extends { Extends self.old.items self.new.items }
+        ensures grows { OnOk result (Grows self.old.world.now self.old.items.defs self.new.items.defs (flat_map (import_marked own_names self.old.world.now) (interface_entry self.old.world.now (key.now, item.now)))) }
+        ensures tables { AreTablesRight self.old.world.now self.old.last_type self.new.items.defs self.new.maps }
+        ensures finds { OnOk result (FindsInterfaces self.old.world.now self.new.items.defs self.new.instances) }
+        ensures still { FindsInterfacesStill self.old.instances self.new.instances }
+        ensures found { OnOk result (IsFoundItem self.old.world.now self.new.instances (key.now, item.now)) }
+        ensures cause { IfErr result IsRefusal }
+    {
+        match item {
+            WorldItem::Interface(interface) => self.import_interface(uses, key, *interface),
+            _ => Ok(()),
+        }
+    }
+
+    /// Imports the interfaces of which imports of main use a function, in the order of the world. They are the first imports
+    /// of the component.
+    pub(crate) fn import_interfaces(&mut self) -> Result<(), BuildFault>
+        requires valid { IsEncodable self.old.world.now }
+        requires first { imports_in self.old.items.defs ≡ 0 }
+        requires none { self.old.instances ≡ [] }
+        requires tables { AreTablesRight self.old.world.now self.old.last_type self.old.items.defs self.old.maps }
+        ensures world { self.new.world ≡ self.old.world }
+        ensures next { self.new.last_type ≡ self.old.last_type }
+        ensures extends { Extends self.old.items self.new.items }
+        ensures grows { OnOk result (Grows self.old.world.now self.old.items.defs self.new.items.defs (interfaces_marked self.old.world.now)) }
+        ensures tables { AreTablesRight self.old.world.now self.old.last_type self.new.items.defs self.new.maps }
+        ensures finds { OnOk result (FindsInterfaces self.old.world.now self.new.items.defs self.new.instances) }
+        ensures found { OnOk result (FindsUsedInterfaces self.old.world.now self.new.instances) }
+        ensures cause { IfErr result IsRefusal }
+    {
+        let world = self.world;
+        let uses = interface_uses(self.items.allocator(), world)?;
+        for (key, item) in world.items().imports.iter() {
+            self.import_interface_item(&uses, key, item)?;
+        }
+        Ok(())
+    }
+}
+
+/// The debug name of the type of an instance that is imported under a name.
+fn debug_name(alloc: Global, name: &Text) -> Result<String, AllocError> {
+    let mut debug = String::new(alloc);
+    debug.push_str("ty-")?;
+    debug.push_str(name.as_str())?;
+    Ok(debug)
+}
