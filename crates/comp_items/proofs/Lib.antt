@@ -1,3 +1,4 @@
 pub mod Extending
 pub mod Kept
+pub mod Entries
 pub mod Remembering

@@ -1,16 +1,19 @@
 //! Types: definitions, and imports.
 
-ghost use Rattle.std.specs.Prelude.{IfOk, None, get_or};
+ghost use Rattle.std.specs.Prelude.{◌≡◌, IfOk, Some, None, get_or, slice_get};
 ghost use Rattle.comp_builder.specs.Built.{Adds};
+ghost use Rattle.comp_builder.specs.Optional.{option_now};
 ghost use Rattle.comp_trees.specs.Trees.{ResourceAt, ImportedAt};
 ghost use Rattle.comp_trees.specs.DefinedTrees.{OfValues, OfFunctions, OfOthers, defined_tree, function_tree};
 ghost use Rattle.comp_trees.specs.DefinedScopes.{Denotes};
-ghost use Rattle.comp_trees.specs.Inventories.{scope_of};
+ghost use Rattle.comp_trees.specs.Inventories.{OfInstances, inventory, scope_of};
 ghost use Rattle.comp_terms.specs.Terms.{imports_in};
 
 use crate::items::ComponentItems;
 use byte_encoding::BuildFault;
-use comp_bytes::{Def, DefinedType, Description, ExternName, FuncTypeDef, Item, Space, TypeDef};
+use comp_bytes::{
+    Def, DefinedType, Description, ExternName, FuncTypeDef, InstanceType, Item, Space, TypeDef,
+};
 
 impl ComponentItems {
     /// Adds a type of values.
@@ -28,6 +31,19 @@ impl ComponentItems {
         ensures denotes { IfOk result (λ index. Denotes (scope_of self.new.defs) index (OfFunctions (function_tree (scope_of self.old.defs) ty))) }
     {
         let index = self.component.type_function(None, ty)?;
+        Ok(index)
+    }
+
+    /// Adds a type of instances. It has these members, in a scope whose types are those that were added before.
+    pub fn instance_type(
+        &mut self,
+        debug: Option<&str>,
+        ty: InstanceType,
+    ) -> Result<u32, BuildFault>
+        ensures adds { Adds self.old self.new result Space.Type (Def.Item (Item.InstanceType ty)) (option_now debug.entry) }
+        ensures made { IfOk result (λ index. slice_get (inventory self.new.defs).types index ≡ Some (OfInstances (scope_of self.old.defs) ty.members)) }
+    {
+        let index = self.component.type_instance(debug, ty)?;
         Ok(index)
     }
 
