@@ -1,5 +1,5 @@
 -- The root functions that imports of main use: all of them are imported, in the order of the world.
-use Rattle.std.proofs.Common.{if◌then◌else◌, Option, ◌≡◌, ◌∙◌, ◌+◌, ◌<◌, ◌≤◌, ◌==◌, inl, inr, suc, length, length-append, add-zero, arith, Some, ℕ, Bool, true, false, ◌||◌, List, [], ◌∷◌, ◌++◌, refl, sym, ap, subst, append_assoc, append-nil, map, filter, IsTrue, IsSome, Contains}
+use Rattle.std.proofs.Common.{if◌then◌else◌, Option, ◌≡◌, ◌∙◌, ◌+◌, ◌<◌, ◌≤◌, ◌==◌, inl, inr, suc, length, length-append, add-zero, arith, zero-add, Some, ℕ, Bool, true, false, ◌||◌, List, [], ◌∷◌, ◌++◌, refl, sym, ap, ap₂, subst, append_assoc, append-nil, map, filter, IsTrue, IsSome, Contains}
 use Rattle.std.proofs.lemmas.Slice.Eq.{bytes_eq-Decides}
 use Rattle.std.proofs.lemmas.Option.{slice_get-map}
 use Rattle.std.proofs.lemmas.List.{length-map, map-append}
@@ -31,10 +31,13 @@ use Rattle.comp_worlds.specs.Encodable.{IsEncodable}
 use Rattle.comp_worlds.specs.Worlds.{items_of, root_function, world_type, imported_functions, imported_types, imported_name, IsImportRole, IsImportGroup}
 use Rattle.comp_worlds.specs.Encodable.{AscendFrom}
 use Rattle.comp_worlds.specs.declared.world.ComponentWorld.{ComponentWorld}
-use Rattle.comp_links.specs.Lists.{ImportEntry, WorldType, RootFunction, import_entries, number_of_type, stated_import, root_type}
+use Rattle.wit_data.specs.declared.ids.InterfaceId.{InterfaceId}
+use Rattle.comp_links.specs.Naming.{own_names}
+use Rattle.comp_links.specs.Lists.{ImportEntry, ImportedInterface, WorldType, RootFunction, import_entries, interface_entries, interface_entry, unless_empty, names_of_interface, number_of_type, root_type}
+use Rattle.comp_imports.specs.Interfaces.{first_imports, interfaces_marked}
 use Rattle.comp_links.specs.Roles.{is_named, is_any_import, uses_from, is_used, used_functions}
 use Rattle.comp_terms.specs.Terms.{imports_in}
-use Rattle.comp_terms.specs.Rules.{Grows, Landmark, Imported, landmarks, named_import, names_marked, imports_marked}
+use Rattle.comp_terms.specs.Rules.{Grows, Landmark, Imported, landmarks, named_import, names_marked, import_marked, imports_marked}
 use Rattle.comp_items.specs.Items.{Extends}
 use Rattle.comp_items.proofs.Extending.{extends_none, extends_then}
 use Rattle.comp_imports.specs.Imports.{FindsImports, FindsMore, FindsUsed, IsNextItem, IsNextType, next_after}
@@ -118,9 +121,27 @@ types_counted : (ts : List (List ℕ × TypeId)) → length (filter is_imported 
 types_counted [] = refl
 types_counted (t ∷ ts) = ap suc (types_counted ts)
 
--- how many imports come before the functions at the root: interfaces and types
-abbrev pub first_imports : ComponentWorld → ℕ
-first_imports w = length (interface_entries w) + length (imported_types w)
+-- after the interfaces, as many imports are there
+entries_counted : (w : ComponentWorld) (es : List (WorldKey × WorldItem)) → length (filter is_imported (flat_map (import_marked own_names w) (flat_map (interface_entry w) es))) ≡ length (flat_map (interface_entry w) es)
+entries_counted w [] = refl
+entries_counted w ((key, world_items.Interface id) ∷ es) = by (names_of_interface w id) (entries_counted w es)
+  where
+    by : (names : List (List ℕ)) → length (filter is_imported (flat_map (import_marked own_names w) (flat_map (interface_entry w) es))) ≡ length (flat_map (interface_entry w) es) →
+        length (filter is_imported (flat_map (import_marked own_names w) (unless_empty names (ImportedInterface key id) ++ flat_map (interface_entry w) es))) ≡ length (unless_empty names (ImportedInterface key id) ++ flat_map (interface_entry w) es)
+    by [] h = h
+    by (name ∷ names) h = ap suc h
+entries_counted w ((key, world_items.Function f) ∷ es) = entries_counted w es
+entries_counted w ((key, world_items.NamedType id) ∷ es) = entries_counted w es
+
+pub interfaces_counted_of : (w : ComponentWorld) (old new : List Def) (es : List (WorldKey × WorldItem)) → imports_in old ≡ 0 → Grows w old new (flat_map (import_marked own_names w) (flat_map (interface_entry w) es)) →
+    imports_in new ≡ length (flat_map (interface_entry w) es)
+interfaces_counted_of w old new es none g =
+    let more = grown_imports g in
+    let count = entries_counted w es in
+    omega (arith, none, more, count)
+
+pub interfaces_counted : (w : ComponentWorld) (old new : List Def) → imports_in old ≡ 0 → Grows w old new (interfaces_marked w) → imports_in new ≡ length (interface_entries w)
+interfaces_counted w old new none g = interfaces_counted_of w old new (items_of w).imports none g
 
 -- after the types of the world, as many imports are there
 pub types_imported : (w : ComponentWorld) (old new : List Def) → imports_in old ≡ length (interface_entries w) → Grows w old new (map (λ t. Imported (root_type t.0)) (imported_types w)) → imports_in new ≡ first_imports w
@@ -270,10 +291,6 @@ imports_found w old new functions valid h = record {
 }
 
 -- ---- both steps
-
--- the landmarks of the imported interfaces
-abbrev pub interfaces_marked : ComponentWorld → List Landmark
-interfaces_marked w = flat_map (import_marked own_names w) (interface_entries w)
 
 -- the interfaces, the types and the functions are all imports that the world states
 all_marked : (w : ComponentWorld) → interfaces_marked w ++ (map (λ t. Imported (root_type t.0)) (imported_types w) ++ map named_import (used_functions w)) ≡ imports_marked own_names w

@@ -9,3 +9,6 @@ pub mod Naming
 pub mod Passing
 pub mod Resources
 pub mod Defining
+pub mod UsedFunctions
+pub mod FunctionExports
+pub mod InterfaceLoop

@@ -54,6 +54,7 @@ root_same w b = record { extends = extends_none b; grows = Grows-none w b.defs }
 pub root_then : {w : ComponentWorld} (a b c : Built) → RootGrows w a b → RootGrows w b c → RootGrows w a c
 root_then a b c g h = record { extends = extends_then a b c g.extends h.extends; grows = Grows-then g.grows h.grows }
 
--- of three states of a scope, each with a reference to what has the world, and a value that stays
-pub root_on : {R N : Type 0} (world : R → ComponentWorld) (r s t : R) (k l m : N) (a b c : Built) → (s ≡ r) × (l ≡ k) × RootGrows (world r) a b → (t ≡ s) × (m ≡ l) × RootGrows (world s) b c → (t ≡ r) × (m ≡ k) × RootGrows (world r) a c
-root_on world r s t k l m a b c g h = (h.0 ∙ g.0, h.1 ∙ g.1, root_then a b c g.2 (subst (λ x. RootGrows (world x) b c) g.0 h.2))
+-- of three states of a scope, each with a reference to what has the world, and two values that stay
+pub root_on : {R N I : Type 0} (world : R → ComponentWorld) (r s t : R) (k l m : N) (x y z : I) (a b c : Built) → (s ≡ r) × (l ≡ k) × (y ≡ x) × RootGrows (world r) a b → (t ≡ s) × (m ≡ l) × (z ≡ y) × RootGrows (world s) b c →
+    (t ≡ r) × (m ≡ k) × (z ≡ x) × RootGrows (world r) a c
+root_on world r s t k l m x y z a b c g h = (h.0 ∙ g.0, h.1 ∙ g.1, h.2 ∙ g.2, root_then a b c g.3 (subst (λ w. RootGrows (world w) b c) g.0 h.3))

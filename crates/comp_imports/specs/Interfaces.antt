@@ -1,5 +1,5 @@
 -- What is known of the interfaces that were imported. (The rules are this project's own.)
-use Rattle.std.specs.Prelude.{◌≡◌, ◌≢◌, ◌+◌, ◌&&◌, ℕ, nat_eq, Bool, true, List, [], length, map, Some, slice_get, is_some, IsTrue, IsSome, Contains}
+use Rattle.std.specs.Prelude.{◌≡◌, ◌≢◌, ◌+◌, ◌&&◌, ℕ, nat_eq, Bool, true, List, [], length, map, Some, slice_get, is_some, Contains}
 use Rattle.std.specs.List.{AllByRecursion, flat_map, list_any}
 use Rattle.std.specs.Map.{lookup}
 use Rattle.std.specs.Str.{bytes_eq}
@@ -10,8 +10,9 @@ use Rattle.comp_bytes.specs.declared.types.Member.{Member}
 use Rattle.comp_bytes.specs.declared.def.Def.{Def}
 use Rattle.comp_trees.specs.Trees.{FunctionTree}
 use Rattle.comp_trees.specs.DefinedTrees.{TypeTree, OfFunctions}
-use Rattle.comp_trees.specs.Members.{member_trees, exports_name, function_exported}
-use Rattle.comp_trees.specs.Inventories.{ImportedInstance, surroundings_of, inventory}
+use Rattle.type_scopes.specs.Places.{Place}
+use Rattle.comp_trees.specs.Members.{Surroundings, member_trees, exports_name, function_exported}
+use Rattle.comp_trees.specs.Inventories.{ImportedInstance, surroundings_of, inventory, scope_of}
 use Rattle.wit_data.specs.contracts.ids.InterfaceIdPartialEq.TheImpl as same_id
 use Rattle.wit_data.specs.declared.functions.Function.{Function}
 use Rattle.wit_data.specs.declared.ids.InterfaceId.{InterfaceId}
@@ -21,10 +22,10 @@ use Rattle.wit_data.specs.declared.worlds.WorldKey.{WorldKey}
 use Rattle.world_values.specs.Items.{functions_of}
 use Rattle.comp_worlds.specs.Worlds.{items_of, imported_types, IsNamedPlain}
 use Rattle.comp_worlds.specs.Encodable.{IsBare}
-use Rattle.wit_data.specs.Sound.{HasInterface}
+use Rattle.wit_data.specs.Sound.{HasKey, HasInterface}
 use Rattle.comp_worlds.specs.declared.world.ComponentWorld.{ComponentWorld}
 use Rattle.comp_links.specs.Naming.{own_names}
-use Rattle.comp_links.specs.Lists.{ImportedInterface, interface_entries, import_entries, needed_types}
+use Rattle.comp_links.specs.Lists.{ImportedInterface, interface_entries, import_entries, needed_types, resource_of}
 use Rattle.comp_links.specs.Roles.{is_used_of, used_functions_of}
 use Rattle.comp_terms.specs.Planned.{type_of_function}
 use Rattle.comp_terms.specs.Terms.{imports_in}
@@ -52,13 +53,17 @@ abbrev pub interfaces_marked : ComponentWorld → List Landmark
 interfaces_marked w = flat_map (import_marked own_names w) (interface_entries w)
 
 -- an instance of a type with these members exports a function of this type under a name
-pub record ExportsFunction (number : ℕ) (outer : List TypeTree) (members : List Member) (name : List ℕ) (type : FunctionTree) : Type 0 where
+pub record ExportsFunction (s : Surroundings) (members : List Member) (name : List ℕ) (type : FunctionTree) : Type 0 where
   pub there : list_any (exports_name spaces.Func name) members ≡ true
-  pub typed : function_exported (member_trees (surroundings_of number outer) [] members) name members ≡ OfFunctions type
+  pub typed : function_exported (member_trees s [] members) name members ≡ OfFunctions type
 
 -- each function of the interface that core imports use is exported, with its type
-pub record ExportsUsed (w : ComponentWorld) (id : InterfaceId) (number : ℕ) (outer : List TypeTree) (members : List Member) : Type 0 where
-  pub each : (name : List ℕ) (f : Function) → found name (functions_of w.resolve id) ≡ Some f → IsTrue (is_used_of w id name) → ExportsFunction number outer members name (type_of_function w f)
+pub record ExportsUsed (w : ComponentWorld) (id : InterfaceId) (s : Surroundings) (members : List Member) : Type 0 where
+  pub each : (name : List ℕ) (f : Function) → found name (functions_of w.resolve id) ≡ Some f → is_used_of w id name ≡ true → ExportsFunction s members name (type_of_function w f)
+
+-- where the type of an instance is defined that is imported next
+abbrev pub next_place : ComponentWorld → List Def → Place
+next_place w ds = record { surroundings = surroundings_of (imports_in ds) (scope_of ds); origin = resource_of w }
 
 -- the instance is the world's interface, as it is imported
 pub record IsInterfaceImport (w : ComponentWorld) (ds : List Def) (id : InterfaceId) (index : ℕ) : Type 0 where
@@ -68,10 +73,11 @@ pub record IsInterfaceImport (w : ComponentWorld) (ds : List Def) (id : Interfac
   pub members : List Member
   pub stated : slice_get (import_entries w) number ≡ Some (ImportedInterface key id)
   pub imported : slice_get (inventory ds).instances index ≡ Some (ImportedInstance number outer members)
-  pub functions : ExportsUsed w id number outer members
+  pub functions : ExportsUsed w id (surroundings_of number outer) members
 
 -- the interface is the next import, if core imports use one of its functions; it is one of functions without named types
 pub record IsNextInterface (w : ComponentWorld) (ds : List Def) (key : WorldKey) (id : InterfaceId) : Type 0 where
+  pub has_key : HasKey w.resolve key
   pub present : HasInterface w.resolve id
   pub plain : AllByRecursion (IsNamedPlain w.resolve.types) (functions_of w.resolve id)
   pub bare : IsBare w.resolve (world_items.Interface id)
@@ -86,7 +92,7 @@ IsNextInterfaceItem w ds entry = Unit {0}
 -- an imported interface of which core imports use a function is found
 abbrev pub IsFoundInterface : ComponentWorld → List (InterfaceId × ℕ) → InterfaceId → Type 0
 IsFoundInterface w instances id =
-    (name : List ℕ) → Contains (map (λ f. f.0) (functions_of w.resolve id)) name → IsTrue (is_used_of w id name) → IsSome (lookup (same_id.eq-value.it id) instances)
+    (name : List ℕ) → Contains (map (λ f. f.0) (functions_of w.resolve id)) name → is_used_of w id name ≡ true → is_some (lookup (same_id.eq-value.it id) instances) ≡ true
 
 -- an interface among the items of the world is found, if core imports use a function of it
 abbrev pub IsFoundItem : ComponentWorld → List (InterfaceId × ℕ) → WorldKey × WorldItem → Type 0
@@ -95,7 +101,7 @@ IsFoundItem w instances entry = Unit {0}
 
 -- what was found before is still found
 pub record FindsInterfacesStill (old new : List (InterfaceId × ℕ)) : Type 0 where
-  pub each : (id : InterfaceId) → IsSome (lookup (same_id.eq-value.it id) old) → IsSome (lookup (same_id.eq-value.it id) new)
+  pub each : (id : InterfaceId) → is_some (lookup (same_id.eq-value.it id) old) ≡ true → is_some (lookup (same_id.eq-value.it id) new) ≡ true
 
 -- each instance is the interface that it is found for
 pub record FindsInterfaces (w : ComponentWorld) (ds : List Def) (instances : List (InterfaceId × ℕ)) : Type 0 where

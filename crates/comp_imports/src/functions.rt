@@ -1,7 +1,7 @@
 //! The root functions that are imported.
 #![tactic(auto, using(crate::proofs::Growth::growing))]
 
-ghost use Rattle.std.specs.Prelude.{◌≡◌, [], ◌∷◌, List, ℕ, IfOk, IfErr, OnOk, IsTrue, IsSome, is_some, length, map};
+ghost use Rattle.std.specs.Prelude.{◌≡◌, [], ◌∷◌, List, ℕ, IfOk, IfErr, OnOk, IsTrue, IsSome, is_some, map};
 ghost use Rattle.std.specs.List.{AllByRecursion};
 ghost use Rattle.comp_lists.specs.Found.{found};
 ghost use Rattle.comp_items.specs.Items.{Extends};
@@ -10,8 +10,9 @@ ghost use Rattle.comp_terms.specs.Planned.{type_of_function};
 ghost use Rattle.comp_terms.specs.Rules.{Grows, named_import, names_marked};
 ghost use Rattle.comp_terms.specs.Terms.{IsImportedFunction, imports_in};
 ghost use Rattle.comp_worlds.specs.Encodable.{IsEncodable};
-ghost use Rattle.comp_worlds.specs.Worlds.{items_of, imported_types, root_function};
+ghost use Rattle.comp_worlds.specs.Worlds.{items_of, root_function};
 ghost use Rattle.wit_data.specs.Sound.{HasFunction};
+ghost use Rattle.comp_imports.specs.Interfaces.{first_imports};
 ghost use Rattle.comp_imports.specs.Imports.{FindsImports, FindsMore, FindsUsed, IsNext, IsNextItem};
 ghost use Rattle.comp_imports.specs.RootScopes.{AreTablesRight, ArePassed, IsRefusal};
 
@@ -32,6 +33,7 @@ impl RootScope<'_, ComponentWorld> {
         requires tables { AreTablesRight self.old.world.now self.old.last_type self.old.items.defs self.old.maps }
         ensures world { self.new.world ≡ self.old.world }
         ensures next { self.new.last_type ≡ self.old.last_type }
+        ensures instances { self.new.instances ≡ self.old.instances }
         ensures extends { Extends self.old.items self.new.items }
         ensures grows { OnOk result (Grows self.old.world.now self.old.items.defs self.new.items.defs (named_import name.now ∷ [])) }
         ensures tables { AreTablesRight self.old.world.now self.old.last_type self.new.items.defs self.new.maps }
@@ -64,6 +66,7 @@ impl RootScope<'_, ComponentWorld> {
         requires imports { FindsImports self.old.world.now self.old.items.defs functions.old }
         ensures world { self.new.world ≡ self.old.world }
         ensures next { self.new.last_type ≡ self.old.last_type }
+        ensures instances { self.new.instances ≡ self.old.instances }
         ensures extends { Extends self.old.items self.new.items }
         ensures grows { OnOk result (Grows self.old.world.now self.old.items.defs self.new.items.defs (names_marked self.old.world.now (name.now ∷ []))) }
         ensures tables { AreTablesRight self.old.world.now self.old.last_type self.new.items.defs self.new.maps }
@@ -97,6 +100,7 @@ impl RootScope<'_, ComponentWorld> {
         requires imports { FindsImports self.old.world.now self.old.items.defs functions.old }
         ensures world { self.new.world ≡ self.old.world }
         ensures next { self.new.last_type ≡ self.old.last_type }
+        ensures instances { self.new.instances ≡ self.old.instances }
         ensures extends { Extends self.old.items self.new.items }
         ensures grows { OnOk result (Grows self.old.world.now self.old.items.defs self.new.items.defs (names_marked self.old.world.now (root_function (key.now, item.now)))) }
         ensures tables { AreTablesRight self.old.world.now self.old.last_type self.new.items.defs self.new.maps }
@@ -122,11 +126,12 @@ impl RootScope<'_, ComponentWorld> {
         requires valid { IsEncodable self.old.world.now }
         requires items { items.now ≡ (items_of self.old.world.now).imports }
         requires used { (text : List ℕ) → is_some (found text used.now) ≡ is_used self.old.world.now text }
-        requires types { imports_in self.old.items.defs ≡ length (imported_types self.old.world.now) }
+        requires types { imports_in self.old.items.defs ≡ first_imports self.old.world.now }
         requires passed { ArePassed self.old.world.now self.old.last_type }
         requires tables { AreTablesRight self.old.world.now self.old.last_type self.old.items.defs self.old.maps }
         ensures world { self.new.world ≡ self.old.world }
         ensures next { self.new.last_type ≡ self.old.last_type }
+        ensures instances { self.new.instances ≡ self.old.instances }
         ensures extends { Extends self.old.items self.new.items }
         ensures grows { OnOk result (Grows self.old.world.now self.old.items.defs self.new.items.defs (map named_import (used_functions self.old.world.now))) }
         ensures tables { AreTablesRight self.old.world.now self.old.last_type self.new.items.defs self.new.maps }
@@ -142,14 +147,15 @@ impl RootScope<'_, ComponentWorld> {
     }
 
     /// Imports the root functions that imports of main use, in the order of the world, and returns their
-    /// indices by their names. The types of the world are imported before.
+    /// indices by their names. The interfaces and the types of the world are imported before.
     pub(crate) fn import_functions(&mut self) -> Result<Keyed<Text, u32>, BuildFault>
         requires valid { IsEncodable self.old.world.now }
-        requires types { imports_in self.old.items.defs ≡ length (imported_types self.old.world.now) }
+        requires types { imports_in self.old.items.defs ≡ first_imports self.old.world.now }
         requires passed { ArePassed self.old.world.now self.old.last_type }
         requires tables { AreTablesRight self.old.world.now self.old.last_type self.old.items.defs self.old.maps }
         ensures world { self.new.world ≡ self.old.world }
         ensures next { self.new.last_type ≡ self.old.last_type }
+        ensures instances { self.new.instances ≡ self.old.instances }
         ensures extends { Extends self.old.items self.new.items }
         ensures grows { OnOk result (Grows self.old.world.now self.old.items.defs self.new.items.defs (map named_import (used_functions self.old.world.now))) }
         ensures tables { AreTablesRight self.old.world.now self.old.last_type self.new.items.defs self.new.maps }

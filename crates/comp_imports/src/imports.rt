@@ -1,12 +1,14 @@
 //! All that a component imports, in order.
 #![tactic(auto, using(crate::proofs::Growth::growing))]
 
-ghost use Rattle.std.specs.Prelude.{◌≡◌, IfOk, IfErr, OnOk};
+ghost use Rattle.std.specs.Prelude.{◌≡◌, [], IfOk, IfErr, OnOk};
 ghost use Rattle.comp_items.specs.Items.{Extends};
 ghost use Rattle.comp_terms.specs.Rules.{Grows, imports_marked};
 ghost use Rattle.comp_terms.specs.Terms.{imports_in};
 ghost use Rattle.comp_worlds.specs.Encodable.{IsEncodable};
 ghost use Rattle.comp_imports.specs.Imports.{FindsImports, FindsUsed};
+ghost use Rattle.comp_links.specs.Naming.{own_names};
+ghost use Rattle.comp_imports.specs.Interfaces.{FindsInterfaces, FindsUsedInterfaces};
 ghost use Rattle.comp_imports.specs.RootScopes.{AreTablesRight, ArePassed, IsRefusal};
 
 use crate::root_scope::RootScope;
@@ -15,23 +17,28 @@ use comp_lists::{Keyed, Text};
 use comp_worlds::ComponentWorld;
 
 impl RootScope<'_, ComponentWorld> {
-    /// Imports the types of the world, and then the root functions that imports of main use, in the order of the world, each
-    /// under its name. Returns the indices of the functions by their names.
+    /// Imports the interfaces of which imports of main use functions, then the types of the world, and then the root
+    /// functions that imports of main use, each in the order of the world and under its name. Returns the indices of the
+    /// functions by their names.
     ///
     /// Refused when out of memory, and where a space would have more than 2^32 - 1 items.
     pub fn import_all(&mut self) -> Result<Keyed<Text, u32>, BuildFault>
         requires valid { IsEncodable self.old.world.now }
         requires first { imports_in self.old.items.defs ≡ 0 }
+        requires none { self.old.instances ≡ [] }
         requires tables { AreTablesRight self.old.world.now self.old.last_type self.old.items.defs self.old.maps }
         ensures world { self.new.world ≡ self.old.world }
         ensures extends { Extends self.old.items self.new.items }
-        ensures grows { OnOk result (Grows self.old.world.now self.old.items.defs self.new.items.defs (imports_marked self.old.world.now)) }
+        ensures grows { OnOk result (Grows self.old.world.now self.old.items.defs self.new.items.defs (imports_marked own_names self.old.world.now)) }
         ensures tables { AreTablesRight self.old.world.now self.new.last_type self.new.items.defs self.new.maps }
         ensures passed { OnOk result (ArePassed self.old.world.now self.new.last_type) }
         ensures imports { IfOk result (FindsImports self.old.world.now self.new.items.defs) }
         ensures found { IfOk result (FindsUsed self.old.world.now) }
+        ensures instances { OnOk result (FindsInterfaces self.old.world.now self.new.items.defs self.new.instances) }
+        ensures reached { OnOk result (FindsUsedInterfaces self.old.world.now self.new.instances) }
         ensures cause { IfErr result IsRefusal }
     {
+        self.import_interfaces()?;
         self.import_types()?;
         let functions = self.import_functions()?;
         Ok(functions)

@@ -1,15 +1,14 @@
 //! The interfaces that are imported, each as an instance of a type of its own.
 #![tactic(auto, using(crate::proofs::Growth::growing))]
 
-ghost use Rattle.std.specs.Prelude.{◌≡◌, ◌≢◌, [], List, ℕ, Some, IfOk, IfErr, OnOk, IsTrue, length, slice_get};
+ghost use Rattle.std.specs.Prelude.{◌≡◌, ◌≢◌, [], IfOk, IfErr, OnOk};
 ghost use Rattle.std.specs.List.{AllByRecursion, flat_map};
 ghost use Rattle.comp_bytes.specs.ScopeNames.{member_export};
 ghost use Rattle.comp_trees.specs.Members.{AreMembersRight};
-ghost use Rattle.comp_trees.specs.Inventories.{surroundings_of};
-ghost use Rattle.comp_trees.specs.DefinedTrees.{TypeTree};
+ghost use Rattle.type_scopes.specs.Places.{Place};
 ghost use Rattle.comp_items.specs.Items.{Extends};
 ghost use Rattle.comp_links.specs.Naming.{own_names};
-ghost use Rattle.comp_links.specs.Lists.{ImportedInterface, interface_entry, import_entries};
+ghost use Rattle.comp_links.specs.Lists.{ImportedInterface, interface_entry, resource_of};
 ghost use Rattle.comp_links.specs.Roles.{used_functions_of};
 ghost use Rattle.comp_terms.specs.Rules.{Grows, import_marked};
 ghost use Rattle.comp_terms.specs.Terms.{imports_in};
@@ -32,32 +31,34 @@ use std::alloc::{AllocError, Global};
 use type_scopes::encode_interface_type;
 use wit_data::{InterfaceId, WorldItem, WorldKey};
 
-/// The instance type of an imported interface, which exports those of its functions whose names are used.
-///
-/// It needs nothing of the outer scope, since no type with a name occurs in these functions.
-fn interface_type(
-    alloc: Global,
-    world: &ComponentWorld,
-    interface: InterfaceId,
-    used: &Keyed<Text, ()>,
-) -> Result<InstanceType, BuildFault>
-    ghost number: { ℕ }
-    ghost outer: { List TypeTree }
-    requires valid { IsEncodable world.now }
-    requires present { HasInterface world.now.resolve interface }
-    requires plain { AllByRecursion (IsNamedPlain world.now.resolve.types) (functions_of world.now.resolve interface) }
-    requires bare { IsBare world.now.resolve (world_items.Interface interface) }
-    requires used { AreUsedNames world.now interface used.now }
-    ensures members { IfOk result (λ ty. AreMembersRight (surroundings_of number outer) [] ty.members) }
-    ensures functions { IfOk result (λ ty. ExportsUsed world.now interface number outer ty.members) }
-    ensures names { IfOk result (λ ty. flat_map member_export ty.members ≡ used_functions_of world.now interface) }
-    ensures cause { IfErr result IsRefusal }
-{
-    let functions = &world.resolve.interfaces.as_slice()[interface.index].functions;
-    encode_interface_type(alloc, &world.resolve, &Keyed::new(alloc), interface, &[], used, functions)
-}
-
 impl RootScope<'_, ComponentWorld> {
+    /// The instance type of an imported interface, which exports those of its functions whose names are used.
+    ///
+    /// It needs nothing of the outer scope, since no type with a name occurs in these functions.
+    fn interface_type(
+        &self,
+        interface: InterfaceId,
+        used: &Keyed<Text, ()>,
+    ) -> Result<InstanceType, BuildFault>
+        ghost place: { Place }
+        requires valid { IsEncodable self.now.world.now }
+        requires origin { place.origin ≡ resource_of self.now.world.now }
+        requires present { HasInterface self.now.world.now.resolve interface }
+        requires plain { AllByRecursion (IsNamedPlain self.now.world.now.resolve.types) (functions_of self.now.world.now.resolve interface) }
+        requires bare { IsBare self.now.world.now.resolve (world_items.Interface interface) }
+        requires used { AreUsedNames self.now.world.now interface used.now }
+        ensures members { IfOk result (λ ty. AreMembersRight place.surroundings [] ty.members) }
+        ensures functions { IfOk result (λ ty. ExportsUsed self.now.world.now interface place.surroundings ty.members) }
+        ensures names { IfOk result (λ ty. flat_map member_export ty.members ≡ used_functions_of self.now.world.now interface) }
+        ensures cause { IfErr result IsRefusal }
+    {
+        let alloc = self.items.allocator();
+        let resolve = &self.world.resolve;
+        let functions = &resolve.interfaces.as_slice()[interface.index].functions;
+        let table = Keyed::new(alloc);
+        encode_interface_type(alloc, resolve, &table, interface, &[], used, functions)
+    }
+
     /// Imports an interface under the name of its key, as an instance that exports those of its functions whose names are
     /// used, and returns the instance's index. The type of the instance comes before it.
     fn import_functions_of(
@@ -84,7 +85,7 @@ impl RootScope<'_, ComponentWorld> {
         let alloc = self.items.allocator();
         let name = world.resolve.name_world_key(alloc, key)?;
         let debug = debug_name(alloc, &name)?;
-        let ty = interface_type(alloc, world, interface, used)?;
+        let ty = self.interface_type(interface, used)?;
         let index = self.items.instance_type(Some(debug.as_str()), ty)?;
         let version_suffix = None;
         let name = ExternName { name, version_suffix };

@@ -25,6 +25,7 @@ use comp_bytes::{DefinedType, ExternName, FuncTypeDef};
 use comp_items::ComponentItems;
 use comp_worlds::ComponentWorld;
 use std::alloc::Global;
+use comp_lists::Keyed;
 use wit_data::{Function, InterfaceId, TypeId};
 use wit_types::{TypeEncodingMaps, ValtypeEncoder, encode_func_type};
 
@@ -103,6 +104,7 @@ impl<'a> RootScope<'a, ComponentWorld> {
         ensures typed { IfOk result (λ index. IsFunctionType self.new.items.defs index (type_of_function self.old.world.now function.now)) }
         ensures world { self.new.world ≡ self.old.world }
         ensures next { self.new.last_type ≡ self.old.last_type }
+        ensures instances { self.new.instances ≡ self.old.instances }
         ensures grows { RootGrows self.old.world.now self.old.items self.new.items }
         ensures tables { AreTablesRight self.old.world.now self.old.last_type self.new.items.defs self.new.maps }
         ensures cause { IfErr result (IsCause is_full self.new.items.defs) }
@@ -122,19 +124,19 @@ impl<'a, W: HasWorld> ValtypeEncoder for RootScope<'a, W> {
 
     ghost with_maps = { λ e m. record e { maps = m } };
 
-    ghost follows = { λ old new. (new.world ≡ old.world) × (new.last_type ≡ old.last_type) × RootGrows (W.world old.world.now) old.items new.items };
+    ghost follows = { λ old new. (new.world ≡ old.world) × (new.last_type ≡ old.last_type) × (new.instances ≡ old.instances) × RootGrows (W.world old.world.now) old.items new.items };
 
     ghost names = { λ e name index. any_index name index };
 
     ghost refuses = { λ e count. is_full e.items.defs count };
 
-    ghost follows_itself = { λ e. (refl, refl, root_same (W.world e.world.now) e.items) };
+    ghost follows_itself = { λ e. (refl, refl, refl, root_same (W.world e.world.now) e.items) };
 
-    ghost follows_on = { λ a b c g h. root_on (λ r. W.world r.now) a.world b.world c.world a.last_type b.last_type c.last_type a.items b.items c.items g h };
+    ghost follows_on = { λ a b c g h. root_on (λ r. W.world r.now) a.world b.world c.world a.last_type b.last_type c.last_type a.instances b.instances c.instances a.items b.items c.items g h };
 
     ghost names_kept = { λ a b g name index h. h };
 
-    ghost follows_maps = { λ e m. (refl, refl, root_same (W.world e.world.now) e.items) };
+    ghost follows_maps = { λ e m. (refl, refl, refl, root_same (W.world e.world.now) e.items) };
 
     ghost maps_given = { λ e m. refl };
 
@@ -148,7 +150,7 @@ impl<'a, W: HasWorld> ValtypeEncoder for RootScope<'a, W> {
         ensures makes { Makes (scope_of self.old.items.defs) (scope_of self.new.items.defs) result (OfValues (defined_tree (scope_of self.old.items.defs) ty)) }
         ensures setting { root_setting (W.world self.new.world.now) self.new.last_type ≡ root_setting (W.world self.old.world.now) self.old.last_type }
         ensures maps { self.new.maps ≡ self.old.maps }
-        ensures follows { (self.new.world ≡ self.old.world) × (self.new.last_type ≡ self.old.last_type) × RootGrows (W.world self.old.world.now) self.old.items self.new.items }
+        ensures follows { (self.new.world ≡ self.old.world) × (self.new.last_type ≡ self.old.last_type) × (self.new.instances ≡ self.old.instances) × RootGrows (W.world self.old.world.now) self.old.items self.new.items }
         ensures cause { IfErr result (IsCause is_full self.new.items.defs) }
     {
         self.items.defined_type(ty)
@@ -160,7 +162,7 @@ impl<'a, W: HasWorld> ValtypeEncoder for RootScope<'a, W> {
         ensures makes { Makes (scope_of self.old.items.defs) (scope_of self.new.items.defs) result (OfFunctions (function_tree (scope_of self.old.items.defs) ty)) }
         ensures setting { root_setting (W.world self.new.world.now) self.new.last_type ≡ root_setting (W.world self.old.world.now) self.old.last_type }
         ensures maps { self.new.maps ≡ self.old.maps }
-        ensures follows { (self.new.world ≡ self.old.world) × (self.new.last_type ≡ self.old.last_type) × RootGrows (W.world self.old.world.now) self.old.items self.new.items }
+        ensures follows { (self.new.world ≡ self.old.world) × (self.new.last_type ≡ self.old.last_type) × (self.new.instances ≡ self.old.instances) × RootGrows (W.world self.old.world.now) self.old.items self.new.items }
         ensures cause { IfErr result (IsCause is_full self.new.items.defs) }
     {
         self.items.function_type(ty)
@@ -174,7 +176,7 @@ impl<'a, W: HasWorld> ValtypeEncoder for RootScope<'a, W> {
         ensures makes { MayMake (scope_of self.old.items.defs) (scope_of self.new.items.defs) result (get_or (scope_of self.old.items.defs) index OfOthers) }
         ensures setting { root_setting (W.world self.new.world.now) self.new.last_type ≡ root_setting (W.world self.old.world.now) self.old.last_type }
         ensures maps { self.new.maps ≡ self.old.maps }
-        ensures follows { (self.new.world ≡ self.old.world) × (self.new.last_type ≡ self.old.last_type) × RootGrows (W.world self.old.world.now) self.old.items self.new.items }
+        ensures follows { (self.new.world ≡ self.old.world) × (self.new.last_type ≡ self.old.last_type) × (self.new.instances ≡ self.old.instances) × RootGrows (W.world self.old.world.now) self.old.items self.new.items }
         ensures cause { IfErr result (IsCause is_full self.new.items.defs) }
     {
         let _ = (index, name);
@@ -188,7 +190,7 @@ impl<'a, W: HasWorld> ValtypeEncoder for RootScope<'a, W> {
         ensures makes { Makes (scope_of self.old.items.defs) (scope_of self.new.items.defs) result (OfValues (ResourceAt ((root_setting (W.world self.old.world.now) self.old.last_type).resource name.name))) }
         ensures setting { root_setting (W.world self.new.world.now) self.new.last_type ≡ root_setting (W.world self.old.world.now) self.old.last_type }
         ensures maps { self.new.maps ≡ self.old.maps }
-        ensures follows { (self.new.world ≡ self.old.world) × (self.new.last_type ≡ self.old.last_type) × RootGrows (W.world self.old.world.now) self.old.items self.new.items }
+        ensures follows { (self.new.world ≡ self.old.world) × (self.new.last_type ≡ self.old.last_type) × (self.new.instances ≡ self.old.instances) × RootGrows (W.world self.old.world.now) self.old.items self.new.items }
         ensures cause { IfErr result (IsCause is_full self.new.items.defs) }
     {
         let _ = name;
@@ -201,7 +203,7 @@ impl<'a, W: HasWorld> ValtypeEncoder for RootScope<'a, W> {
         ensures makes { Makes (scope_of self.old.items.defs) (scope_of self.new.items.defs) result (OfValues (tree_in (root_setting (W.world self.old.world.now) self.old.last_type) (Some (Id id)))) }
         ensures setting { root_setting (W.world self.new.world.now) self.new.last_type ≡ root_setting (W.world self.old.world.now) self.old.last_type }
         ensures maps { self.new.maps ≡ self.old.maps }
-        ensures follows { (self.new.world ≡ self.old.world) × (self.new.last_type ≡ self.old.last_type) × RootGrows (W.world self.old.world.now) self.old.items self.new.items }
+        ensures follows { (self.new.world ≡ self.old.world) × (self.new.last_type ≡ self.old.last_type) × (self.new.instances ≡ self.old.instances) × RootGrows (W.world self.old.world.now) self.old.items self.new.items }
         ensures cause { IfErr result (IsCause is_full self.new.items.defs) }
     {
         let _ = (interface, id);

@@ -3,7 +3,7 @@
 
 ghost use Rattle.std.specs.Prelude.{◌≡◌, ◌<◌, length, false, true, [], ◌∷◌, List, Option, map, IfErr, OnOk, IsSomeAnd, Some, None};
 ghost use Rattle.comp_items.specs.Items.{Extends};
-ghost use Rattle.comp_links.specs.Lists.{root_type, resource_of, type_of_world};
+ghost use Rattle.comp_links.specs.Lists.{interface_entries, root_type, resource_of, type_of_world};
 ghost use Rattle.comp_bytes.specs.declared.def.Def.{Def};
 ghost use Rattle.comp_terms.specs.Terms as terms;
 ghost use Rattle.comp_worlds.specs.Worlds as worlds;
@@ -51,6 +51,7 @@ impl RootScope<'_, ComponentWorld> {
         requires tables { AreTablesRight self.old.world.now self.old.last_type self.old.items.defs self.old.maps }
         requires denotes { Denotes (scope_of self.old.items.defs) index (type_of_world self.old.world.now id) }
         ensures world { self.new.world ≡ self.old.world }
+        ensures instances { self.new.instances ≡ self.old.instances }
         ensures next { OnOk result (self.new.last_type ≡ Some id) }
         ensures extends { Extends self.old.items self.new.items }
         ensures grows { Grows self.old.world.now self.old.items.defs self.new.items.defs [] }
@@ -70,6 +71,7 @@ impl RootScope<'_, ComponentWorld> {
         requires next { IsNextTypeImport self.old.world.now (next_of self.old.last_type) self.old.items.defs name.name id }
         requires tables { AreTablesRight self.old.world.now self.old.last_type self.old.items.defs self.old.maps }
         ensures world { self.new.world ≡ self.old.world }
+        ensures instances { self.new.instances ≡ self.old.instances }
         ensures next { OnOk result (self.new.last_type ≡ Some id) }
         ensures extends { Extends self.old.items self.new.items }
         ensures grows { OnOk result (Grows self.old.world.now self.old.items.defs self.new.items.defs (Imported (root_type name.name) ∷ [])) }
@@ -93,6 +95,7 @@ impl RootScope<'_, ComponentWorld> {
         requires next { IsNextTypeImport self.old.world.now (next_of self.old.last_type) self.old.items.defs name.name id }
         requires tables { AreTablesRight self.old.world.now self.old.last_type self.old.items.defs self.old.maps }
         ensures world { self.new.world ≡ self.old.world }
+        ensures instances { self.new.instances ≡ self.old.instances }
         ensures next { OnOk result (self.new.last_type ≡ Some id) }
         ensures extends { Extends self.old.items self.new.items }
         ensures grows { OnOk result (Grows self.old.world.now self.old.items.defs self.new.items.defs (Imported (root_type name.name) ∷ [])) }
@@ -111,6 +114,7 @@ impl RootScope<'_, ComponentWorld> {
         requires next { IsNextTypeImport self.old.world.now (next_of self.old.last_type) self.old.items.defs name.now id }
         requires tables { AreTablesRight self.old.world.now self.old.last_type self.old.items.defs self.old.maps }
         ensures world { self.new.world ≡ self.old.world }
+        ensures instances { self.new.instances ≡ self.old.instances }
         ensures next { OnOk result (self.new.last_type ≡ Some id) }
         ensures extends { Extends self.old.items self.new.items }
         ensures grows { OnOk result (Grows self.old.world.now self.old.items.defs self.new.items.defs (Imported (root_type name.now) ∷ [])) }
@@ -137,6 +141,7 @@ impl RootScope<'_, ComponentWorld> {
         requires tables { AreTablesRight self.old.world.now self.old.last_type self.old.items.defs self.old.maps }
         ensures next { OnOk result (next_of self.new.last_type ≡ next_after (next_of self.old.last_type) (key.now, item.now)) }
         ensures world { self.new.world ≡ self.old.world }
+        ensures instances { self.new.instances ≡ self.old.instances }
         ensures extends { Extends self.old.items self.new.items }
         ensures grows { OnOk result (Grows self.old.world.now self.old.items.defs self.new.items.defs (map (λ t. Imported (root_type t.0)) (world_type (key.now, item.now)))) }
         ensures tables { AreTablesRight self.old.world.now self.new.last_type self.new.items.defs self.new.maps }
@@ -148,12 +153,13 @@ impl RootScope<'_, ComponentWorld> {
         }
     }
 
-    /// Imports the types of the world, in its order. They are the first imports of the component.
+    /// Imports the types of the world, in its order. They come after the interfaces.
     pub(crate) fn import_types(&mut self) -> Result<(), BuildFault>
         requires valid { IsEncodable self.old.world.now }
-        requires first { imports_in self.old.items.defs ≡ 0 }
+        requires first { imports_in self.old.items.defs ≡ length (interface_entries self.old.world.now) }
         requires tables { AreTablesRight self.old.world.now self.old.last_type self.old.items.defs self.old.maps }
         ensures world { self.new.world ≡ self.old.world }
+        ensures instances { self.new.instances ≡ self.old.instances }
         ensures extends { Extends self.old.items self.new.items }
         ensures grows { OnOk result (Grows self.old.world.now self.old.items.defs self.new.items.defs (map (λ t. Imported (root_type t.0)) (imported_types self.old.world.now))) }
         ensures tables { AreTablesRight self.old.world.now self.new.last_type self.new.items.defs self.new.maps }

@@ -6,7 +6,7 @@ use Rattle.comp_bytes.specs.declared.def.Def.TheVariants as defs
 use Rattle.comp_bytes.specs.declared.def.Item.TheVariants as items
 use Rattle.comp_builder.specs.Built.{Built}
 use Rattle.comp_items.proofs.Extending.{extends_adds}
-use Rattle.comp_links.specs.Lists.{plain_name}
+use Rattle.comp_links.specs.Naming.{plain_name}
 use Rattle.comp_terms.specs.Planned.{type_of_function}
 use Rattle.comp_terms.specs.Rules.{Grows, named_import}
 use Rattle.comp_terms.specs.Terms.{IsImportedFunction}
@@ -25,7 +25,7 @@ returns-clause-grows c =
     let mid = c.function_type.new.self.items.defs in
     let new = c.import_function.new.self.defs in
     let last : Grows w mid new (named_import c.in_ok-clone.field-0 ∷ []) =
-    Grows-by (import c) (ap (λ (b : Built). b.defs) c.in_ok-index.ensures.adds.1) (refl, record { type = type_of_function w c.args.function.now; is = c.in_ok-ty.ensures.typed }) in
+    Grows-by (import c) (ap (λ (b : Built). b.defs) c.in_ok-index.ensures.adds.1) (record { type = type_of_function w c.args.function.now; is = c.in_ok-ty.ensures.typed }) in
     subst (λ n. Grows w c.args.self.now.items.defs new (named_import n ∷ [])) c.in_ok-clone.ensures (Grows-then c.in_ok-ty.ensures.grows.grows last)
 
 pub returns-clause-tables : goal.returns-clause-tables

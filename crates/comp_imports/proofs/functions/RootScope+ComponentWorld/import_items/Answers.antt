@@ -26,6 +26,7 @@ loop-key-init c =
       c.requires.tables,
       subst (λ (fs : List (List ℕ × ℕ)). ImportsSoFar w old old fs c.into_iter-key-iterator.result) (sym none)
           (subst (λ (es : List (WorldKey × WorldItem)). ImportsSoFar w old old [] es) (sym items) (imports_start w old c.requires.types)),
+      refl,
     )
 
 pub import_function_item-requires-clause-next : goal.import_function_item-requires-clause-next
@@ -61,6 +62,7 @@ loop-key-preserved c =
       subst (λ n. AreTablesRight c.args.self.now.world.now n new.items.defs new.maps) count (subst (λ x. AreTablesRight x.now c.loop-key.self.last_type new.items.defs new.maps) same of.tables),
       imports_step w c.args.self.now.items mid new.items c.loop-key.functions fs e c.next.new.self (subst (λ (es : List (WorldKey × WorldItem)). ImportsSoFar c.args.self.now.world.now c.args.self.now.items c.loop-key.self.items c.loop-key.functions es) c.in-Some.ensures.steps c.loop-key.invariant.5) of.extends (subst (λ x. Grows x.now mid.defs new.items.defs (names_marked x.now (root_function e))) same of.grows)
           (subst (λ x. FindsImports x.now new.items.defs fs) same of.imports) of.finds (subst (λ x. AllByRecursion (λ name. IsTrue (is_used x.now name) → IsSome (found name fs)) (root_function e)) same of.found),
+      of.instances ∙ c.loop-key.invariant.6,
     )
 
 pub returns-clause-found : goal.returns-clause-found

@@ -10,4 +10,5 @@ invariant-loop-key l =
     (l.self.world ≡ l.fn.self.world) ×
     (l.self.last_type ≡ l.fn.self.last_type) ×
     AreTablesRight l.fn.self.world.now l.fn.self.last_type l.self.items.defs l.self.maps ×
-    ImportsSoFar l.fn.self.world.now l.fn.self.items l.self.items l.functions l.key-iterator
+    ImportsSoFar l.fn.self.world.now l.fn.self.items l.self.items l.functions l.key-iterator ×
+    (l.self.instances ≡ l.fn.self.instances)

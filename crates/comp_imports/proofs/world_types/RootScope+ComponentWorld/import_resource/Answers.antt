@@ -50,7 +50,7 @@ returns-clause-grows c =
       same = resource_numbered w c.requires.valid c.args.id (imports_in old) c.requires.present c.requires.resource c.requires.next.number;
     } in
     let d : Def = defs.Item (items.Import c.args.name descriptions.SubResource) in
-    let right : IsRight w old d = (by_name c.args.name c.requires.plain, type) in
+    let right : IsRight w old d = type in
     let first : Grows w old new (Imported (record { name = c.args.name; sort = sorts.Type }) ∷ []) = Grows-by d (ap (λ (b : Built). b.defs) c.in_ok-index.ensures.adds.1) right in
     let named : Grows w old new (Imported (root_type c.args.name.name) ∷ []) = subst (λ n. Grows w old new (Imported (record { name = n; sort = sorts.Type }) ∷ [])) (by_name c.args.name c.requires.plain) first in
     Grows-then named c.in_ok-record_world_type.ensures.grows

@@ -24,6 +24,7 @@ loop-key-init c =
       refl,
       tables_first w c.args.self.now.last_type c.args.self.now.items.defs c.args.self.now.maps c.requires.tables,
       subst (λ (es : List (WorldKey × WorldItem)). TypesSoFar w c.args.self.now.items c.args.self.now.items 0 es) (sym items) (types_start w c.args.self.now.items 0 c.requires.valid c.requires.first refl),
+      refl,
     )
 
 pub import_type_item-requires-clause-present : goal.import_type_item-requires-clause-present
@@ -50,6 +51,7 @@ loop-key-preserved c =
       of.world ∙ same,
       subst (λ x. AreTablesRight x.now new.last_type new.items.defs new.maps) same of.tables,
       types_step w c.args.self.now.items mid new.items (next_of c.loop-key.self.last_type) (next_of new.last_type) e c.next.new.self (subst (λ (es : List (WorldKey × WorldItem)). TypesSoFar c.args.self.now.world.now c.args.self.now.items c.loop-key.self.items (next_of c.loop-key.self.last_type) es) c.in-Some.ensures.steps c.loop-key.invariant.4) of.extends (subst (λ x. Grows x.now mid.defs new.items.defs (map (λ (t : List ℕ × TypeId). Imported (root_type t.0)) (world_type e))) same of.grows) of.next,
+      of.instances ∙ c.loop-key.invariant.5,
     )
 
 pub returns-clause-grows : goal.returns-clause-grows

@@ -69,11 +69,11 @@ returns-clause-grows c =
     let new = c.import_type.new.self.defs in
     let end = c.record_world_type.new.self.items.defs in
     let index = c.in_ok-index.index in
-    let first : Grows w old mid [] = c.in_ok-index.ensures.follows.2.grows in
+    let first : Grows w old mid [] = c.in_ok-index.ensures.follows.3.grows in
     let next : slice_get (import_entries w) (imports_in mid) ≡ Some (WorldType c.args.name.name c.args.id) = ap (slice_get (import_entries w)) (no_imports first) ∙ c.requires.next.stated in
     let type : ImportsType w mid c.args.name.name (get_or (scope_of mid) index OfOthers) = record { id = c.args.id; stated = next; same = c.in_ok-index.ensures.denotes.tree } in
     let d : Def = defs.Item (items.Import c.args.name (descriptions.TypeEqual index)) in
-    let right : IsRight w mid d = (by_name c.args.name c.requires.plain, (c.in_ok-index.ensures.denotes.within, type)) in
+    let right : IsRight w mid d = (c.in_ok-index.ensures.denotes.within, type) in
     let second : Grows w mid new (Imported (record { name = c.args.name; sort = sorts.Type }) ∷ []) = Grows-by d (ap (λ (b : Built). b.defs) c.in_ok-index-2.ensures.adds.1) right in
     let named : Grows w mid new (Imported (root_type c.args.name.name) ∷ []) = subst (λ n. Grows w mid new (Imported (record { name = n; sort = sorts.Type }) ∷ [])) (by_name c.args.name c.requires.plain) second in
     let third : Grows w new end [] = subst (λ r. Grows r.now new end []) c.in_ok-index.ensures.follows.0 c.in_ok-record_world_type.ensures.grows in

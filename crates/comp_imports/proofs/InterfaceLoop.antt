@@ -1,0 +1,238 @@
+-- The interfaces of which core imports use a function are imported, in the order of the world.
+use Rattle.std.proofs.Common.{◌≡◌, ◌≢◌, ◌∙◌, ◌&&◌, ◌||◌, ◌+◌, ap, ap₂, sym, subst, refl, ℕ, suc, arith, Bool, true, false, cond, List, [], ◌∷◌, ◌++◌, map, filter, length, length-append, append-nil, append_assoc, add-zero, zero-add, Option, Some, None, is_some, unwrap_or, ◌==◌, if◌then◌else◌, slice_get, Contains, inl, inr, true≢false}
+use Rattle.std.specs.List.{AllByRecursion, flat_map, list_any}
+use Rattle.std.specs.Map.{lookup}
+use Rattle.std.specs.Str.{bytes_eq}
+use Rattle.std.proofs.lemmas.Grind.{flat_map-append}
+use Rattle.std.proofs.lemmas.List.{slice_get-append}
+use Rattle.std.proofs.lemmas.Slice.Eq.{bytes_eq-Decides}
+use Rattle.std.proofs.lemmas.Bool.Decides.{Decides-eqb}
+use Rattle.comp_lists.specs.Found.{found}
+use Rattle.comp_lists.specs.Tables.{with_first}
+use Rattle.comp_lists.proofs.Lists.{AllByRecursion-weaker, AllByRecursion-join, AllByRecursion-back, AllByRecursion-contains}
+use Rattle.comp_bytes.specs.declared.def.Def.{Def}
+use Rattle.comp_builder.specs.Built.{Built}
+use Rattle.wit_data.specs.contracts.ids.InterfaceIdPartialEq.TheImpl as same_id
+use Rattle.wit_data.specs.declared.ids.InterfaceId.{InterfaceId}
+use Rattle.wit_data.specs.declared.worlds.WorldItem.{WorldItem}
+use Rattle.wit_data.specs.declared.worlds.WorldItem.TheVariants as world_items
+use Rattle.wit_data.specs.declared.worlds.WorldKey.{WorldKey}
+use Rattle.wit_data.specs.declared.worlds.WorldKey.TheVariants as keys
+use Rattle.wit_data.specs.declared.functions.Function.{Function}
+use Rattle.wit_data.specs.declared.ids.TypeId.{TypeId}
+use Rattle.wit_data.specs.declared.resolve.Resolve.{Resolve}
+use Rattle.world_values.specs.Items.{functions_of}
+use Rattle.comp_worlds.specs.Encodable.{IsBare, IsEncodable}
+use Rattle.comp_worlds.specs.Worlds.{IsImportItem, IsNamedPlain, items_of, imported_types}
+use Rattle.comp_worlds.specs.declared.world.ComponentWorld.{ComponentWorld}
+use Rattle.comp_links.specs.Naming.{own_names}
+use Rattle.comp_links.specs.Lists.{ImportEntry, ImportedInterface, WorldType, RootFunction, import_entries, interface_entries, interface_entry, needed_types, names_of_interface, type_name, unless_empty}
+use Rattle.comp_links.specs.Roles.{used_functions, used_functions_of}
+use Rattle.comp_terms.specs.Rules.{Grows, import_marked}
+use Rattle.comp_terms.specs.Terms.{imports_in}
+use Rattle.comp_items.specs.Items.{Extends}
+use Rattle.comp_items.proofs.Extending.{extends_none, extends_then}
+use Rattle.comp_items.proofs.Kept.{Longer}
+use Rattle.comp_items.proofs.Entries.{instance_entry-kept}
+use Rattle.comp_imports.specs.Growing.{Grows-none, Grows-then}
+use Rattle.comp_imports.specs.Interfaces.{FindsInterfaces, FindsInterfacesStill, FindsUsedInterfaces, IsFoundItem, IsInterfaceImport, IsNextInterfaceItem, interfaces_marked}
+use Rattle.comp_imports.proofs.Importing.{interfaces_counted_of}
+use Rattle.comp_imports.proofs.Looking.{entry_sound}
+
+-- what was imported is still there in a longer list
+pub FindsInterfaces-kept : {w : ComponentWorld} {old new : List Def} {instances : List (InterfaceId × ℕ)} → Longer old new → FindsInterfaces w old instances → FindsInterfaces w new instances
+FindsInterfaces-kept {w} {old} {new} {instances} g h = record {
+  each = AllByRecursion-weaker
+      (λ e i. record { key = i.key; number = i.number; outer = i.outer; members = i.members; stated = i.stated; imported = instance_entry-kept g e.1 _ i.imported; functions = i.functions })
+      instances h.each;
+}
+
+-- ---- a table with one instance more
+
+each_of_first : (P : InterfaceId × ℕ → Type 0) (es : List (InterfaceId × ℕ)) (id : InterfaceId) (index : ℕ) → AllByRecursion P es → P (id, index) → AllByRecursion P (with_first same_id.eq-value.it es id index)
+each_of_first P es id index h p = by (is_some (lookup (same_id.eq-value.it id) es))
+  where
+    by : (b : Bool) → AllByRecursion P (if b then es else es ++ (id, index) ∷ [])
+    by true = h
+    by false = AllByRecursion-join P es ((id, index) ∷ []) h (p, tt)
+
+pub finds_added : {w : ComponentWorld} {ds : List Def} (es new : List (InterfaceId × ℕ)) (id : InterfaceId) (index : ℕ) → new ≡ with_first same_id.eq-value.it es id index → FindsInterfaces w ds es → IsInterfaceImport w ds id index → FindsInterfaces w ds new
+finds_added {w} {ds} es new id index same h i = record { each = subst (AllByRecursion (λ (e : InterfaceId × ℕ). IsInterfaceImport w ds e.0 e.1)) (sym same) (each_of_first (λ e. IsInterfaceImport w ds e.0 e.1) es id index h.each i) }
+
+found_with : (test : InterfaceId → Bool) (es : List (InterfaceId × ℕ)) (id : InterfaceId) (index : ℕ) → is_some (lookup test es) ≡ true → is_some (lookup test (es ++ (id, index) ∷ [])) ≡ true
+found_with test [] id index h = absurd (true≢false (sym h))
+found_with test (e ∷ es) id index h = by (test e.0) h
+  where
+    by : (b : Bool) → is_some (cond b (Some e.1) (lookup test es)) ≡ true → is_some (cond b (Some e.1) (lookup test (es ++ (id, index) ∷ []))) ≡ true
+    by true h = refl
+    by false h = found_with test es id index h
+
+found_last : (test : InterfaceId → Bool) (es : List (InterfaceId × ℕ)) (id : InterfaceId) (index : ℕ) → test id ≡ true → is_some (lookup test (es ++ (id, index) ∷ [])) ≡ true
+found_last test [] id index h = ap (λ b. is_some (cond b (Some index) None)) h
+found_last test (e ∷ es) id index h = by (test e.0)
+  where
+    by : (b : Bool) → is_some (cond b (Some e.1) (lookup test (es ++ (id, index) ∷ []))) ≡ true
+    by true = refl
+    by false = found_last test es id index h
+
+pub still_added : (es new : List (InterfaceId × ℕ)) (id : InterfaceId) (index : ℕ) → new ≡ with_first same_id.eq-value.it es id index → FindsInterfacesStill es new
+still_added es new id index same = record { each = λ other h. subst (λ l. is_some (lookup (same_id.eq-value.it other) l) ≡ true) (sym same) (by other (is_some (lookup (same_id.eq-value.it id) es)) h) }
+  where
+    by : (other : InterfaceId) (b : Bool) → is_some (lookup (same_id.eq-value.it other) es) ≡ true → is_some (lookup (same_id.eq-value.it other) (if b then es else es ++ (id, index) ∷ [])) ≡ true
+    by other true h = h
+    by other false h = found_with (same_id.eq-value.it other) es id index h
+
+pub still_same : (es : List (InterfaceId × ℕ)) → FindsInterfacesStill es es
+still_same es = record { each = λ id h. h }
+
+pub there_added : (es new : List (InterfaceId × ℕ)) (id : InterfaceId) (index : ℕ) → new ≡ with_first same_id.eq-value.it es id index → is_some (lookup (same_id.eq-value.it id) new) ≡ true
+there_added es new id index same = subst (λ l. is_some (lookup (same_id.eq-value.it id) l) ≡ true) (sym same) (by (is_some (lookup (same_id.eq-value.it id) es)) refl)
+  where
+    by : (b : Bool) → is_some (lookup (same_id.eq-value.it id) es) ≡ b → is_some (lookup (same_id.eq-value.it id) (if b then es else es ++ (id, index) ∷ [])) ≡ true
+    by true e = e
+    by false e = found_last (same_id.eq-value.it id) es id index (Decides-own id)
+
+    Decides-own : (id : InterfaceId) → same_id.eq-value.it id id ≡ true
+    Decides-own id = (Decides-eqb id.index id.index).1 refl
+
+-- ---- which functions are used
+
+-- a name that is listed and used is in the table of used names
+listed_used : (fs : List (List ℕ × Function)) (p : List ℕ → Bool) (name : List ℕ) → Contains (map (λ f. f.0) fs) name → p name ≡ true → list_any (λ f. bytes_eq name f.0 && p f.0) fs ≡ true
+listed_used [] p name c u = contains_none name c
+listed_used (f ∷ fs) p name c u = elim (contains_cons f.0 (map (λ f. f.0) fs) name c) [
+  | inl same ↦ ap (λ b. b || list_any (λ f. bytes_eq name f.0 && p f.0) fs) (ap₂ (λ x y. x && y) ((bytes_eq-Decides name f.0).1 (sym same)) (ap p same ∙ u))
+  | inr later ↦ or_later (bytes_eq name f.0 && p f.0) (list_any (λ f. bytes_eq name f.0 && p f.0) fs) (listed_used fs p name later u)
+]
+  where
+    or_later : (a b : Bool) → b ≡ true → (a || b) ≡ true
+    or_later true b e = refl
+    or_later false b e = e
+
+-- each function of the interface is in the table exactly if it is used
+own_used : (all fs : List (List ℕ × Function)) (p : List ℕ → Bool) (used : List (List ℕ × Unit {0})) → ((text : List ℕ) → is_some (found text used) ≡ list_any (λ f. bytes_eq text f.0 && p f.0) all) →
+    AllByRecursion (λ f. Contains (map (λ g. g.0) all) f.0) fs → AllByRecursion (λ f. is_some (found f.0 used) ≡ p f.0) fs
+own_used all [] p used each c = tt
+own_used all (f ∷ fs) p used each c = (each f.0 ∙ by (p f.0) refl, own_used all fs p used each c.1)
+  where
+    none : (gs : List (List ℕ × Function)) → p f.0 ≡ false → list_any (λ g. bytes_eq f.0 g.0 && p g.0) gs ≡ false
+    none [] e = refl
+    none (g ∷ gs) e = one (bytes_eq f.0 g.0) refl (none gs e)
+      where
+        one : (b : Bool) → bytes_eq f.0 g.0 ≡ b → list_any (λ g. bytes_eq f.0 g.0 && p g.0) gs ≡ false → ((b && p g.0) || list_any (λ g. bytes_eq f.0 g.0 && p g.0) gs) ≡ false
+        one true same h = ap (λ q. q || list_any (λ g. bytes_eq f.0 g.0 && p g.0) gs) (ap p (sym ((bytes_eq-Decides f.0 g.0).0 same)) ∙ e) ∙ h
+        one false apart h = h
+
+    by : (b : Bool) → p f.0 ≡ b → list_any (λ g. bytes_eq f.0 g.0 && p g.0) all ≡ p f.0
+    by true e = listed_used all p f.0 c.0 e ∙ sym e
+    by false e = none all e ∙ sym e
+
+-- ---- the loop
+
+-- the items of the world that were passed so far, and what was made for them
+pub record InterfacesSoFar (w : ComponentWorld) (old new : Built) (instances : List (InterfaceId × ℕ)) (rest : List (WorldKey × WorldItem)) : Type 0 where
+  pub done : List (WorldKey × WorldItem)
+  pub split : done ++ rest ≡ (items_of w).imports
+  pub extends : Extends old new
+  pub grows : Grows w old.defs new.defs (flat_map (import_marked own_names w) (flat_map (interface_entry w) done))
+  pub finds : FindsInterfaces w new.defs instances
+  pub found : AllByRecursion (IsFoundItem w instances) done
+
+pub interfaces_start : (w : ComponentWorld) (old : Built) (instances : List (InterfaceId × ℕ)) → instances ≡ [] → InterfacesSoFar w old old instances (items_of w).imports
+interfaces_start w old instances none = record {
+  done = [];
+  split = refl;
+  extends = extends_none old;
+  grows = Grows-none w old.defs;
+  finds = record { each = subst (AllByRecursion (λ (e : InterfaceId × ℕ). IsInterfaceImport w old.defs e.0 e.1)) (sym none) tt };
+  found = tt;
+}
+
+still_found : (w : ComponentWorld) (before after : List (InterfaceId × ℕ)) → FindsInterfacesStill before after → (e : WorldKey × WorldItem) → IsFoundItem w before e → IsFoundItem w after e
+still_found w before after still (key, world_items.Interface id) h = λ name c u. still.each id (h name c u)
+still_found w before after still (key, world_items.Function f) h = tt
+still_found w before after still (key, world_items.NamedType id) h = tt
+
+entries_push : (w : ComponentWorld) (done : List (WorldKey × WorldItem)) (e : WorldKey × WorldItem) → flat_map (interface_entry w) (done ++ e ∷ []) ≡ flat_map (interface_entry w) done ++ interface_entry w e
+entries_push w done e = flat_map-append (interface_entry w) done (e ∷ []) ∙ ap (λ l. flat_map (interface_entry w) done ++ l) (append-nil (interface_entry w e))
+
+pub interfaces_step : (w : ComponentWorld) (old mid new : Built) (before after : List (InterfaceId × ℕ)) (e : WorldKey × WorldItem) (rest : List (WorldKey × WorldItem)) → InterfacesSoFar w old mid before (e ∷ rest) →
+    Extends mid new → Grows w mid.defs new.defs (flat_map (import_marked own_names w) (interface_entry w e)) → FindsInterfaces w new.defs after → FindsInterfacesStill before after → IsFoundItem w after e → InterfacesSoFar w old new after rest
+interfaces_step w old mid new before after e rest h extends grows finds still here = record {
+  done = h.done ++ e ∷ [];
+  split = append_assoc h.done (e ∷ []) rest ∙ h.split;
+  extends = extends_then old mid new h.extends extends;
+  grows =
+      let marks : flat_map (import_marked own_names w) (flat_map (interface_entry w) (h.done ++ e ∷ [])) ≡ flat_map (import_marked own_names w) (flat_map (interface_entry w) h.done) ++ flat_map (import_marked own_names w) (interface_entry w e) =
+      ap (flat_map (import_marked own_names w)) (entries_push w h.done e) ∙ flat_map-append (import_marked own_names w) (flat_map (interface_entry w) h.done) (interface_entry w e) in
+      subst (λ m. Grows w old.defs new.defs m) (sym marks) (Grows-then h.grows grows);
+  finds = finds;
+  found = AllByRecursion-join (IsFoundItem w after) h.done (e ∷ []) (AllByRecursion-weaker (still_found w before after still) h.done h.found) (here, tt);
+}
+
+-- no item is left
+module _ (w : ComponentWorld) (old new : Built) (instances : List (InterfaceId × ℕ)) (h : InterfacesSoFar w old new instances []) where
+  all_done : h.done ≡ (items_of w).imports
+  all_done = sym (append-nil h.done) ∙ h.split
+
+  pub interfaces_done : Grows w old.defs new.defs (interfaces_marked w)
+  interfaces_done = subst (λ es. Grows w old.defs new.defs (flat_map (import_marked own_names w) (flat_map (interface_entry w) es))) all_done h.grows
+
+  pub interfaces_found : FindsUsedInterfaces w instances
+  interfaces_found = record {
+    each = λ key id c. AllByRecursion-contains (IsFoundItem w instances) (items_of w).imports (key, world_items.Interface id) (subst (AllByRecursion (IsFoundItem w instances)) all_done h.found) c;
+  }
+
+-- ---- the next interface
+
+named_plain : (r : Resolve) (key : WorldKey) (id : InterfaceId) → IsImportItem r (key, world_items.Interface id) → AllByRecursion (IsNamedPlain r.types) (functions_of r id)
+named_plain r (keys.Name text) id h = h
+named_plain r (keys.Interface other) id h = h
+
+-- no type of an interface is needed
+none_needed : (id : InterfaceId) (table : List (InterfaceId × List TypeId)) → AllByRecursion (λ e. e.1 ≡ []) table → unwrap_or (lookup (λ (other : InterfaceId). id.index == other.index) table) [] ≡ []
+none_needed id [] h = refl
+none_needed id (e ∷ es) h = by (id.index == e.0.index)
+  where
+    by : (b : Bool) → unwrap_or (cond b (Some e.1) (lookup (λ (other : InterfaceId). id.index == other.index) es)) [] ≡ []
+    by true = h.0
+    by false = none_needed id es h.1
+
+pub names_are_used : (w : ComponentWorld) (id : InterfaceId) → needed_types w id ≡ [] → names_of_interface w id ≡ used_functions_of w id
+names_are_used w id none = ap (λ ids. map (type_name w) ids ++ used_functions_of w id) none
+
+entry_used : (w : ComponentWorld) (key : WorldKey) (id : InterfaceId) (names : List (List ℕ)) → names ≢ [] → unless_empty names (ImportedInterface key id) ≡ ImportedInterface key id ∷ []
+entry_used w key id [] some = absurd (some refl)
+entry_used w key id (name ∷ names) some = refl
+
+-- where no function is used, the interface is not imported
+pub entry_unused : (w : ComponentWorld) (key : WorldKey) (id : InterfaceId) → needed_types w id ≡ [] → used_functions_of w id ≡ [] → interface_entry w (key, world_items.Interface id) ≡ []
+entry_unused w key id none unused = ap (λ names. unless_empty names (ImportedInterface key id)) (names_are_used w id none ∙ unused)
+
+-- where one is, it is
+pub entry_is : (w : ComponentWorld) (key : WorldKey) (id : InterfaceId) → needed_types w id ≡ [] → used_functions_of w id ≢ [] → interface_entry w (key, world_items.Interface id) ≡ ImportedInterface key id ∷ []
+entry_is w key id none some = ap (λ names. unless_empty names (ImportedInterface key id)) (names_are_used w id none) ∙ entry_used w key id (used_functions_of w id) some
+
+pub next_interface : (w : ComponentWorld) (old mid : Built) (instances : List (InterfaceId × ℕ)) (e : WorldKey × WorldItem) (rest : List (WorldKey × WorldItem)) → IsEncodable w → imports_in old.defs ≡ 0 → InterfacesSoFar w old mid instances (e ∷ rest) → IsNextInterfaceItem w mid.defs e
+next_interface w old mid instances (key, world_items.Function f) rest ok first h = tt
+next_interface w old mid instances (key, world_items.NamedType id) rest ok first h = tt
+next_interface w old mid instances (key, world_items.Interface id) rest ok first h =
+    let e : WorldKey × WorldItem = (key, world_items.Interface id) in
+    let none : needed_types w id ≡ [] = none_needed id w.live_type_imports ok.none_live in
+    record {
+      has_key = (entry_sound w ok h.done rest e h.split).0;
+      present = (entry_sound w ok h.done rest e h.split).1;
+      plain = named_plain w.resolve key id ((AllByRecursion-back (IsImportItem w.resolve) h.done (e ∷ rest) (subst (AllByRecursion (IsImportItem w.resolve)) (sym h.split) ok.valid.imports)).0);
+      bare = (AllByRecursion-back (λ (x : WorldKey × WorldItem). IsBare w.resolve x.1) h.done (e ∷ rest) (subst (AllByRecursion (λ (x : WorldKey × WorldItem). IsBare w.resolve x.1)) (sym h.split) ok.interfaces)).0;
+      unneeded = none;
+      stated = λ some.
+          let done = flat_map (interface_entry w) h.done in
+          let more = flat_map (interface_entry w) rest in
+          let count : imports_in mid.defs ≡ length done = interfaces_counted_of w old.defs mid.defs h.done first h.grows in
+          let all : interface_entries w ≡ (done ++ ImportedInterface key id ∷ []) ++ more =
+          ap (flat_map (interface_entry w)) (sym h.split) ∙ (flat_map-append (interface_entry w) h.done (e ∷ rest)
+          ∙ (ap (λ l. done ++ (l ++ more)) (entry_is w key id none some) ∙ sym (append_assoc done (ImportedInterface key id ∷ []) more))) in
+          let there : slice_get (interface_entries w) (length done) ≡ Some (ImportedInterface key id) =
+          ap (λ l. slice_get l (length done)) all ∙ slice_get-append (done ++ ImportedInterface key id ∷ []) more (length done) (ImportedInterface key id) (slice_get-end done (ImportedInterface key id)) in
+          ap (slice_get (import_entries w)) count ∙ slice_get-append (interface_entries w) (map (λ (t : List ℕ × TypeId). WorldType t.0 t.1) (imported_types w) ++ map RootFunction (used_functions w)) (length done) (ImportedInterface key id) there;
+    }
