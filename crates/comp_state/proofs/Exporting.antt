@@ -19,7 +19,8 @@ use Rattle.wit_data.specs.declared.worlds.WorldItem.{WorldItem}
 use Rattle.wit_data.specs.declared.worlds.WorldItem.TheVariants as world_items
 use Rattle.std.specs.Map.{lookup}
 use Rattle.std.proofs.lemmas.Slice.Eq.{bytes_eq-Decides}
-use Rattle.comp_worlds.specs.Worlds.{IsWorld, IsRequired, IsExportRole, IsExportItem, items_of, root_function, exported_functions, core_name_of, core_imports}
+use Rattle.comp_worlds.specs.Encodable.{IsEncodable}
+use Rattle.comp_worlds.specs.Worlds.{IsRequired, IsExportRole, IsExportItem, items_of, root_function, exported_functions, core_name_of, core_imports}
 use Rattle.wit_data.specs.declared.worlds.WorldKey.{WorldKey}
 use Rattle.comp_worlds.specs.declared.world.ComponentWorld.{ComponentWorld}
 use Rattle.comp_state.specs.declared.fault.StateFault.{StateFault}
@@ -32,7 +33,7 @@ use Rattle.comp_trees.specs.Trees.{FunctionTree}
 use Rattle.comp_terms.specs.Planned.{type_of_function}
 use Rattle.std.specs.Option.{option_map, option_and_then}
 use Rattle.comp_links.specs.Targets.{Main, Lifted}
-use Rattle.comp_links.specs.Lists.{plain_name}
+use Rattle.comp_links.specs.Naming.{plain_name}
 use Rattle.core_types.specs.declared.types.FuncType.{FuncType}
 use Rattle.std.proofs.lemmas.Option.{none-some, same_Some}
 use Rattle.std.specs.Str.{bytes_eq}
@@ -99,14 +100,14 @@ abbrev pub main_export : List ℕ → CoreExport
 main_export name = record { of = 0; kind = kinds.Func; name = name }
 
 -- an alias of a core export of main that implements a root function, or an earlier one
-pub grows_alias : (w : ComponentWorld) (old new : List Def) (instance : ℕ) (key : WorldKey) (name : List ℕ) → IsWorld w → IsInstanceOf old instance 0 → core_name_of w key ≡ Some name →
+pub grows_alias : (w : ComponentWorld) (old new : List Def) (instance : ℕ) (key : WorldKey) (name : List ℕ) → IsEncodable w → IsInstanceOf old instance 0 → core_name_of w key ≡ Some name →
     MayAdd old new (defs.Item (items.Alias (aliases.CoreExport kinds.Func instance name))) → Grows w old new []
 grows_alias w old new instance key name ok of role adds =
     let o : OffersFunction w name = by key role in
     Grows-may (defs.Item (items.Alias (aliases.CoreExport kinds.Func instance name))) refl adds (record { number = 0; of = main_module w; type = o.0; is = of; listed = refl; offered = o.1 })
   where
     by : (key : WorldKey) → core_name_of w key ≡ Some name → OffersFunction w name
-    by (keys.Name text) e = root_offered w text name w.main.exports.exports ok.main.export_roles ok.main.exported e
+    by (keys.Name text) e = root_offered w text name w.main.exports.exports ok.valid.main.export_roles ok.valid.main.exported e
     by (keys.Interface id) e = absurd (none-some name e)
 
 pub record AddsLift (w : ComponentWorld) (old new : List Def) (index : ℕ) (key : WorldKey) : Type 0 where
@@ -167,9 +168,9 @@ pub exports_done : (w : ComponentWorld) (old new : Built) (keys : List WorldKey)
 exports_done w old new keys i e h = subst (λ ks. ExportsSoFar w old new ks) (take_all i keys (omega (arith, e))) h
 
 -- a required key has a core export in main
-pub key_has_core_name : (w : ComponentWorld) (keys : List WorldKey) → IsWorld w → keys ≡ w.main_exports → (i : ℕ) (key : WorldKey) → i < length keys → key ≡ get_or keys i key → IsSome (core_name_of w key)
+pub key_has_core_name : (w : ComponentWorld) (keys : List WorldKey) → IsEncodable w → keys ≡ w.main_exports → (i : ℕ) (key : WorldKey) → i < length keys → key ≡ get_or keys i key → IsSome (core_name_of w key)
 key_has_core_name w keys valid same i key l is =
-    let all : AllByRecursion (IsRequired w w.main) keys = subst (λ ks. AllByRecursion (IsRequired w w.main) ks) (sym same) valid.main.required in
+    let all : AllByRecursion (IsRequired w w.main) keys = subst (λ ks. AllByRecursion (IsRequired w w.main) ks) (sym same) valid.valid.main.required in
     let one : IsRequired w w.main key = AllByRecursion-at (IsRequired w w.main) keys i key all l (sym is) in one.present
 
 -- a refusal of a required export is one of the world's
@@ -206,16 +207,16 @@ function_at types ((keys.Name t, world_items.Function f) ∷ es) text h c = by (
     by false same (inr k) rest = let r = rest k in record { function = r.function; is = ap (λ b. cond (b && true) (Some (world_items.Function f)) (lookup (is_same_key (keys.Name text)) es)) same ∙ r.is }
 function_at types (e ∷ es) text h c = absurd h.0
 
-pub key_function : (w : ComponentWorld) → IsWorld w → (key : WorldKey) → IsSome (core_name_of w key) → FindsFunction (items_of w).exports key
+pub key_function : (w : ComponentWorld) → IsEncodable w → (key : WorldKey) → IsSome (core_name_of w key) → FindsFunction (items_of w).exports key
 key_function w ok (keys.Name text) some = by (found text (flat_map root_export w.main.exports.exports)) refl some
   where
     by : (o : Option (List ℕ)) → found text (flat_map root_export w.main.exports.exports) ≡ o → IsSome o → FindsFunction (items_of w).exports (keys.Name text)
-    by (Some name) e h = function_at w.resolve.types (items_of w).exports text ok.exports (name_exported w text name w.main.exports.exports ok.main.export_roles e)
+    by (Some name) e h = function_at w.resolve.types (items_of w).exports text ok.valid.exports (name_exported w text name w.main.exports.exports ok.valid.main.export_roles e)
     by None e h = absurd (true≢false (sym h))
 key_function w ok (keys.Interface id) some = absurd (true≢false (sym some))
 
 -- the world's function at a key
-pub function_there : (w : ComponentWorld) → IsWorld w → (key : WorldKey) → IsSome (core_name_of w key) → IsSome (root_function_at (items_of w).exports key)
+pub function_there : (w : ComponentWorld) → IsEncodable w → (key : WorldKey) → IsSome (core_name_of w key) → IsSome (root_function_at (items_of w).exports key)
 function_there w ok key some = let f = key_function w ok key some in subst (λ o. IsSome o) (sym (ap (option_and_then function_in) f.is)) refl
 
 item_there : (es : List (WorldKey × WorldItem)) (P : WorldKey × WorldItem → Type 0) (key : WorldKey) (item : WorldItem) → AllByRecursion P es → lookup (is_same_key key) es ≡ Some item → (k : WorldKey) × P (k, item)
@@ -232,10 +233,10 @@ world_at r (x ∷ xs) zero l h = h.0
 world_at r (x ∷ xs) (suc n) l h = world_at r xs n (omega (arith, l)) h.1
 
 -- its types are in the resolve
-pub function_sound : (w : ComponentWorld) → IsWorld w → (key : WorldKey) → IsSome (core_name_of w key) → (f : Function) → root_function_at (items_of w).exports key ≡ Some f → HasFunction w.resolve f
+pub function_sound : (w : ComponentWorld) → IsEncodable w → (key : WorldKey) → IsSome (core_name_of w key) → (f : Function) → root_function_at (items_of w).exports key ≡ Some f → HasFunction w.resolve f
 function_sound w ok key some f e =
     let k = key_function w ok key some in
     let same : k.function ≡ f = same_Some k.function f (sym (ap (option_and_then function_in) k.is) ∙ e) in
-    let exports = (world_at w.resolve w.resolve.worlds w.world.index ok.present ok.sound.worlds).exports in
+    let exports = (world_at w.resolve w.resolve.worlds w.world.index ok.valid.present ok.sound.worlds).exports in
     let there = item_there (items_of w).exports (HasEntry w.resolve) key (world_items.Function k.function) exports k.is in
     subst (λ x. HasFunction w.resolve x) same there.1.1

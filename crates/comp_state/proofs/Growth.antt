@@ -16,9 +16,11 @@ use Rattle.comp_trees.specs.Trees.{FunctionTree}
 use Rattle.wit_data.specs.declared.worlds.WorldKey.{WorldKey}
 use Rattle.comp_roles.specs.declared.imports.Import.{Import}
 use Rattle.comp_roles.specs.declared.imports.ImportInstance.{ImportInstance}
-use Rattle.comp_worlds.specs.Worlds.{IsWorld, IsImportRole}
+use Rattle.comp_worlds.specs.Encodable.{IsEncodable}
+use Rattle.comp_worlds.specs.Worlds.{IsImportRole}
 use Rattle.comp_worlds.specs.declared.world.ComponentWorld.{ComponentWorld}
-use Rattle.comp_links.specs.Targets.{Main, UserModule, Target, OfRoot, Lowered, Dropped}
+use Rattle.comp_links.specs.Targets.{Main, UserModule, Target, OfRoot, OfInterface, Lowered, Dropped}
+use Rattle.wit_data.specs.declared.ids.InterfaceId.{InterfaceId}
 use Rattle.wit_data.specs.declared.ids.TypeId.{TypeId}
 use Rattle.comp_links.specs.Links.{link_of}
 use Rattle.comp_terms.specs.Terms.{CoreExport, Term, IsInstanceOf, Is}
@@ -37,6 +39,8 @@ use Rattle.comp_imports.specs.Imports.{FindsImports, FindsUsed}
 use Rattle.wit_types.specs.Maps.{no_maps}
 use Rattle.comp_imports.proofs.Growth.{tables_kept, tables_start}
 use Rattle.comp_imports.proofs.Finding.{FindsImports-kept}
+use Rattle.comp_imports.specs.Interfaces.{FindsInterfaces, FindsUsedInterfaces}
+use Rattle.comp_imports.proofs.InterfaceLoop.{FindsInterfaces-kept}
 use Rattle.std.proofs.lemmas.Option.{same_Some}
 use Rattle.comp_state.specs.declared.state.Step.{Step}
 use Rattle.comp_state.specs.declared.state.Step.TheVariants.{Started, Imported, Instantiated}
@@ -70,8 +74,8 @@ module _ {w : ComponentWorld} {old new : List Def} (g : Longer old new) where
 
 -- ---- the look-ups hold what they held
 
-pub sources-kept : {w : ComponentWorld} {s : ImportSources} {last : Option TypeId} {old new : Built} {maps : TypeEncodingMaps} → Extends old new → AreSources w s last old.defs maps → AreSources w s last new.defs maps
-sources-kept {w} {s} {last} {old} {new} {maps} g h = record { valid = h.valid; imports = FindsImports-kept (longer g) h.imports; used = h.used; tables = tables_kept w last old new maps g h.tables; passed = h.passed }
+pub sources-kept : {w : ComponentWorld} {s : ImportSources} {last : Option TypeId} {old new : Built} {maps : TypeEncodingMaps} {instances : List (InterfaceId × ℕ)} → Extends old new → AreSources w s last old.defs maps instances → AreSources w s last new.defs maps instances
+sources-kept {w} {s} {last} {old} {new} {maps} {instances} g h = record { valid = h.valid; imports = FindsImports-kept (longer g) h.imports; used = h.used; interfaces = FindsInterfaces-kept (longer g) h.interfaces; reached = h.reached; tables = tables_kept w last old new maps g h.tables; passed = h.passed }
 
 pub exports-kept : {w : ComponentWorld} {e : MainExports} {last : Option TypeId} {old new : Built} {maps now : TypeEncodingMaps} → Extends old new → AreTablesRight w last new.defs now → AreExports w e last old.defs maps → AreExports w e last new.defs now
 exports-kept g t h = record { valid = h.valid; named = h.named; made = instance-kept (longer g) h.made; tables = t; passed = h.passed }
@@ -80,56 +84,75 @@ main-kept : {old new : Built} {main : Option ℕ} → Extends old new → IsMain
 main-kept g h = record { index = h.index; known = h.known; made = instance-kept (longer g) h.made }
 
 -- before the first step
-pub encoding-start : (w : ComponentWorld) (items : Built) (maps : TypeEncodingMaps) (functions : List (List ℕ × ℕ)) (core_names : List (List ℕ × List ℕ)) → IsWorld w → maps ≡ no_maps → FindsCoreNames w core_names → IsEncoding w None items.defs maps Started functions core_names None
-encoding-start w items maps functions core_names ok none named = record {
+pub encoding-start : (w : ComponentWorld) (items : Built) (maps : TypeEncodingMaps) (instances : List (InterfaceId × ℕ)) (functions : List (List ℕ × ℕ)) (core_names : List (List ℕ × List ℕ)) → IsEncodable w → maps ≡ no_maps → FindsCoreNames w core_names →
+    IsEncoding w None items.defs maps instances Started functions core_names None
+encoding-start w items maps instances functions core_names ok none named = record {
   valid = ok;
   named = named;
   tables = subst (λ m. AreTablesRight w None items.defs m) (sym none) (tables_start w items.defs);
   passed = λ s. absurd s;
   imports = λ s. absurd s;
   used = λ s. absurd s;
+  interfaces = λ s. absurd s;
+  reached = λ s. absurd s;
   made = λ e. cc;
 }
 
--- the root has grown, and its tables are right
-pub encoding-with : {w : ComponentWorld} {last after : Option TypeId} {old new : Built} {maps now : TypeEncodingMaps} {step : Step} {functions : List (List ℕ × ℕ)} {core_names : List (List ℕ × List ℕ)} {main : Option ℕ} → Extends old new → AreTablesRight w after new.defs now → (AreImported step → ArePassed w after) →
-    IsEncoding w last old.defs maps step functions core_names main → IsEncoding w after new.defs now step functions core_names main
-encoding-with g t p h = record { valid = h.valid; named = h.named; tables = t; passed = p; imports = λ s. FindsImports-kept (longer g) (h.imports s); used = h.used; made = λ s. main-kept g (h.made s) }
+module _ {w : ComponentWorld} {last after : Option TypeId} {old new : Built} {maps now : TypeEncodingMaps} {before instances : List (InterfaceId × ℕ)} {step : Step} {functions : List (List ℕ × ℕ)} {core_names : List (List ℕ × List ℕ)} {main : Option ℕ} where
+  -- the root has grown, and its tables are right
+  pub encoding-with : Extends old new → AreTablesRight w after new.defs now → (AreImported step → ArePassed w after) → (AreImported step → instances ≡ before) → IsEncoding w last old.defs maps before step functions core_names main →
+      IsEncoding w after new.defs now instances step functions core_names main
+  encoding-with g t p same h = record {
+    valid = h.valid;
+    named = h.named;
+    tables = t;
+    passed = p;
+    imports = λ s. FindsImports-kept (longer g) (h.imports s);
+    used = h.used;
+    interfaces = λ s. subst (FindsInterfaces w new.defs) (sym (same s)) (FindsInterfaces-kept (longer g) (h.interfaces s));
+    reached = λ s. subst (FindsUsedInterfaces w) (sym (same s)) (h.reached s);
+    made = λ s. main-kept g (h.made s);
+  }
 
--- the component has grown
-pub encoding-kept : {w : ComponentWorld} {last : Option TypeId} {old new : Built} {maps : TypeEncodingMaps} {step : Step} {functions : List (List ℕ × ℕ)} {core_names : List (List ℕ × List ℕ)} {main : Option ℕ} → Extends old new →
-    IsEncoding w last old.defs maps step functions core_names main → IsEncoding w last new.defs maps step functions core_names main
-encoding-kept {w} {last} {old} {new} {maps} g h = encoding-with g (tables_kept w last old new maps g h.tables) h.passed h
+module _ {w : ComponentWorld} {last : Option TypeId} {old new : Built} {maps : TypeEncodingMaps} {instances : List (InterfaceId × ℕ)} {step : Step} {functions : List (List ℕ × ℕ)} {core_names : List (List ℕ × List ℕ)} {main : Option ℕ} where
+  -- the component has grown
+  pub encoding-kept : Extends old new → IsEncoding w last old.defs maps instances step functions core_names main → IsEncoding w last new.defs maps instances step functions core_names main
+  encoding-kept g h = encoding-with {last = last} {old = old} {new = new} g (tables_kept w last old new maps g h.tables) h.passed (λ s. refl) h
 
--- after the imports, and after the instance of main
-pub encoding-imported : {w : ComponentWorld} {last after : Option TypeId} {old new : List Def} {maps now : TypeEncodingMaps} {step : Step} {before functions : List (List ℕ × ℕ)} {core_names : List (List ℕ × List ℕ)} {main : Option ℕ} → AreTablesRight w after new now → ArePassed w after → FindsImports w new functions →
-    FindsUsed w functions → IsEncoding w last old maps step before core_names main → IsEncoding w after new now Imported functions core_names main
-encoding-imported t p i u h = record { valid = h.valid; named = h.named; tables = t; passed = λ _. p; imports = λ _. i; used = λ _. u; made = λ e. cc }
+  -- after the instance of main
+  pub encoding-instantiated : (index : ℕ) → Extends old new → AreImported step → IsInstanceOf new.defs index 0 → IsEncoding w last old.defs maps instances step functions core_names main →
+      IsEncoding w last new.defs maps instances Instantiated functions core_names (Some index)
+  encoding-instantiated index g s made h = record {
+    valid = h.valid;
+    named = h.named;
+    tables = tables_kept w last old new maps g h.tables;
+    passed = λ _. h.passed s;
+    imports = λ _. FindsImports-kept (longer g) (h.imports s);
+    used = λ _. h.used s;
+    interfaces = λ _. FindsInterfaces-kept (longer g) (h.interfaces s);
+    reached = λ _. h.reached s;
+    made = λ _. record { index = index; known = refl; made = made };
+  }
 
-pub encoding-instantiated : {w : ComponentWorld} {last : Option TypeId} {old new : Built} {maps : TypeEncodingMaps} {step : Step} {functions : List (List ℕ × ℕ)} {core_names : List (List ℕ × List ℕ)} {main : Option ℕ} (index : ℕ) → Extends old new → AreImported step →
-    IsInstanceOf new.defs index 0 → IsEncoding w last old.defs maps step functions core_names main → IsEncoding w last new.defs maps Instantiated functions core_names (Some index)
-encoding-instantiated {w} {last} {old} {new} {maps} index g s made h = record {
-  valid = h.valid;
-  named = h.named;
-  tables = tables_kept w last old new maps g h.tables;
-  passed = λ _. h.passed s;
-  imports = λ _. FindsImports-kept (longer g) (h.imports s);
-  used = λ _. h.used s;
-  made = λ _. record { index = index; known = refl; made = made };
-}
+-- after the imports
+pub encoding-imported : {w : ComponentWorld} {last after : Option TypeId} {old new : List Def} {maps now : TypeEncodingMaps} {first instances : List (InterfaceId × ℕ)} {step : Step} {before functions : List (List ℕ × ℕ)} {core_names : List (List ℕ × List ℕ)} {main : Option ℕ} →
+    AreTablesRight w after new now → ArePassed w after → FindsImports w new functions → FindsUsed w functions → FindsInterfaces w new instances → FindsUsedInterfaces w instances → IsEncoding w last old maps first step before core_names main →
+    IsEncoding w after new now instances Imported functions core_names main
+encoding-imported t p i u n r h = record { valid = h.valid; named = h.named; tables = t; passed = λ _. p; imports = λ _. i; used = λ _. u; interfaces = λ _. n; reached = λ _. r; made = λ e. cc }
 
 -- what the steps read of a state
-pub sources_of : (w : ComponentWorld) (s : ImportSources) {last : Option TypeId} {ds : List Def} {maps : TypeEncodingMaps} {step : Step} {core_names : List (List ℕ × List ℕ)} {main : Option ℕ} → IsEncoding w last ds maps step s.functions.now core_names main → AreImported step →
-    AreSources w s last ds maps
-sources_of w s h i = record { valid = h.valid; imports = h.imports i; used = h.used i; tables = h.tables; passed = h.passed i }
+pub sources_of : (w : ComponentWorld) (s : ImportSources) {last : Option TypeId} {ds : List Def} {maps : TypeEncodingMaps} {instances : List (InterfaceId × ℕ)} {step : Step} {core_names : List (List ℕ × List ℕ)} {main : Option ℕ} →
+    IsEncoding w last ds maps instances step s.functions.now core_names main → AreImported step → AreSources w s last ds maps instances
+sources_of w s h i = record { valid = h.valid; imports = h.imports i; used = h.used i; interfaces = h.interfaces i; reached = h.reached i; tables = h.tables; passed = h.passed i }
 
-pub exports_of : (w : ComponentWorld) (e : MainExports) {last : Option TypeId} {ds : List Def} {maps : TypeEncodingMaps} {step : Step} {functions : List (List ℕ × ℕ)} {main : Option ℕ} → IsEncoding w last ds maps step functions e.core_names.now main → step ≡ Instantiated → main ≡ Some e.instance →
-    AreExports w e last ds maps
+pub exports_of : (w : ComponentWorld) (e : MainExports) {last : Option TypeId} {ds : List Def} {maps : TypeEncodingMaps} {instances : List (InterfaceId × ℕ)} {step : Step} {functions : List (List ℕ × ℕ)} {main : Option ℕ} →
+    IsEncoding w last ds maps instances step functions e.core_names.now main → step ≡ Instantiated → main ≡ Some e.instance → AreExports w e last ds maps
 exports_of w e {last} {ds} h i known =
     let m = h.made i in
     record { valid = h.valid; named = h.named; made = subst (λ n. IsInstanceOf ds n 0) (same_Some m.index e.instance (sym m.known ∙ known)) m.made; tables = h.tables; passed = h.passed (subst AreImported (sym i) tt) }
 
-pub main_known : {w : ComponentWorld} {last : Option TypeId} {ds : List Def} {maps : TypeEncodingMaps} {step : Step} {functions : List (List ℕ × ℕ)} {core_names : List (List ℕ × List ℕ)} {main : Option ℕ} → IsEncoding w last ds maps step functions core_names main → step ≡ Instantiated → IsSome main
+pub main_known : {w : ComponentWorld} {last : Option TypeId} {ds : List Def} {maps : TypeEncodingMaps} {instances : List (InterfaceId × ℕ)} {step : Step} {functions : List (List ℕ × ℕ)} {core_names : List (List ℕ × List ℕ)} {main : Option ℕ} →
+    IsEncoding w last ds maps instances step functions core_names main → step ≡ Instantiated → IsSome main
 main_known h i = let m = h.made i in subst (λ o. IsSome o) (sym m.known) refl
 
 -- ---- the entries of an inline instance are core functions
@@ -145,6 +168,13 @@ entries_in_range w ds (e ∷ es) (f ∷ fs) r h = (one e f.1 r.0 h.0.serves, ent
     by_kind kinds.Global index text (terms.Lowering origin type os) is asked = absurd is
     by_kind kind index text t is asked = absurd asked
 
+    inside : (kind : ExportKind) (index : ℕ) (id : InterfaceId) (text : List ℕ) (t : Term) → Is ds (kind_space kind) index t → IsTermFor w (Lowered (OfInterface id text) []) t → (kind ≡ kinds.Func) × (index < items_in spaces.CoreFunc ds)
+    inside kinds.Func index id text (terms.Lowering origin type os) is asked = (refl, in_range is.made)
+    inside kinds.Table index id text (terms.Lowering origin type os) is asked = absurd is
+    inside kinds.Memory index id text (terms.Lowering origin type os) is asked = absurd is
+    inside kinds.Global index id text (terms.Lowering origin type os) is asked = absurd is
+    inside kind index id text t is asked = absurd asked
+
     dropped : (kind : ExportKind) (index : ℕ) (id : TypeId) (t : Term) → Is ds (kind_space kind) index t → IsTermFor w (Dropped id) t → (kind ≡ kinds.Func) × (index < items_in spaces.CoreFunc ds)
     dropped kinds.Func index id (terms.Dropping resource) is asked = (refl, in_range is.made)
     dropped kinds.Table index id (terms.Dropping resource) is asked = absurd is
@@ -154,6 +184,7 @@ entries_in_range w ds (e ∷ es) (f ∷ fs) r h = (one e f.1 r.0 h.0.serves, ent
 
     one : (e : CoreInlineExport) (role : Import) → IsImportRole w role → IsItemFor w ds (kind_space e.kind) e.index (link_of w Main role) → IsEntry ds e
     one e (imports.WorldFunc (keys.Name text) function abi) r h = let b = by_kind e.kind e.index text h.term h.is h.asked in record { kind = b.0; scoped = b.1 }
+    one e (imports.InterfaceFunc key id function abi) r h = let b = inside e.kind e.index id function h.term h.is h.asked in record { kind = b.0; scoped = b.1 }
     one e (imports.ImportedResourceDrop key interface id) r h = let b = dropped e.kind e.index id h.term h.is h.asked in record { kind = b.0; scoped = b.1 }
     one e role r h = absurd r
 entries_in_range w ds [] (f ∷ fs) r h = absurd h

@@ -26,7 +26,8 @@ use Rattle.comp_bytes.specs.declared.types.Description.TheVariants as descriptio
 use Rattle.comp_bytes.specs.ItemIndices.{IsAt, in_space}
 use Rattle.comp_bytes.specs.Spaces.{items_in, is_space, space_of, sort_space, alias_space, description_space}
 use Rattle.comp_roles.specs.CoreImports.{CoreImport, imports_from, fields_of}
-use Rattle.comp_worlds.specs.Worlds.{core_imports, imported_name, IsImportRole, IsImportGroup, IsWorld}
+use Rattle.comp_worlds.specs.Encodable.{IsEncodable}
+use Rattle.comp_worlds.specs.Worlds.{core_imports, imported_name, IsImportRole, IsImportGroup}
 use Rattle.comp_roles.specs.declared.imports.Import.{Import}
 use Rattle.comp_roles.specs.declared.imports.ImportInstance.{ImportInstance}
 use Rattle.comp_roles.specs.declared.imports.ImportInstance.TheVariants as instances
@@ -36,19 +37,20 @@ use Rattle.comp_items.proofs.Extending.{extends_none, extends_then}
 use Rattle.comp_state.specs.Causes.{IsCauseAmong, IsCause}
 use Rattle.comp_state.specs.declared.fault.StateFault.{StateFault}
 use Rattle.comp_links.specs.Targets.{Main}
-use Rattle.comp_links.specs.Lists.{Stated}
+use Rattle.comp_links.specs.Naming.{Naming}
+use Rattle.comp_links.specs.Lists.{ImportEntry, ImportedInterface, WorldType, RootFunction, import_entries}
 use Rattle.comp_terms.specs.Planned.{IsEntryFor, IsArgumentFor}
 use Rattle.comp_links.specs.Roles.{IsEncodedImport, is_named, is_any_import, uses_from, is_used}
-use Rattle.comp_terms.specs.Rules.{Grows, Imported, landmarks}
+use Rattle.comp_terms.specs.Rules.{Grows, Landmark, ModuleIs, import_marked, imports_marked, landmarks}
 use Rattle.comp_imports.proofs.Elements.{contains_one, contains_none, contains_cons, contains_flat, AllByRecursion-join}
 use Rattle.comp_state.proofs.Refusals.{among_more}
 use Rattle.comp_imports.specs.Growing.{longer_by, Grows-none, Grows-by, Grows-then}
 use Rattle.comp_state.proofs.Growth.{IsEntryFor-kept, IsArgumentFor-kept, entries_in_range}
 
 -- a core import of the world has a role of the world
-pub import_role : (w : ComponentWorld) → IsWorld w → (name field : List ℕ) (role : Import) → Contains (core_imports w) (record { module_name = name; field = field; role = role }) → IsImportRole w role
+pub import_role : (w : ComponentWorld) → IsEncodable w → (name field : List ℕ) (role : Import) → Contains (core_imports w) (record { module_name = name; field = field; role = role }) → IsImportRole w role
 import_role w valid name field role present =
-    AllByRecursion-contains (λ (i : CoreImport). IsImportRole w i.role) (core_imports w) (record { module_name = name; field = field; role = role }) (groups w.main.imports.modules valid.main.import_roles) present
+    AllByRecursion-contains (λ (i : CoreImport). IsImportRole w i.role) (core_imports w) (record { module_name = name; field = field; role = role }) (groups w.main.imports.modules valid.valid.main.import_roles) present
   where
     fields : (name : List ℕ) (fs : List (List ℕ × Import)) → AllByRecursion (λ f. IsImportRole w f.1) fs →
         AllByRecursion (λ (i : CoreImport). IsImportRole w i.role) (map (λ f. record { module_name = name; field = f.0; role = f.1 }) fs)
@@ -180,11 +182,11 @@ pub record ServesGroup (w : ComponentWorld) (mid new : List Def) (argument : Cor
   pub grows : Grows w mid new []
   pub serves : IsArgumentFor w Main new argument group
 
-group_roles : (w : ComponentWorld) → IsWorld w → (name : List ℕ) (fields : List (List ℕ × Import)) → Contains w.main.imports.modules (name, instances.Names fields) → AllByRecursion (λ f. IsImportRole w f.1) fields
+group_roles : (w : ComponentWorld) → IsEncodable w → (name : List ℕ) (fields : List (List ℕ × Import)) → Contains w.main.imports.modules (name, instances.Names fields) → AllByRecursion (λ f. IsImportRole w f.1) fields
 group_roles w valid name fields present =
-    let g : IsImportGroup w (name, instances.Names fields) = AllByRecursion-contains (IsImportGroup w) w.main.imports.modules (name, instances.Names fields) valid.main.import_roles present in g.1
+    let g : IsImportGroup w (name, instances.Names fields) = AllByRecursion-contains (IsImportGroup w) w.main.imports.modules (name, instances.Names fields) valid.valid.main.import_roles present in g.1
 
-pub serve_group : (w : ComponentWorld) → IsWorld w → (mid new : Built) (index : ℕ) (entries : List CoreInlineExport) (name : List ℕ) (fields : List (List ℕ × Import)) → Contains w.main.imports.modules (name, instances.Names fields) →
+pub serve_group : (w : ComponentWorld) → IsEncodable w → (mid new : Built) (index : ℕ) (entries : List CoreInlineExport) (name : List ℕ) (fields : List (List ℕ × Import)) → Contains w.main.imports.modules (name, instances.Names fields) →
     AllZip (IsEntryFor w Main mid.defs) entries fields → IsDistinct bytes_eq (map (λ e. e.name) entries) → new.defs ≡ mid.defs ++ defs.Item (items.CoreExports entries) ∷ [] →
     IsAt new.defs spaces.CoreInstance index (defs.Item (items.CoreExports entries)) → ServesGroup w mid.defs new.defs (record { name = name; instance = index }) (name, instances.Names fields)
 serve_group w valid mid new index entries name fields present each apart appended at =
@@ -243,36 +245,39 @@ description_apart (descriptions.TypeEqual index) = refl
 description_apart descriptions.SubResource = refl
 description_apart (descriptions.Instance index) = refl
 
-abbrev rest_of : {X : Type 0} → List X → List X
-rest_of [] = []
-rest_of (x ∷ xs) = xs
+-- a landmark of something else than a core module
+abbrev pub IsNoModule : Landmark → Type 0
+IsNoModule (ModuleIs bytes) = ⊥
+IsNoModule mark = Unit {0}
 
-unmarked : (ds : List Def) (names : List Stated) → landmarks ds ≡ map Imported names → in_space spaces.CoreModule ds ≡ []
-unmarked [] names h = refl
-unmarked (defs.Component inner ∷ ds) names h = unmarked ds names h
-unmarked (defs.Item (items.CoreModule bytes) ∷ ds) [] h = cc
-unmarked (defs.Item (items.CoreModule bytes) ∷ ds) (n ∷ ns) h = cc
-unmarked (defs.Item (items.CoreInstantiate number arguments) ∷ ds) [] h = cc
-unmarked (defs.Item (items.CoreInstantiate number arguments) ∷ ds) (n ∷ ns) h = cc
-unmarked (defs.Item (items.CoreExports entries) ∷ ds) names h = unmarked ds names h
-unmarked (defs.Item (items.Instantiate component arguments) ∷ ds) names h = unmarked ds names h
-unmarked (defs.Item (items.Alias a) ∷ ds) names h = rw (alias_apart a) (unmarked ds names h)
-unmarked (defs.Item (items.Type t) ∷ ds) names h = unmarked ds names h
-unmarked (defs.Item (items.InstanceType t) ∷ ds) [] h = cc
-unmarked (defs.Item (items.InstanceType t) ∷ ds) (n ∷ ns) h = cc
-unmarked (defs.Item (items.Lift core options kind) ∷ ds) names h = unmarked ds names h
-unmarked (defs.Item (items.Lower function options) ∷ ds) names h = unmarked ds names h
-unmarked (defs.Item (items.Intrinsic i) ∷ ds) names h = unmarked ds names h
-unmarked (defs.Item (items.Import name description) ∷ ds) [] h = cc
-unmarked (defs.Item (items.Import name description) ∷ ds) (n ∷ ns) h = rw (description_apart description) (unmarked ds ns (ap rest_of h))
-unmarked (defs.Item (items.Export name sort index description) ∷ ds) [] h = cc
-unmarked (defs.Item (items.Export name sort index description) ∷ ds) (n ∷ ns) h = cc
-unmarked (defs.Item (items.Custom name contents) ∷ ds) [] h = cc
-unmarked (defs.Item (items.Custom name contents) ∷ ds) (n ∷ ns) h = cc
+unmarked : (ds : List Def) → AllByRecursion IsNoModule (landmarks ds) → in_space spaces.CoreModule ds ≡ []
+unmarked [] h = refl
+unmarked (defs.Component inner ∷ ds) h = unmarked ds h
+unmarked (defs.Item (items.CoreModule bytes) ∷ ds) h = absurd h.0
+unmarked (defs.Item (items.CoreInstantiate number arguments) ∷ ds) h = unmarked ds h.1
+unmarked (defs.Item (items.CoreExports entries) ∷ ds) h = unmarked ds h
+unmarked (defs.Item (items.Instantiate component arguments) ∷ ds) h = unmarked ds h
+unmarked (defs.Item (items.Alias a) ∷ ds) h = rw (alias_apart a) (unmarked ds h)
+unmarked (defs.Item (items.Type t) ∷ ds) h = unmarked ds h
+unmarked (defs.Item (items.InstanceType t) ∷ ds) h = unmarked ds h.1
+unmarked (defs.Item (items.Lift core options kind) ∷ ds) h = unmarked ds h
+unmarked (defs.Item (items.Lower function options) ∷ ds) h = unmarked ds h
+unmarked (defs.Item (items.Intrinsic i) ∷ ds) h = unmarked ds h
+unmarked (defs.Item (items.Import name description) ∷ ds) h = rw (description_apart description) (unmarked ds h.1)
+unmarked (defs.Item (items.Export name sort index description) ∷ ds) h = rw (sort_apart sort) (unmarked ds h.1)
+unmarked (defs.Item (items.Custom name contents) ∷ ds) h = unmarked ds h.1
 
--- where nothing but imports has a landmark, there is no core module
-pub no_modules : (ds : List Def) (names : List Stated) → landmarks ds ≡ map Imported names → items_in spaces.CoreModule ds ≡ 0
-no_modules ds names h = sym (length-filter (λ d. is_space spaces.CoreModule (space_of d)) ds) ∙ ap length (unmarked ds names h)
+-- the imports are none
+no_module_imported : (n : Naming) (w : ComponentWorld) (es : List ImportEntry) → AllByRecursion IsNoModule (flat_map (import_marked n w) es)
+no_module_imported n w [] = tt
+no_module_imported n w (ImportedInterface key id ∷ es) = (tt, tt, no_module_imported n w es)
+no_module_imported n w (WorldType name id ∷ es) = (tt, no_module_imported n w es)
+no_module_imported n w (RootFunction name ∷ es) = (tt, no_module_imported n w es)
+
+-- where there are imports alone, there is no core module
+pub no_modules : (n : Naming) (w : ComponentWorld) (ds : List Def) → landmarks ds ≡ imports_marked n w → items_in spaces.CoreModule ds ≡ 0
+no_modules n w ds h =
+    sym (length-filter (λ d. is_space spaces.CoreModule (space_of d)) ds) ∙ ap length (unmarked ds (subst (AllByRecursion IsNoModule) (sym h) (no_module_imported n w (import_entries w))))
 
 fields_encoded : (w : ComponentWorld) (ds : List Def) (name : List ℕ) (es : List CoreInlineExport) (fs : List (List ℕ × Import)) → AllZip (IsEntryFor w Main ds) es fs →
     AllByRecursion (λ (i : CoreImport). IsEncodedImport w i.role) (map (λ f. record { module_name = name; field = f.0; role = f.1 }) fs)

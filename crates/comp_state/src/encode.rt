@@ -4,7 +4,7 @@
 ghost use Rattle.std.specs.Prelude.{◌≡◌, [], ◌∷◌, ◌++◌, List, ℕ, IfOk, IfErr, OnOk, IsOk};
 ghost use Rattle.comp_builder.specs.Naming.{with_names};
 ghost use Rattle.comp_bytes.specs.Scopes.{Scoped};
-ghost use Rattle.comp_worlds.specs.Worlds.{IsWorld};
+ghost use Rattle.comp_worlds.specs.Encodable.{IsEncodable};
 ghost use Rattle.comp_imports.specs.RootScopes.{IsRefusal};
 ghost use Rattle.comp_state.specs.declared.state.Step.TheVariants.{Started};
 ghost use Rattle.comp_state.specs.Causes.{IsCause, LacksEncoding, IsEncoded};
@@ -41,7 +41,7 @@ impl EncodingState<'_> {
         requires started { self.old.step ≡ Started }
         requires empty { self.old.built.defs ≡ [] }
         ensures world { self.new.world ≡ self.old.world }
-        ensures built { OnOk result (IsUnnamed self.old.world self.new.built.defs) }
+        ensures built { OnOk result (IsUnnamed own_names self.old.world self.new.built.defs) }
         ensures encoded { OnOk result (IsEncoded self.old.world) }
         ensures cause { IfErr result (IsCause self.old.world) }
     {
@@ -59,8 +59,8 @@ impl EncodingState<'_> {
 /// encoding (`E9`, with the function), and where a space would have more than 2^32 - 1 items, or a count or a
 /// size among the names would pass that (`E16`).
 pub fn encode_world(alloc: Global, world: &ComponentWorld) -> Result<ComponentBuilder, StateFault>
-    requires { IsWorld world.now }
-    ensures ok { IfOk result (λ component. Scoped component.defs × IsBuilt world.now component.defs) }
+    requires { IsEncodable world.now }
+    ensures ok { IfOk result (λ component. Scoped component.defs × IsBuilt own_names world.now component.defs) }
     ensures refused { IsOk result → (place : List ℕ) → LacksEncoding world.now place → ⊥ }
     ensures cause { IfErr result (IsCause world.now) }
 {

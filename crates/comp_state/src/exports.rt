@@ -10,7 +10,8 @@ ghost use Rattle.comp_state.specs.Causes.{IsCause, IsCauseAmong};
 ghost use Rattle.comp_state.specs.Encoding.{IsRequiredLift};
 ghost use Rattle.comp_state.specs.Tables.{AreExports, FindsCoreNames};
 ghost use Rattle.comp_terms.specs.Rules.{Grows, named_export, exports_marked};
-ghost use Rattle.comp_worlds.specs.Worlds.{IsWorld, items_of, core_name_of};
+ghost use Rattle.comp_worlds.specs.Encodable.{IsEncodable};
+ghost use Rattle.comp_worlds.specs.Worlds.{items_of, core_name_of};
 ghost use Rattle.wit_data.specs.Keys.{name_of_key};
 ghost use Rattle.wit_data.specs.Sound.{HasFunction};
 ghost use Rattle.std.specs.Option.{option_and_then, option_copied};
@@ -53,7 +54,7 @@ fn as_function<'w>(item: Option<&'w WorldItem>) -> &'w Function
 
 /// The function that the world exports at a key.
 fn exported_function<'w>(world: &'w ComponentWorld, key: &WorldKey) -> &'w Function
-    requires valid { IsWorld world.now }
+    requires valid { IsEncodable world.now }
     requires present { IsSome (core_name_of world.now key.now) }
     ensures found { root_function_at (items_of world.now).exports key.now ≡ Some result.now }
     ensures sound { HasFunction world.now.resolve result.now }
@@ -109,6 +110,7 @@ impl MainExports<'_> {
         ensures world { root.new.world ≡ root.old.world }
         ensures extends { Extends root.old.items root.new.items }
         ensures next { root.new.last_type ≡ root.old.last_type }
+        ensures instances { root.new.instances ≡ root.old.instances }
         ensures tables { AreTablesRight root.old.world.now root.old.last_type root.new.items.defs root.new.maps }
         ensures grows { OnOk result (Grows root.old.world.now root.old.items.defs root.new.items.defs []) }
         ensures lifted { IfOk result (λ index. IsRequiredLift root.old.world.now root.new.items.defs index key.now) }
@@ -139,6 +141,7 @@ impl MainExports<'_> {
         ensures world { root.new.world ≡ root.old.world }
         ensures extends { Extends root.old.items root.new.items }
         ensures next { root.new.last_type ≡ root.old.last_type }
+        ensures instances { root.new.instances ≡ root.old.instances }
         ensures tables { AreTablesRight root.old.world.now root.old.last_type root.new.items.defs root.new.maps }
         ensures grows { OnOk result (Grows root.old.world.now root.old.items.defs root.new.items.defs []) }
         ensures lifted { IfOk result (λ index. IsRequiredLift root.old.world.now root.new.items.defs index key.now) }
@@ -160,6 +163,7 @@ impl MainExports<'_> {
         ensures world { root.new.world ≡ root.old.world }
         ensures extends { Extends root.old.items root.new.items }
         ensures next { root.new.last_type ≡ root.old.last_type }
+        ensures instances { root.new.instances ≡ root.old.instances }
         ensures tables { AreTablesRight root.old.world.now root.old.last_type root.new.items.defs root.new.maps }
         ensures grows { OnOk result (Grows root.old.world.now root.old.items.defs root.new.items.defs (named_export (name_of_key key.now) ∷ [])) }
         ensures encoded { OnOk result (IsSome (export_encoding root.old.world.now key.now)) }
@@ -183,6 +187,7 @@ impl MainExports<'_> {
         ensures world { root.new.world ≡ root.old.world }
         ensures extends { Extends root.old.items root.new.items }
         ensures next { root.new.last_type ≡ root.old.last_type }
+        ensures instances { root.new.instances ≡ root.old.instances }
         ensures tables { AreTablesRight root.old.world.now root.old.last_type root.new.items.defs root.new.maps }
         ensures grows { OnOk result (Grows root.old.world.now root.old.items.defs root.new.items.defs (exports_marked root.old.world.now)) }
         ensures encoded { OnOk result (AllByRecursion (λ key. IsSome (export_encoding root.old.world.now key)) root.old.world.now.main_exports) }

@@ -9,14 +9,14 @@ ghost use Rattle.comp_bytes.specs.declared.space.Space.TheVariants.{CoreFunc};
 ghost use Rattle.comp_items.specs.Items.{Extends};
 ghost use Rattle.comp_links.specs.Links.{link_of};
 ghost use Rattle.comp_links.specs.Roles.{IsEncodedImport, field_path};
-ghost use Rattle.comp_links.specs.Targets.{Main, OfRoot, Lowered, Dropped};
+ghost use Rattle.comp_links.specs.Targets.{Main, OfRoot, OfInterface, Lowered, Dropped};
 ghost use Rattle.comp_lists.specs.Found.{found};
 ghost use Rattle.comp_roles.specs.CoreImports.{imports_from};
 ghost use Rattle.comp_roles.specs.Functions.{of_function};
 ghost use Rattle.comp_roles.specs.declared.imports.ImportInstance.TheVariants.{Names};
 ghost use Rattle.comp_imports.specs.RootScopes.{IsRefusal};
 ghost use Rattle.comp_state.specs.Causes.{IsCause, IsCauseAmong};
-ghost use Rattle.comp_state.specs.Tables.{AreSources};
+ghost use Rattle.comp_state.specs.Tables.{AreSources, IsUsedOfInterface};
 ghost use Rattle.comp_terms.specs.Planned.{IsItemFor, IsEntryFor, IsInlineInstanceFor, IsArgumentFor};
 ghost use Rattle.comp_terms.specs.Rules.{Grows};
 ghost use Rattle.comp_worlds.specs.Worlds.{IsResource, core_imports};
@@ -26,13 +26,13 @@ use crate::fault::StateFault;
 use byte_encoding::BuildFault;
 use comp_bytes::{CoreArgument, CoreInlineExport};
 use comp_imports::{RootScope, resource_index};
-use comp_lists::{Keyed, Seq, Text};
+use comp_lists::{Keyed, Seq, Text, TryClone};
 use comp_worlds::{ComponentWorld, FunctionKey, Import, ImportInstance};
 use standard_kinds::{ExportKind, StringEncoding};
 use std::alloc::{AllocError, Global};
-use wit_data::{TypeId, WorldKey};
+use wit_data::{InterfaceId, TypeId, WorldKey};
 
-/// Whether a table has the string encoding of a function, by the name of its key and its own.
+/// Whether a table has the string encoding of a function at the root, by the name of its key and its own.
 pub(crate) fn is_encoded(
     alloc: Global,
     encodings: &Keyed<FunctionKey, StringEncoding>,
@@ -43,6 +43,22 @@ pub(crate) fn is_encoded(
 {
     let wanted = FunctionKey {
         key: WorldKey::Name(name.clone(alloc)?),
+        function: function.clone(alloc)?,
+    };
+    Ok(encodings.contains_key(&wanted))
+}
+
+/// The same of a function of an interface, by the interface's key and the function's name.
+fn is_encoded_at(
+    alloc: Global,
+    encodings: &Keyed<FunctionKey, StringEncoding>,
+    key: &WorldKey,
+    function: &Text,
+) -> Result<bool, AllocError>
+    ensures { IfOk result (λ answer. answer ≡ is_some (of_function key.now function.now encodings.now)) }
+{
+    let wanted = FunctionKey {
+        key: key.try_clone(alloc)?,
         function: function.clone(alloc)?,
     };
     Ok(encodings.contains_key(&wanted))
@@ -71,7 +87,7 @@ impl ImportSources<'_> {
         root: &mut RootScope<'_, ComponentWorld>,
         name: &Text,
     ) -> Result<u32, BuildFault>
-        requires sources { AreSources root.old.world.now self.now root.old.last_type root.old.items.defs root.old.maps }
+        requires sources { AreSources root.old.world.now self.now root.old.last_type root.old.items.defs root.old.maps root.old.instances }
         requires used { IsSome (found name.now self.now.functions.now) }
         ensures same { root.new ≡ record root.old { items = root.new.items } }
         ensures extends { Extends root.old.items root.new.items }
@@ -87,13 +103,37 @@ impl ImportSources<'_> {
         Ok(index)
     }
 
+    /// Lowers a function of an imported interface, as the interface's instance exports it.
+    fn lower_interface_function(
+        &self,
+        root: &mut RootScope<'_, ComponentWorld>,
+        interface: InterfaceId,
+        name: &Text,
+    ) -> Result<u32, BuildFault>
+        requires sources { AreSources root.old.world.now self.now root.old.last_type root.old.items.defs root.old.maps root.old.instances }
+        requires imported { IsUsedOfInterface root.old.world.now interface name.now }
+        ensures same { root.new ≡ record root.old { items = root.new.items } }
+        ensures extends { Extends root.old.items root.new.items }
+        ensures grows { OnOk result (Grows root.old.world.now root.old.items.defs root.new.items.defs []) }
+        ensures lowered { IfOk result (λ index. IsItemFor root.old.world.now root.new.items.defs CoreFunc index (Lowered (OfInterface interface name.now) [])) }
+        ensures cause { IfErr result IsRefusal }
+    {
+        let instance = *root.instances.get(&interface).unwrap();
+        let function = root.items.alias_function(instance, name)?;
+        let options = Seq::new(root.items.allocator());
+        let index = root
+            .items
+            .lower_function(Some(name.as_str()), function, options)?;
+        Ok(index)
+    }
+
     /// Makes the drop of handles of a resource of the world.
     fn drop_resource(
         &self,
         root: &mut RootScope<'_, ComponentWorld>,
         id: TypeId,
     ) -> Result<u32, BuildFault>
-        requires sources { AreSources root.old.world.now self.now root.old.last_type root.old.items.defs root.old.maps }
+        requires sources { AreSources root.old.world.now self.now root.old.last_type root.old.items.defs root.old.maps root.old.instances }
         requires resource { IsResource root.old.world.now.resolve.types id.index }
         ensures same { root.new ≡ record root.old { items = root.new.items } }
         ensures extends { Extends root.old.items root.new.items }
@@ -114,7 +154,7 @@ impl ImportSources<'_> {
         field: &Text,
         import: &Import,
     ) -> Result<(ExportKind, u32), StateFault>
-        requires sources { AreSources root.old.world.now self.now root.old.last_type root.old.items.defs root.old.maps }
+        requires sources { AreSources root.old.world.now self.now root.old.last_type root.old.items.defs root.old.maps root.old.instances }
         requires present { Contains (core_imports root.old.world.now) (record { module_name = «module».now; field = field.now; role = import.now }) }
         ensures same { root.new ≡ record root.old { items = root.new.items } }
         ensures extends { Extends root.old.items root.new.items }
@@ -135,6 +175,17 @@ impl ImportSources<'_> {
                 let index = self.lower_function(root, name)?;
                 Ok((ExportKind::Func, index))
             }
+            Import::InterfaceFunc(key, interface, function, _) => {
+                let alloc = root.items.allocator();
+                let world = root.world;
+                let encodings = &world.main.metadata.import_encodings;
+                if !is_encoded_at(alloc, encodings, key, function)? {
+                    let place = path_of_import(alloc, module, field)?;
+                    return Err(StateFault::NoEncoding { place });
+                }
+                let index = self.lower_interface_function(root, *interface, function)?;
+                Ok((ExportKind::Func, index))
+            }
             Import::ImportedResourceDrop(_, _, id) => {
                 let index = self.drop_resource(root, *id)?;
                 Ok((ExportKind::Func, index))
@@ -151,7 +202,7 @@ impl ImportSources<'_> {
         field: &Text,
         import: &Import,
     ) -> Result<CoreInlineExport, StateFault>
-        requires sources { AreSources root.old.world.now self.now root.old.last_type root.old.items.defs root.old.maps }
+        requires sources { AreSources root.old.world.now self.now root.old.last_type root.old.items.defs root.old.maps root.old.instances }
         requires present { Contains (core_imports root.old.world.now) (record { module_name = «module».now; field = field.now; role = import.now }) }
         ensures same { root.new ≡ record root.old { items = root.new.items } }
         ensures extends { Extends root.old.items root.new.items }
@@ -171,7 +222,7 @@ impl ImportSources<'_> {
         module: &Text,
         fields: &Keyed<Text, Import>,
     ) -> Result<Seq<CoreInlineExport>, StateFault>
-        requires sources { AreSources root.old.world.now self.now root.old.last_type root.old.items.defs root.old.maps }
+        requires sources { AreSources root.old.world.now self.now root.old.last_type root.old.items.defs root.old.maps root.old.instances }
         requires present { Contains root.old.world.now.main.imports.modules («module».now, Names fields.now) }
         ensures same { root.new ≡ record root.old { items = root.new.items } }
         ensures extends { Extends root.old.items root.new.items }
@@ -195,7 +246,7 @@ impl ImportSources<'_> {
         module: &Text,
         fields: &Keyed<Text, Import>,
     ) -> Result<CoreArgument, StateFault>
-        requires sources { AreSources root.old.world.now self.now root.old.last_type root.old.items.defs root.old.maps }
+        requires sources { AreSources root.old.world.now self.now root.old.last_type root.old.items.defs root.old.maps root.old.instances }
         requires present { Contains root.old.world.now.main.imports.modules («module».now, Names fields.now) }
         ensures same { root.new ≡ record root.old { items = root.new.items } }
         ensures extends { Extends root.old.items root.new.items }
@@ -216,7 +267,7 @@ impl ImportSources<'_> {
         module: &Text,
         instance: &ImportInstance,
     ) -> Result<CoreArgument, StateFault>
-        requires sources { AreSources root.old.world.now self.now root.old.last_type root.old.items.defs root.old.maps }
+        requires sources { AreSources root.old.world.now self.now root.old.last_type root.old.items.defs root.old.maps root.old.instances }
         requires present { Contains root.old.world.now.main.imports.modules («module».now, instance.now) }
         ensures same { root.new ≡ record root.old { items = root.new.items } }
         ensures extends { Extends root.old.items root.new.items }
@@ -235,7 +286,7 @@ impl ImportSources<'_> {
         &self,
         root: &mut RootScope<'_, ComponentWorld>,
     ) -> Result<Seq<CoreArgument>, StateFault>
-        requires sources { AreSources root.old.world.now self.now root.old.last_type root.old.items.defs root.old.maps }
+        requires sources { AreSources root.old.world.now self.now root.old.last_type root.old.items.defs root.old.maps root.old.instances }
         ensures same { root.new ≡ record root.old { items = root.new.items } }
         ensures extends { Extends root.old.items root.new.items }
         ensures grows { OnOk result (Grows root.old.world.now root.old.items.defs root.new.items.defs []) }

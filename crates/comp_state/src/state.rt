@@ -14,7 +14,8 @@ ghost use Rattle.comp_state.specs.Encoding.{AreImported, IsFirstModule, IsRequir
 ghost use Rattle.comp_state.specs.declared.state.Step.TheVariants.{Started, Imported, Instantiated};
 ghost use Rattle.comp_terms.specs.Planned.{IsItemFor};
 ghost use Rattle.comp_terms.specs.Rules.{Grows, ModuleIs, InstanceOf, imports_marked, exports_marked, landmarks};
-ghost use Rattle.comp_worlds.specs.Worlds.{IsWorld, core_imports, core_name_of};
+ghost use Rattle.comp_worlds.specs.Encodable.{IsEncodable};
+ghost use Rattle.comp_worlds.specs.Worlds.{core_imports, core_name_of};
 
 use crate::exports::MainExports;
 use crate::fault::StateFault;
@@ -37,7 +38,7 @@ const MAIN_MODULE: u32 = 0;
 pub enum Step {
     /// Nothing is imported yet.
     Started,
-    /// The functions that the world imports are there.
+    /// What the world imports is there.
     Imported,
     /// Main's instance is there too.
     Instantiated,
@@ -78,13 +79,13 @@ impl<'a> Model for EncodingState<'a> {
 
     ghost view = { λ s. record { world = s.root.world.now; built = s.root.items; step = s.step } };
 
-    ghost invariant = { λ s. IsEncoding s.root.world.now s.root.last_type s.root.items.defs s.root.maps s.step s.functions s.core_names s.main };
+    ghost invariant = { λ s. IsEncoding s.root.world.now s.root.last_type s.root.items.defs s.root.maps s.root.instances s.step s.functions s.core_names s.main };
 }
 
 impl<'a> EncodingState<'a> {
     /// The state before the first step: no item is made yet.
     pub fn new(alloc: Global, world: &'a ComponentWorld) -> Result<EncodingState<'a>, AllocError>
-        requires { IsWorld world.now }
+        requires { IsEncodable world.now }
         ensures { IfOk result (λ s. s ≡ record { world = world.entry.now; built = nothing_built; step = Started }) }
     {
         let core_names = core_names(alloc, &world.main.exports.exports)?;
@@ -113,14 +114,15 @@ impl EncodingState<'_> {
         root.into_items()
     }
 
-    /// Imports the types of the world, and then the root functions that imports of main use, in the order of the world.
+    /// Imports the interfaces of which imports of main use functions, then the types of the world, and then the root
+    /// functions that imports of main use, each in the order of the world.
     pub fn encode_imports(&mut self) -> Result<(), StateFault>
         requires started { self.old.step ≡ Started }
         requires empty { self.old.built.defs ≡ [] }
         ensures world { self.new.world ≡ self.old.world }
         ensures step { OnOk result (self.new.step ≡ Imported) }
         ensures extends { Extends self.old.built self.new.built }
-        ensures grows { OnOk result (Grows self.old.world self.old.built.defs self.new.built.defs (imports_marked self.old.world)) }
+        ensures grows { OnOk result (Grows self.old.world self.old.built.defs self.new.built.defs (imports_marked own_names self.old.world)) }
         ensures cause { IfErr result (IsCause self.old.world) }
     {
         let functions = self.root.import_all()?;
@@ -131,7 +133,7 @@ impl EncodingState<'_> {
 
     /// Appends main's core module, the first one of the component.
     pub fn encode_core_modules(&mut self) -> Result<(), StateFault>
-        requires { landmarks self.old.built.defs ≡ imports_marked self.old.world }
+        requires { landmarks self.old.built.defs ≡ imports_marked own_names self.old.world }
         ensures same { self.new ≡ record self.old { built = self.new.built } }
         ensures extends { Extends self.old.built self.new.built }
         ensures grows { OnOk result (Grows self.old.world self.old.built.defs self.new.built.defs (ModuleIs self.old.world.main.bytes ∷ [])) }

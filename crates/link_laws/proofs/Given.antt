@@ -298,6 +298,18 @@ module _ {w : ComponentWorld} {earlier : List Def} {c : Scope} {s : Store} (a : 
       by kinds.Memory (terms.Lowering origin type options) is asked = absurd is
       by kinds.Global (terms.Lowering origin type options) is asked = absurd is
       by kind term is asked = absurd asked
+  item_there kind index (imports.InterfaceFunc key interface function abi) right h = by kind h.term h.is h.asked
+    where
+      target : Target
+      target = link_of w Main (imports.InterfaceFunc key interface function abi)
+
+      by : (kind : ExportKind) (term : Term) → Is earlier (kind_space kind) index term → IsTermFor w (Lowered (OfInterface interface function) []) term →
+          (kind ≡ kinds.Func) × (x : ℕ) × (address_at spaces.CoreFunc index c.items ≡ Some x) × IsServedAs w s x (Lowered (OfInterface interface function) [])
+      by kinds.Func (terms.Lowering origin type options) is asked = let l = lowered_there is in (refl, l.0, l.1, record { origin = origin; type = type; from = asked.0; typed = asked.1; lowered = l.2 })
+      by kinds.Table (terms.Lowering origin type options) is asked = absurd is
+      by kinds.Memory (terms.Lowering origin type options) is asked = absurd is
+      by kinds.Global (terms.Lowering origin type options) is asked = absurd is
+      by kind term is asked = absurd asked
   item_there kind index (imports.ImportedResourceDrop key interface id) right h = by kind h.term h.is h.asked
     where
       by : (kind : ExportKind) (term : Term) → Is earlier (kind_space kind) index term → IsTermFor w (Dropped id) term →

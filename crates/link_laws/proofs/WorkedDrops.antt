@@ -124,16 +124,7 @@ each_imported (suc (suc n)) h = let l = h.present in absurd (omega (arith, l))
 is_world : IsWorld world
 unfolding values_from
 is_world = record {
-  sound = record {
-    back = (tt, (tt, tt));
-    small = record { labels = (tt, (tt, tt)); nodes = (omega arith, (omega arith, tt)); levels = (omega arith, (omega arith, tt)) };
-    owners = (omega arith, (omega arith, tt));
-    interfaces = tt;
-    worlds = (record { imports = ((tt, omega arith), ((tt, omega arith), tt)); exports = tt }, tt);
-  };
   present = omega arith;
-  types = (record { owner = tt }, (record { owner = tt }, tt));
-  resources = record { ordered = (omega arith, (omega arith, tt)); each = each_imported };
   imports = (tt, (tt, tt));
   exports = tt;
   import_names_apart = none_apart;

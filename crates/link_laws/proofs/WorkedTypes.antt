@@ -120,22 +120,7 @@ no_resource (suc (suc n)) h = let l = h.present in absurd (omega (arith, l))
 pub is_world : IsWorld world
 unfolding values_from
 is_world = record {
-  sound = record {
-    back = ((tt, (tt, tt)), ((tt, (tt, tt)), tt));
-    small = record { labels = (tt, (tt, tt)); nodes = (omega arith, (omega arith, tt)); levels = (omega arith, (omega arith, tt)) };
-    owners = (omega arith, (tt, tt));
-    interfaces = tt;
-    worlds = (
-      record {
-        imports = ((tt, omega arith), ((tt, record { resource = tt; params = (omega arith, tt); result = tt }), tt));
-        exports = ((tt, record { resource = tt; params = (omega arith, tt); result = tt }), tt);
-      },
-      tt,
-    );
-  };
   present = omega arith;
-  types = (record { owner = tt }, (record { owner = tt }, tt));
-  resources = record { ordered = (omega arith, tt); each = no_resource };
   imports = (tt, ((refl, f_plain), tt));
   exports = ((refl, g_plain), tt);
   import_names_apart = one_apart f;

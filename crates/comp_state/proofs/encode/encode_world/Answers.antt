@@ -1,3 +1,4 @@
+use Rattle.comp_links.specs.Naming.{own_names}
 use Rattle.std.proofs.Common.{◌≡◌, refl, rules, subst, sym}
 use Rattle.comp_bytes.specs.Scopes.{Scoped}
 use Rattle.comp_builder.specs.Built.{Built}
@@ -11,11 +12,11 @@ use Rattle.comp_state.proofs.encode.encode_world.Goals as goal
 pub returns-clause-ok : goal.returns-clause-ok
 returns-clause-ok c =
     let world : c.encode_all.new.self.world ≡ c.args.world.now = search rules in
-    let built : IsUnnamed c.args.world.now c.encode_all.new.self.built.defs = search rules in
-    let whole : IsBuilt c.args.world.now (with_names c.encode_all.new.self.built).defs =
+    let built : IsUnnamed own_names c.args.world.now c.encode_all.new.self.built.defs = search rules in
+    let whole : IsBuilt own_names c.args.world.now (with_names c.encode_all.new.self.built).defs =
     built_named c.args.world.now c.encode_all.new.self.built (with_names c.encode_all.new.self.built) refl built in
     IfOk-weaker c.finish.result _ _
-    (λ component same. subst (λ (b : Built). Scoped b.defs × IsBuilt c.args.world.now b.defs) (sym same)
+    (λ component same. subst (λ (b : Built). Scoped b.defs × IsBuilt own_names c.args.world.now b.defs) (sym same)
     (built_scoped c.args.world.now (with_names c.encode_all.new.self.built).defs whole, whole)) c.finish.ensures.ok
 
 pub returns-clause-refused : goal.returns-clause-refused

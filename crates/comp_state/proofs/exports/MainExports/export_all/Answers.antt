@@ -9,7 +9,7 @@ use Rattle.comp_state.proofs.Growth.{exports-kept}
 use Rattle.comp_state.proofs.exports.MainExports.export_all.Goals as goal
 
 pub loop-key-init : goal.loop-key-init
-loop-key-init c = (refl, refl, c.requires.tables, exports_start c.args.root.now.world.now c.args.root.now.items)
+loop-key-init c = (refl, refl, c.requires.tables, exports_start c.args.root.now.world.now c.args.root.now.items, refl)
 
 pub export-requires-clause-exports : goal.export-requires-clause-exports
 export-requires-clause-exports c =
@@ -29,4 +29,5 @@ loop-key-preserved c =
       subst (λ n. AreTablesRight w n new.items.defs new.maps) i.1 (subst (λ x. AreTablesRight x.now c.loop-key.root.last_type new.items.defs new.maps) i.0 of.tables),
       exports_step w c.args.root.now.items mid new.items c.as_slice-key-items.result.now c.loop-key.key-index c.key-item.result i.3 (omega arith) c.key-item.is of.extends
           (subst (λ x. Grows x.now mid.defs new.items.defs (named_export (name_of_key c.key-item.result) ∷ [])) i.0 of.grows) (subst (λ x. IsSome (export_encoding x.now c.key-item.result)) i.0 of.encoded),
+      of.instances ∙ i.4,
     )

@@ -18,6 +18,6 @@ returns-clause-first c =
     let built : c.self.inside.root.items ≡ c.args.self.now.built = ap (λ (e : Encoding). e.built) c.self.view_is in
     let world : c.self.inside.root.world.now ≡ c.args.self.now.world = ap (λ (e : Encoding). e.world) c.self.view_is in
     let bytes : c.as_slice.result.now ≡ c.args.self.now.world.main.bytes = c.as_slice.ensures ∙ ap (λ (w : ComponentWorld). w.main.bytes) world in
-    let none : items_in spaces.CoreModule c.args.self.now.built.defs ≡ 0 = no_modules c.args.self.now.built.defs (stated_imports c.args.self.now.world) c.requires in
+    let none : items_in spaces.CoreModule c.args.self.now.built.defs ≡ 0 = no_modules own_names c.args.self.now.world c.args.self.now.built.defs c.requires in
     let index : c.in_ok-core_module.field-0 ≡ 0 = c.in_ok-core_module.ensures.adds.0 ∙ ap (λ (b : Built). items_in spaces.CoreModule b.defs) built ∙ none in
     record { made = rw (← index, ← bytes) c.in_ok-core_module.ensures.at }

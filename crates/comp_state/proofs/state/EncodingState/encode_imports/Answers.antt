@@ -13,12 +13,12 @@ pub invariant_of-self : goal.invariant_of-self
 invariant_of-self c =
     let new = c.import_all.new.self in
     let in' = c.self.inside in
-    subst (λ r. IsEncoding r.now new.last_type new.items.defs new.maps in'.step in'.functions in'.core_names in'.main) (sym c.in_err-functions.ensures.world) (encoding-with c.in_err-functions.ensures.extends c.in_err-functions.ensures.tables
-    (λ i. absurd (subst AreImported (ap (λ (e : Encoding). e.step) c.self.view_is ∙ c.requires.started) i)) c.self.invariant)
+    subst (λ r. IsEncoding r.now new.last_type new.items.defs new.maps new.instances in'.step in'.functions in'.core_names in'.main) (sym c.in_err-functions.ensures.world) (encoding-with c.in_err-functions.ensures.extends c.in_err-functions.ensures.tables
+    (λ i. absurd (subst AreImported (ap (λ (e : Encoding). e.step) c.self.view_is ∙ c.requires.started) i)) (λ i. absurd (subst AreImported (ap (λ (e : Encoding). e.step) c.self.view_is ∙ c.requires.started) i)) c.self.invariant)
 
 pub invariant_of-self-2 : goal.invariant_of-self-2
 invariant_of-self-2 c =
     let new = c.import_all.new.self in
     let in' = c.self.inside in
-    subst (λ r. IsEncoding r.now new.last_type new.items.defs new.maps Imported c.in_ok-functions.functions in'.core_names in'.main) (sym c.in_ok-functions.ensures.world)
-    (encoding-imported c.in_ok-functions.ensures.tables c.in_ok-functions.ensures.passed c.in_ok-functions.ensures.imports c.in_ok-functions.ensures.found c.self.invariant)
+    subst (λ r. IsEncoding r.now new.last_type new.items.defs new.maps new.instances Imported c.in_ok-functions.functions in'.core_names in'.main) (sym c.in_ok-functions.ensures.world)
+    (encoding-imported c.in_ok-functions.ensures.tables c.in_ok-functions.ensures.passed c.in_ok-functions.ensures.imports c.in_ok-functions.ensures.found c.in_ok-functions.ensures.instances c.in_ok-functions.ensures.reached c.self.invariant)

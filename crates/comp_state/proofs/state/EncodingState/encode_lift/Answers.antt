@@ -19,8 +19,8 @@ pub invariant_of-self : goal.invariant_of-self
 invariant_of-self c =
     let new = c.lift.new.root in
     let in' = c.self.inside in
-    subst (λ r. IsEncoding r.now new.last_type new.items.defs new.maps in'.step in'.functions in'.core_names in'.main) (sym c.lift.ensures.world) (encoding-with c.lift.ensures.extends (subst (λ n. AreTablesRight in'.root.world.now n new.items.defs new.maps) (sym c.lift.ensures.next) c.lift.ensures.tables)
-    (λ i. subst (λ n. ArePassed in'.root.world.now n) (sym c.lift.ensures.next) (c.self.invariant.passed i)) c.self.invariant)
+    subst (λ r. IsEncoding r.now new.last_type new.items.defs new.maps new.instances in'.step in'.functions in'.core_names in'.main) (sym c.lift.ensures.world) (encoding-with c.lift.ensures.extends (subst (λ n. AreTablesRight in'.root.world.now n new.items.defs new.maps) (sym c.lift.ensures.next) c.lift.ensures.tables)
+    (λ i. subst (λ n. ArePassed in'.root.world.now n) (sym c.lift.ensures.next) (c.self.invariant.passed i)) (λ i. c.lift.ensures.instances) c.self.invariant)
 
 pub unwrap-requires : goal.unwrap-requires
 unwrap-requires c = main_known c.self.invariant (ap (λ (e : Encoding). e.step) c.self.view_is ∙ c.requires.instantiated)

@@ -29,13 +29,13 @@ arguments-requires c = record { sources = sources_of c.self.inside.root.world.no
 pub invariant_of-self : goal.invariant_of-self
 invariant_of-self c =
     let in' = c.self.inside in
-    subst (λ (r : Root). IsEncoding r.world.now r.last_type c.arguments.new.root.items.defs r.maps in'.step in'.functions in'.core_names in'.main) (sym c.in_err-arguments.ensures.same) (encoding-kept c.in_err-arguments.ensures.extends c.self.invariant)
+    subst (λ (r : Root). IsEncoding r.world.now r.last_type c.arguments.new.root.items.defs r.maps r.instances in'.step in'.functions in'.core_names in'.main) (sym c.in_err-arguments.ensures.same) (encoding-kept c.in_err-arguments.ensures.extends c.self.invariant)
 
 pub invariant_of-self-in_err-index : goal.invariant_of-self-in_err-index
 invariant_of-self-in_err-index c =
     let last : Extends c.arguments.new.root.items c.core_instance.new.self = extends_same c.arguments.new.root.items c.core_instance.new.self c.in_err-index.ensures.adds.0 in
     let in' = c.self.inside in
-    subst (λ (r : Root). IsEncoding r.world.now r.last_type c.core_instance.new.self.defs r.maps in'.step in'.functions in'.core_names in'.main) (sym c.in_ok-arguments.ensures.same)
+    subst (λ (r : Root). IsEncoding r.world.now r.last_type c.core_instance.new.self.defs r.maps r.instances in'.step in'.functions in'.core_names in'.main) (sym c.in_ok-arguments.ensures.same)
     (encoding-kept (extends_then c.self.inside.root.items c.arguments.new.root.items c.core_instance.new.self c.in_ok-arguments.ensures.extends last) c.self.invariant)
 
 pub invariant_of-self-2 : goal.invariant_of-self-2
@@ -43,7 +43,7 @@ invariant_of-self-2 c =
     let last : Extends c.arguments.new.root.items c.core_instance.new.self = search rules in
     let all : Extends c.self.inside.root.items c.core_instance.new.self = extends_then c.self.inside.root.items c.arguments.new.root.items c.core_instance.new.self c.in_ok-arguments.ensures.extends last in
     let in' = c.self.inside in
-    subst (λ (r : Root). IsEncoding r.world.now r.last_type c.core_instance.new.self.defs r.maps Instantiated in'.functions in'.core_names (Some c.in_ok-index.index)) (sym c.in_ok-arguments.ensures.same)
+    subst (λ (r : Root). IsEncoding r.world.now r.last_type c.core_instance.new.self.defs r.maps r.instances Instantiated in'.functions in'.core_names (Some c.in_ok-index.index)) (sym c.in_ok-arguments.ensures.same)
     (encoding-instantiated c.in_ok-index.index all (subst (λ (e : Encoding). AreImported e.step) (sym c.self.view_is) c.requires.imported) c.in_ok-index.ensures.instance c.self.invariant)
 
 pub returns-clause-grows : goal.returns-clause-grows

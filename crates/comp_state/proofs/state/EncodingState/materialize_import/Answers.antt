@@ -28,7 +28,7 @@ materialize-requires-clause-present c =
 pub invariant_of-self : goal.invariant_of-self
 invariant_of-self c =
     let in' = c.self.inside in
-    subst (λ (r : Root). IsEncoding r.world.now r.last_type c.materialize.new.root.items.defs r.maps in'.step in'.functions in'.core_names in'.main) (sym c.materialize.ensures.same) (encoding-kept c.materialize.ensures.extends c.self.invariant)
+    subst (λ (r : Root). IsEncoding r.world.now r.last_type c.materialize.new.root.items.defs r.maps r.instances in'.step in'.functions in'.core_names in'.main) (sym c.materialize.ensures.same) (encoding-kept c.materialize.ensures.extends c.self.invariant)
 
 pub returns-clause-grows : goal.returns-clause-grows
 returns-clause-grows c = subst (λ (e : Encoding). OnOk c.materialize.result (Grows e.world e.built.defs c.materialize.new.root.items.defs [])) c.self.view_is c.materialize.ensures.grows
