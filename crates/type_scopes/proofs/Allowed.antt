@@ -1,5 +1,5 @@
 -- What is made of live types, and of types of other interfaces that are offered, may be encoded in an instance type.
-use Rattle.std.proofs.Common.{◌≡◌, ◌∙◌, ◌<◌, ◌≤◌, ◌==◌, ◌||◌, arith, ℕ, zero, suc, Bool, true, false, true≢false, List, [], ◌∷◌, ◌++◌, length, map, take, get_or, refl, ap, sym, subst, Option, Some, None, is_some, is_none, if◌then◌else◌}
+use Rattle.std.proofs.Common.{◌≡◌, ◌∙◌, ◌<◌, ◌≤◌, ◌==◌, ◌||◌, arith, ℕ, zero, suc, Bool, true, false, true≢false, List, [], ◌∷◌, ◌++◌, length, map, take, refl, ap, sym, subst, Option, Some, None, is_some, is_none, if◌then◌else◌}
 use Rattle.std.specs.Prelude.{slice_get}
 use Rattle.std.specs.List.{AllByRecursion, flat_map, list_all}
 use Rattle.std.specs.Map.{lookup}
@@ -20,16 +20,16 @@ use Rattle.wit_data.specs.Parts.{parts, IsBelow, RefersBack}
 use Rattle.wit_data.specs.Sound.{HasFunction}
 use Rattle.wit_data.specs.Values.{kind_at, values, part_value, part_values}
 use Rattle.wit_data.proofs.Values.{made_whole, parts_below}
-use Rattle.wit_types.specs.Settings.{Setting, owner_at, name_at}
+use Rattle.wit_types.specs.Settings.{Setting, owner_at}
 use Rattle.wit_types.specs.Allowing.{foreign, is_resource, may_make, may_define, is_allowed, allows_function, IsDefinedHere}
 use Rattle.wit_types.proofs.Permitting.{allowed_of_id, allowed_met}
 use Rattle.comp_trees.specs.Trees.{Resource}
 use Rattle.comp_trees.specs.Members.{Surroundings}
-use Rattle.type_scopes.specs.Foreign.{meeting, met_in, met_in_function, met_in_all}
-use Rattle.type_scopes.specs.Interfaces.{IsNext, AreInOrder, used_function, used_among}
+use Rattle.type_scopes.specs.Foreign.{meeting, met_in, met_in_function}
+use Rattle.type_scopes.specs.Interfaces.{IsNext, AreInOrder, used_among}
 use Rattle.type_scopes.specs.Needs.{IsOwn, IsLive, IsLiveFunction, AreLiveClosed, AreNeedsMet}
-use Rattle.type_scopes.specs.Offers.{Offer, IsOfferedType, is_one_of, placed}
-use Rattle.type_scopes.specs.Titles.{HasTitle, AscendFrom}
+use Rattle.type_scopes.specs.Offers.{Offer, IsOfferedType, placed}
+use Rattle.type_scopes.specs.Titles.{HasTitle, AscendFrom, is_one_of}
 use Rattle.type_scopes.specs.declared.outer_type.OuterType.{OuterType}
 use Rattle.type_scopes.proofs.Exported.{foreign_own}
 
@@ -181,7 +181,7 @@ got_flat P f (y ∷ ys) zero x at h = subst (λ z. AllByRecursion P (f z)) (some
 got_flat P f (y ∷ ys) (suc n) x at h = got_flat P f ys n x at (AllByRecursion-back P (f y) (flat_map f ys) h)
 
 -- what holds of each function holds of those that are used
-used_have : (P : Function → Type 0) (used : List (List ℕ × Unit {0})) (es : List (List ℕ × Function)) → AllByRecursion (λ e. P e.1) es → AllByRecursion P (used_among used es)
+pub used_have : (P : Function → Type 0) (used : List (List ℕ × Unit {0})) (es : List (List ℕ × Function)) → AllByRecursion (λ e. P e.1) es → AllByRecursion P (used_among used es)
 used_have P used [] h = tt
 used_have P used ((name, f) ∷ es) h = by (is_some (lookup (bytes_eq name) used)) (used_have P used es h.1)
   where

@@ -6,3 +6,5 @@ pub mod Exporting
 pub mod Exported
 pub mod Meeting
 pub mod Allowed
+pub mod Unnamed
+pub mod Needed

@@ -1,5 +1,5 @@
 -- The types of an interface in a scope: what holds of each holds after the scope grew.
-use Rattle.std.proofs.Common.{◌≡◌, ℕ, List, Some}
+use Rattle.std.proofs.Common.{ℕ, List}
 use Rattle.comp_lists.proofs.Lists.{AllByRecursion-weaker}
 use Rattle.wit_data.specs.declared.ids.InterfaceId.{InterfaceId}
 use Rattle.wit_data.specs.declared.ids.TypeId.{TypeId}

@@ -1,5 +1,5 @@
 -- The types of an interface are exported, one after the other.
-use Rattle.std.proofs.Common.{◌≡◌, ◌∙◌, ◌+◌, ◌<◌, ◌==◌, ◌||◌, ℕ, zero, suc, Bool, true, false, List, [], ◌∷◌, ◌++◌, length, map, take, get_or, refl, ap, sym, subst, append_assoc, append-nil, Option, Some, None, IsTrue}
+use Rattle.std.proofs.Common.{◌≡◌, ◌∙◌, ◌+◌, ◌<◌, ◌==◌, ◌||◌, ℕ, zero, suc, Bool, true, false, List, [], ◌∷◌, ◌++◌, length, map, take, get_or, refl, ap, sym, subst, append-nil, Some}
 use Rattle.std.specs.Prelude.{option_and_then, slice_get}
 use Rattle.std.proofs.lemmas.Grind.{flat_map-append}
 use Rattle.std.proofs.lemmas.List.{map_push, take_more}
@@ -26,18 +26,17 @@ use Rattle.comp_trees.specs.DefinedScopes.{Denotes}
 use Rattle.comp_trees.specs.Members.{Surroundings, AreMembersRight, IsMemberRight, makes_type, with_member, member_trees, member_tree}
 use Rattle.comp_trees.specs.WitTrees.{wit_tree}
 use Rattle.wit_types.specs.declared.maps.TypeEncodingMaps.{TypeEncodingMaps}
-use Rattle.wit_types.specs.Denoting.{Longer}
-use Rattle.wit_types.specs.Maps.{Faithful, HasIndex, no_maps}
-use Rattle.wit_types.specs.Settings.{Setting, name_at, tree_in}
+use Rattle.wit_types.specs.Maps.{HasIndex, no_maps}
+use Rattle.wit_types.specs.Settings.{name_at, tree_in}
 use Rattle.wit_types.specs.Allowing.{is_resource}
 use Rattle.wit_types.proofs.Permitting.{resource_tree, same_tree}
 use Rattle.wit_types.proofs.Growing.{value_of_index, named_by, faithful_new, faithful_after}
 use Rattle.comp_lists.proofs.Lists.{AllByRecursion-weaker}
 use Rattle.type_scopes.specs.Members.{types_in}
-use Rattle.type_scopes.specs.Exports.{IsExport, IsOwnExport, AreOwnExports, MembersGrow, MembersExtend, exports_of, type_exports, function_exports, exported_function, exported_type, export_behind, members_append, right_append}
-use Rattle.type_scopes.specs.Offers.{Offer, is_one_of, placed}
-use Rattle.type_scopes.specs.Titles.{IsTitled, IsKnownByName, title}
-use Rattle.type_scopes.specs.Interfaces.{TypeIn, TypesIn, AreExported, IsRight}
+use Rattle.type_scopes.specs.Exports.{IsExport, IsOwnExport, AreOwnExports, MembersGrow, MembersExtend, exports_of, type_exports, function_exports, exported_function, export_behind, right_append}
+use Rattle.type_scopes.specs.Offers.{Offer, placed}
+use Rattle.type_scopes.specs.Titles.{IsTitled, IsTypeNamed, IsKnownByName, is_one_of, title}
+use Rattle.type_scopes.specs.Interfaces.{TypeIn, AreExported, IsRight}
 use Rattle.type_scopes.proofs.Naming.{types_on}
 use Rattle.type_scopes.proofs.Scoping.{longer_by, denotes_new, exported_new}
 
@@ -55,6 +54,24 @@ none_functions (m ∷ ms) e = none_functions ms e
 pub grow_extends : (s : Surroundings) (old new out : List Member) → MembersGrow s old new → out ≡ new → MembersExtend s old out
 grow_extends s old new out g kept = record { more = g.more; grown = kept ∙ g.grown; right = g.right; types = none_types g.more g.none }
 
+-- one of these types, or this one
+or_none : (b : Bool) → (b || false) ≡ b
+or_none true = refl
+or_none false = refl
+
+or_true : (b : Bool) → (b || true) ≡ true
+or_true true = refl
+or_true false = refl
+
+one_end : (ids : List TypeId) (x : TypeId) (n : ℕ) → is_one_of (ids ++ x ∷ []) n ≡ (is_one_of ids n || (n == x.index))
+one_end ids x n = list_any-append (λ (i : TypeId). n == i.index) ids (x ∷ []) ∙ ap (λ b. is_one_of ids n || b) (or_none (n == x.index))
+
+one_front : (ids : List TypeId) (x : TypeId) (n : ℕ) → is_one_of ids n ≡ true → is_one_of (ids ++ x ∷ []) n ≡ true
+one_front ids x n e = one_end ids x n ∙ ap (λ b. b || (n == x.index)) e
+
+one_last : (ids : List TypeId) (x : TypeId) → is_one_of (ids ++ x ∷ []) x.index ≡ true
+one_last ids x = one_end ids x x.index ∙ (ap (λ b. is_one_of ids x.index || b) ((Decides-eqb x.index x.index).1 refl) ∙ or_true (is_one_of ids x.index))
+
 -- the name of a type
 pub title_named : (types : List TypeDef) (id : TypeId) (name : List ℕ) → name_at types id.index ≡ Some name → title types id ≡ name
 title_named types id name e = ap text_of (by types id.index ∙ e)
@@ -65,19 +82,31 @@ title_named types id name e = ap text_of (by types id.index ∙ e)
     by (t ∷ ts) (suc n) = by ts n
 
 module _ (s : Surroundings) (origin : TypeId → Resource) (o : Offer) (here : InterfaceId) where
-  own_none : (scope : List TypeTree) (ms : List Member) → type_exports ms ≡ [] → AreOwnExports s origin o here scope ms
-  own_none scope [] e = tt
-  own_none scope (members.Export name (descriptions.TypeEqual index) ∷ ms) e = cc
-  own_none scope (members.Export name descriptions.SubResource ∷ ms) e = cc
-  own_none scope (m ∷ ms) e = (tt, own_none (with_member s scope m) ms e)
+  own_none : (ids : List TypeId) (scope : List TypeTree) (ms : List Member) → type_exports ms ≡ [] → AreOwnExports s origin o here ids scope ms
+  own_none ids scope [] e = tt
+  own_none ids scope (members.Export name (descriptions.TypeEqual index) ∷ ms) e = cc
+  own_none ids scope (members.Export name descriptions.SubResource ∷ ms) e = cc
+  own_none ids scope (m ∷ ms) e = (tt, own_none ids (with_member s scope m) ms e)
 
-  own_append : (scope : List TypeTree) (ms more : List Member) → AreOwnExports s origin o here scope ms → AreOwnExports s origin o here (member_trees s scope ms) more → AreOwnExports s origin o here scope (ms ++ more)
-  own_append scope [] more a b = b
-  own_append scope (x ∷ ms) more a b = (a.0, own_append (with_member s scope x) ms more a.1 b)
+  own_append : (ids : List TypeId) (scope : List TypeTree) (ms more : List Member) → AreOwnExports s origin o here ids scope ms → AreOwnExports s origin o here ids (member_trees s scope ms) more → AreOwnExports s origin o here ids scope (ms ++ more)
+  own_append ids scope [] more a b = b
+  own_append ids scope (x ∷ ms) more a b = (a.0, own_append ids (with_member s scope x) ms more a.1 b)
+
+  -- those of fewer types are those of more
+  named_of : (ids all : List TypeId) (name : List ℕ) (t : TypeTree) → ((n : ℕ) → is_one_of ids n ≡ true → is_one_of all n ≡ true) → IsTypeNamed origin o.types here ids name t → IsTypeNamed origin o.types here all name t
+  named_of ids all name t more h = record { id = h.id; given = more h.id.index h.given; titled = h.titled; tree = h.tree }
+
+  own_of : (ids all : List TypeId) → ((n : ℕ) → is_one_of ids n ≡ true → is_one_of all n ≡ true) → (scope : List TypeTree) (ms : List Member) → AreOwnExports s origin o here ids scope ms → AreOwnExports s origin o here all scope ms
+  own_of ids all more scope [] h = tt
+  own_of ids all more scope (members.Export name (descriptions.TypeEqual index) ∷ ms) h =
+      (named_of ids all name.name (get_or scope index OfOthers) more h.0, own_of ids all more (with_member s scope (members.Export name (descriptions.TypeEqual index))) ms h.1)
+  own_of ids all more scope (members.Export name descriptions.SubResource ∷ ms) h =
+      (named_of ids all name.name (OfValues (ResourceAt (s.resource name.name))) more h.0, own_of ids all more (with_member s scope (members.Export name descriptions.SubResource)) ms h.1)
+  own_of ids all more scope (m ∷ ms) h = (tt, own_of ids all more (with_member s scope m) ms h.1)
 
   -- what is behind exports no type
-  pub own_extended : (ms new : List Member) → MembersExtend s ms new → AreOwnExports s origin o here [] ms → AreOwnExports s origin o here [] new
-  own_extended ms new g h = subst (λ xs. AreOwnExports s origin o here [] xs) (sym g.grown) (own_append [] ms g.more h (own_none (member_trees s [] ms) g.more g.types))
+  pub own_extended : (ids : List TypeId) (ms new : List Member) → MembersExtend s ms new → AreOwnExports s origin o here ids [] ms → AreOwnExports s origin o here ids [] new
+  own_extended ids ms new g h = subst (λ xs. AreOwnExports s origin o here ids [] xs) (sym g.grown) (own_append ids [] ms g.more h (own_none ids (member_trees s [] ms) g.more g.types))
 
   pub right_extended : (ms new : List Member) → MembersExtend s ms new → AreMembersRight s [] ms → AreMembersRight s [] new
   right_extended ms new g h = subst (λ xs. AreMembersRight s [] xs) (sym g.grown) (right_append s [] ms g.more h g.right)
@@ -92,7 +121,7 @@ module _ (s : Surroundings) (origin : TypeId → Resource) (o : Offer) (here : I
       let e = grow_extends s ms new new g refl in
       record {
         right = right_extended ms new e h.right;
-        own = own_extended ms new e h.own;
+        own = own_extended passed ms new e h.own;
         types = types_on (placed s origin o here []) (member_trees s [] ms) (member_trees s [] new) (IsExport ms) (IsExport new) passed (longer_by s ms new g.more g.grown) (export_behind ms new g.more g.grown) h.types;
         names = ap exports_of g.grown ∙ (flat_map-append member_export ms g.more ∙ (ap (λ es. exports_of ms ++ es) g.none ∙ (append-nil (exports_of ms) ∙ h.names)));
         functions = ap function_exports g.grown ∙ (flat_map-append exported_function ms g.more ∙ (ap (λ es. function_exports ms ++ es) (none_functions g.more g.none) ∙ (append-nil (function_exports ms) ∙ h.functions)));
@@ -100,13 +129,13 @@ module _ (s : Surroundings) (origin : TypeId → Resource) (o : Offer) (here : I
 
   -- after an export of one more type
   exported_with : (passed : List TypeId) (id : TypeId) (ms new : List Member) (name : ExternName) (d : Description) → exported_function (members.Export name d) ≡ [] → IsMemberRight s (member_trees s [] ms) (members.Export name d) →
-      IsOwnExport s origin o here (member_trees s [] ms) (members.Export name d) → new ≡ ms ++ members.Export name d ∷ [] → IsTitled o.types here id name.name → TypeIn (placed s origin o here []) (member_trees s [] new) (IsExport new) id →
+      IsOwnExport s origin o here (passed ++ id ∷ []) (member_trees s [] ms) (members.Export name d) → new ≡ ms ++ members.Export name d ∷ [] → IsTitled o.types here id name.name → TypeIn (placed s origin o here []) (member_trees s [] new) (IsExport new) id →
       AreExported s origin o here passed ms → AreExported s origin o here (passed ++ id ∷ []) new
   exported_with passed id ms new name d none right own is titled there h =
       let m = members.Export name d in
       record {
         right = subst (λ xs. AreMembersRight s [] xs) (sym is) (right_append s [] ms (m ∷ []) h.right (right, tt));
-        own = subst (λ xs. AreOwnExports s origin o here [] xs) (sym is) (own_append [] ms (m ∷ []) h.own (own, tt));
+        own = subst (λ xs. AreOwnExports s origin o here (passed ++ id ∷ []) [] xs) (sym is) (own_append (passed ++ id ∷ []) [] ms (m ∷ []) (own_of passed (passed ++ id ∷ []) (one_front passed id) [] ms h.own) (own, tt));
         types = record {
           each = AllByRecursion-push (TypeIn (placed s origin o here []) (member_trees s [] new) (IsExport new)) passed id
               (types_on (placed s origin o here []) (member_trees s [] ms) (member_trees s [] new) (IsExport ms) (IsExport new) passed (longer_by s ms new (m ∷ []) is) (export_behind ms new (m ∷ []) is) h.types).each there;
@@ -132,7 +161,7 @@ module _ (s : Surroundings) (origin : TypeId → Resource) (o : Offer) (here : I
       c ≡ b ++ members.Export name (descriptions.TypeEqual defined) ∷ [] → MembersGrow s c d → IsTitled o.types here id name.name → AreExported s origin o here passed a → AreExported s origin o here (passed ++ id ∷ []) d
   exported_value passed id a b c d name defined index before denotes at is behind titled h =
       exported_on (passed ++ id ∷ []) c d behind
-      (exported_with passed id b c name (descriptions.TypeEqual defined) refl denotes.within (record { id = id; titled = titled; tree = denotes.tree }) is titled
+      (exported_with passed id b c name (descriptions.TypeEqual defined) refl denotes.within (record { id = id; given = one_last passed id; titled = titled; tree = denotes.tree }) is titled
       (type_there b c id name (descriptions.TypeEqual defined) index refl at is titled denotes.tree) (exported_on passed a b before h))
 
   -- an export of a resource of the interface, and what is added behind it
@@ -140,7 +169,7 @@ module _ (s : Surroundings) (origin : TypeId → Resource) (o : Offer) (here : I
       c ≡ b ++ members.Export name descriptions.SubResource ∷ [] → MembersGrow s c d → IsTitled o.types here id name.name → AreExported s origin o here passed b → AreExported s origin o here (passed ++ id ∷ []) d
   exported_resource passed id b c d name index tree at is behind titled h =
       exported_on (passed ++ id ∷ []) c d behind
-      (exported_with passed id b c name descriptions.SubResource refl tt (record { id = id; titled = titled; tree = tree }) is titled (type_there b c id name descriptions.SubResource index refl at is titled tree) h)
+      (exported_with passed id b c name descriptions.SubResource refl tt (record { id = id; given = one_last passed id; titled = titled; tree = tree }) is titled (type_there b c id name descriptions.SubResource index refl at is titled tree) h)
 
   -- a resource is the one of its name
   pub named_tree : (types : List TypeDef) (id : TypeId) (name : List ℕ) → o.types ≡ types → RefersBack types → IsTitled types here id name → is_resource (kind_at types id.index) ≡ true → IsKnownByName s origin types id → OfValues (ResourceAt (s.resource name)) ≡ OfValues (wit_tree origin o.types (Some (Id id)))
@@ -164,13 +193,6 @@ module _ (s : Surroundings) (origin : TypeId → Resource) (o : Offer) (here : I
     met = λ j e. by j (is_one_of passed j.index) refl (sym (one_end passed id j.index) ∙ e);
   }
     where
-      or_none : (b : Bool) → (b || false) ≡ b
-      or_none true = refl
-      or_none false = refl
-
-      one_end : (ids : List TypeId) (x : TypeId) (n : ℕ) → is_one_of (ids ++ x ∷ []) n ≡ (is_one_of ids n || (n == x.index))
-      one_end ids x n = list_any-append (λ (i : TypeId). n == i.index) ids (x ∷ []) ∙ ap (λ b. is_one_of ids n || b) (or_none (n == x.index))
-  
       by : (j : TypeId) (b : Bool) → is_one_of passed j.index ≡ b → (is_one_of passed j.index || (j.index == id.index)) ≡ true → HasIndex maps j
       by j true e either = h.met j e
       by j false e either =

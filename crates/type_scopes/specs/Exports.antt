@@ -51,15 +51,15 @@ exported_type other = []
 abbrev pub type_exports : List Member → List (List ℕ)
 type_exports ms = flat_map exported_type ms
 
--- a type that is exported is one of the interface with that name
-abbrev pub IsOwnExport : Surroundings → (TypeId → Resource) → Offer → InterfaceId → List TypeTree → Member → Type 0
-IsOwnExport s origin o here scope (members.Export name (descriptions.TypeEqual index)) = IsTypeNamed origin o.types here name.name (get_or scope index OfOthers)
-IsOwnExport s origin o here scope (members.Export name descriptions.SubResource) = IsTypeNamed origin o.types here name.name (OfValues (ResourceAt (s.resource name.name)))
-IsOwnExport s origin o here scope m = Unit {0}
+-- a type that is exported is one of these types of the interface, with that name
+abbrev pub IsOwnExport : Surroundings → (TypeId → Resource) → Offer → InterfaceId → List TypeId → List TypeTree → Member → Type 0
+IsOwnExport s origin o here ids scope (members.Export name (descriptions.TypeEqual index)) = IsTypeNamed origin o.types here ids name.name (get_or scope index OfOthers)
+IsOwnExport s origin o here ids scope (members.Export name descriptions.SubResource) = IsTypeNamed origin o.types here ids name.name (OfValues (ResourceAt (s.resource name.name)))
+IsOwnExport s origin o here ids scope m = Unit {0}
 
-abbrev pub AreOwnExports : Surroundings → (TypeId → Resource) → Offer → InterfaceId → List TypeTree → List Member → Type 0
-AreOwnExports s origin o here scope [] = Unit {0}
-AreOwnExports s origin o here scope (m ∷ ms) = IsOwnExport s origin o here scope m × AreOwnExports s origin o here (with_member s scope m) ms
+abbrev pub AreOwnExports : Surroundings → (TypeId → Resource) → Offer → InterfaceId → List TypeId → List TypeTree → List Member → Type 0
+AreOwnExports s origin o here ids scope [] = Unit {0}
+AreOwnExports s origin o here ids scope (m ∷ ms) = IsOwnExport s origin o here ids scope m × AreOwnExports s origin o here ids (with_member s scope m) ms
 
 -- members that have grown at their end, by right ones that export no type
 pub record MembersExtend (s : Surroundings) (old new : List Member) : Type 0 where

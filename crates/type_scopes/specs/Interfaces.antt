@@ -74,7 +74,7 @@ IsRight s origin o here passed ms maps = Faithful (placed s origin o here passed
 -- these types are exported, in their order, and nothing else is
 pub record AreExported (s : Surroundings) (origin : TypeId → Resource) (o : Offer) (here : InterfaceId) (passed : List TypeId) (ms : List Member) : Type 0 where
   pub right : AreMembersRight s [] ms
-  pub own : AreOwnExports s origin o here [] ms
+  pub own : AreOwnExports s origin o here passed [] ms
   pub types : TypesIn (placed s origin o here []) (member_trees s [] ms) (IsExport ms) passed
   pub names : exports_of ms ≡ map (title o.types) passed
   pub functions : function_exports ms ≡ []

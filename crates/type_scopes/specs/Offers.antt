@@ -1,8 +1,8 @@
 -- What the outer scope of an instance type offers to it, and what the definitions in it take as given (component model,
 -- WIT: `use`; explainer: outer aliases).
-use Rattle.std.specs.Prelude.{ℕ, ◌≡◌, ◌==◌, Bool, List, Option, Some, true, false, is_some, is_none}
+use Rattle.std.specs.Prelude.{ℕ, ◌≡◌, List, Option, Some, true, false, is_some, is_none}
 use Rattle.std.specs.Map.{lookup}
-use Rattle.std.specs.List.{AllByRecursion, list_any}
+use Rattle.std.specs.List.{AllByRecursion}
 use Rattle.wit_data.specs.declared.ids.TypeId.{TypeId}
 use Rattle.wit_data.specs.declared.ids.InterfaceId.{InterfaceId}
 use Rattle.wit_data.specs.declared.types.Type.TheVariants.{Id}
@@ -15,6 +15,7 @@ use Rattle.comp_trees.specs.DefinedScopes.{Denotes}
 use Rattle.type_scopes.specs.declared.outer_type.OuterType.{OuterType}
 use Rattle.type_scopes.specs.contracts.outer_type.OuterTypePartialEq.TheImpl as same_type
 use Rattle.comp_trees.specs.Members.{Surroundings}
+use Rattle.type_scopes.specs.Titles.{is_one_of}
 
 -- the types of the resolve, and the index in the outer scope of each type that it offers
 pub record Offer : Type 0 where
@@ -33,11 +34,7 @@ offered o other id = lookup (same_type.eq-value.it (record { interface = other; 
 pub record IsOfferedType (o : Offer) (t : OuterType) : Type 0 where
   pub there : is_some (offered o t.interface t.id) ≡ true
 
--- one of these types has this number
-abbrev pub is_one_of : List TypeId → ℕ → Bool
-is_one_of ids n = list_any (λ id. n == id.index) ids
-
--- What the definitions in the instance type of an interface take as given, where so many of its types were passed: these are
+-- What the definitions in the instance type of an interface take as given, where these of its types were passed: they are
 -- exported under their names, and in the tables. What is offered may be imported, and types without a name may be defined. A
 -- type gets its name once it is defined, and not while others are: so nothing is exported meanwhile.
 abbrev pub placed : Surroundings → (TypeId → Resource) → Offer → InterfaceId → List TypeId → Setting

@@ -1,6 +1,7 @@
 -- The types of an interface that have a name, and what an instance of the interface exports (component model, WIT:
 -- interfaces; explainer: `exportdecl`).
-use Rattle.std.specs.Prelude.{ℕ, suc, ◌≡◌, ◌<◌, ◌≤◌, true, List, [], ◌∷◌, ◌++◌, length, map, Some, option_and_then, slice_get}
+use Rattle.std.specs.Prelude.{ℕ, suc, ◌≡◌, ◌==◌, ◌<◌, ◌≤◌, Bool, true, List, [], ◌∷◌, ◌++◌, length, map, Some, option_and_then, slice_get}
+use Rattle.std.specs.List.{list_any}
 use Rattle.wit_data.specs.declared.ids.TypeId.{TypeId}
 use Rattle.wit_data.specs.declared.ids.InterfaceId.{InterfaceId}
 use Rattle.wit_data.specs.declared.types.Type.TheVariants.{Id}
@@ -26,9 +27,13 @@ pub record HasTitle (types : List TypeDef) (here : InterfaceId) (id : TypeId) : 
   pub name : List ℕ
   pub is : IsTitled types here id name
 
--- no two types of the interface have one name
-pub record AreTitlesApart (types : List TypeDef) (here : InterfaceId) : Type 0 where
-  pub each : (a b : TypeId) (name : List ℕ) → IsTitled types here a name → IsTitled types here b name → a ≡ b
+-- one of these types has this number
+abbrev pub is_one_of : List TypeId → ℕ → Bool
+is_one_of ids n = list_any (λ id. n == id.index) ids
+
+-- no two of these types of the interface have one name
+pub record AreTitlesApart (types : List TypeDef) (here : InterfaceId) (ids : List TypeId) : Type 0 where
+  pub each : (a b : TypeId) (name : List ℕ) → is_one_of ids a.index ≡ true → is_one_of ids b.index ≡ true → IsTitled types here a name → IsTitled types here b name → a ≡ b
 
 -- the numbers ascend, and the first is at least this
 abbrev pub AscendFrom : ℕ → List TypeId → Type 0
@@ -39,9 +44,10 @@ AscendFrom k (id ∷ ids) = (k ≤ id.index) × AscendFrom (suc id.index) ids
 pub record IsKnownByName (s : Surroundings) (origin : TypeId → Resource) (types : List TypeDef) (id : TypeId) : Type 0 where
   pub same : (name : List ℕ) → is_resource (kind_at types id.index) ≡ true → name_at types id.index ≡ Some name → origin id ≡ s.resource name
 
--- a type of the interface has this name, and this tree
-pub record IsTypeNamed (origin : TypeId → Resource) (types : List TypeDef) (here : InterfaceId) (name : List ℕ) (t : TypeTree) : Type 0 where
+-- one of these types of the interface has this name, and this tree
+pub record IsTypeNamed (origin : TypeId → Resource) (types : List TypeDef) (here : InterfaceId) (ids : List TypeId) (name : List ℕ) (t : TypeTree) : Type 0 where
   pub id : TypeId
+  pub given : is_one_of ids id.index ≡ true
   pub titled : IsTitled types here id name
   pub tree : t ≡ OfValues (wit_tree origin types (Some (Id id)))
 

@@ -30,7 +30,8 @@ use wit_data::{Function, InterfaceId, Resolve, TypeId};
 /// of other interfaces are those of the outer scope, whose indices there the table has. An instance of it exports each of
 /// the interface's types under its name, then each of those functions, in their order, and nothing else.
 ///
-/// The types are those of the interface that have a name and are live, in the order of the resolve.
+/// The types are those of the interface that have a name and are live, in the order of the resolve. Everything of which they and
+/// the functions are made is one of them, has no name, or is a type of another interface that the table has.
 pub fn encode_interface_type(
     alloc: Global,
     resolve: &Resolve,
@@ -45,7 +46,7 @@ pub fn encode_interface_type(
     requires offered { IsOffered place.surroundings place.origin (record { types = resolve.now.types; table = table.now }) }
     requires functions { AllByRecursion (λ e. HasFunction resolve.now e.1) functions.now }
     requires titled { AllByRecursion (HasTitle resolve.now.types interface) types.now }
-    requires apart { AreTitlesApart resolve.now.types interface }
+    requires apart { AreTitlesApart resolve.now.types interface types.now }
     requires ascend { AscendFrom 0 types.now }
     requires known { AllByRecursion (IsKnownByName place.surroundings place.origin resolve.now.types) types.now }
     requires needs { AreNeedsMet (record { types = resolve.now.types; table = table.now }) interface types.now (used_among used.now functions.now) }
@@ -73,7 +74,7 @@ fn encode_placed<P: Placement>(
     requires offered { IsOffered P.surroundings P.origin (record { types = resolve.now.types; table = table.now }) }
     requires functions { AllByRecursion (λ e. HasFunction resolve.now e.1) functions.now }
     requires titled { AllByRecursion (HasTitle resolve.now.types interface) types.now }
-    requires apart { AreTitlesApart resolve.now.types interface }
+    requires apart { AreTitlesApart resolve.now.types interface types.now }
     requires ascend { AscendFrom 0 types.now }
     requires known { AllByRecursion (IsKnownByName P.surroundings P.origin resolve.now.types) types.now }
     requires needs { AreNeedsMet (record { types = resolve.now.types; table = table.now }) interface types.now (used_among used.now functions.now) }

@@ -65,5 +65,5 @@ returns-clause-exported g c =
     let e : AreExported s g.P.Placement.origin o c.args.interface c.args.types.now m =
     subst (λ i. AreExported s g.P.Placement.origin o i c.args.types.now m) c.new-encoder.ensures.interface
     (subst (λ (q : Offer). AreExported s g.P.Placement.origin q n.interface c.args.types.now m) (c.new-encoder.ensures.outer ∙ c.new-outer.ensures) c.in_ok-export_types.ensures.exported) in
-    let own : AreOwnExports s g.P.Placement.origin o c.args.interface [] out = subst (λ ms. AreOwnExports s g.P.Placement.origin o c.args.interface [] ms) (sym c.into_type.ensures) (own_extended s g.P.Placement.origin o c.args.interface m new c.in_ok-encode_functions.ensures.extends e.own) in
-    types_found s g.P.Placement.origin o c.args.interface out c.args.types.now c.requires.apart (returns-clause-members g c) own c.args.types.now c.requires.titled (returns-clause-types g c)
+    let own : AreOwnExports s g.P.Placement.origin o c.args.interface c.args.types.now [] out = subst (λ ms. AreOwnExports s g.P.Placement.origin o c.args.interface c.args.types.now [] ms) (sym c.into_type.ensures) (own_extended s g.P.Placement.origin o c.args.interface c.args.types.now m new c.in_ok-encode_functions.ensures.extends e.own) in
+    types_found s g.P.Placement.origin o c.args.interface out c.args.types.now c.requires.apart (returns-clause-members g c) own c.requires.titled (returns-clause-types g c)
