@@ -1,15 +1,14 @@
 -- An instance exports each type of its interface under its name.
-use Rattle.std.proofs.Common.{◌≡◌, ◌∙◌, ◌<◌, ◌==◌, ℕ, Bool, true, false, true≢false, ◌||◌, List, [], ◌∷◌, ◌++◌, length, get_or, refl, ap, sym, subst, Option, Some, None, if◌then◌else◌}
+use Rattle.std.proofs.Common.{◌≡◌, ◌∙◌, ◌<◌, ◌==◌, ℕ, Bool, true, false, true≢false, ◌||◌, List, [], ◌∷◌, length, get_or, refl, ap, sym, subst, Some, None, if◌then◌else◌}
 use Rattle.std.specs.Str.{bytes_eq}
 use Rattle.std.specs.List.{AllByRecursion, list_any}
 use Rattle.std.proofs.lemmas.List.{get_or_append_left}
 use Rattle.std.proofs.lemmas.List.Folds.{list_any-append}
 use Rattle.std.proofs.lemmas.Slice.Eq.{bytes_eq-Decides}
 use Rattle.std.proofs.lemmas.Bool.Decides.{Decides-eqb}
+use Rattle.comp_lists.proofs.Lists.{AllByRecursion-weaker}
 use Rattle.wit_data.specs.declared.ids.InterfaceId.{InterfaceId}
 use Rattle.wit_data.specs.declared.ids.TypeId.{TypeId}
-use Rattle.wit_data.specs.declared.types.TypeDef.{TypeDef}
-use Rattle.wit_data.specs.declared.types.TypeOwner.{TypeOwner}
 use Rattle.wit_data.specs.declared.types.TypeOwner.TheVariants as owners
 use Rattle.wit_data.specs.declared.types.Type.TheVariants.{Id}
 use Rattle.comp_bytes.specs.declared.space.Space.TheVariants as spaces
@@ -20,25 +19,20 @@ use Rattle.comp_bytes.specs.declared.types.Description.{Description}
 use Rattle.comp_bytes.specs.declared.types.Description.TheVariants as descriptions
 use Rattle.comp_bytes.specs.declared.types.Member.{Member}
 use Rattle.comp_bytes.specs.declared.types.Member.TheVariants as members
-use Rattle.comp_trees.specs.Trees.{Resource, ResourceAt, Tree}
+use Rattle.comp_trees.specs.Trees.{Resource, ResourceAt}
 use Rattle.comp_trees.specs.DefinedTrees.{TypeTree, OfValues, OfOthers}
 use Rattle.comp_trees.specs.WitTrees.{wit_tree}
 use Rattle.comp_trees.specs.Members.{Surroundings, AreMembersRight, makes_type, with_member, member_trees, exports_name, type_exported}
-use Rattle.wit_types.specs.Settings.{Setting, NamesType, owner_at, name_at, tree_in}
+use Rattle.wit_types.specs.Settings.{Setting, owner_at}
 use Rattle.wit_types.specs.Allowing.{foreign}
 use Rattle.wit_types.specs.Denoting.{Longer}
 use Rattle.wit_types.specs.Maps.{HasNoName, NamedAs, IsNamedValue}
 use Rattle.wit_types.proofs.Growing.{longer_none, longer_on}
-use Rattle.type_scopes.specs.Exports.{IsExport, AreOwnExports, MembersExtend, MembersGrow}
-use Rattle.type_scopes.specs.Offers.{Offer, belongs, placed}
-use Rattle.type_scopes.specs.Interfaces.{IsTitled, HasTitle, AreTitlesApart, ExportsType, TypeIn, TypesIn}
+use Rattle.type_scopes.specs.Exports.{IsExport, AreOwnExports}
+use Rattle.type_scopes.specs.Offers.{Offer, placed}
+use Rattle.type_scopes.specs.Titles.{IsTitled, HasTitle, AreTitlesApart, IsTypeNamed, is_one_of}
+use Rattle.type_scopes.specs.Interfaces.{ExportsType, TypeIn, TypesIn}
 use Rattle.type_scopes.proofs.Scoping.{longer_after}
-
--- a type with a name that may be defined in the scope belongs to the interface
-owned_by : (here : InterfaceId) (owner : TypeOwner) (name : List ℕ) → belongs here owner (Some name) ≡ true → owner ≡ owners.Interface here
-owned_by here (owners.Interface i) name e = ap (λ n. owners.Interface (record { index = n })) (sym ((Decides-eqb here.index i.index).0 e))
-owned_by here (owners.World w) name e = absurd (true≢false (sym e))
-owned_by here owners.«None» name e = absurd (true≢false (sym e))
 
 -- the own interface isn't a foreign one
 pub foreign_own : (here : InterfaceId) → foreign (Some here) (owners.Interface here) ≡ None
@@ -48,28 +42,28 @@ longer_tree : (scope all : List TypeTree) (index : ℕ) → Longer scope all →
 longer_tree scope all index g l = ap (λ ts. get_or ts index OfOthers) g.longer ∙ get_or_append_left scope g.more OfOthers index l
 
 -- The first member that exports a type under the name exports this one, where all do that have the name.
-module _ (t : Setting) (s : Surroundings) (name : List ℕ) (tree : TypeTree) (same : (n : ExternName) (u : TypeTree) → name ≡ n.name → NamesType t n u → u ≡ tree) where
+module _ (s : Surroundings) (origin : TypeId → Resource) (o : Offer) (here : InterfaceId) (all : List TypeId) (name : List ℕ) (tree : TypeTree) (same : (n : List ℕ) (u : TypeTree) → name ≡ n → IsTypeNamed origin o.types here all n u → u ≡ tree) where
   -- an export of a type that has the name, or one behind it
-  by_name : (n : ExternName) (u found rest : TypeTree) (later : Bool) → NamesType t n u → (name ≡ n.name → found ≡ u) → (bytes_eq name n.name || later) ≡ true → (later ≡ true → rest ≡ tree) → (if bytes_eq name n.name then found else rest) ≡ tree
+  by_name : (n : ExternName) (u found rest : TypeTree) (later : Bool) → IsTypeNamed origin o.types here all n.name u → (name ≡ n.name → found ≡ u) → (bytes_eq name n.name || later) ≡ true → (later ≡ true → rest ≡ tree) → (if bytes_eq name n.name then found else rest) ≡ tree
   by_name n u found rest later own is there behind = by (bytes_eq name n.name) refl
     where
       by : (b : Bool) → bytes_eq name n.name ≡ b → (if bytes_eq name n.name then found else rest) ≡ tree
       by true e =
           let named = (bytes_eq-Decides name n.name).0 e in
-          ap (λ b. if b then found else rest) e ∙ (is named ∙ same n u named own)
+          ap (λ b. if b then found else rest) e ∙ (is named ∙ same n.name u named own)
       by false e = ap (λ b. if b then found else rest) e ∙ behind (subst (λ b. (b || later) ≡ true) e there)
 
-  first_export : (scope : List TypeTree) (ms : List Member) (all : List TypeTree) → Longer (member_trees s scope ms) all → AreMembersRight s scope ms → AreOwnExports t s scope ms → list_any (exports_name spaces.Type name) ms ≡ true → type_exported s all name ms ≡ tree
-  first_export scope [] all g right own there = absurd (true≢false (sym there))
-  first_export scope (members.Export n (descriptions.TypeEqual index) ∷ ms) all g right own there =
-      by_name n (get_or scope index OfOthers) (get_or all index OfOthers) (type_exported s all name ms) (list_any (exports_name spaces.Type name) ms) own.0
-      (λ e. longer_tree scope all index (longer_on (longer_after s scope (members.Export n (descriptions.TypeEqual index) ∷ ms)) g) right.0) there
-      (first_export (with_member s scope (members.Export n (descriptions.TypeEqual index))) ms all g right.1 own.1)
-  first_export scope (members.Export n descriptions.SubResource ∷ ms) all g right own there =
-      by_name n (OfValues (ResourceAt (s.resource n.name))) (OfValues (ResourceAt (s.resource name))) (type_exported s all name ms) (list_any (exports_name spaces.Type name) ms) own.0
+  first_export : (scope : List TypeTree) (ms : List Member) (ts : List TypeTree) → Longer (member_trees s scope ms) ts → AreMembersRight s scope ms → AreOwnExports s origin o here all scope ms → list_any (exports_name spaces.Type name) ms ≡ true → type_exported s ts name ms ≡ tree
+  first_export scope [] ts g right own there = absurd (true≢false (sym there))
+  first_export scope (members.Export n (descriptions.TypeEqual index) ∷ ms) ts g right own there =
+      by_name n (get_or scope index OfOthers) (get_or ts index OfOthers) (type_exported s ts name ms) (list_any (exports_name spaces.Type name) ms) own.0
+      (λ e. longer_tree scope ts index (longer_on (longer_after s scope (members.Export n (descriptions.TypeEqual index) ∷ ms)) g) right.0) there
+      (first_export (with_member s scope (members.Export n (descriptions.TypeEqual index))) ms ts g right.1 own.1)
+  first_export scope (members.Export n descriptions.SubResource ∷ ms) ts g right own there =
+      by_name n (OfValues (ResourceAt (s.resource n.name))) (OfValues (ResourceAt (s.resource name))) (type_exported s ts name ms) (list_any (exports_name spaces.Type name) ms) own.0
       (λ e. ap (λ x. OfValues (ResourceAt (s.resource x))) e) there
-      (first_export (with_member s scope (members.Export n descriptions.SubResource)) ms all g right.1 own.1)
-  first_export scope (m ∷ ms) all g right own there = first_export (with_member s scope m) ms all g right.1 own.1 there
+      (first_export (with_member s scope (members.Export n descriptions.SubResource)) ms ts g right.1 own.1)
+  first_export scope (m ∷ ms) ts g right own there = first_export (with_member s scope m) ms ts g right.1 own.1 there
 
 -- an export is found by its name
 is_found : (n : ExternName) (d : Description) (name : List ℕ) → n.name ≡ name → makes_type (members.Export n d) ≡ true → exports_name spaces.Type name (members.Export n d) ≡ true
@@ -89,18 +83,26 @@ export_found ms name index h =
     or_true true = refl
     or_true false = refl
 
-module _ (s : Surroundings) (origin : TypeId → Resource) (o : Offer) (here : InterfaceId) (ms : List Member) where
+-- each of these types is one of them
+all_given : (ids : List TypeId) → AllByRecursion (λ id. is_one_of ids id.index ≡ true) ids
+all_given [] = tt
+all_given (x ∷ xs) = (
+  ap (λ b. b || is_one_of xs x.index) ((Decides-eqb x.index x.index).1 refl),
+  AllByRecursion-weaker (λ id e. by (id.index == x.index) (is_one_of xs id.index) e) xs (all_given xs),
+)
+  where
+    by : (a b : Bool) → b ≡ true → (a || b) ≡ true
+    by true b e = refl
+    by false b e = e
+
+module _ (s : Surroundings) (origin : TypeId → Resource) (o : Offer) (here : InterfaceId) (ms : List Member) (all : List TypeId) where
   abbrev set : Setting
-  set = placed s origin o here
+  set = placed s origin o here all
 
   -- what has the name of a type of the interface is it
-  is_one : AreTitlesApart o.types here → (id : TypeId) (name : List ℕ) → IsTitled o.types here id name → (n : ExternName) (u : TypeTree) → name ≡ n.name → NamesType set n u → u ≡ OfValues (wit_tree origin o.types (Some (Id id)))
-  unfolding tree_in
-  is_one apart id name titled n u e names =
-      let named : name_at o.types names.id.index ≡ Some name = names.named ∙ ap Some (sym e) in
-      let belonging : belongs here (owner_at o.types names.id.index) (Some name) ≡ true = ap (belongs here (owner_at o.types names.id.index)) (sym named) ∙ names.own in
-      let other : IsTitled o.types here names.id name = record { present = names.present; owner = owned_by here (owner_at o.types names.id.index) name belonging; named = named } in
-      names.tree ∙ ap (λ i. OfValues (wit_tree origin o.types (Some (Id i)))) (apart.each names.id id name other titled)
+  is_one : AreTitlesApart o.types here all → (id : TypeId) (name : List ℕ) → is_one_of all id.index ≡ true → IsTitled o.types here id name → (n : List ℕ) (u : TypeTree) → name ≡ n → IsTypeNamed origin o.types here all n u → u ≡ OfValues (wit_tree origin o.types (Some (Id id)))
+  is_one apart id name given titled n u e named =
+      named.tree ∙ ap (λ i. OfValues (wit_tree origin o.types (Some (Id i)))) (apart.each named.id id name named.given given (subst (λ m. IsTitled o.types here named.id m) (sym e) named.titled) titled)
 
   value_found : (id : TypeId) (name : List ℕ) (v : ComponentValType) → IsTitled o.types here id name → IsNamedValue set (IsExport ms) (Id id) v → list_any (exports_name spaces.Type name) ms ≡ true
   value_found id name (values.Primitive p) titled h =
@@ -109,22 +111,19 @@ module _ (s : Surroundings) (origin : TypeId → Resource) (o : Offer) (here : I
       export_found ms name index
       (subst (λ q. NamedAs (IsExport ms) q (Some name) index) (ap (foreign (Some here)) titled.owner ∙ foreign_own here) (subst (λ q. NamedAs (IsExport ms) (foreign (Some here) (owner_at o.types id.index)) q index) titled.named h.as_own))
 
-  type_found : AreTitlesApart o.types here → AreMembersRight s [] ms → AreOwnExports set s [] ms → (id : TypeId) → HasTitle o.types here id → TypeIn set (member_trees s [] ms) (IsExport ms) id → ExportsType s origin o.types here ms id
-  type_found apart right own id title h =
+  type_found : AreTitlesApart o.types here all → AreMembersRight s [] ms → AreOwnExports s origin o here all [] ms → (id : TypeId) → is_one_of all id.index ≡ true → HasTitle o.types here id → TypeIn set (member_trees s [] ms) (IsExport ms) id → ExportsType s origin o.types here ms id
+  type_found apart right own id given title h =
       let there = value_found id title.name h.value title.is h.named in
       record {
         name = title.name;
         titled = title.is;
         there = there;
-        tree = first_export set s title.name (OfValues (wit_tree origin o.types (Some (Id id)))) (is_one apart id title.name title.is) [] ms (member_trees s [] ms) (longer_none (member_trees s [] ms)) right own there;
+        tree = first_export s origin o here all title.name (OfValues (wit_tree origin o.types (Some (Id id)))) (is_one apart id title.name given title.is) [] ms (member_trees s [] ms) (longer_none (member_trees s [] ms)) right own there;
       }
 
-  pub types_found : AreTitlesApart o.types here → AreMembersRight s [] ms → AreOwnExports set s [] ms → (ids : List TypeId) → AllByRecursion (HasTitle o.types here) ids → AllByRecursion (TypeIn set (member_trees s [] ms) (IsExport ms)) ids → AllByRecursion (ExportsType s origin o.types here ms) ids
-  types_found apart right own [] titles h = tt
-  types_found apart right own (id ∷ ids) titles h = (type_found apart right own id titles.0 h.0, types_found apart right own ids titles.1 h.1)
-
--- all that an instance type exports that has grown from none is its own
-pub own_whole : (t : Setting) (s : Surroundings) (first ms new out : List Member) → first ≡ [] → MembersExtend t s first new → out ≡ new → AreOwnExports t s [] out
-own_whole t s first ms new out none h is =
-    let from_none : MembersExtend t s [] new = subst (λ xs. MembersExtend t s xs new) none h in
-    subst (λ xs. AreOwnExports t s [] xs) (sym (is ∙ from_none.grown)) from_none.own
+  pub types_found : AreTitlesApart o.types here all → AreMembersRight s [] ms → AreOwnExports s origin o here all [] ms → AllByRecursion (HasTitle o.types here) all → TypesIn set (member_trees s [] ms) (IsExport ms) all → AllByRecursion (ExportsType s origin o.types here ms) all
+  types_found apart right own titles h = each all (all_given all) titles h.each
+    where
+      each : (ids : List TypeId) → AllByRecursion (λ id. is_one_of all id.index ≡ true) ids → AllByRecursion (HasTitle o.types here) ids → AllByRecursion (TypeIn set (member_trees s [] ms) (IsExport ms)) ids → AllByRecursion (ExportsType s origin o.types here ms) ids
+      each [] given titles h = tt
+      each (id ∷ ids) given titles h = (type_found apart right own id given.0 titles.0 h.0, each ids given.1 titles.1 h.1)

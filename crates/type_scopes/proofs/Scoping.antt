@@ -15,8 +15,8 @@ use Rattle.wit_types.specs.Denoting.{Longer, Makes}
 use Rattle.wit_types.proofs.Growing.{longer_none, longer_on}
 use Rattle.comp_trees.specs.Members.{Surroundings, IsMemberRight, makes_type, member_tree, with_member, member_trees}
 use Rattle.type_scopes.specs.Members.{types_in}
-use Rattle.type_scopes.specs.Exports.{IsExport, IsOwnExport, MembersExtend, MembersGrow, exported_function, members_same, members_append}
-use Rattle.wit_types.specs.Settings.{Setting}
+use Rattle.comp_bytes.specs.ScopeNames.{member_export}
+use Rattle.type_scopes.specs.Exports.{IsExport, MembersExtend, MembersGrow, members_same, members_append}
 
 one_of : Member → ℕ
 one_of m = cond (makes_type m) 1 0
@@ -37,9 +37,15 @@ longer_after s scope [] = longer_none scope
 longer_after s scope (m ∷ ms) = longer_on (longer_with scope (member_tree s scope m) (makes_type m)) (longer_after s (with_member s scope m) ms)
 
 -- more members make a longer scope
-pub trees_extend : (t : Setting) (s : Surroundings) (old new : List Member) → MembersExtend t s old new → Longer (member_trees s [] old) (member_trees s [] new)
-trees_extend t s old new g =
-    subst (λ ts. Longer (member_trees s [] old) ts) (sym (ap (member_trees s []) g.grown ∙ members_append s [] old g.more)) (longer_after s (member_trees s [] old) g.more)
+pub longer_by : (s : Surroundings) (old new more : List Member) → new ≡ old ++ more → Longer (member_trees s [] old) (member_trees s [] new)
+longer_by s old new more grown =
+    subst (λ ts. Longer (member_trees s [] old) ts) (sym (ap (member_trees s []) grown ∙ members_append s [] old more)) (longer_after s (member_trees s [] old) more)
+
+pub trees_extend : (s : Surroundings) (old new : List Member) → MembersExtend s old new → Longer (member_trees s [] old) (member_trees s [] new)
+trees_extend s old new g = longer_by s old new g.more g.grown
+
+pub trees_grow : (s : Surroundings) (old new : List Member) → MembersGrow s old new → Longer (member_trees s [] old) (member_trees s [] new)
+trees_grow s old new g = longer_by s old new g.more g.grown
 
 one_more : (s : Surroundings) (ms : List Member) (m : Member) → makes_type m ≡ true → member_trees s [] (ms ++ m ∷ []) ≡ member_trees s [] ms ++ member_tree s (member_trees s [] ms) m ∷ []
 one_more s ms m makes =
@@ -86,10 +92,10 @@ pub exported_if : (old new : List Member) (name : ExternName) (description : Des
 exported_if old new name description (Ok i) makes at is = exported_new old new name description i makes at is
 exported_if old new name description (Err e) makes at is = tt
 
--- members with one more, which is right and exports no function
-pub grown_by : (t : Setting) (s : Surroundings) (old new : List Member) (m : Member) → exported_function m ≡ [] → IsMemberRight s (member_trees s [] old) m → IsOwnExport t s (member_trees s [] old) m → new ≡ old ++ m ∷ [] → MembersGrow t s old new
-grown_by t s old new m none right own is = record { more = m ∷ []; grown = is; right = (right, tt); own = (own, tt); types = ap (λ es. es ++ []) none }
+-- members with one more, which is right and exports nothing
+pub grown_by : (s : Surroundings) (old new : List Member) (m : Member) → member_export m ≡ [] → IsMemberRight s (member_trees s [] old) m → new ≡ old ++ m ∷ [] → MembersGrow s old new
+grown_by s old new m none right is = record { more = m ∷ []; grown = is; right = (right, tt); none = ap (λ es. es ++ []) none }
 
-pub grown_if : {A E : Type 0} (t : Setting) (s : Surroundings) (old new : List Member) (m : Member) (r : Result A E) → exported_function m ≡ [] → IsMemberRight s (member_trees s [] old) m → IsOwnExport t s (member_trees s [] old) m → OnOk r (new ≡ old ++ m ∷ []) → OnErr r (new ≡ old) → MembersGrow t s old new
-grown_if t s old new m (Ok i) none right own is same = grown_by t s old new m none right own is
-grown_if t s old new m (Err e) none right own is same = subst (λ ms. MembersGrow t s old ms) (sym same) (members_same t s old)
+pub grown_if : {A E : Type 0} (s : Surroundings) (old new : List Member) (m : Member) (r : Result A E) → member_export m ≡ [] → IsMemberRight s (member_trees s [] old) m → OnOk r (new ≡ old ++ m ∷ []) → OnErr r (new ≡ old) → MembersGrow s old new
+grown_if s old new m (Ok i) none right is same = grown_by s old new m none right is
+grown_if s old new m (Err e) none right is same = subst (λ ms. MembersGrow s old ms) (sym same) (members_same s old)

@@ -4,16 +4,24 @@ use Rattle.std.specs.Prelude.{ℕ, ◌≡◌, true, List, [], ◌∷◌, ◌++�
 use Rattle.std.specs.List.{flat_map}
 use Rattle.std.proofs.Common.{refl, sym, ap, subst, ◌∙◌, append_assoc, append-nil}
 use Rattle.std.proofs.lemmas.Grind.{flat_map-append}
+use Rattle.wit_data.specs.declared.ids.InterfaceId.{InterfaceId}
+use Rattle.wit_data.specs.declared.ids.TypeId.{TypeId}
+use Rattle.comp_bytes.specs.ScopeNames.{member_export}
 use Rattle.comp_bytes.specs.declared.types.ExternName.{ExternName}
 use Rattle.comp_bytes.specs.declared.types.Description.{Description}
 use Rattle.comp_bytes.specs.declared.types.Description.TheVariants as descriptions
 use Rattle.comp_bytes.specs.declared.types.Member.{Member}
 use Rattle.comp_bytes.specs.declared.types.Member.TheVariants as members
-use Rattle.comp_trees.specs.Trees.{ResourceAt}
+use Rattle.comp_trees.specs.Trees.{Resource, ResourceAt}
 use Rattle.comp_trees.specs.DefinedTrees.{TypeTree, OfValues, OfOthers}
 use Rattle.comp_trees.specs.Members.{Surroundings, AreMembersRight, makes_type, with_member, member_trees}
-use Rattle.wit_types.specs.Settings.{Setting, NamesType}
 use Rattle.type_scopes.specs.Members.{types_in}
+use Rattle.type_scopes.specs.Offers.{Offer}
+use Rattle.type_scopes.specs.Titles.{IsTypeNamed}
+
+-- the names that are exported
+abbrev pub exports_of : List Member → List (List ℕ)
+exports_of ms = flat_map member_export ms
 
 -- the member that makes this type index is an export of this name
 pub record IsExport (ms : List Member) (name : List ℕ) (index : ℕ) : Type 0 where
@@ -34,30 +42,38 @@ exported_function other = []
 abbrev pub function_exports : List Member → List (List ℕ × ℕ)
 function_exports ms = flat_map exported_function ms
 
--- a type that is exported is one that the scope may define, under its name
-abbrev pub IsOwnExport : Setting → Surroundings → List TypeTree → Member → Type 0
-IsOwnExport t s scope (members.Export name (descriptions.TypeEqual index)) = NamesType t name (get_or scope index OfOthers)
-IsOwnExport t s scope (members.Export name descriptions.SubResource) = NamesType t name (OfValues (ResourceAt (s.resource name.name)))
-IsOwnExport t s scope m = Unit {0}
+-- the names under which types are exported
+abbrev pub exported_type : Member → List (List ℕ)
+exported_type (members.Export name (descriptions.TypeEqual index)) = name.name ∷ []
+exported_type (members.Export name descriptions.SubResource) = name.name ∷ []
+exported_type other = []
 
-abbrev pub AreOwnExports : Setting → Surroundings → List TypeTree → List Member → Type 0
-AreOwnExports t s scope [] = Unit {0}
-AreOwnExports t s scope (m ∷ ms) = IsOwnExport t s scope m × AreOwnExports t s (with_member s scope m) ms
+abbrev pub type_exports : List Member → List (List ℕ)
+type_exports ms = flat_map exported_type ms
 
--- members that have grown at their end, by right ones
-pub record MembersExtend (t : Setting) (s : Surroundings) (old new : List Member) : Type 0 where
+-- a type that is exported is one of these types of the interface, with that name
+abbrev pub IsOwnExport : Surroundings → (TypeId → Resource) → Offer → InterfaceId → List TypeId → List TypeTree → Member → Type 0
+IsOwnExport s origin o here ids scope (members.Export name (descriptions.TypeEqual index)) = IsTypeNamed origin o.types here ids name.name (get_or scope index OfOthers)
+IsOwnExport s origin o here ids scope (members.Export name descriptions.SubResource) = IsTypeNamed origin o.types here ids name.name (OfValues (ResourceAt (s.resource name.name)))
+IsOwnExport s origin o here ids scope m = Unit {0}
+
+abbrev pub AreOwnExports : Surroundings → (TypeId → Resource) → Offer → InterfaceId → List TypeId → List TypeTree → List Member → Type 0
+AreOwnExports s origin o here ids scope [] = Unit {0}
+AreOwnExports s origin o here ids scope (m ∷ ms) = IsOwnExport s origin o here ids scope m × AreOwnExports s origin o here ids (with_member s scope m) ms
+
+-- members that have grown at their end, by right ones that export no type
+pub record MembersExtend (s : Surroundings) (old new : List Member) : Type 0 where
   pub more : List Member
   pub grown : new ≡ old ++ more
   pub right : AreMembersRight s (member_trees s [] old) more
-  pub own : AreOwnExports t s (member_trees s [] old) more
+  pub types : type_exports more ≡ []
 
--- the same, with no further function
-pub record MembersGrow (t : Setting) (s : Surroundings) (old new : List Member) : Type 0 where
+-- the same, by ones that export nothing
+pub record MembersGrow (s : Surroundings) (old new : List Member) : Type 0 where
   pub more : List Member
   pub grown : new ≡ old ++ more
   pub right : AreMembersRight s (member_trees s [] old) more
-  pub own : AreOwnExports t s (member_trees s [] old) more
-  pub types : function_exports more ≡ []
+  pub none : exports_of more ≡ []
 
 pub export_behind : (a b more : List Member) → b ≡ a ++ more → (name : List ℕ) (index : ℕ) → IsExport a name index → IsExport b name index
 export_behind a b more grown name index h =
@@ -72,15 +88,15 @@ export_behind a b more grown name index h =
       counted = h.counted;
     }
 
-pub export_on : (t : Setting) (s : Surroundings) (a b : List Member) → MembersGrow t s a b → (name : List ℕ) (index : ℕ) → IsExport a name index → IsExport b name index
-export_on t s a b g name index h = export_behind a b g.more g.grown name index h
+pub export_on : (s : Surroundings) (a b : List Member) → MembersGrow s a b → (name : List ℕ) (index : ℕ) → IsExport a name index → IsExport b name index
+export_on s a b g name index h = export_behind a b g.more g.grown name index h
 
 -- the scope of members behind others, and whether they are right
 pub members_append : (s : Surroundings) (scope : List TypeTree) (ms more : List Member) → member_trees s scope (ms ++ more) ≡ member_trees s (member_trees s scope ms) more
 members_append s scope [] more = refl
 members_append s scope (x ∷ ms) more = members_append s (with_member s scope x) ms more
 
-right_append : (s : Surroundings) (scope : List TypeTree) (ms more : List Member) → AreMembersRight s scope ms → AreMembersRight s (member_trees s scope ms) more → AreMembersRight s scope (ms ++ more)
+pub right_append : (s : Surroundings) (scope : List TypeTree) (ms more : List Member) → AreMembersRight s scope ms → AreMembersRight s (member_trees s scope ms) more → AreMembersRight s scope (ms ++ more)
 right_append s scope [] more a b = b
 right_append s scope (x ∷ ms) more a b = (a.0, right_append s (with_member s scope x) ms more a.1 b)
 
@@ -88,27 +104,18 @@ pub right_on : (s : Surroundings) (a b one two : List Member) → b ≡ a ++ one
 right_on s a b one two grown g h =
     right_append s (member_trees s [] a) one two g (subst (λ ts. AreMembersRight s ts two) (ap (member_trees s []) grown ∙ members_append s [] a one) h)
 
-own_append : (t : Setting) (s : Surroundings) (scope : List TypeTree) (ms more : List Member) → AreOwnExports t s scope ms → AreOwnExports t s (member_trees s scope ms) more → AreOwnExports t s scope (ms ++ more)
-own_append t s scope [] more a b = b
-own_append t s scope (x ∷ ms) more a b = (a.0, own_append t s (with_member s scope x) ms more a.1 b)
+pub members_same : (s : Surroundings) (ms : List Member) → MembersGrow s ms ms
+members_same s ms = record { more = []; grown = sym (append-nil ms); right = tt; none = refl }
 
-pub own_on : (t : Setting) (s : Surroundings) (a b one two : List Member) → b ≡ a ++ one → AreOwnExports t s (member_trees s [] a) one → AreOwnExports t s (member_trees s [] b) two → AreOwnExports t s (member_trees s [] a) (one ++ two)
-own_on t s a b one two grown g h =
-    own_append t s (member_trees s [] a) one two g (subst (λ ts. AreOwnExports t s ts two) (ap (member_trees s []) grown ∙ members_append s [] a one) h)
-
-pub members_same : (t : Setting) (s : Surroundings) (ms : List Member) → MembersGrow t s ms ms
-members_same t s ms = record { more = []; grown = sym (append-nil ms); right = tt; own = tt; types = refl }
-
-pub members_on : (t : Setting) (s : Surroundings) (a b c : List Member) → MembersGrow t s a b → MembersGrow t s b c → MembersGrow t s a c
-members_on t s a b c g h =
+pub members_on : (s : Surroundings) (a b c : List Member) → MembersGrow s a b → MembersGrow s b c → MembersGrow s a c
+members_on s a b c g h =
     record {
       more = g.more ++ h.more;
       right = right_on s a b g.more h.more g.grown g.right h.right;
-      own = own_on t s a b g.more h.more g.grown g.own h.own;
       grown = h.grown ∙ (ap (λ m. m ++ h.more) g.grown ∙ append_assoc a g.more h.more);
-      types = flat_map-append exported_function g.more h.more ∙ (ap (λ es. es ++ function_exports h.more) g.types ∙ h.types);
+      none = flat_map-append member_export g.more h.more ∙ (ap (λ es. es ++ exports_of h.more) g.none ∙ h.none);
     }
 
--- of three states of an instance type, each with what its definitions take as given
-pub follow_on : (r t u : Setting) (s : Surroundings) (a b c : List Member) → (t ≡ r) × MembersGrow r s a b → (u ≡ t) × MembersGrow t s b c → (u ≡ r) × MembersGrow r s a c
-follow_on r t u s a b c g h = (h.0 ∙ g.0, members_on r s a b c g.1 (subst (λ x. MembersGrow x s b c) g.0 h.1))
+-- of three states of an instance type, each with what it offers, its interface and the types that were passed
+pub follow_on : {O H T : Type 0} (s : Surroundings) (o p q : O) (here there last : H) (t u v : T) (a b c : List Member) → (p ≡ o) × (there ≡ here) × (u ≡ t) × MembersGrow s a b → (q ≡ p) × (last ≡ there) × (v ≡ u) × MembersGrow s b c → (q ≡ o) × (last ≡ here) × (v ≡ t) × MembersGrow s a c
+follow_on s o p q here there last t u v a b c g h = (h.0 ∙ g.0, h.1 ∙ g.1, h.2 ∙ g.2, members_on s a b c g.3 h.3)

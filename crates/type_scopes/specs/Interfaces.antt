@@ -1,6 +1,6 @@
 -- What the types and functions of an interface are in a scope (component model, WIT: interfaces; explainer: instance
 -- types).
-use Rattle.std.specs.Prelude.{ℕ, ◌≡◌, ◌<◌, true, List, [], ◌∷◌, ◌++◌, length, Some, is_some, if◌then◌else◌}
+use Rattle.std.specs.Prelude.{ℕ, ◌≡◌, true, false, List, [], ◌∷◌, ◌++◌, map, take, slice_get, Some, is_some, if◌then◌else◌}
 use Rattle.std.specs.Str.{bytes_eq}
 use Rattle.std.specs.Map.{lookup}
 use Rattle.std.specs.List.{AllByRecursion, AllZip, flat_map, list_any}
@@ -8,21 +8,23 @@ use Rattle.wit_data.specs.declared.ids.TypeId.{TypeId}
 use Rattle.wit_data.specs.declared.ids.InterfaceId.{InterfaceId}
 use Rattle.wit_data.specs.declared.types.Type.TheVariants.{Id}
 use Rattle.wit_data.specs.declared.types.TypeDef.{TypeDef}
-use Rattle.wit_data.specs.declared.types.TypeOwner.TheVariants as owners
 use Rattle.wit_data.specs.declared.functions.Function.{Function}
+use Rattle.wit_data.specs.Values.{kind_at}
 use Rattle.comp_bytes.specs.declared.types.ComponentValType.{ComponentValType}
 use Rattle.comp_bytes.specs.declared.space.Space.TheVariants as spaces
 use Rattle.comp_bytes.specs.declared.types.Member.{Member}
 use Rattle.comp_trees.specs.Trees.{Resource}
 use Rattle.comp_trees.specs.WitTrees.{wit_tree, wit_function_tree}
 use Rattle.comp_trees.specs.DefinedTrees.{TypeTree, OfValues, OfFunctions}
-use Rattle.wit_types.specs.Settings.{Setting, owner_at, name_at}
+use Rattle.wit_types.specs.Settings.{Setting}
+use Rattle.wit_types.specs.Allowing.{is_resource, IsDefinedHere}
 use Rattle.comp_trees.specs.DefinedScopes.{Denotes}
 use Rattle.wit_types.specs.Denoting.{ValueDenotes}
 use Rattle.wit_types.specs.declared.maps.TypeEncodingMaps.{TypeEncodingMaps}
 use Rattle.wit_types.specs.Maps.{IsNamedValue, Faithful}
-use Rattle.comp_trees.specs.Members.{Surroundings, member_trees, exports_name, type_exported}
-use Rattle.type_scopes.specs.Exports.{IsExport}
+use Rattle.comp_trees.specs.Members.{Surroundings, AreMembersRight, member_trees, exports_name, type_exported}
+use Rattle.type_scopes.specs.Titles.{IsTitled, title}
+use Rattle.type_scopes.specs.Exports.{IsExport, AreOwnExports, exports_of, function_exports}
 use Rattle.type_scopes.specs.Offers.{Offer, placed}
 
 -- A type has a value type in the scope. Where that is a type of the scope, it is the one that the type's name stands for.
@@ -33,20 +35,6 @@ pub record TypeIn (s : Setting) (scope : List TypeTree) (names : List ℕ → �
 
 pub record TypesIn (s : Setting) (scope : List TypeTree) (names : List ℕ → ℕ → Type 0) (ids : List TypeId) : Type 0 where
   pub each : AllByRecursion (TypeIn s scope names) ids
-
--- a type of the interface with this name
-pub record IsTitled (types : List TypeDef) (here : InterfaceId) (id : TypeId) (name : List ℕ) : Type 0 where
-  pub present : id.index < length types
-  pub owner : owner_at types id.index ≡ owners.Interface here
-  pub named : name_at types id.index ≡ Some name
-
-pub record HasTitle (types : List TypeDef) (here : InterfaceId) (id : TypeId) : Type 0 where
-  pub name : List ℕ
-  pub is : IsTitled types here id name
-
--- no two types of the interface have one name
-pub record AreTitlesApart (types : List TypeDef) (here : InterfaceId) : Type 0 where
-  pub each : (a b : TypeId) (name : List ℕ) → IsTitled types here a name → IsTitled types here b name → a ≡ b
 
 -- an instance exports a type of the interface under its name
 pub record ExportsType (s : Surroundings) (origin : TypeId → Resource) (types : List TypeDef) (here : InterfaceId) (ms : List Member) (id : TypeId) : Type 0 where
@@ -72,12 +60,29 @@ used_function used (name, f) = if is_some (lookup (bytes_eq name) used) then f �
 abbrev pub used_among : List (List ℕ × Unit {0}) → List (List ℕ × Function) → List Function
 used_among used fs = flat_map (used_function used) fs
 
--- further functions are exported, which are these
-pub record AddsFunctions (s : Setting) (scope : List TypeTree) (old new : List (List ℕ × ℕ)) (fs : List Function) : Type 0 where
+-- further functions are exported, which are these, and nothing else is
+pub record AddsFunctions (s : Setting) (scope : List TypeTree) (old new : List Member) (fs : List Function) : Type 0 where
   pub exports : List (List ℕ × ℕ)
-  pub added : new ≡ old ++ exports
+  pub added : function_exports new ≡ function_exports old ++ exports
   pub are : FunctionsIn s scope exports fs
+  pub names : exports_of new ≡ exports_of old ++ map (λ f. f.name) fs
 
--- the tables of an instance type are right
-abbrev pub IsRight : Surroundings → (TypeId → Resource) → Offer → InterfaceId → List Member → TypeEncodingMaps → Type 0
-IsRight s origin o here ms maps = Faithful (placed s origin o here) (member_trees s [] ms) (IsExport ms) maps
+-- the tables of an instance type are right, where these types were passed
+abbrev pub IsRight : Surroundings → (TypeId → Resource) → Offer → InterfaceId → List TypeId → List Member → TypeEncodingMaps → Type 0
+IsRight s origin o here passed ms maps = Faithful (placed s origin o here passed) (member_trees s [] ms) (IsExport ms) maps
+
+-- these types are exported, in their order, and nothing else is
+pub record AreExported (s : Surroundings) (origin : TypeId → Resource) (o : Offer) (here : InterfaceId) (passed : List TypeId) (ms : List Member) : Type 0 where
+  pub right : AreMembersRight s [] ms
+  pub own : AreOwnExports s origin o here passed [] ms
+  pub types : TypesIn (placed s origin o here []) (member_trees s [] ms) (IsExport ms) passed
+  pub names : exports_of ms ≡ map (title o.types) passed
+  pub functions : function_exports ms ≡ []
+
+-- a type that is a resource, or whose parts may be encoded, once these were passed
+abbrev pub IsNext : Surroundings → (TypeId → Resource) → Offer → InterfaceId → List TypeId → TypeId → Type 0
+IsNext s origin o here passed id = is_resource (kind_at o.types id.index) ≡ false → IsDefinedHere (placed s origin o here passed) (kind_at o.types id.index)
+
+-- each of these types is so once those before it were passed
+pub record AreInOrder (s : Surroundings) (origin : TypeId → Resource) (o : Offer) (here : InterfaceId) (ids : List TypeId) : Type 0 where
+  pub each : (n : ℕ) (id : TypeId) → slice_get ids n ≡ Some id → IsNext s origin o here (take n ids) id

@@ -12,10 +12,10 @@ invariant-loop-name g l =
     (goal.iterator-loop-name g).can_next l.name-iterator ×
     (goal.iterator-loop-name g).is_finite l.name-iterator ×
     record {
-      so_far : FunctionsSoFar (placed g.P.Placement.surroundings g.P.Placement.origin l.fn.encoder.outer l.fn.encoder.interface) g.P.Placement.surroundings l.used l.fn.encoder.members l.encoder.members l.functions l.name-iterator;
+      so_far : FunctionsSoFar (placed g.P.Placement.surroundings g.P.Placement.origin l.fn.encoder.outer l.fn.encoder.interface l.fn.encoder.passed.now) g.P.Placement.surroundings l.used l.fn.encoder.members l.encoder.members l.functions l.name-iterator;
       present : AllByRecursion (λ e. HasFunction l.resolve e.1) l.name-iterator;
-      allowed : AllByRecursion (λ f. allows_function (placed g.P.Placement.surroundings g.P.Placement.origin l.fn.encoder.outer l.fn.encoder.interface) f ≡ true) (used_among l.used l.name-iterator);
-      setting : placed g.P.Placement.surroundings g.P.Placement.origin l.encoder.outer l.encoder.interface ≡ placed g.P.Placement.surroundings g.P.Placement.origin l.fn.encoder.outer l.fn.encoder.interface;
+      allowed : AllByRecursion (λ f. allows_function (placed g.P.Placement.surroundings g.P.Placement.origin l.fn.encoder.outer l.fn.encoder.interface l.fn.encoder.passed.now) f ≡ true) (used_among l.used l.name-iterator);
+      setting : placed g.P.Placement.surroundings g.P.Placement.origin l.encoder.outer l.encoder.interface l.encoder.passed.now ≡ placed g.P.Placement.surroundings g.P.Placement.origin l.fn.encoder.outer l.fn.encoder.interface l.fn.encoder.passed.now;
       same : l.encoder.outer.types ≡ l.resolve.types;
-      right : IsRight g.P.Placement.surroundings g.P.Placement.origin l.encoder.outer l.encoder.interface l.encoder.members l.encoder.maps;
+      right : IsRight g.P.Placement.surroundings g.P.Placement.origin l.encoder.outer l.encoder.interface l.encoder.passed.now l.encoder.members l.encoder.maps;
     }
