@@ -4,7 +4,8 @@ use Rattle.comp_bytes.specs.Grammar.{Encodes}
 use Rattle.comp_bytes.specs.Scopes.{Scoped}
 use Rattle.comp_bytes.specs.declared.def.Def.{Def}
 use Rattle.comp_names.specs.Names.{NamesOk}
-use Rattle.comp_worlds.specs.Worlds.{IsWorld}
+use Rattle.comp_worlds.specs.Encodable.{IsEncodable}
+use Rattle.comp_links.specs.Naming.{own_names}
 use Rattle.comp_worlds.specs.declared.world.ComponentWorld.{ComponentWorld}
 use Rattle.comp_worlds.specs.Gathering.{HasModules}
 use Rattle.comp_worlds.specs.declared.lower.Lower as lower
@@ -14,10 +15,10 @@ use Rattle.comp_encoder.specs.Component.{IsComponentOf, IsEncoding}
 use Rattle.link_laws.proofs.Runs.{composed, links}
 use Rattle.link_laws.proofs.Steps.{no_modules}
 
-pub made_of : (w : ComponentWorld) (validate : Bool) (bytes : List ℕ) (ds : List Def) → IsWorld w → Encodes bytes ds → Scoped ds × IsBuilt w ds → (IsTrue validate → NamesOk ds) →
+pub made_of : (w : ComponentWorld) (validate : Bool) (bytes : List ℕ) (ds : List Def) → IsEncodable w → Encodes bytes ds → Scoped ds × IsBuilt own_names w ds → (IsTrue validate → NamesOk ds) →
     IsComponentOf w validate bytes
 made_of w validate bytes ds valid encodes built named =
-    record { defs = ds; encodes = encodes; scoped = built.0; generated = no_modules; composed = composed w ds valid built.1; links = links w ds valid built.1; named = named }
+    record { defs = ds; encodes = encodes; scoped = built.0; generated = no_modules; composed = composed own_names w ds valid.valid built.1; links = links own_names w ds valid.valid built.1; named = named }
 
 module _ {L B F : Type 0} (l : lower.Ghosts L B F) where
   pub component_of : (e : Encoder L B) (w : ComponentWorld) (bytes : List ℕ) → IsWorldOf l e w → IsComponentOf w e.gathered.options.validate bytes → IsEncoding l e bytes

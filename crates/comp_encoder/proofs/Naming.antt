@@ -1,5 +1,6 @@
 -- The names in a component that was built for a world: those of its imports and exports are the stated ones, those of its
 -- types of instances are as the world says, and all other names are distinct in their lists.
+use Rattle.comp_links.specs.Naming.{own_names}
 use Rattle.std.proofs.Common.{◌≡◌, ℕ, zero, suc, Some, Bool, IsTrue, List, [], ◌∷◌, ◌++◌, refl, sym, ap₂, subst, map, arith}
 use Rattle.std.specs.Prelude.{Contains}
 use Rattle.std.specs.List.{AllByRecursion, AllZip, IsDistinct, flat_map}
@@ -171,10 +172,10 @@ IsIn lists name = (list : Names) × Contains lists list × Contains list name
 each_in : (lists : List Names) → AllByRecursion (AllByRecursion (IsIn lists)) lists
 each_in lists = AllByRecursion-weaker (λ list c. AllByRecursion-weaker (λ name k. (list, c, k)) list (each_contained list)) lists (each_contained lists)
 
-module _ (w : ComponentWorld) (ds : List Def) (valid : IsWorld w) (built : IsBuilt w ds) (g : GeneratedModules) (composed : IsComposed w g ds) where
+module _ (w : ComponentWorld) (ds : List Def) (valid : IsWorld w) (built : IsBuilt own_names w ds) (g : GeneratedModules) (composed : IsComposed own_names w g ds) where
   lists_are : extern_lists ds ≡ name_lists w
   lists_are =
-      rw (import_names_of ds, export_names_of ds, composed.imports, composed.exports, root_type_names w ds built) refl
+      rw (import_names_of ds, export_names_of ds, composed.imports, composed.exports, root_type_names own_names w ds built) refl
 
   -- a name that occurs twice in a list of names does so in one of these lists
   twice_stated : (name : List ℕ) (list : Names) → Contains (names ds) list → OccursTwice name list → IsNameCause w (checks.NameTwice name)

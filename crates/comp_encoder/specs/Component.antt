@@ -1,4 +1,5 @@
 -- What the bytes that `encode` returns are (component model, binary format; explainer: component definitions).
+use Rattle.comp_links.specs.Naming.{own_names}
 use Rattle.std.specs.Prelude.{ℕ, Bool, List, IsTrue}
 use Rattle.comp_bytes.specs.Grammar.{Encodes}
 use Rattle.comp_bytes.specs.Scopes.{Scoped}
@@ -19,8 +20,8 @@ pub record IsComponentOf (w : ComponentWorld) (validate : Bool) (bytes : List �
   pub encodes : Encodes bytes defs
   pub scoped : Scoped defs
   pub generated : GeneratedModules
-  pub composed : IsComposed w generated defs
-  pub links : Links w generated defs
+  pub composed : IsComposed own_names w generated defs
+  pub links : Links own_names w generated defs
   pub named : IsTrue validate → NamesOk defs
 
 module _ {L B F : Type 0} (l : lower.Ghosts L B F) where

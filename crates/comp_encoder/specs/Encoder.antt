@@ -5,7 +5,7 @@ use Rattle.world_values.specs.declared.gathered.Gathered.{Gathered}
 use Rattle.world_values.specs.declared.gathered.Part.{Part}
 use Rattle.comp_worlds.specs.declared.world.ComponentWorld.{ComponentWorld}
 use Rattle.comp_worlds.specs.declared.lower.Lower as lower
-use Rattle.comp_worlds.specs.Worlds.{IsWorld}
+use Rattle.comp_worlds.specs.Encodable.{IsEncodable}
 use Rattle.comp_worlds.specs.Gathering.{HasModules}
 
 -- the lower layer, and what was gathered
@@ -21,5 +21,5 @@ main_bytes (Some part) = part.bytes
 -- the validated world of what was gathered
 pub record IsWorldOf {L B F : Type 0} (l : lower.Ghosts L B F) (e : Encoder L B) (w : ComponentWorld) : Type 0 where
   pub prepared : w ≡ l.prepared e.lower e.gathered
-  pub valid : IsWorld w
+  pub valid : IsEncodable w
   pub modules : HasModules e.gathered w

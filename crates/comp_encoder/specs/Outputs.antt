@@ -1,5 +1,6 @@
 -- When no component of a world is returned. The form of names is the component model's (explainer: import and
 -- export definitions); the string encoding that a function needs is the Canonical ABI's `string-encoding`.
+use Rattle.comp_links.specs.Naming.{own_names}
 use Rattle.std.specs.Prelude.{ℕ, Bool, List, ◌∷◌, map, ⊤, IsTrue, Contains}
 use Rattle.comp_bytes.specs.ScopeNames.{Names}
 use Rattle.comp_check.specs.declared.fault.CheckFault.{CheckFault}
@@ -17,10 +18,10 @@ abbrev pub stated_names : List Stated → Names
 stated_names stated = map (λ (s : Stated). s.name.name) stated
 
 abbrev pub import_names : ComponentWorld → Names
-import_names w = stated_names (stated_imports w)
+import_names w = stated_names (stated_imports own_names w)
 
 abbrev pub export_names : ComponentWorld → Names
-export_names w = stated_names (stated_exports w)
+export_names w = stated_names (stated_exports own_names w)
 
 -- the lists of names of imports and exports that the component has: of its imports, of its exports, and of what each type of
 -- instances exports

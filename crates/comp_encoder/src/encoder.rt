@@ -4,7 +4,7 @@ ghost use Rattle.std.specs.Prelude.{◌≡◌, ◌++◌, IfOk, IfErr, OnOk, OnEr
 ghost use Rattle.comp_encoder.specs.Encoder.{main_bytes, IsWorldOf};
 ghost use Rattle.comp_encoder.specs.Calls.{fresh, validating, merging_versions, rejecting_legacy_names, after_module};
 ghost use Rattle.comp_encoder.specs.Refusals.{ModuleCause, IsModuleRefusal, NoWorldCause, NoEncodeCause, IsEncodeRefusal};
-ghost use Rattle.comp_worlds.specs.Worlds.{IsWorld};
+ghost use Rattle.comp_worlds.specs.Encodable.{IsEncodable};
 ghost use Rattle.comp_encoder.specs.Component.{IsComponentOf, IsEncoding};
 ghost use Rattle.comp_encoder.specs.Outputs.{NoOutputCause, IsOutputRefusal};
 
@@ -187,7 +187,7 @@ impl<L: Lower> ComponentEncoder<L> {
 
     /// The component of the world, checked where `validate` is on.
     fn output(&self, world: &ComponentWorld) -> Result<Vec<u8>, OutputFault>
-        requires { IsWorld world.now }
+        requires { IsEncodable world.now }
         ensures ok { IfOk result (λ bytes. IsComponentOf world.now self.now.gathered.options.validate bytes.items) }
         ensures refused { IsOk result → NoOutputCause world.now self.now.gathered.options.validate }
         ensures cause { IfErr result (IsOutputRefusal world.now self.now.gathered.options.validate) }

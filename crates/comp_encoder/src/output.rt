@@ -4,7 +4,7 @@ ghost use Rattle.std.specs.Prelude.{◌≡◌, IfOk, IfErr, IsOk, IsTrue};
 ghost use Rattle.comp_bytes.specs.Scopes.{Scoped};
 ghost use Rattle.comp_names.specs.Names.{NamesOk};
 ghost use Rattle.comp_check.specs.Faults.{IsUnchecked};
-ghost use Rattle.comp_worlds.specs.Worlds.{IsWorld};
+ghost use Rattle.comp_worlds.specs.Encodable.{IsEncodable};
 ghost use Rattle.comp_encoder.specs.Component.{IsComponentOf};
 ghost use Rattle.comp_state.specs.Causes.{of_build};
 ghost use Rattle.comp_encoder.specs.Outputs.{IsOutputRefusal, NoOutputCause};
@@ -72,7 +72,7 @@ pub(crate) fn component_bytes(
     world: &ComponentWorld,
     validate: bool,
 ) -> Result<Vec<u8>, OutputFault>
-    requires { IsWorld world.now }
+    requires { IsEncodable world.now }
     ensures ok { IfOk result (λ bytes. IsComponentOf world.now validate bytes.items) }
     ensures refused { IsOk result → NoOutputCause world.now validate }
     ensures cause { IfErr result (IsOutputRefusal world.now validate) }

@@ -1,7 +1,7 @@
 //! All that a component imports, in order.
 #![tactic(auto, using(crate::proofs::Growth::growing))]
 
-ghost use Rattle.std.specs.Prelude.{◌≡◌, [], IfOk, IfErr, OnOk};
+ghost use Rattle.std.specs.Prelude.{◌≡◌, IfOk, IfErr, OnOk};
 ghost use Rattle.comp_items.specs.Items.{Extends};
 ghost use Rattle.comp_terms.specs.Rules.{Grows, imports_marked};
 ghost use Rattle.comp_terms.specs.Terms.{imports_in};
@@ -25,7 +25,6 @@ impl RootScope<'_, ComponentWorld> {
     pub fn import_all(&mut self) -> Result<Keyed<Text, u32>, BuildFault>
         requires valid { IsEncodable self.old.world.now }
         requires first { imports_in self.old.items.defs ≡ 0 }
-        requires none { self.old.instances ≡ [] }
         requires tables { AreTablesRight self.old.world.now self.old.last_type self.old.items.defs self.old.maps }
         ensures world { self.new.world ≡ self.old.world }
         ensures extends { Extends self.old.items self.new.items }

@@ -157,7 +157,6 @@ impl RootScope<'_, ComponentWorld> {
     pub(crate) fn import_interfaces(&mut self) -> Result<(), BuildFault>
         requires valid { IsEncodable self.old.world.now }
         requires first { imports_in self.old.items.defs ≡ 0 }
-        requires none { self.old.instances ≡ [] }
         requires tables { AreTablesRight self.old.world.now self.old.last_type self.old.items.defs self.old.maps }
         ensures world { self.new.world ≡ self.old.world }
         ensures next { self.new.last_type ≡ self.old.last_type }
@@ -169,6 +168,7 @@ impl RootScope<'_, ComponentWorld> {
         ensures cause { IfErr result IsRefusal }
     {
         let world = self.world;
+        self.instances = Keyed::new(self.items.allocator());
         let uses = interface_uses(self.items.allocator(), world)?;
         for (key, item) in world.items().imports.iter() {
             self.import_interface_item(&uses, key, item)?;

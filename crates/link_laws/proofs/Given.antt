@@ -44,7 +44,7 @@ use Rattle.comp_runs.specs.Store.{Thing, Export, CoreItem, Lowering, IntrinsicOf
 use Rattle.comp_roles.specs.declared.offered.ExternType.{ExternType}
 use Rattle.comp_roles.specs.declared.offered.ExternType.TheVariants as externs
 use Rattle.comp_roles.specs.declared.offered.ImportType.{ImportType}
-use Rattle.comp_links.specs.Targets.{Main, Target, OfRoot, Lowered, Dropped, Lifted}
+use Rattle.comp_links.specs.Targets.{Main, Target, OfRoot, OfInterface, Lowered, Dropped, Lifted}
 use Rattle.comp_links.specs.Lists.{resource_of}
 use Rattle.comp_links.specs.Links.{link_of, link_in, link_at}
 use Rattle.comp_terms.specs.Terms.{CoreExport, TermOption, Term, Is, IsFunctionType, IsResource, IsImportedFunction, IsInstanceOf, IsExported, IsLowering, IsDropping, IsLifting}

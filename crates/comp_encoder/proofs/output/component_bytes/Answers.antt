@@ -1,4 +1,5 @@
 use Rattle.std.proofs.Common.{refl}
+use Rattle.comp_links.specs.Naming.{own_names}
 use Rattle.comp_encoder.specs.Outputs.{IsOutputRefusal}
 use Rattle.comp_encoder.proofs.Answered.{made_of}
 use Rattle.comp_encoder.proofs.Naming.{check_refusal, no_name_cause}
@@ -11,7 +12,7 @@ pub returns-in_err-check_if-clause-cause : goal.returns-in_err-check_if-clause-c
 returns-in_err-check_if-clause-cause c =
     let made = c.in_ok-component.ensures.ok in
     refused_as c.from_residual-in_err-check_if.result _ (IsOutputRefusal c.args.world.now c.args.validate) c.from_residual-in_err-check_if.ensures.1
-    (check_refusal c.args.world.now c.in_ok-component.component.defs c.requires made.1 no_modules (composed c.args.world.now c.in_ok-component.component.defs c.requires made.1) made.0 c.args.validate _
+    (check_refusal c.args.world.now c.in_ok-component.component.defs c.requires.valid made.1 no_modules (composed own_names c.args.world.now c.in_ok-component.component.defs c.requires.valid made.1) made.0 c.args.validate _
     c.in_err-check_if.ensures.cause)
 
 pub returns-clause-ok : goal.returns-clause-ok
@@ -23,6 +24,6 @@ returns-clause-refused c =
     let made = c.in_ok-component.ensures.ok in
     λ _. record {
       encodings = c.in_ok-component.ensures.refused refl;
-      names = λ on fault. no_name_cause c.args.world.now c.in_ok-component.component.defs c.requires made.1 no_modules (composed c.args.world.now c.in_ok-component.component.defs c.requires made.1)
+      names = λ on fault. no_name_cause c.args.world.now c.in_ok-component.component.defs c.requires.valid made.1 no_modules (composed own_names c.args.world.now c.in_ok-component.component.defs c.requires.valid made.1)
           (c.in_ok-check_if.ensures.ok on) fault;
     }
