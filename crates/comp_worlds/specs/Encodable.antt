@@ -5,8 +5,10 @@ use Rattle.std.specs.List.{AllByRecursion, list_all}
 use Rattle.std.specs.Option.{option_and_then}
 use Rattle.wit_data.specs.declared.functions.Function.{Function}
 use Rattle.wit_data.specs.declared.resolve.Resolve.{Resolve}
-use Rattle.wit_data.specs.declared.types.Type.{Type as Ty}
+use Rattle.wit_data.specs.declared.types.Type.{«Type» as Ty}
 use Rattle.wit_data.specs.declared.types.TypeDef.{TypeDef}
+use Rattle.wit_data.specs.declared.types.TypeDefKind.{TypeDefKind}
+use Rattle.wit_data.specs.declared.types.TypeDefKind.TheVariants as kinds
 use Rattle.wit_data.specs.declared.types.TypeOwner.{TypeOwner}
 use Rattle.wit_data.specs.declared.types.TypeOwner.TheVariants as owners
 use Rattle.wit_data.specs.declared.worlds.WorldItem.{WorldItem}
@@ -40,12 +42,16 @@ pub record ImportsResources (w : ComponentWorld) : Type 0 where
 
 -- ---- interfaces
 
--- whether no type has a name of which a type is made
+abbrev pub is_value : TypeDefKind → Bool
+is_value kinds.Resource = false
+is_value kind = true
+
 abbrev pub name_at : List TypeDef → ℕ → Option (List ℕ)
 name_at types n = option_and_then (λ t. t.name) (slice_get types n)
 
+-- whether a type is made of types of values alone that have no names
 abbrev pub unnamed : List TypeDef → Making Bool
-unnamed types = record { absent = true; simple = λ p. true; made = λ n kind parts. is_none (name_at types n) && list_all (λ b. b) parts }
+unnamed types = record { absent = true; simple = λ p. true; made = λ n kind parts. is_none (name_at types n) && (is_value kind && list_all (λ b. b) parts) }
 
 abbrev pub is_unnamed : List TypeDef → Option Ty → Bool
 is_unnamed types part = value (unnamed types) types part
