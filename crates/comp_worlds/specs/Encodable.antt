@@ -1,6 +1,6 @@
 -- What the encoder takes of a validated world, beside what holds of every one: that its numbers refer to something, and
 -- where it finds the types of which its functions are made (component model, WIT: types, resources, interfaces).
-use Rattle.std.specs.Prelude.{◌≡◌, ◌≤◌, ◌&&◌, ℕ, suc, Bool, true, List, [], ◌∷◌, map, Option, Some, is_none, Contains, slice_get}
+use Rattle.std.specs.Prelude.{◌≡◌, ◌≤◌, ◌&&◌, ℕ, suc, Bool, true, false, List, [], ◌∷◌, map, Option, Some, is_none, Contains, slice_get}
 use Rattle.std.specs.List.{AllByRecursion, list_all}
 use Rattle.std.specs.Option.{option_and_then}
 use Rattle.wit_data.specs.declared.functions.Function.{Function}

@@ -2,9 +2,12 @@
 //! from these.
 //!
 //! Data alone, and the trait [`Lower`] by which a lower layer makes it; how it is encoded is up to the crates
-//! above. The guarantees are `IsWorld` of `specs/Worlds.antt` and `HasTables` of `specs/WorldTables.antt`, which hold of
-//! every world that a lower layer returns; the encoder needs the first alone, as yet. The roles of imports and exports of core modules come from `comp_roles`, the options that a call
-//! needs from `comp_options`; this crate re-exports their names, so that its users need no other crate.
+//! above. What holds of every world that a lower layer returns is `IsEncodable` of `specs/Encodable.antt` and `HasTables`
+//! of `specs/WorldTables.antt`. The first contains `IsWorld` of `specs/Worlds.antt`, which says what the world has and
+//! what its modules fit, and beside that what only the steps of the encoder take: that its numbers refer to something,
+//! that its types are at the root, that its resources are imported, and that its imported interfaces have no types of
+//! their own. The roles of imports and exports of core modules come from `comp_roles`, the options that a call needs from
+//! `comp_options`; this crate re-exports their names, so that its users need no other crate.
 //!
 //! In reading order: `lowerings` (how imported functions are lowered), `calls` (what core imports use), `world` (the
 //! validated world), `modules` (user modules by name, and which module has a module's realloc), `lower` (the

@@ -54,7 +54,8 @@ impl Drop for WorldAdapter {
 
 /// The validated world: the items that the component imports and exports, its main module with the
 /// keys of the exports that it has to have, its adapters, in order, and the tables that follow from these.
-/// `IsWorld` says what holds of it, `HasTables` what the tables are.
+/// `IsWorld` says what holds of it, `IsEncodable` what the encoder takes of it beside that, and `HasTables` what the tables
+/// are.
 pub struct ComponentWorld {
     pub resolve: Resolve,
     /// The world of the resolve whose items these are.

@@ -8,11 +8,13 @@
 --
 -- So the names of a sound record refer to types that are made earlier; any other name refers to nothing. The type to which
 -- a function belongs by its own name may come later, or be none.
-use Rattle.std.specs.Prelude.{◌≡◌, ◌≢◌, ◌<◌, length, [], ◌∷◌, Result, Ok, Err}
+use Rattle.std.specs.Prelude.{◌≡◌, ◌≢◌, ◌<◌, ℕ, length, List, [], ◌∷◌, Result, Ok, Err}
 use Rattle.std.specs.List.{AllByRecursion}
 use Rattle.json_paths.specs.declared.fault.Failure.{Failure}
 use Rattle.json_paths.specs.declared.fault.Failure.TheVariants as failures
 use Rattle.json_paths.specs.Faults.{◌>>=◌}
+use Rattle.wit_data.specs.declared.functions.Function.{Function}
+use Rattle.wit_data.specs.declared.resolve.Interface.{Interface}
 use Rattle.wit_data.specs.declared.resolve.Resolve.{Resolve}
 use Rattle.wit_data.specs.Sound.{IsSound, HasInterface}
 use Rattle.record_values.specs.declared.world.Wit.{Wit}
@@ -84,6 +86,14 @@ pub record AreNamed (w : World) : Type 0 where
   pub imports : AllByRecursion IsNamed w.imports
   pub exports : AllByRecursion IsNamed w.exports
 
+-- a function of an interface is listed under its name
+abbrev pub IsListed : List ℕ × Function → Type 0
+IsListed e = e.1.name ≡ e.0
+
+-- the functions of an interface are listed under their names
+pub record AreListed (i : Interface) : Type 0 where
+  pub functions : AllByRecursion IsListed i.functions
+
 -- there is a world; every number names something, and so do those of the interfaces by name; functions have the names of
 -- their keys
 pub record IsWhole (r : Resolved) : Type 0 where
@@ -92,6 +102,7 @@ pub record IsWhole (r : Resolved) : Type 0 where
   pub imported : AllByRecursion (λ i. HasInterface r.resolve i.1) r.imported
   pub exported : AllByRecursion (λ i. HasInterface r.resolve i.1) r.exported
   pub named : AllByRecursion AreNamed r.resolve.worlds
+  pub listed : AllByRecursion AreListed r.resolve.interfaces
 
 -- what was refused, or the result is not whole
 abbrev pub IsRefused : Result Resolved Failure → Failure → Type 0

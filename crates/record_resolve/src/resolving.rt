@@ -7,17 +7,17 @@ ghost use Rattle.json_paths.specs.Faults.{Gives};
 ghost use Rattle.record_resolve.specs.Steps.{MakesBoth};
 ghost use Rattle.record_values.specs.Interfaces.{interfaces_after};
 ghost use Rattle.record_resolve.specs.InterfaceKeys.{keys_after};
-ghost use Rattle.record_resolve.specs.Resolved.{nothing_made, whole_of, paired, imports_of, exports_of, resolved_after, resolved_among, resolved, IsNamed, AreNamed, IsWhole, GivesWhole};
+ghost use Rattle.record_resolve.specs.Resolved.{nothing_made, whole_of, paired, imports_of, exports_of, resolved_after, resolved_among, resolved, IsNamed, AreNamed, IsListed, AreListed, IsWhole, GivesWhole};
 
 use crate::interface_keys::{WorldKeys, keys_of_world};
 use crate::interfaces::MadeInterfaces;
 use crate::making::{Making, Side};
 use crate::worlds::{Items, add_all, add_exported, make_items};
-use comp_lists::{Keyed, Seq};
+use comp_lists::{Keyed, Seq, Text};
 use json_paths::{Failure, fault_here};
 use record_values::{InterfaceName, Interfaces, Wit, interfaces_among};
 use std::alloc::Global;
-use wit_data::{InterfaceId, Resolve, World, WorldItem, WorldKey};
+use wit_data::{Function, Interface, InterfaceId, Resolve, World, WorldItem, WorldKey};
 
 /// A resolve with one world, the numbers of the interfaces that the world imports and of those that it
 /// exports, by name, and the first key of each interface on either side.
@@ -318,6 +318,35 @@ fn are_named(worlds: &[World]) -> bool
     true
 }
 
+fn all_listed(functions: &Keyed<Text, Function>) -> bool
+    ensures { IsTrue result ↔ AllByRecursion IsListed functions.now }
+{
+    for (name, function) in functions.iter() {
+        if function.name != *name {
+            return false;
+        }
+    }
+    true
+}
+
+fn has_listed(interface: &Interface) -> bool
+    ensures { IsTrue result ↔ AreListed interface.now }
+{
+    all_listed(&interface.functions)
+}
+
+/// Whether the functions of each interface are listed under their names.
+fn are_listed(interfaces: &[Interface]) -> bool
+    ensures { IsTrue result ↔ AllByRecursion AreListed interfaces.now }
+{
+    for interface in interfaces {
+        if !has_listed(interface) {
+            return false;
+        }
+    }
+    true
+}
+
 impl Resolved {
     fn is_whole(&self) -> bool
         ensures { IsTrue result ↔ IsWhole self.now }
@@ -327,6 +356,7 @@ impl Resolved {
             && are_there(&self.resolve, &self.imported)
             && are_there(&self.resolve, &self.exported)
             && are_named(self.resolve.worlds.as_slice())
+            && are_listed(self.resolve.interfaces.as_slice())
     }
 }
 
@@ -335,7 +365,7 @@ impl Resolved {
 /// Exported interfaces are copies of their own. The refusal is `Record` with the empty path, since no
 /// position in the record is known: for a name that refers to nothing made earlier, a malformed type, a
 /// malformed id, a name that occurs twice in an interface, a resolve that is not sound, and a function
-/// at the root whose name is not its key.
+/// whose name is not its key.
 pub fn resolve(alloc: Global, wit: &Wit) -> Result<Resolved, Failure>
     ensures { GivesWhole result (resolved wit.now) }
 {

@@ -1,11 +1,12 @@
--- A function that is found in a sound resolve is one of the resolve.
-use Rattle.std.proofs.Common.{◌≡◌, ℕ, zero, suc, Bool, true, false, cond, List, [], ◌∷◌, Option, Some, None, sym, subst}
-use Rattle.std.specs.Prelude.{slice_get, option_map}
+-- A function that is found in a sound resolve is one of the resolve; and a side has an interface at its key.
+use Rattle.std.proofs.Common.{◌≡◌, ℕ, zero, suc, Bool, true, false, cond, List, [], ◌∷◌, Option, Some, None, refl, sym, subst}
+use Rattle.std.specs.Prelude.{slice_get, option_map, if◌then◌else◌}
 use Rattle.std.specs.Option.{unwrap_or, option_and_then, option_map_or}
 use Rattle.std.specs.List.{AllByRecursion}
 use Rattle.std.specs.Map.{lookup}
 use Rattle.std.specs.Str.{bytes_eq}
 use Rattle.wit_data.specs.Keys.{is_same_key}
+use Rattle.wit_data.specs.contracts.ids.InterfaceIdPartialEq.TheImpl as same_id
 use Rattle.wit_data.specs.Sound.{IsSound, HasAll, HasFunction, HasItem, HasEntry, HasWorld}
 use Rattle.wit_data.specs.declared.functions.Function.{Function}
 use Rattle.wit_data.specs.declared.ids.InterfaceId.{InterfaceId}
@@ -15,12 +16,14 @@ use Rattle.wit_data.specs.declared.worlds.World.{World}
 use Rattle.wit_data.specs.declared.worlds.WorldItem.{WorldItem}
 use Rattle.wit_data.specs.declared.worlds.WorldItem.TheVariants as items
 use Rattle.wit_data.specs.declared.worlds.WorldKey.{WorldKey}
+use Rattle.wit_data.specs.declared.worlds.WorldKey.TheVariants as keys
 use Rattle.world_values.specs.Items.{functions_of, function_in}
 use Rattle.record_resolve.specs.declared.resolving.Resolved.{Resolved}
 use Rattle.record_role_targets.specs.declared.sides.Side.{Side}
 use Rattle.record_role_targets.specs.declared.sides.Side.TheVariants as sides
 use Rattle.record_role_targets.specs.declared.positions.Position.{Position}
-use Rattle.record_role_targets.specs.Sides.{items_in, items_of, item_at}
+use Rattle.record_role_targets.specs.Keys.{is_interface, existing_as, first_key, interface_key}
+use Rattle.record_role_targets.specs.Sides.{interface_keys, items_in, items_of, item_at}
 use Rattle.record_role_targets.specs.Positions.{function_at_key, function_at}
 
 -- what holds of all holds of the one at a number, if there is one
@@ -72,3 +75,28 @@ position_exists r side key (Some id) name sound =
 
 pub function_exists : (r : Resolved) (side : Side) (position : Position) (name : List ℕ) (f : Function) → Some f ≡ function_at side r position name → IsSound r.resolve → HasFunction r.resolve f
 function_exists r side position name f is sound = subst (IfThere (HasFunction r.resolve)) (sym is) (position_exists r side position.key position.interface name sound)
+
+-- ---- interfaces
+
+-- a side has this interface at a key
+pub record IsAtKey (r : Resolved) (side : Side) (id : InterfaceId) (key : WorldKey) : Type 0 where
+  pub is : option_map_or (is_interface id) (item_at side r key) false ≡ true
+
+at_existing : (r : Resolved) (side : Side) (id : InterfaceId) (there key : WorldKey) → existing_as id side r there ≡ Some key → IsAtKey r side id key
+at_existing r side id there key e = by (option_map_or (is_interface id) (item_at side r there) false) refl e
+  where
+    by : (b : Bool) → option_map_or (is_interface id) (item_at side r there) false ≡ b → (if b then Some there else None) ≡ Some key → IsAtKey r side id key
+    by true is e = let same : there ≡ key = cc (e) in subst (λ (k : WorldKey). IsAtKey r side id k) same (record { is = is })
+    by false is e = absurd cc
+
+at_first : (r : Resolved) (side : Side) (id : InterfaceId) (key : WorldKey) (o : Option WorldKey) → option_and_then (existing_as id side r) o ≡ Some key → IsAtKey r side id key
+at_first r side id key None e = absurd cc
+at_first r side id key (Some there) e = at_existing r side id there key e
+
+-- a side has an interface at its key
+pub at_key : (r : Resolved) (side : Side) (id : InterfaceId) (key : WorldKey) → interface_key side r id ≡ Some key → IsAtKey r side id key
+at_key r side id key e = by (option_map_or (is_interface id) (item_at side r (keys.Interface id)) false) refl e
+  where
+    by : (b : Bool) → option_map_or (is_interface id) (item_at side r (keys.Interface id)) false ≡ b → (if b then Some (keys.Interface id) else first_key side r id) ≡ Some key → IsAtKey r side id key
+    by true is e = let same : keys.Interface id ≡ key = cc (e) in subst (λ (k : WorldKey). IsAtKey r side id k) same (record { is = is })
+    by false is e = at_first r side id key (lookup (same_id.eq-value.it id) (interface_keys side r)) e

@@ -1,4 +1,4 @@
 mod Walking
-mod Existence
+pub mod Existence
 mod Naming
 mod Worked

@@ -48,4 +48,4 @@ first_key side r id = option_and_then (existing_as id side r) (lookup (same_id.e
 -- The key of an interface of a side: the interface itself, or else the name under which the side has it.
 abbrev pub interface_key : Side → Resolved → InterfaceId → Option WorldKey
 interface_key side r id =
-    if is_some (item_at side r (keys.Interface id)) then Some (keys.Interface id) else first_key side r id
+    if option_map_or (is_interface id) (item_at side r (keys.Interface id)) false then Some (keys.Interface id) else first_key side r id

@@ -133,7 +133,7 @@ pub(crate) fn interface_key(
     ensures { IfOk result (λ k. k ≡ interface_key side resolved.now id) }
 {
     let own = WorldKey::Interface(id);
-    if item_at(resolved, side, &own).is_some() {
+    if is_interface_at(resolved, side, &own, id) {
         return Ok(Some(own));
     }
     first_key(alloc, resolved, side, id)
