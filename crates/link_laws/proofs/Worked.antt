@@ -419,7 +419,7 @@ keeps_the_rules = record {
   right = (
     refl,
     (
-      (refl, record { type = plain_tree; is = function_typed }),
+      record { type = plain_tree; is = function_typed },
       (
         tt,
         (

@@ -222,9 +222,9 @@ keeps_the_rules = record {
   names = [];
   whole = refl;
   right = (
-    (refl, r_imported),
+    r_imported,
     (
-      (refl, s_imported),
+      s_imported,
       (
         tt,
         (
@@ -245,7 +245,7 @@ keeps_the_rules = record {
 }
 
 pub drops_link : Links own_names world no_modules (list_of 0 1)
-drops_link = links world (list_of 0 1) is_world keeps_the_rules
+drops_link = links own_names world (list_of 0 1) is_world keeps_the_rules
 
 pub drops_are_linked : IsLinked own_names world no_modules (machine_of (outcome world no_modules (list_of 0 1) made))
 drops_are_linked = drops_link.linked made (machine_of (outcome world no_modules (list_of 0 1) made)) refl

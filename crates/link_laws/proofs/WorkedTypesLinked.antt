@@ -136,17 +136,17 @@ keeps_the_rules = record {
   front = typed_list 4;
   names = [];
   whole = refl;
-  right = (refl, ((refl, p_imported), (f_known, ((refl, record { type = f_tree; is = f_typed }), (tt, ((record { origin = root_import 1; type = f_tree; is = f_imported }, refl), (record { each = (record { kind = refl; scoped = omega arith }, tt); apart = one_apart f }, (record { of = main_module world; listed = refl; scoped = omega arith; each = (f_offered, tt) }, (record { number = 0; of = main_module world; type = g_core; is = main_made 8 refl; listed = refl; offered = refl }, (refl, (g_known, ((omega arith, refl, record { type = g_tree; is = g_typed }), (g_required, tt)))))))))))));
+  right = (refl, (p_imported, (f_known, (record { type = f_tree; is = f_typed }, (tt, ((record { origin = root_import 1; type = f_tree; is = f_imported }, refl), (record { each = (record { kind = refl; scoped = omega arith }, tt); apart = one_apart f }, (record { of = main_module world; listed = refl; scoped = omega arith; each = (f_offered, tt) }, (record { number = 0; of = main_module world; type = g_core; is = main_made 8 refl; listed = refl; offered = refl }, (refl, (g_known, ((omega arith, refl, record { type = g_tree; is = g_typed }), (g_required, tt)))))))))))));
   marked = refl;
   named = tt;
 }
 
 -- so it is composed as the world says, and linked at its end
 pub typed_list_is_composed : IsComposed own_names world no_modules (typed_list 4)
-typed_list_is_composed = composed world (typed_list 4) is_world keeps_the_rules
+typed_list_is_composed = composed own_names world (typed_list 4) is_world keeps_the_rules
 
 pub typed_list_links : Links own_names world no_modules (typed_list 4)
-typed_list_links = links world (typed_list 4) is_world keeps_the_rules
+typed_list_links = links own_names world (typed_list 4) is_world keeps_the_rules
 
 pub typed_list_is_linked : IsLinked own_names world no_modules (machine_of (outcome world no_modules (typed_list 4) made))
 typed_list_is_linked = typed_list_links.linked made (machine_of (outcome world no_modules (typed_list 4) made)) refl
