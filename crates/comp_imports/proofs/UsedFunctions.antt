@@ -91,3 +91,5 @@ name_passed text k table = or_false (is_some (found text table)) ∙ ap (λ b. i
     by : (b : Bool) → false ≡ (b && false)
     by true = refl
     by false = refl
+
+pub ruleset naming = (name_added, name_passed)

@@ -95,7 +95,7 @@ pub(crate) fn interface_uses(
 }
 
 /// Adds the name of a function of an interface, if it is among those that are used.
-#[tactic(auto, using(crate::proofs::UsedFunctions::name_step))]
+#[tactic(auto, using(crate::proofs::UsedFunctions::naming))]
 fn add_if_used(
     alloc: Global,
     used: &mut Keyed<Text, ()>,
