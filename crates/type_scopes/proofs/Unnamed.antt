@@ -35,7 +35,7 @@ none_apart types here = record { each = λ a b name l m t u. absurd (true≢fals
 
 -- Where each type that passes a test has no name, is no resource and is owned by no other interface
 module _ (r : Resolve) (here : InterfaceId) (test : ℕ → TypeDefKind → Bool) (sound : IsSound r) (own : (n : ℕ) → n < length r.types → test n (kind_at r.types n) ≡ true → IsOwn r.types here n)
-  (plain : (n : ℕ) → n < length r.types → test n (kind_at r.types n) ≡ true → HasNoTitle r.types n) where
+    (plain : (n : ℕ) → n < length r.types → test n (kind_at r.types n) ≡ true → HasNoTitle r.types n) where
   abbrev types : List TypeDef
   types = r.types
 
