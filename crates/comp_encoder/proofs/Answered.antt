@@ -10,7 +10,8 @@ use Rattle.comp_worlds.specs.declared.world.ComponentWorld.{ComponentWorld}
 use Rattle.comp_worlds.specs.Gathering.{HasModules}
 use Rattle.comp_worlds.specs.declared.lower.Lower as lower
 use Rattle.comp_terms.specs.Rules.{IsBuilt}
-use Rattle.comp_encoder.specs.Encoder.{Encoder, IsWorldOf}
+use Rattle.comp_encoder.specs.Encoder.{Encoder}
+use Rattle.comp_encoder.specs.Prepared.{IsWorldOf}
 use Rattle.comp_encoder.specs.Component.{IsComponentOf, IsEncoding}
 use Rattle.link_laws.proofs.Runs.{composed, links}
 use Rattle.link_laws.proofs.Steps.{no_modules}

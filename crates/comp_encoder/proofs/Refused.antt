@@ -4,7 +4,8 @@ use Rattle.std.specs.Prelude.{IfErr}
 use Rattle.std.specs.Result.{IsErrAnd}
 use Rattle.comp_worlds.specs.declared.world.ComponentWorld.{ComponentWorld}
 use Rattle.comp_worlds.specs.declared.lower.Lower as lower
-use Rattle.comp_encoder.specs.Encoder.{Encoder, IsWorldOf}
+use Rattle.comp_encoder.specs.Encoder.{Encoder}
+use Rattle.comp_encoder.specs.Prepared.{IsWorldOf}
 use Rattle.comp_state.specs.Causes.{IsCause, LacksEncoding}
 use Rattle.comp_check.specs.declared.fault.CheckFault.TheVariants as checks
 use Rattle.comp_encoder.specs.Outputs.{IsNameCause, IsOutputRefusal, NoOutputCause}

@@ -1,4 +1,5 @@
 pub mod Encoder
+pub mod Prepared
 pub mod Calls
 pub mod Component
 pub mod Outputs

@@ -1,7 +1,8 @@
 //! The encoder's calls.
 
 ghost use Rattle.std.specs.Prelude.{◌≡◌, ◌++◌, IfOk, IfErr, OnOk, OnErr, IsOk, if◌then◌else◌, ◌≢◌, [], MatchBool};
-ghost use Rattle.comp_encoder.specs.Encoder.{main_bytes, IsWorldOf};
+ghost use Rattle.comp_encoder.specs.Encoder.{main_bytes};
+ghost use Rattle.comp_encoder.specs.Prepared.{IsWorldOf};
 ghost use Rattle.comp_encoder.specs.Calls.{fresh, validating, merging_versions, rejecting_legacy_names, after_module};
 ghost use Rattle.comp_encoder.specs.Refusals.{ModuleCause, IsModuleRefusal, NoWorldCause, NoEncodeCause, IsEncodeRefusal};
 ghost use Rattle.comp_worlds.specs.Encodable.{IsEncodable};

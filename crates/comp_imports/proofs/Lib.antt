@@ -12,3 +12,4 @@ pub mod Defining
 pub mod UsedFunctions
 pub mod FunctionExports
 pub mod InterfaceLoop
+pub mod Bare

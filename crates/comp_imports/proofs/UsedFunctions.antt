@@ -6,6 +6,8 @@ use Rattle.std.specs.Map.{lookup}
 use Rattle.std.specs.Str.{bytes_eq}
 use Rattle.comp_lists.specs.Found.{found}
 use Rattle.comp_lists.specs.Tables.{with_first}
+use Rattle.std.specs.List.{list_any}
+use Rattle.wit_data.specs.declared.functions.Function.{Function}
 use Rattle.wit_data.specs.declared.ids.InterfaceId.{InterfaceId}
 use Rattle.comp_links.specs.Roles.{is_named}
 use Rattle.comp_imports.specs.declared.interface_function.InterfaceFunction.{InterfaceFunction}
@@ -93,3 +95,12 @@ name_passed text k table = or_false (is_some (found text table)) ∙ ap (λ b. i
     by false = refl
 
 pub ruleset naming = (name_added, name_passed)
+
+-- the names of the used functions so far, with this one, and of the following ones
+pub names_step : (p : List ℕ → Bool) (before after : List (List ℕ × Unit {0})) (k : List ℕ) (used : Bool) (f : Function) (rest : List (List ℕ × Function)) (whole : List ℕ → Bool) → used ≡ p k →
+    ((text : List ℕ) → is_some (found text after) ≡ (is_some (found text before) || (bytes_eq text k && used))) →
+    ((text : List ℕ) → (is_some (found text before) || list_any (λ f. bytes_eq text f.0 && p f.0) ((k, f) ∷ rest)) ≡ whole text) →
+    (text : List ℕ) → (is_some (found text after) || list_any (λ f. bytes_eq text f.0 && p f.0) rest) ≡ whole text
+names_step p before after k used f rest whole same step h text =
+    ap (λ b. b || list_any (λ f. bytes_eq text f.0 && p f.0) rest) (step text ∙ ap (λ u. is_some (found text before) || (bytes_eq text k && u)) same)
+    ∙ (or_assoc (is_some (found text before)) (bytes_eq text k && p k) (list_any (λ f. bytes_eq text f.0 && p f.0) rest) ∙ h text)
