@@ -1,8 +1,8 @@
 -- What an interface needs whose functions are made of types without names.
-use Rattle.std.proofs.Common.{◌≡◌, ◌∙◌, ◌<◌, ◌&&◌, ap, ap₂, sym, subst, refl, ℕ, zero, suc, Bool, true, false, List, [], ◌∷◌, ◌++◌, map, length, get_or, slice_get, Option, Some, None, is_none, true≢false}
+use Rattle.std.proofs.Common.{◌≡◌, ◌∙◌, ◌<◌, ◌&&◌, ap, ap₂, sym, subst, refl, ℕ, zero, suc, Bool, true, false, List, [], ◌∷◌, ◌++◌, map, length, get_or, slice_get, arith, Option, Some, None, is_none, true≢false}
 use Rattle.std.specs.List.{AllByRecursion, list_all}
 use Rattle.std.specs.Option.{option_and_then, option_map}
-use Rattle.std.specs.Prelude.{unwrap_or}
+use Rattle.std.specs.Prelude.{unwrap_or, slice_index_or}
 use Rattle.std.proofs.lemmas.Option.{none-some, same_Some}
 use Rattle.comp_lists.proofs.Lists.{AllByRecursion-weaker}
 use Rattle.wit_data.specs.declared.functions.Function.{Function}
@@ -110,6 +110,15 @@ all_at : (r : Resolve) (is : List Interface) (n : ℕ) (i : Interface) → AllBy
 all_at r [] n i h e = absurd (none-some i e)
 all_at r (x ∷ xs) zero i h e = subst (HasAll r) (same_Some x i e) h.0
 all_at r (x ∷ xs) (suc n) i h e = all_at r xs n i h.1 e
+
+-- the functions of the interface at an index
+pub functions_at : (r : Resolve) (id : InterfaceId) (interfaces : List Interface) (default : Interface) → interfaces ≡ r.interfaces → HasInterface r id → (slice_index_or interfaces id.index default).functions ≡ functions_of r id
+functions_at r id interfaces default same present = ap (λ (is : List Interface). (slice_index_or is id.index default).functions) same ∙ at r.interfaces id.index present
+  where
+    at : (is : List Interface) (n : ℕ) → n < length is → (slice_index_or is n default).functions ≡ unwrap_or (option_map (λ (i : Interface). i.functions) (slice_get is n)) []
+    at [] n l = absurd (omega (arith, l))
+    at (i ∷ is) zero l = refl
+    at (i ∷ is) (suc n) l = at is n (omega (arith, l))
 
 -- the functions of an interface exist in the resolve
 pub functions_sound : (r : Resolve) → IsSound r → (id : InterfaceId) → AllByRecursion (λ e. HasFunction r e.1) (functions_of r id)

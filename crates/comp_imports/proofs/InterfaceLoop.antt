@@ -4,12 +4,14 @@ use Rattle.std.specs.List.{AllByRecursion, flat_map, list_any}
 use Rattle.std.specs.Map.{lookup}
 use Rattle.std.specs.Str.{bytes_eq}
 use Rattle.std.proofs.lemmas.Grind.{flat_map-append}
-use Rattle.std.proofs.lemmas.List.{slice_get-append}
+use Rattle.std.proofs.lemmas.List.{map-append}
+use Rattle.std.proofs.lemmas.List.Elements.{Contains-append_right}
 use Rattle.std.proofs.lemmas.Slice.Eq.{bytes_eq-Decides}
 use Rattle.std.proofs.lemmas.Bool.Decides.{Decides-eqb}
 use Rattle.comp_lists.specs.Found.{found}
 use Rattle.comp_lists.specs.Tables.{with_first}
-use Rattle.comp_lists.proofs.Lists.{AllByRecursion-weaker, AllByRecursion-join, AllByRecursion-back, AllByRecursion-contains}
+use Rattle.comp_lists.proofs.Lists.{AllByRecursion-weaker, AllByRecursion-back, AllByRecursion-contains, slice_get-append, slice_get-end}
+use Rattle.comp_imports.proofs.Elements.{contains_none, contains_cons, AllByRecursion-join}
 use Rattle.comp_bytes.specs.declared.def.Def.{Def}
 use Rattle.comp_builder.specs.Built.{Built}
 use Rattle.wit_data.specs.contracts.ids.InterfaceIdPartialEq.TheImpl as same_id
@@ -21,13 +23,14 @@ use Rattle.wit_data.specs.declared.worlds.WorldKey.TheVariants as keys
 use Rattle.wit_data.specs.declared.functions.Function.{Function}
 use Rattle.wit_data.specs.declared.ids.TypeId.{TypeId}
 use Rattle.wit_data.specs.declared.resolve.Resolve.{Resolve}
+use Rattle.wit_data.specs.declared.types.TypeDef.{TypeDef}
 use Rattle.world_values.specs.Items.{functions_of}
 use Rattle.comp_worlds.specs.Encodable.{IsBare, IsEncodable}
 use Rattle.comp_worlds.specs.Worlds.{IsImportItem, IsNamedPlain, items_of, imported_types}
 use Rattle.comp_worlds.specs.declared.world.ComponentWorld.{ComponentWorld}
 use Rattle.comp_links.specs.Naming.{own_names}
 use Rattle.comp_links.specs.Lists.{ImportEntry, ImportedInterface, WorldType, RootFunction, import_entries, interface_entries, interface_entry, needed_types, names_of_interface, type_name, unless_empty}
-use Rattle.comp_links.specs.Roles.{used_functions, used_functions_of}
+use Rattle.comp_links.specs.Roles.{is_used_of, used_functions, used_functions_of}
 use Rattle.comp_terms.specs.Rules.{Grows, import_marked}
 use Rattle.comp_terms.specs.Terms.{imports_in}
 use Rattle.comp_items.specs.Items.{Extends}
@@ -35,7 +38,7 @@ use Rattle.comp_items.proofs.Extending.{extends_none, extends_then}
 use Rattle.comp_items.proofs.Kept.{Longer}
 use Rattle.comp_items.proofs.Entries.{instance_entry-kept}
 use Rattle.comp_imports.specs.Growing.{Grows-none, Grows-then}
-use Rattle.comp_imports.specs.Interfaces.{FindsInterfaces, FindsInterfacesStill, FindsUsedInterfaces, IsFoundItem, IsInterfaceImport, IsNextInterfaceItem, interfaces_marked}
+use Rattle.comp_imports.specs.Interfaces.{FindsInterfaces, FindsInterfacesStill, FindsUsedInterfaces, AreUsedNames, IsFoundItem, IsFoundInterface, IsInterfaceImport, IsNextInterfaceItem, interfaces_marked}
 use Rattle.comp_imports.proofs.Importing.{interfaces_counted_of}
 use Rattle.comp_imports.proofs.Looking.{entry_sound}
 
@@ -61,19 +64,19 @@ finds_added {w} {ds} es new id index same h i = record { each = subst (AllByRecu
 
 found_with : (test : InterfaceId → Bool) (es : List (InterfaceId × ℕ)) (id : InterfaceId) (index : ℕ) → is_some (lookup test es) ≡ true → is_some (lookup test (es ++ (id, index) ∷ [])) ≡ true
 found_with test [] id index h = absurd (true≢false (sym h))
-found_with test (e ∷ es) id index h = by (test e.0) h
+found_with test (e ∷ es) id index h = by (test e.0) h (found_with test es id index)
   where
-    by : (b : Bool) → is_some (cond b (Some e.1) (lookup test es)) ≡ true → is_some (cond b (Some e.1) (lookup test (es ++ (id, index) ∷ []))) ≡ true
-    by true h = refl
-    by false h = found_with test es id index h
+    by : (b : Bool) → is_some (cond b (Some e.1) (lookup test es)) ≡ true → (is_some (lookup test es) ≡ true → is_some (lookup test (es ++ (id, index) ∷ [])) ≡ true) → is_some (cond b (Some e.1) (lookup test (es ++ (id, index) ∷ []))) ≡ true
+    by true h rest = refl
+    by false h rest = rest h
 
 found_last : (test : InterfaceId → Bool) (es : List (InterfaceId × ℕ)) (id : InterfaceId) (index : ℕ) → test id ≡ true → is_some (lookup test (es ++ (id, index) ∷ [])) ≡ true
 found_last test [] id index h = ap (λ b. is_some (cond b (Some index) None)) h
-found_last test (e ∷ es) id index h = by (test e.0)
+found_last test (e ∷ es) id index h = by (test e.0) (found_last test es id index h)
   where
-    by : (b : Bool) → is_some (cond b (Some e.1) (lookup test (es ++ (id, index) ∷ []))) ≡ true
-    by true = refl
-    by false = found_last test es id index h
+    by : (b : Bool) → is_some (lookup test (es ++ (id, index) ∷ [])) ≡ true → is_some (cond b (Some e.1) (lookup test (es ++ (id, index) ∷ []))) ≡ true
+    by true rest = refl
+    by false rest = rest
 
 pub still_added : (es new : List (InterfaceId × ℕ)) (id : InterfaceId) (index : ℕ) → new ≡ with_first same_id.eq-value.it es id index → FindsInterfacesStill es new
 still_added es new id index same = record { each = λ other h. subst (λ l. is_some (lookup (same_id.eq-value.it other) l) ≡ true) (sym same) (by other (is_some (lookup (same_id.eq-value.it id) es)) h) }
@@ -90,10 +93,7 @@ there_added es new id index same = subst (λ l. is_some (lookup (same_id.eq-valu
   where
     by : (b : Bool) → is_some (lookup (same_id.eq-value.it id) es) ≡ b → is_some (lookup (same_id.eq-value.it id) (if b then es else es ++ (id, index) ∷ [])) ≡ true
     by true e = e
-    by false e = found_last (same_id.eq-value.it id) es id index (Decides-own id)
-
-    Decides-own : (id : InterfaceId) → same_id.eq-value.it id id ≡ true
-    Decides-own id = (Decides-eqb id.index id.index).1 refl
+    by false e = found_last (same_id.eq-value.it id) es id index ((Decides-eqb id.index id.index).1 refl)
 
 -- ---- which functions are used
 
@@ -126,6 +126,52 @@ own_used all (f ∷ fs) p used each c = (each f.0 ∙ by (p f.0) refl, own_used 
     by : (b : Bool) → p f.0 ≡ b → list_any (λ g. bytes_eq f.0 g.0 && p g.0) all ≡ p f.0
     by true e = listed_used all p f.0 c.0 e ∙ sym e
     by false e = none all e ∙ sym e
+
+-- the used functions are those whose names are in the table
+each_listed : (all done fs : List (List ℕ × Function)) → done ++ fs ≡ all → AllByRecursion (λ f. Contains (map (λ g. g.0) all) f.0) fs
+each_listed all done [] e = tt
+each_listed all done (f ∷ fs) e = (
+  subst (λ gs. Contains (map (λ (g : List ℕ × Function). g.0) gs) f.0) e (rw (map-append (λ (g : List ℕ × Function). g.0) done (f ∷ fs)) (Contains-append_right (map (λ (g : List ℕ × Function). g.0) done) (map (λ (g : List ℕ × Function). g.0) (f ∷ fs)) f.0 (0, omega arith, refl))),
+  each_listed all (done ++ f ∷ []) fs (append_assoc done (f ∷ []) fs ∙ e),
+)
+
+pub names_used : (w : ComponentWorld) (id : InterfaceId) (used : List (List ℕ × Unit {0})) → AreUsedNames w id used → AllByRecursion (λ f. is_some (found f.0 used) ≡ is_used_of w id f.0) (functions_of w.resolve id)
+names_used w id used h = own_used (functions_of w.resolve id) (functions_of w.resolve id) (is_used_of w id) used h.each (each_listed (functions_of w.resolve id) [] (functions_of w.resolve id) refl)
+
+-- an empty table, where no function is used
+none_pass : (p : List ℕ → Bool) (fs : List (List ℕ × Function)) → AllByRecursion (λ f. false ≡ p f.0) fs → filter p (map (λ f. f.0) fs) ≡ []
+none_pass p [] h = refl
+none_pass p (f ∷ fs) h = ap (λ b. if b then f.0 ∷ filter p (map (λ f. f.0) fs) else filter p (map (λ f. f.0) fs)) (sym h.0) ∙ none_pass p fs h.1
+
+pub none_used : (w : ComponentWorld) (id : InterfaceId) (used : List (List ℕ × Unit {0})) → AreUsedNames w id used → used ≡ [] → used_functions_of w id ≡ []
+none_used w id used h empty =
+    none_pass (is_used_of w id) (functions_of w.resolve id)
+    (subst (λ (table : List (List ℕ × Unit {0})). AllByRecursion (λ f. is_some (found f.0 table) ≡ is_used_of w id f.0) (functions_of w.resolve id)) empty (names_used w id used h))
+
+and_false : (c : Bool) → (c && false) ≡ false
+and_false true = refl
+and_false false = refl
+
+-- and one that is not, where some is
+none_any : (p : List ℕ → Bool) (text : List ℕ) (fs : List (List ℕ × Function)) → filter p (map (λ f. f.0) fs) ≡ [] → list_any (λ f. bytes_eq text f.0 && p f.0) fs ≡ false
+none_any p text [] e = refl
+none_any p text (f ∷ fs) e = by (p f.0) e (none_any p text fs)
+  where
+    by : (b : Bool) → (if b then f.0 ∷ filter p (map (λ f. f.0) fs) else filter p (map (λ f. f.0) fs)) ≡ [] → (filter p (map (λ f. f.0) fs) ≡ [] → list_any (λ f. bytes_eq text f.0 && p f.0) fs ≡ false) →
+        ((bytes_eq text f.0 && b) || list_any (λ f. bytes_eq text f.0 && p f.0) fs) ≡ false
+    by true e rest = cc
+    by false e rest = ap (λ c. c || list_any (λ f. bytes_eq text f.0 && p f.0) fs) (and_false (bytes_eq text f.0)) ∙ rest e
+
+pub some_used : (w : ComponentWorld) (id : InterfaceId) (used : List (List ℕ × Unit {0})) → AreUsedNames w id used → (used ≡ [] → ⊥) → used_functions_of w id ≡ [] → ⊥
+some_used w id [] h some e = some refl
+some_used w id ((k, v) ∷ used) h some e =
+    let here : is_some (found k ((k, v) ∷ used)) ≡ true = ap (λ b. is_some (cond b (Some v) (found k used))) ((bytes_eq-Decides k k).1 refl) in
+    absurd (true≢false (sym here ∙ (h.each k ∙ none_any (is_used_of w id) k (functions_of w.resolve id) e)))
+
+-- no function is looked for in an interface of which none is used
+pub found_unused : (w : ComponentWorld) (id : InterfaceId) (used : List (List ℕ × Unit {0})) (instances : List (InterfaceId × ℕ)) → AreUsedNames w id used → used ≡ [] → IsFoundInterface w instances id
+found_unused w id used instances h empty = λ name c u.
+    absurd (true≢false (sym (listed_used (functions_of w.resolve id) (is_used_of w id) name c u) ∙ (sym (h.each name) ∙ ap (λ (table : List (List ℕ × Unit {0})). is_some (found name table)) empty)))
 
 -- ---- the loop
 
@@ -189,14 +235,18 @@ named_plain : (r : Resolve) (key : WorldKey) (id : InterfaceId) → IsImportItem
 named_plain r (keys.Name text) id h = h
 named_plain r (keys.Interface other) id h = h
 
+-- functions have their names
+pub named_only : (types : List TypeDef) (fs : List (List ℕ × Function)) → AllByRecursion (IsNamedPlain types) fs → AllByRecursion (λ e. e.0 ≡ e.1.name) fs
+named_only types fs h = AllByRecursion-weaker (λ e (p : IsNamedPlain types e). p.0) fs h
+
 -- no type of an interface is needed
 none_needed : (id : InterfaceId) (table : List (InterfaceId × List TypeId)) → AllByRecursion (λ e. e.1 ≡ []) table → unwrap_or (lookup (λ (other : InterfaceId). id.index == other.index) table) [] ≡ []
 none_needed id [] h = refl
-none_needed id (e ∷ es) h = by (id.index == e.0.index)
+none_needed id (e ∷ es) h = by (id.index == e.0.index) (none_needed id es h.1)
   where
-    by : (b : Bool) → unwrap_or (cond b (Some e.1) (lookup (λ (other : InterfaceId). id.index == other.index) es)) [] ≡ []
-    by true = h.0
-    by false = none_needed id es h.1
+    by : (b : Bool) → unwrap_or (lookup (λ (other : InterfaceId). id.index == other.index) es) [] ≡ [] → unwrap_or (cond b (Some e.1) (lookup (λ (other : InterfaceId). id.index == other.index) es)) [] ≡ []
+    by true rest = h.0
+    by false rest = rest
 
 pub names_are_used : (w : ComponentWorld) (id : InterfaceId) → needed_types w id ≡ [] → names_of_interface w id ≡ used_functions_of w id
 names_are_used w id none = ap (λ ids. map (type_name w) ids ++ used_functions_of w id) none
@@ -236,3 +286,5 @@ next_interface w old mid instances (key, world_items.Interface id) rest ok first
           ap (λ l. slice_get l (length done)) all ∙ slice_get-append (done ++ ImportedInterface key id ∷ []) more (length done) (ImportedInterface key id) (slice_get-end done (ImportedInterface key id)) in
           ap (slice_get (import_entries w)) count ∙ slice_get-append (interface_entries w) (map (λ (t : List ℕ × TypeId). WorldType t.0 t.1) (imported_types w) ++ map RootFunction (used_functions w)) (length done) (ImportedInterface key id) there;
     }
+
+pub ruleset passing_over = (Grows-none, still_same, extends_none)

@@ -11,5 +11,6 @@ pub mod Resources
 pub mod Defining
 pub mod UsedFunctions
 pub mod FunctionExports
+pub mod InstanceAdded
 pub mod InterfaceLoop
 pub mod Bare

@@ -125,6 +125,7 @@ impl RootScope<'_, ComponentWorld> {
     }
 
     /// Imports an item of the world, if it is an interface of which imports of main use a function.
+    #[tactic(auto, using(crate::proofs::InterfaceLoop::passing_over))]
     fn import_interface_item(
         &mut self,
         uses: &Keyed<InterfaceFunction, ()>,
@@ -148,7 +149,8 @@ impl RootScope<'_, ComponentWorld> {
     {
         match item {
             WorldItem::Interface(interface) => self.import_interface(uses, key, *interface),
-            _ => Ok(()),
+            WorldItem::Function(_) => Ok(()),
+            WorldItem::NamedType(_) => Ok(()),
         }
     }
 

@@ -5,3 +5,4 @@ pub mod Growth
 pub mod Indexing
 pub mod Scoping
 pub mod Serving
+pub mod Interfaces

@@ -32,6 +32,7 @@ use Rattle.comp_roles.specs.declared.imports.Import.{Import}
 use Rattle.comp_roles.specs.declared.imports.ImportInstance.{ImportInstance}
 use Rattle.comp_roles.specs.declared.imports.ImportInstance.TheVariants as instances
 use Rattle.comp_worlds.specs.declared.world.ComponentWorld.{ComponentWorld}
+use Rattle.wit_data.specs.declared.ids.InterfaceId.{InterfaceId}
 use Rattle.comp_items.specs.Items.{Extends}
 use Rattle.comp_items.proofs.Extending.{extends_none, extends_then}
 use Rattle.comp_state.specs.Causes.{IsCauseAmong, IsCause}
@@ -40,7 +41,7 @@ use Rattle.comp_links.specs.Targets.{Main}
 use Rattle.comp_links.specs.Naming.{Naming}
 use Rattle.comp_links.specs.Lists.{ImportEntry, ImportedInterface, WorldType, RootFunction, import_entries}
 use Rattle.comp_terms.specs.Planned.{IsEntryFor, IsArgumentFor}
-use Rattle.comp_links.specs.Roles.{IsEncodedImport, is_named, is_any_import, uses_from, is_used}
+use Rattle.comp_links.specs.Roles.{IsEncodedImport, interface_function, is_named, is_used, is_used_of}
 use Rattle.comp_terms.specs.Rules.{Grows, Landmark, ModuleIs, import_marked, imports_marked, landmarks}
 use Rattle.comp_imports.proofs.Elements.{contains_one, contains_none, contains_cons, contains_flat, AllByRecursion-join}
 use Rattle.comp_state.proofs.Refusals.{among_more}
@@ -65,9 +66,10 @@ import_role w valid name field role present =
     groups [] h = tt
     groups (g ∷ gs) h = AllByRecursion-join (λ (i : CoreImport). IsImportRole w i.role) (imports_from g) (flat_map imports_from gs) (group g h.0) (groups gs h.1)
 
--- the function of a core import is one that is used
-pub used_by_import : (w : ComponentWorld) (name field text : List ℕ) (role : Import) → imported_name role ≡ Some text → Contains (core_imports w) (record { module_name = name; field = field; role = role }) → IsTrue (is_used w text)
-used_by_import w name field text role named present = groups w.main.imports.modules present
+-- what holds of the role of a core import holds of one of the fields of main's imports
+import_any : (w : ComponentWorld) (test : Import → Bool) (name field : List ℕ) (role : Import) → test role ≡ true → Contains (core_imports w) (record { module_name = name; field = field; role = role }) →
+    list_any (λ g. list_any (λ f. test f.1) (fields_of g.1)) w.main.imports.modules ≡ true
+import_any w test name field role passes present = groups w.main.imports.modules present
   where
     the : CoreImport
     the = record { module_name = name; field = field; role = role }
@@ -80,24 +82,32 @@ used_by_import w name field text role named present = groups w.main.imports.modu
     or_right true c e = refl
     or_right false c e = e
 
-    in_fields : (n : List ℕ) (fs : List (List ℕ × Import)) → Contains (map (λ f. record { module_name = n; field = f.0; role = f.1 }) fs) the → is_any_import text fs ≡ true
+    in_fields : (n : List ℕ) (fs : List (List ℕ × Import)) → Contains (map (λ f. record { module_name = n; field = f.0; role = f.1 }) fs) the → list_any (λ f. test f.1) fs ≡ true
     in_fields n [] c = contains_none the c
     in_fields n (f ∷ fs) c = elim (contains_cons (record { module_name = n; field = f.0; role = f.1 }) (map (λ f. record { module_name = n; field = f.0; role = f.1 }) fs) the c) [
-      | inl same ↦ or_left (is_named text (imported_name f.1)) (is_any_import text fs)
-          (subst (λ (i : CoreImport). is_named text (imported_name i.role) ≡ true) (sym same) (ap (is_named text) named ∙ (bytes_eq-Decides text text).1 refl))
-      | inr later ↦ or_right (is_named text (imported_name f.1)) (is_any_import text fs) (in_fields n fs later)
+      | inl same ↦ or_left (test f.1) (list_any (λ f. test f.1) fs) (subst (λ (i : CoreImport). test i.role ≡ true) (sym same) passes)
+      | inr later ↦ or_right (test f.1) (list_any (λ f. test f.1) fs) (in_fields n fs later)
     ]
 
-    in_group : (g : List ℕ × ImportInstance) → Contains (imports_from g) the → uses_from text g ≡ true
+    in_group : (g : List ℕ × ImportInstance) → Contains (imports_from g) the → list_any (λ f. test f.1) (fields_of g.1) ≡ true
     in_group (n, instances.Names fs) c = in_fields n fs c
     in_group (n, instances.Whole which) c = contains_none the c
 
-    groups : (gs : List (List ℕ × ImportInstance)) → Contains (flat_map imports_from gs) the → list_any (uses_from text) gs ≡ true
+    groups : (gs : List (List ℕ × ImportInstance)) → Contains (flat_map imports_from gs) the → list_any (λ g. list_any (λ f. test f.1) (fields_of g.1)) gs ≡ true
     groups [] c = contains_none the c
     groups (g ∷ gs) c = elim (Contains-append_cases (imports_from g) (flat_map imports_from gs) the c) [
-      | inl here ↦ or_left (uses_from text g) (list_any (uses_from text) gs) (in_group g here)
-      | inr later ↦ or_right (uses_from text g) (list_any (uses_from text) gs) (groups gs later)
+      | inl here ↦ or_left (list_any (λ f. test f.1) (fields_of g.1)) (list_any (λ g. list_any (λ f. test f.1) (fields_of g.1)) gs) (in_group g here)
+      | inr later ↦ or_right (list_any (λ f. test f.1) (fields_of g.1)) (list_any (λ g. list_any (λ f. test f.1) (fields_of g.1)) gs) (groups gs later)
     ]
+
+-- the function of a core import is one that is used
+pub used_by_import : (w : ComponentWorld) (name field text : List ℕ) (role : Import) → imported_name role ≡ Some text → Contains (core_imports w) (record { module_name = name; field = field; role = role }) → IsTrue (is_used w text)
+used_by_import w name field text role named present = import_any w (λ r. is_named text (imported_name r)) name field role (ap (is_named text) named ∙ (bytes_eq-Decides text text).1 refl) present
+
+-- so is that of an interface
+pub used_of_interface : (w : ComponentWorld) (name field text : List ℕ) (id : InterfaceId) (role : Import) → interface_function id role ≡ Some text → Contains (core_imports w) (record { module_name = name; field = field; role = role }) →
+    is_used_of w id text ≡ true
+used_of_interface w name field text id role named present = import_any w (λ r. is_named text (interface_function id r)) name field role (ap (is_named text) named ∙ (bytes_eq-Decides text text).1 refl) present
 
 -- the field with this name and role of an import from a module
 abbrev import_of : List ℕ → List ℕ × Import → CoreImport

@@ -1,6 +1,7 @@
 use Rattle.std.proofs.Common.{◌≡◌, Some, IsTrue, rules, subst}
 use Rattle.comp_links.specs.Roles.{is_used}
 use Rattle.comp_worlds.specs.Worlds.{imported_name, IsImportRole}
+use Rattle.comp_state.proofs.Interfaces.{used_by_role}
 use Rattle.comp_state.proofs.Serving.{import_role, used_by_import}
 use Rattle.comp_state.proofs.instances.ImportSources.materialize.Goals as goal
 
@@ -16,6 +17,11 @@ drop_resource-requires-clause-resource c =
     let w = c.args.root.now.world.now in
     let role : IsImportRole w c.args.import.now = import_role w c.requires.sources.valid c.args.module.now c.args.field.now c.args.import.now c.requires.present in
     subst (IsImportRole w) c.in-ImportedResourceDrop.is role
+
+pub lower_interface_function-requires-clause-imported : goal.lower_interface_function-requires-clause-imported
+lower_interface_function-requires-clause-imported c =
+    let own = c.in-InterfaceFunc in
+    used_by_role c.args.root.now.world.now c.requires.sources.valid c.args.module.now c.args.field.now own.function own.key own.interface own.field-3 c.args.import.now own.is c.requires.present
 
 pub unreachable-requires : goal.unreachable-requires
 unreachable-requires c =

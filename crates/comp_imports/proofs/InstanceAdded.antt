@@ -1,0 +1,63 @@
+-- The type of an instance was added, and then the import of the instance.
+use Rattle.std.proofs.Common.{◌≡◌, ◌∙◌, ◌∷◌, ◌++◌, ℕ, List, [], Option, Some, Result, slice_get, ap, subst, sym, add-zero}
+use Rattle.std.specs.List.{flat_map}
+use Rattle.comp_bytes.specs.ScopeNames.{member_export}
+use Rattle.comp_bytes.specs.declared.def.Def.{Def}
+use Rattle.comp_bytes.specs.declared.def.Def.TheVariants as defs
+use Rattle.comp_bytes.specs.declared.def.Item.TheVariants as items
+use Rattle.comp_bytes.specs.declared.space.Space.{Space}
+use Rattle.comp_bytes.specs.declared.types.InstanceType.{InstanceType}
+use Rattle.byte_encoding.specs.declared.fault.BuildFault.{BuildFault}
+use Rattle.comp_builder.specs.Built.{Built, Adds}
+use Rattle.comp_trees.specs.Inventories.{ImportedInstance, OfInstances, surroundings_of, inventory, scope_of}
+use Rattle.comp_trees.specs.Members.{AreMembersRight}
+use Rattle.comp_items.specs.Items.{Extends}
+use Rattle.comp_items.proofs.Extending.{extends_adds, extends_then}
+use Rattle.comp_links.specs.Lists.{ImportedInterface, import_entries}
+use Rattle.comp_terms.specs.Rules.{Grows, ImportsInterface, InstanceTypeOf}
+use Rattle.comp_terms.specs.Terms.{imports_in}
+use Rattle.comp_worlds.specs.declared.world.ComponentWorld.{ComponentWorld}
+use Rattle.wit_data.specs.declared.ids.InterfaceId.{InterfaceId}
+use Rattle.wit_data.specs.declared.worlds.WorldKey.{WorldKey}
+use Rattle.comp_imports.specs.Growing.{Grows-by}
+use Rattle.comp_imports.specs.Interfaces.{ExportsUsed, IsInterfaceImport}
+use Rattle.comp_imports.proofs.Importing.{grown_imports}
+
+pub two_added : (old mid new : Built) (first second : Result ℕ BuildFault) (s t : Space) (d e : Def) (n m : Option (List ℕ)) → Adds old mid first s d n → Adds mid new second t e m → Extends old new
+two_added old mid new first second s t d e n m g h = extends_then old mid new (extends_adds old mid first s d n g) (extends_adds mid new second t e m h)
+
+module _ (w : ComponentWorld) (key : WorldKey) (id : InterfaceId) (old mid : Built) (index : ℕ) (ty : InstanceType) (appended : mid.defs ≡ old.defs ++ defs.Item (items.InstanceType ty) ∷ []) where
+  -- the type of the instance was added, and no import
+  pub type_added : Grows w old.defs mid.defs (InstanceTypeOf (flat_map member_export ty.members) ∷ [])
+  type_added = Grows-by (defs.Item (items.InstanceType ty)) appended tt
+
+  pub same_imports : imports_in mid.defs ≡ imports_in old.defs
+  same_imports = grown_imports type_added ∙ add-zero (imports_in old.defs)
+
+  module _ (next : slice_get (import_entries w) (imports_in old.defs) ≡ Some (ImportedInterface key id)) (made : slice_get (inventory mid.defs).types index ≡ Some (OfInstances (scope_of old.defs) ty.members)) where
+    stated_next : slice_get (import_entries w) (imports_in mid.defs) ≡ Some (ImportedInterface key id)
+    stated_next = ap (slice_get (import_entries w)) same_imports ∙ next
+
+    -- its import is that of the interface
+    pub instance_right : AreMembersRight (surroundings_of (imports_in old.defs) (scope_of old.defs)) [] ty.members → ImportsInterface w mid.defs index
+    instance_right right = record {
+      key = key;
+      id = id;
+      stated = stated_next;
+      outer = scope_of old.defs;
+      members = ty.members;
+      is = made;
+      right = subst (λ (n : ℕ). AreMembersRight (surroundings_of n (scope_of old.defs)) [] ty.members) (sym same_imports) right;
+    }
+
+    pub instance_imported : (new : Built) (instance : ℕ) → slice_get (inventory new.defs).instances instance ≡ Some (ImportedInstance (imports_in mid.defs) (scope_of old.defs) ty.members) →
+        ExportsUsed w id (surroundings_of (imports_in old.defs) (scope_of old.defs)) ty.members → IsInterfaceImport w new.defs id instance
+    instance_imported new instance imported functions = record {
+      key = key;
+      number = imports_in mid.defs;
+      outer = scope_of old.defs;
+      members = ty.members;
+      stated = stated_next;
+      imported = imported;
+      functions = subst (λ (n : ℕ). ExportsUsed w id (surroundings_of n (scope_of old.defs)) ty.members) (sym same_imports) functions;
+    }
