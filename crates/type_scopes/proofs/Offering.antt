@@ -1,19 +1,18 @@
 -- What is found in the table of the outer scope denotes its type.
-use Rattle.std.proofs.Common.{◌≡◌, ◌∙◌, ℕ, List, [], ◌∷◌, ◌++◌, refl, ap, sym, subst, rules, Option, Some, None, is_none}
+use Rattle.std.proofs.Common.{◌≡◌, ℕ, List, [], ◌∷◌, ◌++◌, refl, sym, subst, rules, Option, Some, None}
 use Rattle.std.specs.Prelude.{Result, IfOk, OnOk, OnErr}
 use Rattle.std.specs.Option.{IfSome}
 use Rattle.wit_data.specs.declared.ids.TypeId.{TypeId}
 use Rattle.wit_data.specs.declared.ids.InterfaceId.{InterfaceId}
 use Rattle.wit_data.specs.declared.types.Type.TheVariants.{Id}
 use Rattle.comp_trees.specs.Trees.{Resource}
-use Rattle.comp_trees.specs.DefinedTrees.{TypeTree, OfValues}
+use Rattle.comp_trees.specs.DefinedTrees.{OfValues}
 use Rattle.comp_trees.specs.WitTrees.{wit_tree}
 use Rattle.byte_encoding.specs.declared.fault.BuildFault.{BuildFault}
-use Rattle.comp_bytes.specs.declared.types.ExternName.{ExternName}
 use Rattle.comp_bytes.specs.declared.types.Member.{Member}
 use Rattle.comp_bytes.specs.declared.types.Member.TheVariants as members
 use Rattle.comp_bytes.specs.declared.types.Alias.TheVariants as aliases
-use Rattle.wit_types.specs.Settings.{NamesType, tree_in}
+use Rattle.wit_types.specs.Settings.{tree_in}
 use Rattle.comp_trees.specs.DefinedScopes.{Denotes}
 use Rattle.wit_types.specs.Denoting.{Makes}
 use Rattle.wit_types.proofs.SameKeys.{IsOne}
@@ -37,7 +36,3 @@ pub imported : (s : Surroundings) (origin : TypeId → Resource) (o : Offer) (he
 unfolding tree_in
 imported s origin o here passed id index old new r d at is same =
     subst (λ t. Makes (member_trees s [] old) (member_trees s [] new) r t) d.tree (added s old new (members.Alias (aliases.Outer 1 index)) r refl at is same)
-
--- no type that may be defined while others are has a name
-pub none_named : (s : Surroundings) (origin : TypeId → Resource) (o : Offer) (here : InterfaceId) (passed : List TypeId) (name : ExternName) (t : TypeTree) → NamesType (placed s origin o here passed) name t → ⊥
-none_named s origin o here passed name t h = let e = ap is_none (sym h.named) ∙ h.own in cc

@@ -33,7 +33,7 @@ use Rattle.wit_types.proofs.Permitting.{resource_tree, same_tree}
 use Rattle.wit_types.proofs.Growing.{value_of_index, named_by, faithful_new, faithful_after}
 use Rattle.comp_lists.proofs.Lists.{AllByRecursion-weaker}
 use Rattle.type_scopes.specs.Members.{types_in}
-use Rattle.type_scopes.specs.Exports.{IsExport, IsOwnExport, AreOwnExports, MembersGrow, MembersExtend, exports_of, type_exports, function_exports, exported_function, export_behind, right_append}
+use Rattle.type_scopes.specs.Exports.{IsExport, any_index, IsOwnExport, AreOwnExports, MembersGrow, MembersExtend, exports_of, type_exports, function_exports, exported_function, export_behind, right_append}
 use Rattle.type_scopes.specs.Offers.{Offer, placed}
 use Rattle.type_scopes.specs.Titles.{IsTitled, IsTypeNamed, IsKnownByName, is_one_of, title}
 use Rattle.type_scopes.specs.Interfaces.{TypeIn, AreExported, IsRight}
@@ -180,7 +180,7 @@ module _ (s : Surroundings) (origin : TypeId → Resource) (o : Offer) (here : I
   -- ---- the tables
 
   pub right_none : (ms : List Member) (maps : TypeEncodingMaps) → maps ≡ no_maps → IsRight s origin o here [] ms maps
-  right_none ms maps none = subst (λ m. IsRight s origin o here [] ms m) (sym none) (faithful_new (placed s origin o here []) (member_trees s [] ms) (IsExport ms) (λ id. refl))
+  right_none ms maps none = subst (λ m. IsRight s origin o here [] ms m) (sym none) (faithful_new (placed s origin o here []) (member_trees s [] ms) any_index (λ id. refl))
 
   -- a type that was recorded is one of those that were passed
   pub right_passed : (passed : List TypeId) (id : TypeId) (ms : List Member) (maps : TypeEncodingMaps) → HasIndex maps id → IsRight s origin o here passed ms maps → IsRight s origin o here (passed ++ id ∷ []) ms maps
@@ -210,5 +210,5 @@ module _ (s : Surroundings) (origin : TypeId → Resource) (o : Offer) (here : I
 pub right_then : (s : Surroundings) (origin : TypeId → Resource) (o p : Offer) (here there : InterfaceId) (passed after : List TypeId) (ms new more : List Member) (maps now : TypeEncodingMaps) → p ≡ o → there ≡ here → after ≡ passed → now ≡ maps → new ≡ ms ++ more →
     IsRight s origin o here passed ms maps → IsRight s origin p there after new now
 right_then s origin o p here there passed after ms new more maps now outer interface same kept is right =
-    faithful_after (placed s origin o here passed) (placed s origin p there after) (member_trees s [] ms) (member_trees s [] new) (IsExport ms) (IsExport new) maps now right (longer_by s ms new more is)
-    (ap (λ q. placed s origin q there after) outer ∙ (ap (λ i. placed s origin o i after) interface ∙ ap (placed s origin o here) same)) kept (export_behind ms new more is)
+    faithful_after (placed s origin o here passed) (placed s origin p there after) (member_trees s [] ms) (member_trees s [] new) any_index any_index maps now right (longer_by s ms new more is)
+    (ap (λ q. placed s origin q there after) outer ∙ (ap (λ i. placed s origin o i after) interface ∙ ap (placed s origin o here) same)) kept (λ name i h. h)

@@ -44,9 +44,6 @@ longer_by s old new more grown =
 pub trees_extend : (s : Surroundings) (old new : List Member) → MembersExtend s old new → Longer (member_trees s [] old) (member_trees s [] new)
 trees_extend s old new g = longer_by s old new g.more g.grown
 
-pub trees_grow : (s : Surroundings) (old new : List Member) → MembersGrow s old new → Longer (member_trees s [] old) (member_trees s [] new)
-trees_grow s old new g = longer_by s old new g.more g.grown
-
 one_more : (s : Surroundings) (ms : List Member) (m : Member) → makes_type m ≡ true → member_trees s [] (ms ++ m ∷ []) ≡ member_trees s [] ms ++ member_tree s (member_trees s [] ms) m ∷ []
 one_more s ms m makes =
     let scope = member_trees s [] ms in
@@ -87,10 +84,6 @@ added s old new m (Err e) makes at is same = subst (λ ms. Longer (member_trees 
 pub exported_new : (old new : List Member) (name : ExternName) (description : Description) (index : ℕ) → makes_type (members.Export name description) ≡ true → index ≡ types_in old → new ≡ old ++ members.Export name description ∷ [] → IsExport new name.name index
 exported_new old new name description index makes at is =
     record { before = old; after = []; extern_name = name; description = description; there = is; named = refl; makes = makes; counted = at }
-
-pub exported_if : (old new : List Member) (name : ExternName) (description : Description) (r : Result ℕ BuildFault) → makes_type (members.Export name description) ≡ true → IfOk r (λ i. i ≡ types_in old) → OnOk r (new ≡ old ++ members.Export name description ∷ []) → IfOk r (λ i. IsExport new name.name i)
-exported_if old new name description (Ok i) makes at is = exported_new old new name description i makes at is
-exported_if old new name description (Err e) makes at is = tt
 
 -- members with one more, which is right and exports nothing
 pub grown_by : (s : Surroundings) (old new : List Member) (m : Member) → member_export m ≡ [] → IsMemberRight s (member_trees s [] old) m → new ≡ old ++ m ∷ [] → MembersGrow s old new

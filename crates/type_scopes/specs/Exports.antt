@@ -34,6 +34,10 @@ pub record IsExport (ms : List Member) (name : List ℕ) (index : ℕ) : Type 0 
   pub makes : makes_type (members.Export extern_name description) ≡ true
   pub counted : index ≡ types_in before
 
+-- the tables have any index of a type that has a name: which index its export has is said where it is exported
+abbrev pub any_index : List ℕ → ℕ → Type 0
+any_index name index = Unit {0}
+
 -- the functions that are exported, each with the index of its type
 abbrev pub exported_function : Member → List (List ℕ × ℕ)
 exported_function (members.Export name (descriptions.Func index)) = (name.name, index) ∷ []
@@ -87,9 +91,6 @@ export_behind a b more grown name index h =
       makes = h.makes;
       counted = h.counted;
     }
-
-pub export_on : (s : Surroundings) (a b : List Member) → MembersGrow s a b → (name : List ℕ) (index : ℕ) → IsExport a name index → IsExport b name index
-export_on s a b g name index h = export_behind a b g.more g.grown name index h
 
 -- the scope of members behind others, and whether they are right
 pub members_append : (s : Surroundings) (scope : List TypeTree) (ms more : List Member) → member_trees s scope (ms ++ more) ≡ member_trees s (member_trees s scope ms) more

@@ -24,7 +24,7 @@ use Rattle.wit_types.specs.declared.maps.TypeEncodingMaps.{TypeEncodingMaps}
 use Rattle.wit_types.specs.Maps.{IsNamedValue, Faithful}
 use Rattle.comp_trees.specs.Members.{Surroundings, AreMembersRight, member_trees, exports_name, type_exported}
 use Rattle.type_scopes.specs.Titles.{IsTitled, title}
-use Rattle.type_scopes.specs.Exports.{IsExport, AreOwnExports, exports_of, function_exports}
+use Rattle.type_scopes.specs.Exports.{IsExport, any_index, AreOwnExports, exports_of, function_exports}
 use Rattle.type_scopes.specs.Offers.{Offer, placed}
 
 -- A type has a value type in the scope. Where that is a type of the scope, it is the one that the type's name stands for.
@@ -69,7 +69,7 @@ pub record AddsFunctions (s : Setting) (scope : List TypeTree) (old new : List M
 
 -- the tables of an instance type are right, where these types were passed
 abbrev pub IsRight : Surroundings → (TypeId → Resource) → Offer → InterfaceId → List TypeId → List Member → TypeEncodingMaps → Type 0
-IsRight s origin o here passed ms maps = Faithful (placed s origin o here passed) (member_trees s [] ms) (IsExport ms) maps
+IsRight s origin o here passed ms maps = Faithful (placed s origin o here passed) (member_trees s [] ms) any_index maps
 
 -- these types are exported, in their order, and nothing else is
 pub record AreExported (s : Surroundings) (origin : TypeId → Resource) (o : Offer) (here : InterfaceId) (passed : List TypeId) (ms : List Member) : Type 0 where

@@ -10,12 +10,12 @@ ghost use Rattle.comp_bytes.specs.declared.types.TypeDef.TheVariants as types;
 ghost use Rattle.wit_data.specs.declared.types.Type.TheVariants.{Id};
 ghost use Rattle.comp_trees.specs.Trees.{ResourceAt, is_known, is_known_function};
 ghost use Rattle.comp_trees.specs.DefinedTrees.{OfValues, OfFunctions, OfOthers, defined_tree, function_tree};
-ghost use Rattle.wit_types.specs.Settings.{tree_in, NamesType};
+ghost use Rattle.wit_types.specs.Settings.{tree_in};
 ghost use Rattle.wit_types.specs.Denoting.{Makes, MayMake, IsCause, exported_or};
 ghost use Rattle.wit_types.specs.Maps.{no_maps};
 ghost use Rattle.comp_trees.specs.Members.{member_trees};
 ghost use Rattle.type_scopes.specs.Members.{types_in, is_full};
-ghost use Rattle.type_scopes.specs.Exports.{IsExport, MembersGrow, export_on, members_same, follow_on};
+ghost use Rattle.type_scopes.specs.Exports.{MembersGrow, any_index, members_same, follow_on};
 ghost use Rattle.type_scopes.specs.Offers.{offered, placed};
 
 use crate::member_list::MemberList;
@@ -143,7 +143,7 @@ impl<'a, P: Placement> ValtypeEncoder for InstanceTypeEncoder<'a, P> {
 
     ghost follows = { λ old new. (new.outer ≡ old.outer) × (new.interface ≡ old.interface) × (new.passed ≡ old.passed) × MembersGrow P.surroundings old.members new.members };
 
-    ghost names = { λ e name index. IsExport e.members name index };
+    ghost names = { λ e name index. any_index name index };
 
     ghost refuses = { λ e count. is_full e.members count };
 
@@ -151,7 +151,7 @@ impl<'a, P: Placement> ValtypeEncoder for InstanceTypeEncoder<'a, P> {
 
     ghost follows_on = { λ a b c g h. follow_on P.surroundings a.outer b.outer c.outer a.interface b.interface c.interface a.passed b.passed c.passed a.members b.members c.members g h };
 
-    ghost names_kept = { λ a b g name index h. export_on P.surroundings a.members b.members g.3 name index h };
+    ghost names_kept = { λ a b g name index h. h };
 
     ghost follows_maps = { λ e m. (refl, refl, refl, members_same P.surroundings e.members) };
 
@@ -191,10 +191,9 @@ impl<'a, P: Placement> ValtypeEncoder for InstanceTypeEncoder<'a, P> {
 
     /// Nothing is exported: a type that has a name is exported before what is made of it, and is found in the tables.
     fn export_type(&mut self, index: u32, name: ExternName) -> Result<Option<u32>, BuildFault>
-        requires named { NamesType (placed P.surroundings P.origin self.old.outer self.old.interface self.old.passed.now) name (get_or (member_trees P.surroundings [] self.old.members) index OfOthers) }
         ensures same { self.new ≡ self.old }
         ensures none { IfOk result (λ exported. exported ≡ None) }
-        ensures names { IfOk result (λ exported. IsExport self.new.members name.name (exported_or exported index)) }
+        ensures names { IfOk result (λ exported. any_index name.name (exported_or exported index)) }
         ensures makes { MayMake (member_trees P.surroundings [] self.old.members) (member_trees P.surroundings [] self.new.members) result (get_or (member_trees P.surroundings [] self.old.members) index OfOthers) }
         ensures setting { placed P.surroundings P.origin self.new.outer self.new.interface self.new.passed.now ≡ placed P.surroundings P.origin self.old.outer self.old.interface self.old.passed.now }
         ensures maps { self.new.maps ≡ self.old.maps }
@@ -208,7 +207,7 @@ impl<'a, P: Placement> ValtypeEncoder for InstanceTypeEncoder<'a, P> {
     /// No name may be exported here (`placed`), so that no caller may ask for this: it refuses.
     fn export_resource(&mut self, name: ExternName) -> Result<u32, BuildFault>
         ensures same { self.new ≡ self.old }
-        ensures names { IfOk result (λ index. IsExport self.new.members name.name index) }
+        ensures names { IfOk result (λ index. any_index name.name index) }
         ensures makes { Makes (member_trees P.surroundings [] self.old.members) (member_trees P.surroundings [] self.new.members) result (OfValues (ResourceAt (P.surroundings.resource name.name))) }
         ensures setting { placed P.surroundings P.origin self.new.outer self.new.interface self.new.passed.now ≡ placed P.surroundings P.origin self.old.outer self.old.interface self.old.passed.now }
         ensures maps { self.new.maps ≡ self.old.maps }

@@ -30,8 +30,8 @@ use wit_data::{Function, InterfaceId, Resolve, TypeId};
 /// of other interfaces are those of the outer scope, whose indices there the table has. An instance of it exports each of
 /// the interface's types under its name, then each of those functions, in their order, and nothing else.
 ///
-/// The types are those of the interface that have a name and are live, in the order of the resolve. Everything of which they and
-/// the functions are made is one of them, has no name, or is a type of another interface that the table has.
+/// The types are those of the interface that have a name and are live, in the order of the resolve. Everything of which they
+/// and the functions are made is one of them, has no name, or is a type of another interface that the table has.
 pub fn encode_interface_type(
     alloc: Global,
     resolve: &Resolve,

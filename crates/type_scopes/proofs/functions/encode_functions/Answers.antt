@@ -22,7 +22,7 @@ loop-name-init g c =
         so_far = subst (λ (es : List (List ℕ × Function)). FunctionsSoFar t s c.args.used.now e.members e.members c.args.functions.now es) (sym items) (functions_start t s c.args.used.now e.members c.args.functions.now c.requires.first);
         present = subst (λ (es : List (List ℕ × Function)). AllByRecursion (λ x. HasFunction c.args.resolve.now x.1) es) (sym items) c.requires.present;
         allowed = subst (λ (es : List (List ℕ × Function)). AllByRecursion (λ f. allows_function t f ≡ true) (used_among c.args.used.now es)) (sym items) c.requires.allowed;
-        setting = refl;
+        setting = refl {a = t};
         same = c.requires.same;
         right = c.requires.right;
       },

@@ -9,7 +9,7 @@ use Rattle.comp_trees.specs.Members.{member_trees}
 use Rattle.comp_trees.specs.WitTrees.{wit_tree}
 use Rattle.wit_types.specs.Maps.{Faithful}
 use Rattle.wit_types.specs.Settings.{Setting}
-use Rattle.type_scopes.specs.Exports.{IsExport}
+use Rattle.type_scopes.specs.Exports.{any_index}
 use Rattle.type_scopes.specs.Offers.{placed}
 use Rattle.type_scopes.specs.Titles.{IsTitled}
 use Rattle.type_scopes.proofs.Passing.{exported_resource, named_tree, right_then}
@@ -49,5 +49,5 @@ pub returns-clause-right : goal.returns-clause-right
 returns-clause-right g c =
     let s = g.P.Placement.surroundings in
     let r = c.record_type_index.new.encoder in
-    subst (λ (q : Setting). Faithful q (member_trees s [] r.members) (IsExport r.members) r.maps)
+    subst (λ (q : Setting). Faithful q (member_trees s [] r.members) any_index r.maps)
     (c.in_ok-record_type_index.ensures.setting ∙ ap (λ x. placed s g.P.Placement.origin x.outer x.interface x.passed.now) c.in_ok-index.ensures.added) c.in_ok-record_type_index.ensures.faithful
