@@ -119,11 +119,11 @@ impl ImportSources<'_> {
         ensures cause { IfErr result IsRefusal }
     {
         let instance = *root.instances.get(&interface).unwrap();
-        let function = root.items.alias_function(instance, name)?;
+        let aliased = root.items.alias_function(instance, name)?;
         let options = Seq::new(root.items.allocator());
         let index = root
             .items
-            .lower_function(Some(name.as_str()), function, options)?;
+            .lower_function(Some(name.as_str()), aliased, options)?;
         Ok(index)
     }
 
