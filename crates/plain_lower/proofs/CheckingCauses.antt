@@ -68,6 +68,7 @@ present r main core m p u bytes h checked is = subst (λ (x : WorldParts). HasSo
   present = u.present;
   core = bytes;
   named = u.named;
+  listed = u.listed;
   roles = subst (λ (is : List CoreImport). AllByRecursion (λ i. HasRole r.resolve i.role) is) (sym (append-nil (flat_map imports_from m.imports.modules))) h.roles;
   called = h.called;
   lifted = h.lifted;

@@ -45,7 +45,7 @@ pub usable : (s : MergedVersions) (r : Resolved) → IsCombined s r → IsUsable
 usable s r j =
     let whole = j.is_whole in
     let same = ap (λ (x : Resolved). x.resolve) j.is in
-    subst (λ (x : Resolved). IsUsable x) (sym j.is) (record { present = whole.present; sound = whole.sound; named = one_named j.plain.resolve.worlds whole.present whole.named })
+    subst (λ (x : Resolved). IsUsable x) (sym j.is) (record { present = whole.present; sound = whole.sound; named = one_named j.plain.resolve.worlds whole.present whole.named; listed = whole.listed })
 
 pub combined_is : (merging : Bool) (w : Wit) (s : MergedVersions) (r : Resolved) → merged_versions merging w ≡ Ok s → IsCombined s r → combined merging w ≡ Ok r
 unfolding combined

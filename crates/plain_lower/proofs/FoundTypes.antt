@@ -3,6 +3,7 @@ use Rattle.std.proofs.Common.{◌≡◌, ◌∙◌, ◌<◌, Bool, true, false, 
 use Rattle.std.specs.Prelude.{get_or, option_map, slice_get}
 use Rattle.std.specs.Option.{option_and_then, option_map_or}
 use Rattle.std.proofs.lemmas.Option.{none-some, slice_get-get_or}
+use Rattle.comp_lists.specs.Found.{found}
 use Rattle.core_sections.specs.declared.core_module.CoreModule.{CoreModule}
 use Rattle.core_sections.specs.declared.entries.EntityType.{EntityType}
 use Rattle.core_sections.specs.declared.entries.EntityType.TheVariants as entities
@@ -23,7 +24,7 @@ use Rattle.wit_data.specs.declared.signatures.WasmSignature.{WasmSignature}
 use Rattle.wit_data.specs.declared.signatures.WasmType.{WasmType}
 use Rattle.wit_data.specs.declared.signatures.WasmType.TheVariants as numbers
 use Rattle.wit_data.specs.declared.worlds.World.{World}
-use Rattle.world_values.specs.Items.{no_items, root_function_at}
+use Rattle.world_values.specs.Items.{no_items, functions_of, root_function_at}
 use Rattle.comp_roles.specs.CoreTypes.{value_type as value_of, core_type, called_type}
 use Rattle.comp_roles.specs.declared.exports.Export.{Export}
 use Rattle.comp_roles.specs.declared.exports.Export.TheVariants as exports
@@ -107,6 +108,7 @@ module _ (r : Resolve) (present : 0 < length r.worlds) (core : CoreModule) where
       let asked : is_function core e (option_map (called r abi) (root_function_at the_items.imports key)) ≡ true =
       ap (λ (o : Option World). is_function core e (option_map (called r abi) (option_and_then (λ w. root_function_at w.imports key) o))) (sym the_world) ∙ fits in
       entity_typed core r abi e (root_function_at the_items.imports key) ty asked is
+  import_typed (imports.InterfaceFunc key id name abi) e ty fits is = entity_typed core r abi e (found name (functions_of r id)) ty fits is
   import_typed (imports.ImportedResourceDrop key interface id) e ty fits is = entity_of core e dropping fits ∙ is
   import_typed role e ty fits is = absurd (none-some ty is)
 

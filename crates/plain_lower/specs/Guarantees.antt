@@ -8,7 +8,7 @@ use Rattle.world_values.specs.Items.{no_items}
 use Rattle.world_values.specs.Mentions.{HasRole}
 use Rattle.record_versions.specs.declared.versions.MergedVersions.{MergedVersions}
 use Rattle.record_resolve.specs.declared.resolving.Resolved.{Resolved}
-use Rattle.record_resolve.specs.Resolved.{resolved, AreNamed, IsWhole}
+use Rattle.record_resolve.specs.Resolved.{resolved, AreNamed, AreListed, IsWhole}
 use Rattle.record_resolve.specs.OtherNames.{also_named}
 use Rattle.record_core_types.specs.Guarantees.{IsCalled, IsLifted, IsKept}
 use Rattle.plain_lower.specs.declared.checking.CheckedRoles.{CheckedRoles}
@@ -16,11 +16,12 @@ use Rattle.plain_lower.specs.declared.checking.CheckedRoles.{CheckedRoles}
 abbrev pub world_id : WorldId
 world_id = record { index = 0 }
 
--- there is a world, its functions have the names of their keys, and all of it is sound
+-- there is a world, its functions and those of interfaces have the names of their keys, and all of it is sound
 pub record IsUsable (r : Resolved) : Type 0 where
   pub present : 0 < length r.resolve.worlds
   pub sound : IsSound r.resolve
   pub named : AreNamed (get_or r.resolve.worlds 0 no_items)
+  pub listed : AllByRecursion AreListed r.resolve.interfaces
 
 -- this is the resolve of a world with merged versions, which is whole, with the old names of the interfaces that became others
 pub record IsCombined (s : MergedVersions) (r : Resolved) : Type 0 where

@@ -2,7 +2,7 @@
 
 ghost use Rattle.std.specs.Prelude.{◌≡◌, ◌≢◌, IfOk, IfErr, IsOk, IsSome, Ok, Some};
 ghost use Rattle.core_types.specs.Core.{IsCoreModule};
-ghost use Rattle.comp_worlds.specs.Worlds.{IsWorld};
+ghost use Rattle.comp_worlds.specs.Encodable.{IsEncodable};
 ghost use Rattle.comp_worlds.specs.WorldTables.{HasTables};
 ghost use Rattle.record_faults.specs.Faults.{Gives, flat};
 ghost use Rattle.record_faults.specs.declared.fault.Failure.TheVariants as failures;
@@ -129,7 +129,7 @@ fn world_of(
     requires all_present { AreChecked resolved checked_roles }
     requires checked { worlds.checked_roles resolved main.now core.now ≡ Ok checked_roles }
     ensures exact { Gives (λ w. w) result (encoded (parts_of resolved main.now core.now checked_roles)) }
-    ensures valid { IfOk result IsWorld }
+    ensures valid { IfOk result IsEncodable }
     ensures tables { IfOk result HasTables }
     ensures cause { IfErr result (λ e. (f : RefusalRecord) → e ≡ failures.Refused f → IsLeftOut (parts_of resolved main.now core.now checked_roles) f) }
     ensures refused { IsOk result → (f : RefusalRecord) → ¬ IsLeftOut (parts_of resolved main.now core.now checked_roles) f }
@@ -149,7 +149,7 @@ fn prepare_core(
     requires usable { IsUsable resolved }
     requires bytes { IsCoreModule main.now.bytes }
     ensures exact { Gives (λ w. w) result (preparing_core resolved main.now core.now) }
-    ensures valid { IfOk result IsWorld }
+    ensures valid { IfOk result IsEncodable }
     ensures tables { IfOk result HasTables }
     ensures cause { IfErr result (λ e. (f : RefusalRecord) → e ≡ failures.Refused f → CoreCause resolved main.now core.now f) }
     ensures refused { IsOk result → (f : RefusalRecord) → ¬ CoreCause resolved main.now core.now f }
@@ -172,7 +172,7 @@ fn prepare_main(
 ) -> Result<ComponentWorld, Failure>
     requires { IsUsable resolved }
     ensures exact { Gives (λ w. w) result (preparing_main resolved main.now) }
-    ensures valid { IfOk result IsWorld }
+    ensures valid { IfOk result IsEncodable }
     ensures tables { IfOk result HasTables }
     ensures cause { IfErr result (λ e. e ≢ failures.Memory → MainCause resolved main.now (flat e)) }
     ensures refused { IsOk result → (f : PlainFault) → ¬ MainCause resolved main.now f }
@@ -199,7 +199,7 @@ fn prepare_some(
     requires usable { IsUsable resolved }
     requires there { IsSome main.now }
     ensures exact { Gives (λ w. w) result (preparing_if resolved main.now) }
-    ensures valid { IfOk result IsWorld }
+    ensures valid { IfOk result IsEncodable }
     ensures tables { IfOk result HasTables }
     ensures cause { IfErr result (λ e. e ≢ failures.Memory → (p : Part Bindgen) → main.now ≡ Some p → MainCause resolved p (flat e)) }
     ensures refused { IsOk result → (p : Part Bindgen) → main.now ≡ Some p → (f : PlainFault) → ¬ MainCause resolved p f }
@@ -218,7 +218,7 @@ pub(crate) fn prepare(
 ) -> Result<ComponentWorld, Failure>
     requires { IsSome gathered.now.main }
     ensures exact { IfOk result (λ w. preparing gathered.now ≡ Ok w) }
-    ensures valid { IfOk result IsWorld }
+    ensures valid { IfOk result IsEncodable }
     ensures tables { IfOk result HasTables }
     ensures cause { IfErr result (λ e. e ≢ failures.Memory → PrepareCause gathered.now (flat e)) }
     ensures refused { IsOk result → (f : PlainFault) → ¬ PrepareCause gathered.now f }

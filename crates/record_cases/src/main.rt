@@ -12,8 +12,8 @@
 //! each rule on them broken, roles of lesser versions, and roles of what the module does not import; those of `kinds.txt` have functions that are named
 //! as ones of a resource, without that resource, after it and before it; those of `versions.txt` import several versions of an interface, and those of `hostile.txt` are one module cut short at every offset, with and without its
 //! record, counts that nothing holds, a pair of names that occurs twice, records that are nested deep, are no JSON or a binary package; those
-//! of `encoded.txt` have root functions with parameters and results of each kind of type, types of the world, and its resources
-//! with their functions and drops, with the kind of what is left out where something is; the pairs are small worlds of the same kind, two different ones, or one and a changed copy of
+//! of `encoded.txt` have root functions with parameters and results of each kind of type, types of the world, its resources
+//! with their functions and drops, and imported interfaces, with the kind of what is left out where something is; the pairs are small worlds of the same kind, two different ones, or one and a changed copy of
 //! its record.
 //!
 //! What a line means, and how it is counted, is in `lower_answers`.

@@ -42,7 +42,10 @@ exported_function r id key = option_and_then (λ w. root_function_at w.exports k
 abbrev pub function_of : Resolve → InterfaceId → List ℕ → Option Function
 function_of r id name = found name (functions_of r id)
 
--- the interface that the world exports at a key
+-- the interface that the world imports, or exports, at a key
+abbrev pub imported_interface : Resolve → WorldId → WorldKey → Option InterfaceId
+imported_interface r id key = option_and_then (λ w. option_and_then interface_in (lookup (is_same_key key) w.imports)) (slice_get r.worlds id.index)
+
 abbrev pub exported_interface : Resolve → WorldId → WorldKey → Option InterfaceId
 exported_interface r id key = option_and_then (λ w. option_and_then interface_in (lookup (is_same_key key) w.exports)) (slice_get r.worlds id.index)
 

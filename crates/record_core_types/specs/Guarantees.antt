@@ -1,5 +1,5 @@
--- What holds of the roles of a main module: the world has the function that a root function's role names, under the role's
--- key; and a root function that must be exported has a core export.
+-- What holds of the roles of a main module: the world has the function that the role of a root function, or of an imported
+-- interface's function, names, under the role's key; and a root function that must be exported has a core export.
 use Rattle.std.specs.Prelude.{◌≡◌, ℕ, List, Some, Contains, IsSome, get_or, map}
 use Rattle.std.specs.List.{flat_map}
 use Rattle.comp_lists.specs.Found.{found}
@@ -13,11 +13,13 @@ use Rattle.comp_roles.specs.declared.exports.Export.TheVariants as exports
 use Rattle.comp_roles.specs.declared.imports.Import.{Import}
 use Rattle.comp_roles.specs.declared.imports.Import.TheVariants as imports
 use Rattle.world_values.specs.Items.{no_items, root_export}
-use Rattle.record_core_types.specs.Asked.{imported_function, exported_function}
+use Rattle.record_core_types.specs.Asked.{imported_function, exported_function, function_of, imported_interface}
 
--- the world imports the root function of an import's role, under its own name
+-- the world imports the root function of an import's role, under its own name, or the interface of its role, which has the
+-- function
 abbrev pub IsCalled : Resolve → WorldId → Import → Type 0
 IsCalled r w (imports.WorldFunc (keys.Name text) function abi) = (function ≡ text) × IsSome (imported_function r w (keys.Name text))
+IsCalled r w (imports.InterfaceFunc key id function abi) = (imported_interface r w key ≡ Some id) × IsSome (function_of r id function)
 IsCalled r w role = Unit {0}
 
 -- the world exports the root function of an export's role, under its own name

@@ -11,7 +11,6 @@ use Rattle.comp_lists.proofs.Lists.{AllByRecursion-push, AllByRecursion-weaker}
 use Rattle.core_sections.specs.declared.core_module.CoreModule.{CoreModule}
 use Rattle.core_sections.specs.declared.entries.ExportedItem.{ExportedItem}
 use Rattle.wit_data.specs.Keys.{is_same_key}
-use Rattle.wit_data.specs.contracts.ids.InterfaceIdPartialEq.TheImpl as same_id
 use Rattle.wit_data.specs.declared.functions.AbiVariant.{AbiVariant}
 use Rattle.wit_data.specs.declared.functions.Function.{Function}
 use Rattle.wit_data.specs.declared.ids.InterfaceId.{InterfaceId}
@@ -32,11 +31,12 @@ use Rattle.record_values.specs.declared.roles.PlainExport.{PlainExport}
 use Rattle.record_values.specs.declared.roles.PlainExport.TheVariants as plain
 use Rattle.record_resolve.specs.declared.resolving.Resolved.{Resolved}
 use Rattle.record_role_targets.specs.declared.sides.Side.TheVariants as sides
-use Rattle.record_role_targets.specs.Sides.{item_at, interface_of, interface_keys}
-use Rattle.record_role_targets.specs.Keys.{is_interface, existing_as, first_key, interface_key}
+use Rattle.record_role_targets.specs.Sides.{item_at, interface_of}
+use Rattle.record_role_targets.specs.Keys.{is_interface, interface_key}
 use Rattle.record_role_targets.specs.Positions.{at_root, in_interface, function_at, function_position, resource_of}
 use Rattle.record_role_targets.specs.Imports.{memory_type}
 use Rattle.record_role_targets.specs.Exports.{lifted, post_return_there, post_return, callback_there, callback, plain_export, resolved_export}
+use Rattle.record_role_targets.proofs.Existence.{at_key}
 use Rattle.record_core_types.specs.Asked.{exported_function}
 use Rattle.record_core_types.specs.Fitting.{fits_export}
 use Rattle.record_core_types.specs.Offered.{item_type}
@@ -106,23 +106,8 @@ module _ (r : Resolved) where
   key_in_world_at id name abi (keys.Name text) e = (tt, root_item r (keys.Name text) ∙ none_there id (item_at sides.Exported r (keys.Name text)) e)
   key_in_world_at id name abi (keys.Interface i) e = (tt, tt)
 
-  existing_in_world : (id : InterfaceId) (name : List ℕ) (abi : AbiVariant) (there key : WorldKey) → existing_as id sides.Exported r there ≡ Some key → IsInWorld r (exports.InterfaceFunc key id name abi)
-  existing_in_world id name abi there key e = by (option_map_or (is_interface id) (item_at sides.Exported r there) false) refl e
-    where
-      by : (b : Bool) → option_map_or (is_interface id) (item_at sides.Exported r there) false ≡ b → (if b then Some there else None) ≡ Some key → IsInWorld r (exports.InterfaceFunc key id name abi)
-      by true is e = let same : there ≡ key = cc (e) in subst (λ (k : WorldKey). IsInWorld r (exports.InterfaceFunc k id name abi)) same (key_in_world_at id name abi there is)
-      by false is e = absurd cc
-
-  first_in_world : (id : InterfaceId) (name : List ℕ) (abi : AbiVariant) (key : WorldKey) (o : Option WorldKey) → option_and_then (existing_as id sides.Exported r) o ≡ Some key → IsInWorld r (exports.InterfaceFunc key id name abi)
-  first_in_world id name abi key None e = absurd cc
-  first_in_world id name abi key (Some there) e = existing_in_world id name abi there key e
-
   key_in_world : (id : InterfaceId) (name : List ℕ) (abi : AbiVariant) (key : WorldKey) → interface_key sides.Exported r id ≡ Some key → IsInWorld r (exports.InterfaceFunc key id name abi)
-  key_in_world id name abi key e = by (is_some (item_at sides.Exported r (keys.Interface id))) e
-    where
-      by : (b : Bool) → (if b then Some (keys.Interface id) else first_key sides.Exported r id) ≡ Some key → IsInWorld r (exports.InterfaceFunc key id name abi)
-      by true e = let same : keys.Interface id ≡ key = cc (e) in subst (λ (k : WorldKey). IsInWorld r (exports.InterfaceFunc k id name abi)) same (tt, tt)
-      by false e = first_in_world id name abi key (lookup (same_id.eq-value.it id) (interface_keys sides.Exported r)) e
+  key_in_world id name abi key e = let there = at_key r sides.Exported id key e in key_in_world_at id name abi key there.is
 
   within_in_world : (name : List ℕ) (abi : AbiVariant) (id : InterfaceId) (key : Option WorldKey) → interface_key sides.Exported r id ≡ key
       → IfSome (option_map (lifted name abi) (option_and_then (λ p. option_map (λ f. p) (function_at sides.Exported r p name)) (option_map (in_interface id) key))) (IsInWorld r)

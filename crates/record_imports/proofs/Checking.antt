@@ -1,16 +1,21 @@
--- What holds of an import that was read: its steps passed, and the root function of its role is the world's.
-use Rattle.std.proofs.Common.{◌≡◌, ℕ, Bool, true, false, List, Option, Some, None, Result, Ok, Err, refl, sym, subst, ap, ◌∙◌, true≢false}
-use Rattle.std.specs.Prelude.{⊤, ok_or, option_map, IfSome, IsSome, if◌then◌else◌}
+-- What holds of an import that was read: its steps passed, and the function of its role is the world's.
+use Rattle.std.proofs.Common.{rules, ◌≡◌, ℕ, Bool, true, false, List, [], Option, Some, None, Result, Ok, Err, refl, sym, subst, ap, ◌∙◌, true≢false}
+use Rattle.std.specs.Prelude.{⊤, ok_or, option_map, slice_get, IfSome, IsSome, if◌then◌else◌}
+use Rattle.std.specs.Map.{lookup}
 use Rattle.std.specs.Option.{option_and_then, option_map_or}
 use Rattle.core_sections.specs.declared.core_module.CoreModule.{CoreModule}
 use Rattle.core_sections.specs.declared.entries.CoreImport.{CoreImport}
 use Rattle.core_sections.specs.declared.entries.EntityType.{EntityType}
 use Rattle.core_sections.specs.declared.entries.FuncType.{FuncType}
+use Rattle.wit_data.specs.Keys.{is_same_key}
+use Rattle.wit_data.specs.contracts.ids.InterfaceIdPartialEq.TheImpl as same_id
 use Rattle.wit_data.specs.declared.functions.AbiVariant.{AbiVariant}
 use Rattle.wit_data.specs.declared.functions.Function.{Function}
 use Rattle.wit_data.specs.declared.ids.InterfaceId.{InterfaceId}
-use Rattle.wit_data.specs.declared.ids.WorldId.{WorldId}
 use Rattle.wit_data.specs.declared.resolve.Resolve.{Resolve}
+use Rattle.wit_data.specs.declared.worlds.World.{World}
+use Rattle.wit_data.specs.declared.worlds.WorldItem.{WorldItem}
+use Rattle.wit_data.specs.declared.worlds.WorldItem.TheVariants as items
 use Rattle.wit_data.specs.declared.worlds.WorldKey.{WorldKey}
 use Rattle.wit_data.specs.declared.worlds.WorldKey.TheVariants as keys
 use Rattle.comp_roles.specs.declared.imports.Import.{Import}
@@ -29,14 +34,15 @@ use Rattle.record_values.specs.declared.roles.PayloadOperation.{PayloadOperation
 use Rattle.record_values.specs.declared.roles.PayloadOperation.TheVariants as operations
 use Rattle.record_resolve.specs.declared.resolving.Resolved.{Resolved}
 use Rattle.record_role_targets.specs.declared.sides.Side.TheVariants as sides
-use Rattle.record_role_targets.specs.Sides.{interface_of}
-use Rattle.record_role_targets.specs.Keys.{interface_key}
+use Rattle.record_role_targets.specs.Sides.{interface_of, items_in}
+use Rattle.record_role_targets.specs.Keys.{is_interface, interface_key}
 use Rattle.record_role_targets.specs.Positions.{at_root, in_interface, position_of, function_at, function_position, resource_of}
 use Rattle.record_role_targets.specs.Payloads.{resolved_payload, payload_import}
 use Rattle.record_role_targets.specs.Imports.{memory_type, function_type, called, imported_drop, exported_drop, exported_rep, exported_new, task_return, intrinsic, resolved_import}
-use Rattle.world_values.specs.Mentions.{HasReturned}
 use Rattle.record_role_targets.specs.Named.{HasNamed}
-use Rattle.record_core_types.specs.Asked.{called as called_as, imported_function}
+use Rattle.record_role_targets.proofs.Existence.{at_key}
+use Rattle.world_values.specs.Mentions.{HasReturned, interface_in}
+use Rattle.record_core_types.specs.Asked.{called as called_as, imported_function, imported_interface, function_of}
 use Rattle.record_core_types.specs.Fitting.{is_asked, function_type as type_of_function, fits_import}
 use Rattle.record_core_types.specs.Offered.{extern_type}
 use Rattle.record_core_types.specs.Guarantees.{IsCalled}
@@ -97,100 +103,122 @@ import_passes r table core i import e =
       fits = ap (λ (x : Import). fits_import r.resolve world_id core x i.entity) (sym p.1) ∙ p.0;
     }
 
--- ---- root functions have their own names
+-- ---- root functions have their own names, and interfaces their keys
 
-abbrev IsOwn : Import → Type 0
-IsOwn (imports.WorldFunc (keys.Name text) function abi) = function ≡ text
-IsOwn import = Unit {0}
+same_number : (a b : InterfaceId) → same_id.eq-value.it a b ≡ true → b ≡ a
+same_number a b e = search rules
 
-mapped : {A : Type 0} (f : A → Import) (o : Option A) → ((x : A) → IsOwn (f x)) → IfSome (option_map f o) IsOwn
-mapped f None h = tt
-mapped f (Some x) h = h x
+one_interface : (id : InterfaceId) (o : Option WorldItem) → option_map_or (is_interface id) o false ≡ true → option_and_then interface_in o ≡ Some id
+one_interface id (Some (items.Interface other)) e = ap Some (same_number id other e)
+one_interface id (Some (items.Function f)) e = absurd (true≢false (sym e))
+one_interface id (Some (items.NamedType t)) e = absurd (true≢false (sym e))
+one_interface id None e = absurd (true≢false (sym e))
 
-root_own : (name : List ℕ) (abi : AbiVariant) (o : Option Function) → IfSome (option_map (called name abi) (option_map (λ f. at_root name) o)) IsOwn
-root_own name abi None = tt
-root_own name abi (Some f) = refl
+in_world : (id : InterfaceId) (key : WorldKey) (o : Option World) → option_map_or (is_interface id) (lookup (is_same_key key) (option_map_or (items_in sides.Imported) o [])) false ≡ true
+    → option_and_then (λ w. option_and_then interface_in (lookup (is_same_key key) w.imports)) o ≡ Some id
+in_world id key None e = absurd (true≢false (sym e))
+in_world id key (Some w) e = one_interface id (lookup (is_same_key key) w.imports) e
 
-interface_own : (r : Resolved) (name : List ℕ) (abi : AbiVariant) (id : InterfaceId) (key : Option WorldKey)
-    → IfSome (option_map (called name abi) (option_and_then (λ p. option_map (λ f. p) (function_at sides.Imported r p name)) (option_map (in_interface id) key))) IsOwn
-interface_own r name abi id None = tt
-interface_own r name abi id (Some key) = by (function_at sides.Imported r (in_interface id key) name)
-  where
-    by : (o : Option Function) → IfSome (option_map (called name abi) (option_map (λ f. in_interface id key) o)) IsOwn
-    by None = tt
-    by (Some f) = tt
+module _ (r : Resolved) where
+  abbrev IsOwn : Import → Type 0
+  IsOwn (imports.WorldFunc (keys.Name text) function abi) = function ≡ text
+  IsOwn (imports.InterfaceFunc key id function abi) = imported_interface r.resolve world_id key ≡ Some id
+  IsOwn import = Unit {0}
 
-named_own : (r : Resolved) (name : List ℕ) (abi : AbiVariant) (id : Option InterfaceId)
-    → IfSome (option_map (called name abi) (option_and_then (λ p. option_map (λ f. p) (function_at sides.Imported r p name)) (option_and_then (λ x. option_map (in_interface x) (interface_key sides.Imported r x)) id))) IsOwn
-named_own r name abi None = tt
-named_own r name abi (Some id) = interface_own r name abi id (interface_key sides.Imported r id)
+  mapped : {A : Type 0} (f : A → Import) (o : Option A) → ((x : A) → IsOwn (f x)) → IfSome (option_map f o) IsOwn
+  mapped f None h = tt
+  mapped f (Some x) h = h x
 
-function_own : (r : Resolved) (owner : Owner) (name : List ℕ) (abi : AbiVariant) → IfSome (option_map (called name abi) (function_position sides.Imported r owner name)) IsOwn
-function_own r owners.World name abi = root_own name abi (function_at sides.Imported r (at_root name) name)
-function_own r (owners.Interface i) name abi = named_own r name abi (interface_of sides.Imported r i)
+  root_own : (name : List ℕ) (abi : AbiVariant) (o : Option Function) → IfSome (option_map (called name abi) (option_map (λ f. at_root name) o)) IsOwn
+  root_own name abi None = tt
+  root_own name abi (Some f) = refl
 
-chained : {A B : Type 0} (f : A → B → Import) (of : A → Option B) (o : Option A) → ((x : A) (y : B) → IsOwn (f x y)) → IfSome (option_and_then (λ x. option_map (f x) (of x)) o) IsOwn
-chained f of None h = tt
-chained f of (Some x) h = mapped (f x) (of x) (h x)
+  key_own : (id : InterfaceId) (key : WorldKey) → interface_key sides.Imported r id ≡ Some key → imported_interface r.resolve world_id key ≡ Some id
+  key_own id key e = let there = at_key r sides.Imported id key e in in_world id key (slice_get r.resolve.worlds 0) there.is
 
-payload_own : (kind : PayloadKind) (operation : PayloadOperation) (is_async : Bool) (p : PayloadInfo) → IsOwn (payload_import kind operation is_async p)
-payload_own payload_kinds.Stream operations.New a p = tt
-payload_own payload_kinds.Stream operations.Read a p = tt
-payload_own payload_kinds.Stream operations.Write a p = tt
-payload_own payload_kinds.Stream operations.CancelRead a p = tt
-payload_own payload_kinds.Stream operations.CancelWrite a p = tt
-payload_own payload_kinds.Stream operations.DropReadable a p = tt
-payload_own payload_kinds.Stream operations.DropWritable a p = tt
-payload_own payload_kinds.Future operations.New a p = tt
-payload_own payload_kinds.Future operations.Read a p = tt
-payload_own payload_kinds.Future operations.Write a p = tt
-payload_own payload_kinds.Future operations.CancelRead a p = tt
-payload_own payload_kinds.Future operations.CancelWrite a p = tt
-payload_own payload_kinds.Future operations.DropReadable a p = tt
-payload_own payload_kinds.Future operations.DropWritable a p = tt
+  interface_own : (name : List ℕ) (abi : AbiVariant) (id : InterfaceId) (key : Option WorldKey) → interface_key sides.Imported r id ≡ key
+      → IfSome (option_map (called name abi) (option_and_then (λ p. option_map (λ f. p) (function_at sides.Imported r p name)) (option_map (in_interface id) key))) IsOwn
+  interface_own name abi id None is = tt
+  interface_own name abi id (Some key) is = by (function_at sides.Imported r (in_interface id key) name)
+    where
+      by : (o : Option Function) → IfSome (option_map (called name abi) (option_map (λ f. in_interface id key) o)) IsOwn
+      by None = tt
+      by (Some f) = key_own id key is
 
-intrinsic_own : (i : Intrinsic) → IsOwn (intrinsic i)
-intrinsic_own intrinsics.TaskCancel = tt
-intrinsic_own intrinsics.BackpressureInc = tt
-intrinsic_own intrinsics.BackpressureDec = tt
-intrinsic_own intrinsics.WaitableSetNew = tt
-intrinsic_own intrinsics.WaitableSetWait = tt
-intrinsic_own intrinsics.WaitableSetPoll = tt
-intrinsic_own intrinsics.WaitableSetDrop = tt
-intrinsic_own intrinsics.WaitableJoin = tt
-intrinsic_own intrinsics.SubtaskDrop = tt
-intrinsic_own intrinsics.ErrorContextDrop = tt
+  named_own : (name : List ℕ) (abi : AbiVariant) (id : Option InterfaceId)
+      → IfSome (option_map (called name abi) (option_and_then (λ p. option_map (λ f. p) (function_at sides.Imported r p name)) (option_and_then (λ x. option_map (in_interface x) (interface_key sides.Imported r x)) id))) IsOwn
+  named_own name abi None = tt
+  named_own name abi (Some id) = interface_own name abi id (interface_key sides.Imported r id) refl
 
-role_own : (r : Resolved) (field : List ℕ) (role : ImportRole) (ty : Option ExternType) → IfSome (resolved_import r field role ty) IsOwn
-role_own r field (roles.Function owner name abi) ty = function_own r owner name abi
-role_own r field (roles.ImportedDrop t) ty = mapped imported_drop (resource_of sides.Imported r t) (λ x. tt)
-role_own r field (roles.ExportedDrop t) ty = mapped exported_drop (resource_of sides.Exported r t) (λ x. tt)
-role_own r field (roles.ExportedRep t) ty = mapped exported_rep (resource_of sides.Exported r t) (λ x. tt)
-role_own r field (roles.ExportedNew t) ty = mapped exported_new (resource_of sides.Exported r t) (λ x. tt)
-role_own r field (roles.TaskReturn owner name) ty = chained task_return (λ p. function_at sides.Exported r p name) (position_of sides.Exported r owner name) (λ p f. tt)
-role_own r field (roles.Payload kind operation payload is_async) ty = mapped (payload_import kind operation is_async) (resolved_payload r field kind payload) (payload_own kind operation is_async)
-role_own r field roles.Memory ty = mapped imports.MainModuleMemory (memory_type ty) (λ x. tt)
-role_own r field (roles.MainExport name kind) ty = tt
-role_own r field (roles.AdapterExport adapter name) ty = mapped (imports.AdapterExport adapter name) (function_type ty) (λ x. tt)
-role_own r field (roles.Intrinsic i) ty = intrinsic_own i
-role_own r field (roles.SubtaskCancel is_async) ty = tt
-role_own r field (roles.ErrorContextNew encoding) ty = tt
-role_own r field (roles.ErrorContextDebugMessage encoding) ty = tt
-role_own r field (roles.ContextGet word slot) ty = tt
-role_own r field (roles.ContextSet word slot) ty = tt
-role_own r field (roles.TlsGet word) ty = tt
-role_own r field (roles.TlsSet word) ty = tt
+  function_own : (owner : Owner) (name : List ℕ) (abi : AbiVariant) → IfSome (option_map (called name abi) (function_position sides.Imported r owner name)) IsOwn
+  function_own owners.World name abi = root_own name abi (function_at sides.Imported r (at_root name) name)
+  function_own (owners.Interface i) name abi = named_own name abi (interface_of sides.Imported r i)
 
--- ---- root functions are the world's
+  chained : {A B : Type 0} (f : A → B → Import) (of : A → Option B) (o : Option A) → ((x : A) (y : B) → IsOwn (f x y)) → IfSome (option_and_then (λ x. option_map (f x) (of x)) o) IsOwn
+  chained f of None h = tt
+  chained f of (Some x) h = mapped (f x) (of x) (h x)
+
+  payload_own : (kind : PayloadKind) (operation : PayloadOperation) (is_async : Bool) (p : PayloadInfo) → IsOwn (payload_import kind operation is_async p)
+  payload_own payload_kinds.Stream operations.New a p = tt
+  payload_own payload_kinds.Stream operations.Read a p = tt
+  payload_own payload_kinds.Stream operations.Write a p = tt
+  payload_own payload_kinds.Stream operations.CancelRead a p = tt
+  payload_own payload_kinds.Stream operations.CancelWrite a p = tt
+  payload_own payload_kinds.Stream operations.DropReadable a p = tt
+  payload_own payload_kinds.Stream operations.DropWritable a p = tt
+  payload_own payload_kinds.Future operations.New a p = tt
+  payload_own payload_kinds.Future operations.Read a p = tt
+  payload_own payload_kinds.Future operations.Write a p = tt
+  payload_own payload_kinds.Future operations.CancelRead a p = tt
+  payload_own payload_kinds.Future operations.CancelWrite a p = tt
+  payload_own payload_kinds.Future operations.DropReadable a p = tt
+  payload_own payload_kinds.Future operations.DropWritable a p = tt
+
+  intrinsic_own : (i : Intrinsic) → IsOwn (intrinsic i)
+  intrinsic_own intrinsics.TaskCancel = tt
+  intrinsic_own intrinsics.BackpressureInc = tt
+  intrinsic_own intrinsics.BackpressureDec = tt
+  intrinsic_own intrinsics.WaitableSetNew = tt
+  intrinsic_own intrinsics.WaitableSetWait = tt
+  intrinsic_own intrinsics.WaitableSetPoll = tt
+  intrinsic_own intrinsics.WaitableSetDrop = tt
+  intrinsic_own intrinsics.WaitableJoin = tt
+  intrinsic_own intrinsics.SubtaskDrop = tt
+  intrinsic_own intrinsics.ErrorContextDrop = tt
+
+  role_own : (field : List ℕ) (role : ImportRole) (ty : Option ExternType) → IfSome (resolved_import r field role ty) IsOwn
+  role_own field (roles.Function owner name abi) ty = function_own owner name abi
+  role_own field (roles.ImportedDrop t) ty = mapped imported_drop (resource_of sides.Imported r t) (λ x. tt)
+  role_own field (roles.ExportedDrop t) ty = mapped exported_drop (resource_of sides.Exported r t) (λ x. tt)
+  role_own field (roles.ExportedRep t) ty = mapped exported_rep (resource_of sides.Exported r t) (λ x. tt)
+  role_own field (roles.ExportedNew t) ty = mapped exported_new (resource_of sides.Exported r t) (λ x. tt)
+  role_own field (roles.TaskReturn owner name) ty = chained task_return (λ p. function_at sides.Exported r p name) (position_of sides.Exported r owner name) (λ p f. tt)
+  role_own field (roles.Payload kind operation payload is_async) ty = mapped (payload_import kind operation is_async) (resolved_payload r field kind payload) (payload_own kind operation is_async)
+  role_own field roles.Memory ty = mapped imports.MainModuleMemory (memory_type ty) (λ x. tt)
+  role_own field (roles.MainExport name kind) ty = tt
+  role_own field (roles.AdapterExport adapter name) ty = mapped (imports.AdapterExport adapter name) (function_type ty) (λ x. tt)
+  role_own field (roles.Intrinsic i) ty = intrinsic_own i
+  role_own field (roles.SubtaskCancel is_async) ty = tt
+  role_own field (roles.ErrorContextNew encoding) ty = tt
+  role_own field (roles.ErrorContextDebugMessage encoding) ty = tt
+  role_own field (roles.ContextGet word slot) ty = tt
+  role_own field (roles.ContextSet word slot) ty = tt
+  role_own field (roles.TlsGet word) ty = tt
+  role_own field (roles.TlsSet word) ty = tt
+
+-- ---- functions are the world's
 
 asked_there : (f : Function → FuncType) (o : Option Function) (ty : Option FuncType) → option_map_or (λ t. is_asked t (option_map f o)) ty false ≡ true → IsSome o
 asked_there f None None e = absurd (true≢false (sym e))
 asked_there f None (Some t) e = absurd (true≢false (sym e))
 asked_there f (Some x) ty e = refl
 
-is_called : (r : Resolve) (w : WorldId) (core : CoreModule) (import : Import) (entity : EntityType) → IsOwn import → fits_import r w core import entity ≡ true → IsCalled r w import
-is_called r w core (imports.WorldFunc (keys.Name text) function abi) entity own fits = (own, asked_there (called_as r abi) (imported_function r w (keys.Name text)) (type_of_function core entity) fits)
-is_called r w core import entity own fits = tt
+is_called : (r : Resolved) (core : CoreModule) (import : Import) (entity : EntityType) → IsOwn r import → fits_import r.resolve world_id core import entity ≡ true → IsCalled r.resolve world_id import
+is_called r core (imports.WorldFunc (keys.Name text) function abi) entity own fits =
+    (own, asked_there (called_as r.resolve abi) (imported_function r.resolve world_id (keys.Name text)) (type_of_function core entity) fits)
+is_called r core (imports.InterfaceFunc key id function abi) entity own fits =
+    (own, asked_there (called_as r.resolve abi) (function_of r.resolve id function) (type_of_function core entity) fits)
+is_called r core import entity own fits = tt
 
 -- an import that was read is checked
 pub is_checked : (r : Resolved) (table : Roles) (core : CoreModule) (i : CoreImport) (import : Import) → import_of r table core i ≡ Ok import → HasNamed r.resolve import → IsChecked r.resolve import
@@ -198,5 +226,5 @@ is_checked r table core i import e named =
     let p = import_passes r table core i import e in
     record {
       present = named.used;
-      called = is_called r.resolve world_id core import i.entity (subst (λ o. IfSome o IsOwn) p.means (role_own r i.field p.role (Some p.ty))) p.fits;
+      called = is_called r core import i.entity (subst (λ o. IfSome o (IsOwn r)) p.means (role_own r i.field p.role (Some p.ty))) p.fits;
     }

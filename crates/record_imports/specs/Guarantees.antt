@@ -13,7 +13,7 @@ use Rattle.record_core_types.specs.Guarantees.{IsCalled}
 use Rattle.record_imports.specs.declared.grouping.Group.{Group}
 use Rattle.record_imports.specs.Meaning.{world_id}
 
--- what an import names exists in the resolve, and the root function of its role is the world's
+-- what an import names exists in the resolve, and the function of its role is the world's
 pub record IsChecked (r : Resolve) (import : Import) : Type 0 where
   pub present : HasRole r import
   pub called : IsCalled r world_id import

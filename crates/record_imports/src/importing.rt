@@ -79,7 +79,7 @@ fn read_all(
 /// imported twice are refused by both names (`ImportTwice`). The only other refusal is out of memory.
 ///
 /// What the imports name exists in the resolve, and the world imports each root function under its
-/// name.
+/// name, and each interface of which a function is called, which has that function.
 #[tactic(auto, using(crate::proofs::Refusing::no_cause, crate::proofs::Refusing::has_cause))]
 pub fn read_imports(
     alloc: Global,

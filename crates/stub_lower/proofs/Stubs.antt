@@ -1,4 +1,4 @@
--- The stub's world is a validated one, and the stub refuses no good module.
+-- The stub's world is a validated one that the encoder takes, and the stub refuses no good module.
 use Rattle.std.proofs.Common.{◌≡◌, ℕ, List, map, refl, subst, sym, ap, take, inl, inr, [], ◌∷◌, arith, length, ◌<◌, Some, Result, Ok, Err}
 use Rattle.std.specs.Prelude.{⊤, codes, Contains, IfOk, IsOk}
 use Rattle.std.specs.Option.{option_map}
@@ -12,6 +12,7 @@ use Rattle.comp_worlds.specs.declared.world.WorldParts.{WorldParts}
 use Rattle.world_values.specs.Mentions.{HasRole}
 use Rattle.comp_worlds.specs.Uses.{all_imports}
 use Rattle.core_types.specs.Core.{core_preamble}
+use Rattle.comp_worlds.specs.Encodable.{IsEncodable}
 use Rattle.comp_worlds.specs.Worlds.{IsResource, IsWorld}
 use Rattle.comp_worlds.specs.WorldTables.{HasTables}
 use Rattle.comp_worlds.proofs.WholeTables.{whole_has_tables}
@@ -63,10 +64,7 @@ no_resource n h = let within = h.present in absurd (omega (arith, within))
 valid_of : (bytes : List ℕ) → take 8 bytes ≡ core_preamble → IsWorld (stub_world bytes)
 unfolding stub_parts stub_world
 valid_of bytes core = record {
-  sound = sound;
   present = omega arith;
-  types = tt;
-  resources = record { ordered = tt; each = no_resource };
   imports = ((refl, record { kind = tt; imported = refl; exported = refl }), tt);
   exports = tt;
   import_names_apart = alone (codes "f");
@@ -84,8 +82,20 @@ valid_of bytes core = record {
   alone = refl;
 }
 
-pub valid : (w : ComponentWorld) (bytes : List ℕ) → w ≡ stub_world bytes → take 8 bytes ≡ core_preamble → IsWorld w
-valid w bytes is core = subst IsWorld (sym is) (valid_of bytes core)
+-- the encoder takes it: it has neither types nor interfaces
+encodable_of : (bytes : List ℕ) → take 8 bytes ≡ core_preamble → IsEncodable (stub_world bytes)
+unfolding stub_parts stub_world
+encodable_of bytes core = record {
+  valid = valid_of bytes core;
+  sound = sound;
+  types = tt;
+  resources = record { ordered = tt; each = no_resource };
+  interfaces = (tt, tt);
+  none_live = tt;
+}
+
+pub encodable : (w : ComponentWorld) (bytes : List ℕ) → w ≡ stub_world bytes → take 8 bytes ≡ core_preamble → IsEncodable w
+encodable w bytes is core = subst IsEncodable (sym is) (encodable_of bytes core)
 
 pub tables : (w : ComponentWorld) (bytes : List ℕ) → w ≡ stub_world bytes → HasTables w
 unfolding stub_world

@@ -2,7 +2,7 @@
 
 ghost use Rattle.std.specs.Prelude.{◌≡◌, ◌≢◌, ◌⊎◌, [], IfOk, IfErr, IsOk, MatchBool, take};
 ghost use Rattle.core_types.specs.Core.{core_preamble};
-ghost use Rattle.comp_worlds.specs.Worlds.{IsWorld};
+ghost use Rattle.comp_worlds.specs.Encodable.{IsEncodable};
 ghost use Rattle.comp_worlds.specs.WorldTables.{HasTables};
 ghost use Rattle.stub_lower.specs.Stub.{stub_world};
 ghost use Rattle.stub_lower.specs.declared.stub.StubFault.TheVariants.{Memory};
@@ -61,7 +61,7 @@ fn has_adapters(adapters: &Keyed<Text, GatheredAdapter<()>>) -> bool
 /// The world of a core module.
 fn world_of_core(alloc: Global, bytes: &[u8]) -> Result<ComponentWorld, StubFault>
     ensures ok { IfOk result (λ w. w ≡ stub_world bytes.now) }
-    ensures valid { IfOk result IsWorld }
+    ensures valid { IfOk result IsEncodable }
     ensures tables { IfOk result HasTables }
     ensures refused { IsOk result → take 8 bytes.now ≡ core_preamble }
     ensures cause { IfErr result (λ f. f ≢ Memory → take 8 bytes.now ≢ core_preamble) }
@@ -80,7 +80,7 @@ fn world_alone(
     adapters: &Keyed<Text, GatheredAdapter<()>>,
 ) -> Result<ComponentWorld, StubFault>
     ensures ok { IfOk result (λ w. w ≡ stub_world bytes.now) }
-    ensures valid { IfOk result IsWorld }
+    ensures valid { IfOk result IsEncodable }
     ensures tables { IfOk result HasTables }
     ensures refused { IsOk result → (take 8 bytes.now ≡ core_preamble) × (adapters.now ≡ []) }
     ensures cause { IfErr result (λ f. f ≢ Memory → (take 8 bytes.now ≢ core_preamble) ⊎ (adapters.now ≢ [])) }

@@ -3,7 +3,7 @@
 ghost use Rattle.std.specs.Prelude.{◌≡◌, IfOk, take};
 ghost use Rattle.stub_lower.specs.Stub.{stub_role, stub_fields, stub_imports, stub_imported, stub_items, stub_resolve, stub_parts, stub_world};
 ghost use Rattle.core_types.specs.Core.{core_preamble};
-ghost use Rattle.comp_worlds.specs.Worlds.{IsWorld};
+ghost use Rattle.comp_worlds.specs.Encodable.{IsEncodable};
 ghost use Rattle.comp_worlds.specs.WorldTables.{HasTables};
 
 use comp_lists::{Keyed, Seq, Text};
@@ -141,7 +141,7 @@ fn world_of(alloc: Global, bytes: &[u8]) -> Result<ComponentWorld, AllocError>
 pub(crate) fn world(alloc: Global, bytes: &[u8]) -> Result<ComponentWorld, AllocError>
     requires { take 8 bytes.now ≡ core_preamble }
     ensures ok { IfOk result (λ w. w ≡ stub_world bytes.now) }
-    ensures valid { IfOk result IsWorld }
+    ensures valid { IfOk result IsEncodable }
     ensures tables { IfOk result HasTables }
 {
     world_of(alloc, bytes)

@@ -1,4 +1,7 @@
+mod Encodable
+mod Interfaces
 mod Lists
+mod Marking
 mod Places
 mod Reporting
 mod Valid

@@ -13,7 +13,8 @@ use Rattle.wit_data.specs.declared.worlds.WorldItem.{WorldItem}
 use Rattle.wit_data.specs.declared.worlds.WorldItem.TheVariants as items
 use Rattle.wit_data.specs.declared.worlds.WorldKey.{WorldKey}
 use Rattle.wit_data.specs.declared.worlds.WorldKey.TheVariants as keys
-use Rattle.comp_worlds.specs.Worlds.{IsResource, AscendFrom, ImportsResources, items_of}
+use Rattle.comp_worlds.specs.Encodable.{AscendFrom, ImportsResources}
+use Rattle.comp_worlds.specs.Worlds.{IsResource, items_of}
 use Rattle.comp_worlds.specs.declared.world.ComponentWorld.{ComponentWorld}
 use Rattle.supported_worlds.specs.LeftOut.{is_resource_kind, is_resource, imported_numbers, ascend_from, have_resources, are_in_place}
 use Rattle.supported_worlds.specs.Places.{Follows, FollowsImport}

@@ -9,7 +9,7 @@ use Rattle.comp_roles.specs.Lookups.{first_some}
 use Rattle.comp_roles.specs.declared.imports.Import.{Import}
 use Rattle.comp_roles.specs.declared.imports.ImportInstance.{ImportInstance}
 use Rattle.comp_roles.specs.declared.imports.ImportInstance.TheVariants as instances
-use Rattle.comp_worlds.specs.Worlds.{ImportsResources}
+use Rattle.comp_worlds.specs.Encodable.{ImportsResources}
 use Rattle.comp_worlds.specs.WorldTables.{whole_of}
 use Rattle.comp_worlds.specs.declared.world.ComponentWorld.{ComponentWorld}
 use Rattle.comp_worlds.specs.declared.world.WorldAdapter.{WorldAdapter}
@@ -52,7 +52,7 @@ resources_pass false h = nothing (codes "type") h
 
 -- nothing of a world is left out
 pub record IsEncoded (p : WorldParts) : Type 0 where
-  pub imports : AllByRecursion (λ e. import_item_left_out p.resolve.types e ≡ None) (items_of p).imports
+  pub imports : AllByRecursion (λ e. import_item_left_out p.resolve e ≡ None) (items_of p).imports
   pub exports : AllByRecursion (λ e. export_item_left_out p.resolve.types e ≡ None) (items_of p).exports
   pub types : AllByRecursion (λ t. type_left_out t ≡ None) p.resolve.types
   pub resources : ImportsResources (whole_of p)
@@ -63,14 +63,14 @@ pub record IsEncoded (p : WorldParts) : Type 0 where
 pub all_encoded : (p : WorldParts) → left_out p ≡ None → IsEncoded p
 unfolding left_out
 all_encoded p h =
-    let a = neither (world_left_out p.resolve.types (items_of p)) _ h in
-    let w = neither (first_some (import_item_left_out p.resolve.types) (items_of p).imports) _ a.0 in
+    let a = neither (world_left_out p.resolve (items_of p)) _ h in
+    let w = neither (first_some (import_item_left_out p.resolve) (items_of p).imports) _ a.0 in
     let t = neither (types_left_out p.resolve.types (items_of p)) (modules_left_out p) a.1 in
     let o = neither (first_some type_left_out p.resolve.types) (resources_left_out p.resolve.types (items_of p).imports) t.0 in
     let b = neither (module_left_out p.resolve.types p.main) (adapters_left_out p.adapters) t.1 in
     let m = neither (first_some (group_left_out p.resolve.types) p.main.imports.modules) _ b.0 in
     record {
-      imports = none_picked (import_item_left_out p.resolve.types) (items_of p).imports w.0;
+      imports = none_picked (import_item_left_out p.resolve) (items_of p).imports w.0;
       exports = none_picked (export_item_left_out p.resolve.types) (items_of p).exports w.1;
       types = none_picked type_left_out p.resolve.types o.0;
       resources = imports_resources (whole_of p) (resources_pass (are_in_place p.resolve.types 0 (imported_numbers (items_of p).imports)) o.1);
@@ -84,7 +84,7 @@ none_of : {X : Type 0} (reported : X → Option (List ℕ)) (xs : List X) (x : X
 none_of reported xs x what h m e = nothing what (sym e ∙ AllByRecursion-contains (λ y. reported y ≡ None) xs x h m)
 
 by_cases : (p : WorldParts) → IsEncoded p → (f : Refusal) → IsLeftOut p f → ⊥
-by_cases p h f (imported entry what m e) = none_of (import_item_left_out p.resolve.types) (items_of p).imports entry what h.imports m e
+by_cases p h f (imported entry what m e) = none_of (import_item_left_out p.resolve) (items_of p).imports entry what h.imports m e
 by_cases p h f (exported entry what m e) = none_of (export_item_left_out p.resolve.types) (items_of p).exports entry what h.exports m e
 by_cases p h f (type_def def what m e) = none_of type_left_out p.resolve.types def what h.types m e
 by_cases p h f (resources lack) = lack h.resources
@@ -110,9 +110,9 @@ module _ (p : WorldParts) (what : List ℕ) where
   of_adapters (a ∷ more) is e =
       subst (λ (w : List ℕ). IsLeftOut p (refusals.LeftOut w)) (cc (e)) (adapter a (subst (λ (xs : List (List ℕ × WorldAdapter)). Contains xs a) (sym is) (at_front a more)))
 
-  of_world : world_left_out p.resolve.types (items_of p) ≡ Some what → IsLeftOut p (refusals.LeftOut what)
-  of_world e = elim (one_of (first_some (import_item_left_out p.resolve.types) (items_of p).imports) (first_some (export_item_left_out p.resolve.types) (items_of p).exports) what e) [
-    | inl a ↦ let t = one_picked (import_item_left_out p.resolve.types) (items_of p).imports what a in imported t.element what t.there t.picks
+  of_world : world_left_out p.resolve (items_of p) ≡ Some what → IsLeftOut p (refusals.LeftOut what)
+  of_world e = elim (one_of (first_some (import_item_left_out p.resolve) (items_of p).imports) (first_some (export_item_left_out p.resolve.types) (items_of p).exports) what e) [
+    | inl a ↦ let t = one_picked (import_item_left_out p.resolve) (items_of p).imports what a in imported t.element what t.there t.picks
     | inr b ↦ let t = one_picked (export_item_left_out p.resolve.types) (items_of p).exports what b in exported t.element what t.there t.picks
   ]
 
@@ -144,7 +144,7 @@ module _ (p : WorldParts) (what : List ℕ) where
 
   reported : left_out p ≡ Some what → IsLeftOut p (refusals.LeftOut what)
   unfolding left_out
-  reported e = elim (one_of (world_left_out p.resolve.types (items_of p)) _ what e) [
+  reported e = elim (one_of (world_left_out p.resolve (items_of p)) _ what e) [
     | inl a ↦ of_world a
     | inr b ↦ of_rest (one_of (types_left_out p.resolve.types (items_of p)) (modules_left_out p) what b)
   ]

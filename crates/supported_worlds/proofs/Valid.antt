@@ -1,30 +1,27 @@
 -- A world of which nothing is left out keeps the invariant of worlds.
 use Rattle.std.proofs.Common.{arith, rules, ◌≡◌, ◌<◌, length, ℕ, zero, suc, Bool, true, false, cond, ◌&&◌, List, [], ◌∷◌, map, Option, Some, None, refl, sym, ap, subst, ◌∙◌, true≢false}
-use Rattle.std.specs.Prelude.{◌==◌, nat_eq, is_some, slice_get, slice_index_or, Contains, IsSome, option_map, codes, if◌then◌else◌}
+use Rattle.std.specs.Prelude.{is_some, slice_get, slice_index_or, Contains, IsSome, option_map, codes, if◌then◌else◌}
 use Rattle.std.specs.List.{IsDistinct, AllByRecursion, flat_map}
 use Rattle.std.specs.Map.{lookup, keys_of}
 use Rattle.std.specs.Option.{option_and_then, option_map_or}
 use Rattle.std.specs.Str.{bytes_eq}
 use Rattle.std.proofs.lemmas.Option.{slice_get-get_or}
 use Rattle.std.proofs.lemmas.Slice.Eq.{bytes_eq-Decides}
+use Rattle.comp_lists.specs.Found.{found}
 use Rattle.comp_lists.proofs.Lists.{AllByRecursion-front, AllByRecursion-back, AllByRecursion-at, AllByRecursion-weaker}
 use Rattle.comp_lists.proofs.Lookups.{some_of}
 use Rattle.wit_data.specs.Keys.{is_same_key}
 use Rattle.wit_data.specs.declared.functions.AbiVariant.TheVariants.{GuestImport, GuestExport, GuestImportAsync}
 use Rattle.wit_data.specs.declared.functions.Function.{Function}
-use Rattle.wit_data.specs.declared.functions.FunctionKind.{FunctionKind}
-use Rattle.wit_data.specs.declared.functions.FunctionKind.TheVariants as functions
 use Rattle.wit_data.specs.declared.ids.InterfaceId.{InterfaceId}
 use Rattle.wit_data.specs.declared.ids.TypeId.{TypeId}
+use Rattle.wit_data.specs.declared.resolve.Resolve.{Resolve}
 use Rattle.wit_data.specs.declared.types.TypeDef.{TypeDef}
-use Rattle.wit_data.specs.declared.types.TypeOwner.{TypeOwner}
-use Rattle.wit_data.specs.declared.types.TypeOwner.TheVariants as owners
 use Rattle.wit_data.specs.declared.worlds.World.{World}
 use Rattle.wit_data.specs.declared.worlds.WorldItem.{WorldItem}
 use Rattle.wit_data.specs.declared.worlds.WorldItem.TheVariants as items
 use Rattle.wit_data.specs.declared.worlds.WorldKey.{WorldKey}
 use Rattle.wit_data.specs.declared.worlds.WorldKey.TheVariants as keys
-use Rattle.comp_options.specs.Options.{import_set, export_set}
 use Rattle.comp_roles.specs.CoreImports.{imports_from}
 use Rattle.comp_roles.specs.CoreTypes.{called_type}
 use Rattle.comp_roles.specs.declared.exports.Export.{Export}
@@ -34,64 +31,52 @@ use Rattle.comp_roles.specs.declared.imports.Import.TheVariants as imports
 use Rattle.comp_roles.specs.declared.imports.ImportInstance.{ImportInstance}
 use Rattle.comp_roles.specs.declared.imports.ImportInstance.TheVariants as instances
 use Rattle.comp_roles.specs.declared.offered.ImportType.{ImportType}
-use Rattle.world_values.specs.Items.{no_items, function_in, root_function_at}
+use Rattle.world_values.specs.Items.{no_items, functions_of, function_in, root_function_at}
+use Rattle.world_values.specs.Mentions.{interface_in}
 use Rattle.comp_worlds.specs.Typed.{type_of_import, type_of_export, FitsImport, FitsExport}
-use Rattle.comp_worlds.specs.Worlds.{root_function, core_name_in, IsWorld, IsUserModule, IsSynchronous, IsPlain, IsImportItem, IsExportItem, IsOwnerAtRoot, IsRootType, IsResource, IsImportRole, IsImportGroup, IsExportRole, IsRequired}
+use Rattle.comp_worlds.specs.Worlds.{root_function, core_name_in, IsWorld, IsUserModule, IsPlain, IsNamedPlain, IsImportItem, IsExportItem, IsResource, IsImportRole, IsImportGroup, IsExportRole, IsRequired}
 use Rattle.comp_worlds.specs.WorldTables.{whole_of}
 use Rattle.comp_worlds.specs.declared.world.WorldAdapter.{WorldAdapter}
-use Rattle.comp_worlds.specs.declared.world.ComponentWorld.{ComponentWorld}
 use Rattle.comp_worlds.specs.declared.world.WorldParts.{WorldParts}
 use Rattle.comp_worlds.proofs.Roles.{role_right}
-use Rattle.record_core_types.specs.Asked.{imported_function, exported_function}
+use Rattle.record_core_types.specs.Asked.{imported_function, imported_interface, exported_function}
 use Rattle.record_core_types.specs.Guarantees.{IsCalled, IsLifted, IsKept}
-use Rattle.record_resolve.specs.Resolved.{IsNamed}
+use Rattle.record_resolve.specs.Resolved.{IsNamed, AreListed}
 use Rattle.supported_worlds.specs.Apart.{FieldsApart, AreApart}
-use Rattle.supported_worlds.specs.LeftOut.{items_of, kind_left_out, needs_no_option, unless_plain, function_left_out, import_item_left_out, export_item_left_out, owner_left_out, type_left_out, is_resource, import_left_out, export_left_out, group_left_out, left_out}
+use Rattle.supported_worlds.specs.LeftOut.{items_of, kind_left_out, needs_no_option, unless, function_left_out, interface_left_out, import_item_left_out, export_item_left_out, is_resource, import_left_out, export_left_out, group_left_out}
 use Rattle.supported_worlds.specs.Guarantees.{HasFoundImport, OffersExport, HasSoundParts}
+use Rattle.supported_worlds.proofs.Interfaces.{plain, plain_interface, other_key, entry_there, name_there as function_there, found_there}
 use Rattle.supported_worlds.proofs.Lists.{nothing, at_front, after, neither, none_picked}
 use Rattle.supported_worlds.proofs.Places.{resource_kind}
-use Rattle.supported_worlds.proofs.Reporting.{IsEncoded, all_encoded}
+use Rattle.supported_worlds.proofs.Reporting.{IsEncoded}
 
 abbrev Entries : Type 0
 Entries = List (WorldKey × WorldItem)
 
 -- ---- items
 
-not_zero : (n : ℕ) → (suc n == 0) ≡ false
-not_zero n = Prim.search rules
+root_function_plain : (types : List TypeDef) (f : Function) → function_left_out types f ≡ None → IsPlain types f
+root_function_plain types f h =
+    let both = neither (kind_left_out f.kind) (unless (needs_no_option types f) (codes "world-func")) h in
+    plain types f (codes "world-func") both.0 both.1
 
--- both sets are empty
-no_options : (a b : ℕ) → unless_plain (a == 0 && b == 0) ≡ None → (a ≡ 0) × (b ≡ 0)
-no_options zero zero h = (refl, refl)
-no_options zero (suc n) h = nothing _ (ap unless_plain (sym (not_zero n)) ∙ h)
-no_options (suc n) b h = nothing _ (ap (λ t. unless_plain (t && b == 0)) (sym (not_zero n)) ∙ h)
+interface_item : (r : Resolve) (id : InterfaceId) → interface_left_out r id ≡ None → AllByRecursion AreListed r.interfaces → AllByRecursion (IsNamedPlain r.types) (functions_of r id)
+interface_item r id h listed = let i = plain_interface r id h listed in let m = i.members in m.plain
 
-synchronous : (kind : FunctionKind) → kind_left_out kind ≡ None → IsSynchronous kind
-synchronous functions.AsyncFreestanding h = nothing _ h
-synchronous (functions.AsyncMethod id) h = nothing _ h
-synchronous (functions.AsyncStatic id) h = nothing _ h
-synchronous kind h = tt
+import_item : (r : Resolve) (e : WorldKey × WorldItem) → import_item_left_out r e ≡ None → IsNamed e → AllByRecursion AreListed r.interfaces → IsImportItem r e
+import_item r (keys.Name text, items.Function f) h named listed = (sym named, root_function_plain r.types f h)
+import_item r (keys.Name text, items.NamedType id) h named listed = tt
+import_item r (keys.Name text, items.Interface id) h named listed = interface_item r id h listed
+import_item r (keys.Interface other, items.Function f) h named listed = nothing _ h
+import_item r (keys.Interface other, items.NamedType id) h named listed = nothing _ h
+import_item r (keys.Interface other, items.Interface id) h named listed = interface_item r id h listed
 
-plain : (types : List TypeDef) (f : Function) → function_left_out types f ≡ None → IsPlain types f
-plain types f h =
-    let both = neither (kind_left_out f.kind) (unless_plain (needs_no_option types f)) h in
-    let sets = no_options (import_set GuestImport types f) (export_set GuestExport types f) both.1 in
-    record { kind = synchronous f.kind both.0; imported = sets.0; exported = sets.1 }
-
-import_item : (types : List TypeDef) (e : WorldKey × WorldItem) → import_item_left_out types e ≡ None → IsNamed e → IsImportItem types e
-import_item types (keys.Name text, items.Function f) h named = (sym named, plain types f h)
-import_item types (keys.Name text, items.NamedType id) h named = tt
-import_item types (keys.Name text, items.Interface id) h named = nothing _ h
-import_item types (keys.Interface other, items.Function f) h named = nothing _ h
-import_item types (keys.Interface other, items.NamedType id) h named = nothing _ h
-import_item types (keys.Interface other, items.Interface id) h named = nothing _ h
-
-import_items : (types : List TypeDef) (es : Entries) → AllByRecursion (λ e. import_item_left_out types e ≡ None) es → AllByRecursion IsNamed es → AllByRecursion (IsImportItem types) es
-import_items types [] h named = tt
-import_items types (e ∷ es) h named = (import_item types e h.0 named.0, import_items types es h.1 named.1)
+import_items : (r : Resolve) (es : Entries) → AllByRecursion (λ e. import_item_left_out r e ≡ None) es → AllByRecursion IsNamed es → AllByRecursion AreListed r.interfaces → AllByRecursion (IsImportItem r) es
+import_items r [] h named listed = tt
+import_items r (e ∷ es) h named listed = (import_item r e h.0 named.0 listed, import_items r es h.1 named.1 listed)
 
 export_item : (types : List TypeDef) (e : WorldKey × WorldItem) → export_item_left_out types e ≡ None → IsNamed e → IsExportItem types e
-export_item types (keys.Name text, items.Function f) h named = (sym named, plain types f h)
+export_item types (keys.Name text, items.Function f) h named = (sym named, root_function_plain types f h)
 export_item types (keys.Interface other, items.Function f) h named = nothing _ h
 export_item types (key, items.NamedType id) h named = nothing _ h
 export_item types (key, items.Interface id) h named = nothing _ h
@@ -101,14 +86,6 @@ export_items types [] h named = tt
 export_items types (e ∷ es) h named = (export_item types e h.0 named.0, export_items types es h.1 named.1)
 
 -- ---- types
-
-root_owner : (owner : TypeOwner) → owner_left_out owner ≡ None → IsOwnerAtRoot owner
-root_owner (owners.World id) h = tt
-root_owner (owners.Interface id) h = nothing _ h
-root_owner owners.«None» h = tt
-
-root_type : (t : TypeDef) → type_left_out t ≡ None → IsRootType t
-root_type t h = record { owner = root_owner t.owner h }
 
 -- a type that may be dropped is a resource
 dropped : (types : List TypeDef) (number : ℕ) → (if option_map_or is_resource (slice_get types number) false then None else Some (codes "imported-drop")) ≡ None → IsResource types number
@@ -125,17 +102,6 @@ dropped (t ∷ ts) (suc number) h = let r = dropped ts number h in let l = r.pre
 left_false : (b : Bool) → (b && true) ≡ false → b ≡ false
 left_false true h = h
 left_false false h = h
-
-never : (b t : Bool) → t ≡ false → (b && t) ≡ false
-never true t h = h
-never false t h = refl
-
-zero_next : (n : ℕ) → nat_eq 0 (suc n) ≡ false
-zero_next n = Prim.search rules
-
--- the key of an interface is no name
-other_key : (text : List ℕ) (other : InterfaceId) → is_same_key (keys.Name text) (keys.Interface other) ≡ false
-other_key text other = never (bytes_eq text []) (nat_eq 0 (suc other.index)) (zero_next other.index)
 
 turned : (a b : List ℕ) → bytes_eq a b ≡ false → bytes_eq b a ≡ false
 turned a b h = by (bytes_eq b a) refl
@@ -242,8 +208,8 @@ root_at types ((keys.Interface id, item) ∷ es) k key is l e = absurd is.0
 -- ---- the world
 
 module _ (p : WorldParts) (present : HasSoundParts p) (encoded : IsEncoded p) (apart : AreApart p) where
-  imports_are : AllByRecursion (IsImportItem p.resolve.types) (items_of p).imports
-  imports_are = import_items p.resolve.types (items_of p).imports encoded.imports present.named.imports
+  imports_are : AllByRecursion (IsImportItem p.resolve) (items_of p).imports
+  imports_are = import_items p.resolve (items_of p).imports encoded.imports present.named.imports present.listed
 
   exports_are : AllByRecursion (IsExportItem p.resolve.types) (items_of p).exports
   exports_are = export_items p.resolve.types (items_of p).exports encoded.exports present.named.exports
@@ -255,6 +221,9 @@ module _ (p : WorldParts) (present : HasSoundParts p) (encoded : IsEncoded p) (a
   imported_is : (key : WorldKey) → imported_function p.resolve p.world key ≡ root_function_at (items_of p).imports key
   imported_is key = ap (λ (o : Option World). option_and_then (λ w. root_function_at w.imports key) o) the_world
 
+  interface_is : (key : WorldKey) → imported_interface p.resolve p.world key ≡ option_and_then interface_in (lookup (is_same_key key) (items_of p).imports)
+  interface_is key = ap (λ (o : Option World). option_and_then (λ w. option_and_then interface_in (lookup (is_same_key key) w.imports)) o) the_world
+
   exported_is : (key : WorldKey) → exported_function p.resolve p.world key ≡ root_function_at (items_of p).exports key
   exported_is key = ap (λ (o : Option World). option_and_then (λ w. root_function_at w.exports key) o) the_world
 
@@ -262,6 +231,8 @@ module _ (p : WorldParts) (present : HasSoundParts p) (encoded : IsEncoded p) (a
   import_role (imports.WorldFunc (keys.Name text) name GuestImport) h called =
       (name_there text (items_of p).imports (subst (λ (o : Option Function). IsSome o) (imported_is (keys.Name text)) called.1), called.0, refl)
   import_role (imports.WorldFunc (keys.Interface id) name GuestImportAsync) h called = nothing _ h
+  import_role (imports.InterfaceFunc key id name GuestImport) h called =
+      (entry_there key id (items_of p).imports (sym (interface_is key) ∙ called.0), function_there name (functions_of p.resolve id) called.1, refl)
   import_role (imports.ImportedResourceDrop key interface id) h called = dropped p.resolve.types id.index h
   import_role role h called = nothing _ h
 
@@ -298,6 +269,8 @@ module _ (p : WorldParts) (present : HasSoundParts p) (encoded : IsEncoded p) (a
   import_typed : (role : Import) → IsImportRole (whole_of p) role → IsSome (type_of_import p.resolve (items_of p) role)
   import_typed (imports.WorldFunc (keys.Name text) function abi) h =
       mapped_there (called_type p.resolve abi) (root_function_at (items_of p).imports (keys.Name text)) (name_at text (items_of p).imports h.0.0 apart.items.imports h.0.1 h.0.2)
+  import_typed (imports.InterfaceFunc key id function abi) h =
+      mapped_there (called_type p.resolve abi) (found function (functions_of p.resolve id)) (found_there function (functions_of p.resolve id) h.1.0 h.1.1 h.1.2)
   import_typed (imports.ImportedResourceDrop key interface id) h = refl
   import_typed role h = absurd h
 
@@ -346,12 +319,9 @@ module _ (p : WorldParts) (present : HasSoundParts p) (encoded : IsEncoded p) (a
         required = all_required p.main_exports present.kept;
       }
 
-  whole_is_world : IsWorld (whole_of p)
+  pub whole_is_world : IsWorld (whole_of p)
   whole_is_world = record {
-    sound = present.sound;
     present = present.present;
-    types = AllByRecursion-weaker root_type p.resolve.types encoded.types;
-    resources = encoded.resources;
     imports = imports_are;
     exports = exports_are;
     import_names_apart = names_apart (items_of p).imports apart.items.imports;
@@ -360,7 +330,3 @@ module _ (p : WorldParts) (present : HasSoundParts p) (encoded : IsEncoded p) (a
     adapters = subst (λ (all : List (List ℕ × WorldAdapter)). AllByRecursion (λ a. IsUserModule (whole_of p) a.1.info a.1.required_exports) all) (sym encoded.alone) tt;
     alone = encoded.alone;
   }
-
--- the world of these parts is a world
-pub is_world : (p : WorldParts) (w : ComponentWorld) → HasSoundParts p → None ≡ left_out p → AreApart p → w ≡ whole_of p → IsWorld w
-is_world p w present none apart made = subst IsWorld (sym made) (whole_is_world p present (all_encoded p (sym none)) apart)

@@ -9,6 +9,8 @@ use Rattle.wit_data.specs.declared.functions.FunctionKind.{FunctionKind}
 use Rattle.wit_data.specs.declared.functions.FunctionKind.TheVariants.{Freestanding, AsyncFreestanding, Method, AsyncMethod, Static, AsyncStatic, Constructor}
 use Rattle.wit_data.specs.declared.ids.TypeId.{TypeId}
 use Rattle.wit_data.specs.declared.ids.InterfaceId.{InterfaceId}
+use Rattle.wit_data.specs.declared.resolve.Interface.{Interface}
+use Rattle.wit_data.specs.declared.resolve.Resolve.{Resolve}
 use Rattle.wit_data.specs.declared.types.Type.{«Type» as Ty}
 use Rattle.wit_data.specs.declared.types.Type.TheVariants.{Id, Primitive}
 use Rattle.wit_data.specs.declared.types.TypeDef.{TypeDef}
@@ -26,7 +28,7 @@ use Rattle.comp_roles.specs.declared.imports.ImportInstance.TheVariants as insta
 use Rattle.comp_roles.specs.declared.libraries.Item.{Item}
 use Rattle.comp_roles.specs.declared.libraries.MainOrAdapter.TheVariants as modules
 use Rattle.supported_worlds.specs.Kinds.{import_kind}
-use Rattle.supported_worlds.specs.LeftOut.{function_left_out, world_left_out, types_left_out, import_left_out, export_left_out, group_left_out}
+use Rattle.supported_worlds.specs.LeftOut.{function_left_out, interface_left_out, world_left_out, types_left_out, import_left_out, export_left_out, group_left_out}
 
 abbrev a_type : TypeId
 a_type = record { index = 0 }
@@ -66,6 +68,9 @@ f = keys.Name (codes "f")
 
 abbrev nothing_imported : World
 nothing_imported = record { imports = []; exports = [] }
+
+abbrev resolve_of : List TypeDef → List Interface → Resolve
+resolve_of types interfaces = record { interfaces = interfaces; types = types; worlds = [] }
 
 -- a world that imports these types
 abbrev importing : List TypeId → World
@@ -162,21 +167,77 @@ async_method_is_reported = refl
 async_static_is_reported : function_left_out [] (function (AsyncStatic a_type) [] None) ≡ Some (codes "async")
 async_static_is_reported = refl
 
--- ---- items and types
+-- ---- items
 
 -- an imported type is encoded, an exported one is not
-types_are_imported : world_left_out [] (record { imports = (keys.Name (codes "t"), items.NamedType a_type) ∷ (f, items.Function plain) ∷ []; exports = [] }) ≡ None
+types_are_imported : world_left_out (resolve_of [] []) (record { imports = (keys.Name (codes "t"), items.NamedType a_type) ∷ (f, items.Function plain) ∷ []; exports = [] }) ≡ None
 types_are_imported = refl
 
-types_are_not_exported : world_left_out [] (record { imports = []; exports = (keys.Name (codes "t"), items.NamedType a_type) ∷ [] }) ≡ Some (codes "type")
+types_are_not_exported : world_left_out (resolve_of [] []) (record { imports = []; exports = (keys.Name (codes "t"), items.NamedType a_type) ∷ [] }) ≡ Some (codes "type")
 types_are_not_exported = refl
 
 -- exports are checked only once all imports pass, and the first that is left out is reported
-first_is_reported : world_left_out [] (record {
+first_is_reported : world_left_out (resolve_of [] []) (record {
   imports = (f, items.Function plain) ∷ [];
   exports = (f, items.Function plain) ∷ (keys.Name (codes "t"), items.NamedType a_type) ∷ (keys.Interface an_interface, items.Interface an_interface) ∷ [];
 }) ≡ Some (codes "type")
 first_is_reported = refl
+
+-- ---- interfaces
+
+-- an interface with these types and this function
+abbrev of_interface : List TypeDef → List (List ℕ × TypeId) → Function → Option (List ℕ)
+of_interface types named g = interface_left_out (resolve_of types (record { id = None; types = named; functions = (codes "f", g) ∷ [] } ∷ [])) an_interface
+
+abbrev pair : TypeDefKind
+pair = kinds.Tuple (Primitive prims.U32 ∷ Primitive prims.U32 ∷ [])
+
+interface_is_encoded : of_interface [] [] plain ≡ None
+interface_is_encoded = refl
+
+interface_is_imported : world_left_out (resolve_of [] (record { id = None; types = []; functions = (codes "f", plain) ∷ [] } ∷ [])) (record { imports = (keys.Interface an_interface, items.Interface an_interface) ∷ (keys.Name (codes "i"), items.Interface an_interface) ∷ []; exports = [] }) ≡ None
+interface_is_imported = refl
+
+empty_interface_is_encoded : interface_left_out (resolve_of [] (record { id = None; types = []; functions = [] } ∷ [])) an_interface ≡ None
+empty_interface_is_encoded = refl
+
+-- a type of its own, also where no function is made of it
+type_of_interface_is_reported : of_interface (an_interface_type ∷ []) ((codes "t", a_type) ∷ []) plain ≡ Some (codes "interface")
+type_of_interface_is_reported = refl
+
+-- made types without names, and a type with a name that is a part of one without
+pair_is_encoded : of_interface (unnamed pair ∷ []) [] (function Freestanding (Id a_type ∷ []) None) ≡ None
+unfolding values_from
+pair_is_encoded = refl
+
+named_pair_is_reported : of_interface (of_world pair ∷ []) [] (function Freestanding (Id a_type ∷ []) None) ≡ Some (codes "interface")
+unfolding values_from
+named_pair_is_reported = refl
+
+named_part_is_reported : of_interface (of_world (kinds.Enum (codes "a" ∷ [])) ∷ unnamed (kinds.«Option» (Id a_type)) ∷ []) [] (function Freestanding (Id another_type ∷ []) None) ≡ Some (codes "interface")
+unfolding values_from
+named_part_is_reported = refl
+
+named_result_is_reported : of_interface (of_world (kinds.Enum (codes "a" ∷ [])) ∷ []) [] (function Freestanding [] (Some (Id a_type))) ≡ Some (codes "interface")
+unfolding values_from
+named_result_is_reported = refl
+
+-- a resource is no type of values, whether it has a name or not
+resource_part_is_reported : of_interface (unnamed kinds.Resource ∷ unnamed (kinds.Own a_type) ∷ []) [] (function Freestanding (Id another_type ∷ []) None) ≡ Some (codes "interface")
+unfolding values_from
+resource_part_is_reported = refl
+
+async_member_is_reported : of_interface [] [] (function AsyncFreestanding [] None) ≡ Some (codes "async")
+async_member_is_reported = refl
+
+text_of_interface_needs_options : of_interface [] [] (function Freestanding (Primitive prims.«String» ∷ []) None) ≡ Some (codes "interface-func")
+text_of_interface_needs_options = refl
+
+-- an exported interface is not encoded
+interface_is_not_exported : world_left_out (resolve_of [] (record { id = None; types = []; functions = [] } ∷ [])) (record { imports = []; exports = (keys.Name (codes "i"), items.Interface an_interface) ∷ [] }) ≡ Some (codes "interface")
+interface_is_not_exported = refl
+
+-- ---- types
 
 interface_type_is_reported : types_left_out (of_world (kinds.Enum (codes "a" ∷ [])) ∷ an_interface_type ∷ []) nothing_imported ≡ Some (codes "interface")
 interface_type_is_reported = refl
@@ -226,6 +287,16 @@ async_call_is_reported = refl
 
 exported_form_is_none : import_left_out [] (imports.WorldFunc f (codes "f") GuestExport) ≡ Some (codes "world-func")
 exported_form_is_none = refl
+
+-- a function of an interface is called in the same forms
+interface_call_is_encoded : import_left_out [] (imports.InterfaceFunc f an_interface (codes "f") GuestImport) ≡ None
+interface_call_is_encoded = refl
+
+async_interface_call_is_reported : import_left_out [] (imports.InterfaceFunc f an_interface (codes "f") GuestImportAsync) ≡ Some (codes "async")
+async_interface_call_is_reported = refl
+
+exported_form_of_interface_is_none : import_left_out [] (imports.InterfaceFunc f an_interface (codes "f") GuestExport) ≡ Some (codes "interface-func")
+exported_form_of_interface_is_none = refl
 
 -- the drop of a resource, and of what is none
 drop_is_encoded : import_left_out (of_world kinds.Resource ∷ []) (imports.ImportedResourceDrop f None a_type) ≡ None

@@ -8,7 +8,7 @@ use Rattle.comp_roles.specs.CoreImports.{CoreImport, imports_from}
 use Rattle.comp_roles.specs.declared.exports.Export.{Export}
 use Rattle.comp_roles.specs.declared.imports.ImportInstance.TheVariants as instances
 use Rattle.comp_roles.specs.declared.libraries.MainOrAdapter.{MainOrAdapter}
-use Rattle.comp_worlds.specs.Worlds.{ImportsResources}
+use Rattle.comp_worlds.specs.Encodable.{ImportsResources}
 use Rattle.comp_worlds.specs.WorldTables.{whole_of}
 use Rattle.comp_worlds.specs.declared.world.WorldAdapter.{WorldAdapter}
 use Rattle.comp_worlds.specs.declared.world.WorldParts.{WorldParts}
@@ -18,7 +18,7 @@ use Rattle.supported_worlds.specs.LeftOut.{items_of, import_item_left_out, expor
 
 pub data IsLeftOut (p : WorldParts) : Refusal → Type 0 where
   -- an import or an export of the world
-  imported : (entry : WorldKey × WorldItem) (what : List ℕ) → Contains (items_of p).imports entry → import_item_left_out p.resolve.types entry ≡ Some what → IsLeftOut p (refusals.LeftOut what)
+  imported : (entry : WorldKey × WorldItem) (what : List ℕ) → Contains (items_of p).imports entry → import_item_left_out p.resolve entry ≡ Some what → IsLeftOut p (refusals.LeftOut what)
   exported : (entry : WorldKey × WorldItem) (what : List ℕ) → Contains (items_of p).exports entry → export_item_left_out p.resolve.types entry ≡ Some what → IsLeftOut p (refusals.LeftOut what)
   -- a type of the resolve; and the imports, where their types are out of order or lack a resource of the resolve
   type_def : (def : TypeDef) (what : List ℕ) → Contains p.resolve.types def → type_left_out def ≡ Some what → IsLeftOut p (refusals.LeftOut what)

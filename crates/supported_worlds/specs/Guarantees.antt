@@ -15,7 +15,7 @@ use Rattle.comp_worlds.specs.Typed.{type_of_import, type_of_export}
 use Rattle.comp_worlds.specs.Uses.{all_imports}
 use Rattle.comp_worlds.specs.declared.world.WorldParts.{WorldParts}
 use Rattle.record_core_types.specs.Guarantees.{IsCalled, IsLifted, IsKept}
-use Rattle.record_resolve.specs.Resolved.{AreNamed}
+use Rattle.record_resolve.specs.Resolved.{AreNamed, AreListed}
 use Rattle.supported_worlds.specs.LeftOut.{items_of}
 
 -- a core import of main has a role; where a type is known that the role requires, it is that of the import
@@ -28,13 +28,15 @@ pub record HasFoundImport (p : WorldParts) (i : ImportType) : Type 0 where
 pub record OffersExport (p : WorldParts) (e : List ℕ × Export) : Type 0 where
   pub offered : (ty : ExternType) → type_of_export p.resolve (items_of p) e.1 ≡ Some ty → found e.0 p.main.offered ≡ Some ty
 
--- The resolve is sound and has the world, whose functions have the names of their keys; main is a core module, the world has
--- what its roles name and what it must export, and its core imports and exports have the types that their roles require.
+-- The resolve is sound and has the world, whose functions have the names of their keys, as have those of interfaces; main is a
+-- core module, the world has what its roles name and what it must export, and its core imports and exports have the types
+-- that their roles require.
 pub record HasSoundParts (p : WorldParts) : Type 0 where
   pub sound : IsSound p.resolve
   pub present : p.world.index < length p.resolve.worlds
   pub core : IsCoreModule p.main.bytes
   pub named : AreNamed (items_of p)
+  pub listed : AllByRecursion AreListed p.resolve.interfaces
   pub roles : AllByRecursion (λ i. HasRole p.resolve i.role) (all_imports p.main p.adapters)
   pub called : AllByRecursion (λ i. IsCalled p.resolve p.world i.role) (flat_map imports_from p.main.imports.modules)
   pub lifted : AllByRecursion (λ e. IsLifted p.resolve p.world e.1) p.main.exports.exports

@@ -1,7 +1,8 @@
 -- Which parts of a world are encoded yet: functions at its root that are synchronous and whose calls need no option of the
--- Canonical ABI (component model, binary format: `canonopt`), types that it imports, in their order and with all resources
--- among them, core imports and exports with the role of such a function, and core imports that drop such a resource. All
--- else is left out, and reported by the name of its kind. (The names are those of this project's record.)
+-- Canonical ABI (component model, binary format: `canonopt`), imported interfaces of such functions that have no types of
+-- their own and whose functions are made of types without names, types that it imports, in their order and with all
+-- resources among them, core imports and exports with the role of such a function, and core imports that drop such a
+-- resource. All else is left out, and reported by the name of its kind. (The names are those of this project's record.)
 use Rattle.std.specs.Prelude.{ℕ, suc, Bool, true, false, ◌==◌, nat_le, not, ◌&&◌, ◌||◌, List, [], ◌∷◌, map, drop, codes, Option, Some, None, Result, Ok, Err, get_or, slice_get, if◌then◌else◌}
 use Rattle.std.specs.List.{list_any, flat_map}
 use Rattle.std.specs.Option.{option_or, option_map_or}
@@ -9,7 +10,9 @@ use Rattle.wit_data.specs.declared.functions.AbiVariant.TheVariants.{GuestImport
 use Rattle.wit_data.specs.declared.functions.Function.{Function}
 use Rattle.wit_data.specs.declared.functions.FunctionKind.{FunctionKind}
 use Rattle.wit_data.specs.declared.functions.FunctionKind.TheVariants as functions
+use Rattle.wit_data.specs.declared.ids.InterfaceId.{InterfaceId}
 use Rattle.wit_data.specs.declared.ids.TypeId.{TypeId}
+use Rattle.wit_data.specs.declared.resolve.Resolve.{Resolve}
 use Rattle.wit_data.specs.declared.types.TypeDef.{TypeDef}
 use Rattle.wit_data.specs.declared.types.TypeDefKind.{TypeDefKind}
 use Rattle.wit_data.specs.declared.types.TypeDefKind.TheVariants as kinds
@@ -20,6 +23,7 @@ use Rattle.wit_data.specs.declared.worlds.WorldItem.{WorldItem}
 use Rattle.wit_data.specs.declared.worlds.WorldItem.TheVariants as items
 use Rattle.wit_data.specs.declared.worlds.WorldKey.{WorldKey}
 use Rattle.wit_data.specs.declared.worlds.WorldKey.TheVariants as keys
+use Rattle.wit_data.specs.Live.{named_types}
 use Rattle.comp_options.specs.Options.{import_set, export_set}
 use Rattle.comp_roles.specs.Lookups.{first_some}
 use Rattle.comp_roles.specs.declared.exports.Export.{Export}
@@ -28,7 +32,8 @@ use Rattle.comp_roles.specs.declared.imports.Import.{Import}
 use Rattle.comp_roles.specs.declared.imports.Import.TheVariants as imports
 use Rattle.comp_roles.specs.declared.imports.ImportInstance.{ImportInstance}
 use Rattle.comp_roles.specs.declared.imports.ImportInstance.TheVariants as instances
-use Rattle.world_values.specs.Items.{no_items}
+use Rattle.world_values.specs.Items.{no_items, functions_of}
+use Rattle.comp_worlds.specs.Encodable.{is_of_unnamed}
 use Rattle.comp_worlds.specs.WorldTables.{whole_of}
 use Rattle.comp_worlds.specs.Worlds.{world_type}
 use Rattle.comp_worlds.specs.declared.world.ComponentWorld.{ComponentWorld}
@@ -53,12 +58,28 @@ kind_left_out kind = None
 abbrev pub needs_no_option : List TypeDef → Function → Bool
 needs_no_option types f = import_set GuestImport types f == 0 && export_set GuestExport types f == 0
 
-abbrev pub unless_plain : Bool → Option (List ℕ)
-unless_plain plain = if plain then None else Some (codes "world-func")
+-- a kind, unless a test passes
+abbrev pub unless : Bool → List ℕ → Option (List ℕ)
+unless passes what = if passes then None else Some what
 
 -- a function at the root that is of such a kind, or whose calls need an option
 abbrev pub function_left_out : List TypeDef → Function → Option (List ℕ)
-function_left_out types f = option_or (kind_left_out f.kind) (unless_plain (needs_no_option types f))
+function_left_out types f = option_or (kind_left_out f.kind) (unless (needs_no_option types f) (codes "world-func"))
+
+-- a function of an interface that is of such a kind, that is made of a type with a name or of a resource, or whose calls need
+-- an option
+abbrev pub member_left_out : List TypeDef → Function → Option (List ℕ)
+member_left_out types f =
+    option_or (kind_left_out f.kind) (option_or (unless (is_of_unnamed types f) (codes "interface")) (unless (needs_no_option types f) (codes "interface-func")))
+
+-- an interface that has types
+abbrev pub types_of_interface : List (List ℕ × TypeId) → Option (List ℕ)
+types_of_interface [] = None
+types_of_interface (t ∷ more) = Some (codes "interface")
+
+-- an imported interface that has types, or else the first of its functions that is left out
+abbrev pub interface_left_out : Resolve → InterfaceId → Option (List ℕ)
+interface_left_out r id = option_or (types_of_interface (named_types r id)) (first_some (λ e. member_left_out r.types e.1) (functions_of r id))
 
 -- an export of the world
 abbrev pub export_item_left_out : List TypeDef → WorldKey × WorldItem → Option (List ℕ)
@@ -67,10 +88,11 @@ export_item_left_out types (keys.Interface id, items.Function f) = Some (codes "
 export_item_left_out types (key, items.Interface id) = Some (codes "interface")
 export_item_left_out types (key, items.NamedType id) = Some (codes "type")
 
--- an import of the world, which may also be a type under its name
-abbrev pub import_item_left_out : List TypeDef → WorldKey × WorldItem → Option (List ℕ)
-import_item_left_out types (keys.Name text, items.NamedType id) = None
-import_item_left_out types entry = export_item_left_out types entry
+-- an import of the world, which may also be a type under its name, or an interface
+abbrev pub import_item_left_out : Resolve → WorldKey × WorldItem → Option (List ℕ)
+import_item_left_out r (keys.Name text, items.NamedType id) = None
+import_item_left_out r (key, items.Interface id) = interface_left_out r id
+import_item_left_out r entry = export_item_left_out r.types entry
 
 -- ---- types
 
@@ -119,10 +141,12 @@ resources_left_out types entries = if are_in_place types 0 (imported_numbers ent
 abbrev pub drop_left_out : List TypeDef → TypeId → Option (List ℕ)
 drop_left_out types id = if option_map_or is_resource (slice_get types id.index) false then None else Some (codes "imported-drop")
 
--- an import of main, unless it is a root function that is called synchronously, or drops a resource
+-- an import of main, unless it is a function at the root or of an interface that is called synchronously, or drops a resource
 abbrev pub import_left_out : List TypeDef → Import → Option (List ℕ)
 import_left_out types (imports.WorldFunc (keys.Name text) name GuestImport) = None
 import_left_out types (imports.WorldFunc key name GuestImportAsync) = Some (codes "async")
+import_left_out types (imports.InterfaceFunc key id name GuestImport) = None
+import_left_out types (imports.InterfaceFunc key id name GuestImportAsync) = Some (codes "async")
 import_left_out types (imports.ImportedResourceDrop key interface id) = drop_left_out types id
 import_left_out types role = Some (import_kind role)
 
@@ -148,8 +172,8 @@ abbrev pub items_of : WorldParts → World
 items_of p = get_or p.resolve.worlds p.world.index no_items
 
 -- the first of the imports that is left out, or else of the exports
-abbrev pub world_left_out : List TypeDef → World → Option (List ℕ)
-world_left_out types w = option_or (first_some (import_item_left_out types) w.imports) (first_some (export_item_left_out types) w.exports)
+abbrev pub world_left_out : Resolve → World → Option (List ℕ)
+world_left_out r w = option_or (first_some (import_item_left_out r) w.imports) (first_some (export_item_left_out r.types) w.exports)
 
 -- the first of the types that is left out, or else the imports where they don't have the types in place
 abbrev pub types_left_out : List TypeDef → World → Option (List ℕ)
@@ -170,7 +194,7 @@ modules_left_out p = option_or (module_left_out p.resolve.types p.main) (adapter
 
 -- what of a world is not encoded yet: of its items first, then of the types, then of the modules
 unfoldable pub left_out : WorldParts → Option (List ℕ)
-left_out p = option_or (world_left_out p.resolve.types (items_of p)) (option_or (types_left_out p.resolve.types (items_of p)) (modules_left_out p))
+left_out p = option_or (world_left_out p.resolve (items_of p)) (option_or (types_left_out p.resolve.types (items_of p)) (modules_left_out p))
 
 -- the refusal of what is left out
 abbrev pub refused : List ℕ → Failure

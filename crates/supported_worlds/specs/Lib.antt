@@ -1,4 +1,5 @@
 pub mod Kinds
+pub mod Unnamed
 pub mod LeftOut
 pub mod Places
 pub mod Guarantees

@@ -3,7 +3,7 @@
 ghost use Rattle.std.specs.Prelude.{◌≡◌, ◌≢◌, ◌<◌, length, IfOk, IfErr, IsOk, None};
 ghost use Rattle.std.specs.Option.{option_copied};
 ghost use Rattle.wit_data.specs.Sound.{IsSound, HasWorld};
-ghost use Rattle.comp_worlds.specs.Worlds.{IsWorld};
+ghost use Rattle.comp_worlds.specs.Encodable.{IsEncodable};
 ghost use Rattle.comp_worlds.specs.WorldTables.{HasTables};
 ghost use Rattle.record_faults.specs.Faults.{Gives};
 ghost use Rattle.record_faults.specs.declared.fault.Failure.TheVariants as failures;
@@ -12,14 +12,16 @@ ghost use Rattle.supported_worlds.specs.Apart.{AreApart, GroupsApart};
 ghost use Rattle.supported_worlds.specs.Causes.{IsLeftOut};
 ghost use Rattle.supported_worlds.specs.LeftOut.{items_of, adapters_left_out, modules_left_out, left_out, refused, encoded};
 ghost use Rattle.supported_worlds.specs.Guarantees.{HasSoundParts};
+ghost use Rattle.supported_worlds.specs.Unnamed.{AreUnnamed};
 
 use crate::items::world_left_out;
 use crate::roles::module_left_out;
 use crate::types::types_left_out;
+use crate::unnamed::unnamed_marks;
 use comp_lists::{Keyed, Text};
 use comp_worlds::{ComponentWorld, WorldAdapter, WorldParts};
 use record_faults::{Failure, Refusal};
-use std::alloc::Global;
+use std::alloc::{AllocError, Global};
 use wit_data::World;
 use world_tables::world_of_parts;
 
@@ -66,16 +68,17 @@ fn modules_left_out(parts: &WorldParts) -> Option<&'static str>
     }
 }
 
-/// What of a world is not encoded yet; where nothing is left out, no key occurs twice.
+/// What of a world is not encoded yet, by the marks of types without names; where nothing is left out, no key occurs twice.
 #[tactic(auto, unfolding(crate::specs::LeftOut::left_out))]
-fn left_out(parts: &WorldParts) -> Option<&'static str>
+fn marked_left_out(parts: &WorldParts, marks: &[bool]) -> Option<&'static str>
     requires sound { IsSound parts.now.resolve }
+    requires marks { AreUnnamed parts.now.resolve.types marks.now }
     requires present { parts.now.world.index < length parts.now.resolve.worlds }
     ensures reported { option_copied result ≡ left_out parts.now }
     ensures apart { option_copied result ≡ None → AreApart parts.now }
 {
     let world = items_of(parts);
-    if let Some(what) = world_left_out(&parts.resolve, world) {
+    if let Some(what) = world_left_out(&parts.resolve, marks, world) {
         return Some(what);
     }
     match types_left_out(&parts.resolve, world) {
@@ -84,22 +87,38 @@ fn left_out(parts: &WorldParts) -> Option<&'static str>
     }
 }
 
+/// What of a world is not encoded yet; where nothing is left out, no key occurs twice.
+fn left_out(alloc: Global, parts: &WorldParts) -> Result<Option<&'static str>, AllocError>
+    requires sound { IsSound parts.now.resolve }
+    requires present { parts.now.world.index < length parts.now.resolve.worlds }
+    ensures reported { IfOk result (λ o. option_copied o ≡ left_out parts.now) }
+    ensures apart { IfOk result (λ o. option_copied o ≡ None → AreApart parts.now) }
+{
+    let marks = unnamed_marks(alloc, parts.resolve.types.as_slice())?;
+    let found = marked_left_out(parts, marks.as_slice());
+    Ok(found)
+}
+
 /// The world of these parts, unless something of it is left out.
-#[tactic(auto, unfolding(crate::specs::LeftOut::encoded), using(crate::proofs::Valid::is_world, comp_worlds::proofs::WholeTables::whole_has_tables))]
+#[tactic(auto, unfolding(crate::specs::LeftOut::encoded), using(crate::proofs::Encodable::is_encodable, comp_worlds::proofs::WholeTables::whole_has_tables))]
 fn unless_left_out(alloc: Global, parts: WorldParts) -> Result<ComponentWorld, Failure>
     requires { HasSoundParts parts }
     ensures exact { Gives (λ w. w) result (encoded parts) }
-    ensures valid { IfOk result IsWorld }
+    ensures valid { IfOk result IsEncodable }
     ensures tables { IfOk result HasTables }
 {
-    match left_out(&parts) {
-        Some(what) => {
+    match left_out(alloc, &parts) {
+        Ok(Some(what)) => {
             drop(parts);
             Err(refused(alloc, what))
         }
-        None => {
+        Ok(None) => {
             let world = world_of_parts(alloc, parts)?;
             Ok(world)
+        }
+        Err(_) => {
+            drop(parts);
+            Err(Failure::Memory)
         }
     }
 }
@@ -107,16 +126,19 @@ fn unless_left_out(alloc: Global, parts: WorldParts) -> Result<ComponentWorld, F
 /// The world of these parts, where all of it is encoded yet.
 ///
 /// It refuses with `LeftOut` and the kind of something of the world that is not encoded yet: `async`,
-/// `world-func`, `interface` or, of an export, `type` of an item of the world; `interface` of a type;
-/// `type` where the imported types are out of order or lack a resource; the kind of a role of main's
-/// imports or exports, `library`, or `adapter`. The only other refusal is out of memory. On top of
-/// `world_of_parts` it takes time linear in the number of items, of the nodes of their functions'
-/// types, of types, of core imports and of core exports, and no memory but that of the refusal's text.
+/// `world-func`, `interface`, `interface-func` or, of an export, `type` of an item of the world;
+/// `interface` of a type; `type` where the imported types are out of order or lack a resource; the
+/// kind of a role of main's imports or exports, `library`, or `adapter`. An imported interface is
+/// refused as `interface` where it has types, or a function that is made of a type with a name; as
+/// `async` for an asynchronous function, and as `interface-func` for one whose calls need an option.
+/// The only other refusal is out of memory. On top of `world_of_parts` it takes time linear in the
+/// number of items, of functions of imported interfaces, of the nodes of these functions' types, of
+/// types, of core imports and of core exports, and one byte a type beside the refusal's text.
 #[tactic(auto, using(crate::proofs::Reporting::no_cause, crate::proofs::Reporting::has_cause))]
 pub fn encoded_world(alloc: Global, parts: WorldParts) -> Result<ComponentWorld, Failure>
     requires { HasSoundParts parts }
     ensures exact { Gives (λ w. w) result (encoded parts) }
-    ensures valid { IfOk result IsWorld }
+    ensures valid { IfOk result IsEncodable }
     ensures tables { IfOk result HasTables }
     ensures refused { IsOk result → (f : RefusalValue) → IsLeftOut parts f → ⊥ }
     ensures cause { IfErr result (λ e. (f : RefusalValue) → e ≡ failures.Refused f → IsLeftOut parts f) }

@@ -22,6 +22,8 @@ fn import_left_out(types: &[TypeDef], role: &Import) -> Option<&'static str>
     match role {
         Import::WorldFunc(WorldKey::Name(_), _, AbiVariant::GuestImport) => None,
         Import::WorldFunc(_, _, AbiVariant::GuestImportAsync) => Some("async"),
+        Import::InterfaceFunc(_, _, _, AbiVariant::GuestImport) => None,
+        Import::InterfaceFunc(_, _, _, AbiVariant::GuestImportAsync) => Some("async"),
         Import::ImportedResourceDrop(_, _, id) => drop_left_out(types, *id),
         _ => Some(import_kind(role)),
     }

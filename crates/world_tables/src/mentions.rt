@@ -19,9 +19,9 @@ use wit_data::{
     WorldKey,
 };
 
-/// An interface of a resolve.
+/// The interface of this number.
 #[tactic(auto, using(crate::proofs::Exists::types_there, crate::proofs::Exists::functions_there, crate::proofs::Exists::interface_sound))]
-pub(crate) fn interface_of(resolve: &Resolve, id: InterfaceId) -> &Interface
+pub fn interface_of(resolve: &Resolve, id: InterfaceId) -> &Interface
     requires sound { IsSound resolve.now }
     requires present { HasInterface resolve.now id }
     ensures types { result.now.types ≡ named_types resolve.now id }

@@ -1,6 +1,7 @@
 use Rattle.std.proofs.Common.{rules}
-use Rattle.supported_worlds.proofs.Valid.{is_world}
+use Rattle.supported_worlds.proofs.Encodable.{is_encodable}
 use Rattle.supported_worlds.proofs.encoding.unless_left_out.Goals as goal
 
-pub returns-in_ok-world-in-None-clause-valid : goal.returns-in_ok-world-in-None-clause-valid
-returns-in_ok-world-in-None-clause-valid c = search (is_world, rules)
+pub returns-in_ok-world-in-Ok-None-clause-valid : goal.returns-in_ok-world-in-Ok-None-clause-valid
+returns-in_ok-world-in-Ok-None-clause-valid c =
+    is_encodable c.args.parts c.in_ok-world-in-Ok-None.world c.requires (search rules) (c.in-Ok-None.ensures.apart (search rules)) c.in_ok-world-in-Ok-None.ensures

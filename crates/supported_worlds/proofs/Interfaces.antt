@@ -1,0 +1,185 @@
+-- An imported interface of which nothing is left out has plain functions alone, which are made of types without names.
+use Rattle.std.proofs.Common.{rules, ◌≡◌, ◌<◌, ◌∙◌, ℕ, zero, suc, Bool, true, false, cond, ◌&&◌, List, [], ◌∷◌, map, length, Option, Some, None, refl, sym, ap, subst, true≢false, arith}
+use Rattle.std.specs.Prelude.{◌==◌, nat_eq, slice_get, slice_index_or, option_map, Contains, IsSome, codes}
+use Rattle.std.specs.List.{AllByRecursion}
+use Rattle.std.specs.Map.{lookup}
+use Rattle.std.specs.Option.{option_and_then, unwrap_or}
+use Rattle.std.specs.Str.{bytes_eq}
+use Rattle.std.proofs.lemmas.Option.{none-some, same_Some}
+use Rattle.std.proofs.lemmas.Slice.Eq.{bytes_eq-Decides}
+use Rattle.comp_lists.specs.Found.{found}
+use Rattle.wit_data.specs.Keys.{is_same_key}
+use Rattle.wit_data.specs.Live.{named_types}
+use Rattle.wit_data.specs.declared.functions.AbiVariant.TheVariants.{GuestImport, GuestExport}
+use Rattle.wit_data.specs.declared.functions.Function.{Function}
+use Rattle.wit_data.specs.declared.functions.FunctionKind.{FunctionKind}
+use Rattle.wit_data.specs.declared.functions.FunctionKind.TheVariants as functions
+use Rattle.wit_data.specs.declared.ids.InterfaceId.{InterfaceId}
+use Rattle.wit_data.specs.declared.ids.TypeId.{TypeId}
+use Rattle.wit_data.specs.declared.resolve.Interface.{Interface}
+use Rattle.wit_data.specs.declared.resolve.Resolve.{Resolve}
+use Rattle.wit_data.specs.declared.types.TypeDef.{TypeDef}
+use Rattle.wit_data.specs.declared.worlds.WorldItem.{WorldItem}
+use Rattle.wit_data.specs.declared.worlds.WorldItem.TheVariants as items
+use Rattle.wit_data.specs.declared.worlds.WorldKey.{WorldKey}
+use Rattle.wit_data.specs.declared.worlds.WorldKey.TheVariants as keys
+use Rattle.comp_options.specs.Options.{import_set, export_set}
+use Rattle.comp_roles.specs.Lookups.{first_some}
+use Rattle.world_values.specs.Items.{functions_of}
+use Rattle.world_values.specs.Mentions.{interface_in}
+use Rattle.comp_worlds.specs.Encodable.{is_of_unnamed, IsBare}
+use Rattle.comp_worlds.specs.Worlds.{IsSynchronous, IsPlain, IsNamedPlain}
+use Rattle.record_resolve.specs.Resolved.{IsListed, AreListed}
+use Rattle.supported_worlds.specs.LeftOut.{kind_left_out, needs_no_option, unless, member_left_out, types_of_interface, interface_left_out, import_item_left_out}
+use Rattle.supported_worlds.proofs.Lists.{nothing, at_front, after, neither, none_picked}
+
+abbrev Entries : Type 0
+Entries = List (WorldKey × WorldItem)
+
+-- ---- functions
+
+not_zero : (n : ℕ) → (suc n == 0) ≡ false
+not_zero n = Prim.search rules
+
+pub passes : (b : Bool) (what : List ℕ) → unless b what ≡ None → b ≡ true
+passes true what h = refl
+passes false what h = nothing what h
+
+-- both sets are empty
+no_options : (a b : ℕ) → (a == 0 && b == 0) ≡ true → (a ≡ 0) × (b ≡ 0)
+no_options zero zero h = (refl, refl)
+no_options zero (suc n) h = absurd (true≢false (sym h ∙ not_zero n))
+no_options (suc n) b h = absurd (true≢false (sym h ∙ ap (λ t. t && b == 0) (not_zero n)))
+
+synchronous : (kind : FunctionKind) → kind_left_out kind ≡ None → IsSynchronous kind
+synchronous functions.AsyncFreestanding h = nothing _ h
+synchronous (functions.AsyncMethod id) h = nothing _ h
+synchronous (functions.AsyncStatic id) h = nothing _ h
+synchronous kind h = tt
+
+-- a function of which nothing is left out, whatever it is called where something is
+pub plain : (types : List TypeDef) (f : Function) (what : List ℕ) → kind_left_out f.kind ≡ None → unless (needs_no_option types f) what ≡ None → IsPlain types f
+plain types f what kind options =
+    let sets = no_options (import_set GuestImport types f) (export_set GuestExport types f) (passes (needs_no_option types f) what options) in
+    record { kind = synchronous f.kind kind; imported = sets.0; exported = sets.1 }
+
+-- ---- functions of interfaces
+
+pub record AreMembers (types : List TypeDef) (fs : List (List ℕ × Function)) : Type 0 where
+  pub plain : AllByRecursion (IsNamedPlain types) fs
+  pub unnamed : AllByRecursion (λ e. is_of_unnamed types e.1 ≡ true) fs
+
+member : (types : List TypeDef) (e : List ℕ × Function) → member_left_out types e.1 ≡ None → IsListed e → IsNamedPlain types e × (is_of_unnamed types e.1 ≡ true)
+member types e h listed =
+    let k = neither (kind_left_out e.1.kind) _ h in
+    let o = neither (unless (is_of_unnamed types e.1) (codes "interface")) (unless (needs_no_option types e.1) (codes "interface-func")) k.1 in
+    ((sym listed, plain types e.1 (codes "interface-func") k.0 o.1), passes (is_of_unnamed types e.1) (codes "interface") o.0)
+
+members : (types : List TypeDef) (fs : List (List ℕ × Function)) → AllByRecursion (λ e. member_left_out types e.1 ≡ None) fs → AllByRecursion IsListed fs → AreMembers types fs
+members types [] h listed = record { plain = tt; unnamed = tt }
+members types (f ∷ fs) h listed =
+    let here = member types f h.0 listed.0 in
+    let rest = members types fs h.1 listed.1 in
+    record { plain = (here.0, rest.plain); unnamed = (here.1, rest.unnamed) }
+
+-- ---- interfaces
+
+listed_at : (is : List Interface) (n : ℕ) → AllByRecursion AreListed is → AllByRecursion IsListed (unwrap_or (option_map (λ i. i.functions) (slice_get is n)) [])
+listed_at [] n h = tt
+listed_at (i ∷ is) zero h = let here = h.0 in here.functions
+listed_at (i ∷ is) (suc n) h = listed_at is n h.1
+
+no_types : (ts : List (List ℕ × TypeId)) → types_of_interface ts ≡ None → ts ≡ []
+no_types [] h = refl
+no_types (t ∷ ts) h = nothing _ h
+
+pub record IsPlainInterface (r : Resolve) (id : InterfaceId) : Type 0 where
+  pub members : AreMembers r.types (functions_of r id)
+  pub bare : named_types r id ≡ []
+
+pub plain_interface : (r : Resolve) (id : InterfaceId) → interface_left_out r id ≡ None → AllByRecursion AreListed r.interfaces → IsPlainInterface r id
+plain_interface r id h listed =
+    let b = neither (types_of_interface (named_types r id)) (first_some (λ e. member_left_out r.types e.1) (functions_of r id)) h in
+    record {
+      members = members r.types (functions_of r id) (none_picked (λ e. member_left_out r.types e.1) (functions_of r id) b.1) (listed_at r.interfaces id.index listed);
+      bare = no_types (named_types r id) b.0;
+    }
+
+-- an imported interface has no types, and its functions are made of types without names
+bare_interface : (r : Resolve) (id : InterfaceId) → interface_left_out r id ≡ None → AllByRecursion AreListed r.interfaces → IsBare r (items.Interface id)
+bare_interface r id h listed = let i = plain_interface r id h listed in let m = i.members in (i.bare, m.unnamed)
+
+bare : (r : Resolve) (e : WorldKey × WorldItem) → import_item_left_out r e ≡ None → AllByRecursion AreListed r.interfaces → IsBare r e.1
+bare r (keys.Name text, items.Interface id) h listed = bare_interface r id h listed
+bare r (keys.Interface other, items.Interface id) h listed = bare_interface r id h listed
+bare r (key, items.Function f) h listed = tt
+bare r (key, items.NamedType id) h listed = tt
+
+pub all_bare : (r : Resolve) (es : Entries) → AllByRecursion (λ e. import_item_left_out r e ≡ None) es → AllByRecursion AreListed r.interfaces → AllByRecursion (λ e. IsBare r e.1) es
+all_bare r [] h listed = tt
+all_bare r (e ∷ es) h listed = (bare r e h.0 listed, all_bare r es h.1 listed)
+
+-- ---- look-ups
+
+never : (b t : Bool) → t ≡ false → (b && t) ≡ false
+never true t h = h
+never false t h = refl
+
+zero_next : (n : ℕ) → nat_eq 0 (suc n) ≡ false
+zero_next n = Prim.search rules
+
+next_zero : (n : ℕ) → nat_eq (suc n) 0 ≡ false
+next_zero n = Prim.search rules
+
+-- the key of an interface is no name
+pub other_key : (text : List ℕ) (other : InterfaceId) → is_same_key (keys.Name text) (keys.Interface other) ≡ false
+other_key text other = never (bytes_eq text []) (nat_eq 0 (suc other.index)) (zero_next other.index)
+
+no_name : (id : InterfaceId) (text : List ℕ) → is_same_key (keys.Interface id) (keys.Name text) ≡ false
+no_name id text = never (bytes_eq [] text) (nat_eq (suc id.index) 0) (next_zero id.index)
+
+left_true : (b : Bool) → (b && true) ≡ true → b ≡ true
+left_true true h = refl
+left_true false h = h
+
+-- keys that are the same are one
+one_key : (a b : WorldKey) → is_same_key a b ≡ true → b ≡ a
+one_key (keys.Name text) (keys.Name other) h = ap keys.Name (sym ((bytes_eq-Decides text other).0 (left_true (bytes_eq text other) h)))
+one_key (keys.Name text) (keys.Interface id) h = absurd (true≢false (sym h ∙ other_key text id))
+one_key (keys.Interface id) (keys.Name text) h = absurd (true≢false (sym h ∙ no_name id text))
+one_key (keys.Interface a) (keys.Interface b) h = search rules
+
+one_item : (id : InterfaceId) (item : WorldItem) → interface_in item ≡ Some id → item ≡ items.Interface id
+one_item id (items.Interface other) h = ap items.Interface (same_Some other id h)
+one_item id (items.Function f) h = absurd (none-some id h)
+one_item id (items.NamedType t) h = absurd (none-some id h)
+
+-- an interface that is looked up by a key is an entry with the key
+pub entry_there : (key : WorldKey) (id : InterfaceId) (es : Entries) → option_and_then interface_in (lookup (is_same_key key) es) ≡ Some id → Contains es (key, items.Interface id)
+entry_there key id [] h = absurd (none-some id h)
+entry_there key id ((k, item) ∷ es) h = by (is_same_key key k) refl h (entry_there key id es)
+  where
+    by : (b : Bool) → is_same_key key k ≡ b → option_and_then interface_in (cond b (Some item) (lookup (is_same_key key) es)) ≡ Some id
+        → (option_and_then interface_in (lookup (is_same_key key) es) ≡ Some id → Contains es (key, items.Interface id)) → Contains ((k, item) ∷ es) (key, items.Interface id)
+    by true same h more =
+        subst (λ (x : WorldKey). Contains ((x, item) ∷ es) (key, items.Interface id)) (sym (one_key key k same))
+        (subst (λ (x : WorldItem). Contains ((key, x) ∷ es) (key, items.Interface id)) (sym (one_item id item h)) (at_front (key, items.Interface id) es))
+    by false same h more = after (k, item) es (key, items.Interface id) (more h)
+
+-- a function that is found has its name among those of the interface, and the other way round
+pub name_there : {X : Type 0} (name : List ℕ) (es : List (List ℕ × X)) → IsSome (found name es) → Contains (map (λ e. e.0) es) name
+name_there name [] h = absurd (true≢false (sym h))
+name_there {X} name (e ∷ es) h = by (bytes_eq name e.0) refl h (name_there name es)
+  where
+    by : (b : Bool) → bytes_eq name e.0 ≡ b → IsSome (cond b (Some e.1) (found name es)) → (IsSome (found name es) → Contains (map (λ e. e.0) es) name) → Contains (e.0 ∷ map (λ e. e.0) es) name
+    by true same h more = subst (λ (n : List ℕ). Contains (n ∷ map (λ e. e.0) es) name) ((bytes_eq-Decides name e.0).0 same) (at_front name (map (λ e. e.0) es))
+    by false same h more = after e.0 (map (λ e. e.0) es) name (more h)
+
+pub found_there : {X : Type 0} (name : List ℕ) (es : List (List ℕ × X)) (k : ℕ) → k < length (map (λ e. e.0) es) → slice_index_or (map (λ e. e.0) es) k name ≡ name → IsSome (found name es)
+found_there name [] k l same = absurd (omega (arith, l))
+found_there {X} name (e ∷ es) zero l same = rw ((bytes_eq-Decides name e.0).1 (sym same)) refl
+found_there {X} name (e ∷ es) (suc k) l same = by (bytes_eq name e.0) (found_there name es k (omega (arith, l)) same)
+  where
+    by : (b : Bool) → IsSome (found name es) → IsSome (cond b (Some e.1) (found name es))
+    by true h = refl
+    by false h = h
