@@ -1,5 +1,5 @@
 -- The interfaces of which core imports use a function are imported, in the order of the world.
-use Rattle.std.proofs.Common.{◌≡◌, ◌≢◌, ◌∙◌, ◌&&◌, ◌||◌, ◌+◌, ap, ap₂, sym, subst, refl, ℕ, suc, arith, Bool, true, false, cond, List, [], ◌∷◌, ◌++◌, map, filter, length, length-append, append-nil, append_assoc, add-zero, zero-add, Option, Some, None, is_some, unwrap_or, ◌==◌, if◌then◌else◌, slice_get, Contains, inl, inr, true≢false}
+use Rattle.std.proofs.Common.{◌≡◌, ◌≢◌, ◌∙◌, ◌&&◌, ◌||◌, ap, ap₂, sym, subst, refl, ℕ, arith, Bool, true, false, cond, List, [], ◌∷◌, ◌++◌, map, filter, length, append-nil, append_assoc, Some, None, is_some, unwrap_or, ◌==◌, if◌then◌else◌, slice_get, Contains, inl, inr, true≢false}
 use Rattle.std.specs.List.{AllByRecursion, flat_map, list_any}
 use Rattle.std.specs.Map.{lookup}
 use Rattle.std.specs.Str.{bytes_eq}
@@ -29,7 +29,7 @@ use Rattle.comp_worlds.specs.Encodable.{IsBare, IsEncodable}
 use Rattle.comp_worlds.specs.Worlds.{IsImportItem, IsNamedPlain, items_of, imported_types}
 use Rattle.comp_worlds.specs.declared.world.ComponentWorld.{ComponentWorld}
 use Rattle.comp_links.specs.Naming.{own_names}
-use Rattle.comp_links.specs.Lists.{ImportEntry, ImportedInterface, WorldType, RootFunction, import_entries, interface_entries, interface_entry, needed_types, names_of_interface, type_name, unless_empty}
+use Rattle.comp_links.specs.Lists.{ImportedInterface, WorldType, RootFunction, import_entries, interface_entries, interface_entry, needed_types, names_of_interface, type_name, unless_empty}
 use Rattle.comp_links.specs.Roles.{is_used_of, used_functions, used_functions_of}
 use Rattle.comp_terms.specs.Rules.{Grows, import_marked}
 use Rattle.comp_terms.specs.Terms.{imports_in}

@@ -1,4 +1,4 @@
-use Rattle.std.proofs.Common.{[], ◌∷◌, ℕ, ap, refl, subst, None}
+use Rattle.std.proofs.Common.{[], ◌∷◌, ℕ, ap, subst, None}
 use Rattle.comp_bytes.specs.declared.space.Space.TheVariants as spaces
 use Rattle.comp_bytes.specs.declared.types.Description.TheVariants as descriptions
 use Rattle.comp_bytes.specs.declared.def.Def.{Def}

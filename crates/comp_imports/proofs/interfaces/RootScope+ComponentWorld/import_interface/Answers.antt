@@ -1,4 +1,4 @@
-use Rattle.std.proofs.Common.{rules, ◌≡◌, ◌∙◌, ℕ, List, [], ◌∷◌, ap, subst, sym}
+use Rattle.std.proofs.Common.{rules, ◌≡◌, ℕ, List, [], subst, sym}
 use Rattle.std.specs.List.{flat_map}
 use Rattle.wit_data.specs.declared.ids.InterfaceId.{InterfaceId}
 use Rattle.comp_items.proofs.Remembering.{longer}

@@ -1,4 +1,4 @@
-use Rattle.std.proofs.Common.{◌≡◌, ◌∙◌, ℕ, List, [], subst, sym, refl, IfOk, slice_index_or}
+use Rattle.std.proofs.Common.{◌≡◌, ◌∙◌, ℕ, List, [], subst, sym, refl, slice_index_or}
 use Rattle.std.specs.List.{AllByRecursion, flat_map}
 use Rattle.std.proofs.lemmas.Result.{IfOk-weaker}
 use Rattle.comp_bytes.specs.ScopeNames.{member_export}
@@ -13,8 +13,7 @@ use Rattle.type_scopes.specs.Offers.{IsOffered, placed}
 use Rattle.type_scopes.specs.Titles.{names_exported}
 use Rattle.type_scopes.proofs.Unnamed.{none_apart}
 use Rattle.comp_trees.specs.Members.{member_trees}
-use Rattle.comp_links.specs.Roles.{is_used_of, used_functions_of}
-use Rattle.comp_imports.specs.Interfaces.{ExportsUsed}
+use Rattle.comp_links.specs.Roles.{is_used_of}
 use Rattle.comp_imports.proofs.Bare.{bare_needs, functions_at, functions_sound}
 use Rattle.comp_imports.proofs.FunctionExports.{exports_used, used_names}
 use Rattle.comp_imports.proofs.InterfaceLoop.{names_used, named_only}
