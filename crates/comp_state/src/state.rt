@@ -7,6 +7,7 @@ ghost use Rattle.comp_builder.specs.Built.{nothing_built};
 ghost use Rattle.comp_bytes.specs.Spaces.{kind_space};
 ghost use Rattle.comp_items.specs.Items.{Extends};
 ghost use Rattle.comp_links.specs.Links.{link_of};
+ghost use Rattle.comp_links.specs.Naming.{own_names};
 ghost use Rattle.comp_links.specs.Roles.{IsEncodedImport, export_encoding};
 ghost use Rattle.comp_links.specs.Targets.{Main};
 ghost use Rattle.comp_state.specs.Causes.{IsCause, IsCauseAmong};
