@@ -28,19 +28,19 @@ two_added old mid new first second s t d e n m g h = extends_then old mid new (e
 
 module _ (w : ComponentWorld) (key : WorldKey) (id : InterfaceId) (old mid : Built) (index : ℕ) (ty : InstanceType) (appended : mid.defs ≡ old.defs ++ defs.Item (items.InstanceType ty) ∷ []) where
   -- the type of the instance was added, and no import
-  pub type_added : Grows w old.defs mid.defs (InstanceTypeOf (flat_map member_export ty.members) ∷ [])
-  type_added = Grows-by (defs.Item (items.InstanceType ty)) appended tt
+  pub type_added : AreMembersRight (surroundings_of (imports_in old.defs) (scope_of old.defs)) [] ty.members → Grows w old.defs mid.defs (InstanceTypeOf (flat_map member_export ty.members) ∷ [])
+  type_added right = Grows-by (defs.Item (items.InstanceType ty)) appended (record { number = imports_in old.defs; right = right })
 
-  pub same_imports : imports_in mid.defs ≡ imports_in old.defs
-  same_imports = grown_imports type_added ∙ add-zero (imports_in old.defs)
+  module _ (right : AreMembersRight (surroundings_of (imports_in old.defs) (scope_of old.defs)) [] ty.members) (next : slice_get (import_entries w) (imports_in old.defs) ≡ Some (ImportedInterface key id)) (made : slice_get (inventory mid.defs).types index ≡ Some (OfInstances (scope_of old.defs) ty.members)) where
+    same_imports : imports_in mid.defs ≡ imports_in old.defs
+    same_imports = grown_imports (type_added right) ∙ add-zero (imports_in old.defs)
 
-  module _ (next : slice_get (import_entries w) (imports_in old.defs) ≡ Some (ImportedInterface key id)) (made : slice_get (inventory mid.defs).types index ≡ Some (OfInstances (scope_of old.defs) ty.members)) where
     stated_next : slice_get (import_entries w) (imports_in mid.defs) ≡ Some (ImportedInterface key id)
     stated_next = ap (slice_get (import_entries w)) same_imports ∙ next
 
     -- its import is that of the interface
-    pub instance_right : AreMembersRight (surroundings_of (imports_in old.defs) (scope_of old.defs)) [] ty.members → ImportsInterface w mid.defs index
-    instance_right right = record {
+    pub instance_right : ImportsInterface w mid.defs index
+    instance_right = record {
       key = key;
       id = id;
       stated = stated_next;

@@ -9,7 +9,7 @@ use Rattle.std.proofs.lemmas.Bool.Decides.{Decides-eqb}
 use Rattle.comp_lists.specs.Found.{found}
 use Rattle.comp_bytes.specs.declared.def.Def.{Def}
 use Rattle.comp_bytes.specs.declared.space.Space.TheVariants as spaces
-use Rattle.comp_trees.specs.Trees.{FunctionTree, Origin}
+use Rattle.comp_trees.specs.Trees.{FunctionTree}
 use Rattle.comp_trees.specs.Inventories.{surroundings_of}
 use Rattle.comp_roles.specs.declared.imports.Import.{Import}
 use Rattle.comp_roles.specs.declared.imports.Import.TheVariants as imports
@@ -92,10 +92,7 @@ used_function w ds table id instance name h u e =
 
 module _ {w : ComponentWorld} {ds : List Def} {instance : ℕ} {id : InterfaceId} {name : List ℕ} (h : IsInterfaceFunction w ds instance id name) where
   -- where it is imported
-  pub origin : Origin
-  origin = record { number = h.import.number; inner = Some name }
-
-  pub origin_of : IsOriginOf w (OfInterface id name) origin
+  pub origin_of : IsOriginOf w (OfInterface id name) (record { number = h.import.number; inner = Some name })
   origin_of = (h.import.key, h.import.stated, refl)
 
   pub aliased : AliasesImported ds spaces.Func instance name

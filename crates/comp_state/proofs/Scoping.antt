@@ -88,7 +88,7 @@ within w earlier (defs.Item (items.Alias (aliases.CoreExport kinds.Memory instan
 within w earlier (defs.Item (items.Alias (aliases.CoreExport kinds.Global instance name))) h = absurd h
 within w earlier (defs.Item (items.Alias (aliases.Outer count index))) h = absurd h
 within w earlier (defs.Item (items.Type t)) h = (type_within earlier t h, tt)
-within w earlier (defs.Item (items.InstanceType t)) h = (tt, members_scoped (surroundings_of 0 (inventories.scope_of earlier)) (scope_of space_of earlier) (scope_counted earlier) t.members (h 0))
+within w earlier (defs.Item (items.InstanceType t)) h = (tt, members_scoped (surroundings_of h.number (inventories.scope_of earlier)) (scope_of space_of earlier) (scope_counted earlier) t.members h.right)
 within w earlier (defs.Item (items.Lift core options kind)) h =
     ((h.0, subst (λ (o : List CanonicalOption). AllByRecursion (Within earlier) (options_references o ++ type_at kind)) (sym h.1) (type_named earlier kind h.2.is.denotes.within, tt)), tt)
 within w earlier (defs.Item (items.Lower function options)) h = ((function_in_range h.0.is, no_options earlier options h.1), tt)

@@ -280,7 +280,7 @@ unmarked (defs.Item (items.Custom name contents) ∷ ds) h = unmarked ds h.1
 -- the imports are none
 no_module_imported : (n : Naming) (w : ComponentWorld) (es : List ImportEntry) → AllByRecursion IsNoModule (flat_map (import_marked n w) es)
 no_module_imported n w [] = tt
-no_module_imported n w (ImportedInterface key id ∷ es) = (tt, tt, no_module_imported n w es)
+no_module_imported n w (ImportedInterface key id ∷ es) = (tt, (tt, no_module_imported n w es))
 no_module_imported n w (WorldType name id ∷ es) = (tt, no_module_imported n w es)
 no_module_imported n w (RootFunction name ∷ es) = (tt, no_module_imported n w es)
 

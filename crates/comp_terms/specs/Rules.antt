@@ -151,6 +151,11 @@ IsTypeRight scope (types.Func f) = is_known_function (function_tree scope f) ≡
 IsTypeRight scope (types.Defined t) = is_known (defined_tree scope t) ≡ true
 IsTypeRight scope (types.Resource destructor) = ⊥
 
+-- a type of instances: its members are right in an import of some number
+pub record IsInstanceTypeRight (earlier : List Def) (members : List Member) : Type 0 where
+  pub number : ℕ
+  pub right : AreMembersRight (surroundings_of number (scope_of earlier)) [] members
+
 -- an intrinsic: so far, the drop of a resource
 abbrev pub IsIntrinsicRight : List Def → Intrinsic → Type 0
 IsIntrinsicRight earlier (intrinsics.ResourceDrop type) = HasResource earlier type
@@ -168,7 +173,7 @@ IsItemRight w earlier (items.CoreExports entries) = AreEntries earlier entries
 IsItemRight w earlier (items.Instantiate component arguments) = ⊥
 IsItemRight w earlier (items.Alias a) = IsAliasRight w earlier a
 IsItemRight w earlier (items.Type t) = IsTypeRight (scope_of earlier) t
-IsItemRight w earlier (items.InstanceType t) = Unit {0}
+IsItemRight w earlier (items.InstanceType t) = IsInstanceTypeRight earlier t.members
 IsItemRight w earlier (items.Lift core options kind) = (core < items_in spaces.CoreFunc earlier) × (options ≡ []) × HasFunctionType earlier kind
 IsItemRight w earlier (items.Lower function options) = HasImportedFunction earlier function × (options ≡ [])
 IsItemRight w earlier (items.Intrinsic i) = IsIntrinsicRight earlier i

@@ -44,10 +44,10 @@ returns-clause-grows c =
     let import : Def = defs.Item (items.Import (plain_name c.in_ok-name.name) (descriptions.Instance c.in_ok-index.index)) in
     let appended : mid.defs ≡ s.items.defs ++ defs.Item (items.InstanceType ty) ∷ [] = ap (λ (b : Built). b.defs) c.in_ok-index.ensures.adds.1 in
     let names : flat_map member_export ty.members ≡ names_of_interface w c.args.interface = c.in_ok-ty.ensures.names ∙ sym (names_are_used w c.args.interface c.requires.next.unneeded) in
-    let one : Grows w s.items.defs mid.defs (InstanceTypeOf (names_of_interface w c.args.interface) ∷ []) = subst (λ (ns : List (List ℕ)). Grows w s.items.defs mid.defs (InstanceTypeOf ns ∷ [])) names (type_added w c.args.key.now c.args.interface s.items mid c.in_ok-index.index ty appended) in
+    let one : Grows w s.items.defs mid.defs (InstanceTypeOf (names_of_interface w c.args.interface) ∷ []) = subst (λ (ns : List (List ℕ)). Grows w s.items.defs mid.defs (InstanceTypeOf ns ∷ [])) names (type_added w c.args.key.now c.args.interface s.items mid c.in_ok-index.index ty appended c.in_ok-ty.ensures.members) in
     let two : Grows w mid.defs new (Imported (record { name = plain_name c.in_ok-name.name; sort = sorts.Instance }) ∷ []) =
     Grows-by import (ap (λ (b : Built). b.defs) c.in_ok-instance.ensures.adds.1)
-    (instance_right w c.args.key.now c.args.interface s.items mid c.in_ok-index.index ty appended (c.requires.next.stated c.requires.some) c.in_ok-index.ensures.made c.in_ok-ty.ensures.members) in
+    (instance_right w c.args.key.now c.args.interface s.items mid c.in_ok-index.index ty appended c.in_ok-ty.ensures.members (c.requires.next.stated c.requires.some) c.in_ok-index.ensures.made) in
     Grows-then one (subst (λ (n : List ℕ). Grows w mid.defs new (Imported (record { name = plain_name n; sort = sorts.Instance }) ∷ [])) c.in_ok-name.ensures two)
 
 pub returns-clause-imported : goal.returns-clause-imported
@@ -55,5 +55,5 @@ returns-clause-imported c =
     let s = c.args.self.now in
     let mid = c.instance_type.new.self in
     let ty = c.in_ok-ty.ty in
-    instance_imported s.world.now c.args.key.now c.args.interface s.items mid c.in_ok-index.index ty (ap (λ (b : Built). b.defs) c.in_ok-index.ensures.adds.1) (c.requires.next.stated c.requires.some) c.in_ok-index.ensures.made
+    instance_imported s.world.now c.args.key.now c.args.interface s.items mid c.in_ok-index.index ty (ap (λ (b : Built). b.defs) c.in_ok-index.ensures.adds.1) c.in_ok-ty.ensures.members (c.requires.next.stated c.requires.some) c.in_ok-index.ensures.made
     c.import_instance.new.self c.in_ok-instance.instance (c.in_ok-instance.ensures.imported (scope_of s.items.defs) ty.members c.in_ok-index.ensures.made) c.in_ok-ty.ensures.functions

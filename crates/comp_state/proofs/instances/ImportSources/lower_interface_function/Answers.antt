@@ -7,12 +7,13 @@ use Rattle.comp_bytes.specs.declared.def.Def.TheVariants as defs
 use Rattle.comp_bytes.specs.declared.def.Item.TheVariants as items
 use Rattle.comp_bytes.specs.declared.space.ComponentExportKind.TheVariants as exports
 use Rattle.comp_bytes.specs.declared.types.Alias.TheVariants as aliases
+use Rattle.comp_trees.specs.Trees.{Origin}
 use Rattle.comp_terms.specs.Rules.{Grows}
 use Rattle.comp_terms.specs.Terms.{IsImportedFunction, IsOption}
 use Rattle.comp_terms.specs.Terms as terms
 use Rattle.wit_data.specs.contracts.ids.InterfaceIdPartialEq.TheImpl as same_id
 use Rattle.comp_imports.specs.Growing.{Grows-by, Grows-then}
-use Rattle.comp_state.proofs.Interfaces.{IsInterfaceFunction, aliased, interface_found, origin, origin_of, used_function}
+use Rattle.comp_state.proofs.Interfaces.{IsInterfaceFunction, aliased, interface_found, origin_of, used_function}
 use Rattle.comp_state.proofs.instances.ImportSources.lower_interface_function.Goals as goal
 
 pub unwrap-instance-requires : goal.unwrap-instance-requires
@@ -29,10 +30,11 @@ returns-clause-grows c =
     let instance = c.unwrap-instance.result.now in
     let at : lookup (same_id.eq-value.it c.args.interface) c.args.root.now.instances ≡ Some instance = search rules in
     let h : IsInterfaceFunction w old instance c.args.interface c.args.name.now = used_function w old c.args.root.now.instances c.args.interface instance c.args.name.now s.interfaces c.requires.imported at in
-    let is : IsImportedFunction c.alias_function.new.self.defs c.in_ok-aliased.aliased (origin h) h.type = c.in_ok-aliased.ensures.imported h.import.number h.import.outer h.import.members h.type h.import.imported h.exported.typed in
+    let origin : Origin = record { number = h.import.number; inner = Some c.args.name.now } in
+    let is : IsImportedFunction c.alias_function.new.self.defs c.in_ok-aliased.aliased origin h.type = c.in_ok-aliased.ensures.imported h.import.number h.import.outer h.import.members h.type h.import.imported h.exported.typed in
     let one : Grows w old c.alias_function.new.self.defs [] = Grows-by (defs.Item (items.Alias (aliases.Export exports.Func instance c.args.name.now))) (ap (λ (b : Built). b.defs) c.in_ok-aliased.ensures.adds.1) (aliased h) in
     let two : Grows w c.alias_function.new.self.defs c.lower_function.new.self.defs [] =
-    Grows-by (defs.Item (items.Lower c.in_ok-aliased.aliased c.new-options.result)) (ap (λ (b : Built). b.defs) c.in_ok-index.ensures.adds.1) (record { origin = origin h; type = h.type; is = is }, c.new-options.ensures) in
+    Grows-by (defs.Item (items.Lower c.in_ok-aliased.aliased c.new-options.result)) (ap (λ (b : Built). b.defs) c.in_ok-index.ensures.adds.1) (record { origin = origin; type = h.type; is = is }, c.new-options.ensures) in
     Grows-then one two
 
 pub returns-clause-lowered : goal.returns-clause-lowered
@@ -44,6 +46,7 @@ returns-clause-lowered c =
     let instance = c.unwrap-instance.result.now in
     let at : lookup (same_id.eq-value.it c.args.interface) c.args.root.now.instances ≡ Some instance = search rules in
     let h : IsInterfaceFunction w old instance c.args.interface c.args.name.now = used_function w old c.args.root.now.instances c.args.interface instance c.args.name.now s.interfaces c.requires.imported at in
-    let is : IsImportedFunction mid c.in_ok-aliased.aliased (origin h) h.type = c.in_ok-aliased.ensures.imported h.import.number h.import.outer h.import.members h.type h.import.imported h.exported.typed in
+    let origin : Origin = record { number = h.import.number; inner = Some c.args.name.now } in
+    let is : IsImportedFunction mid c.in_ok-aliased.aliased origin h.type = c.in_ok-aliased.ensures.imported h.import.number h.import.outer h.import.members h.type h.import.imported h.exported.typed in
     let none : AllZip (IsOption mid) c.new-options.result [] = subst (λ (os : List CanonicalOption). AllZip (IsOption mid) os []) (sym c.new-options.ensures) tt in
-    record { term = terms.Lowering (origin h) h.type []; is = c.in_ok-index.ensures.lowered (origin h) h.type [] is none; asked = (origin_of h, h.typed, tt) }
+    record { term = terms.Lowering origin h.type []; is = c.in_ok-index.ensures.lowered origin h.type [] is none; asked = (origin_of h, h.typed, tt) }

@@ -3,6 +3,7 @@ use Rattle.comp_builder.specs.Built.{Built}
 use Rattle.comp_bytes.specs.Spaces.{items_in}
 use Rattle.comp_bytes.specs.declared.space.Space.TheVariants as spaces
 use Rattle.comp_items.specs.Items.{Extends}
+use Rattle.comp_links.specs.Naming.{own_names}
 use Rattle.comp_worlds.specs.declared.world.ComponentWorld.{ComponentWorld}
 use Rattle.comp_state.specs.Encoding.{Encoding}
 use Rattle.comp_state.proofs.Growth.{encoding-kept}
