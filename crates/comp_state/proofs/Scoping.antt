@@ -2,6 +2,7 @@
 use Rattle.comp_links.specs.Naming.{own_names}
 use Rattle.std.proofs.Common.{◌≡◌, ℕ, ◌<◌, length, List, [], ◌∷◌, ◌++◌, sym, subst, Some, None}
 use Rattle.std.specs.List.{AllByRecursion, AllZip, flat_map}
+use Rattle.std.proofs.lemmas.List.{length-map}
 use Rattle.std.proofs.lemmas.Option.{slice_get_within}
 use Rattle.comp_bytes.specs.Spaces.{items_in, space_of, kind_space}
 use Rattle.comp_bytes.specs.References.{Reference, own, type_references, options_references, intrinsic_references, type_at}
@@ -35,7 +36,7 @@ use Rattle.comp_trees.proofs.InventoryGrowth.{scope_counted}
 use Rattle.comp_trees.proofs.KnownScopes.{known_defined, known_function_names}
 use Rattle.comp_trees.proofs.MemberScopes.{members_scoped}
 use Rattle.comp_items.proofs.Kept.{function_in_range}
-use Rattle.comp_terms.specs.Rules.{AliasesImported, IsTypeRight, IsIntrinsicRight, IsRight, RightAfter, IsEntry, IsBuilt}
+use Rattle.comp_terms.specs.Rules.{AliasesImported, ImportsInterface, IsTypeRight, IsIntrinsicRight, IsRight, RightAfter, IsEntry, IsBuilt}
 
 abbrev Within : List Def → Reference → Type 0
 Within earlier = InScope (scope_of space_of earlier ∷ [])
@@ -72,6 +73,11 @@ instance_in_range : (earlier : List Def) (space : Space) (instance : ℕ) (name 
 instance_in_range earlier space instance name h =
     subst (λ n. instance < n) (instances-counted earlier) (slice_get_within (inventories.inventory earlier).instances instance (inventories.ImportedInstance h.number h.outer h.members) h.imported)
 
+-- the import of an instance names a type of the list
+instance_type_there : (w : ComponentWorld) (earlier : List Def) (index : ℕ) → ImportsInterface w earlier index → index < length (inventories.scope_of earlier)
+instance_type_there w earlier index h =
+    subst (λ n. index < n) (sym (length-map (inventories.inventory earlier).types inventories.entry_tree)) (slice_get_within (inventories.inventory earlier).types index (inventories.OfInstances h.outer h.members) h.is)
+
 within : (w : ComponentWorld) (earlier : List Def) (d : Def) → IsRight w earlier d → DefScoped (scope_of space_of earlier) d
 within w earlier (defs.Component inner) h = absurd h
 within w earlier (defs.Item (items.CoreModule bytes)) h = (tt, tt)
@@ -93,10 +99,10 @@ within w earlier (defs.Item (items.Lift core options kind)) h =
     ((h.0, subst (λ (o : List CanonicalOption). AllByRecursion (Within earlier) (options_references o ++ type_at kind)) (sym h.1) (type_named earlier kind h.2.is.denotes.within, tt)), tt)
 within w earlier (defs.Item (items.Lower function options)) h = ((function_in_range h.0.is, no_options earlier options h.1), tt)
 within w earlier (defs.Item (items.Intrinsic i)) h = (intrinsic_within earlier i h, tt)
-within w earlier (defs.Item (items.Import name (descriptions.Func kind))) h = ((type_named earlier kind h.1.is.denotes.within, tt), tt)
-within w earlier (defs.Item (items.Import name (descriptions.TypeEqual index))) h = ((type_named earlier index h.1.0, tt), tt)
+within w earlier (defs.Item (items.Import name (descriptions.Func kind))) h = ((type_named earlier kind h.is.denotes.within, tt), tt)
+within w earlier (defs.Item (items.Import name (descriptions.TypeEqual index))) h = ((type_named earlier index h.0, tt), tt)
 within w earlier (defs.Item (items.Import name descriptions.SubResource)) h = (tt, tt)
-within w earlier (defs.Item (items.Import name (descriptions.Instance index))) h = absurd h.1
+within w earlier (defs.Item (items.Import name (descriptions.Instance index))) h = ((type_named earlier index (instance_type_there w earlier index h), tt), tt)
 within w earlier (defs.Item (items.Export name sorts.Func index None)) h = ((in_range h.lifted.is.made, tt), tt)
 within w earlier (defs.Item (items.Export name sorts.Func index (Some d))) h = absurd h
 within w earlier (defs.Item (items.Export name (sorts.Core kind) index None)) h = absurd h

@@ -1,5 +1,5 @@
 -- The imports of main: each is given what its role needs, in order.
-use Rattle.std.proofs.Common.{inl, inr, Bool, true, false, ◌||◌, Some, Result, Ok, Err, ◌≡◌, ◌∙◌, ℕ, List, [], ◌∷◌, ◌++◌, refl, sym, ap, ap₂, subst, append_assoc, append-nil, map, length, IsSome, IsTrue, Contains, arith}
+use Rattle.std.proofs.Common.{inl, inr, Bool, true, false, ◌||◌, Some, Result, Ok, Err, ◌≡◌, ◌∙◌, ℕ, List, [], ◌∷◌, ◌++◌, refl, sym, ap, ap₂, subst, append_assoc, append-nil, map, length, IsTrue, Contains, arith}
 use Rattle.std.specs.List.{AllByRecursion, AllZip, IsDistinct, list_any, flat_map}
 use Rattle.std.proofs.lemmas.Slice.Eq.{bytes_eq-Decides}
 use Rattle.std.proofs.lemmas.Grind.{flat_map-append}

@@ -1,8 +1,7 @@
-use Rattle.std.proofs.Common.{◌≡◌, ap, refl, sym, subst, Option, Some, None, ℕ, List, IsSome}
+use Rattle.std.proofs.Common.{◌≡◌, ap, refl, subst, Option, Some, None, ℕ, IsSome}
 use Rattle.std.specs.Option.{IsSomeAnd}
 use Rattle.comp_bytes.specs.declared.canon.Intrinsic.TheVariants as intrinsics
 use Rattle.comp_bytes.specs.declared.def.Item.TheVariants as items
-use Rattle.comp_bytes.specs.declared.def.Def.{Def}
 use Rattle.comp_bytes.specs.declared.def.Def.TheVariants as defs
 use Rattle.comp_builder.specs.Built.{Built}
 use Rattle.comp_links.specs.Lists.{resource_of}

@@ -1,4 +1,4 @@
-use Rattle.std.proofs.Common.{◌≡◌, ◌∙◌, [], ◌∷◌, ap, sym, subst, rules, List, ℕ, Some, None, IsSome, Option}
+use Rattle.std.proofs.Common.{◌≡◌, [], ap, sym, subst, rules, List, Some, IsSome}
 use Rattle.std.specs.List.{AllZip}
 use Rattle.std.specs.Map.{lookup}
 use Rattle.comp_builder.specs.Built.{Built}

@@ -1,4 +1,4 @@
-use Rattle.std.proofs.Common.{rules, [], ◌∷◌, ap, refl, subst, sym, IsSome, Some}
+use Rattle.std.proofs.Common.{rules, [], ◌∷◌, ap, refl, subst, sym, Some}
 use Rattle.std.specs.List.{AllByRecursion}
 use Rattle.comp_builder.specs.Built.{Built}
 use Rattle.comp_bytes.proofs.ItemIndices.{in_range}

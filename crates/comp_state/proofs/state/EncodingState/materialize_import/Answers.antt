@@ -1,4 +1,4 @@
-use Rattle.std.proofs.Common.{[], ◌∷◌, subst, sym, Contains, IsSome}
+use Rattle.std.proofs.Common.{[], ◌∷◌, subst, sym, Contains}
 use Rattle.std.specs.Result.{OnOk, IfOk, IfErr}
 use Rattle.comp_bytes.specs.Spaces.{kind_space}
 use Rattle.comp_links.specs.Links.{link_of}
