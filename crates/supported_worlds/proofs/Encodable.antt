@@ -1,5 +1,5 @@
 -- A world of which nothing is left out is one that the encoder takes.
-use Rattle.std.proofs.Common.{◌≡◌, ℕ, Bool, true, false, List, [], ◌∷◌, ◌++◌, map, Option, None, refl, sym, ap, subst}
+use Rattle.std.proofs.Common.{◌≡◌, ℕ, Bool, true, false, List, [], ◌∷◌, ◌++◌, map, None, sym, ap, subst}
 use Rattle.std.specs.Prelude.{filter, is_some, if◌then◌else◌}
 use Rattle.std.specs.List.{AllByRecursion, flat_map}
 use Rattle.std.specs.Map.{lookup}
@@ -15,7 +15,7 @@ use Rattle.wit_data.specs.declared.types.TypeOwner.TheVariants as owners
 use Rattle.wit_data.specs.declared.worlds.WorldItem.{WorldItem}
 use Rattle.wit_data.specs.declared.worlds.WorldItem.TheVariants as items
 use Rattle.wit_data.specs.declared.worlds.WorldKey.{WorldKey}
-use Rattle.world_values.specs.Mentions.{same_interface, used_types, live_entry, live_type_imports}
+use Rattle.world_values.specs.Mentions.{same_interface, used_types, live_entry}
 use Rattle.world_values.specs.Tables.{with_all}
 use Rattle.comp_worlds.specs.Encodable.{IsOwnerAtRoot, IsRootType, IsBare, IsEncodable}
 use Rattle.comp_worlds.specs.Uses.{all_imports}
