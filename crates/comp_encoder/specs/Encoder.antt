@@ -1,6 +1,6 @@
 -- What an encoder holds. The rules are this project's own: the component model's standard
 -- defines components, and not how they are made.
-use Rattle.std.specs.Prelude.{◌≡◌, ℕ, List, [], Option, Some, None}
+use Rattle.std.specs.Prelude.{ℕ, List, [], Option, Some, None}
 use Rattle.world_values.specs.declared.gathered.Gathered.{Gathered}
 use Rattle.world_values.specs.declared.gathered.Part.{Part}
 

@@ -88,7 +88,10 @@ impl RootScope<'_, ComponentWorld> {
         let ty = self.interface_type(interface, used)?;
         let index = self.items.instance_type(Some(debug.as_str()), ty)?;
         let version_suffix = None;
-        let name = ExternName { name, version_suffix };
+        let name = ExternName {
+            name,
+            version_suffix,
+        };
         let instance = self.items.import_instance(name, index)?;
         Ok(instance)
     }

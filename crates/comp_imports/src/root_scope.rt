@@ -23,9 +23,9 @@ ghost use Rattle.comp_imports.specs.Growing.{root_same, root_on};
 use byte_encoding::BuildFault;
 use comp_bytes::{DefinedType, ExternName, FuncTypeDef};
 use comp_items::ComponentItems;
+use comp_lists::Keyed;
 use comp_worlds::ComponentWorld;
 use std::alloc::Global;
-use comp_lists::Keyed;
 use wit_data::{Function, InterfaceId, TypeId};
 use wit_types::{TypeEncodingMaps, ValtypeEncoder, encode_func_type};
 

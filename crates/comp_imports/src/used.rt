@@ -125,7 +125,10 @@ pub(crate) fn used_names(
     ensures { IfOk result (AreUsedNames world.now interface) }
 {
     let mut used = Keyed::new(alloc);
-    for (name, _) in world.resolve.interfaces.as_slice()[interface.index].functions.iter() {
+    for (name, _) in world.resolve.interfaces.as_slice()[interface.index]
+        .functions
+        .iter()
+    {
         add_if_used(alloc, &mut used, uses, interface, name)?;
     }
     Ok(used)

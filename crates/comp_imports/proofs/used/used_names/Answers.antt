@@ -16,8 +16,7 @@ loop-name-preserved c =
     let name : List ℕ = c.in-Some.name.now in
     let whole : List ℕ → Bool = λ text. list_any (λ f. bytes_eq text f.0 && p f.0) (functions_of c.args.world.now.resolve c.args.interface) in
     let before : (text : List ℕ) → (is_some (found text c.loop-name.used) || list_any (λ f. bytes_eq text f.0 && p f.0) ((name, c.in-Some.field-0-1.now) ∷ c.next.new.self)) ≡ whole text =
-    subst (λ (es : List (List ℕ × Function)). (text : List ℕ) → (is_some (found text c.loop-name.used) || list_any (λ f. bytes_eq text f.0 && p f.0) es) ≡ whole text) c.in-Some.ensures.steps c.loop-name.invariant.2 in
-    (
+    subst (λ (es : List (List ℕ × Function)). (text : List ℕ) → (is_some (found text c.loop-name.used) || list_any (λ f. bytes_eq text f.0 && p f.0) es) ≡ whole text) c.in-Some.ensures.steps c.loop-name.invariant.2 in (
       tt,
       tt,
       names_step p c.loop-name.used c.add_if_used.new.used name (is_some (lookup (is_same_function (record { interface = c.args.interface; name = name })) c.args.uses.now)) c.in-Some.field-0-1.now c.next.new.self whole

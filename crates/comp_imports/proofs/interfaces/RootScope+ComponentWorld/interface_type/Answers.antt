@@ -27,15 +27,28 @@ encode_interface_type-requires g c =
     let fs : List (List ℕ × Function) = (slice_index_or c.as_slice.result.now c.args.interface.index c.index-as_slice-interface.result).functions in
     let same : fs ≡ functions_of r here = functions_at r here c.as_slice.result.now c.index-as_slice-interface.result c.as_slice.ensures c.requires.1.1.0 in
     let has : AllByRecursion (λ (e : List ℕ × Function). HasFunction r e.1) fs = subst (AllByRecursion (λ (e : List ℕ × Function). HasFunction r e.1)) (sym same) (functions_sound r c.requires.0.sound here) in
-    let needs : AreNeedsMet (record { types = r.types; table = [] }) here [] (used_among c.args.used.now (functions_of r here)) = bare_needs r here c.requires.0.sound c.requires.0.types c.args.used.now (functions_of r here) (functions_sound r c.requires.0.sound here) c.requires.1.1.1.1.0.1 in
-    (c.requires.0.sound,
-    (subst (λ t. IsOffered g.place.surroundings g.place.origin (record { types = r.types; table = t })) (sym c.new-table.ensures) (record { each = tt }),
-    (has,
-    (tt,
-    (none_apart r.types here,
-    (tt,
-    (tt,
-    subst (λ t. AreNeedsMet (record { types = r.types; table = t }) here [] (used_among c.args.used.now fs)) (sym c.new-table.ensures) (subst (λ xs. AreNeedsMet (record { types = r.types; table = [] }) here [] (used_among c.args.used.now xs)) (sym same) needs))))))))
+    let needs : AreNeedsMet (record { types = r.types; table = [] }) here [] (used_among c.args.used.now (functions_of r here)) = bare_needs r here c.requires.0.sound c.requires.0.types c.args.used.now (functions_of r here) (functions_sound r c.requires.0.sound here) c.requires.1.1.1.1.0.1 in (
+      c.requires.0.sound,
+      (
+        subst (λ t. IsOffered g.place.surroundings g.place.origin (record { types = r.types; table = t })) (sym c.new-table.ensures) (record { each = tt }),
+        (
+          has,
+          (
+            tt,
+            (
+              none_apart r.types here,
+              (
+                tt,
+                (
+                  tt,
+                  subst (λ t. AreNeedsMet (record { types = r.types; table = t }) here [] (used_among c.args.used.now fs)) (sym c.new-table.ensures) (subst (λ xs. AreNeedsMet (record { types = r.types; table = [] }) here [] (used_among c.args.used.now xs)) (sym same) needs),
+                ),
+              ),
+            ),
+          ),
+        ),
+      ),
+    )
 
 pub returns-clause-functions : goal.returns-clause-functions
 returns-clause-functions g c =
