@@ -39,6 +39,8 @@ from rattle_text import functions_of, is_proof_of, names_of  # noqa: E402
 
 ONE_JOB = ["--jobs", "1"]
 AT = re.compile(r"(?:note: )?(?:\./)?((?:src|specs|proofs)/\S+?):(\d+):\d+: (.*)")
+# What is said of a wrong body whose function may have waited for the proof of one that it calls.
+WAITS = False, "NOT TRIED: its function is not proved, but no goal of it is open"
 # An answer that names what the edit took away says little of the contract.
 SHAPE = re.compile(r"has no field|is not in scope|has no `|was not admitted")
 
@@ -236,8 +238,17 @@ class Trial:
         if not ran.ended():
             self.without_bad_edits(batch, found, ran)
             return
+        waiting = []
         for body in batch:
-            self.said[body.name] = self.judged(body, found[body], ran)
+            said = self.judged(body, found[body], ran)
+            if said == WAITS and len(batch) > 1:
+                waiting.append(body)
+            else:
+                self.said[body.name] = said
+        # (a function that calls one with another wrong body of the batch waits for its proof: without that one it is tried)
+        for again in [waiting] if len(waiting) < len(batch) else [[it] for it in waiting]:
+            if again:
+                self.try_batch(again)
 
     def without_bad_edits(self, batch, found, ran):
         """The check ended before the prover began: what the errors name is a bad edit, and the rest is tried again."""
@@ -261,7 +272,7 @@ class Trial:
             return False, f"NOT TRIED: a proof file names what the edit took away: change a value, and keep the names: {open_goals[0][:160]}"
         names = "|".join(re.escape(it.name) for _, it in body.functions)
         if any(re.match(rf"fn \S*\b({names}): (?!proved)", it) for it in ran.lines):
-            return False, "NOT TRIED: its function is not proved, but no goal of it is open"
+            return WAITS
         if not any(re.match(rf"fn \S*\b({names}): proved", it) for it in ran.lines):
             return False, "NOT TRIED: the check did not come to its function"
         return False, "NOT REFUSED: its function is still proved"
