@@ -66,6 +66,51 @@ def resources_that_are_dropped(count):
     return module(record, [("$root", name) for name in names], b"\1" + I32)
 
 
+RECORD = {"record": [["x", "u32"], ["y", "u8"]]}
+
+
+def interface(name, types, functions):
+    return {
+        "id": name,
+        "types": [{"name": name, "type": ty} for name, ty in types],
+        "functions": [{"name": name, "params": [["a", ty]]} for name, ty in functions],
+    }
+
+
+def of_interfaces(interfaces, used):
+    """A module that imports these interfaces, and these functions of them, by their numbers and names."""
+    fields = [(f"m{number}", name) for number, name in used]
+    roles = [["interface-func", number, name, "sync"] for number, name in used]
+    record = {
+        "interfaces": interfaces,
+        "imports": [{"interface": number} for number in range(len(interfaces))],
+        "core-imports": [{"module": m, "field": f, "role": role} for (m, f), role in zip(fields, roles)],
+    }
+    return module(record, fields, b"\2" + I32 * 2)
+
+
+def types_of_an_interface(count):
+    types = [(f"t{n}", RECORD) for n in range(count)]
+    functions = [(f"f{n}", {"ref": [0, f"t{n}"]}) for n in range(count)]
+    return of_interfaces([interface("a:b/i", types, functions)], [(0, f"f{n}") for n in range(count)])
+
+
+def functions_of_an_interface(count):
+    functions = [(f"f{n}", {"ref": [0, "t"]}) for n in range(count)]
+    return of_interfaces([interface("a:b/i", [("t", RECORD)], functions)], [(0, f"f{n}") for n in range(count)])
+
+
+def interfaces_with_a_type(count):
+    each = [interface(f"a:b/i{n}", [("t", RECORD)], [("f", {"ref": [n, "t"]})]) for n in range(count)]
+    return of_interfaces(each, [(n, "f") for n in range(count)])
+
+
+def interfaces_that_use_one_type(count):
+    first = interface("a:b/t", [("t", RECORD)], [])
+    others = [interface(f"a:b/i{n}", [("u", {"ref": [0, "t"]})], [("f", {"ref": [n, "u"]})]) for n in range(1, count)]
+    return of_interfaces([first, *others], [(n, "f") for n in range(1, count)])
+
+
 print("world of                               1,000 s   10,000 s   ratio")
 for make in (
     functions_of_one_type,
@@ -74,6 +119,10 @@ for make in (
     types_that_name_another,
     exported_functions,
     resources_that_are_dropped,
+    types_of_an_interface,
+    functions_of_an_interface,
+    interfaces_with_a_type,
+    interfaces_that_use_one_type,
 ):
     seconds = []
     for count in (1000, 10000):

@@ -71,6 +71,9 @@ expect 'a flag that is not there' 2 "$usage" new kept.wasm main.wasm --ref
 expect 'another command' 2 "$usage" old kept.wasm main.wasm
 expect 'a flag twice' 2 "$usage" new kept.wasm main.wasm --validate --validate
 expect 'a flag of another command' 2 "$usage" defs main.wasm --validate
+expect 'all flags' 0 '' new flags_made.wasm main.wasm --validate --canonical --no-merge
+holds 'change nothing without interfaces' flags_made.wasm "$top/examples/component.wasm"
+expect 'one of three flags twice' 2 "$usage" new kept.wasm main.wasm --no-merge --canonical --no-merge
 
 LC_ALL=C sed -e 's/"name":"f"/"name":"1f"/; s/"world-func","f"/"world-func","1f"/' \
     -e 's/\xf1\x01\x0ecomponent-type/\xf3\x01\x0ecomponent-type/' main.wasm >digit.wasm
@@ -127,6 +130,8 @@ if [ "$(cat status)" -eq 1 ] && [ ! -s err ]; then echo 'ok: an output that nobo
 
 cat >help <<'HELP'
 usage: component_new new OUT MAIN [options] | defs FILE
+  --canonical     new: have the canonical part of versions in names, and the rest as suffixes
+  --no-merge      new: don't merge imports of compatible versions
   --validate      new: check the names of the component's imports and exports
   -h, --help      print this text
   --version       print the version of the program, and the kit that it is proved with

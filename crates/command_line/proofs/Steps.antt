@@ -1,5 +1,5 @@
 -- What was read and put, step by step, and how often the device refused.
-use Rattle.std.proofs.Common.{◌≡◌, ℕ, Bool, false, List, [], ◌∷◌, ◌++◌, Option, Some, None, Result, Ok, Err, refl, ap, ◌∙◌, append_assoc, inl}
+use Rattle.std.proofs.Common.{◌≡◌, ℕ, false, List, [], ◌∷◌, ◌++◌, Option, Some, None, Result, Ok, Err, refl, ap, ◌∙◌, append_assoc, inl}
 use Rattle.std.specs.Prelude.{⊤}
 use Rattle.comp_worlds.specs.declared.lower.Lower as lower
 use Rattle.command_line.specs.Events.{happen, events_of_read, events_of_put, device_faults}
@@ -11,6 +11,7 @@ use Rattle.command_line.specs.declared.store.Event.{Event}
 use Rattle.command_line.specs.declared.store.Event.TheVariants.{Read, NotRead, Put, NotPut}
 use Rattle.command_line.specs.declared.store.StoreFault.{StoreFault}
 use Rattle.command_line.specs.declared.store.StoreFault.TheVariants as store_faults
+use Rattle.command_line.specs.declared.flags.Flags.{Flags}
 use Rattle.command_line.specs.declared.fault.RunFault.{RunFault}
 use Rattle.command_line.specs.declared.fault.RunFault.TheVariants as faults
 
@@ -25,19 +26,19 @@ module _ {L B F : Type 0} (l : lower.Ghosts L B F) where
   not_read layer names name store_faults.Memory r e h = ap (λ x. Err x) h
 
   pub not_put : (layer : L) (names : Arguments) (name to bytes component : List ℕ) (f : StoreFault) (r : RunFault F) → name ≡ names.main → to ≡ names.out →
-      IsMade l layer names.validate bytes component → r ≡ of_put names.out f → Made l layer names (Read name bytes ∷ events_of_put to component (Err f)) (Err r)
+      IsMade l layer names.flags bytes component → r ≡ of_put names.out f → Made l layer names (Read name bytes ∷ events_of_put to component (Err f)) (Err r)
   not_put layer names name to bytes component store_faults.Device r e k m h = (e, k, m, ap (λ x. Err x) h)
   not_put layer names name to bytes component store_faults.Memory r e k m h = (e, rw h (inl tt))
 
-  reported_refused : (layer : L) (validate : Bool) (bytes : List ℕ) (r : Result ⊤ (RunFault F)) → IsRefused l layer validate bytes r → 0 ≡ reported_faults r
-  reported_refused layer validate bytes (Ok x) h = absurd h
-  reported_refused layer validate bytes (Err faults.Usage) h = absurd h
-  reported_refused layer validate bytes (Err (faults.Read name)) h = absurd h
-  reported_refused layer validate bytes (Err (faults.Write name)) h = absurd h
-  reported_refused layer validate bytes (Err faults.Out) h = absurd h
-  reported_refused layer validate bytes (Err faults.Closed) h = absurd h
-  reported_refused layer validate bytes (Err (faults.Check f)) h = absurd h
-  reported_refused layer validate bytes (Err (faults.Encode f)) h = refl
+  reported_refused : (layer : L) (flags : Flags) (bytes : List ℕ) (r : Result ⊤ (RunFault F)) → IsRefused l layer flags bytes r → 0 ≡ reported_faults r
+  reported_refused layer flags bytes (Ok x) h = absurd h
+  reported_refused layer flags bytes (Err faults.Usage) h = absurd h
+  reported_refused layer flags bytes (Err (faults.Read name)) h = absurd h
+  reported_refused layer flags bytes (Err (faults.Write name)) h = absurd h
+  reported_refused layer flags bytes (Err faults.Out) h = absurd h
+  reported_refused layer flags bytes (Err faults.Closed) h = absurd h
+  reported_refused layer flags bytes (Err (faults.Check f)) h = absurd h
+  reported_refused layer flags bytes (Err (faults.Encode f)) h = refl
 
   -- each refusal of the device is reported
   pub reported_listed : (file : List ℕ) (es : List Event) (before after : Option (List ℕ)) (r : Result ⊤ (RunFault F)) → Listed file es before after r → device_faults es ≡ reported_faults r
@@ -63,7 +64,7 @@ module _ {L B F : Type 0} (l : lower.Ghosts L B F) where
   reported_made layer names [] r h = rw h refl
   reported_made layer names (NotRead name ∷ []) r h = rw h.1 refl
   reported_made layer names (NotRead name ∷ e ∷ es) r h = absurd h
-  reported_made layer names (Read name bytes ∷ []) r h = reported_refused layer names.validate bytes r h.1
+  reported_made layer names (Read name bytes ∷ []) r h = reported_refused layer names.flags bytes r h.1
   reported_made layer names (Read name bytes ∷ Put to component ∷ []) r h = rw h.3 refl
   reported_made layer names (Read name bytes ∷ Put to component ∷ e ∷ es) r h = absurd h
   reported_made layer names (Read name bytes ∷ NotPut to component ∷ []) r h = rw h.3 refl

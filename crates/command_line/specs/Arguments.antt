@@ -1,11 +1,13 @@
 -- What the program's arguments ask for. (The program's own: its command line.)
-use Rattle.std.specs.Prelude.{ℕ, Bool, true, false, List, [], ◌∷◌, ◌&&◌, codes, ⊤, Option, Some, None, if◌then◌else◌}
+use Rattle.std.specs.Prelude.{ℕ, Bool, true, false, List, [], ◌∷◌, codes, ⊤, Option, Some, None, option_map, if◌then◌else◌}
 use Rattle.std.specs.Str.{bytes_eq}
+use Rattle.command_line.specs.Flags.{flags_of}
 use Rattle.command_line.specs.declared.arguments.Request.{Request}
 use Rattle.command_line.specs.declared.arguments.Request.TheVariants as requests
+use Rattle.command_line.specs.declared.flags.Flags.{Flags}
 
-abbrev pub making : List ℕ → List ℕ → Bool → Request
-making out main validate = requests.New (record { out = out; main = main; validate = validate })
+abbrev pub making : List ℕ → List ℕ → Flags → Request
+making out main flags = requests.New (record { out = out; main = main; flags = flags })
 
 -- what one word asks for
 abbrev pub of_one_word : List ℕ → Option Request
@@ -16,12 +18,11 @@ of_one_word word =
     else (if bytes_eq word (codes "--version") then Some requests.Version else None)))
 
 -- what the words after the program's name ask for: help or the version; or `defs` with a file; or `new` with the component's
--- file and the module's, and then, or not, `--validate`
+-- file and the module's, and then flags
 abbrev pub request_of : List (List ℕ) → Option Request
 request_of (word ∷ []) = of_one_word word
 request_of (command ∷ file ∷ []) = if bytes_eq command (codes "defs") then Some (requests.Defs file) else None
-request_of (command ∷ out ∷ main ∷ []) = if bytes_eq command (codes "new") then Some (making out main false) else None
-request_of (command ∷ out ∷ main ∷ flag ∷ []) = if bytes_eq command (codes "new") && bytes_eq flag (codes "--validate") then Some (making out main true) else None
+request_of (command ∷ out ∷ main ∷ words) = if bytes_eq command (codes "new") then option_map (making out main) (flags_of words) else None
 request_of _ = None
 
 -- files are named, so that memory is needed for their names

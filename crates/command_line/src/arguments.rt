@@ -1,19 +1,20 @@
 //! What the program is asked for.
 
-ghost use Rattle.std.specs.Prelude.{◌≡◌, map, string_bytes, IfOk, IfErr};
+ghost use Rattle.std.specs.Prelude.{◌≡◌, map, string_bytes, option_map, IfOk, IfErr};
 ghost use Rattle.command_line.specs.Arguments.{NamesFiles, request_of, of_one_word, making, is_listing};
+ghost use Rattle.command_line.specs.Flags.{flags_of};
 ghost use Rattle.command_line.specs.declared.arguments.Request.TheVariants as requests;
 
+use crate::flags::Flags;
 use comp_lists::Text;
 use std::alloc::{AllocError, Global};
 
-/// The names of the files of a run of `new`: the file for the component, and the module's; and
-/// whether the component is checked.
+/// The names of the files of a run of `new`: the file for the component, and the module's; and the flags.
 #[derive(Drop)]
 pub(crate) struct Arguments {
     pub out: Text,
     pub main: Text,
-    pub validate: bool,
+    pub flags: Flags,
 }
 
 /// What a run is asked for.
@@ -30,16 +31,28 @@ pub(crate) enum Request {
 }
 
 impl Request {
-    fn making(alloc: Global, out: &str, main: &str, validate: bool) -> Result<Request, AllocError>
-        ensures { IfOk result (λ r. r ≡ making out.now main.now validate) }
+    fn making(alloc: Global, out: &str, main: &str, flags: Flags) -> Result<Request, AllocError>
+        ensures { IfOk result (λ r. r ≡ making out.now main.now flags) }
     {
         let out = Text::from_str(alloc, out)?;
         let main = Text::from_str(alloc, main)?;
-        Ok(Request::New(Arguments {
-            out,
-            main,
-            validate,
-        }))
+        Ok(Request::New(Arguments { out, main, flags }))
+    }
+
+    /// What `new` asks for, with these words after the files.
+    fn of_new(
+        alloc: Global,
+        out: &str,
+        main: &str,
+        words: &[String],
+    ) -> Result<Option<Request>, AllocError>
+        ensures ok { IfOk result (λ r. r ≡ option_map (making out.now main.now) (flags_of (map string_bytes words.now))) }
+        ensures err { IfErr result (λ _. NamesFiles (option_map (making out.now main.now) (flags_of (map string_bytes words.now)))) }
+    {
+        match Flags::read(words) {
+            Some(flags) => Ok(Some(Request::making(alloc, out, main, flags)?)),
+            None => Ok(None),
+        }
     }
 
     fn listing(alloc: Global, file: &str) -> Result<Request, AllocError>
@@ -71,12 +84,8 @@ impl Request {
             [command, file] if command.as_str() == "defs" => {
                 Ok(Some(Request::listing(alloc, file.as_str())?))
             }
-            [command, out, main] if command.as_str() == "new" => {
-                Ok(Some(Request::making(alloc, out, main, false)?))
-            }
-            [command, out, main, flag]
-                if command.as_str() == "new" && flag.as_str() == "--validate" => {
-                Ok(Some(Request::making(alloc, out, main, true)?))
+            [command, out, main, flags @ ..] if command.as_str() == "new" => {
+                Request::of_new(alloc, out, main, flags)
             }
             _ => Ok(None),
         }

@@ -9,23 +9,26 @@ ghost use Rattle.command_line.specs.Making.{IsMade, IsMakeRefusal, Made};
 
 use crate::arguments::Arguments;
 use crate::fault::{RunFault, put_fault, read_fault};
+use crate::flags::Flags;
 use crate::store::Store;
 use comp_encoder::{ComponentEncoder, EncodeFault};
 use comp_worlds::Lower;
 use std::alloc::Global;
 
-/// The component of a module, checked or not, by an encoder that is given nothing else.
+/// The component of a module, as the flags ask for it, by an encoder that is given nothing else.
 fn component_of<L: Lower + Drop>(
     alloc: Global,
     lower: L,
-    validate: bool,
+    flags: Flags,
     bytes: &[u8],
 ) -> Result<Vec<u8>, EncodeFault<L::Fault>>
-    ensures ok { IfOk result (λ component. IsMade L.Lower lower validate bytes.now component.items) }
-    ensures cause { IfErr result (IsMakeRefusal L.Lower lower validate bytes.now) }
+    ensures ok { IfOk result (λ component. IsMade L.Lower lower flags bytes.now component.items) }
+    ensures cause { IfErr result (IsMakeRefusal L.Lower lower flags bytes.now) }
 {
     let mut encoder = ComponentEncoder::new(alloc, lower);
-    encoder.validate(validate);
+    encoder.validate(flags.validate);
+    encoder.merge_imports_based_on_semver(!flags.no_merge);
+    encoder.emit_canonical_names(flags.canonical);
     encoder.add_module(bytes)?;
     encoder.encode()
 }
@@ -40,16 +43,12 @@ pub(crate) fn make<L: Lower + Drop, S: Store>(
     ensures made { (es : List Event) × (S.events store.new ≡ happen (S.events store.old) es) × Made L.Lower lower arguments es result }
     ensures files { IfErr result (λ _. Known Kept (S.files store.old) (S.files store.new)) }
 {
-    let Arguments {
-        out,
-        main,
-        validate,
-    } = arguments;
+    let Arguments { out, main, flags } = arguments;
     let bytes = match store.read(alloc, main.as_str()) {
         Ok(bytes) => bytes,
         Err(fault) => return Err(read_fault(false, fault, main)),
     };
-    let component = match component_of(alloc, lower, validate, &bytes) {
+    let component = match component_of(alloc, lower, flags, &bytes) {
         Ok(component) => component,
         Err(fault) => return Err(RunFault::Encode(fault)),
     };

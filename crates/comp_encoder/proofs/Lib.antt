@@ -1,3 +1,4 @@
 mod Refused
 mod Naming
 mod Answered
+mod MeetingNames

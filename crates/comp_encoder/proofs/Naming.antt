@@ -1,6 +1,6 @@
 -- The names in a component that was built for a world: those of its imports and exports are the stated ones, those of its
 -- types of instances are as the world says, and all other names are distinct in their lists.
-use Rattle.comp_links.specs.Naming.{own_names}
+use Rattle.comp_links.specs.Naming.{Naming}
 use Rattle.std.proofs.Common.{◌≡◌, ℕ, zero, suc, Some, Bool, IsTrue, List, [], ◌∷◌, ◌++◌, refl, sym, ap₂, subst, map, arith}
 use Rattle.std.specs.Prelude.{Contains}
 use Rattle.std.specs.List.{AllByRecursion, AllZip, IsDistinct, flat_map}
@@ -172,42 +172,42 @@ IsIn lists name = (list : Names) × Contains lists list × Contains list name
 each_in : (lists : List Names) → AllByRecursion (AllByRecursion (IsIn lists)) lists
 each_in lists = AllByRecursion-weaker (λ list c. AllByRecursion-weaker (λ name k. (list, c, k)) list (each_contained list)) lists (each_contained lists)
 
-module _ (w : ComponentWorld) (ds : List Def) (valid : IsWorld w) (built : IsBuilt own_names w ds) (g : GeneratedModules) (composed : IsComposed own_names w g ds) where
-  lists_are : extern_lists ds ≡ name_lists w
+module _ (n : Naming) (w : ComponentWorld) (ds : List Def) (valid : IsWorld w) (built : IsBuilt n w ds) (g : GeneratedModules) (composed : IsComposed n w g ds) where
+  lists_are : extern_lists ds ≡ name_lists n w
   lists_are =
-      rw (import_names_of ds, export_names_of ds, composed.imports, composed.exports, root_type_names own_names w ds built) refl
+      rw (import_names_of ds, export_names_of ds, composed.imports, composed.exports, root_type_names n w ds built) refl
 
   -- a name that occurs twice in a list of names does so in one of these lists
-  twice_stated : (name : List ℕ) (list : Names) → Contains (names ds) list → OccursTwice name list → IsNameCause w (checks.NameTwice name)
+  twice_stated : (name : List ℕ) (list : Names) → Contains (names ds) list → OccursTwice name list → IsNameCause n w (checks.NameTwice name)
   twice_stated name list there twice =
-      let P : Names → Type 0 = λ l. OccursTwice name l → IsNameCause w (checks.NameTwice name) in
-      let stated : AllByRecursion P (extern_lists ds) = subst (AllByRecursion P) (sym lists_are) (AllByRecursion-weaker {Q = P} (λ l c t. (l, c, t)) (name_lists w) (each_contained (name_lists w))) in
+      let P : Names → Type 0 = λ l. OccursTwice name l → IsNameCause n w (checks.NameTwice name) in
+      let stated : AllByRecursion P (extern_lists ds) = subst (AllByRecursion P) (sym lists_are) (AllByRecursion-weaker {Q = P} (λ l c t. (l, c, t)) (name_lists n w) (each_contained (name_lists n w))) in
       let others : AllByRecursion P (flat_map def_names ds) = each_list w valid P (λ l apart t. absurd (never_twice name l apart t)) [] ds built.right stated.1.1 in
       AllByRecursion-contains P (names ds) list (stated.0, (stated.1.0, others)) there twice
 
   -- each name of an import or export is in one of them
-  extern_stated : (name : List ℕ) → Contains (extern_names ds) name → IsIn (name_lists w) name
+  extern_stated : (name : List ℕ) → Contains (extern_names ds) name → IsIn (name_lists n w) name
   extern_stated name c =
-      let P : List ℕ → Type 0 = IsIn (name_lists w) in
-      AllByRecursion-contains P (extern_names ds) name (all_externs w P [] ds built.right (subst (AllByRecursion (AllByRecursion P)) (sym lists_are) (each_in (name_lists w)))) c
+      let P : List ℕ → Type 0 = IsIn (name_lists n w) in
+      AllByRecursion-contains P (extern_names ds) name (all_externs w P [] ds built.right (subst (AllByRecursion (AllByRecursion P)) (sym lists_are) (each_in (name_lists n w)))) c
 
   -- a refusal by the check has its cause
-  pub check_refusal : Scoped ds → (validate : Bool) (fault : CheckFault) → IsTrue validate × IsUnchecked ds fault → IsOutputRefusal w validate (outputs.Check fault)
+  pub check_refusal : Scoped ds → (validate : Bool) (fault : CheckFault) → IsTrue validate × IsUnchecked ds fault → IsOutputRefusal n w validate (outputs.Check fault)
   check_refusal scoped validate checks.Memory h = tt
   check_refusal scoped validate (checks.Grammar place) h = absurd h.1
   check_refusal scoped validate (checks.Index definition space index) h = absurd (fault_no ds definition space index h.1 scoped)
   check_refusal scoped validate (checks.NameTwice name) h = (h.0, twice_stated name h.1.0 h.1.1 h.1.2)
-  check_refusal scoped validate (checks.NameForm name) h = let there : IsIn (name_lists w) name = extern_stated name h.1.0 in (h.0, (there.0, there.1, there.2, h.1.1))
+  check_refusal scoped validate (checks.NameForm name) h = let there : IsIn (name_lists n w) name = extern_stated name h.1.0 in (h.0, (there.0, there.1, there.2, h.1.1))
 
   -- where the names of what was built are right, so are those of these lists
-  pub no_name_cause : NamesOk ds → (fault : CheckFault) → IsNameCause w fault → ⊥
+  pub no_name_cause : NamesOk ds → (fault : CheckFault) → IsNameCause n w fault → ⊥
   no_name_cause ok checks.Memory h = h
   no_name_cause ok (checks.Grammar place) h = h
   no_name_cause ok (checks.Index definition space index) h = h
   no_name_cause ok (checks.NameTwice name) h =
       let P : Names → Type 0 = IsDistinct bytes_eq in
-      let apart : AllByRecursion P (name_lists w) = subst (AllByRecursion P) lists_are (ok.0.0, (ok.0.1.0, each_type_list P ds ok.0.1.1)) in
-      never_twice name h.0 (AllByRecursion-contains P (name_lists w) h.0 apart h.1) h.2
+      let apart : AllByRecursion P (name_lists n w) = subst (AllByRecursion P) lists_are (ok.0.0, (ok.0.1.0, each_type_list P ds ok.0.1.1)) in
+      never_twice name h.0 (AllByRecursion-contains P (name_lists n w) h.0 apart h.1) h.2
   no_name_cause ok (checks.NameForm name) h =
-      let formed : AllByRecursion (AllByRecursion IsFormed) (name_lists w) = subst (AllByRecursion (AllByRecursion IsFormed)) lists_are (each_extern_list w IsFormed ds ok.1) in
-      h.3 (AllByRecursion-contains IsFormed h.0 name (AllByRecursion-contains (AllByRecursion IsFormed) (name_lists w) h.0 formed h.1) h.2)
+      let formed : AllByRecursion (AllByRecursion IsFormed) (name_lists n w) = subst (AllByRecursion (AllByRecursion IsFormed)) lists_are (each_extern_list w IsFormed ds ok.1) in
+      h.3 (AllByRecursion-contains IsFormed h.0 name (AllByRecursion-contains (AllByRecursion IsFormed) (name_lists n w) h.0 formed h.1) h.2)

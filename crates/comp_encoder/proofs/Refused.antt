@@ -4,10 +4,11 @@ use Rattle.std.specs.Prelude.{IfErr}
 use Rattle.std.specs.Result.{IsErrAnd}
 use Rattle.comp_worlds.specs.declared.world.ComponentWorld.{ComponentWorld}
 use Rattle.comp_worlds.specs.declared.lower.Lower as lower
-use Rattle.comp_encoder.specs.Encoder.{Encoder}
+use Rattle.comp_encoder.specs.Encoder.{Encoder, naming}
 use Rattle.comp_encoder.specs.Prepared.{IsWorldOf}
 use Rattle.comp_state.specs.Causes.{IsCause, LacksEncoding}
 use Rattle.comp_check.specs.declared.fault.CheckFault.TheVariants as checks
+use Rattle.comp_encoder.specs.CanonicalNames.{IsShared}
 use Rattle.comp_encoder.specs.Outputs.{IsNameCause, IsOutputRefusal, NoOutputCause}
 use Rattle.comp_encoder.specs.declared.output.OutputFault.{OutputFault}
 use Rattle.comp_encoder.specs.declared.output.OutputFault.TheVariants as outputs
@@ -21,16 +22,17 @@ module _ {L B F : Type 0} (l : lower.Ghosts L B F) where
   from_state e w (state.NoEncoding place) is h = subst (λ x. LacksEncoding x place) is.prepared h
   from_state e w (state.TooMany excess) is h = h
 
-  pub from_output : (e : Encoder L B) (w : ComponentWorld) (o : OutputFault) → IsWorldOf l e w → IsOutputRefusal w e.gathered.options.validate o → IsEncodeRefusal l e (of_output o)
+  pub from_output : (e : Encoder L B) (w : ComponentWorld) (o : OutputFault) → IsWorldOf l e w → IsOutputRefusal (naming e) w e.gathered.options.validate o → IsEncodeRefusal l e (of_output o)
+  from_output e w (outputs.Names s) is h = (h.0, subst (λ x. IsShared x.resolve x.world s.first s.second s.name) is.prepared h.1)
   from_output e w (outputs.State fault) is h = from_state e w fault is h
   from_output e w (outputs.Check checks.Memory) is h = tt
   from_output e w (outputs.Check (checks.Grammar place)) is h = absurd h.1
   from_output e w (outputs.Check (checks.Index definition space index)) is h = absurd h.1
-  from_output e w (outputs.Check (checks.NameTwice name)) is h = (h.0, subst (λ x. IsNameCause x (checks.NameTwice name)) is.prepared h.1)
-  from_output e w (outputs.Check (checks.NameForm name)) is h = (h.0, subst (λ x. IsNameCause x (checks.NameForm name)) is.prepared h.1)
+  from_output e w (outputs.Check (checks.NameTwice name)) is h = (h.0, subst (λ x. IsNameCause (naming e) x (checks.NameTwice name)) is.prepared h.1)
+  from_output e w (outputs.Check (checks.NameForm name)) is h = (h.0, subst (λ x. IsNameCause (naming e) x (checks.NameForm name)) is.prepared h.1)
 
-  pub no_cause_holds : (e : Encoder L B) (w : ComponentWorld) → IsWorldOf l e w → NoWorldCause l e → NoOutputCause w e.gathered.options.validate → NoEncodeCause l e
-  no_cause_holds e w is none output = record { world = none; output = subst (λ x. NoOutputCause x e.gathered.options.validate) is.prepared output }
+  pub no_cause_holds : (e : Encoder L B) (w : ComponentWorld) → IsWorldOf l e w → NoWorldCause l e → NoOutputCause (naming e) w e.gathered.options.validate → NoEncodeCause l e
+  no_cause_holds e w is none output = record { world = none; output = subst (λ x. NoOutputCause (naming e) x e.gathered.options.validate) is.prepared output }
 
 pub refused_as : {X E : Type 0} (r : Result X E) (e : E) (P : E → Type 0) → IsErrAnd r (λ x. x ≡ e) → P e → IfErr r P
 refused_as (Ok x) e P h k = absurd h

@@ -27,7 +27,7 @@ required_of (Some part) = part.required
 module _ {L B F : Type 0} (l : lower.Ghosts L B F) where
   -- an encoder without a module
   abbrev pub fresh : L → Encoder L B
-  fresh layer = record { lower = layer; gathered = record { main = None; adapters = []; combined = l.empty_is layer; options = default_options } }
+  fresh layer = record { lower = layer; gathered = record { main = None; adapters = []; combined = l.empty_is layer; options = default_options }; renamed = [] }
 
   -- The state after an accepted module: it is main, its keys are required together with those of the modules that
   -- were accepted before it, and its metadata is merged with theirs.
@@ -53,3 +53,11 @@ module _ {L B F : Type 0} (l : lower.Ghosts L B F) where
   -- the encoder with the rejection of names in an older mangling on or off
   abbrev pub rejecting_legacy_names : Encoder L B → Bool → Encoder L B
   rejecting_legacy_names e on = record e { gathered = record e.gathered { options = record e.gathered.options { reject_legacy_names = on } } }
+
+  -- the encoder with canonical names on or off
+  abbrev pub emitting_canonical_names : Encoder L B → Bool → Encoder L B
+  emitting_canonical_names e on = record e { gathered = record e.gathered { options = record e.gathered.options { emit_canonical_names = on } } }
+
+  -- the encoder with these names for imported interfaces in place of others
+  abbrev pub renaming_imports : Encoder L B → List (List ℕ × List ℕ) → Encoder L B
+  renaming_imports e names = record e { renamed = names }

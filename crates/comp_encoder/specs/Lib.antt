@@ -1,4 +1,6 @@
 pub mod Encoder
+pub mod CanonicalNames
+pub mod NamesMet
 pub mod Prepared
 pub mod Calls
 pub mod Component

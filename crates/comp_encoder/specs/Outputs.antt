@@ -1,7 +1,8 @@
--- When no component of a world is returned. The form of names is the component model's (explainer: import and
--- export definitions); the string encoding that a function needs is the Canonical ABI's `string-encoding`.
-use Rattle.comp_links.specs.Naming.{own_names}
-use Rattle.std.specs.Prelude.{ℕ, Bool, List, ◌∷◌, map, ⊤, IsTrue, Contains}
+-- When no component of a world is returned. Canonical names and the form of names are the component model's (explainer:
+-- `canonversion`, import and export definitions); the string encoding that a function needs is the Canonical ABI's
+-- `string-encoding`.
+use Rattle.comp_links.specs.Naming.{Naming}
+use Rattle.std.specs.Prelude.{◌≡◌, ℕ, Bool, List, ◌∷◌, map, ⊤, IsTrue, Contains}
 use Rattle.comp_bytes.specs.ScopeNames.{Names}
 use Rattle.comp_check.specs.declared.fault.CheckFault.{CheckFault}
 use Rattle.comp_check.specs.declared.fault.CheckFault.TheVariants as checks
@@ -9,7 +10,9 @@ use Rattle.comp_names.specs.NameForm.{IsFormed}
 use Rattle.comp_names.specs.Names.{OccursTwice}
 use Rattle.comp_worlds.specs.declared.world.ComponentWorld.{ComponentWorld}
 use Rattle.comp_state.specs.Causes.{IsCause, LacksEncoding}
+use Rattle.comp_state.specs.declared.fault.StateFault.TheVariants as states
 use Rattle.comp_links.specs.Lists.{Stated, stated_imports, stated_exports, instance_type_names}
+use Rattle.comp_encoder.specs.CanonicalNames.{IsShared}
 use Rattle.comp_encoder.specs.declared.output.OutputFault.{OutputFault}
 use Rattle.comp_encoder.specs.declared.output.OutputFault.TheVariants as outputs
 
@@ -17,30 +20,42 @@ use Rattle.comp_encoder.specs.declared.output.OutputFault.TheVariants as outputs
 abbrev pub stated_names : List Stated → Names
 stated_names stated = map (λ (s : Stated). s.name.name) stated
 
-abbrev pub import_names : ComponentWorld → Names
-import_names w = stated_names (stated_imports own_names w)
+abbrev pub import_names : Naming → ComponentWorld → Names
+import_names n w = stated_names (stated_imports n w)
 
-abbrev pub export_names : ComponentWorld → Names
-export_names w = stated_names (stated_exports own_names w)
+abbrev pub export_names : Naming → ComponentWorld → Names
+export_names n w = stated_names (stated_exports n w)
 
 -- the lists of names of imports and exports that the component has: of its imports, of its exports, and of what each type of
 -- instances exports
-abbrev pub name_lists : ComponentWorld → List Names
-name_lists w = import_names w ∷ export_names w ∷ instance_type_names w
+abbrev pub name_lists : Naming → ComponentWorld → List Names
+name_lists n w = import_names n w ∷ export_names n w ∷ instance_type_names w
 
 -- what is wrong with them: a name occurs twice in its list, or is not well formed
-abbrev pub IsNameCause : ComponentWorld → CheckFault → Type 0
-IsNameCause w (checks.NameTwice name) = (list : Names) × Contains (name_lists w) list × OccursTwice name list
-IsNameCause w (checks.NameForm name) = (list : Names) × Contains (name_lists w) list × Contains list name × (IsFormed name → ⊥)
-IsNameCause w _ = ⊥
+abbrev pub IsNameCause : Naming → ComponentWorld → CheckFault → Type 0
+IsNameCause n w (checks.NameTwice name) = (list : Names) × Contains (name_lists n w) list × OccursTwice name list
+IsNameCause n w (checks.NameForm name) = (list : Names) × Contains (name_lists n w) list × Contains list name × (IsFormed name → ⊥)
+IsNameCause n w _ = ⊥
+
+-- no two imports, and no two exports, have one canonical name, where canonical names are on
+abbrev pub NoSharedName : Bool → ComponentWorld → Type 0
+NoSharedName canonical w = IsTrue canonical → (first second name : List ℕ) → IsShared w.resolve w.world first second name → ⊥
+
+-- a refusal is out of memory, or for two that have
+abbrev pub IsNamesRefusal : Bool → ComponentWorld → OutputFault → Type 0
+IsNamesRefusal canonical w (outputs.Names s) = IsTrue canonical × IsShared w.resolve w.world s.first s.second s.name
+IsNamesRefusal canonical w (outputs.State fault) = fault ≡ states.Memory
+IsNamesRefusal canonical w (outputs.Check fault) = ⊥
 
 -- a refusal is out of memory, or has its cause; names are checked where `validate` is on
-abbrev pub IsOutputRefusal : ComponentWorld → Bool → OutputFault → Type 0
-IsOutputRefusal w validate (outputs.State fault) = IsCause w fault
-IsOutputRefusal w validate (outputs.Check checks.Memory) = ⊤
-IsOutputRefusal w validate (outputs.Check fault) = IsTrue validate × IsNameCause w fault
+abbrev pub IsOutputRefusal : Naming → ComponentWorld → Bool → OutputFault → Type 0
+IsOutputRefusal n w validate (outputs.Names s) = IsTrue n.canonical × IsShared w.resolve w.world s.first s.second s.name
+IsOutputRefusal n w validate (outputs.State fault) = IsCause w fault
+IsOutputRefusal n w validate (outputs.Check checks.Memory) = ⊤
+IsOutputRefusal n w validate (outputs.Check fault) = IsTrue validate × IsNameCause n w fault
 
 -- no cause of a refusal holds, apart from memory and sizes
-pub record NoOutputCause (w : ComponentWorld) (validate : Bool) : Type 0 where
+pub record NoOutputCause (n : Naming) (w : ComponentWorld) (validate : Bool) : Type 0 where
+  pub canonical : NoSharedName n.canonical w
   pub encodings : (place : List ℕ) → LacksEncoding w place → ⊥
-  pub names : IsTrue validate → (fault : CheckFault) → IsNameCause w fault → ⊥
+  pub names : IsTrue validate → (fault : CheckFault) → IsNameCause n w fault → ⊥

@@ -1,17 +1,25 @@
 -- When the encoder's calls refuse. The rules are this project's own; the string encoding that a
 -- function needs is the Canonical ABI's `string-encoding`.
 use Rattle.std.specs.Prelude.{◌≡◌, ◌≢◌, ◌≤◌, ◌^◌, ℕ, List, [], ⊤, false, ◌⊎◌, IsTrue}
+use Rattle.wit_data.specs.declared.ids.WorldId.{WorldId}
+use Rattle.wit_data.specs.declared.resolve.Resolve.{Resolve}
 use Rattle.comp_worlds.specs.declared.lower.Lower as lower
-use Rattle.comp_encoder.specs.Encoder.{Encoder, main_bytes}
+use Rattle.comp_encoder.specs.Encoder.{Encoder, main_bytes, naming}
 use Rattle.comp_state.specs.Causes.{LacksEncoding}
 use Rattle.comp_check.specs.declared.fault.CheckFault.TheVariants as checks
+use Rattle.comp_encoder.specs.CanonicalNames.{IsShared}
 use Rattle.comp_encoder.specs.Outputs.{IsNameCause, NoOutputCause}
+use Rattle.comp_encoder.specs.declared.canonical_names.SharedName.{SharedName}
 use Rattle.comp_encoder.specs.declared.output.OutputFault.{OutputFault}
 use Rattle.comp_encoder.specs.declared.output.OutputFault.TheVariants as outputs
 use Rattle.comp_state.specs.declared.fault.StateFault.{StateFault}
 use Rattle.comp_state.specs.declared.fault.StateFault.TheVariants as state
 use Rattle.comp_encoder.specs.declared.fault.EncodeFault.{EncodeFault}
-use Rattle.comp_encoder.specs.declared.fault.EncodeFault.TheVariants.{Memory, NoModule, Lower, NoEncoding, Output, TooMany}
+use Rattle.comp_encoder.specs.declared.fault.EncodeFault.TheVariants.{Memory, NoModule, Lower, CanonicalNames, NoEncoding, Output, TooMany}
+
+-- a canonical name that is shared as a fault of the encoder
+abbrev pub of_shared : {F : Type 0} → SharedName → EncodeFault F
+of_shared s = CanonicalNames s.first s.second s.name
 
 -- a fault of the encoding state as one of the encoder
 abbrev pub of_state : {F : Type 0} → StateFault → EncodeFault F
@@ -21,9 +29,16 @@ of_state (state.TooMany excess) = TooMany excess
 
 -- a fault of the output as one of the encoder
 abbrev pub of_output : {F : Type 0} → OutputFault → EncodeFault F
+of_output (outputs.Names s) = of_shared s
 of_output (outputs.State fault) = of_state fault
 of_output (outputs.Check checks.Memory) = Memory
 of_output (outputs.Check fault) = Output fault
+
+-- a refusal of canonical names is out of memory, or for two imports, or two exports, that have one
+abbrev pub IsCanonicalRefusal : {F : Type 0} → Resolve → WorldId → EncodeFault F → Type 0
+IsCanonicalRefusal r world Memory = ⊤
+IsCanonicalRefusal r world (CanonicalNames first second name) = IsShared r world first second name
+IsCanonicalRefusal r world fault = ⊥
 
 module _ {L B F : Type 0} (l : lower.Ghosts L B F) where
   -- why the lower layer refuses a module: for its bytes, or for its metadata together with the earlier modules'
@@ -35,6 +50,7 @@ module _ {L B F : Type 0} (l : lower.Ghosts L B F) where
   IsModuleRefusal e bytes Memory = ⊤
   IsModuleRefusal e bytes (Lower f) = (l.memory_fault e.lower f ≡ false) × ModuleCause e bytes f
   IsModuleRefusal e bytes NoModule = ⊥
+  IsModuleRefusal e bytes (CanonicalNames first second name) = ⊥
   IsModuleRefusal e bytes (NoEncoding place) = ⊥
   IsModuleRefusal e bytes (Output fault) = ⊥
   IsModuleRefusal e bytes (TooMany excess) = ⊥
@@ -44,8 +60,10 @@ module _ {L B F : Type 0} (l : lower.Ghosts L B F) where
   IsEncodeRefusal e Memory = ⊤
   IsEncodeRefusal e NoModule = main_bytes e.gathered.main ≡ []
   IsEncodeRefusal e (Lower f) = (l.memory_fault e.lower f ≡ false) × l.prepare_cause e.lower e.gathered f
+  IsEncodeRefusal e (CanonicalNames first second name) =
+      let w = l.prepared e.lower e.gathered in IsTrue e.gathered.options.emit_canonical_names × IsShared w.resolve w.world first second name
   IsEncodeRefusal e (NoEncoding place) = LacksEncoding (l.prepared e.lower e.gathered) place
-  IsEncodeRefusal e (Output fault) = IsTrue e.gathered.options.validate × IsNameCause (l.prepared e.lower e.gathered) fault
+  IsEncodeRefusal e (Output fault) = IsTrue e.gathered.options.validate × IsNameCause (naming e) (l.prepared e.lower e.gathered) fault
   IsEncodeRefusal e (TooMany excess) = 2 ^ 32 ≤ excess
 
   -- no cause of a refusal holds for the world of what was gathered
@@ -56,4 +74,4 @@ module _ {L B F : Type 0} (l : lower.Ghosts L B F) where
   -- no cause of a refusal of `encode` holds, apart from memory
   pub record NoEncodeCause (e : Encoder L B) : Type 0 where
     pub world : NoWorldCause e
-    pub output : NoOutputCause (l.prepared e.lower e.gathered) e.gathered.options.validate
+    pub output : NoOutputCause (naming e) (l.prepared e.lower e.gathered) e.gathered.options.validate

@@ -1,9 +1,9 @@
 //! The encoder's calls.
 
 ghost use Rattle.std.specs.Prelude.{◌≡◌, ◌++◌, IfOk, IfErr, OnOk, OnErr, IsOk, if◌then◌else◌, ◌≢◌, [], MatchBool};
-ghost use Rattle.comp_encoder.specs.Encoder.{main_bytes};
+ghost use Rattle.comp_encoder.specs.Encoder.{main_bytes, naming};
 ghost use Rattle.comp_encoder.specs.Prepared.{IsWorldOf};
-ghost use Rattle.comp_encoder.specs.Calls.{fresh, validating, merging_versions, rejecting_legacy_names, after_module};
+ghost use Rattle.comp_encoder.specs.Calls.{fresh, validating, merging_versions, emitting_canonical_names, renaming_imports, rejecting_legacy_names, after_module};
 ghost use Rattle.comp_encoder.specs.Refusals.{ModuleCause, IsModuleRefusal, NoWorldCause, NoEncodeCause, IsEncodeRefusal};
 ghost use Rattle.comp_worlds.specs.Encodable.{IsEncodable};
 ghost use Rattle.comp_encoder.specs.Component.{IsComponentOf, IsEncoding};
@@ -11,7 +11,8 @@ ghost use Rattle.comp_encoder.specs.Outputs.{NoOutputCause, IsOutputRefusal};
 
 use crate::fault::EncodeFault;
 use crate::output::{OutputFault, component_bytes};
-use comp_lists::Keyed;
+use comp_imports::ImportNames;
+use comp_lists::{Keyed, Text};
 use comp_worlds::{ComponentWorld, Lower};
 use std::alloc::Global;
 use std::marker::Model;
@@ -25,6 +26,8 @@ pub struct ComponentEncoder<L: Lower> {
     alloc: Global,
     lower: L,
     gathered: Gathered<L::Bindgen>,
+    /// Other names for imported interfaces, by their names with the whole version.
+    renamed: Keyed<Text, Text>,
 }
 
 impl<L: Lower + Drop> Drop for ComponentEncoder<L> {
@@ -33,6 +36,7 @@ impl<L: Lower + Drop> Drop for ComponentEncoder<L> {
             alloc: _,
             lower: _,
             gathered: _,
+            renamed: _,
         } = self;
     }
 }
@@ -42,7 +46,7 @@ impl<L: Lower> Model for ComponentEncoder<L> {
 
     ghost Value = { Encoder L L.Bindgen };
 
-    ghost view = { λ e. record { lower = e.lower; gathered = e.gathered } };
+    ghost view = { λ e. record { lower = e.lower; gathered = e.gathered; renamed = e.renamed } };
 }
 
 /// A fault of the lower layer as one of the encoder: out of memory is reported as `Memory`.
@@ -79,6 +83,7 @@ impl<L: Lower> ComponentEncoder<L> {
                     realloc_via_memory_grow: false,
                 },
             },
+            renamed: Keyed::new(alloc),
         }
     }
 
@@ -99,6 +104,27 @@ impl<L: Lower> ComponentEncoder<L> {
         ensures set { result.now ≡ merging_versions L.Lower self.old on }
     {
         self.gathered.options.merge_imports_based_on_semver = on;
+        self
+    }
+
+    /// Whether names of interfaces have the part of their version alone that compatible versions share, with the rest as
+    /// a version suffix. It is off at first.
+    pub fn emit_canonical_names(&mut self, on: bool) -> &mut Self
+        ensures same_reference { result.ghost_name ≡ self.entry.ghost_name }
+        ensures set { result.now ≡ emitting_canonical_names L.Lower self.old on }
+    {
+        self.gathered.options.emit_canonical_names = on;
+        self
+    }
+
+    /// Gives imported interfaces other names. An interface whose name with its whole version is a key of the table is imported
+    /// under the name that is there, without a version suffix, also where canonical names are on. Neither types nor functions
+    /// at the root nor exports are renamed. At first the table is empty.
+    pub fn import_name_map(&mut self, names: Keyed<Text, Text>) -> &mut Self
+        ensures same_reference { result.ghost_name ≡ self.entry.ghost_name }
+        ensures set { result.now ≡ renaming_imports L.Lower self.old names }
+    {
+        self.renamed = names;
         self
     }
 
@@ -189,19 +215,23 @@ impl<L: Lower> ComponentEncoder<L> {
     /// The component of the world, checked where `validate` is on.
     fn output(&self, world: &ComponentWorld) -> Result<Vec<u8>, OutputFault>
         requires { IsEncodable world.now }
-        ensures ok { IfOk result (λ bytes. IsComponentOf world.now self.now.gathered.options.validate bytes.items) }
-        ensures refused { IsOk result → NoOutputCause world.now self.now.gathered.options.validate }
-        ensures cause { IfErr result (IsOutputRefusal world.now self.now.gathered.options.validate) }
+        ensures ok { IfOk result (λ bytes. IsComponentOf (naming self.now) world.now self.now.gathered.options.validate bytes.items) }
+        ensures refused { IsOk result → NoOutputCause (naming self.now) world.now self.now.gathered.options.validate }
+        ensures cause { IfErr result (IsOutputRefusal (naming self.now) world.now self.now.gathered.options.validate) }
     {
-        component_bytes(self.alloc, world, self.gathered.options.validate)
+        let names = ImportNames {
+            canonical: self.gathered.options.emit_canonical_names,
+            renamed: &self.renamed,
+        };
+        component_bytes(self.alloc, world, names, self.gathered.options.validate)
     }
 
     /// The component of what was gathered, in the component model's binary format.
     ///
     /// It refuses when out of memory, where there is no main module or its bytes are empty, where
-    /// the lower layer can't prepare the world, where the world has no string encoding for a
-    /// function, where a count or a size passes 2^32 - 1, and, with `validate` on, where a name of an
-    /// import or an export occurs twice or is not well formed.
+    /// the lower layer can't prepare the world, with canonical names on where two imports or two exports have
+    /// one canonical name, where the world has no string encoding for a function, where a count or a size passes
+    /// 2^32 - 1, and, with `validate` on, where a name of an import or an export occurs twice or is not well formed.
     pub fn encode(&self) -> Result<Vec<u8>, EncodeFault<L::Fault>>
         ensures ok { IfOk result (λ bytes. IsEncoding L.Lower self.now bytes.items) }
         ensures refused { IsOk result → NoEncodeCause L.Lower self.now }

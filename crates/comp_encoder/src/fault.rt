@@ -3,6 +3,7 @@
 ghost use Rattle.std.specs.Prelude.{◌≡◌};
 ghost use Rattle.comp_encoder.specs.declared.fault.EncodeFault.TheVariants.{Memory};
 
+use crate::canonical_names::SharedName;
 use crate::output::OutputFault;
 use byte_encoding::Excess;
 use comp_check::CheckFault;
@@ -26,17 +27,29 @@ pub enum EncodeFault<F> {
     /// earlier modules', or of all that was gathered.
     #[error("E3 Lower: {0}")]
     Lower(F),
+    /// Canonical names are on, and two imports, or two exports, both keyed by an interface, have one canonical name: `name`.
+    /// `first` and `second` are their names with the whole version.
+    #[error("E5 CanonicalNames first={first} second={second} name={name}")]
+    CanonicalNames {
+        first: Text,
+        second: Text,
+        name: Text,
+    },
     /// The world has no string encoding for a function. `place` is `module::field` for a core
     /// import, and the function's name for an export (Canonical ABI, `string-encoding`).
     #[error("E9 NoEncoding place={place}")]
-    NoEncoding { place: Text },
+    NoEncoding {
+        place: Text,
+    },
     /// `validate` is on, and a name of an import or an export occurs twice, or is not well formed. The fault
     /// is that of `comp_check`, and reports the name.
     #[error("E15 Output: {0}")]
     Output(CheckFault),
     /// A count, or the size of a section, a module or a component, would pass 2^32 - 1.
     #[error("E16 TooMany excess={excess}")]
-    TooMany { excess: Excess },
+    TooMany {
+        excess: Excess,
+    },
 }
 
 impl<F> From<AllocError> for EncodeFault<F> {
@@ -52,6 +65,25 @@ impl<F, T: Drop> From<AllocFailed<T>> for EncodeFault<F> {
 
     fn from(_error: AllocFailed<T>) -> EncodeFault<F> {
         EncodeFault::Memory
+    }
+}
+
+impl<F> From<SharedName> for EncodeFault<F> {
+    ghost use Rattle.comp_encoder.specs.Refusals.{of_shared};
+
+    ghost from_gives = { λ s e. e ≡ of_shared s };
+
+    fn from(shared: SharedName) -> EncodeFault<F> {
+        let SharedName {
+            first,
+            second,
+            name,
+        } = shared;
+        EncodeFault::CanonicalNames {
+            first,
+            second,
+            name,
+        }
     }
 }
 
@@ -76,6 +108,7 @@ impl<F> From<OutputFault> for EncodeFault<F> {
 
     fn from(fault: OutputFault) -> EncodeFault<F> {
         match fault {
+            OutputFault::Names(shared) => EncodeFault::from(shared),
             OutputFault::State(fault) => EncodeFault::from(fault),
             OutputFault::Check(CheckFault::Memory) => EncodeFault::Memory,
             OutputFault::Check(fault) => EncodeFault::Output(fault),

@@ -23,7 +23,8 @@ use Rattle.comp_worlds.specs.Worlds.{IsNamedPlain}
 use Rattle.comp_worlds.specs.declared.world.ComponentWorld.{ComponentWorld}
 use Rattle.comp_links.specs.Lists.{resource_of}
 use Rattle.comp_links.specs.Roles.{is_used_of}
-use Rattle.comp_imports.specs.Interfaces.{AreUsedNames, ExportsUsed}
+use Rattle.interface_needs.specs.Needs.{AreUsedNames}
+use Rattle.comp_imports.specs.Interfaces.{ExportsUsed}
 use Rattle.comp_lists.proofs.Lists.{AllByRecursion-weaker}
 
 -- a function is exported where it is found

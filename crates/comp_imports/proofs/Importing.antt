@@ -28,11 +28,12 @@ use Rattle.comp_roles.specs.declared.imports.Import.TheVariants as imports
 use Rattle.comp_roles.specs.declared.imports.ImportInstance.{ImportInstance}
 use Rattle.comp_roles.specs.declared.imports.ImportInstance.TheVariants as instances
 use Rattle.comp_worlds.specs.Encodable.{IsEncodable}
-use Rattle.comp_worlds.specs.Worlds.{items_of, root_function, world_type, imported_functions, imported_types, imported_name, IsImportRole, IsImportGroup}
+use Rattle.comp_worlds.specs.WorldContents.{items_of, root_function, world_type, imported_functions, imported_types, imported_name}
+use Rattle.comp_worlds.specs.Worlds.{IsImportRole, IsImportGroup}
 use Rattle.comp_worlds.specs.Encodable.{AscendFrom}
 use Rattle.comp_worlds.specs.declared.world.ComponentWorld.{ComponentWorld}
 use Rattle.wit_data.specs.declared.ids.InterfaceId.{InterfaceId}
-use Rattle.comp_links.specs.Naming.{own_names}
+use Rattle.comp_links.specs.Naming.{Naming}
 use Rattle.comp_links.specs.Lists.{ImportEntry, ImportedInterface, WorldType, RootFunction, import_entries, interface_entries, interface_entry, unless_empty, names_of_interface, number_of_type, root_type}
 use Rattle.comp_imports.specs.Interfaces.{first_imports, interfaces_marked}
 use Rattle.comp_links.specs.Roles.{is_named, is_any_import, uses_from, is_used, used_functions}
@@ -45,7 +46,7 @@ use Rattle.comp_imports.proofs.Elements.{contains_none, contains_cons, AllByRecu
 use Rattle.comp_imports.proofs.Allowing.{below_next}
 use Rattle.comp_imports.specs.RootScopes.{next_of, ArePassed}
 use Rattle.std.proofs.lemmas.Bool.Decides.{Decides-eqb}
-use Rattle.std.proofs.lemmas.List.Elements.{Contains-append_cases}
+use Rattle.std.proofs.lemmas.List.Elements.{Contains-append_cases, Contains-append_right}
 use Rattle.comp_imports.specs.Growing.{Grows-none, Grows-then}
 use Rattle.comp_imports.proofs.Looking.{function_found, entry_sound}
 
@@ -122,26 +123,26 @@ types_counted [] = refl
 types_counted (t ∷ ts) = ap suc (types_counted ts)
 
 -- after the interfaces, as many imports are there
-entries_counted : (w : ComponentWorld) (es : List (WorldKey × WorldItem)) → length (filter is_imported (flat_map (import_marked own_names w) (flat_map (interface_entry w) es))) ≡ length (flat_map (interface_entry w) es)
-entries_counted w [] = refl
-entries_counted w ((key, world_items.Interface id) ∷ es) = by (names_of_interface w id) (entries_counted w es)
+entries_counted : (n : Naming) (w : ComponentWorld) (es : List (WorldKey × WorldItem)) → length (filter is_imported (flat_map (import_marked n w) (flat_map (interface_entry w) es))) ≡ length (flat_map (interface_entry w) es)
+entries_counted n w [] = refl
+entries_counted n w ((key, world_items.Interface id) ∷ es) = by (names_of_interface w id) (entries_counted n w es)
   where
-    by : (names : List (List ℕ)) → length (filter is_imported (flat_map (import_marked own_names w) (flat_map (interface_entry w) es))) ≡ length (flat_map (interface_entry w) es) →
-        length (filter is_imported (flat_map (import_marked own_names w) (unless_empty names (ImportedInterface key id) ++ flat_map (interface_entry w) es))) ≡ length (unless_empty names (ImportedInterface key id) ++ flat_map (interface_entry w) es)
+    by : (names : List (List ℕ)) → length (filter is_imported (flat_map (import_marked n w) (flat_map (interface_entry w) es))) ≡ length (flat_map (interface_entry w) es) →
+        length (filter is_imported (flat_map (import_marked n w) (unless_empty names (ImportedInterface key id) ++ flat_map (interface_entry w) es))) ≡ length (unless_empty names (ImportedInterface key id) ++ flat_map (interface_entry w) es)
     by [] h = h
     by (name ∷ names) h = ap suc h
-entries_counted w ((key, world_items.Function f) ∷ es) = entries_counted w es
-entries_counted w ((key, world_items.NamedType id) ∷ es) = entries_counted w es
+entries_counted n w ((key, world_items.Function f) ∷ es) = entries_counted n w es
+entries_counted n w ((key, world_items.NamedType id) ∷ es) = entries_counted n w es
 
-pub interfaces_counted_of : (w : ComponentWorld) (old new : List Def) (es : List (WorldKey × WorldItem)) → imports_in old ≡ 0 → Grows w old new (flat_map (import_marked own_names w) (flat_map (interface_entry w) es)) →
+pub interfaces_counted_of : (n : Naming) (w : ComponentWorld) (old new : List Def) (es : List (WorldKey × WorldItem)) → imports_in old ≡ 0 → Grows w old new (flat_map (import_marked n w) (flat_map (interface_entry w) es)) →
     imports_in new ≡ length (flat_map (interface_entry w) es)
-interfaces_counted_of w old new es none g =
+interfaces_counted_of n w old new es none g =
     let more = grown_imports g in
-    let count = entries_counted w es in
+    let count = entries_counted n w es in
     omega (arith, none, more, count)
 
-pub interfaces_counted : (w : ComponentWorld) (old new : List Def) → imports_in old ≡ 0 → Grows w old new (interfaces_marked w) → imports_in new ≡ length (interface_entries w)
-interfaces_counted w old new none g = interfaces_counted_of w old new (items_of w).imports none g
+pub interfaces_counted : (n : Naming) (w : ComponentWorld) (old new : List Def) → imports_in old ≡ 0 → Grows w old new (interfaces_marked n w) → imports_in new ≡ length (interface_entries w)
+interfaces_counted n w old new none g = interfaces_counted_of n w old new (items_of w).imports none g
 
 -- after the types of the world, as many imports are there
 pub types_imported : (w : ComponentWorld) (old new : List Def) → imports_in old ≡ length (interface_entries w) → Grows w old new (map (λ t. Imported (root_type t.0)) (imported_types w)) → imports_in new ≡ first_imports w
@@ -293,21 +294,21 @@ imports_found w old new functions valid h = record {
 -- ---- both steps
 
 -- the interfaces, the types and the functions are all imports that the world states
-all_marked : (w : ComponentWorld) → interfaces_marked w ++ (map (λ t. Imported (root_type t.0)) (imported_types w) ++ map named_import (used_functions w)) ≡ imports_marked own_names w
-all_marked w =
-    sym (flat_map-append (import_marked own_names w) (interface_entries w) (map (λ (t : List ℕ × TypeId). WorldType t.0 t.1) (imported_types w) ++ map RootFunction (used_functions w))
-    ∙ ap (λ l. interfaces_marked w ++ l) (both (imported_types w) (used_functions w)))
+all_marked : (n : Naming) (w : ComponentWorld) → interfaces_marked n w ++ (map (λ t. Imported (root_type t.0)) (imported_types w) ++ map named_import (used_functions w)) ≡ imports_marked n w
+all_marked n w =
+    sym (flat_map-append (import_marked n w) (interface_entries w) (map (λ (t : List ℕ × TypeId). WorldType t.0 t.1) (imported_types w) ++ map RootFunction (used_functions w))
+    ∙ ap (λ l. interfaces_marked n w ++ l) (both (imported_types w) (used_functions w)))
   where
-    functions : (fs : List (List ℕ)) → flat_map (import_marked own_names w) (map RootFunction fs) ≡ map named_import fs
+    functions : (fs : List (List ℕ)) → flat_map (import_marked n w) (map RootFunction fs) ≡ map named_import fs
     functions [] = refl
     functions (f ∷ fs) = ap (λ l. named_import f ∷ l) (functions fs)
 
-    both : (ts : List (List ℕ × TypeId)) (fs : List (List ℕ)) → flat_map (import_marked own_names w) (map (λ t. WorldType t.0 t.1) ts ++ map RootFunction fs) ≡ map (λ t. Imported (root_type t.0)) ts ++ map named_import fs
+    both : (ts : List (List ℕ × TypeId)) (fs : List (List ℕ)) → flat_map (import_marked n w) (map (λ t. WorldType t.0 t.1) ts ++ map RootFunction fs) ≡ map (λ t. Imported (root_type t.0)) ts ++ map named_import fs
     both [] fs = functions fs
     both (t ∷ ts) fs = ap (λ l. Imported (root_type t.0) ∷ l) (both ts fs)
 
-pub imports_made : {w : ComponentWorld} {a b c d : List Def} → Grows w a b (interfaces_marked w) → Grows w b c (map (λ t. Imported (root_type t.0)) (imported_types w)) → Grows w c d (map named_import (used_functions w)) → Grows w a d (imports_marked own_names w)
-imports_made {w} {a} {b} {c} {d} g h k = subst (λ m. Grows w a d m) (all_marked w) (Grows-then g (Grows-then h k))
+pub imports_made : (n : Naming) {w : ComponentWorld} {a b c d : List Def} → Grows w a b (interfaces_marked n w) → Grows w b c (map (λ t. Imported (root_type t.0)) (imported_types w)) → Grows w c d (map named_import (used_functions w)) → Grows w a d (imports_marked n w)
+imports_made n {w} {a} {b} {c} {d} g h k = subst (λ m. Grows w a d m) (all_marked n w) (Grows-then g (Grows-then h k))
 
 -- ---- the loop over types
 
@@ -440,6 +441,7 @@ next_type w old mid next (keys.Name text, world_items.NamedType id) rest h =
     let entry : slice_get (map (λ (t : List ℕ × TypeId). WorldType t.0 t.1) (imported_types w)) (length done) ≡ Some (WorldType text id) =
     slice_get-map (λ (t : List ℕ × TypeId). WorldType t.0 t.1) (imported_types w) (length done) ∙ ap (option_map (λ (t : List ℕ × TypeId). WorldType t.0 t.1)) there in
     record {
+      listed = subst (λ es. Contains es (keys.Name text, world_items.NamedType id)) h.split (Contains-append_right h.done ((keys.Name text, world_items.NamedType id) ∷ rest) (keys.Name text, world_items.NamedType id) (0, omega arith, refl));
       stated = ap (slice_get (import_entries w)) h.count
           ∙ entry_behind (interface_entries w) (map (λ (t : List ℕ × TypeId). WorldType t.0 t.1) (imported_types w) ++ map RootFunction (used_functions w)) (length done) (WorldType text id)
           (slice_get-append (map (λ (t : List ℕ × TypeId). WorldType t.0 t.1) (imported_types w)) (map RootFunction (used_functions w)) (length done) (WorldType text id) entry);

@@ -20,8 +20,8 @@ use Rattle.comp_worlds.specs.declared.world.ComponentWorld.{ComponentWorld}
 use Rattle.wit_data.specs.declared.ids.InterfaceId.{InterfaceId}
 use Rattle.wit_data.specs.declared.worlds.WorldKey.{WorldKey}
 use Rattle.comp_imports.specs.Growing.{Grows-by}
-use Rattle.comp_imports.specs.Interfaces.{ExportsUsed, IsInterfaceImport}
-use Rattle.comp_imports.proofs.Importing.{grown_imports}
+use Rattle.comp_imports.specs.Interfaces.{ExportsNeeded, ExportsUsed, IsInterfaceImport, IsNextInterface}
+use Rattle.comp_imports.proofs.Importing.{grown_imports, no_imports}
 
 pub two_added : (old mid new : Built) (first second : Result ℕ BuildFault) (s t : Space) (d e : Def) (n m : Option (List ℕ)) → Adds old mid first s d n → Adds mid new second t e m → Extends old new
 two_added old mid new first second s t d e n m g h = extends_then old mid new (extends_adds old mid first s d n g) (extends_adds mid new second t e m h)
@@ -51,8 +51,8 @@ module _ (w : ComponentWorld) (key : WorldKey) (id : InterfaceId) (old mid : Bui
     }
 
     pub instance_imported : (new : Built) (instance : ℕ) → slice_get (inventory new.defs).instances instance ≡ Some (ImportedInstance (imports_in mid.defs) (scope_of old.defs) ty.members) →
-        ExportsUsed w id (surroundings_of (imports_in old.defs) (scope_of old.defs)) ty.members → IsInterfaceImport w new.defs id instance
-    instance_imported new instance imported functions = record {
+        ExportsUsed w id (surroundings_of (imports_in old.defs) (scope_of old.defs)) ty.members → ExportsNeeded w id (surroundings_of (imports_in old.defs) (scope_of old.defs)) ty.members → IsInterfaceImport w new.defs id instance
+    instance_imported new instance imported functions types = record {
       key = key;
       number = imports_in mid.defs;
       outer = scope_of old.defs;
@@ -60,4 +60,17 @@ module _ (w : ComponentWorld) (key : WorldKey) (id : InterfaceId) (old mid : Bui
       stated = stated_next;
       imported = imported;
       functions = subst (λ (n : ℕ). ExportsUsed w id (surroundings_of n (scope_of old.defs)) ty.members) (sym same_imports) functions;
+      types = subst (λ (n : ℕ). ExportsNeeded w id (surroundings_of n (scope_of old.defs)) ty.members) (sym same_imports) types;
     }
+
+-- definitions that import nothing were added: the next import is the same
+pub next_kept : (w : ComponentWorld) (old new : List Def) (instances : List (InterfaceId × ℕ)) (key : WorldKey) (id : InterfaceId) → Grows w old new [] → IsNextInterface w old instances key id → IsNextInterface w new instances key id
+next_kept w old new instances key id g h = record {
+  has_key = h.has_key;
+  present = h.present;
+  imported = h.imported;
+  plain = h.plain;
+  stated = λ some. ap (slice_get (import_entries w)) (no_imports g) ∙ h.stated some;
+  number = λ some. h.number some ∙ sym (no_imports g);
+  earlier = h.earlier;
+}

@@ -1,6 +1,6 @@
 -- The interfaces of which core imports use a function are imported, in the order of the world.
-use Rattle.std.proofs.Common.{◌≡◌, ◌≢◌, ◌∙◌, ◌&&◌, ◌||◌, ap, ap₂, sym, subst, refl, ℕ, arith, Bool, true, false, cond, List, [], ◌∷◌, ◌++◌, map, filter, length, append-nil, append_assoc, Some, None, is_some, unwrap_or, ◌==◌, if◌then◌else◌, slice_get, Contains, inl, inr, true≢false}
-use Rattle.std.specs.List.{AllByRecursion, flat_map, list_any}
+use Rattle.std.proofs.Common.{◌≡◌, ◌≢◌, ◌∙◌, ◌&&◌, ◌||◌, ap, ap₂, sym, subst, refl, ℕ, arith, Bool, true, false, cond, List, [], ◌∷◌, ◌++◌, map, filter, length, append-nil, append_assoc, Some, None, is_some, ◌<◌, ◌≤◌, ◌+◌, suc, add-zero, if◌then◌else◌, slice_get, Contains, inl, inr, true≢false}
+use Rattle.std.specs.List.{AllByRecursion, IsDistinct, flat_map, list_any}
 use Rattle.std.specs.Map.{lookup}
 use Rattle.std.specs.Str.{bytes_eq}
 use Rattle.std.proofs.lemmas.Grind.{flat_map-append}
@@ -25,30 +25,25 @@ use Rattle.wit_data.specs.declared.ids.TypeId.{TypeId}
 use Rattle.wit_data.specs.declared.resolve.Resolve.{Resolve}
 use Rattle.wit_data.specs.declared.types.TypeDef.{TypeDef}
 use Rattle.world_values.specs.Items.{functions_of}
-use Rattle.comp_worlds.specs.Encodable.{IsBare, IsEncodable}
-use Rattle.comp_worlds.specs.Worlds.{IsImportItem, IsNamedPlain, items_of, imported_types}
+use Rattle.comp_worlds.specs.Encodable.{IsEncodable, place_in}
+use Rattle.comp_worlds.specs.WorldTables.{HasTables}
+use Rattle.world_values.specs.Mentions.{interfaces_of, same_interface}
+use Rattle.interface_needs.specs.Needs.{AreUsedNames}
+use Rattle.comp_imports.proofs.NeededInterfaces.{apart_before, both_none, found_before, names_none, needed_imported, number_behind, place_there}
+use Rattle.comp_worlds.specs.WorldContents.{items_of, imported_types}
+use Rattle.comp_worlds.specs.Worlds.{IsImportItem, IsNamedPlain}
 use Rattle.comp_worlds.specs.declared.world.ComponentWorld.{ComponentWorld}
-use Rattle.comp_links.specs.Naming.{own_names}
-use Rattle.comp_links.specs.Lists.{ImportedInterface, WorldType, RootFunction, import_entries, interface_entries, interface_entry, needed_types, names_of_interface, type_name, unless_empty}
+use Rattle.comp_links.specs.Naming.{Naming}
+use Rattle.comp_links.specs.Lists.{ImportedInterface, WorldType, RootFunction, import_entries, interface_entries, interface_entry, needed_types, names_of_interface, number_of_interface, unless_empty}
 use Rattle.comp_links.specs.Roles.{is_used_of, used_functions, used_functions_of}
 use Rattle.comp_terms.specs.Rules.{Grows, import_marked}
 use Rattle.comp_terms.specs.Terms.{imports_in}
 use Rattle.comp_items.specs.Items.{Extends}
 use Rattle.comp_items.proofs.Extending.{extends_none, extends_then}
-use Rattle.comp_items.proofs.Kept.{Longer}
-use Rattle.comp_items.proofs.Entries.{instance_entry-kept}
 use Rattle.comp_imports.specs.Growing.{Grows-none, Grows-then}
-use Rattle.comp_imports.specs.Interfaces.{FindsInterfaces, FindsInterfacesStill, FindsUsedInterfaces, AreUsedNames, IsFoundItem, IsFoundInterface, IsInterfaceImport, IsNextInterfaceItem, interfaces_marked}
+use Rattle.comp_imports.specs.Interfaces.{AreInstancesKnown, FindsInterfaces, FindsInterfacesStill, IsFoundItem, IsInterfaceImport, IsNextInterfaceItem, interfaces_marked}
 use Rattle.comp_imports.proofs.Importing.{interfaces_counted_of}
 use Rattle.comp_imports.proofs.Looking.{entry_sound}
-
--- what was imported is still there in a longer list
-pub FindsInterfaces-kept : {w : ComponentWorld} {old new : List Def} {instances : List (InterfaceId × ℕ)} → Longer old new → FindsInterfaces w old instances → FindsInterfaces w new instances
-FindsInterfaces-kept {w} {old} {new} {instances} g h = record {
-  each = AllByRecursion-weaker
-      (λ e i. record { key = i.key; number = i.number; outer = i.outer; members = i.members; stated = i.stated; imported = instance_entry-kept g e.1 _ i.imported; functions = i.functions })
-      instances h.each;
-}
 
 -- ---- a table with one instance more
 
@@ -168,24 +163,19 @@ some_used w id ((k, v) ∷ used) h some e =
     let here : is_some (found k ((k, v) ∷ used)) ≡ true = ap (λ b. is_some (cond b (Some v) (found k used))) ((bytes_eq-Decides k k).1 refl) in
     absurd (true≢false (sym here ∙ (h.each k ∙ none_any (is_used_of w id) k (functions_of w.resolve id) e)))
 
--- no function is looked for in an interface of which none is used
-pub found_unused : (w : ComponentWorld) (id : InterfaceId) (used : List (List ℕ × Unit {0})) (instances : List (InterfaceId × ℕ)) → AreUsedNames w id used → used ≡ [] → IsFoundInterface w instances id
-found_unused w id used instances h empty = λ name c u.
-    absurd (true≢false (sym (listed_used (functions_of w.resolve id) (is_used_of w id) name c u) ∙ (sym (h.each name) ∙ ap (λ (table : List (List ℕ × Unit {0})). is_some (found name table)) empty)))
-
 -- ---- the loop
 
 -- the items of the world that were passed so far, and what was made for them
-pub record InterfacesSoFar (w : ComponentWorld) (old new : Built) (instances : List (InterfaceId × ℕ)) (rest : List (WorldKey × WorldItem)) : Type 0 where
+pub record InterfacesSoFar (n : Naming) (w : ComponentWorld) (old new : Built) (instances : List (InterfaceId × ℕ)) (rest : List (WorldKey × WorldItem)) : Type 0 where
   pub done : List (WorldKey × WorldItem)
   pub split : done ++ rest ≡ (items_of w).imports
   pub extends : Extends old new
-  pub grows : Grows w old.defs new.defs (flat_map (import_marked own_names w) (flat_map (interface_entry w) done))
+  pub grows : Grows w old.defs new.defs (flat_map (import_marked n w) (flat_map (interface_entry w) done))
   pub finds : FindsInterfaces w new.defs instances
   pub found : AllByRecursion (IsFoundItem w instances) done
 
-pub interfaces_start : (w : ComponentWorld) (old : Built) (instances : List (InterfaceId × ℕ)) → instances ≡ [] → InterfacesSoFar w old old instances (items_of w).imports
-interfaces_start w old instances none = record {
+pub interfaces_start : (n : Naming) (w : ComponentWorld) (old : Built) (instances : List (InterfaceId × ℕ)) → instances ≡ [] → InterfacesSoFar n w old old instances (items_of w).imports
+interfaces_start n w old instances none = record {
   done = [];
   split = refl;
   extends = extends_none old;
@@ -195,38 +185,40 @@ interfaces_start w old instances none = record {
 }
 
 still_found : (w : ComponentWorld) (before after : List (InterfaceId × ℕ)) → FindsInterfacesStill before after → (e : WorldKey × WorldItem) → IsFoundItem w before e → IsFoundItem w after e
-still_found w before after still (key, world_items.Interface id) h = λ name c u. still.each id (h name c u)
+still_found w before after still (key, world_items.Interface id) h = λ some. still.each id (h some)
 still_found w before after still (key, world_items.Function f) h = tt
 still_found w before after still (key, world_items.NamedType id) h = tt
 
 entries_push : (w : ComponentWorld) (done : List (WorldKey × WorldItem)) (e : WorldKey × WorldItem) → flat_map (interface_entry w) (done ++ e ∷ []) ≡ flat_map (interface_entry w) done ++ interface_entry w e
 entries_push w done e = flat_map-append (interface_entry w) done (e ∷ []) ∙ ap (λ l. flat_map (interface_entry w) done ++ l) (append-nil (interface_entry w e))
 
-pub interfaces_step : (w : ComponentWorld) (old mid new : Built) (before after : List (InterfaceId × ℕ)) (e : WorldKey × WorldItem) (rest : List (WorldKey × WorldItem)) → InterfacesSoFar w old mid before (e ∷ rest) →
-    Extends mid new → Grows w mid.defs new.defs (flat_map (import_marked own_names w) (interface_entry w e)) → FindsInterfaces w new.defs after → FindsInterfacesStill before after → IsFoundItem w after e → InterfacesSoFar w old new after rest
-interfaces_step w old mid new before after e rest h extends grows finds still here = record {
+pub interfaces_step : (n : Naming) (w : ComponentWorld) (old mid new : Built) (before after : List (InterfaceId × ℕ)) (e : WorldKey × WorldItem) (rest : List (WorldKey × WorldItem)) → InterfacesSoFar n w old mid before (e ∷ rest) →
+    Extends mid new → Grows w mid.defs new.defs (flat_map (import_marked n w) (interface_entry w e)) → FindsInterfaces w new.defs after → FindsInterfacesStill before after → IsFoundItem w after e → InterfacesSoFar n w old new after rest
+interfaces_step n w old mid new before after e rest h extends grows finds still here = record {
   done = h.done ++ e ∷ [];
   split = append_assoc h.done (e ∷ []) rest ∙ h.split;
   extends = extends_then old mid new h.extends extends;
   grows =
-      let marks : flat_map (import_marked own_names w) (flat_map (interface_entry w) (h.done ++ e ∷ [])) ≡ flat_map (import_marked own_names w) (flat_map (interface_entry w) h.done) ++ flat_map (import_marked own_names w) (interface_entry w e) =
-      ap (flat_map (import_marked own_names w)) (entries_push w h.done e) ∙ flat_map-append (import_marked own_names w) (flat_map (interface_entry w) h.done) (interface_entry w e) in
+      let marks : flat_map (import_marked n w) (flat_map (interface_entry w) (h.done ++ e ∷ [])) ≡ flat_map (import_marked n w) (flat_map (interface_entry w) h.done) ++ flat_map (import_marked n w) (interface_entry w e) =
+      ap (flat_map (import_marked n w)) (entries_push w h.done e) ∙ flat_map-append (import_marked n w) (flat_map (interface_entry w) h.done) (interface_entry w e) in
       subst (λ m. Grows w old.defs new.defs m) (sym marks) (Grows-then h.grows grows);
   finds = finds;
   found = AllByRecursion-join (IsFoundItem w after) h.done (e ∷ []) (AllByRecursion-weaker (still_found w before after still) h.done h.found) (here, tt);
 }
 
 -- no item is left
-module _ (w : ComponentWorld) (old new : Built) (instances : List (InterfaceId × ℕ)) (h : InterfacesSoFar w old new instances []) where
+module _ (n : Naming) (w : ComponentWorld) (old new : Built) (instances : List (InterfaceId × ℕ)) (h : InterfacesSoFar n w old new instances []) where
   all_done : h.done ≡ (items_of w).imports
   all_done = sym (append-nil h.done) ∙ h.split
 
-  pub interfaces_done : Grows w old.defs new.defs (interfaces_marked w)
-  interfaces_done = subst (λ es. Grows w old.defs new.defs (flat_map (import_marked own_names w) (flat_map (interface_entry w) es))) all_done h.grows
+  pub interfaces_done : Grows w old.defs new.defs (interfaces_marked n w)
+  interfaces_done = subst (λ es. Grows w old.defs new.defs (flat_map (import_marked n w) (flat_map (interface_entry w) es))) all_done h.grows
 
-  pub interfaces_found : FindsUsedInterfaces w instances
-  interfaces_found = record {
-    each = λ key id c. AllByRecursion-contains (IsFoundItem w instances) (items_of w).imports (key, world_items.Interface id) (subst (AllByRecursion (IsFoundItem w instances)) all_done h.found) c;
+  pub interfaces_known : HasTables w → AreInstancesKnown w new.defs instances
+  interfaces_known tables = record {
+    finds = h.finds;
+    needed = record { each = λ id i. AllByRecursion-contains (IsFoundItem w instances) (items_of w).imports (i.key, world_items.Interface id) (subst (AllByRecursion (IsFoundItem w instances)) all_done h.found) i.there };
+    imported = needed_imported w tables;
   }
 
 -- ---- the next interface
@@ -239,52 +231,61 @@ named_plain r (keys.Interface other) id h = h
 pub named_only : (types : List TypeDef) (fs : List (List ℕ × Function)) → AllByRecursion (IsNamedPlain types) fs → AllByRecursion (λ e. e.0 ≡ e.1.name) fs
 named_only types fs h = AllByRecursion-weaker (λ e (p : IsNamedPlain types e). p.0) fs h
 
--- no type of an interface is needed
-none_needed : (id : InterfaceId) (table : List (InterfaceId × List TypeId)) → AllByRecursion (λ e. e.1 ≡ []) table → unwrap_or (lookup (λ (other : InterfaceId). id.index == other.index) table) [] ≡ []
-none_needed id [] h = refl
-none_needed id (e ∷ es) h = by (id.index == e.0.index) (none_needed id es h.1)
-  where
-    by : (b : Bool) → unwrap_or (lookup (λ (other : InterfaceId). id.index == other.index) es) [] ≡ [] → unwrap_or (cond b (Some e.1) (lookup (λ (other : InterfaceId). id.index == other.index) es)) [] ≡ []
-    by true rest = h.0
-    by false rest = rest
+entry_used : (key : WorldKey) (id : InterfaceId) (names : List (List ℕ)) → names ≢ [] → unless_empty names (ImportedInterface key id) ≡ ImportedInterface key id ∷ []
+entry_used key id [] some = absurd (some refl)
+entry_used key id (name ∷ names) some = refl
 
-pub names_are_used : (w : ComponentWorld) (id : InterfaceId) → needed_types w id ≡ [] → names_of_interface w id ≡ used_functions_of w id
-names_are_used w id none = ap (λ ids. map (type_name w) ids ++ used_functions_of w id) none
+-- where nothing of it is needed, the interface is not imported
+pub entry_unused : (w : ComponentWorld) (key : WorldKey) (id : InterfaceId) → names_of_interface w id ≡ [] → interface_entry w (key, world_items.Interface id) ≡ []
+entry_unused w key id none = ap (λ names. unless_empty names (ImportedInterface key id)) none
 
-entry_used : (w : ComponentWorld) (key : WorldKey) (id : InterfaceId) (names : List (List ℕ)) → names ≢ [] → unless_empty names (ImportedInterface key id) ≡ ImportedInterface key id ∷ []
-entry_used w key id [] some = absurd (some refl)
-entry_used w key id (name ∷ names) some = refl
+-- where something is, it is
+pub entry_is : (w : ComponentWorld) (key : WorldKey) (id : InterfaceId) → names_of_interface w id ≢ [] → interface_entry w (key, world_items.Interface id) ≡ ImportedInterface key id ∷ []
+entry_is w key id some = entry_used key id (names_of_interface w id) some
 
--- where no function is used, the interface is not imported
-pub entry_unused : (w : ComponentWorld) (key : WorldKey) (id : InterfaceId) → needed_types w id ≡ [] → used_functions_of w id ≡ [] → interface_entry w (key, world_items.Interface id) ≡ []
-entry_unused w key id none unused = ap (λ names. unless_empty names (ImportedInterface key id)) (names_are_used w id none ∙ unused)
+-- no type is needed and no function is in the table of used ones exactly where nothing is needed
+pub unneeded : (w : ComponentWorld) (id : InterfaceId) (used : List (List ℕ × Unit {0})) → AreUsedNames w id used → needed_types w id ≡ [] → used ≡ [] → names_of_interface w id ≡ []
+unneeded w id used h none empty = names_none w id none (none_used w id used h empty)
 
--- where one is, it is
-pub entry_is : (w : ComponentWorld) (key : WorldKey) (id : InterfaceId) → needed_types w id ≡ [] → used_functions_of w id ≢ [] → interface_entry w (key, world_items.Interface id) ≡ ImportedInterface key id ∷ []
-entry_is w key id none some = ap (λ names. unless_empty names (ImportedInterface key id)) (names_are_used w id none) ∙ entry_used w key id (used_functions_of w id) some
+pub some_needed : (w : ComponentWorld) (id : InterfaceId) (used : List (List ℕ × Unit {0})) → AreUsedNames w id used → (needed_types w id ≡ [] → used ≢ []) → names_of_interface w id ≢ []
+some_needed w id [] h some e = let p = both_none w id e in some p.0 refl
+some_needed w id (u ∷ us) h some e = let p = both_none w id e in some_used w id (u ∷ us) h (λ s. cc) p.1
 
-pub next_interface : (w : ComponentWorld) (old mid : Built) (instances : List (InterfaceId × ℕ)) (e : WorldKey × WorldItem) (rest : List (WorldKey × WorldItem)) → IsEncodable w → imports_in old.defs ≡ 0 → InterfacesSoFar w old mid instances (e ∷ rest) → IsNextInterfaceItem w mid.defs e
-next_interface w old mid instances (key, world_items.Function f) rest ok first h = tt
-next_interface w old mid instances (key, world_items.NamedType id) rest ok first h = tt
-next_interface w old mid instances (key, world_items.Interface id) rest ok first h =
+pub next_interface : (n : Naming) (w : ComponentWorld) (old mid : Built) (instances : List (InterfaceId × ℕ)) (e : WorldKey × WorldItem) (rest : List (WorldKey × WorldItem)) → IsEncodable w → imports_in old.defs ≡ 0 → InterfacesSoFar n w old mid instances (e ∷ rest) →
+    IsNextInterfaceItem w mid.defs instances e
+next_interface n w old mid instances (key, world_items.Function f) rest ok first h = tt
+next_interface n w old mid instances (key, world_items.NamedType id) rest ok first h = tt
+next_interface n w old mid instances (key, world_items.Interface id) rest ok first h =
     let e : WorldKey × WorldItem = (key, world_items.Interface id) in
-    let none : needed_types w id ≡ [] = none_needed id w.live_type_imports ok.none_live in
+    let done = flat_map (interface_entry w) h.done in
+    let more = flat_map (interface_entry w) rest in
+    let tail = map (λ (t : List ℕ × TypeId). WorldType t.0 t.1) (imported_types w) ++ map RootFunction (used_functions w) in
+    let count : imports_in mid.defs ≡ length done = interfaces_counted_of n w old.defs mid.defs h.done first h.grows in
+    let all : names_of_interface w id ≢ [] → interface_entries w ≡ (done ++ ImportedInterface key id ∷ []) ++ more =
+    λ some. ap (flat_map (interface_entry w)) (sym h.split) ∙ (flat_map-append (interface_entry w) h.done (e ∷ rest)
+    ∙ (ap (λ l. done ++ (l ++ more)) (entry_is w key id some) ∙ sym (append_assoc done (ImportedInterface key id ∷ []) more))) in
     record {
       has_key = (entry_sound w ok h.done rest e h.split).0;
       present = (entry_sound w ok h.done rest e h.split).1;
+      imported = record { key = key; there = subst (λ es. Contains es e) h.split (Contains-append_right h.done (e ∷ rest) e (0, omega arith, refl)) };
       plain = named_plain w.resolve key id ((AllByRecursion-back (IsImportItem w.resolve) h.done (e ∷ rest) (subst (AllByRecursion (IsImportItem w.resolve)) (sym h.split) ok.valid.imports)).0);
-      bare = (AllByRecursion-back (λ (x : WorldKey × WorldItem). IsBare w.resolve x.1) h.done (e ∷ rest) (subst (AllByRecursion (λ (x : WorldKey × WorldItem). IsBare w.resolve x.1)) (sym h.split) ok.interfaces)).0;
-      unneeded = none;
       stated = λ some.
-          let done = flat_map (interface_entry w) h.done in
-          let more = flat_map (interface_entry w) rest in
-          let count : imports_in mid.defs ≡ length done = interfaces_counted_of w old.defs mid.defs h.done first h.grows in
-          let all : interface_entries w ≡ (done ++ ImportedInterface key id ∷ []) ++ more =
-          ap (flat_map (interface_entry w)) (sym h.split) ∙ (flat_map-append (interface_entry w) h.done (e ∷ rest)
-          ∙ (ap (λ l. done ++ (l ++ more)) (entry_is w key id none some) ∙ sym (append_assoc done (ImportedInterface key id ∷ []) more))) in
           let there : slice_get (interface_entries w) (length done) ≡ Some (ImportedInterface key id) =
-          ap (λ l. slice_get l (length done)) all ∙ slice_get-append (done ++ ImportedInterface key id ∷ []) more (length done) (ImportedInterface key id) (slice_get-end done (ImportedInterface key id)) in
-          ap (slice_get (import_entries w)) count ∙ slice_get-append (interface_entries w) (map (λ (t : List ℕ × TypeId). WorldType t.0 t.1) (imported_types w) ++ map RootFunction (used_functions w)) (length done) (ImportedInterface key id) there;
+          ap (λ l. slice_get l (length done)) (all some) ∙ slice_get-append (done ++ ImportedInterface key id ∷ []) more (length done) (ImportedInterface key id) (slice_get-end done (ImportedInterface key id)) in
+          ap (slice_get (import_entries w)) count ∙ slice_get-append (interface_entries w) tail (length done) (ImportedInterface key id) there;
+      number = λ some.
+          let before = apart_before h.done key id rest (subst (λ es. IsDistinct same_interface (interfaces_of es)) (sym h.split) ok.apart) in
+          let split : import_entries w ≡ done ++ (ImportedInterface key id ∷ (more ++ tail)) =
+          ap (λ l. l ++ tail) (all some) ∙ (append_assoc (done ++ ImportedInterface key id ∷ []) more tail ∙ append_assoc done (ImportedInterface key id ∷ []) (more ++ tail)) in
+          ap (number_of_interface id) split
+          ∙ (number_behind w id h.done (ImportedInterface key id ∷ (more ++ tail)) before
+          ∙ (ap (λ b. length done + (if b then 0 else suc (number_of_interface id (more ++ tail)))) ((Decides-eqb id.index id.index).1 refl) ∙ (add-zero (length done) ∙ sym count)));
+      earlier = record {
+        each = λ other l.
+            let at = place_there h.done key id rest in
+            found_before w instances h.done (e ∷ rest) other h.found
+            (subst (λ es. place_in es other < length h.done) (sym h.split) (let l : place_in (items_of w).imports other < place_in (items_of w).imports id = l in let at : place_in (items_of w).imports id ≤ length h.done = subst (λ es. place_in es id ≤ length h.done) h.split at in omega (arith, l, at)));
+      };
     }
 
 pub ruleset passing_over = (Grows-none, still_same, extends_none)

@@ -12,5 +12,8 @@ pub mod Defining
 pub mod UsedFunctions
 pub mod FunctionExports
 pub mod InstanceAdded
+pub mod NeededInterfaces
 pub mod InterfaceLoop
-pub mod Bare
+pub mod ListedFunctions
+pub mod TypeNeeds
+pub mod OuterTypes

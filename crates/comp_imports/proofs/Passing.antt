@@ -11,7 +11,7 @@ use Rattle.wit_data.specs.declared.ids.TypeId.{TypeId}
 use Rattle.wit_types.specs.Maps.{HasIndex}
 use Rattle.wit_types.specs.Settings.{tree_in}
 use Rattle.wit_types.specs.declared.maps.TypeEncodingMaps.{TypeEncodingMaps}
-use Rattle.comp_worlds.specs.Worlds.{imported_types}
+use Rattle.comp_worlds.specs.WorldContents.{imported_types, interface_at}
 use Rattle.comp_worlds.specs.declared.world.ComponentWorld.{ComponentWorld}
 use Rattle.std.specs.Map.{lookup}
 use Rattle.std.specs.Option.{IfSome, IsSomeAnd}
@@ -28,7 +28,8 @@ use Rattle.wit_types.proofs.Growing.{id_found}
 use Rattle.wit_types.proofs.Permitting.{resource_tree}
 use Rattle.wit_types.specs.Allowing.{is_resource}
 use Rattle.wit_types.specs.Settings.{Setting}
-use Rattle.comp_imports.proofs.Allowing.{all_met}
+use Rattle.wit_data.specs.declared.ids.InterfaceId.{InterfaceId}
+use Rattle.comp_imports.proofs.Allowing.{met_resource}
 use Rattle.comp_imports.specs.Imports.{IsNextId}
 use Rattle.comp_imports.specs.RootScopes.{next_of, root_setting, is_imported_type, ArePassed, AreTablesRight}
 
@@ -60,9 +61,10 @@ met_next w last id j order e apart =
         by false e = let m = ltb-false a b e in absurd (other (omega (arith, l, m)))
 
 -- before the first type of the world
-pub tables_first : (w : ComponentWorld) (last : Option TypeId) (ds : List Def) (maps : TypeEncodingMaps) → AreTablesRight w last ds maps → AreTablesRight w None ds maps
+pub tables_first : (w : ComponentWorld) (last : Option TypeId) (instances : List (InterfaceId × ℕ)) (ds : List Def) (maps : TypeEncodingMaps) → AreTablesRight w last instances ds maps → AreTablesRight w None instances ds maps
 unfolding tree_in
-tables_first w last ds maps h = record {
+tables_first w last instances ds maps h = record {
+  offers = h.offers;
   ids = h.ids;
   named = AllByRecursion-weaker (λ e n. record { as_own = n.as_own }) maps.id_to_index h.named;
   kinds = h.kinds;
@@ -70,9 +72,10 @@ tables_first w last ds maps h = record {
   met = λ j e. let l : j.index < 0 = ltb-true j.index 0 (left_of (nat_lt j.index 0) (is_imported_type w j) e) in absurd (omega (arith, l));
 }
 
-pub tables_next : (w : ComponentWorld) (last : Option TypeId) (id : TypeId) (ds : List Def) (maps : TypeEncodingMaps) → IsNextId w (next_of last) id → HasIndex maps id → AreTablesRight w last ds maps → AreTablesRight w (Some id) ds maps
+pub tables_next : (w : ComponentWorld) (last : Option TypeId) (id : TypeId) (instances : List (InterfaceId × ℕ)) (ds : List Def) (maps : TypeEncodingMaps) → IsNextId w (next_of last) id → HasIndex maps id → AreTablesRight w last instances ds maps → AreTablesRight w (Some id) instances ds maps
 unfolding tree_in
-tables_next w last id ds maps order recorded h = record {
+tables_next w last id instances ds maps order recorded h = record {
+  offers = h.offers;
   ids = h.ids;
   named = AllByRecursion-weaker (λ e n. record { as_own = n.as_own }) maps.id_to_index h.named;
   kinds = h.kinds;
@@ -85,9 +88,9 @@ tables_next w last id ds maps order recorded h = record {
     by j e false apart = h.met j (met_next w last id j order e apart)
 
 -- a resource of the world is found in the tables
-pub resource_found : (w : ComponentWorld) (last : Option TypeId) (ds : List Def) (maps : TypeEncodingMaps) (id : TypeId) (o : Option ℕ) → IsEncodable w → IsResource w.resolve.types id.index → ArePassed w last → AreTablesRight w last ds maps →
+pub resource_found : (w : ComponentWorld) (last : Option TypeId) (instances : List (InterfaceId × ℕ)) (ds : List Def) (maps : TypeEncodingMaps) (id : TypeId) (o : Option ℕ) → IsEncodable w → IsResource w.resolve.types id.index → interface_at w.resolve.types id.index ≡ None → ArePassed w last → AreTablesRight w last instances ds maps →
     o ≡ lookup (same_id.eq-value.it id) maps.id_to_index → IsSomeAnd o (λ index. terms.IsResource ds index (resource_of w id))
-resource_found w last ds maps id o ok r passed h is = by o is (id_found id o h is)
+resource_found w last instances ds maps id o ok r own passed h is = by o is (id_found id o h is)
   where
     s : Setting
     s = root_setting w last
@@ -97,6 +100,6 @@ resource_found w last ds maps id o ok r passed h is = by o is (id_found id o h i
 
     by : (o : Option ℕ) → o ≡ lookup (same_id.eq-value.it id) maps.id_to_index → IfSome o (λ index. Denotes (scope_of ds) index (OfValues (tree_in s (Some (Id id))))) → IsSomeAnd o (λ index. terms.IsResource ds index (resource_of w id))
     by None is d =
-        let there = h.met id (all_met w ok last passed id.index r.present r) in
+        let there = h.met id (met_resource w ok last passed id.index r own) in
         absurd (true≢false (sym there.there ∙ ap is_some (sym is)))
     by (Some index) is d = record { denotes = subst (λ t. Denotes (scope_of ds) index (OfValues t)) (sym tree) d }

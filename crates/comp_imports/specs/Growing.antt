@@ -11,6 +11,10 @@ use Rattle.comp_terms.specs.Rules.{IsRight, RightAfter, Landmark, landmark, land
 use Rattle.comp_items.specs.Items.{MayAdd}
 use Rattle.comp_items.proofs.Extending.{extends_none, extends_then}
 use Rattle.comp_items.proofs.Kept.{Longer, at-kept}
+use Rattle.comp_lists.proofs.Lists.{AllByRecursion-weaker}
+use Rattle.wit_data.specs.declared.ids.InterfaceId.{InterfaceId}
+use Rattle.comp_items.proofs.Entries.{instance_entry-kept}
+use Rattle.comp_imports.specs.Interfaces.{AreInstancesKnown, FindsInterfaces}
 use Rattle.comp_imports.specs.RootScopes.{RootGrows}
 
 RightAfter-append : (w : ComponentWorld) (old a b : List Def) → RightAfter w old a → RightAfter w (old ++ a) b → RightAfter w old (a ++ b)
@@ -58,3 +62,21 @@ root_then a b c g h = record { extends = extends_then a b c g.extends h.extends;
 pub root_on : {R N I : Type 0} (world : R → ComponentWorld) (r s t : R) (k l m : N) (x y z : I) (a b c : Built) → (s ≡ r) × (l ≡ k) × (y ≡ x) × RootGrows (world r) a b → (t ≡ s) × (m ≡ l) × (z ≡ y) × RootGrows (world s) b c →
     (t ≡ r) × (m ≡ k) × (z ≡ x) × RootGrows (world r) a c
 root_on world r s t k l m x y z a b c g h = (h.0 ∙ g.0, h.1 ∙ g.1, h.2 ∙ g.2, root_then a b c g.3 (subst (λ w. RootGrows (world w) b c) g.0 h.3))
+
+-- ---- instances of interfaces
+
+-- what was imported is still there in a longer list
+pub FindsInterfaces-kept : {w : ComponentWorld} {old new : List Def} {instances : List (InterfaceId × ℕ)} → Longer old new → FindsInterfaces w old instances → FindsInterfaces w new instances
+FindsInterfaces-kept {w} {old} {new} {instances} g h = record {
+  each = AllByRecursion-weaker
+      (λ e i. record { key = i.key; number = i.number; outer = i.outer; members = i.members; stated = i.stated; imported = instance_entry-kept g e.1 _ i.imported; functions = i.functions; types = i.types })
+      instances h.each;
+}
+
+pub known_kept : {w : ComponentWorld} {old new : List Def} {instances : List (InterfaceId × ℕ)} → Longer old new → AreInstancesKnown w old instances → AreInstancesKnown w new instances
+known_kept g h = record { finds = FindsInterfaces-kept g h.finds; needed = h.needed; imported = h.imported }
+
+-- of two states of a scope, each with a reference to what has the world, a value, and the instances
+pub known_on : {R N : Type 0} (world : R → ComponentWorld) (r s : R) (k l : N) (x y : List (InterfaceId × ℕ)) (a b : Built) → (s ≡ r) × (l ≡ k) × (y ≡ x) × RootGrows (world r) a b → AreInstancesKnown (world r) a.defs x → AreInstancesKnown (world s) b.defs y
+known_on world r s k l x y a b g h =
+    subst (λ t. AreInstancesKnown (world t) b.defs y) (sym g.0) (subst (λ es. AreInstancesKnown (world r) b.defs es) (sym g.2) (known_kept (longer_by g.3.grows) h))

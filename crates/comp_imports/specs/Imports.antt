@@ -1,5 +1,5 @@
 -- What is known of what was imported, and of what is the next import. (The rules are this project's own.)
-use Rattle.std.specs.Prelude.{◌≡◌, ◌<◌, ℕ, suc, List, Some, IsSome, IsTrue, Contains, map, slice_get}
+use Rattle.std.specs.Prelude.{◌≡◌, ◌<◌, ℕ, suc, List, Some, IsSome, IsTrue, Contains, map, slice_get, ◌⊎◌}
 use Rattle.comp_lists.specs.Found.{found}
 use Rattle.comp_bytes.specs.declared.def.Def.{Def}
 use Rattle.comp_trees.specs.Trees.{Origin, FunctionTree}
@@ -10,7 +10,7 @@ use Rattle.wit_data.specs.declared.worlds.WorldItem.{WorldItem}
 use Rattle.wit_data.specs.declared.worlds.WorldItem.TheVariants as items
 use Rattle.wit_data.specs.declared.worlds.WorldKey.{WorldKey}
 use Rattle.wit_data.specs.declared.worlds.WorldKey.TheVariants as keys
-use Rattle.comp_worlds.specs.Worlds.{imported_types}
+use Rattle.comp_worlds.specs.WorldContents.{items_of, imported_types}
 use Rattle.comp_worlds.specs.declared.world.ComponentWorld.{ComponentWorld}
 use Rattle.comp_links.specs.Modules.{function_imported}
 use Rattle.comp_links.specs.Targets.{OfRoot}
@@ -18,6 +18,7 @@ use Rattle.comp_links.specs.Lists.{IsOriginOf, WorldType, RootFunction, import_e
 use Rattle.comp_links.specs.Roles.{is_used}
 use Rattle.comp_terms.specs.Terms.{IsImportedFunction, imports_in}
 use Rattle.comp_terms.specs.Planned.{IsTypeOf}
+use Rattle.interface_needs.specs.RootNeeds.{IsUsedFunction, IsExportedFunction}
 
 -- the function is the world's root function of this name, as it is imported, with its type
 pub record IsRootImport (w : ComponentWorld) (ds : List Def) (index : ℕ) (text : List ℕ) : Type 0 where
@@ -26,6 +27,10 @@ pub record IsRootImport (w : ComponentWorld) (ds : List Def) (index : ℕ) (text
   pub of : IsOriginOf w (OfRoot text) origin
   pub typed : IsTypeOf w (OfRoot text) type
   pub is : IsImportedFunction ds index origin type
+
+-- a function at the root that core imports use, or that the world exports
+abbrev pub IsNeededFunction : ComponentWorld → Function → Type 0
+IsNeededFunction w f = ((name : List ℕ) × IsUsedFunction w name f) ⊎ IsExportedFunction w f
 
 -- each name is that of a root function, as it is imported
 pub record FindsImports (w : ComponentWorld) (ds : List Def) (functions : List (List ℕ × ℕ)) : Type 0 where
@@ -55,6 +60,7 @@ pub record IsNextId (w : ComponentWorld) (next : ℕ) (id : TypeId) : Type 0 whe
 
 -- the type is the next import, and it has no other number among the imports
 pub record IsNextTypeImport (w : ComponentWorld) (next : ℕ) (ds : List Def) (name : List ℕ) (id : TypeId) : Type 0 where
+  pub listed : Contains (items_of w).imports (keys.Name name, items.NamedType id)
   pub stated : slice_get (import_entries w) (imports_in ds) ≡ Some (WorldType name id)
   pub number : number_of_type id (import_entries w) ≡ imports_in ds
   pub order : IsNextId w next id

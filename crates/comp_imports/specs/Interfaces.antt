@@ -1,5 +1,5 @@
 -- What is known of the interfaces that were imported. (The rules are this project's own.)
-use Rattle.std.specs.Prelude.{◌≡◌, ◌≢◌, ◌+◌, ◌&&◌, ℕ, nat_eq, Bool, true, List, [], length, map, Some, slice_get, is_some, Contains}
+use Rattle.std.specs.Prelude.{◌≡◌, ◌≢◌, ◌+◌, ◌<◌, ℕ, nat_eq, Bool, true, List, [], length, Some, slice_get, is_some, IsSome}
 use Rattle.std.specs.List.{AllByRecursion, flat_map, list_any}
 use Rattle.std.specs.Map.{lookup}
 use Rattle.std.specs.Str.{bytes_eq}
@@ -20,13 +20,23 @@ use Rattle.wit_data.specs.declared.worlds.WorldItem.{WorldItem}
 use Rattle.wit_data.specs.declared.worlds.WorldItem.TheVariants as world_items
 use Rattle.wit_data.specs.declared.worlds.WorldKey.{WorldKey}
 use Rattle.world_values.specs.Items.{functions_of}
-use Rattle.comp_worlds.specs.Worlds.{items_of, imported_types, IsNamedPlain}
-use Rattle.comp_worlds.specs.Encodable.{IsBare}
+use Rattle.comp_worlds.specs.WorldContents.{items_of, imported_types}
+use Rattle.comp_worlds.specs.Worlds.{IsNamedPlain}
+use Rattle.comp_worlds.specs.Encodable.{place_in}
 use Rattle.wit_data.specs.Sound.{HasKey, HasInterface}
 use Rattle.comp_worlds.specs.declared.world.ComponentWorld.{ComponentWorld}
-use Rattle.comp_links.specs.Naming.{own_names}
-use Rattle.comp_links.specs.Lists.{ImportedInterface, interface_entries, import_entries, needed_types, resource_of}
-use Rattle.comp_links.specs.Roles.{is_used_of, used_functions_of}
+use Rattle.comp_links.specs.Naming.{Naming}
+use Rattle.comp_links.specs.Lists.{ImportedInterface, interface_entries, import_entries, names_of_interface, needed_types, number_of_interface, resource_of, type_of_world}
+use Rattle.type_scopes.specs.Foreign.{met_in_all}
+use Rattle.type_scopes.specs.Offers.{Offer, IsOfferedType}
+use Rattle.type_scopes.specs.declared.outer_type.OuterType.{OuterType}
+use Rattle.type_scopes.specs.contracts.outer_type.OuterTypePartialEq.TheImpl as same_type
+use Rattle.comp_trees.specs.DefinedScopes.{Denotes}
+use Rattle.type_scopes.specs.Interfaces.{ExportsType, used_among}
+use Rattle.type_scopes.specs.Titles.{is_one_of}
+use Rattle.interface_needs.specs.Needs.{IsImported}
+use Rattle.wit_data.specs.declared.ids.TypeId.{TypeId}
+use Rattle.comp_links.specs.Roles.{is_used_of}
 use Rattle.comp_terms.specs.Planned.{type_of_function}
 use Rattle.comp_terms.specs.Terms.{imports_in}
 use Rattle.comp_terms.specs.Rules.{Landmark, import_marked}
@@ -40,17 +50,13 @@ is_same_function = eq_of_both (on (λ k. k.interface.index) nat_eq) (on (λ k. k
 pub record AreInterfaceUses (w : ComponentWorld) (uses : List (InterfaceFunction × Unit {0})) : Type 0 where
   pub each : (k : InterfaceFunction) → is_some (lookup (is_same_function k) uses) ≡ is_used_of w k.interface k.name
 
--- a table has the names of those functions of an interface that core imports use, and no others
-pub record AreUsedNames (w : ComponentWorld) (id : InterfaceId) (used : List (List ℕ × Unit {0})) : Type 0 where
-  pub each : (text : List ℕ) → is_some (found text used) ≡ list_any (λ f. bytes_eq text f.0 && is_used_of w id f.0) (functions_of w.resolve id)
-
 -- how many imports come before the functions at the root: interfaces and types
 abbrev pub first_imports : ComponentWorld → ℕ
 first_imports w = length (interface_entries w) + length (imported_types w)
 
 -- the landmarks of the imported interfaces
-abbrev pub interfaces_marked : ComponentWorld → List Landmark
-interfaces_marked w = flat_map (import_marked own_names w) (interface_entries w)
+abbrev pub interfaces_marked : Naming → ComponentWorld → List Landmark
+interfaces_marked n w = flat_map (import_marked n w) (interface_entries w)
 
 -- an instance of a type with these members exports a function of this type under a name
 pub record ExportsFunction (s : Surroundings) (members : List Member) (name : List ℕ) (type : FunctionTree) : Type 0 where
@@ -65,6 +71,33 @@ pub record ExportsUsed (w : ComponentWorld) (id : InterfaceId) (s : Surroundings
 abbrev pub next_place : ComponentWorld → List Def → Place
 next_place w ds = record { surroundings = surroundings_of (imports_in ds) (scope_of ds); origin = resource_of w }
 
+-- each type of the interface that the component needs is exported, under its name
+abbrev pub ExportsNeeded : ComponentWorld → InterfaceId → Surroundings → List Member → Type 0
+ExportsNeeded w id s members = AllByRecursion (ExportsType s (resource_of w) w.resolve.types id members) (needed_types w id)
+
+-- a type that an instance exports which was imported
+pub record IsOfferable (w : ComponentWorld) (instances : List (InterfaceId × ℕ)) (t : OuterType) : Type 0 where
+  pub found : IsSome (lookup (same_id.eq-value.it t.interface) instances)
+  pub needed : is_one_of (needed_types w t.interface) t.id.index ≡ true
+
+-- what a table offers to an instance type that is defined next
+abbrev pub offer_of : ComponentWorld → List (OuterType × ℕ) → Offer
+offer_of w table = record { types = w.resolve.types; table = table }
+
+-- each index of a table denotes its type at the root
+pub record AreOffered (w : ComponentWorld) (ds : List Def) (table : List (OuterType × ℕ)) : Type 0 where
+  pub each : AllByRecursion (λ e. Denotes (scope_of ds) e.1 (type_of_world w e.0.id)) table
+
+-- a table has one type more, and those that it had
+pub record AddsType (old new : List (OuterType × ℕ)) (t : OuterType) : Type 0 where
+  pub there : is_some (lookup (same_type.eq-value.it t) new) ≡ true
+  pub still : (other : OuterType) → is_some (lookup (same_type.eq-value.it other) old) ≡ true → is_some (lookup (same_type.eq-value.it other) new) ≡ true
+
+-- a table offers, at the root, all types of other interfaces of which the instance type of an interface is made
+pub record AreTypesOffered (w : ComponentWorld) (ds : List Def) (id : InterfaceId) (used : List (List ℕ × Unit {0})) (table : List (OuterType × ℕ)) : Type 0 where
+  pub offered : AreOffered w ds table
+  pub all : AllByRecursion (IsOfferedType (offer_of w table)) (met_in_all w.resolve.types id (needed_types w id) (used_among used (functions_of w.resolve id)))
+
 -- the instance is the world's interface, as it is imported
 pub record IsInterfaceImport (w : ComponentWorld) (ds : List Def) (id : InterfaceId) (index : ℕ) : Type 0 where
   pub key : WorldKey
@@ -74,27 +107,33 @@ pub record IsInterfaceImport (w : ComponentWorld) (ds : List Def) (id : Interfac
   pub stated : slice_get (import_entries w) number ≡ Some (ImportedInterface key id)
   pub imported : slice_get (inventory ds).instances index ≡ Some (ImportedInstance number outer members)
   pub functions : ExportsUsed w id (surroundings_of number outer) members
+  pub types : ExportsNeeded w id (surroundings_of number outer) members
 
--- the interface is the next import, if core imports use one of its functions; it is one of functions without named types
-pub record IsNextInterface (w : ComponentWorld) (ds : List Def) (key : WorldKey) (id : InterfaceId) : Type 0 where
+-- an interface of which something is needed is found
+abbrev pub IsFoundInterface : ComponentWorld → List (InterfaceId × ℕ) → InterfaceId → Type 0
+IsFoundInterface w instances id = names_of_interface w id ≢ [] → is_some (lookup (same_id.eq-value.it id) instances) ≡ true
+
+-- interfaces that are imported before this one are found
+pub record AreEarlierFound (w : ComponentWorld) (instances : List (InterfaceId × ℕ)) (id : InterfaceId) : Type 0 where
+  pub each : (other : InterfaceId) → place_in (items_of w).imports other < place_in (items_of w).imports id → IsFoundInterface w instances other
+
+-- The interface is the next import, if something of it is needed, and has no other number among the imports. Interfaces that
+-- are imported before it are found.
+pub record IsNextInterface (w : ComponentWorld) (ds : List Def) (instances : List (InterfaceId × ℕ)) (key : WorldKey) (id : InterfaceId) : Type 0 where
   pub has_key : HasKey w.resolve key
   pub present : HasInterface w.resolve id
+  pub imported : IsImported w id
   pub plain : AllByRecursion (IsNamedPlain w.resolve.types) (functions_of w.resolve id)
-  pub bare : IsBare w.resolve (world_items.Interface id)
-  pub unneeded : needed_types w id ≡ []
-  pub stated : used_functions_of w id ≢ [] → slice_get (import_entries w) (imports_in ds) ≡ Some (ImportedInterface key id)
+  pub stated : names_of_interface w id ≢ [] → slice_get (import_entries w) (imports_in ds) ≡ Some (ImportedInterface key id)
+  pub number : names_of_interface w id ≢ [] → number_of_interface id (import_entries w) ≡ imports_in ds
+  pub earlier : AreEarlierFound w instances id
 
 -- so is that of an item of the world, if it is one
-abbrev pub IsNextInterfaceItem : ComponentWorld → List Def → WorldKey × WorldItem → Type 0
-IsNextInterfaceItem w ds (key, world_items.Interface id) = IsNextInterface w ds key id
-IsNextInterfaceItem w ds entry = Unit {0}
+abbrev pub IsNextInterfaceItem : ComponentWorld → List Def → List (InterfaceId × ℕ) → WorldKey × WorldItem → Type 0
+IsNextInterfaceItem w ds instances (key, world_items.Interface id) = IsNextInterface w ds instances key id
+IsNextInterfaceItem w ds instances entry = Unit {0}
 
--- an imported interface of which core imports use a function is found
-abbrev pub IsFoundInterface : ComponentWorld → List (InterfaceId × ℕ) → InterfaceId → Type 0
-IsFoundInterface w instances id =
-    (name : List ℕ) → Contains (map (λ f. f.0) (functions_of w.resolve id)) name → is_used_of w id name ≡ true → is_some (lookup (same_id.eq-value.it id) instances) ≡ true
-
--- an interface among the items of the world is found, if core imports use a function of it
+-- so is an interface among the items of the world
 abbrev pub IsFoundItem : ComponentWorld → List (InterfaceId × ℕ) → WorldKey × WorldItem → Type 0
 IsFoundItem w instances (key, world_items.Interface id) = IsFoundInterface w instances id
 IsFoundItem w instances entry = Unit {0}
@@ -107,6 +146,12 @@ pub record FindsInterfacesStill (old new : List (InterfaceId × ℕ)) : Type 0 w
 pub record FindsInterfaces (w : ComponentWorld) (ds : List Def) (instances : List (InterfaceId × ℕ)) : Type 0 where
   pub each : AllByRecursion (λ e. IsInterfaceImport w ds e.0 e.1) instances
 
--- so is each
-pub record FindsUsedInterfaces (w : ComponentWorld) (instances : List (InterfaceId × ℕ)) : Type 0 where
-  pub each : (key : WorldKey) (id : InterfaceId) → Contains (items_of w).imports (key, world_items.Interface id) → IsFoundInterface w instances id
+-- each interface that the world imports is found, if something of it is needed
+pub record FindsNeededInterfaces (w : ComponentWorld) (instances : List (InterfaceId × ℕ)) : Type 0 where
+  pub each : (id : InterfaceId) → IsImported w id → IsFoundInterface w instances id
+
+-- what is known of the instances of the interfaces, once all are imported
+pub record AreInstancesKnown (w : ComponentWorld) (ds : List Def) (instances : List (InterfaceId × ℕ)) : Type 0 where
+  pub finds : FindsInterfaces w ds instances
+  pub needed : FindsNeededInterfaces w instances
+  pub imported : (id : InterfaceId) (t : TypeId) → is_one_of (needed_types w id) t.index ≡ true → IsImported w id

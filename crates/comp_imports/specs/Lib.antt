@@ -2,3 +2,4 @@ pub mod RootScopes
 pub mod Growing
 pub mod Imports
 pub mod Interfaces
+pub mod Names

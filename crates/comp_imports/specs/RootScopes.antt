@@ -10,9 +10,12 @@ use Rattle.comp_builder.specs.Built.{Built}
 use Rattle.comp_trees.specs.Trees.{ImportedAt}
 use Rattle.comp_trees.specs.Inventories.{scope_of}
 use Rattle.wit_data.specs.declared.ids.TypeId.{TypeId}
-use Rattle.comp_worlds.specs.Worlds.{imported_types}
+use Rattle.comp_worlds.specs.WorldContents.{imported_types}
 use Rattle.comp_worlds.specs.declared.world.ComponentWorld.{ComponentWorld}
-use Rattle.comp_links.specs.Lists.{resource_of}
+use Rattle.comp_links.specs.Lists.{needed_types, resource_of}
+use Rattle.type_scopes.specs.Titles.{is_one_of}
+use Rattle.wit_data.specs.declared.ids.InterfaceId.{InterfaceId}
+use Rattle.comp_imports.specs.Interfaces.{AreInstancesKnown}
 use Rattle.comp_terms.specs.Rules.{Grows}
 use Rattle.comp_items.specs.Items.{Extends}
 use Rattle.wit_types.specs.Settings.{Setting}
@@ -30,7 +33,7 @@ next_of (Some id) = suc id.index
 
 -- What definitions of types at the root take as given, where the types that the world imports are in the tables as far as the
 -- last one that was imported. They get their names where they are imported, and not while others are defined: so nothing is
--- exported, or imported, there.
+-- exported there. What is imported is a type that an instance of an interface exports.
 abbrev pub root_setting : ComponentWorld → Option TypeId → Setting
 root_setting w last =
     record {
@@ -38,7 +41,7 @@ root_setting w last =
       interface = None;
       origin = resource_of w;
       met = λ id. nat_lt id.index (next_of last) && is_imported_type w id;
-      may_import = λ other id. false;
+      may_import = λ other id. is_one_of (needed_types w other) id.index;
       may_own = λ n. true;
       may_export = λ name. false;
       resource = λ name. ImportedAt (record { number = 0; inner = None });
@@ -57,9 +60,9 @@ pub record RootGrows (w : ComponentWorld) (old new : Built) : Type 0 where
 abbrev pub is_full : List Def → ℕ → Type 0
 is_full ds count = (2 ^ 32 ≤ count) × (count ≡ items_in spaces.Type ds + 1)
 
--- each index in the tables denotes what it is the index of
-abbrev pub AreTablesRight : ComponentWorld → Option TypeId → List Def → TypeEncodingMaps → Type 0
-AreTablesRight w last ds maps = Faithful (root_setting w last) (scope_of ds) any_index maps
+-- each index in the tables denotes what it is the index of, and the instances of the interfaces are known
+abbrev pub AreTablesRight : ComponentWorld → Option TypeId → List (InterfaceId × ℕ) → List Def → TypeEncodingMaps → Type 0
+AreTablesRight w last instances ds maps = Faithful (root_setting w last) (scope_of ds) any_index (AreInstancesKnown w ds instances) maps
 
 -- each type that the world imports was imported
 abbrev pub ArePassed : ComponentWorld → Option TypeId → Type 0

@@ -10,10 +10,10 @@ ghost use Rattle.comp_terms.specs.Planned.{type_of_function};
 ghost use Rattle.comp_terms.specs.Rules.{Grows, named_import, names_marked};
 ghost use Rattle.comp_terms.specs.Terms.{IsImportedFunction, imports_in};
 ghost use Rattle.comp_worlds.specs.Encodable.{IsEncodable};
-ghost use Rattle.comp_worlds.specs.Worlds.{items_of, root_function};
+ghost use Rattle.comp_worlds.specs.WorldContents.{items_of, root_function};
 ghost use Rattle.wit_data.specs.Sound.{HasFunction};
 ghost use Rattle.comp_imports.specs.Interfaces.{first_imports};
-ghost use Rattle.comp_imports.specs.Imports.{FindsImports, FindsMore, FindsUsed, IsNext, IsNextItem};
+ghost use Rattle.comp_imports.specs.Imports.{FindsImports, FindsMore, FindsUsed, IsNeededFunction, IsNext, IsNextItem};
 ghost use Rattle.comp_imports.specs.RootScopes.{AreTablesRight, ArePassed, IsRefusal};
 
 use crate::root_scope::RootScope;
@@ -29,14 +29,15 @@ impl RootScope<'_, ComponentWorld> {
     fn import_function(&mut self, name: &Text, function: &Function) -> Result<u32, BuildFault>
         requires valid { IsEncodable self.old.world.now }
         requires present { HasFunction self.old.world.now.resolve function.now }
+        requires needed { IsNeededFunction self.old.world.now function.now }
         requires passed { ArePassed self.old.world.now self.old.last_type }
-        requires tables { AreTablesRight self.old.world.now self.old.last_type self.old.items.defs self.old.maps }
+        requires tables { AreTablesRight self.old.world.now self.old.last_type self.old.instances self.old.items.defs self.old.maps }
         ensures world { self.new.world ≡ self.old.world }
         ensures next { self.new.last_type ≡ self.old.last_type }
         ensures instances { self.new.instances ≡ self.old.instances }
         ensures extends { Extends self.old.items self.new.items }
         ensures grows { OnOk result (Grows self.old.world.now self.old.items.defs self.new.items.defs (named_import name.now ∷ [])) }
-        ensures tables { AreTablesRight self.old.world.now self.old.last_type self.new.items.defs self.new.maps }
+        ensures tables { AreTablesRight self.old.world.now self.old.last_type self.new.instances self.new.items.defs self.new.maps }
         ensures imported { IfOk result (λ index. IsImportedFunction self.new.items.defs index (record { number = imports_in self.old.items.defs; inner = None }) (type_of_function self.old.world.now function.now)) }
         ensures cause { IfErr result IsRefusal }
     {
@@ -60,7 +61,7 @@ impl RootScope<'_, ComponentWorld> {
         requires valid { IsEncodable self.old.world.now }
         requires present { HasFunction self.old.world.now.resolve function.now }
         requires passed { ArePassed self.old.world.now self.old.last_type }
-        requires tables { AreTablesRight self.old.world.now self.old.last_type self.old.items.defs self.old.maps }
+        requires tables { AreTablesRight self.old.world.now self.old.last_type self.old.instances self.old.items.defs self.old.maps }
         requires used { (text : List ℕ) → is_some (found text used.now) ≡ is_used self.old.world.now text }
         requires next { IsNext self.old.world.now self.old.items.defs name.now function.now }
         requires imports { FindsImports self.old.world.now self.old.items.defs functions.old }
@@ -69,7 +70,7 @@ impl RootScope<'_, ComponentWorld> {
         ensures instances { self.new.instances ≡ self.old.instances }
         ensures extends { Extends self.old.items self.new.items }
         ensures grows { OnOk result (Grows self.old.world.now self.old.items.defs self.new.items.defs (names_marked self.old.world.now (name.now ∷ []))) }
-        ensures tables { AreTablesRight self.old.world.now self.old.last_type self.new.items.defs self.new.maps }
+        ensures tables { AreTablesRight self.old.world.now self.old.last_type self.new.instances self.new.items.defs self.new.maps }
         ensures imports { OnOk result (FindsImports self.old.world.now self.new.items.defs functions.new) }
         ensures finds { FindsMore functions.old functions.new }
         ensures found { OnOk result (IsTrue (is_used self.old.world.now name.now) → IsSome (found name.now functions.new)) }
@@ -94,7 +95,7 @@ impl RootScope<'_, ComponentWorld> {
     ) -> Result<(), BuildFault>
         requires valid { IsEncodable self.old.world.now }
         requires passed { ArePassed self.old.world.now self.old.last_type }
-        requires tables { AreTablesRight self.old.world.now self.old.last_type self.old.items.defs self.old.maps }
+        requires tables { AreTablesRight self.old.world.now self.old.last_type self.old.instances self.old.items.defs self.old.maps }
         requires used { (text : List ℕ) → is_some (found text used.now) ≡ is_used self.old.world.now text }
         requires next { IsNextItem self.old.world.now self.old.items.defs (key.now, item.now) }
         requires imports { FindsImports self.old.world.now self.old.items.defs functions.old }
@@ -103,7 +104,7 @@ impl RootScope<'_, ComponentWorld> {
         ensures instances { self.new.instances ≡ self.old.instances }
         ensures extends { Extends self.old.items self.new.items }
         ensures grows { OnOk result (Grows self.old.world.now self.old.items.defs self.new.items.defs (names_marked self.old.world.now (root_function (key.now, item.now)))) }
-        ensures tables { AreTablesRight self.old.world.now self.old.last_type self.new.items.defs self.new.maps }
+        ensures tables { AreTablesRight self.old.world.now self.old.last_type self.new.instances self.new.items.defs self.new.maps }
         ensures imports { OnOk result (FindsImports self.old.world.now self.new.items.defs functions.new) }
         ensures finds { FindsMore functions.old functions.new }
         ensures found { OnOk result (AllByRecursion (λ name. IsTrue (is_used self.old.world.now name) → IsSome (found name functions.new)) (root_function (key.now, item.now))) }
@@ -128,13 +129,13 @@ impl RootScope<'_, ComponentWorld> {
         requires used { (text : List ℕ) → is_some (found text used.now) ≡ is_used self.old.world.now text }
         requires types { imports_in self.old.items.defs ≡ first_imports self.old.world.now }
         requires passed { ArePassed self.old.world.now self.old.last_type }
-        requires tables { AreTablesRight self.old.world.now self.old.last_type self.old.items.defs self.old.maps }
+        requires tables { AreTablesRight self.old.world.now self.old.last_type self.old.instances self.old.items.defs self.old.maps }
         ensures world { self.new.world ≡ self.old.world }
         ensures next { self.new.last_type ≡ self.old.last_type }
         ensures instances { self.new.instances ≡ self.old.instances }
         ensures extends { Extends self.old.items self.new.items }
         ensures grows { OnOk result (Grows self.old.world.now self.old.items.defs self.new.items.defs (map named_import (used_functions self.old.world.now))) }
-        ensures tables { AreTablesRight self.old.world.now self.old.last_type self.new.items.defs self.new.maps }
+        ensures tables { AreTablesRight self.old.world.now self.old.last_type self.new.instances self.new.items.defs self.new.maps }
         ensures imports { IfOk result (FindsImports self.old.world.now self.new.items.defs) }
         ensures found { IfOk result (FindsUsed self.old.world.now) }
         ensures cause { IfErr result IsRefusal }
@@ -152,13 +153,13 @@ impl RootScope<'_, ComponentWorld> {
         requires valid { IsEncodable self.old.world.now }
         requires types { imports_in self.old.items.defs ≡ first_imports self.old.world.now }
         requires passed { ArePassed self.old.world.now self.old.last_type }
-        requires tables { AreTablesRight self.old.world.now self.old.last_type self.old.items.defs self.old.maps }
+        requires tables { AreTablesRight self.old.world.now self.old.last_type self.old.instances self.old.items.defs self.old.maps }
         ensures world { self.new.world ≡ self.old.world }
         ensures next { self.new.last_type ≡ self.old.last_type }
         ensures instances { self.new.instances ≡ self.old.instances }
         ensures extends { Extends self.old.items self.new.items }
         ensures grows { OnOk result (Grows self.old.world.now self.old.items.defs self.new.items.defs (map named_import (used_functions self.old.world.now))) }
-        ensures tables { AreTablesRight self.old.world.now self.old.last_type self.new.items.defs self.new.maps }
+        ensures tables { AreTablesRight self.old.world.now self.old.last_type self.new.instances self.new.items.defs self.new.maps }
         ensures imports { IfOk result (FindsImports self.old.world.now self.new.items.defs) }
         ensures found { IfOk result (FindsUsed self.old.world.now) }
         ensures cause { IfErr result IsRefusal }

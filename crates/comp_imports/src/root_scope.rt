@@ -18,7 +18,11 @@ ghost use Rattle.comp_terms.specs.Planned.{type_of_function};
 ghost use Rattle.comp_terms.specs.Terms.{IsFunctionType};
 ghost use Rattle.comp_worlds.specs.Encodable.{IsEncodable};
 ghost use Rattle.comp_imports.specs.RootScopes.{root_setting, any_index, RootGrows, is_full, AreTablesRight, ArePassed};
-ghost use Rattle.comp_imports.specs.Growing.{root_same, root_on};
+ghost use Rattle.comp_imports.specs.Growing.{known_on, root_same, root_on};
+ghost use Rattle.comp_imports.specs.Imports.{IsNeededFunction};
+ghost use Rattle.comp_imports.specs.Interfaces.{AreInstancesKnown};
+ghost use Rattle.comp_links.specs.Lists.{needed_types};
+ghost use Rattle.type_scopes.specs.Titles.{is_one_of};
 
 use byte_encoding::BuildFault;
 use comp_bytes::{DefinedType, ExternName, FuncTypeDef};
@@ -34,10 +38,18 @@ pub trait HasWorld {
     ghost use Rattle.comp_worlds.specs.declared.world.ComponentWorld.{ComponentWorld as World};
 
     ghost world: { Self → World };
+
+    /// The world.
+    fn as_world(&self) -> &ComponentWorld
+        ensures { result.now ≡ world self.now };
 }
 
 impl HasWorld for ComponentWorld {
     ghost world = { λ w. w };
+
+    fn as_world(&self) -> &ComponentWorld {
+        self
+    }
 }
 
 /// The root of a component under construction, as a scope of types: its items, and the tables of the types that were met.
@@ -95,18 +107,20 @@ impl<'a> RootScope<'a, ComponentWorld> {
         items
     }
 
-    /// The index of the type of a function of the world, which is defined, where it is not yet.
+    /// The index of the type of a function at the root of the world that core imports use, or that is exported. It is defined,
+    /// where it is not yet.
     pub fn function_type(&mut self, function: &Function) -> Result<u32, BuildFault>
         requires valid { IsEncodable self.old.world.now }
         requires present { HasFunction self.old.world.now.resolve function.now }
+        requires needed { IsNeededFunction self.old.world.now function.now }
         requires passed { ArePassed self.old.world.now self.old.last_type }
-        requires tables { AreTablesRight self.old.world.now self.old.last_type self.old.items.defs self.old.maps }
+        requires tables { AreTablesRight self.old.world.now self.old.last_type self.old.instances self.old.items.defs self.old.maps }
         ensures typed { IfOk result (λ index. IsFunctionType self.new.items.defs index (type_of_function self.old.world.now function.now)) }
         ensures world { self.new.world ≡ self.old.world }
         ensures next { self.new.last_type ≡ self.old.last_type }
         ensures instances { self.new.instances ≡ self.old.instances }
         ensures grows { RootGrows self.old.world.now self.old.items self.new.items }
-        ensures tables { AreTablesRight self.old.world.now self.old.last_type self.new.items.defs self.new.maps }
+        ensures tables { AreTablesRight self.old.world.now self.old.last_type self.new.instances self.new.items.defs self.new.maps }
         ensures cause { IfErr result (IsCause is_full self.new.items.defs) }
     {
         let world = self.world;
@@ -128,6 +142,8 @@ impl<'a, W: HasWorld> ValtypeEncoder for RootScope<'a, W> {
 
     ghost names = { λ e name index. any_index name index };
 
+    ghost offers = { λ e. AreInstancesKnown (W.world e.world.now) e.items.defs e.instances };
+
     ghost refuses = { λ e count. is_full e.items.defs count };
 
     ghost follows_itself = { λ e. (refl, refl, refl, root_same (W.world e.world.now) e.items) };
@@ -135,6 +151,8 @@ impl<'a, W: HasWorld> ValtypeEncoder for RootScope<'a, W> {
     ghost follows_on = { λ a b c g h. root_on (λ r. W.world r.now) a.world b.world c.world a.last_type b.last_type c.last_type a.instances b.instances c.instances a.items b.items c.items g h };
 
     ghost names_kept = { λ a b g name index h. h };
+
+    ghost offers_kept = { λ a b g known. known_on (λ r. W.world r.now) a.world b.world a.last_type b.last_type a.instances b.instances a.items b.items g known };
 
     ghost follows_maps = { λ e m. (refl, refl, refl, root_same (W.world e.world.now) e.items) };
 
@@ -197,17 +215,17 @@ impl<'a, W: HasWorld> ValtypeEncoder for RootScope<'a, W> {
         Err(BuildFault::Memory)
     }
 
-    /// No type may be imported here (`root_setting`), so that no caller may ask for this: it refuses.
+    /// The alias of a type that the instance of an imported interface exports.
     fn import_type(&mut self, interface: InterfaceId, id: TypeId) -> Result<u32, BuildFault>
-        ensures same { self.new ≡ self.old }
+        requires may { is_one_of (needed_types (W.world self.old.world.now) interface) id.index ≡ true }
+        requires offers { AreInstancesKnown (W.world self.old.world.now) self.old.items.defs self.old.instances }
         ensures makes { Makes (scope_of self.old.items.defs) (scope_of self.new.items.defs) result (OfValues (tree_in (root_setting (W.world self.old.world.now) self.old.last_type) (Some (Id id)))) }
         ensures setting { root_setting (W.world self.new.world.now) self.new.last_type ≡ root_setting (W.world self.old.world.now) self.old.last_type }
         ensures maps { self.new.maps ≡ self.old.maps }
         ensures follows { (self.new.world ≡ self.old.world) × (self.new.last_type ≡ self.old.last_type) × (self.new.instances ≡ self.old.instances) × RootGrows (W.world self.old.world.now) self.old.items self.new.items }
         ensures cause { IfErr result (IsCause is_full self.new.items.defs) }
     {
-        let _ = (interface, id);
-        Err(BuildFault::Memory)
+        self.alias_type(interface, id)
     }
 
     fn type_encoding_maps(&mut self) -> &mut TypeEncodingMaps {

@@ -7,13 +7,14 @@ ghost use Rattle.std.specs.Map.{lookup};
 ghost use Rattle.std.specs.List.{list_any};
 ghost use Rattle.comp_links.specs.Roles.{is_used, is_any_import, is_named, interface_function};
 ghost use Rattle.wit_data.specs.Sound.{HasInterface};
-ghost use Rattle.comp_imports.specs.Interfaces.{is_same_function, AreInterfaceUses, AreUsedNames};
+ghost use Rattle.interface_needs.specs.Needs.{AreUsedNames, AreFunctionsApart};
+ghost use Rattle.comp_imports.specs.Interfaces.{is_same_function, AreInterfaceUses};
 
 use crate::interface_function::InterfaceFunction;
 use comp_lists::{Keyed, Text};
 use comp_worlds::{ComponentWorld, Import, ImportInstance};
 use std::alloc::{AllocError, Global};
-use wit_data::{InterfaceId, WorldKey};
+use wit_data::{InterfaceId, TypeId, WorldKey};
 
 /// Adds the root functions that these imports use.
 #[tactic(auto, using(crate::proofs::Indexing::used_step))]
@@ -122,7 +123,8 @@ pub(crate) fn used_names(
 ) -> Result<Keyed<Text, ()>, AllocError>
     requires present { HasInterface world.now.resolve interface }
     requires uses { AreInterfaceUses world.now uses.now }
-    ensures { IfOk result (AreUsedNames world.now interface) }
+    ensures used { IfOk result (AreUsedNames world.now interface) }
+    ensures apart { IfOk result (λ _. AreFunctionsApart world.now interface) }
 {
     let mut used = Keyed::new(alloc);
     for (name, _) in world.resolve.interfaces.as_slice()[interface.index]
@@ -134,9 +136,9 @@ pub(crate) fn used_names(
     Ok(used)
 }
 
-/// Whether a table has no entry.
-pub(crate) fn is_empty(table: &Keyed<Text, ()>) -> bool
-    ensures { MatchBool result (table.now ≡ []) (table.now ≢ []) }
+/// Whether nothing of an interface is needed: none of its types, and none of its functions.
+pub(crate) fn is_unneeded(needed: &[TypeId], used: &Keyed<Text, ()>) -> bool
+    ensures { MatchBool result ((needed.now ≡ []) × (used.now ≡ [])) (needed.now ≡ [] → used.now ≢ []) }
 {
-    table.iter().next().is_none()
+    needed.is_empty() && used.iter().next().is_none()
 }

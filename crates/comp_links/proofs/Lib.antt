@@ -1,1 +1,2 @@
 pub mod WorkedRoles
+pub mod WorkedImports

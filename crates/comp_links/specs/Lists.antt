@@ -2,7 +2,6 @@
 -- of a component; binary format: name section).
 use Rattle.std.specs.Prelude.{◌≡◌, ◌==◌, ◌++◌, ℕ, suc, List, [], ◌∷◌, codes, map, Option, Some, None, slice_get, if◌then◌else◌, unwrap_or}
 use Rattle.std.specs.List.{flat_map}
-use Rattle.std.specs.Option.{option_and_then}
 use Rattle.std.specs.Map.{lookup}
 use Rattle.comp_bytes.specs.declared.space.Sort.{Sort}
 use Rattle.comp_bytes.specs.declared.space.Sort.TheVariants as sorts
@@ -21,7 +20,7 @@ use Rattle.wit_data.specs.declared.worlds.WorldKey.{WorldKey}
 use Rattle.world_values.specs.Items.{functions_of}
 use Rattle.wit_data.specs.declared.ids.InterfaceId.{InterfaceId}
 use Rattle.wit_data.specs.declared.ids.TypeId.{TypeId}
-use Rattle.comp_worlds.specs.Worlds.{items_of, imported_types}
+use Rattle.comp_worlds.specs.WorldContents.{items_of, imported_types, interface_at, name_at}
 use Rattle.comp_worlds.specs.declared.world.ComponentWorld.{ComponentWorld}
 use Rattle.wit_data.specs.declared.types.Type.TheVariants.{Id}
 use Rattle.comp_trees.specs.Trees.{Origin, Resource, ImportedAt}
@@ -58,7 +57,7 @@ abbrev pub needed_types : ComponentWorld → InterfaceId → List TypeId
 needed_types w id = unwrap_or (lookup (λ (other : InterfaceId). id.index == other.index) w.live_type_imports) []
 
 abbrev pub type_name : ComponentWorld → TypeId → List ℕ
-type_name w id = text_of (option_and_then (λ t. t.name) (slice_get w.resolve.types id.index))
+type_name w id = text_of (name_at w.resolve.types id.index)
 
 -- the names that the instance type of an imported interface exports: those of its types that are needed, then those of its
 -- functions that core imports use
@@ -93,9 +92,31 @@ number_of_type id [] = 0
 number_of_type id (WorldType name of ∷ entries) = if id.index == of.index then 0 else suc (number_of_type id entries)
 number_of_type id (e ∷ entries) = suc (number_of_type id entries)
 
--- the resource that a type of the world is, where it is one
+-- the number of the import of an interface
+abbrev pub number_of_interface : InterfaceId → List ImportEntry → ℕ
+number_of_interface id [] = 0
+number_of_interface id (ImportedInterface key of ∷ entries) = if id.index == of.index then 0 else suc (number_of_interface id entries)
+number_of_interface id (e ∷ entries) = suc (number_of_interface id entries)
+
+-- where a type is imported: in the instance of its interface, under its name, or at the root
+abbrev pub origin_of_type : ComponentWorld → TypeId → Origin
+origin_of_type w id = elim (interface_at w.resolve.types id.index) [
+  | None ↦ record { number = number_of_type id (import_entries w); inner = None }
+  | Some interface ↦ record { number = number_of_interface interface (import_entries w); inner = Some (type_name w id) }
+]
+
+-- the resource that an imported type is, where it is one
 abbrev pub resource_of : ComponentWorld → TypeId → Resource
-resource_of w id = ImportedAt (record { number = number_of_type id (import_entries w); inner = None })
+resource_of w id = ImportedAt (origin_of_type w id)
+
+-- the types that the component imports: those that the world does, and of its interfaces those that are needed
+abbrev pub needed_of : ComponentWorld → ImportEntry → List TypeId
+needed_of w (ImportedInterface key id) = needed_types w id
+needed_of w (WorldType name id) = id ∷ []
+needed_of w (RootFunction name) = []
+
+abbrev pub component_types : ComponentWorld → List TypeId
+component_types w = flat_map (needed_of w) (import_entries w)
 
 -- what a type of the world denotes, and what the types denote that it imports, in order
 abbrev pub type_of_world : ComponentWorld → TypeId → TypeTree

@@ -6,7 +6,7 @@ use Rattle.std.specs.Str.{bytes_eq}
 use Rattle.wit_data.specs.Keys.{name_of_key}
 use Rattle.comp_roles.specs.Functions.{of_function}
 use Rattle.comp_roles.specs.CoreImports.{fields_of}
-use Rattle.comp_worlds.specs.Worlds.{imported_name, imported_functions}
+use Rattle.comp_worlds.specs.WorldContents.{imported_name, imported_functions}
 use Rattle.wit_data.specs.declared.ids.InterfaceId.{InterfaceId}
 use Rattle.wit_data.specs.declared.worlds.WorldKey.{WorldKey}
 use Rattle.world_values.specs.Items.{functions_of}

@@ -1,5 +1,5 @@
 -- The steps in their order build a whole component.
-use Rattle.comp_links.specs.Naming.{own_names}
+use Rattle.comp_links.specs.Naming.{Naming}
 use Rattle.std.proofs.Common.{◌≡◌, ◌∙◌, ℕ, ◌==◌, Bool, true, false, List, [], ◌∷◌, ◌++◌, length, refl, sym, ap, subst, append-nil, append_assoc, Option, Some, None, IsSome, is_some, inl, inr, true≢false, if◌then◌else◌}
 use Rattle.comp_lists.proofs.Lists.{AllByRecursion-contains}
 use Rattle.comp_builder.specs.Built.{Built}
@@ -10,7 +10,7 @@ use Rattle.comp_bytes.specs.declared.def.Def.TheVariants as defs
 use Rattle.comp_bytes.specs.declared.def.Item.TheVariants as items
 use Rattle.std.specs.Prelude.{codes}
 use Rattle.comp_roles.specs.CoreImports.{CoreImport}
-use Rattle.comp_worlds.specs.Worlds.{core_imports}
+use Rattle.comp_worlds.specs.WorldContents.{core_imports}
 use Rattle.wit_data.specs.declared.worlds.WorldKey.{WorldKey}
 use Rattle.comp_worlds.specs.declared.world.ComponentWorld.{ComponentWorld}
 use Rattle.comp_state.specs.Causes.{IsEncoded, LacksEncoding}
@@ -21,15 +21,15 @@ use Rattle.comp_terms.specs.Rules.{Grows, RightAfter, Landmark, ModuleIs, Instan
 use Rattle.comp_imports.specs.Growing.{Grows-then}
 
 -- a list that grew from the empty one
-pub built_from : (w : ComponentWorld) (old new : List Def) → old ≡ [] → Grows w old new (expected own_names w) → IsUnnamed own_names w new
-built_from w old new empty g =
+pub built_from : (n : Naming) (w : ComponentWorld) (old new : List Def) → old ≡ [] → Grows w old new (expected n w) → IsUnnamed n w new
+built_from n w old new empty g =
     let same : new ≡ g.more = g.extended ∙ ap (λ l. l ++ g.more) empty in
     let right : RightAfter w [] g.more = subst (λ l. RightAfter w l g.more) empty g.right in
     record { right = subst (λ l. RightAfter w [] l) (sym same) right; marked = ap landmarks same ∙ g.marked }
 
-pub built_by_steps : (w : ComponentWorld) (a b c d e : List Def) → a ≡ [] → Grows w a b (imports_marked own_names w) → Grows w b c (ModuleIs w.main.bytes ∷ []) → Grows w c d (InstanceOf 0 ∷ []) →
-    Grows w d e (exports_marked w) → IsUnnamed own_names w e
-built_by_steps w a b c d e empty imports main instance exports = built_from w a e empty (Grows-then imports (Grows-then main (Grows-then instance exports)))
+pub built_by_steps : (n : Naming) (w : ComponentWorld) (a b c d e : List Def) → a ≡ [] → Grows w a b (imports_marked n w) → Grows w b c (ModuleIs w.main.bytes ∷ []) → Grows w c d (InstanceOf 0 ∷ []) →
+    Grows w d e (exports_marked w) → IsUnnamed n w e
+built_by_steps n w a b c d e empty imports main instance exports = built_from n w a e empty (Grows-then imports (Grows-then main (Grows-then instance exports)))
 
 -- the landmarks of a list that grew from the empty one
 pub marked_from : (w : ComponentWorld) (old new : List Def) (m : List Landmark) → old ≡ [] → Grows w old new m → landmarks new ≡ m
@@ -40,11 +40,11 @@ right_after w earlier [] more h k = subst (λ l. RightAfter w l more) (append-ni
 right_after w earlier (d ∷ ds) more h k = (h.0, right_after w (earlier ++ d ∷ []) ds more h.1 (subst (λ l. RightAfter w l more) (sym (append_assoc earlier (d ∷ []) ds)) k))
 
 -- a component with the names of its items, where there are any
-pub built_named : (w : ComponentWorld) (old new : Built) → new ≡ with_names old → IsUnnamed own_names w old.defs → IsBuilt own_names w new.defs
-built_named w old new same h = subst (λ (b : Built). IsBuilt own_names w b.defs) (sym same) (named (length old.names == 0) (names_text old.names).bytes)
+pub built_named : (n : Naming) (w : ComponentWorld) (old new : Built) → new ≡ with_names old → IsUnnamed n w old.defs → IsBuilt n w new.defs
+built_named n w old new same h = subst (λ (b : Built). IsBuilt n w b.defs) (sym same) (named (length old.names == 0) (names_text old.names).bytes)
   where
     named : (b : Bool) (contents : List ℕ) →
-        IsBuilt own_names w (if b then old else record { defs = old.defs ++ defs.Item (items.Custom (codes "component-name") contents) ∷ []; names = old.names }).defs
+        IsBuilt n w (if b then old else record { defs = old.defs ++ defs.Item (items.Custom (codes "component-name") contents) ∷ []; names = old.names }).defs
     named true contents = record { front = old.defs; names = []; whole = sym (append-nil old.defs); right = h.right; marked = h.marked; named = tt }
     named false contents = record {
       front = old.defs;

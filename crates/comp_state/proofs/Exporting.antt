@@ -20,7 +20,8 @@ use Rattle.wit_data.specs.declared.worlds.WorldItem.TheVariants as world_items
 use Rattle.std.specs.Map.{lookup}
 use Rattle.std.proofs.lemmas.Slice.Eq.{bytes_eq-Decides}
 use Rattle.comp_worlds.specs.Encodable.{IsEncodable}
-use Rattle.comp_worlds.specs.Worlds.{IsRequired, IsExportRole, IsExportItem, items_of, root_function, exported_functions, core_name_of, core_imports}
+use Rattle.comp_worlds.specs.WorldContents.{items_of, root_function, exported_functions, core_name_of, core_imports}
+use Rattle.comp_worlds.specs.Worlds.{IsRequired, IsExportRole, IsExportItem}
 use Rattle.wit_data.specs.declared.worlds.WorldKey.{WorldKey}
 use Rattle.comp_worlds.specs.declared.world.ComponentWorld.{ComponentWorld}
 use Rattle.comp_state.specs.declared.fault.StateFault.{StateFault}
@@ -28,6 +29,8 @@ use Rattle.comp_state.specs.Causes.{IsCause, IsCauseAmong}
 use Rattle.comp_items.specs.Items.{Extends, MayAdd}
 use Rattle.comp_items.proofs.Extending.{extends_none, extends_then}
 use Rattle.comp_state.specs.Encoding.{IsRequiredLift}
+use Rattle.interface_needs.specs.RootNeeds.{IsExportedFunction}
+use Rattle.interface_needs.proofs.Lists.{all_of_each}
 use Rattle.comp_imports.proofs.Elements.{contains_one, contains_none, contains_cons}
 use Rattle.comp_trees.specs.Trees.{FunctionTree}
 use Rattle.comp_terms.specs.Planned.{type_of_function}
@@ -240,3 +243,12 @@ function_sound w ok key some f e =
     let exports = (world_at w.resolve w.resolve.worlds w.world.index ok.valid.present ok.sound.worlds).exports in
     let there = item_there (items_of w).exports (HasEntry w.resolve) key (world_items.Function k.function) exports k.is in
     subst (λ x. HasFunction w.resolve x) same there.1.1
+
+-- it is one of the world's exports
+pub function_exported : (w : ComponentWorld) → IsEncodable w → (key : WorldKey) → IsSome (core_name_of w key) → (f : Function) → root_function_at (items_of w).exports key ≡ Some f → IsExportedFunction w f
+function_exported w ok key some f e =
+    let k = key_function w ok key some in
+    let same : k.function ≡ f = same_Some k.function f (sym (ap (option_and_then function_in) k.is) ∙ e) in
+    let es = (items_of w).exports in
+    let there = item_there es (Contains es) key (world_items.Function k.function) (all_of_each (Contains es) es (λ x c. c)) k.is in
+    record { key = there.0; there = subst (λ x. Contains es (there.0, world_items.Function x)) same there.1 }

@@ -36,11 +36,8 @@ use Rattle.comp_items.proofs.Remembering.{longer}
 use Rattle.comp_items.proofs.Kept.{Longer, at-kept, instance-kept, term-kept}
 use Rattle.comp_imports.specs.RootScopes.{AreTablesRight, ArePassed}
 use Rattle.comp_imports.specs.Imports.{FindsImports, FindsUsed}
-use Rattle.wit_types.specs.Maps.{no_maps}
-use Rattle.comp_imports.proofs.Growth.{tables_kept, tables_start}
+use Rattle.comp_imports.proofs.Growth.{tables_kept}
 use Rattle.comp_imports.proofs.Finding.{FindsImports-kept}
-use Rattle.comp_imports.specs.Interfaces.{FindsInterfaces, FindsUsedInterfaces}
-use Rattle.comp_imports.proofs.InterfaceLoop.{FindsInterfaces-kept}
 use Rattle.std.proofs.lemmas.Option.{same_Some}
 use Rattle.comp_state.specs.declared.state.Step.{Step}
 use Rattle.comp_state.specs.declared.state.Step.TheVariants.{Started, Imported, Instantiated}
@@ -75,49 +72,46 @@ module _ {w : ComponentWorld} {old new : List Def} (g : Longer old new) where
 -- ---- the look-ups hold what they held
 
 pub sources-kept : {w : ComponentWorld} {s : ImportSources} {last : Option TypeId} {old new : Built} {maps : TypeEncodingMaps} {instances : List (InterfaceId × ℕ)} → Extends old new → AreSources w s last old.defs maps instances → AreSources w s last new.defs maps instances
-sources-kept {w} {s} {last} {old} {new} {maps} {instances} g h = record { valid = h.valid; imports = FindsImports-kept (longer g) h.imports; used = h.used; interfaces = FindsInterfaces-kept (longer g) h.interfaces; reached = h.reached; tables = tables_kept w last old new maps g h.tables; passed = h.passed }
+sources-kept {w} {s} {last} {old} {new} {maps} {instances} g h = record { valid = h.valid; imports = FindsImports-kept (longer g) h.imports; used = h.used; tables = tables_kept w last instances old new maps g h.tables; passed = h.passed }
 
-pub exports-kept : {w : ComponentWorld} {e : MainExports} {last : Option TypeId} {old new : Built} {maps now : TypeEncodingMaps} → Extends old new → AreTablesRight w last new.defs now → AreExports w e last old.defs maps → AreExports w e last new.defs now
+pub exports-kept : {w : ComponentWorld} {e : MainExports} {last : Option TypeId} {old new : Built} {maps now : TypeEncodingMaps} {before instances : List (InterfaceId × ℕ)} → Extends old new → AreTablesRight w last instances new.defs now →
+    AreExports w e last old.defs maps before → AreExports w e last new.defs now instances
 exports-kept g t h = record { valid = h.valid; named = h.named; made = instance-kept (longer g) h.made; tables = t; passed = h.passed }
 
 main-kept : {old new : Built} {main : Option ℕ} → Extends old new → IsMain old.defs main → IsMain new.defs main
 main-kept g h = record { index = h.index; known = h.known; made = instance-kept (longer g) h.made }
 
 -- before the first step
-pub encoding-start : (w : ComponentWorld) (items : Built) (maps : TypeEncodingMaps) (instances : List (InterfaceId × ℕ)) (functions : List (List ℕ × ℕ)) (core_names : List (List ℕ × List ℕ)) → IsEncodable w → maps ≡ no_maps → FindsCoreNames w core_names →
+pub encoding-start : (w : ComponentWorld) (items : Built) (maps : TypeEncodingMaps) (instances : List (InterfaceId × ℕ)) (functions : List (List ℕ × ℕ)) (core_names : List (List ℕ × List ℕ)) → IsEncodable w → FindsCoreNames w core_names →
     IsEncoding w None items.defs maps instances Started functions core_names None
-encoding-start w items maps instances functions core_names ok none named = record {
+encoding-start w items maps instances functions core_names ok named = record {
   valid = ok;
   named = named;
-  tables = subst (λ m. AreTablesRight w None items.defs m) (sym none) (tables_start w items.defs);
+  tables = λ s. absurd s;
   passed = λ s. absurd s;
   imports = λ s. absurd s;
   used = λ s. absurd s;
-  interfaces = λ s. absurd s;
-  reached = λ s. absurd s;
   made = λ e. cc;
 }
 
 module _ {w : ComponentWorld} {last after : Option TypeId} {old new : Built} {maps now : TypeEncodingMaps} {before instances : List (InterfaceId × ℕ)} {step : Step} {functions : List (List ℕ × ℕ)} {core_names : List (List ℕ × List ℕ)} {main : Option ℕ} where
   -- the root has grown, and its tables are right
-  pub encoding-with : Extends old new → AreTablesRight w after new.defs now → (AreImported step → ArePassed w after) → (AreImported step → instances ≡ before) → IsEncoding w last old.defs maps before step functions core_names main →
+  pub encoding-with : Extends old new → (AreImported step → AreTablesRight w after instances new.defs now) → (AreImported step → ArePassed w after) → IsEncoding w last old.defs maps before step functions core_names main →
       IsEncoding w after new.defs now instances step functions core_names main
-  encoding-with g t p same h = record {
+  encoding-with g t p h = record {
     valid = h.valid;
     named = h.named;
     tables = t;
     passed = p;
     imports = λ s. FindsImports-kept (longer g) (h.imports s);
     used = h.used;
-    interfaces = λ s. subst (FindsInterfaces w new.defs) (sym (same s)) (FindsInterfaces-kept (longer g) (h.interfaces s));
-    reached = λ s. subst (FindsUsedInterfaces w) (sym (same s)) (h.reached s);
     made = λ s. main-kept g (h.made s);
   }
 
 module _ {w : ComponentWorld} {last : Option TypeId} {old new : Built} {maps : TypeEncodingMaps} {instances : List (InterfaceId × ℕ)} {step : Step} {functions : List (List ℕ × ℕ)} {core_names : List (List ℕ × List ℕ)} {main : Option ℕ} where
   -- the component has grown
   pub encoding-kept : Extends old new → IsEncoding w last old.defs maps instances step functions core_names main → IsEncoding w last new.defs maps instances step functions core_names main
-  encoding-kept g h = encoding-with {last = last} {old = old} {new = new} g (tables_kept w last old new maps g h.tables) h.passed (λ s. refl) h
+  encoding-kept g h = encoding-with {last = last} {old = old} {new = new} g (λ s. tables_kept w last instances old new maps g (h.tables s)) h.passed h
 
   -- after the instance of main
   pub encoding-instantiated : (index : ℕ) → Extends old new → AreImported step → IsInstanceOf new.defs index 0 → IsEncoding w last old.defs maps instances step functions core_names main →
@@ -125,31 +119,30 @@ module _ {w : ComponentWorld} {last : Option TypeId} {old new : Built} {maps : T
   encoding-instantiated index g s made h = record {
     valid = h.valid;
     named = h.named;
-    tables = tables_kept w last old new maps g h.tables;
+    tables = λ _. tables_kept w last instances old new maps g (h.tables s);
     passed = λ _. h.passed s;
     imports = λ _. FindsImports-kept (longer g) (h.imports s);
     used = λ _. h.used s;
-    interfaces = λ _. FindsInterfaces-kept (longer g) (h.interfaces s);
-    reached = λ _. h.reached s;
     made = λ _. record { index = index; known = refl; made = made };
   }
 
 -- after the imports
 pub encoding-imported : {w : ComponentWorld} {last after : Option TypeId} {old new : List Def} {maps now : TypeEncodingMaps} {first instances : List (InterfaceId × ℕ)} {step : Step} {before functions : List (List ℕ × ℕ)} {core_names : List (List ℕ × List ℕ)} {main : Option ℕ} →
-    AreTablesRight w after new now → ArePassed w after → FindsImports w new functions → FindsUsed w functions → FindsInterfaces w new instances → FindsUsedInterfaces w instances → IsEncoding w last old maps first step before core_names main →
+    AreTablesRight w after instances new now → ArePassed w after → FindsImports w new functions → FindsUsed w functions → IsEncoding w last old maps first step before core_names main →
     IsEncoding w after new now instances Imported functions core_names main
-encoding-imported t p i u n r h = record { valid = h.valid; named = h.named; tables = t; passed = λ _. p; imports = λ _. i; used = λ _. u; interfaces = λ _. n; reached = λ _. r; made = λ e. cc }
+encoding-imported t p i u h = record { valid = h.valid; named = h.named; tables = λ _. t; passed = λ _. p; imports = λ _. i; used = λ _. u; made = λ e. cc }
 
 -- what the steps read of a state
 pub sources_of : (w : ComponentWorld) (s : ImportSources) {last : Option TypeId} {ds : List Def} {maps : TypeEncodingMaps} {instances : List (InterfaceId × ℕ)} {step : Step} {core_names : List (List ℕ × List ℕ)} {main : Option ℕ} →
     IsEncoding w last ds maps instances step s.functions.now core_names main → AreImported step → AreSources w s last ds maps instances
-sources_of w s h i = record { valid = h.valid; imports = h.imports i; used = h.used i; interfaces = h.interfaces i; reached = h.reached i; tables = h.tables; passed = h.passed i }
+sources_of w s h i = record { valid = h.valid; imports = h.imports i; used = h.used i; tables = h.tables i; passed = h.passed i }
 
 pub exports_of : (w : ComponentWorld) (e : MainExports) {last : Option TypeId} {ds : List Def} {maps : TypeEncodingMaps} {instances : List (InterfaceId × ℕ)} {step : Step} {functions : List (List ℕ × ℕ)} {main : Option ℕ} →
-    IsEncoding w last ds maps instances step functions e.core_names.now main → step ≡ Instantiated → main ≡ Some e.instance → AreExports w e last ds maps
-exports_of w e {last} {ds} h i known =
+    IsEncoding w last ds maps instances step functions e.core_names.now main → step ≡ Instantiated → main ≡ Some e.instance → AreExports w e last ds maps instances
+exports_of w e {last} {ds} {maps} {instances} {step} h i known =
     let m = h.made i in
-    record { valid = h.valid; named = h.named; made = subst (λ n. IsInstanceOf ds n 0) (same_Some m.index e.instance (sym m.known ∙ known)) m.made; tables = h.tables; passed = h.passed (subst AreImported (sym i) tt) }
+    let s : AreImported step = subst AreImported (sym i) tt in
+    record { valid = h.valid; named = h.named; made = subst (λ n. IsInstanceOf ds n 0) (same_Some m.index e.instance (sym m.known ∙ known)) m.made; tables = h.tables s; passed = h.passed s }
 
 pub main_known : {w : ComponentWorld} {last : Option TypeId} {ds : List Def} {maps : TypeEncodingMaps} {instances : List (InterfaceId × ℕ)} {step : Step} {functions : List (List ℕ × ℕ)} {core_names : List (List ℕ × List ℕ)} {main : Option ℕ} →
     IsEncoding w last ds maps instances step functions core_names main → step ≡ Instantiated → IsSome main

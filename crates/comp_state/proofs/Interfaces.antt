@@ -1,9 +1,7 @@
 -- The functions of imported interfaces: each is one that the interface's instance exports.
-use Rattle.std.proofs.Common.{◌≡◌, ◌∙◌, ap, sym, subst, refl, ℕ, Bool, true, false, true≢false, cond, List, [], ◌∷◌, map, Option, Some, None, is_some, if◌then◌else◌, inl, inr, IsSome, Contains}
-use Rattle.std.specs.List.{AllByRecursion}
+use Rattle.std.proofs.Common.{◌≡◌, ◌∙◌, ap, sym, subst, refl, ℕ, Bool, true, false, true≢false, cond, List, [], ◌∷◌, map, Some, None, if◌then◌else◌, inl, inr, IsSome, Contains}
 use Rattle.std.specs.Map.{lookup}
 use Rattle.std.specs.Str.{bytes_eq}
-use Rattle.std.proofs.lemmas.Option.{none-some, same_Some}
 use Rattle.std.proofs.lemmas.Slice.Eq.{bytes_eq-Decides}
 use Rattle.std.proofs.lemmas.Bool.Decides.{Decides-eqb}
 use Rattle.comp_lists.specs.Found.{found}
@@ -19,7 +17,8 @@ use Rattle.comp_links.specs.Targets.{OfInterface}
 use Rattle.comp_terms.specs.Planned.{IsTypeOf, type_of_function}
 use Rattle.comp_terms.specs.Rules.{AliasesImported}
 use Rattle.comp_worlds.specs.Encodable.{IsEncodable}
-use Rattle.comp_worlds.specs.Worlds.{IsImportRole, core_imports}
+use Rattle.comp_worlds.specs.WorldContents.{core_imports}
+use Rattle.comp_worlds.specs.Worlds.{IsImportRole}
 use Rattle.comp_worlds.specs.declared.world.ComponentWorld.{ComponentWorld}
 use Rattle.wit_data.specs.contracts.ids.InterfaceIdPartialEq.TheImpl as same_id
 use Rattle.wit_data.specs.declared.functions.AbiVariant.{AbiVariant}
@@ -27,7 +26,11 @@ use Rattle.wit_data.specs.declared.functions.Function.{Function}
 use Rattle.wit_data.specs.declared.ids.InterfaceId.{InterfaceId}
 use Rattle.wit_data.specs.declared.worlds.WorldKey.{WorldKey}
 use Rattle.world_values.specs.Items.{functions_of}
-use Rattle.comp_imports.specs.Interfaces.{ExportsFunction, FindsInterfaces, FindsUsedInterfaces, IsInterfaceImport}
+use Rattle.comp_links.specs.Roles.{is_used_of}
+use Rattle.comp_imports.specs.Interfaces.{AreInstancesKnown, ExportsFunction, FindsInterfaces, IsInterfaceImport}
+use Rattle.comp_imports.proofs.NeededInterfaces.{both_none}
+use Rattle.comp_imports.proofs.OuterTypes.{found_import, is_there}
+use Rattle.interface_needs.proofs.Lists.{filter_keeps}
 use Rattle.comp_imports.proofs.Elements.{contains_none, contains_cons}
 use Rattle.comp_state.specs.Tables.{IsUsedOfInterface}
 use Rattle.comp_state.proofs.Serving.{import_role, used_of_interface}
@@ -51,23 +54,11 @@ found_listed (f ∷ fs) name c = by (bytes_eq name f.0) refl (found_listed fs na
     ]
 
 -- an interface with a function that is used is found
-pub interface_found : (w : ComponentWorld) (table : List (InterfaceId × ℕ)) (id : InterfaceId) (name : List ℕ) → FindsUsedInterfaces w table → IsUsedOfInterface w id name → IsSome (lookup (same_id.eq-value.it id) table)
-interface_found w table id name h u = by (lookup (same_id.eq-value.it id) table) (h.each u.key id u.listed name u.named u.used)
-  where
-    by : (o : Option ℕ) → is_some o ≡ true → IsSome o
-    by None e = absurd (true≢false (sym e))
-    by (Some index) e = refl
-
--- what is found for an interface is its import
-found_import : (w : ComponentWorld) (ds : List Def) (id : InterfaceId) (index : ℕ) (table : List (InterfaceId × ℕ)) → AllByRecursion (λ e. IsInterfaceImport w ds e.0 e.1) table → lookup (same_id.eq-value.it id) table ≡ Some index →
-    IsInterfaceImport w ds id index
-found_import w ds id index [] h e = absurd (none-some index e)
-found_import w ds id index (x ∷ table) h e = by (same_id.eq-value.it id x.0) refl e (found_import w ds id index table h.1)
-  where
-    by : (b : Bool) → same_id.eq-value.it id x.0 ≡ b → cond b (Some x.1) (lookup (same_id.eq-value.it id) table) ≡ Some index → (lookup (same_id.eq-value.it id) table ≡ Some index → IsInterfaceImport w ds id index) →
-        IsInterfaceImport w ds id index
-    by true alike e later = subst (λ n. IsInterfaceImport w ds (record { index = n }) index) (sym ((Decides-eqb id.index x.0.index).0 alike)) (subst (IsInterfaceImport w ds x.0) (same_Some x.1 index e) h.0)
-    by false apart e later = later e
+pub interface_found : (w : ComponentWorld) (ds : List Def) (table : List (InterfaceId × ℕ)) (id : InterfaceId) (name : List ℕ) → AreInstancesKnown w ds table → IsUsedOfInterface w id name → IsSome (lookup (same_id.eq-value.it id) table)
+interface_found w ds table id name h u =
+    is_there (lookup (same_id.eq-value.it id) table)
+    (h.needed.each id (record { key = u.key; there = u.listed })
+    (λ none. contains_none name (subst (λ names. Contains names name) (both_none w id none).1 (filter_keeps (is_used_of w id) (map (λ f. f.0) (functions_of w.resolve id)) name u.named u.used))))
 
 -- ---- a function of an imported interface
 

@@ -1,5 +1,5 @@
 -- A list that keeps the rules names earlier items, each by its index and space.
-use Rattle.comp_links.specs.Naming.{own_names}
+use Rattle.comp_links.specs.Naming.{Naming}
 use Rattle.std.proofs.Common.{◌≡◌, ℕ, ◌<◌, length, List, [], ◌∷◌, ◌++◌, sym, subst, Some, None}
 use Rattle.std.specs.List.{AllByRecursion, AllZip, flat_map}
 use Rattle.std.proofs.lemmas.List.{length-map}
@@ -120,5 +120,5 @@ each_within w earlier [] h = tt
 each_within w earlier (d ∷ ds) h = (within w earlier d h.0, each_within w (earlier ++ d ∷ []) ds h.1)
 
 -- each index of a whole component names an earlier item of its space
-pub built_scoped : (w : ComponentWorld) (ds : List Def) → IsBuilt own_names w ds → Scoped ds
-built_scoped w ds h = each_within w [] ds h.right
+pub built_scoped : (n : Naming) (w : ComponentWorld) (ds : List Def) → IsBuilt n w ds → Scoped ds
+built_scoped n w ds h = each_within w [] ds h.right

@@ -27,7 +27,8 @@ use Rattle.comp_bytes.specs.ItemIndices.{IsAt, in_space}
 use Rattle.comp_bytes.specs.Spaces.{items_in, is_space, space_of, sort_space, alias_space, description_space}
 use Rattle.comp_roles.specs.CoreImports.{CoreImport, imports_from, fields_of}
 use Rattle.comp_worlds.specs.Encodable.{IsEncodable}
-use Rattle.comp_worlds.specs.Worlds.{core_imports, imported_name, IsImportRole, IsImportGroup}
+use Rattle.comp_worlds.specs.WorldContents.{core_imports, imported_name}
+use Rattle.comp_worlds.specs.Worlds.{IsImportRole, IsImportGroup}
 use Rattle.comp_roles.specs.declared.imports.Import.{Import}
 use Rattle.comp_roles.specs.declared.imports.ImportInstance.{ImportInstance}
 use Rattle.comp_roles.specs.declared.imports.ImportInstance.TheVariants as instances

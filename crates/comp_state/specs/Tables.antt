@@ -4,7 +4,7 @@ use Rattle.comp_lists.specs.Found.{found}
 use Rattle.comp_bytes.specs.declared.def.Def.{Def}
 use Rattle.wit_data.specs.declared.worlds.WorldKey.TheVariants as keys
 use Rattle.comp_worlds.specs.Encodable.{IsEncodable}
-use Rattle.comp_worlds.specs.Worlds.{core_name_of, items_of}
+use Rattle.comp_worlds.specs.WorldContents.{core_name_of, items_of}
 use Rattle.wit_data.specs.declared.ids.InterfaceId.{InterfaceId}
 use Rattle.wit_data.specs.declared.worlds.WorldKey.{WorldKey}
 use Rattle.wit_data.specs.declared.worlds.WorldItem.TheVariants as items
@@ -16,7 +16,6 @@ use Rattle.comp_terms.specs.Terms.{IsInstanceOf}
 use Rattle.wit_types.specs.declared.maps.TypeEncodingMaps.{TypeEncodingMaps}
 use Rattle.comp_imports.specs.RootScopes.{AreTablesRight, ArePassed}
 use Rattle.comp_imports.specs.Imports.{FindsImports, FindsUsed}
-use Rattle.comp_imports.specs.Interfaces.{FindsInterfaces, FindsUsedInterfaces}
 use Rattle.comp_state.specs.Encoding.{AreImported}
 use Rattle.comp_state.specs.declared.state.Step.{Step}
 use Rattle.comp_state.specs.declared.state.Step.TheVariants.{Instantiated}
@@ -34,22 +33,20 @@ pub record IsUsedOfInterface (w : ComponentWorld) (id : InterfaceId) (name : Lis
   pub named : Contains (map (λ f. f.0) (functions_of w.resolve id)) name
   pub used : is_used_of w id name ≡ true
 
--- what the imports of main are given is there, and the tables of types are right
+-- what the imports of main are given is there, and the tables of types are right, with the instances of the interfaces
 pub record AreSources (w : ComponentWorld) (s : ImportSources) (last : Option TypeId) (ds : List Def) (maps : TypeEncodingMaps) (instances : List (InterfaceId × ℕ)) : Type 0 where
   pub valid : IsEncodable w
   pub imports : FindsImports w ds s.functions.now
   pub used : FindsUsed w s.functions.now
-  pub interfaces : FindsInterfaces w ds instances
-  pub reached : FindsUsedInterfaces w instances
-  pub tables : AreTablesRight w last ds maps
+  pub tables : AreTablesRight w last instances ds maps
   pub passed : ArePassed w last
 
 -- what root functions are lifted from is there, and the tables of types are right
-pub record AreExports (w : ComponentWorld) (e : MainExports) (last : Option TypeId) (ds : List Def) (maps : TypeEncodingMaps) : Type 0 where
+pub record AreExports (w : ComponentWorld) (e : MainExports) (last : Option TypeId) (ds : List Def) (maps : TypeEncodingMaps) (instances : List (InterfaceId × ℕ)) : Type 0 where
   pub valid : IsEncodable w
   pub named : FindsCoreNames w e.core_names.now
   pub made : IsInstanceOf ds e.instance 0
-  pub tables : AreTablesRight w last ds maps
+  pub tables : AreTablesRight w last instances ds maps
   pub passed : ArePassed w last
 
 -- main's instance
@@ -62,10 +59,8 @@ pub record IsMain (ds : List Def) (main : Option ℕ) : Type 0 where
 pub record IsEncoding (w : ComponentWorld) (last : Option TypeId) (ds : List Def) (maps : TypeEncodingMaps) (instances : List (InterfaceId × ℕ)) (step : Step) (functions : List (List ℕ × ℕ)) (core_names : List (List ℕ × List ℕ)) (main : Option ℕ) : Type 0 where
   pub valid : IsEncodable w
   pub named : FindsCoreNames w core_names
-  pub tables : AreTablesRight w last ds maps
+  pub tables : AreImported step → AreTablesRight w last instances ds maps
   pub passed : AreImported step → ArePassed w last
   pub imports : AreImported step → FindsImports w ds functions
   pub used : AreImported step → FindsUsed w functions
-  pub interfaces : AreImported step → FindsInterfaces w ds instances
-  pub reached : AreImported step → FindsUsedInterfaces w instances
   pub made : step ≡ Instantiated → IsMain ds main

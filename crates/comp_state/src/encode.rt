@@ -4,17 +4,19 @@
 ghost use Rattle.std.specs.Prelude.{◌≡◌, [], ◌∷◌, ◌++◌, List, ℕ, IfOk, IfErr, OnOk, IsOk};
 ghost use Rattle.comp_builder.specs.Naming.{with_names};
 ghost use Rattle.comp_bytes.specs.Scopes.{Scoped};
-ghost use Rattle.comp_links.specs.Naming.{own_names};
 ghost use Rattle.comp_worlds.specs.Encodable.{IsEncodable};
+ghost use Rattle.comp_imports.specs.Names.{naming_of};
 ghost use Rattle.comp_imports.specs.RootScopes.{IsRefusal};
 ghost use Rattle.comp_state.specs.declared.state.Step.TheVariants.{Started};
 ghost use Rattle.comp_state.specs.Causes.{IsCause, LacksEncoding, IsEncoded};
+ghost use Rattle.comp_state.specs.Encoding.{naming_in};
 ghost use Rattle.comp_terms.specs.Rules.{Grows, IsUnnamed, IsBuilt, expected};
 
 use crate::fault::StateFault;
 use crate::state::EncodingState;
 use byte_encoding::BuildFault;
 use comp_builder::ComponentBuilder;
+use comp_imports::ImportNames;
 use comp_worlds::ComponentWorld;
 use std::alloc::Global;
 
@@ -42,7 +44,7 @@ impl EncodingState<'_> {
         requires started { self.old.step ≡ Started }
         requires empty { self.old.built.defs ≡ [] }
         ensures world { self.new.world ≡ self.old.world }
-        ensures built { OnOk result (IsUnnamed own_names self.old.world self.new.built.defs) }
+        ensures built { OnOk result (IsUnnamed (naming_in self.old) self.old.world self.new.built.defs) }
         ensures encoded { OnOk result (IsEncoded self.old.world) }
         ensures cause { IfErr result (IsCause self.old.world) }
     {
@@ -54,18 +56,23 @@ impl EncodingState<'_> {
     }
 }
 
-/// The component of a validated world, definition by definition, with the names of its items.
+/// The component of a validated world, definition by definition, with the names of its items. Interfaces are imported under the
+/// names that `names` makes.
 ///
 /// Refused when out of memory, where a function that is imported or exported has no string
 /// encoding (`E9`, with the function), and where a space would have more than 2^32 - 1 items, or a count or a
 /// size among the names would pass that (`E16`).
-pub fn encode_world(alloc: Global, world: &ComponentWorld) -> Result<ComponentBuilder, StateFault>
+pub fn encode_world(
+    alloc: Global,
+    world: &ComponentWorld,
+    names: ImportNames<'_>,
+) -> Result<ComponentBuilder, StateFault>
     requires { IsEncodable world.now }
-    ensures ok { IfOk result (λ component. Scoped component.defs × IsBuilt own_names world.now component.defs) }
+    ensures ok { IfOk result (λ component. Scoped component.defs × IsBuilt (naming_of names.entry) world.now component.defs) }
     ensures refused { IsOk result → (place : List ℕ) → LacksEncoding world.now place → ⊥ }
     ensures cause { IfErr result (IsCause world.now) }
 {
-    let mut state = EncodingState::new(alloc, world)?;
+    let mut state = EncodingState::new(alloc, world, names)?;
     state.encode_all()?;
     state.finish()
 }

@@ -3,6 +3,7 @@
 
 ghost use Rattle.std.specs.Prelude.{◌≡◌, [], ◌∷◌, List, IfOk, IfErr, OnOk, IsSome, Some};
 ghost use Rattle.std.specs.List.{AllByRecursion};
+ghost use Rattle.interface_needs.specs.RootNeeds.{IsExportedFunction};
 ghost use Rattle.comp_imports.specs.RootScopes.{AreTablesRight, IsRefusal};
 ghost use Rattle.comp_items.specs.Items.{Extends};
 ghost use Rattle.comp_links.specs.Roles.{export_encoding};
@@ -11,7 +12,7 @@ ghost use Rattle.comp_state.specs.Encoding.{IsRequiredLift};
 ghost use Rattle.comp_state.specs.Tables.{AreExports, FindsCoreNames};
 ghost use Rattle.comp_terms.specs.Rules.{Grows, named_export, exports_marked};
 ghost use Rattle.comp_worlds.specs.Encodable.{IsEncodable};
-ghost use Rattle.comp_worlds.specs.Worlds.{items_of, core_name_of};
+ghost use Rattle.comp_worlds.specs.WorldContents.{items_of, core_name_of};
 ghost use Rattle.wit_data.specs.Keys.{name_of_key};
 ghost use Rattle.wit_data.specs.Sound.{HasFunction};
 ghost use Rattle.std.specs.Option.{option_and_then, option_copied};
@@ -57,6 +58,7 @@ fn exported_function<'w>(world: &'w ComponentWorld, key: &WorldKey) -> &'w Funct
     requires valid { IsEncodable world.now }
     requires present { IsSome (core_name_of world.now key.now) }
     ensures found { root_function_at (items_of world.now).exports key.now ≡ Some result.now }
+    ensures exported { IsExportedFunction world.now result.now }
     ensures sound { HasFunction world.now.resolve result.now }
 {
     as_function(world.items().exports.get(key))
@@ -104,14 +106,14 @@ impl MainExports<'_> {
         root: &mut RootScope<'_, ComponentWorld>,
         key: &WorldKey,
     ) -> Result<u32, BuildFault>
-        requires exports { AreExports root.old.world.now self.now root.old.last_type root.old.items.defs root.old.maps }
+        requires exports { AreExports root.old.world.now self.now root.old.last_type root.old.items.defs root.old.maps root.old.instances }
         requires present { IsSome (core_name_of root.old.world.now key.now) }
         requires encoded { IsSome (export_encoding root.old.world.now key.now) }
         ensures world { root.new.world ≡ root.old.world }
         ensures extends { Extends root.old.items root.new.items }
         ensures next { root.new.last_type ≡ root.old.last_type }
         ensures instances { root.new.instances ≡ root.old.instances }
-        ensures tables { AreTablesRight root.old.world.now root.old.last_type root.new.items.defs root.new.maps }
+        ensures tables { AreTablesRight root.old.world.now root.old.last_type root.new.instances root.new.items.defs root.new.maps }
         ensures grows { OnOk result (Grows root.old.world.now root.old.items.defs root.new.items.defs []) }
         ensures lifted { IfOk result (λ index. IsRequiredLift root.old.world.now root.new.items.defs index key.now) }
         ensures cause { IfErr result IsRefusal }
@@ -136,13 +138,13 @@ impl MainExports<'_> {
         root: &mut RootScope<'_, ComponentWorld>,
         key: &WorldKey,
     ) -> Result<u32, StateFault>
-        requires exports { AreExports root.old.world.now self.now root.old.last_type root.old.items.defs root.old.maps }
+        requires exports { AreExports root.old.world.now self.now root.old.last_type root.old.items.defs root.old.maps root.old.instances }
         requires present { IsSome (core_name_of root.old.world.now key.now) }
         ensures world { root.new.world ≡ root.old.world }
         ensures extends { Extends root.old.items root.new.items }
         ensures next { root.new.last_type ≡ root.old.last_type }
         ensures instances { root.new.instances ≡ root.old.instances }
-        ensures tables { AreTablesRight root.old.world.now root.old.last_type root.new.items.defs root.new.maps }
+        ensures tables { AreTablesRight root.old.world.now root.old.last_type root.new.instances root.new.items.defs root.new.maps }
         ensures grows { OnOk result (Grows root.old.world.now root.old.items.defs root.new.items.defs []) }
         ensures lifted { IfOk result (λ index. IsRequiredLift root.old.world.now root.new.items.defs index key.now) }
         ensures cause { IfErr result (IsCauseAmong root.old.world.now [] (key.now ∷ [])) }
@@ -158,13 +160,13 @@ impl MainExports<'_> {
         root: &mut RootScope<'_, ComponentWorld>,
         key: &WorldKey,
     ) -> Result<(), StateFault>
-        requires exports { AreExports root.old.world.now self.now root.old.last_type root.old.items.defs root.old.maps }
+        requires exports { AreExports root.old.world.now self.now root.old.last_type root.old.items.defs root.old.maps root.old.instances }
         requires present { IsSome (core_name_of root.old.world.now key.now) }
         ensures world { root.new.world ≡ root.old.world }
         ensures extends { Extends root.old.items root.new.items }
         ensures next { root.new.last_type ≡ root.old.last_type }
         ensures instances { root.new.instances ≡ root.old.instances }
-        ensures tables { AreTablesRight root.old.world.now root.old.last_type root.new.items.defs root.new.maps }
+        ensures tables { AreTablesRight root.old.world.now root.old.last_type root.new.instances root.new.items.defs root.new.maps }
         ensures grows { OnOk result (Grows root.old.world.now root.old.items.defs root.new.items.defs (named_export (name_of_key key.now) ∷ [])) }
         ensures encoded { OnOk result (IsSome (export_encoding root.old.world.now key.now)) }
         ensures cause { IfErr result (IsCauseAmong root.old.world.now [] (key.now ∷ [])) }
@@ -183,12 +185,12 @@ impl MainExports<'_> {
         &self,
         root: &mut RootScope<'_, ComponentWorld>,
     ) -> Result<(), StateFault>
-        requires { AreExports root.old.world.now self.now root.old.last_type root.old.items.defs root.old.maps }
+        requires { AreExports root.old.world.now self.now root.old.last_type root.old.items.defs root.old.maps root.old.instances }
         ensures world { root.new.world ≡ root.old.world }
         ensures extends { Extends root.old.items root.new.items }
         ensures next { root.new.last_type ≡ root.old.last_type }
         ensures instances { root.new.instances ≡ root.old.instances }
-        ensures tables { AreTablesRight root.old.world.now root.old.last_type root.new.items.defs root.new.maps }
+        ensures tables { AreTablesRight root.old.world.now root.old.last_type root.new.instances root.new.items.defs root.new.maps }
         ensures grows { OnOk result (Grows root.old.world.now root.old.items.defs root.new.items.defs (exports_marked root.old.world.now)) }
         ensures encoded { OnOk result (AllByRecursion (λ key. IsSome (export_encoding root.old.world.now key)) root.old.world.now.main_exports) }
         ensures cause { IfErr result (IsCause root.old.world.now) }

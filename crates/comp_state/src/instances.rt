@@ -19,13 +19,14 @@ ghost use Rattle.comp_state.specs.Causes.{IsCause, IsCauseAmong};
 ghost use Rattle.comp_state.specs.Tables.{AreSources, IsUsedOfInterface};
 ghost use Rattle.comp_terms.specs.Planned.{IsItemFor, IsEntryFor, IsInlineInstanceFor, IsArgumentFor};
 ghost use Rattle.comp_terms.specs.Rules.{Grows};
-ghost use Rattle.comp_worlds.specs.Worlds.{IsResource, core_imports};
+ghost use Rattle.comp_worlds.specs.WorldContents.{core_imports};
+ghost use Rattle.interface_needs.specs.RootNeeds.{IsDropKnown};
 ghost use Rattle.wit_data.specs.declared.worlds.WorldKey.TheVariants as keys;
 
 use crate::fault::StateFault;
 use byte_encoding::BuildFault;
 use comp_bytes::{CoreArgument, CoreInlineExport};
-use comp_imports::{RootScope, resource_index};
+use comp_imports::RootScope;
 use comp_lists::{Keyed, Seq, Text, TryClone};
 use comp_worlds::{ComponentWorld, FunctionKey, Import, ImportInstance};
 use standard_kinds::{ExportKind, StringEncoding};
@@ -127,21 +128,21 @@ impl ImportSources<'_> {
         Ok(index)
     }
 
-    /// Makes the drop of handles of a resource of the world.
+    /// Makes the drop of handles of a resource of the world or of an imported interface.
     fn drop_resource(
         &self,
         root: &mut RootScope<'_, ComponentWorld>,
         id: TypeId,
     ) -> Result<u32, BuildFault>
         requires sources { AreSources root.old.world.now self.now root.old.last_type root.old.items.defs root.old.maps root.old.instances }
-        requires resource { IsResource root.old.world.now.resolve.types id.index }
+        requires known { IsDropKnown root.old.world.now id }
         ensures same { root.new ≡ record root.old { items = root.new.items } }
         ensures extends { Extends root.old.items root.new.items }
         ensures grows { OnOk result (Grows root.old.world.now root.old.items.defs root.new.items.defs []) }
         ensures dropped { IfOk result (λ index. IsItemFor root.old.world.now root.new.items.defs CoreFunc index (Dropped id)) }
         ensures cause { IfErr result IsRefusal }
     {
-        let ty = resource_index(&root.maps, id).unwrap();
+        let ty = root.dropped_resource(id)?;
         let index = root.items.drop_resource(ty)?;
         Ok(index)
     }

@@ -7,22 +7,21 @@ ghost use Rattle.comp_builder.specs.Built.{nothing_built};
 ghost use Rattle.comp_bytes.specs.Spaces.{kind_space};
 ghost use Rattle.comp_items.specs.Items.{Extends};
 ghost use Rattle.comp_links.specs.Links.{link_of};
-ghost use Rattle.comp_links.specs.Naming.{own_names};
 ghost use Rattle.comp_links.specs.Roles.{IsEncodedImport, export_encoding};
 ghost use Rattle.comp_links.specs.Targets.{Main};
 ghost use Rattle.comp_state.specs.Causes.{IsCause, IsCauseAmong};
-ghost use Rattle.comp_state.specs.Encoding.{AreImported, IsFirstModule, IsRequiredLift};
+ghost use Rattle.comp_state.specs.Encoding.{AreImported, IsFirstModule, IsRequiredLift, naming_in};
 ghost use Rattle.comp_state.specs.declared.state.Step.TheVariants.{Started, Imported, Instantiated};
 ghost use Rattle.comp_terms.specs.Planned.{IsItemFor};
 ghost use Rattle.comp_terms.specs.Rules.{Grows, ModuleIs, InstanceOf, imports_marked, exports_marked, landmarks};
 ghost use Rattle.comp_worlds.specs.Encodable.{IsEncodable};
-ghost use Rattle.comp_worlds.specs.Worlds.{core_imports, core_name_of};
+ghost use Rattle.comp_worlds.specs.WorldContents.{core_imports, core_name_of};
 
 use crate::exports::MainExports;
 use crate::fault::StateFault;
 use crate::indexes::core_names;
 use crate::instances::ImportSources;
-use comp_imports::RootScope;
+use comp_imports::{ImportNames, RootScope};
 use comp_items::ComponentItems;
 use comp_lists::{Keyed, Text};
 use comp_worlds::{ComponentWorld, Import};
@@ -51,6 +50,8 @@ pub enum Step {
 pub struct EncodingState<'a> {
     /// The world, the component under construction, and the types that were met.
     pub(crate) root: RootScope<'a, ComponentWorld>,
+    /// The names of imported interfaces.
+    pub(crate) names: ImportNames<'a>,
     pub(crate) step: Step,
     /// The root functions that were imported.
     pub(crate) functions: Keyed<Text, u32>,
@@ -64,6 +65,7 @@ impl Drop for EncodingState<'_> {
     fn drop(self) {
         let EncodingState {
             root: _,
+            names: _,
             step: _,
             functions: _,
             core_names: _,
@@ -78,20 +80,26 @@ impl<'a> Model for EncodingState<'a> {
 
     ghost Value = { Encoding };
 
-    ghost view = { λ s. record { world = s.root.world.now; built = s.root.items; step = s.step } };
+    ghost view = { λ s. record { world = s.root.world.now; canonical = s.names.canonical; renamed = s.names.renamed.now; built = s.root.items; step = s.step } };
 
     ghost invariant = { λ s. IsEncoding s.root.world.now s.root.last_type s.root.items.defs s.root.maps s.root.instances s.step s.functions s.core_names s.main };
 }
 
 impl<'a> EncodingState<'a> {
-    /// The state before the first step: no item is made yet.
-    pub fn new(alloc: Global, world: &'a ComponentWorld) -> Result<EncodingState<'a>, AllocError>
+    /// The state before the first step: no item is made yet. Interfaces are to be imported under the names that `names`
+    /// makes.
+    pub fn new(
+        alloc: Global,
+        world: &'a ComponentWorld,
+        names: ImportNames<'a>,
+    ) -> Result<EncodingState<'a>, AllocError>
         requires { IsEncodable world.now }
-        ensures { IfOk result (λ s. s ≡ record { world = world.entry.now; built = nothing_built; step = Started }) }
+        ensures { IfOk result (λ s. s ≡ record { world = world.entry.now; canonical = names.entry.canonical; renamed = names.entry.renamed.now; built = nothing_built; step = Started }) }
     {
         let core_names = core_names(alloc, &world.main.exports.exports)?;
         Ok(EncodingState {
             root: RootScope::new(alloc, world),
+            names,
             step: Step::Started,
             functions: Keyed::new(alloc),
             core_names,
@@ -107,6 +115,7 @@ impl EncodingState<'_> {
     {
         let EncodingState {
             root,
+            names: _,
             step: _,
             functions: _,
             core_names: _,
@@ -115,18 +124,19 @@ impl EncodingState<'_> {
         root.into_items()
     }
 
-    /// Imports the interfaces of which imports of main use functions, then the types of the world, and then the root
+    /// Imports the interfaces of which the component needs something, then the types of the world, and then the root
     /// functions that imports of main use, each in the order of the world.
     pub fn encode_imports(&mut self) -> Result<(), StateFault>
         requires started { self.old.step ≡ Started }
         requires empty { self.old.built.defs ≡ [] }
         ensures world { self.new.world ≡ self.old.world }
+        ensures names { naming_in self.new ≡ naming_in self.old }
         ensures step { OnOk result (self.new.step ≡ Imported) }
         ensures extends { Extends self.old.built self.new.built }
-        ensures grows { OnOk result (Grows self.old.world self.old.built.defs self.new.built.defs (imports_marked own_names self.old.world)) }
+        ensures grows { OnOk result (Grows self.old.world self.old.built.defs self.new.built.defs (imports_marked (naming_in self.old) self.old.world)) }
         ensures cause { IfErr result (IsCause self.old.world) }
     {
-        let functions = self.root.import_all()?;
+        let functions = self.root.import_all(&self.names)?;
         self.functions = functions;
         self.step = Step::Imported;
         Ok(())
@@ -134,7 +144,7 @@ impl EncodingState<'_> {
 
     /// Appends main's core module, the first one of the component.
     pub fn encode_core_modules(&mut self) -> Result<(), StateFault>
-        requires { landmarks self.old.built.defs ≡ imports_marked own_names self.old.world }
+        requires { landmarks self.old.built.defs ≡ imports_marked (naming_in self.old) self.old.world }
         ensures same { self.new ≡ record self.old { built = self.new.built } }
         ensures extends { Extends self.old.built self.new.built }
         ensures grows { OnOk result (Grows self.old.world self.old.built.defs self.new.built.defs (ModuleIs self.old.world.main.bytes ∷ [])) }
@@ -177,6 +187,7 @@ impl EncodingState<'_> {
         requires first { IsFirstModule self.old.world self.old.built.defs }
         requires imported { AreImported self.old.step }
         ensures world { self.new.world ≡ self.old.world }
+        ensures names { naming_in self.new ≡ naming_in self.old }
         ensures step { OnOk result (self.new.step ≡ Instantiated) }
         ensures extends { Extends self.old.built self.new.built }
         ensures grows { OnOk result (Grows self.old.world self.old.built.defs self.new.built.defs (InstanceOf 0 ∷ [])) }

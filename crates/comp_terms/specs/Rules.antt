@@ -38,7 +38,7 @@ use Rattle.comp_trees.specs.Trees.{Origin, Resource, ImportedAt, ResourceAt, Fun
 use Rattle.comp_trees.specs.DefinedTrees.{TypeTree, OfValues, OfOthers, defined_tree, function_tree}
 use Rattle.comp_trees.specs.Members.{AreMembersRight, exports_name}
 use Rattle.comp_trees.specs.Inventories.{OfInstances, ImportedInstance, surroundings_of, inventory, scope_of}
-use Rattle.comp_worlds.specs.Worlds.{items_of}
+use Rattle.comp_worlds.specs.WorldContents.{items_of}
 use Rattle.wit_data.specs.Keys.{name_of_key}
 use Rattle.comp_roles.specs.declared.offered.ExternType.TheVariants as externs
 use Rattle.wit_data.specs.declared.worlds.WorldKey.{WorldKey}

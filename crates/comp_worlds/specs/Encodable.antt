@@ -1,77 +1,130 @@
 -- What the encoder takes of a validated world, beside what holds of every one: that its numbers refer to something, and
--- where it finds the types of which its functions are made (component model, WIT: types, resources, interfaces).
-use Rattle.std.specs.Prelude.{◌≡◌, ◌≤◌, ◌&&◌, ℕ, suc, Bool, true, false, List, [], ◌∷◌, map, Option, Some, is_none, Contains, slice_get}
-use Rattle.std.specs.List.{AllByRecursion, list_all}
-use Rattle.std.specs.Option.{option_and_then}
+-- where it finds the types of which its functions are made (component model, WIT: types, resources, interfaces, `use`).
+use Rattle.std.specs.Prelude.{◌≡◌, ◌≤◌, ◌<◌, ◌==◌, ℕ, suc, List, [], ◌∷◌, length, map, Option, Some, None, IsSome, Contains, if◌then◌else◌}
+use Rattle.std.specs.List.{AllByRecursion, IsDistinct}
+use Rattle.comp_lists.specs.Found.{found}
 use Rattle.wit_data.specs.declared.functions.Function.{Function}
+use Rattle.wit_data.specs.declared.ids.InterfaceId.{InterfaceId}
+use Rattle.wit_data.specs.declared.ids.TypeId.{TypeId}
 use Rattle.wit_data.specs.declared.resolve.Resolve.{Resolve}
 use Rattle.wit_data.specs.declared.types.Type.{«Type» as Ty}
+use Rattle.wit_data.specs.declared.types.Type.TheVariants.{Id}
 use Rattle.wit_data.specs.declared.types.TypeDef.{TypeDef}
-use Rattle.wit_data.specs.declared.types.TypeDefKind.{TypeDefKind}
 use Rattle.wit_data.specs.declared.types.TypeDefKind.TheVariants as kinds
-use Rattle.wit_data.specs.declared.types.TypeOwner.{TypeOwner}
-use Rattle.wit_data.specs.declared.types.TypeOwner.TheVariants as owners
 use Rattle.wit_data.specs.declared.worlds.WorldItem.{WorldItem}
 use Rattle.wit_data.specs.declared.worlds.WorldItem.TheVariants as items
-use Rattle.wit_data.specs.Sound.{IsSound}
+use Rattle.wit_data.specs.declared.worlds.WorldKey.{WorldKey}
 use Rattle.wit_data.specs.Live.{named_types}
-use Rattle.wit_data.specs.Values.{Making, value}
+use Rattle.wit_data.specs.Parts.{parts}
+use Rattle.wit_data.specs.Sizes.{greatest}
+use Rattle.wit_data.specs.Sound.{IsSound}
+use Rattle.wit_data.specs.Values.{Making, kind_at, value}
+use Rattle.comp_roles.specs.declared.imports.Import.{Import}
+use Rattle.comp_roles.specs.declared.imports.Import.TheVariants as imports
 use Rattle.world_values.specs.Items.{functions_of}
-use Rattle.comp_worlds.specs.Worlds.{IsWorld, IsResource, items_of, imported_types}
+use Rattle.world_values.specs.Mentions.{interfaces_of, same_interface}
+use Rattle.comp_worlds.specs.WorldContents.{items_of, imported_types, core_imports, interface_at, name_at}
+use Rattle.comp_worlds.specs.Worlds.{IsWorld, IsResource}
+use Rattle.comp_worlds.specs.WorldTables.{HasTables}
 use Rattle.comp_worlds.specs.declared.world.ComponentWorld.{ComponentWorld}
 
--- ---- types of the world
+-- ---- places
 
-abbrev pub IsOwnerAtRoot : TypeOwner → Type 0
-IsOwnerAtRoot (owners.Interface id) = ⊥
-IsOwnerAtRoot owner = Unit {0}
+abbrev pub Entries : Type 0
+Entries = List (WorldKey × WorldItem)
 
--- a type that belongs to no interface
-pub record IsRootType (t : TypeDef) : Type 0 where
-  pub owner : IsOwnerAtRoot t.owner
+-- The place of an interface: how many imports of the world come before it. The root is behind all of them, and an interface
+-- that is not imported is behind the root.
+abbrev pub place_in : Entries → InterfaceId → ℕ
+place_in [] id = 1
+place_in ((key, items.Interface other) ∷ es) id = if id.index == other.index then 0 else suc (place_in es id)
+place_in (e ∷ es) id = suc (place_in es id)
+
+-- the place of a type: that of its interface or, where it has a name, of the root; of a type without a name, the last place
+-- of those of which it is made
+abbrev pub place_of_name : Entries → Option (List ℕ) → List ℕ → ℕ
+place_of_name es (Some name) places = length es
+place_of_name es None places = greatest places
+
+abbrev pub place_made : List TypeDef → Entries → ℕ → List ℕ → ℕ
+place_made types es n places = elim (interface_at types n) [ Some id ↦ place_in es id | None ↦ place_of_name es (name_at types n) places ]
+
+abbrev pub placing : List TypeDef → Entries → Making ℕ
+placing types es = record { absent = 0; simple = λ p. 0; made = λ n kind places. place_made types es n places }
+
+abbrev pub place : List TypeDef → Entries → Option Ty → ℕ
+place types es part = value (placing types es) types part
+
+-- ---- types
+
+-- a type of an interface is listed there, under its name
+pub record IsListedType (r : Resolve) (id : InterfaceId) (n : ℕ) : Type 0 where
+  pub name : List ℕ
+  pub named : name_at r.types n ≡ Some name
+  pub listed : found name (named_types r id) ≡ Some (record { index = n })
+
+-- a type is made of types that have no later place; a resource has a name
+pub record IsTypePlaced (r : Resolve) (es : Entries) (n : ℕ) : Type 0 where
+  pub parts : AllByRecursion (λ p. place r.types es p ≤ place r.types es (Some (Id (record { index = n })))) (parts (kind_at r.types n))
+  pub named : kind_at r.types n ≡ kinds.Resource → IsSome (name_at r.types n)
+  pub listed : (id : InterfaceId) → interface_at r.types n ≡ Some id → IsListedType r id n
 
 -- the numbers ascend, and the first is at least this
 abbrev pub AscendFrom : ℕ → List ℕ → Type 0
 AscendFrom k [] = Unit {0}
 AscendFrom k (n ∷ ns) = (k ≤ n) × AscendFrom (suc n) ns
 
--- the types that the world imports come in the order of the resolve, and each resource is one of them
+-- the types that the world imports come in the order of the resolve, and each resource that belongs to no interface is one
+-- of them
 pub record ImportsResources (w : ComponentWorld) : Type 0 where
   pub ordered : AscendFrom 0 (map (λ t. t.1.index) (imported_types w))
-  pub each : (n : ℕ) → IsResource w.resolve.types n → Contains (map (λ t. t.1.index) (imported_types w)) n
+  pub each : (n : ℕ) → IsResource w.resolve.types n → interface_at w.resolve.types n ≡ None → Contains (map (λ t. t.1.index) (imported_types w)) n
 
--- ---- interfaces
+-- ---- items
 
-abbrev pub is_value : TypeDefKind → Bool
-is_value kinds.Resource = false
-is_value kind = true
+-- a function is made of types whose place is at most this
+pub record IsFunctionPlaced (r : Resolve) (es : Entries) (last : ℕ) (f : Function) : Type 0 where
+  pub params : AllByRecursion (λ p. place r.types es (Some p.ty) ≤ last) f.params
+  pub result : place r.types es f.result ≤ last
 
-abbrev pub name_at : List TypeDef → ℕ → Option (List ℕ)
-name_at types n = option_and_then (λ t. t.name) (slice_get types n)
+-- a type that an interface lists belongs to it, and has the name under which it is listed
+pub record IsOwnType (types : List TypeDef) (id : InterfaceId) (entry : List ℕ × TypeId) : Type 0 where
+  pub own : interface_at types entry.1.index ≡ Some id
+  pub named : name_at types entry.1.index ≡ Some entry.0
 
--- whether a type is made of types of values alone that have no names
-abbrev pub unnamed : List TypeDef → Making Bool
-unnamed types = record { absent = true; simple = λ p. true; made = λ n kind parts. is_none (name_at types n) && (is_value kind && list_all (λ b. b) parts) }
+-- an imported interface lists types of its own, in the order of the resolve, and its functions are made of types of its
+-- place or of an earlier one
+pub record IsInterfacePlaced (r : Resolve) (es : Entries) (id : InterfaceId) : Type 0 where
+  pub own : AllByRecursion (IsOwnType r.types id) (named_types r id)
+  pub ordered : AscendFrom 0 (map (λ t. t.1.index) (named_types r id))
+  pub functions : AllByRecursion (λ f. IsFunctionPlaced r es (place_in es id) f.1) (functions_of r id)
 
-abbrev pub is_unnamed : List TypeDef → Option Ty → Bool
-is_unnamed types part = value (unnamed types) types part
+-- a type at the root belongs to no interface, and has a name
+pub record IsRootType (types : List TypeDef) (id : TypeId) : Type 0 where
+  pub own : interface_at types id.index ≡ None
+  pub named : IsSome (name_at types id.index)
 
--- so of a function
-abbrev pub is_of_unnamed : List TypeDef → Function → Bool
-is_of_unnamed types f = list_all (λ p. is_unnamed types (Some p.ty)) f.params && is_unnamed types f.result
+-- so is an import or an export; a function at the root is made of types of imported interfaces and of the root
+abbrev pub IsItemPlaced : Resolve → Entries → WorldItem → Type 0
+IsItemPlaced r es (items.Interface id) = IsInterfacePlaced r es id
+IsItemPlaced r es (items.Function f) = IsFunctionPlaced r es (length es) f
+IsItemPlaced r es (items.NamedType id) = IsRootType r.types id
 
--- an imported interface has no types, and its functions are made of types without names
-abbrev pub IsBare : Resolve → WorldItem → Type 0
-IsBare r (items.Interface id) = (named_types r id ≡ []) × AllByRecursion (λ e. is_of_unnamed r.types e.1 ≡ true) (functions_of r id)
-IsBare r item = Unit {0}
+-- a resource whose handles are dropped belongs to an imported interface, or to the root
+abbrev pub IsRolePlaced : Resolve → Entries → Import → Type 0
+IsRolePlaced r es (imports.ImportedResourceDrop key interface id) = place r.types es (Some (Id id)) ≤ length es
+IsRolePlaced r es role = Unit {0}
 
 -- ---- the whole
 
 pub record IsEncodable (w : ComponentWorld) : Type 0 where
   pub valid : IsWorld w
   pub sound : IsSound w.resolve
-  pub types : AllByRecursion IsRootType w.resolve.types
+  pub tables : HasTables w
   pub resources : ImportsResources w
-  pub interfaces : AllByRecursion (λ e. IsBare w.resolve e.1) (items_of w).imports
-  -- so no type of an imported interface is needed
-  pub none_live : AllByRecursion (λ e. e.1 ≡ []) w.live_type_imports
+  -- no interface is imported twice
+  pub apart : IsDistinct same_interface (interfaces_of (items_of w).imports)
+  pub types : (n : ℕ) → n < length w.resolve.types → IsTypePlaced w.resolve (items_of w).imports n
+  pub imports : AllByRecursion (λ e. IsItemPlaced w.resolve (items_of w).imports e.1) (items_of w).imports
+  pub exports : AllByRecursion (λ e. IsItemPlaced w.resolve (items_of w).imports e.1) (items_of w).exports
+  pub roles : AllByRecursion (λ i. IsRolePlaced w.resolve (items_of w).imports i.role) (core_imports w)

@@ -2,6 +2,7 @@ pub mod Lookups
 pub mod Lowerings
 pub mod Uses
 pub mod Imported
+pub mod WorldContents
 pub mod Typed
 pub mod Worlds
 pub mod Encodable

@@ -9,7 +9,7 @@ use Rattle.world_values.specs.Items.{no_items}
 use Rattle.world_values.specs.Mentions.{live_type_imports, exports_used}
 use Rattle.comp_worlds.specs.Imported.{Imported, imported}
 use Rattle.comp_worlds.specs.Uses.{used_by, all_imports}
-use Rattle.comp_worlds.specs.Worlds.{items_of}
+use Rattle.comp_worlds.specs.WorldContents.{items_of}
 use Rattle.comp_worlds.specs.declared.world.ComponentWorld.{ComponentWorld}
 use Rattle.comp_worlds.specs.declared.world.ValidatedModule.{ValidatedModule}
 use Rattle.comp_worlds.specs.declared.world.WorldAdapter.{WorldAdapter}

@@ -1,15 +1,13 @@
--- What a validated world contains, and what holds of it (component model: the imports and exports of a
--- world; core standard, binary format: the preamble of a module).
-use Rattle.std.specs.Prelude.{◌≡◌, ◌<◌, ℕ, List, [], ◌∷◌, Option, Some, None, map, get_or, length, Contains, IsSome}
-use Rattle.std.specs.List.{flat_map, IsDistinct, AllByRecursion}
+-- What holds of a validated world (component model: the imports and exports of a world; core standard, binary format:
+-- the preamble of a module).
+use Rattle.std.specs.Prelude.{◌≡◌, ◌<◌, ℕ, List, [], map, length, Contains, IsSome}
+use Rattle.std.specs.List.{IsDistinct, AllByRecursion}
 use Rattle.std.specs.Str.{bytes_eq}
-use Rattle.comp_lists.specs.Found.{found}
 use Rattle.core_types.specs.Core.{IsCoreModule}
 use Rattle.wit_data.specs.declared.functions.Function.{Function}
 use Rattle.wit_data.specs.declared.functions.FunctionKind.{FunctionKind}
 use Rattle.wit_data.specs.declared.functions.FunctionKind.TheVariants as functions
 use Rattle.wit_data.specs.declared.functions.AbiVariant.TheVariants.{GuestImport, GuestExport}
-use Rattle.wit_data.specs.declared.ids.TypeId.{TypeId}
 use Rattle.wit_data.specs.declared.types.TypeDef.{TypeDef}
 use Rattle.wit_data.specs.declared.types.TypeDefKind.TheVariants as kinds
 use Rattle.wit_data.specs.declared.resolve.Resolve.{Resolve}
@@ -17,7 +15,6 @@ use Rattle.wit_data.specs.declared.worlds.WorldKey.{WorldKey}
 use Rattle.wit_data.specs.declared.worlds.WorldKey.TheVariants as keys
 use Rattle.wit_data.specs.declared.worlds.WorldItem.{WorldItem}
 use Rattle.wit_data.specs.declared.worlds.WorldItem.TheVariants as items
-use Rattle.wit_data.specs.declared.worlds.World.{World}
 use Rattle.wit_data.specs.Values.{kind_at}
 use Rattle.comp_options.specs.Options.{import_set, export_set}
 use Rattle.comp_roles.specs.declared.imports.Import.{Import}
@@ -28,54 +25,9 @@ use Rattle.comp_roles.specs.declared.exports.Export.{Export}
 use Rattle.comp_roles.specs.declared.exports.Export.TheVariants as exports
 use Rattle.comp_worlds.specs.declared.world.ComponentWorld.{ComponentWorld}
 use Rattle.comp_worlds.specs.declared.world.ValidatedModule.{ValidatedModule}
-use Rattle.comp_roles.specs.CoreImports.{CoreImport, imports_from}
-use Rattle.world_values.specs.Items.{no_items, functions_of, root_export}
+use Rattle.world_values.specs.Items.{functions_of}
 use Rattle.comp_worlds.specs.Typed.{FitsImport, FitsExport}
-
--- ---- its contents
-
--- the imports and exports of the world
-abbrev pub items_of : ComponentWorld → World
-items_of w = get_or w.resolve.worlds w.world.index no_items
-
--- the name of an item that is a function at the root
-abbrev pub root_function : WorldKey × WorldItem → List (List ℕ)
-root_function (keys.Name text, items.Function f) = text ∷ []
-root_function entry = []
-
--- the types that the world imports, each by its name, in order
-abbrev pub world_type : WorldKey × WorldItem → List (List ℕ × TypeId)
-world_type (keys.Name text, items.NamedType id) = (text, id) ∷ []
-world_type entry = []
-
-abbrev pub imported_types : ComponentWorld → List (List ℕ × TypeId)
-imported_types w = flat_map world_type (items_of w).imports
-
--- the root functions that the world imports, and that it exports, in order
-abbrev pub imported_functions : ComponentWorld → List (List ℕ)
-imported_functions w = flat_map root_function (items_of w).imports
-
-abbrev pub exported_functions : ComponentWorld → List (List ℕ)
-exported_functions w = flat_map root_function (items_of w).exports
-
--- the imports of main, module by module
-abbrev pub core_imports : ComponentWorld → List CoreImport
-core_imports w = flat_map imports_from w.main.imports.modules
-
--- the name of the root function that an import uses
-abbrev pub imported_name : Import → Option (List ℕ)
-imported_name (imports.WorldFunc (keys.Name text) function abi) = Some text
-imported_name role = None
-
--- the core export that implements the root function of this key, among those of a module, and of main
-abbrev pub core_name_in : List (List ℕ × Export) → WorldKey → Option (List ℕ)
-core_name_in exports (keys.Name text) = found text (flat_map root_export exports)
-core_name_in exports (keys.Interface id) = None
-
-abbrev pub core_name_of : ComponentWorld → WorldKey → Option (List ℕ)
-core_name_of w key = core_name_in w.main.exports.exports key
-
--- ---- what holds of it
+use Rattle.comp_worlds.specs.WorldContents.{items_of, imported_functions, exported_functions, core_name_in}
 
 -- a kind of function that is called synchronously
 abbrev pub IsSynchronous : FunctionKind → Type 0

@@ -1,7 +1,7 @@
 //! The validated world.
 
 ghost use Rattle.std.specs.Prelude.{◌≡◌, ◌<◌, length};
-ghost use Rattle.comp_worlds.specs.Worlds.{items_of};
+ghost use Rattle.comp_worlds.specs.WorldContents.{items_of};
 
 use crate::lowerings::ImportedInterface;
 use comp_lists::{Bytes, Keyed, Seq, Text};

@@ -33,7 +33,8 @@ use Rattle.world_values.specs.Items.{functions_of, root_function_at}
 use Rattle.comp_roles.specs.CoreImports.{fields_of}
 use Rattle.comp_roles.specs.CoreTypes.{called_type}
 use Rattle.comp_worlds.specs.Typed.{drop_type, type_of_import}
-use Rattle.comp_worlds.specs.Worlds.{IsWorld, IsImportRole, IsImportGroup, items_of, core_name_of}
+use Rattle.comp_worlds.specs.WorldContents.{items_of, core_name_of}
+use Rattle.comp_worlds.specs.Worlds.{IsWorld, IsImportRole, IsImportGroup}
 use Rattle.wit_data.specs.declared.worlds.WorldKey.{WorldKey}
 use Rattle.comp_roles.specs.declared.imports.Import.{Import}
 use Rattle.comp_roles.specs.declared.imports.Import.TheVariants as imports

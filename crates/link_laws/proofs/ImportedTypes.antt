@@ -23,7 +23,7 @@ use Rattle.wit_data.specs.declared.ids.TypeId.{TypeId}
 use Rattle.wit_data.specs.declared.worlds.WorldItem.{WorldItem}
 use Rattle.wit_data.specs.declared.worlds.WorldItem.TheVariants as world_items
 use Rattle.wit_data.specs.declared.worlds.WorldKey.{WorldKey}
-use Rattle.comp_worlds.specs.Worlds.{items_of, imported_types}
+use Rattle.comp_worlds.specs.WorldContents.{items_of, imported_types}
 use Rattle.comp_worlds.specs.declared.world.ComponentWorld.{ComponentWorld}
 use Rattle.comp_trees.specs.Trees.{ImportedAt, ResourceAt}
 use Rattle.comp_trees.specs.DefinedTrees.{TypeTree, OfValues}

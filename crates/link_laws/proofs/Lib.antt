@@ -22,3 +22,7 @@ mod NotComposed
 mod WorkedTypes
 mod WorkedTypesLinked
 mod WorkedDrops
+mod WorkedInterfaceDrops
+mod WorkedOuterTypes
+mod OtherOuterType
+mod WorkedSharedResource

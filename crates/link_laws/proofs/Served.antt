@@ -25,7 +25,8 @@ use Rattle.wit_data.specs.declared.worlds.WorldKey.{WorldKey}
 use Rattle.wit_data.specs.declared.worlds.WorldKey.TheVariants as keys
 use Rattle.comp_roles.specs.declared.offered.ImportType.{ImportType}
 use Rattle.world_values.specs.Items.{root_function_at}
-use Rattle.comp_worlds.specs.Worlds.{IsWorld, IsRequired, items_of, imported_types, core_name_of}
+use Rattle.comp_worlds.specs.WorldContents.{items_of, core_name_of}
+use Rattle.comp_worlds.specs.Worlds.{IsWorld, IsRequired}
 use Rattle.comp_worlds.specs.declared.world.ComponentWorld.{ComponentWorld}
 use Rattle.comp_worlds.specs.declared.world.WorldAdapter.{WorldAdapter}
 use Rattle.comp_trees.specs.Trees.{FunctionTree}
@@ -33,7 +34,7 @@ use Rattle.comp_trees.specs.DefinedTrees.{OfOthers}
 use Rattle.comp_links.specs.Targets.{Main, WorldFunction, Target, Lowered, Dropped, Lifted}
 use Rattle.comp_links.specs.Modules.{WorldModule, adapter_module, user_modules}
 use Rattle.comp_links.specs.Naming.{Naming, plain_name, name_of}
-use Rattle.comp_links.specs.Lists.{resource_of, root_function, stated_export, functions_required, functions_in}
+use Rattle.comp_links.specs.Lists.{component_types, resource_of, root_function, stated_export, functions_required, functions_in}
 use Rattle.comp_terms.specs.Planned.{type_of_function}
 use Rattle.comp_runs.specs.Signatures.{core_signature}
 use Rattle.comp_runs.specs.Store.{Thing, Export, CoreItem, Lowering, IntrinsicOf, ExportedBy, Imported, Lifting, item_tree, ModuleInstance}
@@ -121,9 +122,9 @@ module _ (w : ComponentWorld) (ok : IsWorld w) (m : Machine) where
 
   -- each import of main is served
   pub users_served : AllByRecursion (IsPlannedUser w m.store) m.store.module_instances → UsersServed w m (resource_of w)
-  users_served all = record { resources = same_resources (imported_types w); each = λ instance i of present listed. instance_served i of i.module_number listed (at_index m.store.module_instances instance i all present) }
+  users_served all = record { resources = same_resources (component_types w); each = λ instance i of present listed. instance_served i of i.module_number listed (at_index m.store.module_instances instance i all present) }
     where
-      same_resources : (ts : List (List ℕ × TypeId)) → AllByRecursion (λ t. resource_of w t.1 ≡ resource_of w t.1) ts
+      same_resources : (ts : List TypeId) → AllByRecursion (λ id. resource_of w id ≡ resource_of w id) ts
       same_resources [] = tt
       same_resources (t ∷ ts) = (refl, same_resources ts)
 

@@ -33,7 +33,8 @@ use Rattle.wit_data.specs.declared.worlds.WorldKey.{WorldKey}
 use Rattle.wit_data.specs.declared.worlds.WorldKey.TheVariants as keys
 use Rattle.wit_data.specs.declared.functions.Function.{Function as WitFunction}
 use Rattle.world_values.specs.Items.{root_function_at}
-use Rattle.comp_worlds.specs.Worlds.{IsWorld, items_of, core_name_of}
+use Rattle.comp_worlds.specs.WorldContents.{items_of, core_name_of}
+use Rattle.comp_worlds.specs.Worlds.{IsWorld}
 use Rattle.comp_trees.specs.Trees.{Origin, ImportedAt, DefinedAt, ResourceAt, FunctionTree, is_known}
 use Rattle.comp_trees.specs.DefinedTrees.{TypeTree, OfValues, OfFunctions, OfOthers, function_tree, defined_tree}
 use Rattle.comp_trees.specs.DefinedScopes.{type_tree}

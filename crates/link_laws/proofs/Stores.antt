@@ -27,7 +27,7 @@ use Rattle.comp_roles.specs.declared.offered.ImportType.{ImportType}
 use Rattle.wit_data.specs.declared.functions.Function.{Function as WitFunction}
 use Rattle.wit_data.specs.declared.worlds.WorldKey.TheVariants as keys
 use Rattle.world_values.specs.Items.{root_function_at}
-use Rattle.comp_worlds.specs.Worlds.{items_of, core_name_of}
+use Rattle.comp_worlds.specs.WorldContents.{items_of, core_name_of}
 use Rattle.comp_worlds.specs.declared.world.ComponentWorld.{ComponentWorld}
 use Rattle.comp_links.specs.Targets.{Main, WorldFunction, Target, Lowered, Dropped}
 use Rattle.comp_links.specs.Modules.{WorldModule}

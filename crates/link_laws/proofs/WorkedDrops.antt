@@ -52,13 +52,13 @@ use Rattle.link_laws.proofs.NamedItem.{own_item}
 
 -- ---- the world
 
-abbrev r : List ℕ
+abbrev pub r : List ℕ
 r = codes "r"
 
-abbrev s : List ℕ
+abbrev pub s : List ℕ
 s = codes "s"
 
-abbrev drop_r : List ℕ
+abbrev pub drop_r : List ℕ
 drop_r = codes "[resource-drop]r"
 
 abbrev drop_s : List ℕ
@@ -108,7 +108,7 @@ world = whole_of (record {
   can_use_context_slot_1 = false;
 })
 
-none_apart : IsDistinct bytes_eq []
+pub none_apart : IsDistinct bytes_eq []
 unfolding IsDistinct
 none_apart = tt
 
@@ -204,7 +204,7 @@ s_dropped : IsDropping (ds 6) 1 (resource 1)
 unfolding inventory
 s_dropped = record { type = 1; made = record { made = refl }; of = record { denotes = record { within = omega arith; tree = refl } } }
 
-not_true : {P : Type 0} → IsTrue false → P
+pub not_true : {P : Type 0} → IsTrue false → P
 not_true e = cc
 
 r_given : IsEntryFor world Main (ds 6) (record { name = drop_r; kind = kinds.Func; index = 0 }) (drop_r, drop_of r 0)

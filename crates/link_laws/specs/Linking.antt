@@ -26,7 +26,6 @@ use Rattle.wit_data.specs.declared.worlds.WorldItem.TheVariants as world_items
 use Rattle.comp_roles.specs.Lookups.{first_export, is_initialize}
 use Rattle.comp_roles.specs.declared.offered.ImportType.{ImportType}
 use Rattle.world_values.specs.Items.{functions_of}
-use Rattle.comp_worlds.specs.Worlds.{imported_types}
 use Rattle.comp_worlds.specs.declared.world.ComponentWorld.{ComponentWorld}
 use Rattle.comp_trees.specs.Trees.{Resource}
 use Rattle.comp_trees.specs.DefinedTrees.{TypeTree}
@@ -34,7 +33,7 @@ use Rattle.comp_trees.specs.WitTrees.{wit_function_tree}
 use Rattle.comp_links.specs.Targets.{Main, ExportRef, Target, Lifted}
 use Rattle.comp_links.specs.Naming.{Naming, name_of}
 use Rattle.comp_links.specs.Modules.{WorldModule, user_modules}
-use Rattle.comp_links.specs.Lists.{RequiredFunction, required_functions, exported_item, resource_of, stated_types}
+use Rattle.comp_links.specs.Lists.{RequiredFunction, required_functions, exported_item, component_types, resource_of, stated_types}
 use Rattle.comp_links.specs.Links.{link_at, lift_of}
 use Rattle.comp_runs.specs.Store.{Thing, Export, CoreItem, ModuleInstance}
 use Rattle.comp_runs.specs.Machine.{Machine, Outcome, Done, Trapped, Open, Stuck, export_of}
@@ -104,9 +103,9 @@ pub record IsServed (w : ComponentWorld) (m : Machine) (origins : TypeId → Res
 abbrev pub AreServed : ComponentWorld → Machine → (TypeId → Resource) → WorldModule → ModuleInstance → Type 0
 AreServed w m origins of i = AllZip (IsServed w m origins of) i.given of.found.imported
 
--- each instance of a user module, where the types that the world imports are the resources that are imported for them
+-- each instance of a user module, where the types that the component imports are the resources that are imported for them
 pub record UsersServed (w : ComponentWorld) (m : Machine) (origins : TypeId → Resource) : Type 0 where
-  pub resources : AllByRecursion (λ t. origins t.1 ≡ resource_of w t.1) (imported_types w)
+  pub resources : AllByRecursion (λ id. origins id ≡ resource_of w id) (component_types w)
   pub each : (instance : ℕ) (i : ModuleInstance) (of : WorldModule) → slice_get m.store.module_instances instance ≡ Some i → slice_get (user_modules w) i.module_number ≡ Some of → AreServed w m origins of i
 
 -- ---- exports

@@ -9,7 +9,7 @@ use Rattle.std.specs.Str.{bytes_eq}
 use Rattle.world_values.specs.declared.gathered.Gathered.{Gathered}
 use Rattle.comp_worlds.specs.declared.world.ComponentWorld.{ComponentWorld}
 use Rattle.comp_worlds.specs.declared.world.WorldParts.{WorldParts}
-use Rattle.world_values.specs.Mentions.{HasRole}
+use Rattle.world_values.specs.Mentions.{HasRole, same_interface}
 use Rattle.comp_worlds.specs.Uses.{all_imports}
 use Rattle.core_types.specs.Core.{core_preamble}
 use Rattle.comp_worlds.specs.Encodable.{IsEncodable}
@@ -82,16 +82,23 @@ valid_of bytes core = record {
   alone = refl;
 }
 
+none_twice : IsDistinct same_interface []
+unfolding IsDistinct
+none_twice = tt
+
 -- the encoder takes it: it has neither types nor interfaces
 encodable_of : (bytes : List ℕ) → take 8 bytes ≡ core_preamble → IsEncodable (stub_world bytes)
 unfolding stub_parts stub_world
 encodable_of bytes core = record {
   valid = valid_of bytes core;
   sound = sound;
-  types = tt;
-  resources = record { ordered = tt; each = no_resource };
-  interfaces = (tt, tt);
-  none_live = tt;
+  tables = record { import_map = refl; live_type_imports = refl; exports_used = refl };
+  resources = record { ordered = tt; each = λ n h alone. no_resource n h };
+  apart = none_twice;
+  types = λ n l. absurd (omega (arith, l));
+  imports = (record { params = tt; result = omega arith }, tt);
+  exports = tt;
+  roles = (tt, tt);
 }
 
 pub encodable : (w : ComponentWorld) (bytes : List ℕ) → w ≡ stub_world bytes → take 8 bytes ≡ core_preamble → IsEncodable w

@@ -1,4 +1,4 @@
--- An imported interface of which nothing is left out has plain functions alone, which are made of types without names.
+-- An imported interface of which nothing is left out has plain functions alone.
 use Rattle.std.proofs.Common.{rules, ◌≡◌, ◌<◌, ◌∙◌, ℕ, zero, suc, Bool, true, false, cond, ◌&&◌, List, [], ◌∷◌, map, length, Some, None, refl, sym, ap, subst, true≢false, arith}
 use Rattle.std.specs.Prelude.{◌==◌, nat_eq, slice_get, slice_index_or, option_map, Contains, IsSome, codes}
 use Rattle.std.specs.List.{AllByRecursion}
@@ -9,13 +9,11 @@ use Rattle.std.proofs.lemmas.Option.{none-some, same_Some}
 use Rattle.std.proofs.lemmas.Slice.Eq.{bytes_eq-Decides}
 use Rattle.comp_lists.specs.Found.{found}
 use Rattle.wit_data.specs.Keys.{is_same_key}
-use Rattle.wit_data.specs.Live.{named_types}
 use Rattle.wit_data.specs.declared.functions.AbiVariant.TheVariants.{GuestImport, GuestExport}
 use Rattle.wit_data.specs.declared.functions.Function.{Function}
 use Rattle.wit_data.specs.declared.functions.FunctionKind.{FunctionKind}
 use Rattle.wit_data.specs.declared.functions.FunctionKind.TheVariants as functions
 use Rattle.wit_data.specs.declared.ids.InterfaceId.{InterfaceId}
-use Rattle.wit_data.specs.declared.ids.TypeId.{TypeId}
 use Rattle.wit_data.specs.declared.resolve.Interface.{Interface}
 use Rattle.wit_data.specs.declared.resolve.Resolve.{Resolve}
 use Rattle.wit_data.specs.declared.types.TypeDef.{TypeDef}
@@ -24,14 +22,13 @@ use Rattle.wit_data.specs.declared.worlds.WorldItem.TheVariants as items
 use Rattle.wit_data.specs.declared.worlds.WorldKey.{WorldKey}
 use Rattle.wit_data.specs.declared.worlds.WorldKey.TheVariants as keys
 use Rattle.comp_options.specs.Options.{import_set, export_set}
-use Rattle.comp_roles.specs.Lookups.{first_some}
 use Rattle.world_values.specs.Items.{functions_of}
 use Rattle.world_values.specs.Mentions.{interface_in}
-use Rattle.comp_worlds.specs.Encodable.{is_of_unnamed, IsBare}
 use Rattle.comp_worlds.specs.Worlds.{IsSynchronous, IsPlain, IsNamedPlain}
 use Rattle.record_resolve.specs.Resolved.{IsListed, AreListed}
-use Rattle.supported_worlds.specs.LeftOut.{kind_left_out, needs_no_option, unless, member_left_out, types_of_interface, interface_left_out, import_item_left_out}
+use Rattle.supported_worlds.specs.LeftOut.{kind_left_out, needs_no_option, unless, member_left_out, interface_left_out}
 use Rattle.supported_worlds.proofs.Lists.{nothing, at_front, after, neither, none_picked}
+use Rattle.supported_worlds.proofs.Order.{passes}
 
 abbrev Entries : Type 0
 Entries = List (WorldKey × WorldItem)
@@ -40,10 +37,6 @@ Entries = List (WorldKey × WorldItem)
 
 not_zero : (n : ℕ) → (suc n == 0) ≡ false
 not_zero n = Prim.search rules
-
-pub passes : (b : Bool) (what : List ℕ) → unless b what ≡ None → b ≡ true
-passes true what h = refl
-passes false what h = nothing what h
 
 -- both sets are empty
 no_options : (a b : ℕ) → (a == 0 && b == 0) ≡ true → (a ≡ 0) × (b ≡ 0)
@@ -65,59 +58,22 @@ plain types f what kind options =
 
 -- ---- functions of interfaces
 
-pub record AreMembers (types : List TypeDef) (fs : List (List ℕ × Function)) : Type 0 where
-  pub plain : AllByRecursion (IsNamedPlain types) fs
-  pub unnamed : AllByRecursion (λ e. is_of_unnamed types e.1 ≡ true) fs
-
-member : (types : List TypeDef) (e : List ℕ × Function) → member_left_out types e.1 ≡ None → IsListed e → IsNamedPlain types e × (is_of_unnamed types e.1 ≡ true)
+member : (types : List TypeDef) (e : List ℕ × Function) → member_left_out types e.1 ≡ None → IsListed e → IsNamedPlain types e
 member types e h listed =
-    let k = neither (kind_left_out e.1.kind) _ h in
-    let o = neither (unless (is_of_unnamed types e.1) (codes "interface")) (unless (needs_no_option types e.1) (codes "interface-func")) k.1 in
-    ((sym listed, plain types e.1 (codes "interface-func") k.0 o.1), passes (is_of_unnamed types e.1) (codes "interface") o.0)
+    let k = neither (kind_left_out e.1.kind) (unless (needs_no_option types e.1) (codes "interface-func")) h in
+    (sym listed, plain types e.1 (codes "interface-func") k.0 k.1)
 
-members : (types : List TypeDef) (fs : List (List ℕ × Function)) → AllByRecursion (λ e. member_left_out types e.1 ≡ None) fs → AllByRecursion IsListed fs → AreMembers types fs
-members types [] h listed = record { plain = tt; unnamed = tt }
-members types (f ∷ fs) h listed =
-    let here = member types f h.0 listed.0 in
-    let rest = members types fs h.1 listed.1 in
-    record { plain = (here.0, rest.plain); unnamed = (here.1, rest.unnamed) }
-
--- ---- interfaces
+members : (types : List TypeDef) (fs : List (List ℕ × Function)) → AllByRecursion (λ e. member_left_out types e.1 ≡ None) fs → AllByRecursion IsListed fs → AllByRecursion (IsNamedPlain types) fs
+members types [] h listed = tt
+members types (f ∷ fs) h listed = (member types f h.0 listed.0, members types fs h.1 listed.1)
 
 listed_at : (is : List Interface) (n : ℕ) → AllByRecursion AreListed is → AllByRecursion IsListed (unwrap_or (option_map (λ i. i.functions) (slice_get is n)) [])
 listed_at [] n h = tt
 listed_at (i ∷ is) zero h = let here = h.0 in here.functions
 listed_at (i ∷ is) (suc n) h = listed_at is n h.1
 
-no_types : (ts : List (List ℕ × TypeId)) → types_of_interface ts ≡ None → ts ≡ []
-no_types [] h = refl
-no_types (t ∷ ts) h = nothing _ h
-
-pub record IsPlainInterface (r : Resolve) (id : InterfaceId) : Type 0 where
-  pub members : AreMembers r.types (functions_of r id)
-  pub bare : named_types r id ≡ []
-
-pub plain_interface : (r : Resolve) (id : InterfaceId) → interface_left_out r id ≡ None → AllByRecursion AreListed r.interfaces → IsPlainInterface r id
-plain_interface r id h listed =
-    let b = neither (types_of_interface (named_types r id)) (first_some (λ e. member_left_out r.types e.1) (functions_of r id)) h in
-    record {
-      members = members r.types (functions_of r id) (none_picked (λ e. member_left_out r.types e.1) (functions_of r id) b.1) (listed_at r.interfaces id.index listed);
-      bare = no_types (named_types r id) b.0;
-    }
-
--- an imported interface has no types, and its functions are made of types without names
-bare_interface : (r : Resolve) (id : InterfaceId) → interface_left_out r id ≡ None → AllByRecursion AreListed r.interfaces → IsBare r (items.Interface id)
-bare_interface r id h listed = let i = plain_interface r id h listed in let m = i.members in (i.bare, m.unnamed)
-
-bare : (r : Resolve) (e : WorldKey × WorldItem) → import_item_left_out r e ≡ None → AllByRecursion AreListed r.interfaces → IsBare r e.1
-bare r (keys.Name text, items.Interface id) h listed = bare_interface r id h listed
-bare r (keys.Interface other, items.Interface id) h listed = bare_interface r id h listed
-bare r (key, items.Function f) h listed = tt
-bare r (key, items.NamedType id) h listed = tt
-
-pub all_bare : (r : Resolve) (es : Entries) → AllByRecursion (λ e. import_item_left_out r e ≡ None) es → AllByRecursion AreListed r.interfaces → AllByRecursion (λ e. IsBare r e.1) es
-all_bare r [] h listed = tt
-all_bare r (e ∷ es) h listed = (bare r e h.0 listed, all_bare r es h.1 listed)
+pub plain_interface : (r : Resolve) (id : InterfaceId) → interface_left_out r id ≡ None → AllByRecursion AreListed r.interfaces → AllByRecursion (IsNamedPlain r.types) (functions_of r id)
+plain_interface r id h listed = members r.types (functions_of r id) (none_picked (λ e. member_left_out r.types e.1) (functions_of r id) h) (listed_at r.interfaces id.index listed)
 
 -- ---- look-ups
 

@@ -1,9 +1,12 @@
 mod Encodable
+mod InPlace
+mod InterfacePlaces
 mod Interfaces
 mod Lists
-mod Marking
-mod Places
+mod Order
 mod Reporting
+mod Testing
+mod TypePlaces
 mod Valid
 mod Walking
 mod Worked

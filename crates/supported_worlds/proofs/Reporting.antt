@@ -1,9 +1,11 @@
 -- When a world is refused: something of it is reported exactly where a cause holds.
-use Rattle.std.proofs.Common.{◌≡◌, ◌≢◌, ◌⊎◌, inl, inr, ℕ, Bool, true, false, true≢false, List, [], ◌∷◌, ◌++◌, Option, Some, None, Ok, Err, refl, sym, ap, subst, ◌∙◌}
-use Rattle.std.specs.Prelude.{Contains, codes, if◌then◌else◌}
+use Rattle.std.proofs.Common.{◌≡◌, ◌≢◌, ◌⊎◌, inl, inr, ℕ, Bool, true, false, true≢false, List, [], ◌∷◌, ◌++◌, Option, Some, None, Ok, Err, refl, sym, ap, ap₂, subst, ◌∙◌}
+use Rattle.std.specs.Prelude.{Contains, length, codes}
 use Rattle.std.specs.List.{AllByRecursion, flat_map}
+use Rattle.std.specs.Option.{option_or}
 use Rattle.comp_lists.proofs.Lists.{AllByRecursion-contains, Contains-map}
-use Rattle.wit_data.specs.declared.types.TypeDef.{TypeDef}
+use Rattle.wit_data.specs.declared.worlds.World.{World}
+use Rattle.world_values.specs.Mentions.{interfaces_of}
 use Rattle.comp_roles.specs.CoreImports.{CoreImport, imports_from}
 use Rattle.comp_roles.specs.Lookups.{first_some}
 use Rattle.comp_roles.specs.declared.imports.Import.{Import}
@@ -18,63 +20,84 @@ use Rattle.record_faults.specs.declared.fault.Failure.{Failure}
 use Rattle.record_faults.specs.declared.fault.Failure.TheVariants as failures
 use Rattle.record_faults.specs.declared.fault.Refusal.{Refusal}
 use Rattle.record_faults.specs.declared.fault.Refusal.TheVariants as refusals
-use Rattle.supported_worlds.specs.LeftOut.{items_of, import_item_left_out, export_item_left_out, type_left_out, imported_numbers, are_in_place, resources_left_out, import_left_out, export_left_out, group_left_out, world_left_out, types_left_out, module_left_out, adapters_left_out, modules_left_out, left_out, unless_left_out, encoded}
-use Rattle.supported_worlds.specs.Causes.{IsLeftOut, imported, exported, type_def, resources, import_role, export_role, whole_module, adapter}
+use Rattle.supported_worlds.specs.LeftOut.{items_of, unless, import_item_left_out, export_item_left_out, twice_left_out, order_left_out, resources_left_out, export_left_out, group_left_out, world_left_out, module_left_out, adapters_left_out, modules_left_out, rest_left_out, left_out, unless_left_out, encoded}
+use Rattle.supported_worlds.specs.Placed.{places_of, are_apart, is_world_placed, imported_numbers, are_in_place}
+use Rattle.supported_worlds.specs.PlaceTables.{AreInterfacePlaces, ArePlaces}
+use Rattle.supported_worlds.specs.declared.places.InterfacePlaces.{InterfacePlaces}
+use Rattle.supported_worlds.specs.declared.places.Places.{Places}
+use Rattle.supported_worlds.specs.Causes.{role_left_out, IsLeftOut, imported, exported, twice, order, resources, import_role, export_role, whole_module, adapter}
 use Rattle.supported_worlds.proofs.Lists.{nothing, at_front, not_there, in_flat_map, neither, one_of, none_picked, one_picked}
-use Rattle.supported_worlds.proofs.Places.{imports_resources, in_place}
+use Rattle.supported_worlds.proofs.InPlace.{imports_resources, in_place}
+use Rattle.supported_worlds.proofs.Order.{passes}
+
+-- ---- tables and tests
+
+pub same_modules : (p : WorldParts) (w : World) (t : Places) (found : Option (List ℕ)) → ArePlaces p.resolve.types w.imports t → found ≡ modules_left_out p t.types t.interfaces.root → found ≡ modules_left_out p (places_of p.resolve.types w.imports) (length w.imports)
+same_modules p w t found h is = let i = h.interfaces in is ∙ ap₂ (modules_left_out p) h.types i.root
+
+pub is_twice : (w : World) (rest : Option (List ℕ)) → are_apart (interfaces_of w.imports) ≡ false → Some (codes "interface") ≡ option_or (twice_left_out w) rest
+is_twice w rest met = ap (λ b. option_or (unless b (codes "interface")) rest) (sym met)
+
+pub is_apart : (w : World) (i : InterfacePlaces) (found rest : Option (List ℕ)) → AreInterfacePlaces w.imports i → found ≡ rest → found ≡ option_or (twice_left_out w) rest
+is_apart w i found rest h is = is ∙ ap (λ b. option_or (unless b (codes "interface")) rest) (sym h.apart)
 
 -- ---- where nothing is reported
 
-pub fields_pass : (types : List TypeDef) (name : List ℕ) (fields : List (List ℕ × Import)) → AllByRecursion (λ f. import_left_out types f.1 ≡ None) fields → AllByRecursion (λ i. import_left_out types i.role ≡ None) (imports_from (name, instances.Names fields))
-fields_pass types name [] h = tt
-fields_pass types name (f ∷ fields) h = (h.0, fields_pass types name fields h.1)
+pub fields_pass : (p : WorldParts) (name : List ℕ) (fields : List (List ℕ × Import)) → AllByRecursion (λ f. role_left_out p f.1 ≡ None) fields → AllByRecursion (λ i. role_left_out p i.role ≡ None) (imports_from (name, instances.Names fields))
+fields_pass p name [] h = tt
+fields_pass p name (f ∷ fields) h = (h.0, fields_pass p name fields h.1)
 
 both : {X : Type 0} (P : X → Type 0) (xs ys : List X) → AllByRecursion P xs → AllByRecursion P ys → AllByRecursion P (xs ++ ys)
 both P [] ys h k = k
 both P (x ∷ xs) ys h k = (h.0, both P xs ys h.1 k)
 
+-- the imports from one module, by the places of the types of the world
+abbrev pub group_out : WorldParts → List ℕ × ImportInstance → Option (List ℕ)
+group_out p group = group_left_out p.resolve.types (places_of p.resolve.types (items_of p).imports) (length (items_of p).imports) group
+
 -- each import of the groups is encoded
-pub imports_pass : (types : List TypeDef) (groups : List (List ℕ × ImportInstance)) → AllByRecursion (λ g. group_left_out types g ≡ None) groups → AllByRecursion (λ i. import_left_out types i.role ≡ None) (flat_map imports_from groups)
-imports_pass types [] h = tt
-imports_pass types ((name, instances.Names fields) ∷ groups) h =
-    both (λ i. import_left_out types i.role ≡ None) (imports_from (name, instances.Names fields)) (flat_map imports_from groups)
-    (fields_pass types name fields (none_picked (λ f. import_left_out types f.1) fields h.0)) (imports_pass types groups h.1)
-imports_pass types ((name, instances.Whole which) ∷ groups) h = nothing (codes "library") h.0
+pub imports_pass : (p : WorldParts) (groups : List (List ℕ × ImportInstance)) → AllByRecursion (λ g. group_out p g ≡ None) groups → AllByRecursion (λ i. role_left_out p i.role ≡ None) (flat_map imports_from groups)
+imports_pass p [] h = tt
+imports_pass p ((name, instances.Names fields) ∷ groups) h =
+    both (λ i. role_left_out p i.role ≡ None) (imports_from (name, instances.Names fields)) (flat_map imports_from groups)
+    (fields_pass p name fields (none_picked (λ f. role_left_out p f.1) fields h.0)) (imports_pass p groups h.1)
+imports_pass p ((name, instances.Whole which) ∷ groups) h = nothing (codes "library") h.0
 
 pub no_adapters : (adapters : List (List ℕ × WorldAdapter)) → adapters_left_out adapters ≡ None → adapters ≡ []
 no_adapters [] h = refl
 no_adapters (a ∷ more) h = nothing (codes "adapter") h
 
--- the imports are in place
-resources_pass : (b : Bool) → (if b then None else Some (codes "type")) ≡ None → b ≡ true
-resources_pass true h = refl
-resources_pass false h = nothing (codes "type") h
-
 -- nothing of a world is left out
 pub record IsEncoded (p : WorldParts) : Type 0 where
   pub imports : AllByRecursion (λ e. import_item_left_out p.resolve e ≡ None) (items_of p).imports
   pub exports : AllByRecursion (λ e. export_item_left_out p.resolve.types e ≡ None) (items_of p).exports
-  pub types : AllByRecursion (λ t. type_left_out t ≡ None) p.resolve.types
+  pub apart : are_apart (interfaces_of (items_of p).imports) ≡ true
+  pub order : is_world_placed p.resolve (items_of p) ≡ true
   pub resources : ImportsResources (whole_of p)
-  pub groups : AllByRecursion (λ g. group_left_out p.resolve.types g ≡ None) p.main.imports.modules
+  pub groups : AllByRecursion (λ g. group_out p g ≡ None) p.main.imports.modules
   pub export_roles : AllByRecursion (λ e. export_left_out e.1 ≡ None) p.main.exports.exports
   pub alone : p.adapters ≡ []
 
 pub all_encoded : (p : WorldParts) → left_out p ≡ None → IsEncoded p
 unfolding left_out
 all_encoded p h =
-    let a = neither (world_left_out p.resolve (items_of p)) _ h in
-    let w = neither (first_some (import_item_left_out p.resolve) (items_of p).imports) _ a.0 in
-    let t = neither (types_left_out p.resolve.types (items_of p)) (modules_left_out p) a.1 in
-    let o = neither (first_some type_left_out p.resolve.types) (resources_left_out p.resolve.types (items_of p).imports) t.0 in
-    let b = neither (module_left_out p.resolve.types p.main) (adapters_left_out p.adapters) t.1 in
-    let m = neither (first_some (group_left_out p.resolve.types) p.main.imports.modules) _ b.0 in
+    let world = items_of p in
+    let places = places_of p.resolve.types world.imports in
+    let root = length world.imports in
+    let a = neither (world_left_out p.resolve world) _ h in
+    let w = neither (first_some (import_item_left_out p.resolve) world.imports) _ a.0 in
+    let t = neither (twice_left_out world) (rest_left_out p world) a.1 in
+    let o = neither (order_left_out p.resolve world) _ t.1 in
+    let r = neither (resources_left_out p.resolve.types world.imports) (modules_left_out p places root) o.1 in
+    let b = neither (module_left_out p.resolve.types places root p.main) (adapters_left_out p.adapters) r.1 in
+    let m = neither (first_some (group_out p) p.main.imports.modules) _ b.0 in
     record {
-      imports = none_picked (import_item_left_out p.resolve) (items_of p).imports w.0;
-      exports = none_picked (export_item_left_out p.resolve.types) (items_of p).exports w.1;
-      types = none_picked type_left_out p.resolve.types o.0;
-      resources = imports_resources (whole_of p) (resources_pass (are_in_place p.resolve.types 0 (imported_numbers (items_of p).imports)) o.1);
-      groups = none_picked (group_left_out p.resolve.types) p.main.imports.modules m.0;
+      imports = none_picked (import_item_left_out p.resolve) world.imports w.0;
+      exports = none_picked (export_item_left_out p.resolve.types) world.exports w.1;
+      apart = passes (are_apart (interfaces_of world.imports)) (codes "interface") t.0;
+      order = passes (is_world_placed p.resolve world) (codes "interface") o.0;
+      resources = imports_resources (whole_of p) (passes (are_in_place p.resolve.types 0 (imported_numbers world.imports)) (codes "type") r.0);
+      groups = none_picked (group_out p) p.main.imports.modules m.0;
       export_roles = none_picked (λ e. export_left_out e.1) p.main.exports.exports m.1;
       alone = no_adapters p.adapters b.1;
     }
@@ -86,20 +109,21 @@ none_of reported xs x what h m e = nothing what (sym e ∙ AllByRecursion-contai
 by_cases : (p : WorldParts) → IsEncoded p → (f : Refusal) → IsLeftOut p f → ⊥
 by_cases p h f (imported entry what m e) = none_of (import_item_left_out p.resolve) (items_of p).imports entry what h.imports m e
 by_cases p h f (exported entry what m e) = none_of (export_item_left_out p.resolve.types) (items_of p).exports entry what h.exports m e
-by_cases p h f (type_def def what m e) = none_of type_left_out p.resolve.types def what h.types m e
+by_cases p h f (twice what e) = nothing what (sym e ∙ ap (λ b. unless b (codes "interface")) h.apart)
+by_cases p h f (order what e) = nothing what (sym e ∙ ap (λ b. unless b (codes "interface")) h.order)
 by_cases p h f (resources lack) = lack h.resources
 by_cases p h f (import_role import what m e) =
-    none_of (λ i. import_left_out p.resolve.types i.role) (flat_map imports_from p.main.imports.modules) import what (imports_pass p.resolve.types p.main.imports.modules h.groups) m e
+    none_of (λ i. role_left_out p i.role) (flat_map imports_from p.main.imports.modules) import what (imports_pass p p.main.imports.modules h.groups) m e
 by_cases p h f (export_role entry what m e) = none_of (λ x. export_left_out x.1) p.main.exports.exports entry what h.export_roles m e
-by_cases p h f (whole_module name which m) = none_of (group_left_out p.resolve.types) p.main.imports.modules (name, instances.Whole which) (codes "library") h.groups m refl
+by_cases p h f (whole_module name which m) = none_of (group_out p) p.main.imports.modules (name, instances.Whole which) (codes "library") h.groups m refl
 by_cases p h f (adapter entry m) = not_there entry (subst (λ (as_list : List (List ℕ × WorldAdapter)). Contains as_list entry) h.alone m)
 
 -- ---- where something is reported
 
 module _ (p : WorldParts) (what : List ℕ) where
-  of_group : (group : List ℕ × ImportInstance) → Contains p.main.imports.modules group → group_left_out p.resolve.types group ≡ Some what → IsLeftOut p (refusals.LeftOut what)
+  of_group : (group : List ℕ × ImportInstance) → Contains p.main.imports.modules group → group_out p group ≡ Some what → IsLeftOut p (refusals.LeftOut what)
   of_group (name, instances.Names fields) m e =
-      let t = one_picked (λ f. import_left_out p.resolve.types f.1) fields what e in
+      let t = one_picked (λ f. role_left_out p f.1) fields what e in
       let import : CoreImport = record { module_name = name; field = t.element.0; role = t.element.1 } in
       let there = Contains-map (λ f. record { module_name = name; field = f.0; role = f.1 }) fields t.element t.there in
       import_role import what (in_flat_map imports_from p.main.imports.modules (name, instances.Names fields) import m.0 m.1 m.2 there) t.picks
@@ -116,37 +140,41 @@ module _ (p : WorldParts) (what : List ℕ) where
     | inr b ↦ let t = one_picked (export_item_left_out p.resolve.types) (items_of p).exports what b in exported t.element what t.there t.picks
   ]
 
-  of_resources : (b : Bool) → are_in_place p.resolve.types 0 (imported_numbers (items_of p).imports) ≡ b → (if b then None else Some (codes "type")) ≡ Some what → IsLeftOut p (refusals.LeftOut what)
+  of_resources : (b : Bool) → are_in_place p.resolve.types 0 (imported_numbers (items_of p).imports) ≡ b → unless b (codes "type") ≡ Some what → IsLeftOut p (refusals.LeftOut what)
   of_resources true is e = nothing what (sym e)
   of_resources false is e = subst (λ (w : List ℕ). IsLeftOut p (refusals.LeftOut w)) (cc (e)) (resources (λ h. true≢false (sym (in_place (whole_of p) h) ∙ is)))
 
-  of_types : types_left_out p.resolve.types (items_of p) ≡ Some what → IsLeftOut p (refusals.LeftOut what)
-  of_types e = elim (one_of (first_some type_left_out p.resolve.types) (resources_left_out p.resolve.types (items_of p).imports) what e) [
-    | inl a ↦ let t = one_picked type_left_out p.resolve.types what a in type_def t.element what t.there t.picks
-    | inr b ↦ of_resources (are_in_place p.resolve.types 0 (imported_numbers (items_of p).imports)) refl b
-  ]
-
-  of_module : module_left_out p.resolve.types p.main ≡ Some what → IsLeftOut p (refusals.LeftOut what)
-  of_module e = elim (one_of (first_some (group_left_out p.resolve.types) p.main.imports.modules) (first_some (λ x. export_left_out x.1) p.main.exports.exports) what e) [
-    | inl a ↦ let t = one_picked (group_left_out p.resolve.types) p.main.imports.modules what a in of_group t.element t.there t.picks
+  of_module : module_left_out p.resolve.types (places_of p.resolve.types (items_of p).imports) (length (items_of p).imports) p.main ≡ Some what → IsLeftOut p (refusals.LeftOut what)
+  of_module e = elim (one_of (first_some (group_out p) p.main.imports.modules) (first_some (λ x. export_left_out x.1) p.main.exports.exports) what e) [
+    | inl a ↦ let t = one_picked (group_out p) p.main.imports.modules what a in of_group t.element t.there t.picks
     | inr b ↦ let t = one_picked (λ x. export_left_out x.1) p.main.exports.exports what b in export_role t.element what t.there t.picks
   ]
 
-  of_modules : modules_left_out p ≡ Some what → IsLeftOut p (refusals.LeftOut what)
-  of_modules e = elim (one_of (module_left_out p.resolve.types p.main) (adapters_left_out p.adapters) what e) [
+  of_modules : modules_left_out p (places_of p.resolve.types (items_of p).imports) (length (items_of p).imports) ≡ Some what → IsLeftOut p (refusals.LeftOut what)
+  of_modules e = elim (one_of (module_left_out p.resolve.types (places_of p.resolve.types (items_of p).imports) (length (items_of p).imports) p.main) (adapters_left_out p.adapters) what e) [
     | inl a ↦ of_module a
     | inr b ↦ of_adapters p.adapters refl b
   ]
 
-  of_rest : (types_left_out p.resolve.types (items_of p) ≡ Some what) ⊎ (modules_left_out p ≡ Some what) → IsLeftOut p (refusals.LeftOut what)
-  of_rest (inl a) = of_types a
-  of_rest (inr b) = of_modules b
+  after_order : (resources_left_out p.resolve.types (items_of p).imports ≡ Some what) ⊎ (modules_left_out p (places_of p.resolve.types (items_of p).imports) (length (items_of p).imports) ≡ Some what) → IsLeftOut p (refusals.LeftOut what)
+  after_order (inl a) = of_resources (are_in_place p.resolve.types 0 (imported_numbers (items_of p).imports)) refl a
+  after_order (inr b) = of_modules b
+
+  of_rest : rest_left_out p (items_of p) ≡ Some what → IsLeftOut p (refusals.LeftOut what)
+  of_rest e = elim (one_of (order_left_out p.resolve (items_of p)) _ what e) [
+    | inl a ↦ order what a
+    | inr b ↦ after_order (one_of (resources_left_out p.resolve.types (items_of p).imports) (modules_left_out p (places_of p.resolve.types (items_of p).imports) (length (items_of p).imports)) what b)
+  ]
+
+  after_items : (twice_left_out (items_of p) ≡ Some what) ⊎ (rest_left_out p (items_of p) ≡ Some what) → IsLeftOut p (refusals.LeftOut what)
+  after_items (inl a) = twice what a
+  after_items (inr b) = of_rest b
 
   reported : left_out p ≡ Some what → IsLeftOut p (refusals.LeftOut what)
   unfolding left_out
   reported e = elim (one_of (world_left_out p.resolve (items_of p)) _ what e) [
     | inl a ↦ of_world a
-    | inr b ↦ of_rest (one_of (types_left_out p.resolve.types (items_of p)) (modules_left_out p) what b)
+    | inr b ↦ after_items (one_of (twice_left_out (items_of p)) (rest_left_out p (items_of p)) what b)
   ]
 
 -- ---- the whole

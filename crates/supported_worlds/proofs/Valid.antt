@@ -1,6 +1,6 @@
 -- A world of which nothing is left out keeps the invariant of worlds.
 use Rattle.std.proofs.Common.{arith, ◌≡◌, ◌<◌, length, ℕ, zero, suc, Bool, true, false, cond, ◌&&◌, List, [], ◌∷◌, map, Option, Some, None, refl, sym, ap, subst, ◌∙◌, true≢false}
-use Rattle.std.specs.Prelude.{is_some, slice_get, slice_index_or, Contains, IsSome, option_map, codes, if◌then◌else◌}
+use Rattle.std.specs.Prelude.{is_some, slice_get, slice_index_or, get_or, nat_le, Contains, IsSome, option_map, codes}
 use Rattle.std.specs.List.{IsDistinct, AllByRecursion, flat_map}
 use Rattle.std.specs.Map.{lookup, keys_of}
 use Rattle.std.specs.Option.{option_and_then, option_map_or}
@@ -34,7 +34,8 @@ use Rattle.comp_roles.specs.declared.offered.ImportType.{ImportType}
 use Rattle.world_values.specs.Items.{no_items, functions_of, function_in, root_function_at}
 use Rattle.world_values.specs.Mentions.{interface_in}
 use Rattle.comp_worlds.specs.Typed.{type_of_import, type_of_export, FitsImport, FitsExport}
-use Rattle.comp_worlds.specs.Worlds.{root_function, core_name_in, IsWorld, IsUserModule, IsPlain, IsNamedPlain, IsImportItem, IsExportItem, IsResource, IsImportRole, IsImportGroup, IsExportRole, IsRequired}
+use Rattle.comp_worlds.specs.WorldContents.{root_function, core_name_in}
+use Rattle.comp_worlds.specs.Worlds.{IsWorld, IsUserModule, IsPlain, IsImportItem, IsExportItem, IsResource, IsImportRole, IsImportGroup, IsExportRole, IsRequired}
 use Rattle.comp_worlds.specs.WorldTables.{whole_of}
 use Rattle.comp_worlds.specs.declared.world.WorldAdapter.{WorldAdapter}
 use Rattle.comp_worlds.specs.declared.world.WorldParts.{WorldParts}
@@ -43,12 +44,15 @@ use Rattle.record_core_types.specs.Asked.{imported_function, imported_interface,
 use Rattle.record_core_types.specs.Guarantees.{IsCalled, IsLifted, IsKept}
 use Rattle.record_resolve.specs.Resolved.{IsNamed, AreListed}
 use Rattle.supported_worlds.specs.Apart.{FieldsApart, AreApart}
-use Rattle.supported_worlds.specs.LeftOut.{items_of, kind_left_out, needs_no_option, unless, function_left_out, interface_left_out, import_item_left_out, export_item_left_out, is_resource, import_left_out, export_left_out, group_left_out}
+use Rattle.supported_worlds.specs.LeftOut.{items_of, kind_left_out, needs_no_option, unless, function_left_out, import_item_left_out, export_item_left_out, export_left_out}
+use Rattle.supported_worlds.specs.Causes.{role_left_out}
+use Rattle.supported_worlds.specs.Placed.{places_of, is_resource, is_droppable}
 use Rattle.supported_worlds.specs.Guarantees.{HasFoundImport, OffersExport, HasSoundParts}
 use Rattle.supported_worlds.proofs.Interfaces.{plain, plain_interface, other_key, entry_there, name_there as function_there, found_there}
 use Rattle.supported_worlds.proofs.Lists.{nothing, at_front, after, neither, none_picked}
-use Rattle.supported_worlds.proofs.Places.{resource_kind}
-use Rattle.supported_worlds.proofs.Reporting.{IsEncoded}
+use Rattle.supported_worlds.proofs.InPlace.{both, resource_kind}
+use Rattle.supported_worlds.proofs.Order.{passes}
+use Rattle.supported_worlds.proofs.Reporting.{group_out, IsEncoded}
 
 abbrev Entries : Type 0
 Entries = List (WorldKey × WorldItem)
@@ -60,16 +64,13 @@ root_function_plain types f h =
     let both = neither (kind_left_out f.kind) (unless (needs_no_option types f) (codes "world-func")) h in
     plain types f (codes "world-func") both.0 both.1
 
-interface_item : (r : Resolve) (id : InterfaceId) → interface_left_out r id ≡ None → AllByRecursion AreListed r.interfaces → AllByRecursion (IsNamedPlain r.types) (functions_of r id)
-interface_item r id h listed = let i = plain_interface r id h listed in let m = i.members in m.plain
-
 import_item : (r : Resolve) (e : WorldKey × WorldItem) → import_item_left_out r e ≡ None → IsNamed e → AllByRecursion AreListed r.interfaces → IsImportItem r e
 import_item r (keys.Name text, items.Function f) h named listed = (sym named, root_function_plain r.types f h)
 import_item r (keys.Name text, items.NamedType id) h named listed = tt
-import_item r (keys.Name text, items.Interface id) h named listed = interface_item r id h listed
+import_item r (keys.Name text, items.Interface id) h named listed = plain_interface r id h listed
 import_item r (keys.Interface other, items.Function f) h named listed = nothing _ h
 import_item r (keys.Interface other, items.NamedType id) h named listed = nothing _ h
-import_item r (keys.Interface other, items.Interface id) h named listed = interface_item r id h listed
+import_item r (keys.Interface other, items.Interface id) h named listed = plain_interface r id h listed
 
 import_items : (r : Resolve) (es : Entries) → AllByRecursion (λ e. import_item_left_out r e ≡ None) es → AllByRecursion IsNamed es → AllByRecursion AreListed r.interfaces → AllByRecursion (IsImportItem r) es
 import_items r [] h named listed = tt
@@ -88,13 +89,9 @@ export_items types (e ∷ es) h named = (export_item types e h.0 named.0, export
 -- ---- types
 
 -- a type that may be dropped is a resource
-dropped : (types : List TypeDef) (number : ℕ) → (if option_map_or is_resource (slice_get types number) false then None else Some (codes "imported-drop")) ≡ None → IsResource types number
-dropped [] number h = nothing _ h
-dropped (t ∷ ts) zero h = by (is_resource t) refl h
-  where
-    by : (b : Bool) → is_resource t ≡ b → (if b then None else Some (codes "imported-drop")) ≡ None → IsResource (t ∷ ts) zero
-    by true is h = record { present = omega arith; kind = resource_kind t.kind is }
-    by false is h = nothing _ h
+dropped : (types : List TypeDef) (number : ℕ) → option_map_or is_resource (slice_get types number) false ≡ true → IsResource types number
+dropped [] number h = absurd (true≢false (sym h))
+dropped (t ∷ ts) zero h = record { present = omega arith; kind = resource_kind t.kind h }
 dropped (t ∷ ts) (suc number) h = let r = dropped ts number h in let l = r.present in record { present = omega (arith, l); kind = r.kind }
 
 -- ---- names
@@ -227,26 +224,30 @@ module _ (p : WorldParts) (present : HasSoundParts p) (encoded : IsEncoded p) (a
   exported_is : (key : WorldKey) → exported_function p.resolve p.world key ≡ root_function_at (items_of p).exports key
   exported_is key = ap (λ (o : Option World). option_and_then (λ w. root_function_at w.exports key) o) the_world
 
-  import_role : (role : Import) → import_left_out p.resolve.types role ≡ None → IsCalled p.resolve p.world role → IsImportRole (whole_of p) role
+  import_role : (role : Import) → role_left_out p role ≡ None → IsCalled p.resolve p.world role → IsImportRole (whole_of p) role
   import_role (imports.WorldFunc (keys.Name text) name GuestImport) h called =
       (name_there text (items_of p).imports (subst (λ (o : Option Function). IsSome o) (imported_is (keys.Name text)) called.1), called.0, refl)
   import_role (imports.WorldFunc (keys.Interface id) name GuestImportAsync) h called = nothing _ h
   import_role (imports.InterfaceFunc key id name GuestImport) h called =
       (entry_there key id (items_of p).imports (sym (interface_is key) ∙ called.0), function_there name (functions_of p.resolve id) called.1, refl)
-  import_role (imports.ImportedResourceDrop key interface id) h called = dropped p.resolve.types id.index h
+  import_role (imports.ImportedResourceDrop key interface id) h called =
+      let places = places_of p.resolve.types (items_of p).imports in
+      let root = length (items_of p).imports in
+      let b = both (option_map_or is_resource (slice_get p.resolve.types id.index) false) (nat_le (get_or places id.index 0) root) (passes (is_droppable p.resolve.types places root id) (codes "imported-drop") h) in
+      dropped p.resolve.types id.index b.0
   import_role role h called = nothing _ h
 
-  field_roles : (name : List ℕ) (fields : List (List ℕ × Import)) → AllByRecursion (λ f. import_left_out p.resolve.types f.1 ≡ None) fields
+  field_roles : (name : List ℕ) (fields : List (List ℕ × Import)) → AllByRecursion (λ f. role_left_out p f.1 ≡ None) fields
       → AllByRecursion (λ i. IsCalled p.resolve p.world i.role) (imports_from (name, instances.Names fields)) → AllByRecursion (λ f. IsImportRole (whole_of p) f.1) fields
   field_roles name [] h called = tt
   field_roles name (f ∷ fields) h called = (import_role f.1 h.0 called.0, field_roles name fields h.1 called.1)
 
-  import_group : (group : List ℕ × ImportInstance) → group_left_out p.resolve.types group ≡ None → FieldsApart group.1 → AllByRecursion (λ i. IsCalled p.resolve p.world i.role) (imports_from group)
+  import_group : (group : List ℕ × ImportInstance) → group_out p group ≡ None → FieldsApart group.1 → AllByRecursion (λ i. IsCalled p.resolve p.world i.role) (imports_from group)
       → IsImportGroup (whole_of p) group
-  import_group (name, instances.Names fields) h alone called = (alone, field_roles name fields (none_picked (λ f. import_left_out p.resolve.types f.1) fields h) called)
+  import_group (name, instances.Names fields) h alone called = (alone, field_roles name fields (none_picked (λ f. role_left_out p f.1) fields h) called)
   import_group (name, instances.Whole which) h alone called = nothing _ h
 
-  import_groups : (groups : List (List ℕ × ImportInstance)) → AllByRecursion (λ g. group_left_out p.resolve.types g ≡ None) groups → AllByRecursion (λ g. FieldsApart g.1) groups
+  import_groups : (groups : List (List ℕ × ImportInstance)) → AllByRecursion (λ g. group_out p g ≡ None) groups → AllByRecursion (λ g. FieldsApart g.1) groups
       → AllByRecursion (λ i. IsCalled p.resolve p.world i.role) (flat_map imports_from groups) → AllByRecursion (IsImportGroup (whole_of p)) groups
   import_groups [] h alone called = tt
   import_groups (g ∷ groups) h alone called = (

@@ -1,5 +1,5 @@
 -- What is left out of some worlds, worked out.
-use Rattle.std.proofs.Common.{◌≡◌, ◌≢◌, ℕ, List, [], ◌∷◌, map, Option, Some, None, refl}
+use Rattle.std.proofs.Common.{◌≡◌, ◌≢◌, ℕ, List, [], ◌∷◌, ◌++◌, map, Option, Some, None, refl}
 use Rattle.std.specs.Prelude.{codes, replicate}
 use Rattle.standard_kinds.specs.declared.kinds.Primitive.{Primitive as Prim}
 use Rattle.standard_kinds.specs.declared.kinds.Primitive.TheVariants as prims
@@ -28,7 +28,8 @@ use Rattle.comp_roles.specs.declared.imports.ImportInstance.TheVariants as insta
 use Rattle.comp_roles.specs.declared.libraries.Item.{Item}
 use Rattle.comp_roles.specs.declared.libraries.MainOrAdapter.TheVariants as modules
 use Rattle.supported_worlds.specs.Kinds.{import_kind}
-use Rattle.supported_worlds.specs.LeftOut.{function_left_out, interface_left_out, world_left_out, types_left_out, import_left_out, export_left_out, group_left_out}
+use Rattle.supported_worlds.specs.LeftOut.{function_left_out, interface_left_out, world_left_out, twice_left_out, order_left_out, resources_left_out, import_left_out, export_left_out, group_left_out}
+use Rattle.supported_worlds.specs.Placed.{places_of}
 
 abbrev a_type : TypeId
 a_type = record { index = 0 }
@@ -38,6 +39,9 @@ another_type = record { index = 1 }
 
 abbrev an_interface : InterfaceId
 an_interface = record { index = 0 }
+
+abbrev another_interface : InterfaceId
+another_interface = record { index = 1 }
 
 abbrev an_interface_type : TypeDef
 an_interface_type = record { name = Some (codes "t"); kind = kinds.Alias (Primitive prims.U8); owner = owners.Interface an_interface }
@@ -186,46 +190,25 @@ first_is_reported = refl
 -- ---- interfaces
 
 -- an interface with these types and this function
-abbrev of_interface : List TypeDef → List (List ℕ × TypeId) → Function → Option (List ℕ)
-of_interface types named g = interface_left_out (resolve_of types (record { id = None; types = named; functions = (codes "f", g) ∷ [] } ∷ [])) an_interface
+abbrev interface_of : List (List ℕ × TypeId) → Function → Interface
+interface_of named g = record { id = None; types = named; functions = (codes "f", g) ∷ [] }
 
-abbrev pair : TypeDefKind
-pair = kinds.Tuple (Primitive prims.U32 ∷ Primitive prims.U32 ∷ [])
+abbrev of_interface : List TypeDef → List (List ℕ × TypeId) → Function → Option (List ℕ)
+of_interface types named g = interface_left_out (resolve_of types (interface_of named g ∷ [])) an_interface
 
 interface_is_encoded : of_interface [] [] plain ≡ None
 interface_is_encoded = refl
 
-interface_is_imported : world_left_out (resolve_of [] (record { id = None; types = []; functions = (codes "f", plain) ∷ [] } ∷ [])) (record { imports = (keys.Interface an_interface, items.Interface an_interface) ∷ (keys.Name (codes "i"), items.Interface an_interface) ∷ []; exports = [] }) ≡ None
+interface_is_imported : world_left_out (resolve_of [] (interface_of [] plain ∷ [])) (record { imports = (keys.Interface an_interface, items.Interface an_interface) ∷ (keys.Name (codes "i"), items.Interface an_interface) ∷ []; exports = [] }) ≡ None
 interface_is_imported = refl
 
 empty_interface_is_encoded : interface_left_out (resolve_of [] (record { id = None; types = []; functions = [] } ∷ [])) an_interface ≡ None
 empty_interface_is_encoded = refl
 
--- a type of its own, also where no function is made of it
-type_of_interface_is_reported : of_interface (an_interface_type ∷ []) ((codes "t", a_type) ∷ []) plain ≡ Some (codes "interface")
-type_of_interface_is_reported = refl
-
--- made types without names, and a type with a name that is a part of one without
-pair_is_encoded : of_interface (unnamed pair ∷ []) [] (function Freestanding (Id a_type ∷ []) None) ≡ None
+-- types of its own, and functions of these
+type_of_interface_is_encoded : of_interface (an_interface_type ∷ []) ((codes "t", a_type) ∷ []) (function Freestanding (Id a_type ∷ []) None) ≡ None
 unfolding values_from
-pair_is_encoded = refl
-
-named_pair_is_reported : of_interface (of_world pair ∷ []) [] (function Freestanding (Id a_type ∷ []) None) ≡ Some (codes "interface")
-unfolding values_from
-named_pair_is_reported = refl
-
-named_part_is_reported : of_interface (of_world (kinds.Enum (codes "a" ∷ [])) ∷ unnamed (kinds.«Option» (Id a_type)) ∷ []) [] (function Freestanding (Id another_type ∷ []) None) ≡ Some (codes "interface")
-unfolding values_from
-named_part_is_reported = refl
-
-named_result_is_reported : of_interface (of_world (kinds.Enum (codes "a" ∷ [])) ∷ []) [] (function Freestanding [] (Some (Id a_type))) ≡ Some (codes "interface")
-unfolding values_from
-named_result_is_reported = refl
-
--- a resource is no type of values, whether it has a name or not
-resource_part_is_reported : of_interface (unnamed kinds.Resource ∷ unnamed (kinds.Own a_type) ∷ []) [] (function Freestanding (Id another_type ∷ []) None) ≡ Some (codes "interface")
-unfolding values_from
-resource_part_is_reported = refl
+type_of_interface_is_encoded = refl
 
 async_member_is_reported : of_interface [] [] (function AsyncFreestanding [] None) ≡ Some (codes "async")
 async_member_is_reported = refl
@@ -237,15 +220,94 @@ text_of_interface_needs_options = refl
 interface_is_not_exported : world_left_out (resolve_of [] (record { id = None; types = []; functions = [] } ∷ [])) (record { imports = []; exports = (keys.Name (codes "i"), items.Interface an_interface) ∷ [] }) ≡ Some (codes "interface")
 interface_is_not_exported = refl
 
--- ---- types
+-- ---- order
 
-interface_type_is_reported : types_left_out (of_world (kinds.Enum (codes "a" ∷ [])) ∷ an_interface_type ∷ []) nothing_imported ≡ Some (codes "interface")
-interface_type_is_reported = refl
+abbrev importing_interfaces : List InterfaceId → World
+importing_interfaces ids = record { imports = map (λ id. (keys.Interface id, items.Interface id)) ids; exports = [] }
 
-values_are_encoded : types_left_out (of_world (kinds.«List» (Primitive prims.«String»)) ∷ unnamed (kinds.Stream None) ∷ []) nothing_imported ≡ None
-values_are_encoded = refl
+-- a type with this name of the first interface, and one of the second
+abbrev of_first : List ℕ → TypeDefKind → TypeDef
+of_first name kind = record { name = Some name; kind = kind; owner = owners.Interface an_interface }
+
+abbrev of_second : List ℕ → TypeDefKind → TypeDef
+of_second name kind = record { name = Some name; kind = kind; owner = owners.Interface another_interface }
+
+-- The first interface has a resource `r`; the second uses it, as `s`, and has a function of its handles:
+-- `interface a { resource r; }`, `interface b { use a.{r as s}; f: func(x: own<s>) -> borrow<s>; }`.
+abbrev two_types : List TypeDef
+two_types = of_first (codes "r") kinds.Resource ∷ of_second (codes "s") (kinds.Alias (Id a_type)) ∷ unnamed (kinds.Own another_type) ∷ unnamed (kinds.Borrow another_type) ∷ []
+
+abbrev two_interfaces : List Interface
+two_interfaces =
+    record { id = None; types = (codes "r", a_type) ∷ []; functions = [] }
+    ∷ interface_of ((codes "s", another_type) ∷ []) (function Freestanding (Id (record { index = 2 }) ∷ []) (Some (Id (record { index = 3 }))))
+    ∷ []
+
+first_type_comes_first : places_of two_types (importing_interfaces (an_interface ∷ another_interface ∷ [])).imports ≡ 0 ∷ 1 ∷ 1 ∷ 1 ∷ []
+unfolding values_from
+first_type_comes_first = refl
+
+used_type_is_placed : order_left_out (resolve_of two_types two_interfaces) (importing_interfaces (an_interface ∷ another_interface ∷ [])) ≡ None
+unfolding values_from
+used_type_is_placed = refl
+
+-- the second interface before the first, which it uses, or without it
+wrong_order_is_reported : order_left_out (resolve_of two_types two_interfaces) (importing_interfaces (another_interface ∷ an_interface ∷ [])) ≡ Some (codes "interface")
+unfolding values_from
+wrong_order_is_reported = refl
+
+missing_interface_is_reported : order_left_out (resolve_of two_types two_interfaces) (importing_interfaces (another_interface ∷ [])) ≡ Some (codes "interface")
+unfolding values_from
+missing_interface_is_reported = refl
+
+-- a function of the first that is made of the second's type
+later_type_is_reported : order_left_out
+    (resolve_of (of_second (codes "s") (kinds.Stream None) ∷ []) (interface_of [] (function Freestanding (Id a_type ∷ []) None) ∷ record { id = None; types = (codes "s", a_type) ∷ []; functions = [] } ∷ []))
+    (importing_interfaces (an_interface ∷ another_interface ∷ [])) ≡ Some (codes "interface")
+unfolding values_from
+later_type_is_reported = refl
+
+-- a type that its interface doesn't list, or lists under another name, and a resource without a name
+unlisted_type_is_reported : order_left_out (resolve_of (an_interface_type ∷ []) (interface_of [] plain ∷ [])) (importing_interfaces (an_interface ∷ [])) ≡ Some (codes "interface")
+unfolding values_from
+unlisted_type_is_reported = refl
+
+other_name_is_reported : order_left_out (resolve_of (an_interface_type ∷ []) (interface_of ((codes "u", a_type) ∷ []) plain ∷ [])) (importing_interfaces (an_interface ∷ [])) ≡ Some (codes "interface")
+unfolding values_from
+other_name_is_reported = refl
+
+unnamed_resource_is_reported : order_left_out (resolve_of (unnamed kinds.Resource ∷ []) []) nothing_imported ≡ Some (codes "interface")
+unfolding values_from
+unnamed_resource_is_reported = refl
+
+-- an interface lists its own types alone, in their order
+other_type_is_reported : order_left_out (resolve_of (of_world (kinds.Stream None) ∷ []) (interface_of ((codes "t", a_type) ∷ []) plain ∷ [])) (importing_interfaces (an_interface ∷ [])) ≡ Some (codes "interface")
+unfolding values_from
+other_type_is_reported = refl
+
+order_of_types_is_reported : order_left_out
+    (resolve_of (of_first (codes "t") (kinds.Stream None) ∷ of_first (codes "u") (kinds.Stream None) ∷ []) (interface_of ((codes "u", another_type) ∷ (codes "t", a_type) ∷ []) plain ∷ []))
+    (importing_interfaces (an_interface ∷ [])) ≡ Some (codes "interface")
+unfolding values_from
+order_of_types_is_reported = refl
+
+-- types and functions of the root come after all interfaces
+root_is_last : order_left_out (resolve_of (two_types ++ of_world (kinds.Alias (Id a_type)) ∷ []) two_interfaces)
+    (record { imports = (f, items.Function (function Freestanding (Id (record { index = 4 }) ∷ []) None)) ∷ (importing_interfaces (an_interface ∷ another_interface ∷ [])).imports; exports = [] }) ≡ None
+unfolding values_from
+root_is_last = refl
+
+-- an interface that is imported under two names
+twice_imported_is_reported : twice_left_out (record { imports = (keys.Interface an_interface, items.Interface an_interface) ∷ (keys.Name (codes "i"), items.Interface an_interface) ∷ []; exports = [] }) ≡ Some (codes "interface")
+twice_imported_is_reported = refl
+
+two_interfaces_are_apart : twice_left_out (importing_interfaces (an_interface ∷ another_interface ∷ [])) ≡ None
+two_interfaces_are_apart = refl
 
 -- ---- resources
+
+abbrev types_left_out : List TypeDef → World → Option (List ℕ)
+types_left_out types w = resources_left_out types w.imports
 
 resource_is_imported : types_left_out (of_world kinds.Resource ∷ []) (importing (a_type ∷ [])) ≡ None
 resource_is_imported = refl
@@ -263,6 +325,10 @@ last_is_missing = refl
 both_are_imported : types_left_out (of_world kinds.Resource ∷ of_world kinds.Resource ∷ []) (importing (a_type ∷ another_type ∷ [])) ≡ None
 both_are_imported = refl
 
+-- a resource of an interface is not the world's
+interface_resource_is_no_import : types_left_out (of_first (codes "r") kinds.Resource ∷ []) nothing_imported ≡ None
+interface_resource_is_no_import = refl
+
 -- other types need not be imported, but no type comes before an earlier one or twice
 handle_is_passed_over : types_left_out (of_world kinds.Resource ∷ unnamed (kinds.Own a_type) ∷ of_world kinds.Resource ∷ []) (importing (a_type ∷ record { index = 2 } ∷ [])) ≡ None
 handle_is_passed_over = refl
@@ -279,33 +345,36 @@ function_is_no_type = refl
 
 -- ---- roles
 
-call_is_encoded : import_left_out [] (imports.WorldFunc f (codes "f") GuestImport) ≡ None
+call_is_encoded : import_left_out [] [] 0 (imports.WorldFunc f (codes "f") GuestImport) ≡ None
 call_is_encoded = refl
 
-async_call_is_reported : import_left_out [] (imports.WorldFunc f (codes "f") GuestImportAsync) ≡ Some (codes "async")
+async_call_is_reported : import_left_out [] [] 0 (imports.WorldFunc f (codes "f") GuestImportAsync) ≡ Some (codes "async")
 async_call_is_reported = refl
 
-exported_form_is_none : import_left_out [] (imports.WorldFunc f (codes "f") GuestExport) ≡ Some (codes "world-func")
+exported_form_is_none : import_left_out [] [] 0 (imports.WorldFunc f (codes "f") GuestExport) ≡ Some (codes "world-func")
 exported_form_is_none = refl
 
 -- a function of an interface is called in the same forms
-interface_call_is_encoded : import_left_out [] (imports.InterfaceFunc f an_interface (codes "f") GuestImport) ≡ None
+interface_call_is_encoded : import_left_out [] [] 0 (imports.InterfaceFunc f an_interface (codes "f") GuestImport) ≡ None
 interface_call_is_encoded = refl
 
-async_interface_call_is_reported : import_left_out [] (imports.InterfaceFunc f an_interface (codes "f") GuestImportAsync) ≡ Some (codes "async")
+async_interface_call_is_reported : import_left_out [] [] 0 (imports.InterfaceFunc f an_interface (codes "f") GuestImportAsync) ≡ Some (codes "async")
 async_interface_call_is_reported = refl
 
-exported_form_of_interface_is_none : import_left_out [] (imports.InterfaceFunc f an_interface (codes "f") GuestExport) ≡ Some (codes "interface-func")
+exported_form_of_interface_is_none : import_left_out [] [] 0 (imports.InterfaceFunc f an_interface (codes "f") GuestExport) ≡ Some (codes "interface-func")
 exported_form_of_interface_is_none = refl
 
 -- the drop of a resource, and of what is none
-drop_is_encoded : import_left_out (of_world kinds.Resource ∷ []) (imports.ImportedResourceDrop f None a_type) ≡ None
+drop_is_encoded : import_left_out (of_world kinds.Resource ∷ []) (0 ∷ []) 0 (imports.ImportedResourceDrop f None a_type) ≡ None
 drop_is_encoded = refl
 
-drop_of_values_is_reported : import_left_out (of_world (kinds.Stream None) ∷ []) (imports.ImportedResourceDrop f None a_type) ≡ Some (codes "imported-drop")
+drop_of_values_is_reported : import_left_out (of_world (kinds.Stream None) ∷ []) (0 ∷ []) 0 (imports.ImportedResourceDrop f None a_type) ≡ Some (codes "imported-drop")
 drop_of_values_is_reported = refl
 
-drop_of_nothing_is_reported : import_left_out (of_world kinds.Resource ∷ []) (imports.ImportedResourceDrop f None another_type) ≡ Some (codes "imported-drop")
+drop_behind_the_root_is_reported : import_left_out (of_world kinds.Resource ∷ []) (1 ∷ []) 0 (imports.ImportedResourceDrop f None a_type) ≡ Some (codes "imported-drop")
+drop_behind_the_root_is_reported = refl
+
+drop_of_nothing_is_reported : import_left_out (of_world kinds.Resource ∷ []) (0 ∷ []) 0 (imports.ImportedResourceDrop f None another_type) ≡ Some (codes "imported-drop")
 drop_of_nothing_is_reported = refl
 
 async_lift_is_reported : export_left_out (exports.WorldFunc f (codes "f") GuestExportAsync) ≡ Some (codes "async")
@@ -315,10 +384,10 @@ realloc_is_reported : export_left_out exports.GeneralPurposeRealloc ≡ Some (co
 realloc_is_reported = refl
 
 -- of the imports from one module the first that is left out is reported
-first_field_is_reported : group_left_out [] (codes "$root", instances.Names ((codes "f", imports.WorldFunc f (codes "f") GuestImport) ∷ (codes "s", imports.WaitableSetNew) ∷ (codes "i", imports.BackpressureInc) ∷ [])) ≡ Some (codes "waitable-set-new")
+first_field_is_reported : group_left_out [] [] 0 (codes "$root", instances.Names ((codes "f", imports.WorldFunc f (codes "f") GuestImport) ∷ (codes "s", imports.WaitableSetNew) ∷ (codes "i", imports.BackpressureInc) ∷ [])) ≡ Some (codes "waitable-set-new")
 first_field_is_reported = refl
 
-whole_is_a_library : group_left_out [] (codes "m", instances.Whole modules.Main) ≡ Some (codes "library")
+whole_is_a_library : group_left_out [] [] 0 (codes "m", instances.Whole modules.Main) ≡ Some (codes "library")
 whole_is_a_library = refl
 
 -- an export of another module has its own kind and no other

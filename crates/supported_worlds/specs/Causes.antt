@@ -1,11 +1,11 @@
 -- When the refusal of a world is right: something of it is not encoded yet. (This project's own.)
-use Rattle.std.specs.Prelude.{◌≡◌, ℕ, List, codes, Some, Contains}
+use Rattle.std.specs.Prelude.{◌≡◌, ℕ, List, length, codes, Option, Some, Contains}
 use Rattle.std.specs.List.{flat_map}
-use Rattle.wit_data.specs.declared.types.TypeDef.{TypeDef}
 use Rattle.wit_data.specs.declared.worlds.WorldItem.{WorldItem}
 use Rattle.wit_data.specs.declared.worlds.WorldKey.{WorldKey}
 use Rattle.comp_roles.specs.CoreImports.{CoreImport, imports_from}
 use Rattle.comp_roles.specs.declared.exports.Export.{Export}
+use Rattle.comp_roles.specs.declared.imports.Import.{Import}
 use Rattle.comp_roles.specs.declared.imports.ImportInstance.TheVariants as instances
 use Rattle.comp_roles.specs.declared.libraries.MainOrAdapter.{MainOrAdapter}
 use Rattle.comp_worlds.specs.Encodable.{ImportsResources}
@@ -14,17 +14,24 @@ use Rattle.comp_worlds.specs.declared.world.WorldAdapter.{WorldAdapter}
 use Rattle.comp_worlds.specs.declared.world.WorldParts.{WorldParts}
 use Rattle.record_faults.specs.declared.fault.Refusal.{Refusal}
 use Rattle.record_faults.specs.declared.fault.Refusal.TheVariants as refusals
-use Rattle.supported_worlds.specs.LeftOut.{items_of, import_item_left_out, export_item_left_out, type_left_out, import_left_out, export_left_out}
+use Rattle.supported_worlds.specs.LeftOut.{items_of, import_item_left_out, export_item_left_out, twice_left_out, order_left_out, import_left_out, export_left_out}
+use Rattle.supported_worlds.specs.Placed.{places_of}
+
+-- the role of an import of main, unless it is encoded
+abbrev pub role_left_out : WorldParts → Import → Option (List ℕ)
+role_left_out p role = import_left_out p.resolve.types (places_of p.resolve.types (items_of p).imports) (length (items_of p).imports) role
 
 pub data IsLeftOut (p : WorldParts) : Refusal → Type 0 where
   -- an import or an export of the world
   imported : (entry : WorldKey × WorldItem) (what : List ℕ) → Contains (items_of p).imports entry → import_item_left_out p.resolve entry ≡ Some what → IsLeftOut p (refusals.LeftOut what)
   exported : (entry : WorldKey × WorldItem) (what : List ℕ) → Contains (items_of p).exports entry → export_item_left_out p.resolve.types entry ≡ Some what → IsLeftOut p (refusals.LeftOut what)
-  -- a type of the resolve; and the imports, where their types are out of order or lack a resource of the resolve
-  type_def : (def : TypeDef) (what : List ℕ) → Contains p.resolve.types def → type_left_out def ≡ Some what → IsLeftOut p (refusals.LeftOut what)
+  -- the imports, where an interface is among them twice, where something is made of types of a later place, and where their
+  -- types are out of order or lack a resource of the root
+  twice : (what : List ℕ) → twice_left_out (items_of p) ≡ Some what → IsLeftOut p (refusals.LeftOut what)
+  order : (what : List ℕ) → order_left_out p.resolve (items_of p) ≡ Some what → IsLeftOut p (refusals.LeftOut what)
   resources : (ImportsResources (whole_of p) → ⊥) → IsLeftOut p (refusals.LeftOut (codes "type"))
   -- the role of an import or an export of main
-  import_role : (import : CoreImport) (what : List ℕ) → Contains (flat_map imports_from p.main.imports.modules) import → import_left_out p.resolve.types import.role ≡ Some what → IsLeftOut p (refusals.LeftOut what)
+  import_role : (import : CoreImport) (what : List ℕ) → Contains (flat_map imports_from p.main.imports.modules) import → role_left_out p import.role ≡ Some what → IsLeftOut p (refusals.LeftOut what)
   export_role : (entry : List ℕ × Export) (what : List ℕ) → Contains p.main.exports.exports entry → export_left_out entry.1 ≡ Some what → IsLeftOut p (refusals.LeftOut what)
   -- a whole module provides what main imports from one
   whole_module : (name : List ℕ) (which : MainOrAdapter) → Contains p.main.imports.modules (name, instances.Whole which) → IsLeftOut p (refusals.LeftOut (codes "library"))

@@ -1,29 +1,22 @@
 -- Which parts of a world are encoded yet: functions at its root that are synchronous and whose calls need no option of the
--- Canonical ABI (component model, binary format: `canonopt`), imported interfaces of such functions that have no types of
--- their own and whose functions are made of types without names, types that it imports, in their order and with all
--- resources among them, core imports and exports with the role of such a function, and core imports that drop such a
--- resource. All else is left out, and reported by the name of its kind. (The names are those of this project's record.)
-use Rattle.std.specs.Prelude.{ℕ, suc, Bool, true, false, ◌==◌, nat_le, not, ◌&&◌, ◌||◌, List, [], ◌∷◌, map, drop, codes, Option, Some, None, Result, Ok, Err, get_or, slice_get, if◌then◌else◌}
-use Rattle.std.specs.List.{list_any, flat_map}
-use Rattle.std.specs.Option.{option_or, option_map_or}
+-- Canonical ABI (component model, binary format: `canonopt`), imported interfaces of types and of such functions, types that
+-- it imports, in their order and with all resources of the root among them, core imports and exports with the role of such a
+-- function, and core imports that drop a resource. All else is left out, and reported by the name of its kind. (The names are
+-- those of this project's record.)
+use Rattle.std.specs.Prelude.{ℕ, Bool, ◌==◌, ◌&&◌, List, [], ◌∷◌, length, codes, Option, Some, None, Result, Ok, Err, get_or, if◌then◌else◌}
+use Rattle.std.specs.Option.{option_or}
 use Rattle.wit_data.specs.declared.functions.AbiVariant.TheVariants.{GuestImport, GuestExport, GuestImportAsync}
 use Rattle.wit_data.specs.declared.functions.Function.{Function}
 use Rattle.wit_data.specs.declared.functions.FunctionKind.{FunctionKind}
 use Rattle.wit_data.specs.declared.functions.FunctionKind.TheVariants as functions
 use Rattle.wit_data.specs.declared.ids.InterfaceId.{InterfaceId}
-use Rattle.wit_data.specs.declared.ids.TypeId.{TypeId}
 use Rattle.wit_data.specs.declared.resolve.Resolve.{Resolve}
 use Rattle.wit_data.specs.declared.types.TypeDef.{TypeDef}
-use Rattle.wit_data.specs.declared.types.TypeDefKind.{TypeDefKind}
-use Rattle.wit_data.specs.declared.types.TypeDefKind.TheVariants as kinds
-use Rattle.wit_data.specs.declared.types.TypeOwner.{TypeOwner}
-use Rattle.wit_data.specs.declared.types.TypeOwner.TheVariants as owners
 use Rattle.wit_data.specs.declared.worlds.World.{World}
 use Rattle.wit_data.specs.declared.worlds.WorldItem.{WorldItem}
 use Rattle.wit_data.specs.declared.worlds.WorldItem.TheVariants as items
 use Rattle.wit_data.specs.declared.worlds.WorldKey.{WorldKey}
 use Rattle.wit_data.specs.declared.worlds.WorldKey.TheVariants as keys
-use Rattle.wit_data.specs.Live.{named_types}
 use Rattle.comp_options.specs.Options.{import_set, export_set}
 use Rattle.comp_roles.specs.Lookups.{first_some}
 use Rattle.comp_roles.specs.declared.exports.Export.{Export}
@@ -33,9 +26,8 @@ use Rattle.comp_roles.specs.declared.imports.Import.TheVariants as imports
 use Rattle.comp_roles.specs.declared.imports.ImportInstance.{ImportInstance}
 use Rattle.comp_roles.specs.declared.imports.ImportInstance.TheVariants as instances
 use Rattle.world_values.specs.Items.{no_items, functions_of}
-use Rattle.comp_worlds.specs.Encodable.{is_of_unnamed}
+use Rattle.world_values.specs.Mentions.{interfaces_of}
 use Rattle.comp_worlds.specs.WorldTables.{whole_of}
-use Rattle.comp_worlds.specs.Worlds.{world_type}
 use Rattle.comp_worlds.specs.declared.world.ComponentWorld.{ComponentWorld}
 use Rattle.comp_worlds.specs.declared.world.ValidatedModule.{ValidatedModule}
 use Rattle.comp_worlds.specs.declared.world.WorldAdapter.{WorldAdapter}
@@ -44,6 +36,7 @@ use Rattle.record_faults.specs.declared.fault.Failure.{Failure}
 use Rattle.record_faults.specs.declared.fault.Failure.TheVariants as failures
 use Rattle.record_faults.specs.declared.fault.Refusal.TheVariants as refusals
 use Rattle.supported_worlds.specs.Kinds.{import_kind, export_kind}
+use Rattle.supported_worlds.specs.Placed.{places_of, are_apart, is_world_placed, imported_numbers, are_in_place, is_droppable}
 
 -- ---- items of a world
 
@@ -66,20 +59,13 @@ unless passes what = if passes then None else Some what
 abbrev pub function_left_out : List TypeDef → Function → Option (List ℕ)
 function_left_out types f = option_or (kind_left_out f.kind) (unless (needs_no_option types f) (codes "world-func"))
 
--- a function of an interface that is of such a kind, that is made of a type with a name or of a resource, or whose calls need
--- an option
+-- a function of an interface that is of such a kind, or whose calls need an option
 abbrev pub member_left_out : List TypeDef → Function → Option (List ℕ)
-member_left_out types f =
-    option_or (kind_left_out f.kind) (option_or (unless (is_of_unnamed types f) (codes "interface")) (unless (needs_no_option types f) (codes "interface-func")))
+member_left_out types f = option_or (kind_left_out f.kind) (unless (needs_no_option types f) (codes "interface-func"))
 
--- an interface that has types
-abbrev pub types_of_interface : List (List ℕ × TypeId) → Option (List ℕ)
-types_of_interface [] = None
-types_of_interface (t ∷ more) = Some (codes "interface")
-
--- an imported interface that has types, or else the first of its functions that is left out
+-- the first function of an imported interface that is left out
 abbrev pub interface_left_out : Resolve → InterfaceId → Option (List ℕ)
-interface_left_out r id = option_or (types_of_interface (named_types r id)) (first_some (λ e. member_left_out r.types e.1) (functions_of r id))
+interface_left_out r id = first_some (λ e. member_left_out r.types e.1) (functions_of r id)
 
 -- an export of the world
 abbrev pub export_item_left_out : List TypeDef → WorldKey × WorldItem → Option (List ℕ)
@@ -94,61 +80,31 @@ import_item_left_out r (keys.Name text, items.NamedType id) = None
 import_item_left_out r (key, items.Interface id) = interface_left_out r id
 import_item_left_out r entry = export_item_left_out r.types entry
 
--- ---- types
+-- ---- order
 
-abbrev pub owner_left_out : TypeOwner → Option (List ℕ)
-owner_left_out (owners.Interface id) = Some (codes "interface")
-owner_left_out owner = None
+-- the world's imports, where one interface is among them twice
+abbrev pub twice_left_out : World → Option (List ℕ)
+twice_left_out w = unless (are_apart (interfaces_of w.imports)) (codes "interface")
 
--- a type of the resolve that belongs to an interface
-abbrev pub type_left_out : TypeDef → Option (List ℕ)
-type_left_out t = owner_left_out t.owner
+-- the world, where a type or a function is made of types of a later place
+abbrev pub order_left_out : Resolve → World → Option (List ℕ)
+order_left_out r w = unless (is_world_placed r w) (codes "interface")
 
--- ---- resources
-
-abbrev pub is_resource_kind : TypeDefKind → Bool
-is_resource_kind kinds.Resource = true
-is_resource_kind kind = false
-
-abbrev pub is_resource : TypeDef → Bool
-is_resource t = is_resource_kind t.kind
-
--- the numbers of the types among the imports of a world, in order
-abbrev pub imported_numbers : List (WorldKey × WorldItem) → List ℕ
-imported_numbers entries = map (λ t. t.1.index) (flat_map world_type entries)
-
--- whether these numbers ascend, and the first is at least this
-abbrev pub ascend_from : ℕ → List ℕ → Bool
-ascend_from k [] = true
-ascend_from k (n ∷ ns) = nat_le k n && ascend_from (suc n) ns
-
--- whether each resource is one of these, among types of which the first has this number
-abbrev pub have_resources : List ℕ → ℕ → List TypeDef → Bool
-have_resources ns k [] = true
-have_resources ns k (t ∷ ts) = (not (is_resource t) || list_any (λ n. n == k) ns) && have_resources ns (suc k) ts
-
--- of the types from this number on, these are in order, and each resource is one of them
-abbrev pub are_in_place : List TypeDef → ℕ → List ℕ → Bool
-are_in_place types k ns = ascend_from k ns && have_resources ns k (drop k types)
-
--- the world's imports, unless their types come in the order of the resolve and each resource is one of them
+-- the world's imports, unless their types come in the order of the resolve and each resource of the root is one of them
 abbrev pub resources_left_out : List TypeDef → List (WorldKey × WorldItem) → Option (List ℕ)
-resources_left_out types entries = if are_in_place types 0 (imported_numbers entries) then None else Some (codes "type")
+resources_left_out types entries = unless (are_in_place types 0 (imported_numbers entries)) (codes "type")
 
 -- ---- roles
 
--- the drop of a type, unless it is a resource
-abbrev pub drop_left_out : List TypeDef → TypeId → Option (List ℕ)
-drop_left_out types id = if option_map_or is_resource (slice_get types id.index) false then None else Some (codes "imported-drop")
-
--- an import of main, unless it is a function at the root or of an interface that is called synchronously, or drops a resource
-abbrev pub import_left_out : List TypeDef → Import → Option (List ℕ)
-import_left_out types (imports.WorldFunc (keys.Name text) name GuestImport) = None
-import_left_out types (imports.WorldFunc key name GuestImportAsync) = Some (codes "async")
-import_left_out types (imports.InterfaceFunc key id name GuestImport) = None
-import_left_out types (imports.InterfaceFunc key id name GuestImportAsync) = Some (codes "async")
-import_left_out types (imports.ImportedResourceDrop key interface id) = drop_left_out types id
-import_left_out types role = Some (import_kind role)
+-- an import of main, unless it is a function at the root or of an interface that is called synchronously, or drops a resource;
+-- by the places of the types, and that of the root
+abbrev pub import_left_out : List TypeDef → List ℕ → ℕ → Import → Option (List ℕ)
+import_left_out types places root (imports.WorldFunc (keys.Name text) name GuestImport) = None
+import_left_out types places root (imports.WorldFunc key name GuestImportAsync) = Some (codes "async")
+import_left_out types places root (imports.InterfaceFunc key id name GuestImport) = None
+import_left_out types places root (imports.InterfaceFunc key id name GuestImportAsync) = Some (codes "async")
+import_left_out types places root (imports.ImportedResourceDrop key interface id) = unless (is_droppable types places root id) (codes "imported-drop")
+import_left_out types places root role = Some (import_kind role)
 
 -- an export of main, unless it is a root function that is called synchronously
 abbrev pub export_left_out : Export → Option (List ℕ)
@@ -158,12 +114,12 @@ export_left_out (exports.WorldFunc key name abi) = Some (codes "async")
 export_left_out role = Some (export_kind role)
 
 -- the imports from one module: the first that is left out, or all of them where a whole module provides them
-abbrev pub instance_left_out : List TypeDef → ImportInstance → Option (List ℕ)
-instance_left_out types (instances.Names fields) = first_some (λ f. import_left_out types f.1) fields
-instance_left_out types (instances.Whole which) = Some (codes "library")
+abbrev pub instance_left_out : List TypeDef → List ℕ → ℕ → ImportInstance → Option (List ℕ)
+instance_left_out types places root (instances.Names fields) = first_some (λ f. import_left_out types places root f.1) fields
+instance_left_out types places root (instances.Whole which) = Some (codes "library")
 
-abbrev pub group_left_out : List TypeDef → List ℕ × ImportInstance → Option (List ℕ)
-group_left_out types group = instance_left_out types group.1
+abbrev pub group_left_out : List TypeDef → List ℕ → ℕ → List ℕ × ImportInstance → Option (List ℕ)
+group_left_out types places root group = instance_left_out types places root group.1
 
 -- ---- the whole
 
@@ -175,13 +131,10 @@ items_of p = get_or p.resolve.worlds p.world.index no_items
 abbrev pub world_left_out : Resolve → World → Option (List ℕ)
 world_left_out r w = option_or (first_some (import_item_left_out r) w.imports) (first_some (export_item_left_out r.types) w.exports)
 
--- the first of the types that is left out, or else the imports where they don't have the types in place
-abbrev pub types_left_out : List TypeDef → World → Option (List ℕ)
-types_left_out types w = option_or (first_some type_left_out types) (resources_left_out types w.imports)
-
 -- the first import or export of a module that is left out
-abbrev pub module_left_out : List TypeDef → ValidatedModule → Option (List ℕ)
-module_left_out types m = option_or (first_some (group_left_out types) m.imports.modules) (first_some (λ e. export_left_out e.1) m.exports.exports)
+abbrev pub module_left_out : List TypeDef → List ℕ → ℕ → ValidatedModule → Option (List ℕ)
+module_left_out types places root m =
+    option_or (first_some (group_left_out types places root) m.imports.modules) (first_some (λ e. export_left_out e.1) m.exports.exports)
 
 -- an adapter, if there is one
 abbrev pub adapters_left_out : List (List ℕ × WorldAdapter) → Option (List ℕ)
@@ -189,12 +142,17 @@ adapters_left_out [] = None
 adapters_left_out (a ∷ more) = Some (codes "adapter")
 
 -- what of the modules is left out: of main first, then of the adapters
-abbrev pub modules_left_out : WorldParts → Option (List ℕ)
-modules_left_out p = option_or (module_left_out p.resolve.types p.main) (adapters_left_out p.adapters)
+abbrev pub modules_left_out : WorldParts → List ℕ → ℕ → Option (List ℕ)
+modules_left_out p places root = option_or (module_left_out p.resolve.types places root p.main) (adapters_left_out p.adapters)
 
--- what of a world is not encoded yet: of its items first, then of the types, then of the modules
+-- what is left out of a world whose interfaces are apart: the order of its imports first, then its resources, then its modules
+abbrev pub rest_left_out : WorldParts → World → Option (List ℕ)
+rest_left_out p w =
+    option_or (order_left_out p.resolve w) (option_or (resources_left_out p.resolve.types w.imports) (modules_left_out p (places_of p.resolve.types w.imports) (length w.imports)))
+
+-- what of a world is not encoded yet: of its items first
 unfoldable pub left_out : WorldParts → Option (List ℕ)
-left_out p = option_or (world_left_out p.resolve (items_of p)) (option_or (types_left_out p.resolve.types (items_of p)) (modules_left_out p))
+left_out p = option_or (world_left_out p.resolve (items_of p)) (option_or (twice_left_out (items_of p)) (rest_left_out p (items_of p)))
 
 -- the refusal of what is left out
 abbrev pub refused : List ℕ → Failure

@@ -4,7 +4,7 @@ use Rattle.std.specs.Option.{option_map_or}
 use Rattle.wit_data.specs.declared.types.TypeDef.{TypeDef}
 use Rattle.wit_data.specs.declared.worlds.WorldItem.{WorldItem}
 use Rattle.wit_data.specs.declared.worlds.WorldKey.{WorldKey}
-use Rattle.supported_worlds.specs.LeftOut.{imported_numbers, are_in_place}
+use Rattle.supported_worlds.specs.Placed.{imported_numbers, are_in_place}
 
 -- With the type of this number next, types are in place from one number on exactly where the others are from the answer on;
 -- without an answer, they are not.

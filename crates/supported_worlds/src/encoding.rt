@@ -1,7 +1,7 @@
 //! A world made of its parts, where all of it is encoded yet.
 
 ghost use Rattle.std.specs.Prelude.{◌≡◌, ◌≢◌, ◌<◌, length, IfOk, IfErr, IsOk, None};
-ghost use Rattle.std.specs.Option.{option_copied};
+ghost use Rattle.std.specs.Option.{option_copied, option_or};
 ghost use Rattle.wit_data.specs.Sound.{IsSound, HasWorld};
 ghost use Rattle.comp_worlds.specs.Encodable.{IsEncodable};
 ghost use Rattle.comp_worlds.specs.WorldTables.{HasTables};
@@ -10,14 +10,16 @@ ghost use Rattle.record_faults.specs.declared.fault.Failure.TheVariants as failu
 ghost use Rattle.record_faults.specs.declared.fault.Refusal.{Refusal as RefusalValue};
 ghost use Rattle.supported_worlds.specs.Apart.{AreApart, GroupsApart};
 ghost use Rattle.supported_worlds.specs.Causes.{IsLeftOut};
-ghost use Rattle.supported_worlds.specs.LeftOut.{items_of, adapters_left_out, modules_left_out, left_out, refused, encoded};
+ghost use Rattle.supported_worlds.specs.LeftOut.{items_of, twice_left_out, adapters_left_out, modules_left_out, rest_left_out, left_out, refused, encoded};
 ghost use Rattle.supported_worlds.specs.Guarantees.{HasSoundParts};
-ghost use Rattle.supported_worlds.specs.Unnamed.{AreUnnamed};
+ghost use Rattle.supported_worlds.specs.Placed.{places_of};
+ghost use Rattle.supported_worlds.specs.PlaceTables.{ArePlaces};
 
 use crate::items::world_left_out;
+use crate::placed::order_left_out;
+use crate::places::{Places, interface_places, with_types};
+use crate::resources::resources_left_out;
 use crate::roles::module_left_out;
-use crate::types::types_left_out;
-use crate::unnamed::unnamed_marks;
 use comp_lists::{Keyed, Text};
 use comp_worlds::{ComponentWorld, WorldAdapter, WorldParts};
 use record_faults::{Failure, Refusal};
@@ -57,45 +59,80 @@ fn items_of(parts: &WorldParts) -> &World
     &parts.resolve.worlds.as_slice()[parts.world.index]
 }
 
-/// What of the modules is not encoded yet; where nothing is left out, no import of main occurs twice.
-fn modules_left_out(parts: &WorldParts) -> Option<&'static str>
-    ensures reported { option_copied result ≡ modules_left_out parts.now }
+/// What of the modules is not encoded yet, by the places of types; where nothing is left out, no import of main occurs twice.
+fn placed_left_out(parts: &WorldParts, places: &Places) -> Option<&'static str>
+    ensures reported { option_copied result ≡ modules_left_out parts.now places.now.types places.now.interfaces.root }
     ensures apart { option_copied result ≡ None → GroupsApart parts.now.main.imports.modules }
 {
-    match module_left_out(parts.resolve.types.as_slice(), &parts.main) {
+    match module_left_out(parts.resolve.types.as_slice(), places, &parts.main) {
         Some(what) => Some(what),
         None => adapters_left_out(&parts.adapters),
     }
 }
 
-/// What of a world is not encoded yet, by the marks of types without names; where nothing is left out, no key occurs twice.
-#[tactic(auto, unfolding(crate::specs::LeftOut::left_out))]
-fn marked_left_out(parts: &WorldParts, marks: &[bool]) -> Option<&'static str>
-    requires sound { IsSound parts.now.resolve }
-    requires marks { AreUnnamed parts.now.resolve.types marks.now }
-    requires present { parts.now.world.index < length parts.now.resolve.worlds }
-    ensures reported { option_copied result ≡ left_out parts.now }
-    ensures apart { option_copied result ≡ None → AreApart parts.now }
+/// The same, by the places of the world's types.
+#[tactic(auto, using(crate::proofs::Reporting::same_modules))]
+fn modules_left_out(parts: &WorldParts, world: &World, places: &Places) -> Option<&'static str>
+    requires { ArePlaces parts.now.resolve.types world.now.imports places.now }
+    ensures reported { option_copied result ≡ modules_left_out parts.now (places_of parts.now.resolve.types world.now.imports) (length world.now.imports) }
+    ensures apart { option_copied result ≡ None → GroupsApart parts.now.main.imports.modules }
 {
-    let world = items_of(parts);
-    if let Some(what) = world_left_out(&parts.resolve, marks, world) {
+    let found = placed_left_out(parts, places);
+    found
+}
+
+/// What is left out of a world whose interfaces are apart, apart from its items.
+fn rest_left_out(parts: &WorldParts, world: &World, places: &Places) -> Option<&'static str>
+    requires sound { IsSound parts.now.resolve }
+    requires present { HasWorld parts.now.resolve world.now }
+    requires places { ArePlaces parts.now.resolve.types world.now.imports places.now }
+    ensures reported { option_copied result ≡ rest_left_out parts.now world.now }
+    ensures apart { option_copied result ≡ None → GroupsApart parts.now.main.imports.modules }
+{
+    if let Some(what) = order_left_out(&parts.resolve, places, world) {
         return Some(what);
     }
-    match types_left_out(&parts.resolve, world) {
+    match resources_left_out(&parts.resolve, &world.imports) {
         Some(what) => Some(what),
-        None => modules_left_out(parts),
+        None => modules_left_out(parts, world, places),
+    }
+}
+
+/// What of a world is left out apart from its items.
+#[tactic(auto, using(crate::proofs::Reporting::is_twice, crate::proofs::Reporting::is_apart, crate::proofs::TypePlaces::in_world))]
+fn parts_left_out(
+    alloc: Global,
+    parts: &WorldParts,
+    world: &World,
+) -> Result<Option<&'static str>, AllocError>
+    requires sound { IsSound parts.now.resolve }
+    requires present { HasWorld parts.now.resolve world.now }
+    ensures reported { IfOk result (λ o. option_copied o ≡ option_or (twice_left_out world.now) (rest_left_out parts.now world.now)) }
+    ensures apart { IfOk result (λ o. option_copied o ≡ None → GroupsApart parts.now.main.imports.modules) }
+{
+    match interface_places(alloc, &world.imports)? {
+        Some(interfaces) => {
+            let places = with_types(alloc, parts.resolve.types.as_slice(), interfaces)?;
+            let found = rest_left_out(parts, world, &places);
+            Ok(found)
+        }
+        None => Ok(Some("interface")),
     }
 }
 
 /// What of a world is not encoded yet; where nothing is left out, no key occurs twice.
+#[tactic(auto, unfolding(crate::specs::LeftOut::left_out))]
 fn left_out(alloc: Global, parts: &WorldParts) -> Result<Option<&'static str>, AllocError>
     requires sound { IsSound parts.now.resolve }
     requires present { parts.now.world.index < length parts.now.resolve.worlds }
     ensures reported { IfOk result (λ o. option_copied o ≡ left_out parts.now) }
     ensures apart { IfOk result (λ o. option_copied o ≡ None → AreApart parts.now) }
 {
-    let marks = unnamed_marks(alloc, parts.resolve.types.as_slice())?;
-    let found = marked_left_out(parts, marks.as_slice());
+    let world = items_of(parts);
+    if let Some(what) = world_left_out(&parts.resolve, world) {
+        return Ok(Some(what));
+    }
+    let found = parts_left_out(alloc, parts, world)?;
     Ok(found)
 }
 
@@ -127,13 +164,15 @@ fn unless_left_out(alloc: Global, parts: WorldParts) -> Result<ComponentWorld, F
 ///
 /// It refuses with `LeftOut` and the kind of something of the world that is not encoded yet: `async`,
 /// `world-func`, `interface`, `interface-func` or, of an export, `type` of an item of the world;
-/// `interface` of a type; `type` where the imported types are out of order or lack a resource; the
-/// kind of a role of main's imports or exports, `library`, or `adapter`. An imported interface is
-/// refused as `interface` where it has types, or a function that is made of a type with a name; as
-/// `async` for an asynchronous function, and as `interface-func` for one whose calls need an option.
-/// The only other refusal is out of memory. On top of `world_of_parts` it takes time linear in the
-/// number of items, of functions of imported interfaces, of the nodes of these functions' types, of
-/// types, of core imports and of core exports, and one byte a type beside the refusal's text.
+/// `interface` where an interface is imported twice, where a type or a function is made of types that
+/// come later in the order of the imports, or where an interface and its types don't name each other;
+/// `type` where the imported types are out of order or lack a resource; the kind of a role of main's
+/// imports or exports, `library`, or `adapter`. A function of an imported interface is refused as
+/// `async` where it is asynchronous, and as `interface-func` where its calls need an option. The only
+/// other refusal is out of memory. On top of `world_of_parts` it takes time linear in the number of
+/// items, of interfaces' types and functions, of the nodes of functions' types, of types and their
+/// parts, of core imports and of core exports, and memory for one number a type and for an entry an
+/// import, beside the refusal's text.
 #[tactic(auto, using(crate::proofs::Reporting::no_cause, crate::proofs::Reporting::has_cause))]
 pub fn encoded_world(alloc: Global, parts: WorldParts) -> Result<ComponentWorld, Failure>
     requires { HasSoundParts parts }

@@ -8,15 +8,13 @@ ghost use Rattle.wit_data.specs.Keys.{is_same_key};
 ghost use Rattle.wit_data.specs.Sound.{IsSound, HasFunction, HasInterface, HasEntry, HasWorld};
 ghost use Rattle.comp_roles.specs.Lookups.{first_some};
 ghost use Rattle.supported_worlds.specs.Apart.{ItemsApart};
-ghost use Rattle.supported_worlds.specs.LeftOut.{kind_left_out, needs_no_option, function_left_out, member_left_out, types_of_interface, interface_left_out, import_item_left_out, export_item_left_out, world_left_out};
-ghost use Rattle.supported_worlds.specs.Unnamed.{AreUnnamed};
+ghost use Rattle.supported_worlds.specs.LeftOut.{kind_left_out, needs_no_option, function_left_out, member_left_out, interface_left_out, import_item_left_out, export_item_left_out, world_left_out};
 
-use crate::unnamed::is_of_unnamed;
 use bitflags::Flags;
 use comp_lists::{Keyed, Text};
 use comp_options::RequiredOptions;
 use wit_data::{
-    AbiVariant, Function, FunctionKind, InterfaceId, Resolve, TypeId, World, WorldItem, WorldKey,
+    AbiVariant, Function, FunctionKind, InterfaceId, Resolve, World, WorldItem, WorldKey,
 };
 use world_tables::interface_of;
 
@@ -58,18 +56,14 @@ fn function_left_out(resolve: &Resolve, function: &Function) -> Option<&'static 
     }
 }
 
-/// What of a function of an imported interface is left out, by the marks of types without names.
-fn member_left_out(resolve: &Resolve, marks: &[bool], function: &Function) -> Option<&'static str>
+/// What of a function of an imported interface is left out.
+fn member_left_out(resolve: &Resolve, function: &Function) -> Option<&'static str>
     requires sound { IsSound resolve.now }
-    requires marks { AreUnnamed resolve.now.types marks.now }
     requires present { HasFunction resolve.now function.now }
     ensures { option_copied result ≡ member_left_out resolve.now.types function.now }
 {
     if let Some(what) = kind_left_out(function.kind) {
         return Some(what);
-    }
-    if !is_of_unnamed(resolve, marks, function) {
-        return Some("interface");
     }
     if needs_no_option(resolve, function) {
         None
@@ -78,30 +72,14 @@ fn member_left_out(resolve: &Resolve, marks: &[bool], function: &Function) -> Op
     }
 }
 
-/// An interface with types is left out.
-fn types_of_interface(types: &Keyed<Text, TypeId>) -> Option<&'static str>
-    ensures { option_copied result ≡ types_of_interface types.now }
-{
-    let mut entries = types.iter();
-    match entries.next() {
-        Some(_) => Some("interface"),
-        None => None,
-    }
-}
-
 /// What of the functions of an imported interface is left out.
-fn members_left_out(
-    resolve: &Resolve,
-    marks: &[bool],
-    functions: &Keyed<Text, Function>,
-) -> Option<&'static str>
+fn members_left_out(resolve: &Resolve, functions: &Keyed<Text, Function>) -> Option<&'static str>
     requires sound { IsSound resolve.now }
-    requires marks { AreUnnamed resolve.now.types marks.now }
     requires all_present { AllByRecursion (λ e. HasFunction resolve.now e.1) functions.now }
     ensures { option_copied result ≡ first_some (λ e. member_left_out resolve.now.types e.1) functions.now }
 {
     for (_, function) in functions.iter() {
-        if let Some(what) = member_left_out(resolve, marks, function) {
+        if let Some(what) = member_left_out(resolve, function) {
             return Some(what);
         }
     }
@@ -109,17 +87,12 @@ fn members_left_out(
 }
 
 /// What of an imported interface is left out.
-fn interface_left_out(resolve: &Resolve, marks: &[bool], id: InterfaceId) -> Option<&'static str>
+fn interface_left_out(resolve: &Resolve, id: InterfaceId) -> Option<&'static str>
     requires sound { IsSound resolve.now }
-    requires marks { AreUnnamed resolve.now.types marks.now }
     requires present { HasInterface resolve.now id }
     ensures { option_copied result ≡ interface_left_out resolve.now id }
 {
-    let interface = interface_of(resolve, id);
-    match types_of_interface(&interface.types) {
-        Some(what) => Some(what),
-        None => members_left_out(resolve, marks, &interface.functions),
-    }
+    members_left_out(resolve, &interface_of(resolve, id).functions)
 }
 
 fn export_item_left_out(resolve: &Resolve, key: &WorldKey, item: &WorldItem) -> Option<&'static str>
@@ -134,38 +107,27 @@ fn export_item_left_out(resolve: &Resolve, key: &WorldKey, item: &WorldItem) -> 
     }
 }
 
-fn import_item_left_out(
-    resolve: &Resolve,
-    marks: &[bool],
-    key: &WorldKey,
-    item: &WorldItem,
-) -> Option<&'static str>
+fn import_item_left_out(resolve: &Resolve, key: &WorldKey, item: &WorldItem) -> Option<&'static str>
     requires sound { IsSound resolve.now }
-    requires marks { AreUnnamed resolve.now.types marks.now }
     requires present { HasEntry resolve.now (key.now, item.now) }
     ensures { option_copied result ≡ import_item_left_out resolve.now (key.now, item.now) }
 {
     match (key, item) {
         (WorldKey::Name(_), WorldItem::NamedType(_)) => None,
-        (_, WorldItem::Interface(id)) => interface_left_out(resolve, marks, *id),
+        (_, WorldItem::Interface(id)) => interface_left_out(resolve, *id),
         _ => export_item_left_out(resolve, key, item),
     }
 }
 
 /// What of the imports of a world is left out; their keys are apart.
-fn imports_left_out(
-    resolve: &Resolve,
-    marks: &[bool],
-    items: &Keyed<WorldKey, WorldItem>,
-) -> Option<&'static str>
+fn imports_left_out(resolve: &Resolve, items: &Keyed<WorldKey, WorldItem>) -> Option<&'static str>
     requires sound { IsSound resolve.now }
-    requires marks { AreUnnamed resolve.now.types marks.now }
     requires all_present { AllByRecursion (HasEntry resolve.now) items.now }
     ensures reported { option_copied result ≡ first_some (import_item_left_out resolve.now) items.now }
     ensures apart { IsDistinct is_same_key (keys_of items.now) }
 {
     for (key, item) in items.iter() {
-        if let Some(what) = import_item_left_out(resolve, marks, key, item) {
+        if let Some(what) = import_item_left_out(resolve, key, item) {
             return Some(what);
         }
     }
@@ -187,17 +149,12 @@ fn exports_left_out(resolve: &Resolve, items: &Keyed<WorldKey, WorldItem>) -> Op
     None
 }
 
-/// What of a world's imports and exports is left out, by the marks of types without names; its keys are apart.
-pub(crate) fn world_left_out(
-    resolve: &Resolve,
-    marks: &[bool],
-    world: &World,
-) -> Option<&'static str>
+/// What of a world's imports and exports is left out; its keys are apart.
+pub(crate) fn world_left_out(resolve: &Resolve, world: &World) -> Option<&'static str>
     requires sound { IsSound resolve.now }
-    requires marks { AreUnnamed resolve.now.types marks.now }
     requires present { HasWorld resolve.now world.now }
     ensures reported { option_copied result ≡ world_left_out resolve.now world.now }
     ensures apart { ItemsApart world.now }
 {
-    imports_left_out(resolve, marks, &world.imports).or(exports_left_out(resolve, &world.exports))
+    imports_left_out(resolve, &world.imports).or(exports_left_out(resolve, &world.exports))
 }

@@ -1,14 +1,16 @@
-//! Whether the types that a world imports come in their order, with all resources among them.
+//! Whether the types that a world imports come in their order, with all resources of its root among them.
 
 ghost use Rattle.std.specs.Prelude.{◌≡◌, ◌≤◌, ◌<◌, length, IfSome};
 ghost use Rattle.std.specs.List.{AllByRecursion, list_any};
 ghost use Rattle.std.specs.Option.{option_copied};
 ghost use Rattle.wit_data.specs.Sound.{HasEntry};
-ghost use Rattle.supported_worlds.specs.LeftOut.{is_resource, imported_numbers, are_in_place, resources_left_out, drop_left_out};
+ghost use Rattle.supported_worlds.specs.LeftOut.{resources_left_out};
+ghost use Rattle.supported_worlds.specs.Placed.{is_resource, is_root_resource, imported_numbers, are_in_place, is_droppable};
 ghost use Rattle.supported_worlds.specs.Places.{Follows, FollowsImport};
 
+use crate::places::place_at;
 use comp_lists::Keyed;
-use wit_data::{Resolve, TypeDef, TypeDefKind, TypeId, WorldItem, WorldKey};
+use wit_data::{Resolve, Type, TypeDef, TypeDefKind, TypeId, TypeOwner, WorldItem, WorldKey};
 
 fn is_resource(def: &TypeDef) -> bool
     ensures { result ≡ is_resource def.now }
@@ -19,12 +21,22 @@ fn is_resource(def: &TypeDef) -> bool
     }
 }
 
-/// Whether one of these types is a resource.
+/// Whether a type is a resource that belongs to no interface.
+fn is_root_resource(def: &TypeDef) -> bool
+    ensures { result ≡ is_root_resource def.now }
+{
+    match def.owner {
+        TypeOwner::Interface(_) => false,
+        TypeOwner::World(_) | TypeOwner::None => is_resource(def),
+    }
+}
+
+/// Whether one of these types is such a resource.
 fn has_resource(types: &[TypeDef]) -> bool
-    ensures { result ≡ list_any is_resource types.now }
+    ensures { result ≡ list_any is_root_resource types.now }
 {
     for def in types {
-        if is_resource(def) {
+        if is_root_resource(def) {
             return true;
         }
     }
@@ -32,8 +44,8 @@ fn has_resource(types: &[TypeDef]) -> bool
 }
 
 /// The number after that of an imported type, unless the type is before the number `next` or a
-/// resource from there on is passed over.
-#[tactic(auto, using(crate::proofs::Places::earlier_type, crate::proofs::Places::later_type, crate::proofs::Places::next_type))]
+/// resource of the root from there on is passed over.
+#[tactic(auto, using(crate::proofs::InPlace::earlier_type, crate::proofs::InPlace::later_type, crate::proofs::InPlace::next_type))]
 fn after_type(types: &[TypeDef], next: usize, id: TypeId) -> Option<usize>
     requires inside { next ≤ length types.now }
     requires present { id.index < length types.now }
@@ -46,7 +58,7 @@ fn after_type(types: &[TypeDef], next: usize, id: TypeId) -> Option<usize>
     Some(id.index + 1)
 }
 
-#[tactic(auto, using(crate::proofs::Places::of_type))]
+#[tactic(auto, using(crate::proofs::InPlace::of_type))]
 fn after_import(resolve: &Resolve, next: usize, key: &WorldKey, item: &WorldItem) -> Option<usize>
     requires inside { next ≤ length resolve.now.types }
     requires present { HasEntry resolve.now (key.now, item.now) }
@@ -61,8 +73,8 @@ fn after_import(resolve: &Resolve, next: usize, key: &WorldKey, item: &WorldItem
     }
 }
 
-/// Whether the types among the imports come in their order, and each resource is one of them.
-#[tactic(auto, using(crate::proofs::Places::start, crate::proofs::Places::step, crate::proofs::Places::stop, crate::proofs::Places::end))]
+/// Whether the types among the imports come in their order, and each resource of the root is one of them.
+#[tactic(auto, using(crate::proofs::InPlace::start, crate::proofs::InPlace::step, crate::proofs::InPlace::stop, crate::proofs::InPlace::end))]
 fn are_in_place(resolve: &Resolve, imports: &Keyed<WorldKey, WorldItem>) -> bool
     requires all_present { AllByRecursion (HasEntry resolve.now) imports.now }
     ensures { result ≡ are_in_place resolve.now.types 0 (imported_numbers imports.now) }
@@ -92,12 +104,13 @@ pub(crate) fn resources_left_out(
     }
 }
 
-/// The drop of a type is left out unless the type is a resource.
-pub(crate) fn drop_left_out(types: &[TypeDef], id: TypeId) -> Option<&'static str>
-    ensures { option_copied result ≡ drop_left_out types.now id }
+/// Whether a type is a resource that has the place of the root or an earlier one.
+#[tactic(auto)]
+pub(crate) fn is_droppable(types: &[TypeDef], places: &[usize], root: usize, id: TypeId) -> bool
+    ensures { result ≡ is_droppable types.now places.now root id }
 {
     match types.get(id.index) {
-        Some(def) if is_resource(def) => None,
-        _ => Some("imported-drop"),
+        Some(def) => is_resource(def) && place_at(places, Some(Type::Id(id))) <= root,
+        None => false,
     }
 }

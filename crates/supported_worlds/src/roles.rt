@@ -1,30 +1,43 @@
 //! What of main's imports and exports is not encoded yet.
 
-ghost use Rattle.std.specs.Prelude.{◌≡◌, None};
+ghost use Rattle.std.specs.Prelude.{◌≡◌, None, codes};
 ghost use Rattle.std.specs.List.{IsDistinct};
 ghost use Rattle.std.specs.Map.{keys_of};
 ghost use Rattle.std.specs.Option.{option_copied};
 ghost use Rattle.std.specs.Str.{bytes_eq};
 ghost use Rattle.comp_roles.specs.Lookups.{first_some};
 ghost use Rattle.supported_worlds.specs.Apart.{FieldsApart, GroupsApart};
-ghost use Rattle.supported_worlds.specs.LeftOut.{import_left_out, export_left_out, instance_left_out, group_left_out, module_left_out};
+ghost use Rattle.supported_worlds.specs.LeftOut.{unless, import_left_out, export_left_out, instance_left_out, group_left_out, module_left_out};
+ghost use Rattle.supported_worlds.specs.Placed.{is_droppable};
 
 use crate::kinds::{export_kind, import_kind};
-use crate::resources::drop_left_out;
+use crate::places::Places;
+use crate::resources::is_droppable;
 use comp_lists::{Keyed, Text};
 use comp_roles::{Export, Import, ImportInstance};
 use comp_worlds::ValidatedModule;
-use wit_data::{AbiVariant, TypeDef, WorldKey};
+use wit_data::{AbiVariant, TypeDef, TypeId, WorldKey};
 
-fn import_left_out(types: &[TypeDef], role: &Import) -> Option<&'static str>
-    ensures { option_copied result ≡ import_left_out types.now role.now }
+/// The drop of a type, unless it is a resource that is imported.
+fn drop_left_out(types: &[TypeDef], places: &Places, id: TypeId) -> Option<&'static str>
+    ensures { option_copied result ≡ unless (is_droppable types.now places.now.types places.now.interfaces.root id) (codes "imported-drop") }
+{
+    if is_droppable(types, places.types.as_slice(), places.interfaces.root, id) {
+        None
+    } else {
+        Some("imported-drop")
+    }
+}
+
+fn import_left_out(types: &[TypeDef], places: &Places, role: &Import) -> Option<&'static str>
+    ensures { option_copied result ≡ import_left_out types.now places.now.types places.now.interfaces.root role.now }
 {
     match role {
         Import::WorldFunc(WorldKey::Name(_), _, AbiVariant::GuestImport) => None,
         Import::WorldFunc(_, _, AbiVariant::GuestImportAsync) => Some("async"),
         Import::InterfaceFunc(_, _, _, AbiVariant::GuestImport) => None,
         Import::InterfaceFunc(_, _, _, AbiVariant::GuestImportAsync) => Some("async"),
-        Import::ImportedResourceDrop(_, _, id) => drop_left_out(types, *id),
+        Import::ImportedResourceDrop(_, _, id) => drop_left_out(types, places, *id),
         _ => Some(import_kind(role)),
     }
 }
@@ -41,12 +54,16 @@ fn export_left_out(role: &Export) -> Option<&'static str>
 }
 
 /// What of the fields that are imported from one module is left out.
-fn fields_left_out(types: &[TypeDef], fields: &Keyed<Text, Import>) -> Option<&'static str>
-    ensures reported { option_copied result ≡ first_some (λ f. import_left_out types.now f.1) fields.now }
+fn fields_left_out(
+    types: &[TypeDef],
+    places: &Places,
+    fields: &Keyed<Text, Import>,
+) -> Option<&'static str>
+    ensures reported { option_copied result ≡ first_some (λ f. import_left_out types.now places.now.types places.now.interfaces.root f.1) fields.now }
     ensures apart { IsDistinct bytes_eq (keys_of fields.now) }
 {
     for (_, role) in fields.iter() {
-        if let Some(what) = import_left_out(types, role) {
+        if let Some(what) = import_left_out(types, places, role) {
             return Some(what);
         }
     }
@@ -54,24 +71,32 @@ fn fields_left_out(types: &[TypeDef], fields: &Keyed<Text, Import>) -> Option<&'
 }
 
 /// What of the imports from one module is left out; its fields are apart.
-fn instance_left_out(types: &[TypeDef], instance: &ImportInstance) -> Option<&'static str>
-    ensures reported { option_copied result ≡ instance_left_out types.now instance.now }
+fn instance_left_out(
+    types: &[TypeDef],
+    places: &Places,
+    instance: &ImportInstance,
+) -> Option<&'static str>
+    ensures reported { option_copied result ≡ instance_left_out types.now places.now.types places.now.interfaces.root instance.now }
     ensures apart { FieldsApart instance.now }
 {
     match instance {
-        ImportInstance::Names(fields) => fields_left_out(types, fields),
+        ImportInstance::Names(fields) => fields_left_out(types, places, fields),
         ImportInstance::Whole(_) => Some("library"),
     }
 }
 
 /// What of all imports is left out; where nothing is, no module and no field of one occurs twice.
 #[tactic(auto, using(crate::proofs::Walking::start, crate::proofs::Walking::step, crate::proofs::Walking::end))]
-fn groups_left_out(types: &[TypeDef], groups: &Keyed<Text, ImportInstance>) -> Option<&'static str>
-    ensures reported { option_copied result ≡ first_some (group_left_out types.now) groups.now }
+fn groups_left_out(
+    types: &[TypeDef],
+    places: &Places,
+    groups: &Keyed<Text, ImportInstance>,
+) -> Option<&'static str>
+    ensures reported { option_copied result ≡ first_some (group_left_out types.now places.now.types places.now.interfaces.root) groups.now }
     ensures apart { option_copied result ≡ None → GroupsApart groups.now }
 {
     for (_, instance) in groups.iter() {
-        if let Some(what) = instance_left_out(types, instance) {
+        if let Some(what) = instance_left_out(types, places, instance) {
             return Some(what);
         }
     }
@@ -90,11 +115,15 @@ fn exports_left_out(exports: &Keyed<Text, Export>) -> Option<&'static str>
 }
 
 /// What of a module's imports and exports is left out; where nothing is, no import occurs twice.
-pub(crate) fn module_left_out(types: &[TypeDef], main: &ValidatedModule) -> Option<&'static str>
-    ensures reported { option_copied result ≡ module_left_out types.now main.now }
+pub(crate) fn module_left_out(
+    types: &[TypeDef],
+    places: &Places,
+    main: &ValidatedModule,
+) -> Option<&'static str>
+    ensures reported { option_copied result ≡ module_left_out types.now places.now.types places.now.interfaces.root main.now }
     ensures apart { option_copied result ≡ None → GroupsApart main.now.imports.modules }
 {
-    match groups_left_out(types, &main.imports.modules) {
+    match groups_left_out(types, places, &main.imports.modules) {
         Some(what) => Some(what),
         None => exports_left_out(&main.exports.exports),
     }

@@ -44,7 +44,7 @@ fn refused(alloc: Global, calls: u32, fault: StoreFault) -> Result<Answer, Alloc
 #[test]
 fn wrong_arguments_are_reported_before_anything_is_read(rt: HostRuntime) {
     let alloc = rt.alloc();
-    let wrong: [&[&str]; 12] = [
+    let wrong: [&[&str]; 15] = [
         &[],
         &["--Help"],
         &["--help", "--version"],
@@ -57,6 +57,9 @@ fn wrong_arguments_are_reported_before_anything_is_read(rt: HostRuntime) {
         &["new", "--ref", "out.wasm", "main.wasm"],
         &["defs", "main.wasm", "--validate"],
         &["new", "out.wasm", "main.wasm", "--validate", "--validate"],
+        &["new", "--canonical", "out.wasm", "main.wasm"],
+        &["new", "out.wasm", "main.wasm", "--no-merge", "--no-names"],
+        &["defs", "main.wasm", "--canonical"],
     ];
     for words in wrong {
         let mut store = OneFile::new(alloc, "main.wasm", EMPTY).expect(&rt, "memory");
@@ -254,6 +257,8 @@ fn nothing_is_reported_where_nobody_reads_the_output(rt: HostRuntime) -> Result<
 fn help_and_version_are_printed(rt: HostRuntime) -> Result<(), Fail> {
     let alloc = rt.alloc();
     let help = "usage: component_new new OUT MAIN [options] | defs FILE\n\
+        \x20 --canonical     new: have the canonical part of versions in names, and the rest as suffixes\n\
+        \x20 --no-merge      new: don't merge imports of compatible versions\n\
         \x20 --validate      new: check the names of the component's imports and exports\n\
         \x20 -h, --help      print this text\n\
         \x20 --version       print the version of the program, and the kit that it is proved with\n";

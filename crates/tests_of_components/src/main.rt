@@ -1,12 +1,14 @@
 //! The program `tests_of_components`: the components of core modules with records, by cases from files.
 //!
 //! The input of a case is a core module in hexadecimal digits and, after a space, its records, with ` & ` between two of them.
-//! The answer is the component in hexadecimal digits, by the encoder over the lower layer by records, with `validate` on; or
-//! the fault. `test_cases` says how the files are read; each says where its expected answers are from. The program prints the
+//! Options may be in front of it, as in `[canonical, rename a:b/c to d:e/f] 0061736d..`: `canonical`, `no-merge`, `unchecked`
+//! (without `validate`, which is on otherwise) and `rename NAME to NAME`. The answer is the component in hexadecimal digits, by
+//! the encoder over the lower layer by records; or the fault. `test_cases` says how the files are read; each says where its expected answers are from. The program prints the
 //! comments too, so that the file `stdout`, which its output is compared with, is the data without the inputs.
 #![tactic(auto)]
 
 use comp_encoder::{ComponentEncoder, EncodeFault};
+use comp_lists::{Keyed, Text};
 use plain_lower::{PlainFault, PlainLower};
 use std::alloc::{AllocError, Global};
 use std::process::ExitCode;
@@ -30,10 +32,55 @@ fn module_of(alloc: Global, input: &str) -> Result<Vec<u8>, AllocError> {
     Ok(module)
 }
 
-/// The component of a module that is given as main.
-fn component_of(alloc: Global, module: &[u8]) -> Result<Vec<u8>, EncodeFault<PlainFault>> {
+/// The options of an input, and what follows them.
+fn options_and_rest(input: &str) -> (&str, &str) {
+    match input.strip_prefix("[") {
+        Some(rest) => rest.split_once("] ").unwrap_or(("", rest)),
+        None => ("", input),
+    }
+}
+
+/// The other names that options give.
+fn names_of(alloc: Global, options: &str) -> Result<Keyed<Text, Text>, AllocError> {
+    let mut names = Keyed::new(alloc);
+    for option in options.split(", ") {
+        if let Some(renaming) = option.strip_prefix("rename ") {
+            let (name, other) = renaming.split_once(" to ").unwrap_or((renaming, ""));
+            let name = Text::from_str(alloc, name)?;
+            let other = Text::from_str(alloc, other)?;
+            names.insert_if_absent(name, other)?;
+        }
+    }
+    Ok(names)
+}
+
+/// Whether an option is given.
+fn has(options: &str, wanted: &str) -> bool {
+    for option in options.split(", ") {
+        if option == wanted {
+            return true;
+        }
+    }
+    false
+}
+
+/// An encoder with options.
+fn encoder_with(alloc: Global, options: &str) -> Result<ComponentEncoder<PlainLower>, AllocError> {
+    let names = names_of(alloc, options)?;
     let mut encoder = ComponentEncoder::new(alloc, PlainLower::new());
-    encoder.validate(true).module(module)?.encode()
+    encoder.validate(!has(options, "unchecked"));
+    encoder.merge_imports_based_on_semver(!has(options, "no-merge"));
+    encoder.emit_canonical_names(has(options, "canonical"));
+    encoder.import_name_map(names);
+    Ok(encoder)
+}
+
+/// The component of the module of an input, which is given as main.
+fn component_of(alloc: Global, input: &str) -> Result<Vec<u8>, EncodeFault<PlainFault>> {
+    let (options, rest) = options_and_rest(input);
+    let module = module_of(alloc, rest)?;
+    let mut encoder = encoder_with(alloc, options)?;
+    encoder.module(&module)?.encode()
 }
 
 /// All files have modules.
@@ -46,8 +93,7 @@ impl Topic for Modules {
     }
 
     fn answer(self, alloc: Global, _given: &str, input: &str) -> Result<String, AllocError> {
-        let module = module_of(alloc, input)?;
-        match component_of(alloc, &module) {
+        match component_of(alloc, input) {
             Ok(component) => hex::encode(alloc, &component),
             Err(EncodeFault::Memory) => Err(AllocError),
             Err(fault) => format!(in alloc; "{fault}"),

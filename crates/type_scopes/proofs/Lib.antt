@@ -7,4 +7,3 @@ pub mod Exported
 pub mod Meeting
 pub mod Allowed
 pub mod Unnamed
-pub mod Needed

@@ -180,7 +180,7 @@ module _ (s : Surroundings) (origin : TypeId → Resource) (o : Offer) (here : I
   -- ---- the tables
 
   pub right_none : (ms : List Member) (maps : TypeEncodingMaps) → maps ≡ no_maps → IsRight s origin o here [] ms maps
-  right_none ms maps none = subst (λ m. IsRight s origin o here [] ms m) (sym none) (faithful_new (placed s origin o here []) (member_trees s [] ms) any_index (λ id. refl))
+  right_none ms maps none = subst (λ m. IsRight s origin o here [] ms m) (sym none) (faithful_new (placed s origin o here []) (member_trees s [] ms) any_index (Unit {0}) (λ id. refl) tt)
 
   -- a type that was recorded is one of those that were passed
   pub right_passed : (passed : List TypeId) (id : TypeId) (ms : List Member) (maps : TypeEncodingMaps) → HasIndex maps id → IsRight s origin o here passed ms maps → IsRight s origin o here (passed ++ id ∷ []) ms maps
@@ -191,6 +191,7 @@ module _ (s : Surroundings) (origin : TypeId → Resource) (o : Offer) (here : I
     kinds = h.kinds;
     functions = h.functions;
     met = λ j e. by j (is_one_of passed j.index) refl (sym (one_end passed id j.index) ∙ e);
+    offers = h.offers;
   }
     where
       by : (j : TypeId) (b : Bool) → is_one_of passed j.index ≡ b → (is_one_of passed j.index || (j.index == id.index)) ≡ true → HasIndex maps j
@@ -210,5 +211,5 @@ module _ (s : Surroundings) (origin : TypeId → Resource) (o : Offer) (here : I
 pub right_then : (s : Surroundings) (origin : TypeId → Resource) (o p : Offer) (here there : InterfaceId) (passed after : List TypeId) (ms new more : List Member) (maps now : TypeEncodingMaps) → p ≡ o → there ≡ here → after ≡ passed → now ≡ maps → new ≡ ms ++ more →
     IsRight s origin o here passed ms maps → IsRight s origin p there after new now
 right_then s origin o p here there passed after ms new more maps now outer interface same kept is right =
-    faithful_after (placed s origin o here passed) (placed s origin p there after) (member_trees s [] ms) (member_trees s [] new) any_index any_index maps now right (longer_by s ms new more is)
-    (ap (λ q. placed s origin q there after) outer ∙ (ap (λ i. placed s origin o i after) interface ∙ ap (placed s origin o here) same)) kept (λ name i h. h)
+    faithful_after (placed s origin o here passed) (placed s origin p there after) (member_trees s [] ms) (member_trees s [] new) any_index any_index (Unit {0}) (Unit {0}) maps now right (longer_by s ms new more is)
+    (ap (λ q. placed s origin q there after) outer ∙ (ap (λ i. placed s origin o i after) interface ∙ ap (placed s origin o here) same)) kept (λ name i h. h) (λ h. h)

@@ -69,7 +69,7 @@ pub record AddsFunctions (s : Setting) (scope : List TypeTree) (old new : List M
 
 -- the tables of an instance type are right, where these types were passed
 abbrev pub IsRight : Surroundings → (TypeId → Resource) → Offer → InterfaceId → List TypeId → List Member → TypeEncodingMaps → Type 0
-IsRight s origin o here passed ms maps = Faithful (placed s origin o here passed) (member_trees s [] ms) any_index maps
+IsRight s origin o here passed ms maps = Faithful (placed s origin o here passed) (member_trees s [] ms) any_index (Unit {0}) maps
 
 -- these types are exported, in their order, and nothing else is
 pub record AreExported (s : Surroundings) (origin : TypeId → Resource) (o : Offer) (here : InterfaceId) (passed : List TypeId) (ms : List Member) : Type 0 where

@@ -145,6 +145,8 @@ impl<'a, P: Placement> ValtypeEncoder for InstanceTypeEncoder<'a, P> {
 
     ghost names = { λ e name index. any_index name index };
 
+    ghost offers = { λ e. Unit {0} };
+
     ghost refuses = { λ e count. is_full e.members count };
 
     ghost follows_itself = { λ e. (refl, refl, refl, members_same P.surroundings e.members) };
@@ -152,6 +154,8 @@ impl<'a, P: Placement> ValtypeEncoder for InstanceTypeEncoder<'a, P> {
     ghost follows_on = { λ a b c g h. follow_on P.surroundings a.outer b.outer c.outer a.interface b.interface c.interface a.passed b.passed c.passed a.members b.members c.members g h };
 
     ghost names_kept = { λ a b g name index h. h };
+
+    ghost offers_kept = { λ a b g known. known };
 
     ghost follows_maps = { λ e m. (refl, refl, refl, members_same P.surroundings e.members) };
 
@@ -219,7 +223,7 @@ impl<'a, P: Placement> ValtypeEncoder for InstanceTypeEncoder<'a, P> {
     }
 
     fn import_type(&mut self, interface: InterfaceId, id: TypeId) -> Result<u32, BuildFault>
-        requires { IsTrue (is_some (offered self.old.outer interface id)) }
+        requires may { IsTrue (is_some (offered self.old.outer interface id)) }
         ensures added { OnOk result (IfSome (offered self.old.outer interface id) (λ outer. self.new ≡ record self.old { members = self.old.members ++ members.Alias (aliases.Outer 1 outer) ∷ [] })) }
         ensures index { IfOk result (λ index. index ≡ types_in self.old.members) }
         ensures kept { OnErr result (self.new ≡ self.old) }

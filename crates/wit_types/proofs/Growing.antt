@@ -90,14 +90,15 @@ pub no_name : {X : Type 0} (o : Option X) → is_some o ≡ false → o ≡ None
 no_name None e = refl
 no_name (Some x) e = cc
 
-pub faithful_on : {s : Setting} {old new : List TypeTree} {N M : List ℕ → ℕ → Type 0} {maps : TypeEncodingMaps} → Longer old new → ((name : List ℕ) (i : ℕ) → N name i → M name i) → Faithful s old N maps → Faithful s new M maps
-faithful_on {s = s} {N = N} {M = M} {maps = maps} g kept f =
+pub faithful_on : {s : Setting} {old new : List TypeTree} {N M : List ℕ → ℕ → Type 0} {O P : Type 0} {maps : TypeEncodingMaps} → Longer old new → ((name : List ℕ) (i : ℕ) → N name i → M name i) → (O → P) → Faithful s old N O maps → Faithful s new M P maps
+faithful_on {s = s} {N = N} {M = M} {maps = maps} g kept known f =
     record {
       named = AllByRecursion-weaker (λ e d. named_on s N M e.0 e.1 kept d) maps.id_to_index f.named;
       ids = AllByRecursion-weaker (λ e d. denotes_on g d) maps.id_to_index f.ids;
       kinds = AllByRecursion-weaker (λ e d n. denotes_on g (d n)) maps.def_to_index f.kinds;
       functions = AllByRecursion-weaker (λ e d. denotes_on g d) maps.func_type_map f.functions;
       met = f.met;
+      offers = known f.offers;
     }
 
 pub value_as : {scope : List TypeTree} {v : ComponentValType} {t u : Tree} → ValueDenotes scope v t → t ≡ u → ValueDenotes scope v u
@@ -107,18 +108,18 @@ pub result_as : (scope : List TypeTree) (r : Result ComponentValType BuildFault)
 result_as scope r t u h e = subst (λ x. IfOk r (λ v. ValueDenotes scope v x)) e h
 
 -- tables that stay the same are faithful in a scope that grew
-pub faithful_after : (s t : Setting) (old new : List TypeTree) (N M : List ℕ → ℕ → Type 0) (maps now : TypeEncodingMaps) → Faithful s old N maps → Longer old new → t ≡ s → now ≡ maps → ((name : List ℕ) (i : ℕ) → N name i → M name i) → Faithful t new M now
-faithful_after s t old new N M maps now f g same kept names = subst (λ r. Faithful r new M now) (sym same) (subst (λ m. Faithful s new M m) (sym kept) (faithful_on g names f))
+pub faithful_after : (s t : Setting) (old new : List TypeTree) (N M : List ℕ → ℕ → Type 0) (O P : Type 0) (maps now : TypeEncodingMaps) → Faithful s old N O maps → Longer old new → t ≡ s → now ≡ maps → ((name : List ℕ) (i : ℕ) → N name i → M name i) → (O → P) → Faithful t new M P now
+faithful_after s t old new N M O P maps now f g same kept names known = subst (λ r. Faithful r new M P now) (sym same) (subst (λ m. Faithful s new M P m) (sym kept) (faithful_on g names known f))
 
 -- the same of what a call that defines a type leaves
-pub faithful_then : (s t : Setting) (old new : List TypeTree) (N M : List ℕ → ℕ → Type 0) (maps now : TypeEncodingMaps) (r : Result ℕ BuildFault) (made : TypeTree) → Faithful s old N maps → Makes old new r made → t ≡ s → now ≡ maps → ((name : List ℕ) (i : ℕ) → N name i → M name i) → Faithful t new M now
-faithful_then s t old new N M maps now (Ok i) made f m same kept names = faithful_after s t old new N M maps now f m.0 same kept names
-faithful_then s t old new N M maps now (Err e) made f m same kept names = faithful_after s t old new N M maps now f m same kept names
+pub faithful_then : (s t : Setting) (old new : List TypeTree) (N M : List ℕ → ℕ → Type 0) (O P : Type 0) (maps now : TypeEncodingMaps) (r : Result ℕ BuildFault) (made : TypeTree) → Faithful s old N O maps → Makes old new r made → t ≡ s → now ≡ maps → ((name : List ℕ) (i : ℕ) → N name i → M name i) → (O → P) → Faithful t new M P now
+faithful_then s t old new N M O P maps now (Ok i) made f m same kept names known = faithful_after s t old new N M O P maps now f m.0 same kept names known
+faithful_then s t old new N M O P maps now (Err e) made f m same kept names known = faithful_after s t old new N M O P maps now f m same kept names known
 
-pub faithful_maybe : (s t : Setting) (old new : List TypeTree) (N M : List ℕ → ℕ → Type 0) (maps now : TypeEncodingMaps) (r : Result (Option ℕ) BuildFault) (made : TypeTree) → Faithful s old N maps → MayMake old new r made → t ≡ s → now ≡ maps → ((name : List ℕ) (i : ℕ) → N name i → M name i) → Faithful t new M now
-faithful_maybe s t old new N M maps now (Ok (Some i)) made f m same kept names = faithful_after s t old new N M maps now f m.0 same kept names
-faithful_maybe s t old new N M maps now (Ok None) made f m same kept names = faithful_after s t old new N M maps now f m same kept names
-faithful_maybe s t old new N M maps now (Err e) made f m same kept names = faithful_after s t old new N M maps now f m same kept names
+pub faithful_maybe : (s t : Setting) (old new : List TypeTree) (N M : List ℕ → ℕ → Type 0) (O P : Type 0) (maps now : TypeEncodingMaps) (r : Result (Option ℕ) BuildFault) (made : TypeTree) → Faithful s old N O maps → MayMake old new r made → t ≡ s → now ≡ maps → ((name : List ℕ) (i : ℕ) → N name i → M name i) → (O → P) → Faithful t new M P now
+faithful_maybe s t old new N M O P maps now (Ok (Some i)) made f m same kept names known = faithful_after s t old new N M O P maps now f m.0 same kept names known
+faithful_maybe s t old new N M O P maps now (Ok None) made f m same kept names known = faithful_after s t old new N M O P maps now f m same kept names known
+faithful_maybe s t old new N M O P maps now (Err e) made f m same kept names known = faithful_after s t old new N M O P maps now f m same kept names known
 
 pub index_as : (scope : List TypeTree) (r : Result ℕ BuildFault) (t u : TypeTree) → IfOk r (λ i. Denotes scope i t) → t ≡ u → IfOk r (λ i. Denotes scope i u)
 index_as scope r t u h e = subst (λ x. IfOk r (λ i. Denotes scope i x)) e h
@@ -147,12 +148,12 @@ holds_of_added eq P es k x all h = by (is_some (lookup (eq k) es))
     by false = AllByRecursion-push P es (k, x) all h
 
 -- what the tables of a scope have denotes the types of their keys
-pub id_found : {s : Setting} {scope : List TypeTree} {N : List ℕ → ℕ → Type 0} {maps : TypeEncodingMaps} (id : TypeId) (o : Option ℕ) → Faithful s scope N maps → o ≡ lookup (id_eq.eq-value.it id) maps.id_to_index → IfSome o (λ index. Denotes scope index (OfValues (tree_in s (Some (Id id)))))
+pub id_found : {s : Setting} {scope : List TypeTree} {N : List ℕ → ℕ → Type 0} {O : Type 0} {maps : TypeEncodingMaps} (id : TypeId) (o : Option ℕ) → Faithful s scope N O maps → o ≡ lookup (id_eq.eq-value.it id) maps.id_to_index → IfSome o (λ index. Denotes scope index (OfValues (tree_in s (Some (Id id)))))
 id_found id None f e = tt
 id_found {s = s} {scope = scope} {maps = maps} id (Some i) f e =
     holds_of_found id_eq.eq-value.it one_id (λ p. Denotes scope p.1 (OfValues (tree_in s (Some (Id p.0))))) id maps.id_to_index i f.ids (sym e)
 
-pub kind_found : {s : Setting} {scope : List TypeTree} {N : List ℕ → ℕ → Type 0} {maps : TypeEncodingMaps} (kind : TypeDefKind) (o : Option ℕ) → Faithful s scope N maps → o ≡ lookup (kind_eq.eq-value.it kind) maps.def_to_index → IfSome o (λ index. (n : ℕ) → Denotes scope index (OfValues (kind_tree s.origin n kind (map (tree_in s) (parts kind)))))
+pub kind_found : {s : Setting} {scope : List TypeTree} {N : List ℕ → ℕ → Type 0} {O : Type 0} {maps : TypeEncodingMaps} (kind : TypeDefKind) (o : Option ℕ) → Faithful s scope N O maps → o ≡ lookup (kind_eq.eq-value.it kind) maps.def_to_index → IfSome o (λ index. (n : ℕ) → Denotes scope index (OfValues (kind_tree s.origin n kind (map (tree_in s) (parts kind)))))
 kind_found kind None f e = tt
 kind_found {s = s} {scope = scope} {maps = maps} kind (Some i) f e =
     holds_of_found kind_eq.eq-value.it one_kind (λ p. (n : ℕ) → Denotes scope p.1 (OfValues (kind_tree s.origin n p.0 (map (tree_in s) (parts p.0))))) kind maps.def_to_index i f.kinds (sym e)
@@ -174,7 +175,7 @@ still_there eq es k j x h = by (is_some (lookup (eq k) es))
     by false = at_end es h
 
 -- a type that is not in the tables is none of those that are said to be
-pub id_unmet : {s : Setting} {scope : List TypeTree} {N : List ℕ → ℕ → Type 0} {maps : TypeEncodingMaps} (id : TypeId) (o : Option ℕ) → Faithful s scope N maps → o ≡ lookup (id_eq.eq-value.it id) maps.id_to_index → o ≡ None → s.met id ≡ false
+pub id_unmet : {s : Setting} {scope : List TypeTree} {N : List ℕ → ℕ → Type 0} {O : Type 0} {maps : TypeEncodingMaps} (id : TypeId) (o : Option ℕ) → Faithful s scope N O maps → o ≡ lookup (id_eq.eq-value.it id) maps.id_to_index → o ≡ None → s.met id ≡ false
 id_unmet {s = s} id o f e none = by (s.met id) (λ m. true≢false (sym (f.met id m).there ∙ ap is_some (sym e ∙ none)))
   where
     by : (b : Bool) → (b ≡ true → ⊥) → b ≡ false
@@ -182,10 +183,10 @@ id_unmet {s = s} id o f e none = by (s.met id) (λ m. true≢false (sym (f.met i
     by false h = refl
 
 -- tables of nothing are right, where no type is said to be in them
-pub faithful_new : (s : Setting) (scope : List TypeTree) (N : List ℕ → ℕ → Type 0) → ((id : TypeId) → s.met id ≡ false) → Faithful s scope N no_maps
-faithful_new s scope N none = record { ids = tt; named = tt; kinds = tt; functions = tt; met = λ id e. absurd (true≢false (sym e ∙ none id)) }
+pub faithful_new : (s : Setting) (scope : List TypeTree) (N : List ℕ → ℕ → Type 0) (O : Type 0) → ((id : TypeId) → s.met id ≡ false) → O → Faithful s scope N O no_maps
+faithful_new s scope N O none known = record { ids = tt; named = tt; kinds = tt; functions = tt; met = λ id e. absurd (true≢false (sym e ∙ none id)); offers = known }
 
-pub id_added : {s : Setting} {scope : List TypeTree} {N : List ℕ → ℕ → Type 0} {maps : TypeEncodingMaps} (id : TypeId) (index : ℕ) → Faithful s scope N maps → Denotes scope index (OfValues (tree_in s (Some (Id id)))) → IsNamed s N id index → Faithful s scope N (record maps { id_to_index = with_first id_eq.eq-value.it maps.id_to_index id index })
+pub id_added : {s : Setting} {scope : List TypeTree} {N : List ℕ → ℕ → Type 0} {O : Type 0} {maps : TypeEncodingMaps} (id : TypeId) (index : ℕ) → Faithful s scope N O maps → Denotes scope index (OfValues (tree_in s (Some (Id id)))) → IsNamed s N id index → Faithful s scope N O (record maps { id_to_index = with_first id_eq.eq-value.it maps.id_to_index id index })
 id_added {s = s} {scope = scope} {N = N} {maps = maps} id index f d named =
     record {
       named = holds_of_added id_eq.eq-value.it (λ p. IsNamed s N p.0 p.1) maps.id_to_index id index f.named named;
@@ -193,9 +194,10 @@ id_added {s = s} {scope = scope} {N = N} {maps = maps} id index f d named =
       kinds = f.kinds;
       functions = f.functions;
       met = λ j m. record { there = still_there id_eq.eq-value.it maps.id_to_index id j index (f.met j m).there };
+      offers = f.offers;
     }
 
-pub kind_added : {s : Setting} {scope : List TypeTree} {N : List ℕ → ℕ → Type 0} {maps : TypeEncodingMaps} (kind : TypeDefKind) (index : ℕ) → Faithful s scope N maps → ((n : ℕ) → Denotes scope index (OfValues (kind_tree s.origin n kind (map (tree_in s) (parts kind))))) → Faithful s scope N (record maps { def_to_index = with_first kind_eq.eq-value.it maps.def_to_index kind index })
+pub kind_added : {s : Setting} {scope : List TypeTree} {N : List ℕ → ℕ → Type 0} {O : Type 0} {maps : TypeEncodingMaps} (kind : TypeDefKind) (index : ℕ) → Faithful s scope N O maps → ((n : ℕ) → Denotes scope index (OfValues (kind_tree s.origin n kind (map (tree_in s) (parts kind))))) → Faithful s scope N O (record maps { def_to_index = with_first kind_eq.eq-value.it maps.def_to_index kind index })
 kind_added {s = s} {scope = scope} {maps = maps} kind index f d =
     record {
       named = f.named;
@@ -203,9 +205,10 @@ kind_added {s = s} {scope = scope} {maps = maps} kind index f d =
       kinds = holds_of_added kind_eq.eq-value.it (λ p. (n : ℕ) → Denotes scope p.1 (OfValues (kind_tree s.origin n p.0 (map (tree_in s) (parts p.0))))) maps.def_to_index kind index f.kinds d;
       functions = f.functions;
       met = λ j m. record { there = (f.met j m).there };
+      offers = f.offers;
     }
 
-pub function_found : {s : Setting} {scope : List TypeTree} {N : List ℕ → ℕ → Type 0} {maps : TypeEncodingMaps} (key : FuncTypeKey) (o : Option ℕ) → Faithful s scope N maps → o ≡ lookup (key_eq.eq-value.it key) maps.func_type_map → IfSome o (λ index. Denotes scope index (OfFunctions (key_tree s key)))
+pub function_found : {s : Setting} {scope : List TypeTree} {N : List ℕ → ℕ → Type 0} {O : Type 0} {maps : TypeEncodingMaps} (key : FuncTypeKey) (o : Option ℕ) → Faithful s scope N O maps → o ≡ lookup (key_eq.eq-value.it key) maps.func_type_map → IfSome o (λ index. Denotes scope index (OfFunctions (key_tree s key)))
 function_found key None f e = tt
 function_found {s = s} {scope = scope} {maps = maps} key (Some i) f e =
     holds_of_found key_eq.eq-value.it one_key (λ p. Denotes scope p.1 (OfFunctions (key_tree s p.0))) key maps.func_type_map i f.functions (sym e)
@@ -236,25 +239,25 @@ recorded_there (Ok u) maps now view id index is seen = id_there maps view id ind
 recorded_there (Err e) maps now view id index is seen = tt
 
 -- after tables were changed: what was added is right, and the scope is another one
-pub faithful_as : (s t : Setting) (scope new : List TypeTree) (N M : List ℕ → ℕ → Type 0) (maps now : TypeEncodingMaps) → Faithful s scope N maps → t ≡ s → new ≡ scope → ((name : List ℕ) (i : ℕ) → N name i → M name i) → now ≡ maps → Faithful t new M now
-faithful_as s t scope new N M maps now f same kept names is =
-    faithful_after s t scope new N M maps now f (subst (λ ts. Longer scope ts) (sym kept) (longer_none scope)) same is names
+pub faithful_as : (s t : Setting) (scope new : List TypeTree) (N M : List ℕ → ℕ → Type 0) (O P : Type 0) (maps now : TypeEncodingMaps) → Faithful s scope N O maps → t ≡ s → new ≡ scope → ((name : List ℕ) (i : ℕ) → N name i → M name i) → (O → P) → now ≡ maps → Faithful t new M P now
+faithful_as s t scope new N M O P maps now f same kept names known is =
+    faithful_after s t scope new N M O P maps now f (subst (λ ts. Longer scope ts) (sym kept) (longer_none scope)) same is names known
 
-pub recorded_faithful : {A E : Type 0} (r : Result A E) (s t : Setting) (scope new : List TypeTree) (N M : List ℕ → ℕ → Type 0) (first maps now view : TypeEncodingMaps) (id : TypeId) (index : ℕ) → Faithful s scope N first → Denotes scope index (OfValues (tree_in s (Some (Id id)))) → IsNamed s N id index → maps ≡ first → OnOk r (now ≡ record maps { id_to_index = with_first id_eq.eq-value.it maps.id_to_index id index }) → OnErr r (now ≡ maps) → t ≡ s → new ≡ scope → ((name : List ℕ) (i : ℕ) → N name i → M name i) → view ≡ now → Faithful t new M view
-recorded_faithful (Ok u) s t scope new N M first maps now view id index f d named begun is failed same kept names seen =
-    faithful_as s t scope new N M (record maps { id_to_index = with_first id_eq.eq-value.it maps.id_to_index id index }) view
-    (id_added id index (subst (λ m. Faithful s scope N m) (sym begun) f) d named) same kept names (seen ∙ is)
-recorded_faithful (Err e) s t scope new N M first maps now view id index f d named begun is failed same kept names seen =
-    faithful_as s t scope new N M first view f same kept names (seen ∙ (failed ∙ begun))
+pub recorded_faithful : {A E : Type 0} (r : Result A E) (s t : Setting) (scope new : List TypeTree) (N M : List ℕ → ℕ → Type 0) (O P : Type 0) (first maps now view : TypeEncodingMaps) (id : TypeId) (index : ℕ) → Faithful s scope N O first → Denotes scope index (OfValues (tree_in s (Some (Id id)))) → IsNamed s N id index → maps ≡ first → OnOk r (now ≡ record maps { id_to_index = with_first id_eq.eq-value.it maps.id_to_index id index }) → OnErr r (now ≡ maps) → t ≡ s → new ≡ scope → ((name : List ℕ) (i : ℕ) → N name i → M name i) → (O → P) → view ≡ now → Faithful t new M P view
+recorded_faithful (Ok u) s t scope new N M O P first maps now view id index f d named begun is failed same kept names known seen =
+    faithful_as s t scope new N M O P (record maps { id_to_index = with_first id_eq.eq-value.it maps.id_to_index id index }) view
+    (id_added id index (subst (λ m. Faithful s scope N O m) (sym begun) f) d named) same kept names known (seen ∙ is)
+recorded_faithful (Err e) s t scope new N M O P first maps now view id index f d named begun is failed same kept names known seen =
+    faithful_as s t scope new N M O P first view f same kept names known (seen ∙ (failed ∙ begun))
 
-pub kind_faithful : {A E : Type 0} (r : Result A E) (s t : Setting) (scope new : List TypeTree) (N M : List ℕ → ℕ → Type 0) (first maps now view : TypeEncodingMaps) (kind : TypeDefKind) (index : ℕ) → Faithful s scope N first → ((n : ℕ) → Denotes scope index (OfValues (kind_tree s.origin n kind (map (tree_in s) (parts kind))))) → maps ≡ first → OnOk r (now ≡ record maps { def_to_index = with_first kind_eq.eq-value.it maps.def_to_index kind index }) → OnErr r (now ≡ maps) → t ≡ s → new ≡ scope → ((name : List ℕ) (i : ℕ) → N name i → M name i) → view ≡ now → Faithful t new M view
-kind_faithful (Ok u) s t scope new N M first maps now view kind index f d begun is failed same kept names seen =
-    faithful_as s t scope new N M (record maps { def_to_index = with_first kind_eq.eq-value.it maps.def_to_index kind index }) view
-    (kind_added kind index (subst (λ m. Faithful s scope N m) (sym begun) f) d) same kept names (seen ∙ is)
-kind_faithful (Err e) s t scope new N M first maps now view kind index f d begun is failed same kept names seen =
-    faithful_as s t scope new N M first view f same kept names (seen ∙ (failed ∙ begun))
+pub kind_faithful : {A E : Type 0} (r : Result A E) (s t : Setting) (scope new : List TypeTree) (N M : List ℕ → ℕ → Type 0) (O P : Type 0) (first maps now view : TypeEncodingMaps) (kind : TypeDefKind) (index : ℕ) → Faithful s scope N O first → ((n : ℕ) → Denotes scope index (OfValues (kind_tree s.origin n kind (map (tree_in s) (parts kind))))) → maps ≡ first → OnOk r (now ≡ record maps { def_to_index = with_first kind_eq.eq-value.it maps.def_to_index kind index }) → OnErr r (now ≡ maps) → t ≡ s → new ≡ scope → ((name : List ℕ) (i : ℕ) → N name i → M name i) → (O → P) → view ≡ now → Faithful t new M P view
+kind_faithful (Ok u) s t scope new N M O P first maps now view kind index f d begun is failed same kept names known seen =
+    faithful_as s t scope new N M O P (record maps { def_to_index = with_first kind_eq.eq-value.it maps.def_to_index kind index }) view
+    (kind_added kind index (subst (λ m. Faithful s scope N O m) (sym begun) f) d) same kept names known (seen ∙ is)
+kind_faithful (Err e) s t scope new N M O P first maps now view kind index f d begun is failed same kept names known seen =
+    faithful_as s t scope new N M O P first view f same kept names known (seen ∙ (failed ∙ begun))
 
-pub key_added : {s : Setting} {scope : List TypeTree} {N : List ℕ → ℕ → Type 0} {maps : TypeEncodingMaps} (key : FuncTypeKey) (index : ℕ) → Faithful s scope N maps → Denotes scope index (OfFunctions (key_tree s key)) → Faithful s scope N (record maps { func_type_map = with_first key_eq.eq-value.it maps.func_type_map key index })
+pub key_added : {s : Setting} {scope : List TypeTree} {N : List ℕ → ℕ → Type 0} {O : Type 0} {maps : TypeEncodingMaps} (key : FuncTypeKey) (index : ℕ) → Faithful s scope N O maps → Denotes scope index (OfFunctions (key_tree s key)) → Faithful s scope N O (record maps { func_type_map = with_first key_eq.eq-value.it maps.func_type_map key index })
 key_added {s = s} {scope = scope} {maps = maps} key index f d =
     record {
       named = f.named;
@@ -262,16 +265,17 @@ key_added {s = s} {scope = scope} {maps = maps} key index f d =
       kinds = f.kinds;
       functions = holds_of_added key_eq.eq-value.it (λ p. Denotes scope p.1 (OfFunctions (key_tree s p.0))) maps.func_type_map key index f.functions d;
       met = λ j m. record { there = (f.met j m).there };
+      offers = f.offers;
     }
 
-pub key_faithful : {A E : Type 0} (r : Result A E) (s t : Setting) (scope new : List TypeTree) (N M : List ℕ → ℕ → Type 0) (first maps now view : TypeEncodingMaps) (key : FuncTypeKey) (index : ℕ) → Faithful s scope N first → Denotes scope index (OfFunctions (key_tree s key)) → maps ≡ first → OnOk r (now ≡ record maps { func_type_map = with_first key_eq.eq-value.it maps.func_type_map key index }) → OnErr r (now ≡ maps) → t ≡ s → new ≡ scope → ((name : List ℕ) (i : ℕ) → N name i → M name i) → view ≡ now → Faithful t new M view
-key_faithful (Ok u) s t scope new N M first maps now view key index f d begun is failed same kept names seen =
-    faithful_as s t scope new N M (record maps { func_type_map = with_first key_eq.eq-value.it maps.func_type_map key index }) view
-    (key_added key index (subst (λ m. Faithful s scope N m) (sym begun) f) d) same kept names (seen ∙ is)
-key_faithful (Err e) s t scope new N M first maps now view key index f d begun is failed same kept names seen =
-    faithful_as s t scope new N M first view f same kept names (seen ∙ (failed ∙ begun))
+pub key_faithful : {A E : Type 0} (r : Result A E) (s t : Setting) (scope new : List TypeTree) (N M : List ℕ → ℕ → Type 0) (O P : Type 0) (first maps now view : TypeEncodingMaps) (key : FuncTypeKey) (index : ℕ) → Faithful s scope N O first → Denotes scope index (OfFunctions (key_tree s key)) → maps ≡ first → OnOk r (now ≡ record maps { func_type_map = with_first key_eq.eq-value.it maps.func_type_map key index }) → OnErr r (now ≡ maps) → t ≡ s → new ≡ scope → ((name : List ℕ) (i : ℕ) → N name i → M name i) → (O → P) → view ≡ now → Faithful t new M P view
+key_faithful (Ok u) s t scope new N M O P first maps now view key index f d begun is failed same kept names known seen =
+    faithful_as s t scope new N M O P (record maps { func_type_map = with_first key_eq.eq-value.it maps.func_type_map key index }) view
+    (key_added key index (subst (λ m. Faithful s scope N O m) (sym begun) f) d) same kept names known (seen ∙ is)
+key_faithful (Err e) s t scope new N M O P first maps now view key index f d begun is failed same kept names known seen =
+    faithful_as s t scope new N M O P first view f same kept names known (seen ∙ (failed ∙ begun))
 
-pub id_named : {s : Setting} {scope : List TypeTree} {N : List ℕ → ℕ → Type 0} {maps : TypeEncodingMaps} (M : List ℕ → ℕ → Type 0) (id : TypeId) (o : Option ℕ) → ((name : List ℕ) (i : ℕ) → N name i → M name i) → Faithful s scope N maps → o ≡ lookup (id_eq.eq-value.it id) maps.id_to_index → IfSome o (λ index. IsNamed s M id index)
+pub id_named : {s : Setting} {scope : List TypeTree} {N : List ℕ → ℕ → Type 0} {O : Type 0} {maps : TypeEncodingMaps} (M : List ℕ → ℕ → Type 0) (id : TypeId) (o : Option ℕ) → ((name : List ℕ) (i : ℕ) → N name i → M name i) → Faithful s scope N O maps → o ≡ lookup (id_eq.eq-value.it id) maps.id_to_index → IfSome o (λ index. IsNamed s M id index)
 id_named M id None names f e = tt
 id_named {s = s} {N = N} {maps = maps} M id (Some i) names f e =
     named_on s N M id i names (holds_of_found id_eq.eq-value.it one_id (λ p. IsNamed s N p.0 p.1) id maps.id_to_index i f.named (sym e))

@@ -33,13 +33,13 @@ pub fn encode_valtype<E: ValtypeEncoder>(
     requires same { (E.setting encoder.old).types ≡ resolve.now.types }
     requires present { HasType resolve.now (Some ty.now) }
     requires allowed { IsTrue (is_allowed (E.setting encoder.old) (Some ty.now)) }
-    requires faithful { Faithful (E.setting encoder.old) (E.scope encoder.old) (E.names encoder.old) (E.maps encoder.old) }
+    requires faithful { Faithful (E.setting encoder.old) (E.scope encoder.old) (E.names encoder.old) (E.offers encoder.old) (E.maps encoder.old) }
     ensures value { IfOk result (λ v. ValueDenotes (E.scope encoder.new) v (wit_tree (E.setting encoder.old).origin resolve.now.types (Some ty.now))) }
     ensures recorded { IfOk result (λ v. IsRecorded (E.maps encoder.new) ty.now v) }
     ensures named { IfOk result (λ v. IsNamedValue (E.setting encoder.old) (E.names encoder.new) ty.now v) }
     ensures grows { Longer (E.scope encoder.old) (E.scope encoder.new) }
     ensures setting { E.setting encoder.new ≡ E.setting encoder.old }
-    ensures faithful { Faithful (E.setting encoder.new) (E.scope encoder.new) (E.names encoder.new) (E.maps encoder.new) }
+    ensures faithful { Faithful (E.setting encoder.new) (E.scope encoder.new) (E.names encoder.new) (E.offers encoder.new) (E.maps encoder.new) }
     ensures follows { E.follows encoder.old encoder.new }
     ensures cause { IfErr result (IsCause E.refuses encoder.new) }
 {
@@ -59,11 +59,11 @@ pub fn encode_definition<E: ValtypeEncoder>(
     requires same { (E.setting encoder.old).types ≡ resolve.now.types }
     requires present { id.index < length resolve.now.types }
     requires defined { IsDefinedHere (E.setting encoder.old) (kind_at resolve.now.types id.index) }
-    requires faithful { Faithful (E.setting encoder.old) (E.scope encoder.old) (E.names encoder.old) (E.maps encoder.old) }
+    requires faithful { Faithful (E.setting encoder.old) (E.scope encoder.old) (E.names encoder.old) (E.offers encoder.old) (E.maps encoder.old) }
     ensures denotes { IfOk result (λ index. Denotes (E.scope encoder.new) index (OfValues (wit_tree (E.setting encoder.old).origin resolve.now.types (Some (Id id))))) }
     ensures grows { Longer (E.scope encoder.old) (E.scope encoder.new) }
     ensures setting { E.setting encoder.new ≡ E.setting encoder.old }
-    ensures faithful { Faithful (E.setting encoder.new) (E.scope encoder.new) (E.names encoder.new) (E.maps encoder.new) }
+    ensures faithful { Faithful (E.setting encoder.new) (E.scope encoder.new) (E.names encoder.new) (E.offers encoder.new) (E.maps encoder.new) }
     ensures follows { E.follows encoder.old encoder.new }
     ensures cause { IfErr result (IsCause E.refuses encoder.new) }
 {
@@ -76,13 +76,13 @@ pub fn record_type_index<E: ValtypeEncoder>(
     id: TypeId,
     index: u32,
 ) -> Result<(), AllocError>
-    requires faithful { Faithful (E.setting encoder.old) (E.scope encoder.old) (E.names encoder.old) (E.maps encoder.old) }
+    requires faithful { Faithful (E.setting encoder.old) (E.scope encoder.old) (E.names encoder.old) (E.offers encoder.old) (E.maps encoder.old) }
     requires denotes { Denotes (E.scope encoder.old) index (OfValues (wit_tree (E.setting encoder.old).origin (E.setting encoder.old).types (Some (Id id)))) }
     requires named { IsNamed (E.setting encoder.old) (E.names encoder.old) id index }
     ensures recorded { OnOk result (HasIndex (E.maps encoder.new) id) }
     ensures scope { E.scope encoder.new ≡ E.scope encoder.old }
     ensures setting { E.setting encoder.new ≡ E.setting encoder.old }
-    ensures faithful { Faithful (E.setting encoder.new) (E.scope encoder.new) (E.names encoder.new) (E.maps encoder.new) }
+    ensures faithful { Faithful (E.setting encoder.new) (E.scope encoder.new) (E.names encoder.new) (E.offers encoder.new) (E.maps encoder.new) }
     ensures follows { E.follows encoder.old encoder.new }
 {
     record_type(encoder, id, index)
@@ -99,11 +99,11 @@ pub fn encode_func_type<E: ValtypeEncoder>(
     requires same { (E.setting encoder.old).types ≡ resolve.now.types }
     requires present { HasFunction resolve.now function.now }
     requires allowed { IsTrue (allows_function (E.setting encoder.old) function.now) }
-    requires faithful { Faithful (E.setting encoder.old) (E.scope encoder.old) (E.names encoder.old) (E.maps encoder.old) }
+    requires faithful { Faithful (E.setting encoder.old) (E.scope encoder.old) (E.names encoder.old) (E.offers encoder.old) (E.maps encoder.old) }
     ensures denotes { IfOk result (λ index. Denotes (E.scope encoder.new) index (OfFunctions (wit_function_tree (E.setting encoder.old).origin resolve.now.types function.now))) }
     ensures grows { Longer (E.scope encoder.old) (E.scope encoder.new) }
     ensures setting { E.setting encoder.new ≡ E.setting encoder.old }
-    ensures faithful { Faithful (E.setting encoder.new) (E.scope encoder.new) (E.names encoder.new) (E.maps encoder.new) }
+    ensures faithful { Faithful (E.setting encoder.new) (E.scope encoder.new) (E.names encoder.new) (E.offers encoder.new) (E.maps encoder.new) }
     ensures follows { E.follows encoder.old encoder.new }
     ensures cause { IfErr result (IsCause E.refuses encoder.new) }
 {
@@ -112,11 +112,11 @@ pub fn encode_func_type<E: ValtypeEncoder>(
 
 /// The index of a new type of streams that carry nothing.
 pub fn encode_unit_stream<E: ValtypeEncoder>(encoder: &mut E) -> Result<u32, BuildFault>
-    requires faithful { Faithful (E.setting encoder.old) (E.scope encoder.old) (E.names encoder.old) (E.maps encoder.old) }
+    requires faithful { Faithful (E.setting encoder.old) (E.scope encoder.old) (E.names encoder.old) (E.offers encoder.old) (E.maps encoder.old) }
     ensures denotes { IfOk result (λ index. Denotes (E.scope encoder.new) index (OfValues (StreamOf Absent))) }
     ensures grows { Longer (E.scope encoder.old) (E.scope encoder.new) }
     ensures setting { E.setting encoder.new ≡ E.setting encoder.old }
-    ensures faithful { Faithful (E.setting encoder.new) (E.scope encoder.new) (E.names encoder.new) (E.maps encoder.new) }
+    ensures faithful { Faithful (E.setting encoder.new) (E.scope encoder.new) (E.names encoder.new) (E.offers encoder.new) (E.maps encoder.new) }
     ensures follows { E.follows encoder.old encoder.new }
     ensures cause { IfErr result (IsCause E.refuses encoder.new) }
 {
@@ -125,11 +125,11 @@ pub fn encode_unit_stream<E: ValtypeEncoder>(encoder: &mut E) -> Result<u32, Bui
 
 /// The index of a new type of futures that carry nothing.
 pub fn encode_unit_future<E: ValtypeEncoder>(encoder: &mut E) -> Result<u32, BuildFault>
-    requires faithful { Faithful (E.setting encoder.old) (E.scope encoder.old) (E.names encoder.old) (E.maps encoder.old) }
+    requires faithful { Faithful (E.setting encoder.old) (E.scope encoder.old) (E.names encoder.old) (E.offers encoder.old) (E.maps encoder.old) }
     ensures denotes { IfOk result (λ index. Denotes (E.scope encoder.new) index (OfValues (FutureOf Absent))) }
     ensures grows { Longer (E.scope encoder.old) (E.scope encoder.new) }
     ensures setting { E.setting encoder.new ≡ E.setting encoder.old }
-    ensures faithful { Faithful (E.setting encoder.new) (E.scope encoder.new) (E.names encoder.new) (E.maps encoder.new) }
+    ensures faithful { Faithful (E.setting encoder.new) (E.scope encoder.new) (E.names encoder.new) (E.offers encoder.new) (E.maps encoder.new) }
     ensures follows { E.follows encoder.old encoder.new }
     ensures cause { IfErr result (IsCause E.refuses encoder.new) }
 {

@@ -37,6 +37,9 @@ pub trait ValtypeEncoder {
     /// Which index a name has: that of the export, or that of the type in a scope that doesn't export it.
     ghost names: { Self → List ℕ → ℕ → Type 0 };
 
+    /// What is known of that from which types of other interfaces are imported.
+    ghost offers: { Self → Type 0 };
+
     /// The counts for which a call may refuse, and leave the scope so.
     ghost refuses: { Self → ℕ → Type 0 };
 
@@ -45,6 +48,8 @@ pub trait ValtypeEncoder {
     ghost follows_on: { (a b c : Self) → follows a b → follows b c → follows a c };
 
     ghost names_kept: { (a b : Self) → follows a b → (name : List ℕ) → (index : ℕ) → names a name index → names b name index };
+
+    ghost offers_kept: { (a b : Self) → follows a b → offers a → offers b };
 
     ghost follows_maps: { (e : Self) → (m : TypeEncodingMaps) → follows e (with_maps e m) };
 
@@ -98,7 +103,8 @@ pub trait ValtypeEncoder {
 
     /// Imports a type of another interface.
     fn import_type(&mut self, interface: InterfaceId, id: TypeId) -> Result<u32, BuildFault>
-        requires { IsTrue ((setting self.old).may_import interface id) }
+        requires may { IsTrue ((setting self.old).may_import interface id) }
+        requires offers { offers self.old }
         ensures makes { Makes (scope self.old) (scope self.new) result (OfValues (tree_in (setting self.old) (Some (Id id)))) }
         ensures setting { setting self.new ≡ setting self.old }
         ensures maps { maps self.new ≡ maps self.old }

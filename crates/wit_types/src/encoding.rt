@@ -32,7 +32,7 @@ pub(crate) fn encode_type<E: ValtypeEncoder>(
 ) -> Result<ComponentValType, BuildFault>
     requires back { RefersBack types.now }
     requires same { (E.setting encoder.old).types ≡ types.now }
-    requires faithful { Faithful (E.setting encoder.old) (E.scope encoder.old) (E.names encoder.old) (E.maps encoder.old) }
+    requires faithful { Faithful (E.setting encoder.old) (E.scope encoder.old) (E.names encoder.old) (E.offers encoder.old) (E.maps encoder.old) }
     requires present { IsBelow (length types.now) (Some ty) }
     requires allowed { IsTrue (is_allowed (E.setting encoder.old) (Some ty)) }
     ensures value { IfOk result (λ v. ValueDenotes (E.scope encoder.new) v (tree_in (E.setting encoder.old) (Some ty))) }
@@ -40,7 +40,7 @@ pub(crate) fn encode_type<E: ValtypeEncoder>(
     ensures named { IfOk result (λ v. IsNamedValue (E.setting encoder.old) (E.names encoder.new) ty v) }
     ensures grows { Longer (E.scope encoder.old) (E.scope encoder.new) }
     ensures setting { E.setting encoder.new ≡ E.setting encoder.old }
-    ensures faithful { Faithful (E.setting encoder.new) (E.scope encoder.new) (E.names encoder.new) (E.maps encoder.new) }
+    ensures faithful { Faithful (E.setting encoder.new) (E.scope encoder.new) (E.names encoder.new) (E.offers encoder.new) (E.maps encoder.new) }
     ensures follows { E.follows encoder.old encoder.new }
     ensures cause { IfErr result (IsCause E.refuses encoder.new) }
 {
@@ -60,7 +60,7 @@ fn encode_id<E: ValtypeEncoder>(
 ) -> Result<ComponentValType, BuildFault>
     requires back { RefersBack types.now }
     requires same { (E.setting encoder.old).types ≡ types.now }
-    requires faithful { Faithful (E.setting encoder.old) (E.scope encoder.old) (E.names encoder.old) (E.maps encoder.old) }
+    requires faithful { Faithful (E.setting encoder.old) (E.scope encoder.old) (E.names encoder.old) (E.offers encoder.old) (E.maps encoder.old) }
     requires present { id.index < length types.now }
     requires allowed { IsTrue (is_allowed (E.setting encoder.old) (Some (Id id))) }
     ensures value { IfOk result (λ v. ValueDenotes (E.scope encoder.new) v (tree_in (E.setting encoder.old) (Some (Id id)))) }
@@ -68,7 +68,7 @@ fn encode_id<E: ValtypeEncoder>(
     ensures named { IfOk result (λ v. IsNamedValue (E.setting encoder.old) (E.names encoder.new) (Id id) v) }
     ensures grows { Longer (E.scope encoder.old) (E.scope encoder.new) }
     ensures setting { E.setting encoder.new ≡ E.setting encoder.old }
-    ensures faithful { Faithful (E.setting encoder.new) (E.scope encoder.new) (E.names encoder.new) (E.maps encoder.new) }
+    ensures faithful { Faithful (E.setting encoder.new) (E.scope encoder.new) (E.names encoder.new) (E.offers encoder.new) (E.maps encoder.new) }
     ensures follows { E.follows encoder.old encoder.new }
     ensures cause { IfErr result (IsCause E.refuses encoder.new) }
 {
@@ -89,13 +89,13 @@ fn encode_parts<E: ValtypeEncoder>(
 ) -> Result<Vec<Option<ComponentValType>>, BuildFault>
     requires back { RefersBack types.now }
     requires same { (E.setting encoder.old).types ≡ types.now }
-    requires faithful { Faithful (E.setting encoder.old) (E.scope encoder.old) (E.names encoder.old) (E.maps encoder.old) }
+    requires faithful { Faithful (E.setting encoder.old) (E.scope encoder.old) (E.names encoder.old) (E.offers encoder.old) (E.maps encoder.old) }
     requires present { id.index < length types.now }
     requires defined { IsDefinedHere (E.setting encoder.old) (kind_at types.now id.index) }
     ensures parts { IfOk result (λ given. PartsDenote (E.setting encoder.old) (E.scope encoder.new) given.items (kind_at types.now id.index)) }
     ensures grows { Longer (E.scope encoder.old) (E.scope encoder.new) }
     ensures setting { E.setting encoder.new ≡ E.setting encoder.old }
-    ensures faithful { Faithful (E.setting encoder.new) (E.scope encoder.new) (E.names encoder.new) (E.maps encoder.new) }
+    ensures faithful { Faithful (E.setting encoder.new) (E.scope encoder.new) (E.names encoder.new) (E.offers encoder.new) (E.maps encoder.new) }
     ensures follows { E.follows encoder.old encoder.new }
     ensures cause { IfErr result (IsCause E.refuses encoder.new) }
 {
@@ -117,14 +117,14 @@ fn encode_part<E: ValtypeEncoder>(
 ) -> Result<Option<ComponentValType>, BuildFault>
     requires back { RefersBack types.now }
     requires same { (E.setting encoder.old).types ≡ types.now }
-    requires faithful { Faithful (E.setting encoder.old) (E.scope encoder.old) (E.names encoder.old) (E.maps encoder.old) }
+    requires faithful { Faithful (E.setting encoder.old) (E.scope encoder.old) (E.names encoder.old) (E.offers encoder.old) (E.maps encoder.old) }
     requires present { id.index < length types.now }
     requires index { n < length (parts (kind_at types.now id.index)) }
     requires defined { IsDefinedHere (E.setting encoder.old) (kind_at types.now id.index) }
     ensures part { IfOk result (λ v. PartDenotes (E.setting encoder.old) (E.scope encoder.new) v (get_or (parts (kind_at types.now id.index)) n None)) }
     ensures grows { Longer (E.scope encoder.old) (E.scope encoder.new) }
     ensures setting { E.setting encoder.new ≡ E.setting encoder.old }
-    ensures faithful { Faithful (E.setting encoder.new) (E.scope encoder.new) (E.names encoder.new) (E.maps encoder.new) }
+    ensures faithful { Faithful (E.setting encoder.new) (E.scope encoder.new) (E.names encoder.new) (E.offers encoder.new) (E.maps encoder.new) }
     ensures follows { E.follows encoder.old encoder.new }
     ensures cause { IfErr result (IsCause E.refuses encoder.new) }
 {
@@ -144,7 +144,7 @@ fn make_type<E: ValtypeEncoder>(
 ) -> Result<ComponentValType, BuildFault>
     requires back { RefersBack types.now }
     requires same { (E.setting encoder.old).types ≡ types.now }
-    requires faithful { Faithful (E.setting encoder.old) (E.scope encoder.old) (E.names encoder.old) (E.maps encoder.old) }
+    requires faithful { Faithful (E.setting encoder.old) (E.scope encoder.old) (E.names encoder.old) (E.offers encoder.old) (E.maps encoder.old) }
     requires present { id.index < length types.now }
     requires own { (E.setting encoder.old).may_own id.index ≡ true }
     requires defined { IsDefinedHere (E.setting encoder.old) (kind_at types.now id.index) }
@@ -154,7 +154,7 @@ fn make_type<E: ValtypeEncoder>(
     ensures named { IfOk result (λ v. IsNamedValue (E.setting encoder.old) (E.names encoder.new) (Id id) v) }
     ensures grows { Longer (E.scope encoder.old) (E.scope encoder.new) }
     ensures setting { E.setting encoder.new ≡ E.setting encoder.old }
-    ensures faithful { Faithful (E.setting encoder.new) (E.scope encoder.new) (E.names encoder.new) (E.maps encoder.new) }
+    ensures faithful { Faithful (E.setting encoder.new) (E.scope encoder.new) (E.names encoder.new) (E.offers encoder.new) (E.maps encoder.new) }
     ensures follows { E.follows encoder.old encoder.new }
     ensures cause { IfErr result (IsCause E.refuses encoder.new) }
 {
@@ -172,13 +172,13 @@ pub(crate) fn define_unnamed<E: ValtypeEncoder>(
 ) -> Result<u32, BuildFault>
     requires back { RefersBack types.now }
     requires same { (E.setting encoder.old).types ≡ types.now }
-    requires faithful { Faithful (E.setting encoder.old) (E.scope encoder.old) (E.names encoder.old) (E.maps encoder.old) }
+    requires faithful { Faithful (E.setting encoder.old) (E.scope encoder.old) (E.names encoder.old) (E.offers encoder.old) (E.maps encoder.old) }
     requires present { id.index < length types.now }
     requires defined { IsDefinedHere (E.setting encoder.old) (kind_at types.now id.index) }
     ensures denotes { IfOk result (λ index. Denotes (E.scope encoder.new) index (OfValues (tree_in (E.setting encoder.old) (Some (Id id))))) }
     ensures grows { Longer (E.scope encoder.old) (E.scope encoder.new) }
     ensures setting { E.setting encoder.new ≡ E.setting encoder.old }
-    ensures faithful { Faithful (E.setting encoder.new) (E.scope encoder.new) (E.names encoder.new) (E.maps encoder.new) }
+    ensures faithful { Faithful (E.setting encoder.new) (E.scope encoder.new) (E.names encoder.new) (E.offers encoder.new) (E.maps encoder.new) }
     ensures follows { E.follows encoder.old encoder.new }
     ensures cause { IfErr result (IsCause E.refuses encoder.new) }
 {
@@ -196,14 +196,14 @@ fn define_index<E: ValtypeEncoder>(
 ) -> Result<u32, BuildFault>
     requires back { RefersBack types.now }
     requires same { (E.setting encoder.old).types ≡ types.now }
-    requires faithful { Faithful (E.setting encoder.old) (E.scope encoder.old) (E.names encoder.old) (E.maps encoder.old) }
+    requires faithful { Faithful (E.setting encoder.old) (E.scope encoder.old) (E.names encoder.old) (E.offers encoder.old) (E.maps encoder.old) }
     requires present { id.index < length types.now }
     requires defined { IsDefinedHere (E.setting encoder.old) (kind_at types.now id.index) }
     requires parts { PartsDenote (E.setting encoder.old) (E.scope encoder.old) given.items (kind_at types.now id.index) }
     ensures denotes { IfOk result (λ index. Denotes (E.scope encoder.new) index (OfValues (tree_in (E.setting encoder.old) (Some (Id id))))) }
     ensures grows { Longer (E.scope encoder.old) (E.scope encoder.new) }
     ensures setting { E.setting encoder.new ≡ E.setting encoder.old }
-    ensures faithful { Faithful (E.setting encoder.new) (E.scope encoder.new) (E.names encoder.new) (E.maps encoder.new) }
+    ensures faithful { Faithful (E.setting encoder.new) (E.scope encoder.new) (E.names encoder.new) (E.offers encoder.new) (E.maps encoder.new) }
     ensures follows { E.follows encoder.old encoder.new }
     ensures cause { IfErr result (IsCause E.refuses encoder.new) }
 {

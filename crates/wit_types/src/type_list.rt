@@ -104,6 +104,8 @@ impl<'a> ValtypeEncoder for TypeList<'a> {
 
     ghost names = { λ l name index. IsExported l.listed name index };
 
+    ghost offers = { λ l. Unit {0} };
+
     ghost refuses = { λ l count. is_full l.listed count };
 
     ghost follows_itself = { λ l. list_same l.listed };
@@ -111,6 +113,8 @@ impl<'a> ValtypeEncoder for TypeList<'a> {
     ghost follows_on = { λ a b c g h. list_on a.listed b.listed c.listed g h };
 
     ghost names_kept = { λ a b g name index h. exported_on a.listed b.listed g name index h };
+
+    ghost offers_kept = { λ a b g known. known };
 
     ghost follows_maps = { λ l m. list_same l.listed };
 

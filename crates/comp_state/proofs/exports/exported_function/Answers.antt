@@ -4,7 +4,7 @@ use Rattle.std.specs.Map.{lookup}
 use Rattle.wit_data.specs.Keys.{is_same_key}
 use Rattle.wit_data.specs.declared.worlds.World.{World}
 use Rattle.world_values.specs.Items.{function_in}
-use Rattle.comp_state.proofs.Exporting.{function_there, function_sound}
+use Rattle.comp_state.proofs.Exporting.{function_exported, function_there, function_sound}
 use Rattle.comp_state.proofs.exports.exported_function.Goals as goal
 
 pub as_function-requires : goal.as_function-requires
@@ -14,4 +14,9 @@ as_function-requires c =
 pub returns-clause-sound : goal.returns-clause-sound
 returns-clause-sound c =
     function_sound c.args.world.now c.requires.valid c.args.key.now c.requires.present c.as_function.result.now
+    (ap (option_and_then function_in) (sym (c.get.ensures ∙ ap (λ (w : World). lookup (is_same_key c.args.key.now) w.exports) c.items.ensures)) ∙ c.as_function.ensures)
+
+pub returns-clause-exported : goal.returns-clause-exported
+returns-clause-exported c =
+    function_exported c.args.world.now c.requires.valid c.args.key.now c.requires.present c.as_function.result.now
     (ap (option_and_then function_in) (sym (c.get.ensures ∙ ap (λ (w : World). lookup (is_same_key c.args.key.now) w.exports) c.items.ensures)) ∙ c.as_function.ensures)

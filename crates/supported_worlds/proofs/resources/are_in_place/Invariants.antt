@@ -1,7 +1,7 @@
 use Rattle.std.proofs.Common.{◌≤◌, length}
 use Rattle.std.specs.List.{AllByRecursion}
 use Rattle.wit_data.specs.Sound.{HasEntry}
-use Rattle.supported_worlds.proofs.Places.{StillInPlace}
+use Rattle.supported_worlds.proofs.InPlace.{StillInPlace}
 use Rattle.supported_worlds.proofs.resources.are_in_place.Given as goal
 
 abbrev pub invariant-loop-key : goal.invariant-loop-key

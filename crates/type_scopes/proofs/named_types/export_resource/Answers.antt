@@ -49,5 +49,5 @@ pub returns-clause-right : goal.returns-clause-right
 returns-clause-right g c =
     let s = g.P.Placement.surroundings in
     let r = c.record_type_index.new.encoder in
-    subst (λ (q : Setting). Faithful q (member_trees s [] r.members) any_index r.maps)
+    subst (λ (q : Setting). Faithful q (member_trees s [] r.members) any_index (Unit {0}) r.maps)
     (c.in_ok-record_type_index.ensures.setting ∙ ap (λ x. placed s g.P.Placement.origin x.outer x.interface x.passed.now) c.in_ok-index.ensures.added) c.in_ok-record_type_index.ensures.faithful

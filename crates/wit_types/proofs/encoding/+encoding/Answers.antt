@@ -38,3 +38,12 @@ encode_parts-loop-n-preserved g t c =
       faithful = e.faithful;
       follows = g.E.ValtypeEncoder.follows_on _ _ _ i.follows e.follows;
     }
+
+pub encode_id-returns-in_err-given-clause-follows : goal.encode_id-returns-in_err-given-clause-follows
+encode_id-returns-in_err-given-clause-follows g t c = g.E.ValtypeEncoder.follows_on _ _ _ c.in_ok-index.ensures.follows c.encode_parts.ensures.follows
+
+pub encode_parts-returns-in_err-encode_part-clause-follows : goal.encode_parts-returns-in_err-encode_part-clause-follows
+encode_parts-returns-in_err-encode_part-clause-follows g t c = g.E.ValtypeEncoder.follows_on _ _ _ c.loop-n.invariant.follows c.encode_part.ensures.follows
+
+pub encode_parts-returns-in_err-push-clause-follows : goal.encode_parts-returns-in_err-push-clause-follows
+encode_parts-returns-in_err-push-clause-follows g t c = g.E.ValtypeEncoder.follows_on _ _ _ c.loop-n.invariant.follows c.in_ok-encode_part.ensures.follows

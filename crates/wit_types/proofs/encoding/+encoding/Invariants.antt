@@ -27,6 +27,6 @@ invariant-encode_parts-loop-n g l =
       defined : IsDefinedHere (g.E.ValtypeEncoder.setting l.encoder) (kind_at l.types l.id.index);
       grows : Longer (g.E.ValtypeEncoder.scope l.fn.encoder) (g.E.ValtypeEncoder.scope l.encoder);
       setting : g.E.ValtypeEncoder.setting l.encoder ≡ g.E.ValtypeEncoder.setting l.fn.encoder;
-      faithful : Faithful (g.E.ValtypeEncoder.setting l.encoder) (g.E.ValtypeEncoder.scope l.encoder) (g.E.ValtypeEncoder.names l.encoder) (g.E.ValtypeEncoder.maps l.encoder);
+      faithful : Faithful (g.E.ValtypeEncoder.setting l.encoder) (g.E.ValtypeEncoder.scope l.encoder) (g.E.ValtypeEncoder.names l.encoder) (g.E.ValtypeEncoder.offers l.encoder) (g.E.ValtypeEncoder.maps l.encoder);
       follows : g.E.ValtypeEncoder.follows l.fn.encoder l.encoder;
     }

@@ -24,3 +24,6 @@ pub record_type-requires-clause-named : goal.record_type-requires-clause-named
 record_type-requires-clause-named g c =
     named_none _ c.args.types.now _ c.args.id c.in-Some.index (ap (λ (s : Setting). s.types) c.met_kind.ensures.setting ∙ c.requires.same)
     (no_name (name_at c.args.types.now c.args.id.index) (sym c.has_name.ensures ∙ c.if-has_name.false))
+
+pub returns-in_ok-record_type-in-Some-clause-follows : goal.returns-in_ok-record_type-in-Some-clause-follows
+returns-in_ok-record_type-in-Some-clause-follows g c = g.E.ValtypeEncoder.follows_on _ _ _ c.met_kind.ensures.follows c.record_type.ensures.follows

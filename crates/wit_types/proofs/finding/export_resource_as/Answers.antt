@@ -14,10 +14,10 @@ export_resource-requires-clause-named g c =
     names_resource (g.E.ValtypeEncoder.setting c.args.encoder.now) c.args.types.now c.args.id c.args.name c.requires.same c.requires.back c.requires.present c.requires.resource c.requires.title c.requires.own c.requires.named
 
 pub returns-in_err-index-clause-faithful : goal.returns-in_err-index-clause-faithful
-returns-in_err-index-clause-faithful g c = faithful_after _ _ _ _ _ _ _ _ c.requires.faithful c.in_err-index.ensures.makes c.in_err-index.ensures.setting c.in_err-index.ensures.maps (g.E.ValtypeEncoder.names_kept _ _ c.in_err-index.ensures.follows)
+returns-in_err-index-clause-faithful g c = faithful_after _ _ _ _ _ _ _ _ _ _ c.requires.faithful c.in_err-index.ensures.makes c.in_err-index.ensures.setting c.in_err-index.ensures.maps (g.E.ValtypeEncoder.names_kept _ _ c.in_err-index.ensures.follows) (g.E.ValtypeEncoder.offers_kept _ _ c.in_err-index.ensures.follows)
 
 pub record_type-requires-clause-faithful : goal.record_type-requires-clause-faithful
-record_type-requires-clause-faithful g c = faithful_after _ _ _ _ _ _ _ _ c.requires.faithful c.in_ok-index.ensures.makes.0 c.in_ok-index.ensures.setting c.in_ok-index.ensures.maps (g.E.ValtypeEncoder.names_kept _ _ c.in_ok-index.ensures.follows)
+record_type-requires-clause-faithful g c = faithful_after _ _ _ _ _ _ _ _ _ _ c.requires.faithful c.in_ok-index.ensures.makes.0 c.in_ok-index.ensures.setting c.in_ok-index.ensures.maps (g.E.ValtypeEncoder.names_kept _ _ c.in_ok-index.ensures.follows) (g.E.ValtypeEncoder.offers_kept _ _ c.in_ok-index.ensures.follows)
 
 pub record_type-requires-clause-denotes : goal.record_type-requires-clause-denotes
 record_type-requires-clause-denotes g c =

@@ -11,3 +11,6 @@ pub returns-clause-follows : goal.returns-clause-follows
 returns-clause-follows g c =
     g.E.ValtypeEncoder.follows_on _ _ _ c.in_ok-params.ensures.follows
     (g.E.ValtypeEncoder.follows_on _ _ _ c.in_ok-returned.ensures.follows c.define_made.ensures.follows)
+
+pub returns-in_err-returned-clause-follows : goal.returns-in_err-returned-clause-follows
+returns-in_err-returned-clause-follows g c = g.E.ValtypeEncoder.follows_on _ _ _ c.in_ok-params.ensures.follows c.encode_payload.ensures.follows

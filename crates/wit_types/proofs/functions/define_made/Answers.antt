@@ -16,7 +16,7 @@ define_function_type-requires-clause-known g c =
     ∙ key_known (g.E.ValtypeEncoder.setting c.args.encoder.now) c.args.key.now
 
 pub returns-clause-faithful : goal.returns-clause-faithful
-returns-clause-faithful g c = faithful_then _ _ _ _ _ _ _ _ c.define_function_type.result _ c.requires.faithful c.define_function_type.ensures.makes c.define_function_type.ensures.setting c.define_function_type.ensures.maps (g.E.ValtypeEncoder.names_kept _ _ c.define_function_type.ensures.follows)
+returns-clause-faithful g c = faithful_then _ _ _ _ _ _ _ _ _ _ c.define_function_type.result _ c.requires.faithful c.define_function_type.ensures.makes c.define_function_type.ensures.setting c.define_function_type.ensures.maps (g.E.ValtypeEncoder.names_kept _ _ c.define_function_type.ensures.follows) (g.E.ValtypeEncoder.offers_kept _ _ c.define_function_type.ensures.follows)
 
 pub returns-clause-denotes : goal.returns-clause-denotes
 returns-clause-denotes g c =

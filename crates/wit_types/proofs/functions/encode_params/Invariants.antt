@@ -14,6 +14,6 @@ invariant-loop-n g l =
       params : AllByRecursion (λ p. MayEncode (g.E.ValtypeEncoder.setting l.encoder) l.types (Some p.ty)) l.params;
       grows : Longer (g.E.ValtypeEncoder.scope l.fn.encoder) (g.E.ValtypeEncoder.scope l.encoder);
       setting : g.E.ValtypeEncoder.setting l.encoder ≡ g.E.ValtypeEncoder.setting l.fn.encoder;
-      faithful : Faithful (g.E.ValtypeEncoder.setting l.encoder) (g.E.ValtypeEncoder.scope l.encoder) (g.E.ValtypeEncoder.names l.encoder) (g.E.ValtypeEncoder.maps l.encoder);
+      faithful : Faithful (g.E.ValtypeEncoder.setting l.encoder) (g.E.ValtypeEncoder.scope l.encoder) (g.E.ValtypeEncoder.names l.encoder) (g.E.ValtypeEncoder.offers l.encoder) (g.E.ValtypeEncoder.maps l.encoder);
       follows : g.E.ValtypeEncoder.follows l.fn.encoder l.encoder;
     }

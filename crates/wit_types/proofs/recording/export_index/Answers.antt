@@ -4,13 +4,13 @@ use Rattle.wit_types.proofs.Growing.{faithful_maybe, named_by}
 use Rattle.wit_types.proofs.recording.export_index.Goals as goal
 
 pub returns-in_err-exported-clause-faithful : goal.returns-in_err-exported-clause-faithful
-returns-in_err-exported-clause-faithful g c = faithful_maybe _ _ _ _ _ _ _ _ c.export_type.result _ c.requires.faithful c.export_type.ensures.makes c.export_type.ensures.setting c.export_type.ensures.maps (g.E.ValtypeEncoder.names_kept _ _ c.export_type.ensures.follows)
+returns-in_err-exported-clause-faithful g c = faithful_maybe _ _ _ _ _ _ _ _ _ _ c.export_type.result _ c.requires.faithful c.export_type.ensures.makes c.export_type.ensures.setting c.export_type.ensures.maps (g.E.ValtypeEncoder.names_kept _ _ c.export_type.ensures.follows) (g.E.ValtypeEncoder.offers_kept _ _ c.export_type.ensures.follows)
 
 pub returns-in-Some-clause-faithful : goal.returns-in-Some-clause-faithful
-returns-in-Some-clause-faithful g c = faithful_maybe _ _ _ _ _ _ _ _ c.export_type.result _ c.requires.faithful c.export_type.ensures.makes c.export_type.ensures.setting c.export_type.ensures.maps (g.E.ValtypeEncoder.names_kept _ _ c.export_type.ensures.follows)
+returns-in-Some-clause-faithful g c = faithful_maybe _ _ _ _ _ _ _ _ _ _ c.export_type.result _ c.requires.faithful c.export_type.ensures.makes c.export_type.ensures.setting c.export_type.ensures.maps (g.E.ValtypeEncoder.names_kept _ _ c.export_type.ensures.follows) (g.E.ValtypeEncoder.offers_kept _ _ c.export_type.ensures.follows)
 
 pub returns-in-None-clause-faithful : goal.returns-in-None-clause-faithful
-returns-in-None-clause-faithful g c = faithful_maybe _ _ _ _ _ _ _ _ c.export_type.result _ c.requires.faithful c.export_type.ensures.makes c.export_type.ensures.setting c.export_type.ensures.maps (g.E.ValtypeEncoder.names_kept _ _ c.export_type.ensures.follows)
+returns-in-None-clause-faithful g c = faithful_maybe _ _ _ _ _ _ _ _ _ _ c.export_type.result _ c.requires.faithful c.export_type.ensures.makes c.export_type.ensures.setting c.export_type.ensures.maps (g.E.ValtypeEncoder.names_kept _ _ c.export_type.ensures.follows) (g.E.ValtypeEncoder.offers_kept _ _ c.export_type.ensures.follows)
 
 pub returns-in-Some-clause-named : goal.returns-in-Some-clause-named
 returns-in-Some-clause-named g c =

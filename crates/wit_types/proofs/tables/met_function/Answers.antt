@@ -14,5 +14,5 @@ pub returns-clause-faithful : goal.returns-clause-faithful
 returns-clause-faithful g c =
     let e = c.args.encoder.now in
     let m = c.type_encoding_maps.result.now in
-    faithful_as _ _ _ _ _ _ _ _ c.requires.faithful (g.E.ValtypeEncoder.setting_kept e m) (g.E.ValtypeEncoder.scope_kept e m)
-    (g.E.ValtypeEncoder.names_kept _ _ (g.E.ValtypeEncoder.follows_maps e m)) (g.E.ValtypeEncoder.maps_given e m ∙ c.type_encoding_maps.ensures.now)
+    faithful_as _ _ _ _ _ _ _ _ _ _ c.requires.faithful (g.E.ValtypeEncoder.setting_kept e m) (g.E.ValtypeEncoder.scope_kept e m)
+    (g.E.ValtypeEncoder.names_kept _ _ (g.E.ValtypeEncoder.follows_maps e m)) (g.E.ValtypeEncoder.offers_kept _ _ (g.E.ValtypeEncoder.follows_maps e m)) (g.E.ValtypeEncoder.maps_given e m ∙ c.type_encoding_maps.ensures.now)

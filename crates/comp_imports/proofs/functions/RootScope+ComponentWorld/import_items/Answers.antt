@@ -9,7 +9,7 @@ use Rattle.comp_imports.specs.RootScopes.{AreTablesRight, ArePassed}
 use Rattle.comp_imports.specs.Imports.{IsNextItem, FindsImports}
 use Rattle.wit_data.specs.declared.worlds.WorldKey.{WorldKey}
 use Rattle.wit_data.specs.declared.worlds.WorldItem.{WorldItem}
-use Rattle.comp_worlds.specs.Worlds.{items_of, root_function}
+use Rattle.comp_worlds.specs.WorldContents.{items_of, root_function}
 use Rattle.comp_imports.proofs.Importing.{ImportsSoFar, imports_start, imports_step, next_item, imports_found}
 use Rattle.comp_imports.proofs.functions.RootScope+ComponentWorld.import_items.Goals as goal
 
@@ -42,8 +42,8 @@ import_function_item-requires-clause-passed c =
 
 pub import_function_item-requires-clause-tables : goal.import_function_item-requires-clause-tables
 import_function_item-requires-clause-tables c =
-    subst (λ x. AreTablesRight x.now c.loop-key.self.last_type c.loop-key.self.items.defs c.loop-key.self.maps) (sym c.loop-key.invariant.2)
-    (subst (λ n. AreTablesRight c.args.self.now.world.now n c.loop-key.self.items.defs c.loop-key.self.maps) (sym c.loop-key.invariant.3) c.loop-key.invariant.4)
+    subst (λ x. AreTablesRight x.now c.loop-key.self.last_type c.loop-key.self.instances c.loop-key.self.items.defs c.loop-key.self.maps) (sym c.loop-key.invariant.2)
+    (subst (λ n. AreTablesRight c.args.self.now.world.now n c.loop-key.self.instances c.loop-key.self.items.defs c.loop-key.self.maps) (sym c.loop-key.invariant.3) c.loop-key.invariant.4)
 
 pub loop-key-preserved : goal.loop-key-preserved
 loop-key-preserved c =
@@ -59,7 +59,7 @@ loop-key-preserved c =
       tt,
       of.world ∙ same,
       of.next ∙ count,
-      subst (λ n. AreTablesRight c.args.self.now.world.now n new.items.defs new.maps) count (subst (λ x. AreTablesRight x.now c.loop-key.self.last_type new.items.defs new.maps) same of.tables),
+      subst (λ n. AreTablesRight c.args.self.now.world.now n new.instances new.items.defs new.maps) count (subst (λ x. AreTablesRight x.now c.loop-key.self.last_type new.instances new.items.defs new.maps) same of.tables),
       imports_step w c.args.self.now.items mid new.items c.loop-key.functions fs e c.next.new.self (subst (λ (es : List (WorldKey × WorldItem)). ImportsSoFar c.args.self.now.world.now c.args.self.now.items c.loop-key.self.items c.loop-key.functions es) c.in-Some.ensures.steps c.loop-key.invariant.5) of.extends (subst (λ x. Grows x.now mid.defs new.items.defs (names_marked x.now (root_function e))) same of.grows)
           (subst (λ x. FindsImports x.now new.items.defs fs) same of.imports) of.finds (subst (λ x. AllByRecursion (λ name. IsTrue (is_used x.now name) → IsSome (found name fs)) (root_function e)) same of.found),
       of.instances ∙ c.loop-key.invariant.6,

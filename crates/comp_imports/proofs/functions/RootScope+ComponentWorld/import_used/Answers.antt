@@ -1,4 +1,4 @@
-use Rattle.std.proofs.Common.{refl, IsTrue, None, rules}
+use Rattle.std.proofs.Common.{refl, inl, IsTrue, None, rules}
 use Rattle.comp_links.specs.Roles.{is_used}
 use Rattle.comp_terms.specs.Planned.{type_of_function}
 use Rattle.comp_terms.specs.Terms.{imports_in}
@@ -6,6 +6,12 @@ use Rattle.comp_items.proofs.Remembering.{longer}
 use Rattle.comp_imports.specs.Imports.{IsRootImport, FindsImports}
 use Rattle.comp_imports.proofs.Finding.{finds_imported, finds_more, finds_added, FindsImports-kept}
 use Rattle.comp_imports.proofs.functions.RootScope+ComponentWorld.import_used.Goals as goal
+
+pub import_function-requires-clause-needed : goal.import_function-requires-clause-needed
+import_function-requires-clause-needed c =
+    let w = c.args.self.now.world.now in
+    let used : IsTrue (is_used w c.args.name.now) = search rules in
+    inl (c.args.name.now, record { imported = c.requires.next.of; used = used })
 
 pub returns-clause-imports : goal.returns-clause-imports
 returns-clause-imports c =

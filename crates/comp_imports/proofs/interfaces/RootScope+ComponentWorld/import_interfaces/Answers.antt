@@ -4,13 +4,12 @@ use Rattle.wit_data.specs.declared.worlds.World.{World}
 use Rattle.wit_data.specs.declared.worlds.WorldItem.{WorldItem}
 use Rattle.wit_data.specs.declared.worlds.WorldKey.{WorldKey}
 use Rattle.comp_worlds.specs.Encodable.{IsEncodable}
-use Rattle.comp_worlds.specs.Worlds.{items_of}
-use Rattle.comp_links.specs.Naming.{own_names}
+use Rattle.comp_worlds.specs.WorldContents.{items_of}
 use Rattle.comp_links.specs.Lists.{interface_entry}
 use Rattle.comp_terms.specs.Rules.{Grows, import_marked}
-use Rattle.comp_imports.specs.RootScopes.{AreTablesRight}
+use Rattle.comp_imports.specs.Names.{naming_of}
 use Rattle.comp_imports.specs.Interfaces.{AreInterfaceUses, FindsInterfaces, IsFoundItem, IsNextInterfaceItem}
-use Rattle.comp_imports.proofs.InterfaceLoop.{InterfacesSoFar, interfaces_start, interfaces_step, interfaces_done, interfaces_found, next_interface}
+use Rattle.comp_imports.proofs.InterfaceLoop.{InterfacesSoFar, interfaces_start, interfaces_step, interfaces_done, interfaces_known, next_interface}
 use Rattle.comp_imports.proofs.interfaces.RootScope+ComponentWorld.import_interfaces.Goals as goal
 
 pub loop-key-init : goal.loop-key-init
@@ -23,8 +22,7 @@ loop-key-init c =
       tt,
       refl,
       refl,
-      c.requires.tables,
-      subst (λ (es : List (WorldKey × WorldItem)). InterfacesSoFar w old old c.new.result es) (sym items) (interfaces_start w old c.new.result c.new.ensures),
+      subst (λ (es : List (WorldKey × WorldItem)). InterfacesSoFar (naming_of c.args.names.now) w old old c.new.result es) (sym items) (interfaces_start (naming_of c.args.names.now) w old c.new.result c.new.ensures),
     )
 
 pub import_interface_item-requires-clause-valid : goal.import_interface_item-requires-clause-valid
@@ -35,16 +33,11 @@ import_interface_item-requires-clause-uses c = subst (λ r. AreInterfaceUses r.n
 
 pub import_interface_item-requires-clause-next : goal.import_interface_item-requires-clause-next
 import_interface_item-requires-clause-next c =
-    subst (λ r. IsNextInterfaceItem r.now c.loop-key.self.items.defs (c.in-Some.key.now, c.in-Some.item.now)) (sym c.loop-key.invariant.2)
-    (next_interface c.args.self.now.world.now c.args.self.now.items c.loop-key.self.items c.loop-key.self.instances (c.in-Some.key.now, c.in-Some.item.now) c.next.new.self c.requires.valid c.requires.first (subst (λ (es : List (WorldKey × WorldItem)). InterfacesSoFar c.args.self.now.world.now c.args.self.now.items c.loop-key.self.items c.loop-key.self.instances es) c.in-Some.ensures.steps c.loop-key.invariant.5))
-
-pub import_interface_item-requires-clause-tables : goal.import_interface_item-requires-clause-tables
-import_interface_item-requires-clause-tables c =
-    subst (λ r. AreTablesRight r.now c.loop-key.self.last_type c.loop-key.self.items.defs c.loop-key.self.maps) (sym c.loop-key.invariant.2)
-    (subst (λ n. AreTablesRight c.args.self.now.world.now n c.loop-key.self.items.defs c.loop-key.self.maps) (sym c.loop-key.invariant.3) c.loop-key.invariant.4)
+    subst (λ r. IsNextInterfaceItem r.now c.loop-key.self.items.defs c.loop-key.self.instances (c.in-Some.key.now, c.in-Some.item.now)) (sym c.loop-key.invariant.2)
+    (next_interface (naming_of c.args.names.now) c.args.self.now.world.now c.args.self.now.items c.loop-key.self.items c.loop-key.self.instances (c.in-Some.key.now, c.in-Some.item.now) c.next.new.self c.requires.valid c.requires.first (subst (λ (es : List (WorldKey × WorldItem)). InterfacesSoFar (naming_of c.args.names.now) c.args.self.now.world.now c.args.self.now.items c.loop-key.self.items c.loop-key.self.instances es) c.in-Some.ensures.steps c.loop-key.invariant.4))
 
 pub import_interface_item-requires-clause-finds : goal.import_interface_item-requires-clause-finds
-import_interface_item-requires-clause-finds c = subst (λ r. FindsInterfaces r.now c.loop-key.self.items.defs c.loop-key.self.instances) (sym c.loop-key.invariant.2) c.loop-key.invariant.5.finds
+import_interface_item-requires-clause-finds c = subst (λ r. FindsInterfaces r.now c.loop-key.self.items.defs c.loop-key.self.instances) (sym c.loop-key.invariant.2) c.loop-key.invariant.4.finds
 
 pub loop-key-preserved : goal.loop-key-preserved
 loop-key-preserved c =
@@ -59,13 +52,14 @@ loop-key-preserved c =
       tt,
       of.world ∙ same,
       of.next ∙ count,
-      subst (λ n. AreTablesRight w n new.items.defs new.maps) count (subst (λ r. AreTablesRight r.now mid.last_type new.items.defs new.maps) same of.tables),
-      interfaces_step w c.args.self.now.items mid.items new.items mid.instances new.instances e c.next.new.self (subst (λ (es : List (WorldKey × WorldItem)). InterfacesSoFar c.args.self.now.world.now c.args.self.now.items c.loop-key.self.items c.loop-key.self.instances es) c.in-Some.ensures.steps c.loop-key.invariant.5) of.extends (subst (λ r. Grows r.now mid.items.defs new.items.defs (flat_map (import_marked own_names r.now) (interface_entry r.now e))) same of.grows)
+      interfaces_step (naming_of c.args.names.now) w c.args.self.now.items mid.items new.items mid.instances new.instances e c.next.new.self (subst (λ (es : List (WorldKey × WorldItem)). InterfacesSoFar (naming_of c.args.names.now) c.args.self.now.world.now c.args.self.now.items c.loop-key.self.items c.loop-key.self.instances es) c.in-Some.ensures.steps c.loop-key.invariant.4) of.extends (subst (λ r. Grows r.now mid.items.defs new.items.defs (flat_map (import_marked (naming_of c.args.names.now) r.now) (interface_entry r.now e))) same of.grows)
           (subst (λ r. FindsInterfaces r.now new.items.defs new.instances) same of.finds) of.still (subst (λ r. IsFoundItem r.now new.instances e) same of.found),
     )
 
 pub returns-clause-grows : goal.returns-clause-grows
-returns-clause-grows c = interfaces_done c.args.self.now.world.now c.args.self.now.items c.loop-key.self.items c.loop-key.self.instances (subst (λ (es : List (WorldKey × WorldItem)). InterfacesSoFar c.args.self.now.world.now c.args.self.now.items c.loop-key.self.items c.loop-key.self.instances es) c.in-None.ensures.steps.0 c.loop-key.invariant.5)
+returns-clause-grows c = interfaces_done (naming_of c.args.names.now) c.args.self.now.world.now c.args.self.now.items c.loop-key.self.items c.loop-key.self.instances (subst (λ (es : List (WorldKey × WorldItem)). InterfacesSoFar (naming_of c.args.names.now) c.args.self.now.world.now c.args.self.now.items c.loop-key.self.items c.loop-key.self.instances es) c.in-None.ensures.steps.0 c.loop-key.invariant.4)
 
-pub returns-clause-found : goal.returns-clause-found
-returns-clause-found c = interfaces_found c.args.self.now.world.now c.args.self.now.items c.loop-key.self.items c.loop-key.self.instances (subst (λ (es : List (WorldKey × WorldItem)). InterfacesSoFar c.args.self.now.world.now c.args.self.now.items c.loop-key.self.items c.loop-key.self.instances es) c.in-None.ensures.steps.0 c.loop-key.invariant.5)
+pub returns-clause-known : goal.returns-clause-known
+returns-clause-known c =
+    interfaces_known (naming_of c.args.names.now) c.args.self.now.world.now c.args.self.now.items c.loop-key.self.items c.loop-key.self.instances
+    (subst (λ (es : List (WorldKey × WorldItem)). InterfacesSoFar (naming_of c.args.names.now) c.args.self.now.world.now c.args.self.now.items c.loop-key.self.items c.loop-key.self.instances es) c.in-None.ensures.steps.0 c.loop-key.invariant.4) c.requires.valid.tables

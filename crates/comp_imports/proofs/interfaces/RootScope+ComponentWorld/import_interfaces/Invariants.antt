@@ -1,5 +1,5 @@
 use Rattle.std.proofs.Common.{◌≡◌}
-use Rattle.comp_imports.specs.RootScopes.{AreTablesRight}
+use Rattle.comp_imports.specs.Names.{naming_of}
 use Rattle.comp_imports.proofs.InterfaceLoop.{InterfacesSoFar}
 use Rattle.comp_imports.proofs.interfaces.RootScope+ComponentWorld.import_interfaces.Given as goal
 
@@ -9,5 +9,4 @@ invariant-loop-key l =
     goal.iterator-loop-key.is_finite l.key-iterator ×
     (l.self.world ≡ l.fn.self.world) ×
     (l.self.last_type ≡ l.fn.self.last_type) ×
-    AreTablesRight l.fn.self.world.now l.fn.self.last_type l.self.items.defs l.self.maps ×
-    InterfacesSoFar l.fn.self.world.now l.fn.self.items l.self.items l.self.instances l.key-iterator
+    InterfacesSoFar (naming_of l.fn.names) l.fn.self.world.now l.fn.self.items l.self.items l.self.instances l.key-iterator

@@ -17,26 +17,26 @@ use Rattle.comp_terms.specs.Terms.{imports_in}
 use Rattle.comp_imports.specs.Growing.{Grows-by, Grows-then}
 use Rattle.comp_imports.proofs.Growth.{tables_kept}
 use Rattle.comp_imports.proofs.Naming.{by_name}
-use Rattle.comp_imports.proofs.Resources.{resource_numbered}
+use Rattle.comp_imports.proofs.Resources.{resource_numbered, at_root}
 use Rattle.comp_imports.proofs.world_types.RootScope+ComponentWorld.import_resource.Goals as goal
 
 pub returns-in_err-index-clause-tables : goal.returns-in_err-index-clause-tables
 returns-in_err-index-clause-tables c =
     let old = c.args.self.now in
     let g : Extends old.items c.import_resource.new.self = extends_adds old.items c.import_resource.new.self c.import_resource.result spaces.Type (defs.Item (items.Import c.args.name descriptions.SubResource)) None c.import_resource.ensures.adds in
-    tables_kept old.world.now old.last_type old.items c.import_resource.new.self old.maps g c.requires.tables
+    tables_kept old.world.now old.last_type old.instances old.items c.import_resource.new.self old.maps g c.requires.tables
 
 pub record_world_type-requires-clause-tables : goal.record_world_type-requires-clause-tables
 record_world_type-requires-clause-tables c =
     let old = c.args.self.now in
     let g : Extends old.items c.import_resource.new.self = extends_adds old.items c.import_resource.new.self c.import_resource.result spaces.Type (defs.Item (items.Import c.args.name descriptions.SubResource)) None c.import_resource.ensures.adds in
-    tables_kept old.world.now old.last_type old.items c.import_resource.new.self old.maps g c.requires.tables
+    tables_kept old.world.now old.last_type old.instances old.items c.import_resource.new.self old.maps g c.requires.tables
 
 pub record_world_type-requires-clause-denotes : goal.record_world_type-requires-clause-denotes
 record_world_type-requires-clause-denotes c =
     let w = c.args.self.now.world.now in
     subst (λ (t : TypeTree). Denotes (scope_of c.import_resource.new.self.defs) c.in_ok-index.index t)
-    (resource_numbered w c.requires.valid c.args.id (imports_in c.args.self.now.items.defs) c.requires.present c.requires.resource c.requires.next.number) c.in_ok-index.ensures.denotes
+    (resource_numbered w c.requires.valid c.args.id (imports_in c.args.self.now.items.defs) c.requires.present c.requires.resource (at_root c.args.self.now.world.now c.requires.valid c.args.name.name c.args.id c.requires.next.listed).own c.requires.next.number) c.in_ok-index.ensures.denotes
 
 pub returns-clause-grows : goal.returns-clause-grows
 returns-clause-grows c =
@@ -47,7 +47,7 @@ returns-clause-grows c =
     let type : ImportsType w old c.args.name.name (resource_here old) = record {
       id = c.args.id;
       stated = c.requires.next.stated;
-      same = resource_numbered w c.requires.valid c.args.id (imports_in old) c.requires.present c.requires.resource c.requires.next.number;
+      same = resource_numbered w c.requires.valid c.args.id (imports_in old) c.requires.present c.requires.resource (at_root c.args.self.now.world.now c.requires.valid c.args.name.name c.args.id c.requires.next.listed).own c.requires.next.number;
     } in
     let d : Def = defs.Item (items.Import c.args.name descriptions.SubResource) in
     let right : IsRight w old d = type in

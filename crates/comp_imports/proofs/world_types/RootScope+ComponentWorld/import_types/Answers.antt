@@ -4,7 +4,7 @@ use Rattle.wit_data.specs.declared.ids.TypeId.{TypeId}
 use Rattle.wit_data.specs.declared.worlds.World.{World}
 use Rattle.wit_data.specs.declared.worlds.WorldKey.{WorldKey}
 use Rattle.wit_data.specs.declared.worlds.WorldItem.{WorldItem}
-use Rattle.comp_worlds.specs.Worlds.{items_of, world_type}
+use Rattle.comp_worlds.specs.WorldContents.{items_of, world_type}
 use Rattle.comp_links.specs.Lists.{root_type}
 use Rattle.comp_terms.specs.Rules.{Grows, Imported}
 use Rattle.comp_imports.specs.RootScopes.{next_of, AreTablesRight}
@@ -22,7 +22,7 @@ loop-key-init c =
       tt,
       tt,
       refl,
-      tables_first w c.args.self.now.last_type c.args.self.now.items.defs c.args.self.now.maps c.requires.tables,
+      tables_first w c.args.self.now.last_type c.args.self.now.instances c.args.self.now.items.defs c.args.self.now.maps c.requires.tables,
       subst (λ (es : List (WorldKey × WorldItem)). TypesSoFar w c.args.self.now.items c.args.self.now.items 0 es) (sym items) (types_start w c.args.self.now.items 0 c.requires.valid c.requires.first refl),
       refl,
     )
@@ -49,7 +49,7 @@ loop-key-preserved c =
       tt,
       tt,
       of.world ∙ same,
-      subst (λ x. AreTablesRight x.now new.last_type new.items.defs new.maps) same of.tables,
+      subst (λ x. AreTablesRight x.now new.last_type new.instances new.items.defs new.maps) same of.tables,
       types_step w c.args.self.now.items mid new.items (next_of c.loop-key.self.last_type) (next_of new.last_type) e c.next.new.self (subst (λ (es : List (WorldKey × WorldItem)). TypesSoFar c.args.self.now.world.now c.args.self.now.items c.loop-key.self.items (next_of c.loop-key.self.last_type) es) c.in-Some.ensures.steps c.loop-key.invariant.4) of.extends (subst (λ x. Grows x.now mid.defs new.items.defs (map (λ (t : List ℕ × TypeId). Imported (root_type t.0)) (world_type e))) same of.grows) of.next,
       of.instances ∙ c.loop-key.invariant.5,
     )

@@ -8,6 +8,6 @@ invariant-loop-key l =
     goal.iterator-loop-key.can_next l.key-iterator ×
     goal.iterator-loop-key.is_finite l.key-iterator ×
     (l.self.world ≡ l.fn.self.world) ×
-    AreTablesRight l.fn.self.world.now l.self.last_type l.self.items.defs l.self.maps ×
+    AreTablesRight l.fn.self.world.now l.self.last_type l.self.instances l.self.items.defs l.self.maps ×
     TypesSoFar l.fn.self.world.now l.fn.self.items l.self.items (next_of l.self.last_type) l.key-iterator ×
     (l.self.instances ≡ l.fn.self.instances)

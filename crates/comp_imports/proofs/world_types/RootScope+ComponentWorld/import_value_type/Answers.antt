@@ -16,30 +16,31 @@ use Rattle.comp_links.specs.Lists.{root_type, WorldType, import_entries, type_of
 use Rattle.comp_terms.specs.Rules.{IsRight, Grows, Imported, ImportsType}
 use Rattle.comp_terms.specs.Terms.{imports_in}
 use Rattle.comp_worlds.specs.Encodable.{IsEncodable}
-use Rattle.wit_types.specs.Maps.{Faithful}
 use Rattle.comp_imports.specs.Growing.{Grows-by, Grows-then}
 use Rattle.comp_imports.specs.Imports.{IsNextId}
-use Rattle.comp_imports.specs.RootScopes.{any_index, next_of, AreTablesRight}
+use Rattle.comp_imports.specs.RootScopes.{next_of, AreTablesRight}
 use Rattle.comp_imports.proofs.Allowing.{root_defines}
-use Rattle.comp_imports.proofs.Growth.{tables_kept}
+use Rattle.comp_imports.proofs.Resources.{world_type_listed}
+use Rattle.comp_imports.proofs.Growth.{tables_in, tables_kept}
 use Rattle.comp_imports.proofs.Importing.{no_imports}
 use Rattle.comp_imports.proofs.Naming.{by_name}
 use Rattle.comp_imports.proofs.world_types.RootScope+ComponentWorld.import_value_type.Goals as goal
 
 pub encode_definition-requires-clause-defined : goal.encode_definition-requires-clause-defined
-encode_definition-requires-clause-defined c = root_defines c.args.self.now.world.now c.requires.valid c.args.self.now.last_type c.args.id c.requires.present c.requires.values c.requires.next.order
+encode_definition-requires-clause-defined c = root_defines c.args.self.now.world.now c.requires.valid c.args.self.now.last_type c.args.id c.requires.values c.requires.next.order (world_type_listed c.args.self.now.world.now c.requires.valid c.args.id c.requires.present c.requires.next.listed)
 
 pub returns-in_err-index-clause-tables : goal.returns-in_err-index-clause-tables
 returns-in_err-index-clause-tables c =
-    let new = c.encode_definition.new.encoder in subst (λ r. AreTablesRight r.now new.last_type new.items.defs new.maps) c.encode_definition.ensures.follows.0 c.encode_definition.ensures.faithful
+    let new = c.encode_definition.new.encoder in subst (λ r. AreTablesRight r.now new.last_type new.instances new.items.defs new.maps) c.encode_definition.ensures.follows.0 c.encode_definition.ensures.faithful
 
 pub returns-in_err-index-2-clause-tables : goal.returns-in_err-index-2-clause-tables
 returns-in_err-index-2-clause-tables c =
     let mid = c.encode_definition.new.encoder in
     let g : Extends mid.items c.import_type.new.self = extends_adds mid.items c.import_type.new.self c.import_type.result spaces.Type (defs.Item (items.Import c.args.name (descriptions.TypeEqual c.in_ok-index.index))) None c.import_type.ensures.adds in
-    let before : AreTablesRight c.args.self.now.world.now c.args.self.now.last_type mid.items.defs mid.maps = subst (λ s. Faithful s (scope_of mid.items.defs) any_index mid.maps) c.in_ok-index.ensures.setting c.in_ok-index.ensures.faithful in
-    let after : AreTablesRight c.args.self.now.world.now c.args.self.now.last_type c.import_type.new.self.defs mid.maps = tables_kept c.args.self.now.world.now c.args.self.now.last_type mid.items c.import_type.new.self mid.maps g before in
-    subst (λ n. AreTablesRight c.args.self.now.world.now n c.import_type.new.self.defs mid.maps) (sym c.in_ok-index.ensures.follows.1) after
+    let before : AreTablesRight c.args.self.now.world.now c.args.self.now.last_type mid.instances mid.items.defs mid.maps =
+    tables_in c.args.self.now.world.now mid.world.now c.args.self.now.last_type mid.instances mid.items.defs mid.maps _ c.in_ok-index.ensures.setting (ap (λ r. r.now) c.in_ok-index.ensures.follows.0) c.in_ok-index.ensures.faithful in
+    let after : AreTablesRight c.args.self.now.world.now c.args.self.now.last_type mid.instances c.import_type.new.self.defs mid.maps = tables_kept c.args.self.now.world.now c.args.self.now.last_type mid.instances mid.items c.import_type.new.self mid.maps g before in
+    subst (λ n. AreTablesRight c.args.self.now.world.now n mid.instances c.import_type.new.self.defs mid.maps) (sym c.in_ok-index.ensures.follows.1) after
 
 pub record_world_type-requires-clause-valid : goal.record_world_type-requires-clause-valid
 record_world_type-requires-clause-valid c = subst (λ r. IsEncodable r.now) (sym c.in_ok-index.ensures.follows.0) c.requires.valid
@@ -53,7 +54,7 @@ pub record_world_type-requires-clause-tables : goal.record_world_type-requires-c
 record_world_type-requires-clause-tables c =
     let mid = c.encode_definition.new.encoder in
     let g : Extends mid.items c.import_type.new.self = extends_adds mid.items c.import_type.new.self c.import_type.result spaces.Type (defs.Item (items.Import c.args.name (descriptions.TypeEqual c.in_ok-index.index))) None c.import_type.ensures.adds in
-    tables_kept mid.world.now mid.last_type mid.items c.import_type.new.self mid.maps g c.in_ok-index.ensures.faithful
+    tables_kept mid.world.now mid.last_type mid.instances mid.items c.import_type.new.self mid.maps g c.in_ok-index.ensures.faithful
 
 pub record_world_type-requires-clause-denotes : goal.record_world_type-requires-clause-denotes
 record_world_type-requires-clause-denotes c =

@@ -19,4 +19,4 @@ returns-clause-grows c =
 pub returns-clause-tables : goal.returns-clause-tables
 returns-clause-tables c =
     let last : Extends c.lift.new.root.items c.export.new.self = search rules in
-    tables_kept c.args.root.now.world.now c.args.root.now.last_type c.lift.new.root.items c.export.new.self c.lift.new.root.maps last c.in_ok-lifted.ensures.tables
+    tables_kept c.args.root.now.world.now c.args.root.now.last_type c.lift.new.root.instances c.lift.new.root.items c.export.new.self c.lift.new.root.maps last c.in_ok-lifted.ensures.tables

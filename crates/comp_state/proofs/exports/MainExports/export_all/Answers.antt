@@ -14,8 +14,8 @@ loop-key-init c = (refl, refl, c.requires.tables, exports_start c.args.root.now.
 pub export-requires-clause-exports : goal.export-requires-clause-exports
 export-requires-clause-exports c =
     let i = c.loop-key.invariant in
-    subst (λ w. AreExports w.now c.args.self.now c.loop-key.root.last_type c.loop-key.root.items.defs c.loop-key.root.maps) (sym i.0)
-    (subst (λ n. AreExports c.args.root.now.world.now c.args.self.now n c.loop-key.root.items.defs c.loop-key.root.maps) (sym i.1) (exports-kept i.3.extends i.2 c.requires))
+    subst (λ w. AreExports w.now c.args.self.now c.loop-key.root.last_type c.loop-key.root.items.defs c.loop-key.root.maps c.loop-key.root.instances) (sym i.0)
+    (subst (λ n. AreExports c.args.root.now.world.now c.args.self.now n c.loop-key.root.items.defs c.loop-key.root.maps c.loop-key.root.instances) (sym i.1) (exports-kept i.3.extends i.2 c.requires))
 
 pub loop-key-preserved : goal.loop-key-preserved
 loop-key-preserved c =
@@ -26,7 +26,7 @@ loop-key-preserved c =
     let new = c.export.new.root in (
       of.world ∙ i.0,
       of.next ∙ i.1,
-      subst (λ n. AreTablesRight w n new.items.defs new.maps) i.1 (subst (λ x. AreTablesRight x.now c.loop-key.root.last_type new.items.defs new.maps) i.0 of.tables),
+      subst (λ n. AreTablesRight w n new.instances new.items.defs new.maps) i.1 (subst (λ x. AreTablesRight x.now c.loop-key.root.last_type new.instances new.items.defs new.maps) i.0 of.tables),
       exports_step w c.args.root.now.items mid new.items c.as_slice-key-items.result.now c.loop-key.key-index c.key-item.result i.3 (omega arith) c.key-item.is of.extends
           (subst (λ x. Grows x.now mid.defs new.items.defs (named_export (name_of_key c.key-item.result) ∷ [])) i.0 of.grows) (subst (λ x. IsSome (export_encoding x.now c.key-item.result)) i.0 of.encoded),
       of.instances ∙ i.4,

@@ -1,4 +1,4 @@
-use Rattle.std.proofs.Common.{[], ap, rules}
+use Rattle.std.proofs.Common.{[], ap, inr, rules}
 use Rattle.comp_builder.specs.Built.{Built}
 use Rattle.comp_terms.specs.Planned.{type_of_function}
 use Rattle.comp_terms.specs.Rules.{Grows}
@@ -43,20 +43,23 @@ returns-clause-extends c =
 
 pub returns-in_err-core-clause-tables : goal.returns-in_err-core-clause-tables
 returns-in_err-core-clause-tables c =
-    tables_kept c.args.root.now.world.now c.args.root.now.last_type c.function_type.new.self.items c.core_export.new.self c.function_type.new.self.maps c.core_export.ensures.extends c.in_ok-ty.ensures.tables
+    tables_kept c.args.root.now.world.now c.args.root.now.last_type c.function_type.new.self.instances c.function_type.new.self.items c.core_export.new.self c.function_type.new.self.maps c.core_export.ensures.extends c.in_ok-ty.ensures.tables
 
 pub returns-in_err-index-clause-tables : goal.returns-in_err-index-clause-tables
 returns-in_err-index-clause-tables c =
     let w = c.args.root.now.world.now in
     let maps = c.function_type.new.self.maps in
-    let mid : AreTablesRight w c.args.root.now.last_type c.core_export.new.self.defs maps = tables_kept w c.args.root.now.last_type c.function_type.new.self.items c.core_export.new.self maps c.in_ok-core.ensures.extends c.in_ok-ty.ensures.tables in
+    let mid : AreTablesRight w c.args.root.now.last_type c.function_type.new.self.instances c.core_export.new.self.defs maps = tables_kept w c.args.root.now.last_type c.function_type.new.self.instances c.function_type.new.self.items c.core_export.new.self maps c.in_ok-core.ensures.extends c.in_ok-ty.ensures.tables in
     let last : Extends c.core_export.new.self c.lift_function.new.self = extends_same c.core_export.new.self c.lift_function.new.self c.in_err-index.ensures.adds.0 in
-    tables_kept w c.args.root.now.last_type c.core_export.new.self c.lift_function.new.self maps last mid
+    tables_kept w c.args.root.now.last_type c.function_type.new.self.instances c.core_export.new.self c.lift_function.new.self maps last mid
 
 pub returns-clause-tables : goal.returns-clause-tables
 returns-clause-tables c =
     let w = c.args.root.now.world.now in
     let maps = c.function_type.new.self.maps in
-    let mid : AreTablesRight w c.args.root.now.last_type c.core_export.new.self.defs maps = tables_kept w c.args.root.now.last_type c.function_type.new.self.items c.core_export.new.self maps c.in_ok-core.ensures.extends c.in_ok-ty.ensures.tables in
+    let mid : AreTablesRight w c.args.root.now.last_type c.function_type.new.self.instances c.core_export.new.self.defs maps = tables_kept w c.args.root.now.last_type c.function_type.new.self.instances c.function_type.new.self.items c.core_export.new.self maps c.in_ok-core.ensures.extends c.in_ok-ty.ensures.tables in
     let last : Extends c.core_export.new.self c.lift_function.new.self = search rules in
-    tables_kept w c.args.root.now.last_type c.core_export.new.self c.lift_function.new.self maps last mid
+    tables_kept w c.args.root.now.last_type c.function_type.new.self.instances c.core_export.new.self c.lift_function.new.self maps last mid
+
+pub function_type-requires-clause-needed : goal.function_type-requires-clause-needed
+function_type-requires-clause-needed c = inr c.exported_function.ensures.exported

@@ -2,7 +2,7 @@ use Rattle.std.proofs.Common.{◌≡◌, ◌∙◌, ℕ, List, [], ◌∷◌, ap
 use Rattle.comp_links.specs.Targets.{Main}
 use Rattle.comp_terms.specs.Planned.{IsEntryFor}
 use Rattle.comp_terms.specs.Rules.{Grows}
-use Rattle.comp_worlds.specs.Worlds.{core_imports}
+use Rattle.comp_worlds.specs.WorldContents.{core_imports}
 use Rattle.comp_worlds.specs.declared.world.ComponentWorld.{ComponentWorld}
 use Rattle.comp_imports.specs.declared.root_scope.RootScope.{RootScope}
 use Rattle.comp_state.specs.Tables.{AreSources}

@@ -1,6 +1,8 @@
-use Rattle.std.proofs.Common.{◌≡◌, Some, IsTrue, rules, subst}
+use Rattle.std.proofs.Common.{◌≡◌, Some, IsTrue, rules}
 use Rattle.comp_links.specs.Roles.{is_used}
-use Rattle.comp_worlds.specs.Worlds.{imported_name, IsImportRole}
+use Rattle.comp_worlds.specs.WorldContents.{imported_name}
+use Rattle.comp_worlds.specs.Worlds.{IsImportRole}
+use Rattle.interface_needs.proofs.RootItems.{drop_known}
 use Rattle.comp_state.proofs.Interfaces.{used_by_role}
 use Rattle.comp_state.proofs.Serving.{import_role, used_by_import}
 use Rattle.comp_state.proofs.instances.ImportSources.materialize.Goals as goal
@@ -12,11 +14,11 @@ lower_function-requires-clause-used c =
     used_by_import c.args.root.now.world.now c.args.module.now c.args.field.now c.in-WorldFunc-Name-default-default.name c.args.import.now named c.requires.present in
     c.requires.sources.used.each c.in-WorldFunc-Name-default-default.name used
 
-pub drop_resource-requires-clause-resource : goal.drop_resource-requires-clause-resource
-drop_resource-requires-clause-resource c =
+pub drop_resource-requires-clause-known : goal.drop_resource-requires-clause-known
+drop_resource-requires-clause-known c =
     let w = c.args.root.now.world.now in
-    let role : IsImportRole w c.args.import.now = import_role w c.requires.sources.valid c.args.module.now c.args.field.now c.args.import.now c.requires.present in
-    subst (IsImportRole w) c.in-ImportedResourceDrop.is role
+    let drop = c.in-ImportedResourceDrop in
+    drop_known w c.requires.sources.valid (record { module_name = c.args.module.now; field = c.args.field.now; role = c.args.import.now }) drop.field-0 drop.field-1 drop.id c.requires.present drop.is
 
 pub lower_interface_function-requires-clause-imported : goal.lower_interface_function-requires-clause-imported
 lower_interface_function-requires-clause-imported c =

@@ -1,9 +1,18 @@
-use Rattle.std.proofs.Common.{◌≡◌, ◌∙◌, ◌∷◌, [], ap}
+use Rattle.std.proofs.Common.{◌≡◌, ◌∙◌, ◌∷◌, [], ap, ap₂, sym}
+use Rattle.comp_links.specs.Naming.{Naming}
 use Rattle.comp_worlds.specs.declared.world.ComponentWorld.{ComponentWorld}
-use Rattle.comp_terms.specs.Rules.{Grows, ModuleIs, InstanceOf, exports_marked}
-use Rattle.comp_state.specs.Encoding.{Encoding}
-use Rattle.comp_state.proofs.Building.{built_by_steps}
+use Rattle.comp_terms.specs.Rules.{Grows, ModuleIs, InstanceOf, exports_marked, imports_marked, landmarks}
+use Rattle.comp_state.specs.Encoding.{Encoding, naming_in}
+use Rattle.comp_state.proofs.Building.{built_by_steps, marked_from}
 use Rattle.comp_state.proofs.state.EncodingState.encode_all.Goals as goal
+
+pub encode_core_modules-requires : goal.encode_core_modules-requires
+encode_core_modules-requires c =
+    let w : ComponentWorld = c.args.self.now.world in
+    let n : Naming = naming_in c.args.self.now in
+    let new = c.encode_imports.new.self in
+    let marked : landmarks new.built.defs ≡ imports_marked n w = marked_from w c.args.self.now.built.defs new.built.defs (imports_marked n w) c.requires.empty c.in_ok-encode_imports.ensures.grows in
+    marked ∙ ap₂ imports_marked (sym c.in_ok-encode_imports.ensures.names) (sym c.in_ok-encode_imports.ensures.world)
 
 pub returns-clause-built : goal.returns-clause-built
 returns-clause-built c =
@@ -14,7 +23,7 @@ returns-clause-built c =
     let main : Grows w c.encode_imports.new.self.built.defs c.encode_core_modules.new.self.built.defs (ModuleIs w.main.bytes ∷ []) = rw (← first) c.in_ok-encode_core_modules.ensures.grows in
     let instance : Grows w c.encode_core_modules.new.self.built.defs c.instantiate.new.self.built.defs (InstanceOf 0 ∷ []) = rw (← second) c.in_ok-instantiate.ensures.grows in
     let exports : Grows w c.instantiate.new.self.built.defs c.encode_exports.new.self.built.defs (exports_marked w) = rw (← third) c.in_ok-encode_exports.ensures.grows in
-    built_by_steps w c.args.self.now.built.defs c.encode_imports.new.self.built.defs c.encode_core_modules.new.self.built.defs c.instantiate.new.self.built.defs c.encode_exports.new.self.built.defs c.requires.empty
+    built_by_steps (naming_in c.args.self.now) w c.args.self.now.built.defs c.encode_imports.new.self.built.defs c.encode_core_modules.new.self.built.defs c.instantiate.new.self.built.defs c.encode_exports.new.self.built.defs c.requires.empty
     c.in_ok-encode_imports.ensures.grows main instance exports
 
 pub returns-clause-encoded : goal.returns-clause-encoded

@@ -17,8 +17,8 @@ pub invariant_of-self : goal.invariant_of-self
 invariant_of-self c =
     let new = c.export_all.new.root in
     let in' = c.self.inside in
-    subst (λ r. IsEncoding r.now new.last_type new.items.defs new.maps new.instances in'.step in'.functions in'.core_names in'.main) (sym c.export_all.ensures.world) (encoding-with c.export_all.ensures.extends (subst (λ n. AreTablesRight in'.root.world.now n new.items.defs new.maps) (sym c.export_all.ensures.next) c.export_all.ensures.tables)
-    (λ i. subst (λ n. ArePassed in'.root.world.now n) (sym c.export_all.ensures.next) (c.self.invariant.passed i)) (λ i. c.export_all.ensures.instances) c.self.invariant)
+    subst (λ r. IsEncoding r.now new.last_type new.items.defs new.maps new.instances in'.step in'.functions in'.core_names in'.main) (sym c.export_all.ensures.world) (encoding-with c.export_all.ensures.extends (λ _. subst (λ n. AreTablesRight in'.root.world.now n new.instances new.items.defs new.maps) (sym c.export_all.ensures.next) c.export_all.ensures.tables)
+    (λ i. subst (λ n. ArePassed in'.root.world.now n) (sym c.export_all.ensures.next) (c.self.invariant.passed i)) c.self.invariant)
 
 pub unwrap-requires : goal.unwrap-requires
 unwrap-requires c = main_known c.self.invariant (ap (λ (e : Encoding). e.step) c.self.view_is ∙ c.requires)

@@ -1,7 +1,7 @@
 use Rattle.std.proofs.Common.{◌∙◌, [], ◌∷◌, ap, subst, sym, IsSome}
 use Rattle.std.specs.Result.{OnOk, IfOk, IfErr}
 use Rattle.comp_terms.specs.Rules.{Grows}
-use Rattle.comp_worlds.specs.Worlds.{core_name_of}
+use Rattle.comp_worlds.specs.WorldContents.{core_name_of}
 use Rattle.comp_state.specs.Causes.{IsCauseAmong}
 use Rattle.comp_state.specs.Tables.{IsEncoding}
 use Rattle.comp_state.specs.Encoding.{Encoding, IsRequiredLift}
@@ -19,8 +19,8 @@ pub invariant_of-self : goal.invariant_of-self
 invariant_of-self c =
     let new = c.lift.new.root in
     let in' = c.self.inside in
-    subst (λ r. IsEncoding r.now new.last_type new.items.defs new.maps new.instances in'.step in'.functions in'.core_names in'.main) (sym c.lift.ensures.world) (encoding-with c.lift.ensures.extends (subst (λ n. AreTablesRight in'.root.world.now n new.items.defs new.maps) (sym c.lift.ensures.next) c.lift.ensures.tables)
-    (λ i. subst (λ n. ArePassed in'.root.world.now n) (sym c.lift.ensures.next) (c.self.invariant.passed i)) (λ i. c.lift.ensures.instances) c.self.invariant)
+    subst (λ r. IsEncoding r.now new.last_type new.items.defs new.maps new.instances in'.step in'.functions in'.core_names in'.main) (sym c.lift.ensures.world) (encoding-with c.lift.ensures.extends (λ _. subst (λ n. AreTablesRight in'.root.world.now n new.instances new.items.defs new.maps) (sym c.lift.ensures.next) c.lift.ensures.tables)
+    (λ i. subst (λ n. ArePassed in'.root.world.now n) (sym c.lift.ensures.next) (c.self.invariant.passed i)) c.self.invariant)
 
 pub unwrap-requires : goal.unwrap-requires
 unwrap-requires c = main_known c.self.invariant (ap (λ (e : Encoding). e.step) c.self.view_is ∙ c.requires.instantiated)

@@ -8,7 +8,7 @@ use Rattle.comp_items.specs.Items.{Extends}
 use Rattle.comp_items.proofs.Extending.{extends_same, extends_then}
 use Rattle.comp_links.specs.Roles.{IsEncodedImport}
 use Rattle.comp_terms.specs.Rules.{Grows, InstanceOf}
-use Rattle.comp_worlds.specs.Worlds.{core_imports}
+use Rattle.comp_worlds.specs.WorldContents.{core_imports}
 use Rattle.comp_state.specs.Encoding.{Encoding, AreImported, IsFirstModule}
 use Rattle.comp_state.proofs.Exporting.{main_module}
 use Rattle.comp_imports.specs.Growing.{Grows-by, Grows-then, kept}

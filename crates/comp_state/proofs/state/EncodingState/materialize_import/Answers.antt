@@ -6,7 +6,7 @@ use Rattle.comp_links.specs.Roles.{IsEncodedImport}
 use Rattle.comp_links.specs.Targets.{Main}
 use Rattle.comp_terms.specs.Planned.{IsItemFor}
 use Rattle.comp_terms.specs.Rules.{Grows}
-use Rattle.comp_worlds.specs.Worlds.{core_imports}
+use Rattle.comp_worlds.specs.WorldContents.{core_imports}
 use Rattle.comp_state.specs.Causes.{IsCauseAmong}
 use Rattle.comp_state.specs.Encoding.{Encoding, AreImported}
 use Rattle.comp_state.proofs.Growth.{encoding-kept, sources_of}

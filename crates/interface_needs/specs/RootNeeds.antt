@@ -1,0 +1,53 @@
+-- What the types and functions at the root of a world need, and have at hand, in a world that can be encoded (component
+-- model, WIT: worlds, `use`, resources).
+use Rattle.std.specs.Prelude.{◌≡◌, ◌<◌, ◌≤◌, ℕ, true, List, length, map, Some, None, IsSome, Contains}
+use Rattle.wit_data.specs.declared.functions.Function.{Function}
+use Rattle.wit_data.specs.declared.ids.InterfaceId.{InterfaceId}
+use Rattle.wit_data.specs.declared.ids.TypeId.{TypeId}
+use Rattle.wit_data.specs.declared.types.Type.TheVariants.{Id}
+use Rattle.wit_data.specs.declared.worlds.WorldItem.TheVariants as items
+use Rattle.wit_data.specs.declared.worlds.WorldKey.{WorldKey}
+use Rattle.wit_data.specs.declared.worlds.WorldKey.TheVariants as keys
+use Rattle.wit_types.specs.Settings.{Setting}
+use Rattle.world_values.specs.Items.{root_function_at}
+use Rattle.comp_worlds.specs.Encodable.{place}
+use Rattle.comp_worlds.specs.WorldContents.{items_of, imported_types, interface_at, name_at}
+use Rattle.comp_worlds.specs.Worlds.{IsResource}
+use Rattle.comp_worlds.specs.declared.world.ComponentWorld.{ComponentWorld}
+use Rattle.comp_links.specs.Roles.{is_used}
+use Rattle.interface_needs.specs.Needs.{IsNeeded}
+
+-- a scope of no interface, in which every type may be defined, and each type imported that an imported interface needs
+pub record IsRootScope (w : ComponentWorld) (s : Setting) : Type 0 where
+  pub types : s.types ≡ w.resolve.types
+  pub interface : s.interface ≡ None
+  pub own : (n : ℕ) → s.may_own n ≡ true
+  pub imports : (other : InterfaceId) (t : TypeId) → IsNeeded w other t → s.may_import other t ≡ true
+
+-- the types below this number that the world imports are in the tables
+pub record HasWorldTypes (w : ComponentWorld) (s : Setting) (bound : ℕ) : Type 0 where
+  pub each : (n : ℕ) → n < bound → Contains (map (λ t. t.1.index) (imported_types w)) n → s.met (record { index = n }) ≡ true
+
+-- a function at the root that core imports use
+pub record IsUsedFunction (w : ComponentWorld) (name : List ℕ) (f : Function) : Type 0 where
+  pub imported : root_function_at (items_of w).imports (keys.Name name) ≡ Some f
+  pub used : is_used w name ≡ true
+
+-- a function that is exported at the root
+pub record IsExportedFunction (w : ComponentWorld) (f : Function) : Type 0 where
+  pub key : WorldKey
+  pub there : Contains (items_of w).exports (key, items.Function f)
+
+-- a type that the world imports, made of types of imported interfaces and of the root
+pub record IsWorldType (w : ComponentWorld) (id : TypeId) : Type 0 where
+  pub key : WorldKey
+  pub there : Contains (items_of w).imports (key, items.NamedType id)
+  pub placed : place w.resolve.types (items_of w).imports (Some (Id id)) ≤ length (items_of w).imports
+
+-- A resource whose handles a core import drops has a name, and is one that an imported interface needs or that the world
+-- imports.
+pub record IsDropKnown (w : ComponentWorld) (t : TypeId) : Type 0 where
+  pub resource : IsResource w.resolve.types t.index
+  pub named : IsSome (name_at w.resolve.types t.index)
+  pub needed : (i : InterfaceId) → interface_at w.resolve.types t.index ≡ Some i → IsNeeded w i t
+  pub at_root : interface_at w.resolve.types t.index ≡ None → Contains (map (λ t. t.1.index) (imported_types w)) t.index
