@@ -1,0 +1,2 @@
+pub mod Shims
+pub mod Laws

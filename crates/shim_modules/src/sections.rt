@@ -1,0 +1,117 @@
+//! The parts of a module of shims.
+//!
+//! Core standard, structure: modules; appendix, custom sections: name section.
+
+ghost use Rattle.std.specs.Prelude.{true, ◌≡◌, ◌<◌, ◌≤◌, ◌^◌, [], ◌∷◌, ◌++◌, map, length, IfOk, OnOk};
+ghost use Rattle.std.specs.Fmt.{decimal};
+ghost use Rattle.standard_kinds.specs.declared.kinds.ExportKind.TheVariants as kinds;
+ghost use Rattle.core_bytes.specs.declared.section.Section.TheVariants as sections;
+ghost use Rattle.core_runs.specs.Bodies as bodies;
+ghost use Rattle.shim_modules.specs.Shims.{shim_exports, table_export, shim_names, names_of};
+
+use crate::shims::ShimFunction;
+use comp_lists::Text;
+use core_bytes::{
+    Code, ExportSection, FunctionSection, Module, ModuleNames, NameMap, Section, TableSection,
+    TypeSection,
+};
+use core_runs::{Shim, table_of_shims, table_shim_bodies};
+use core_types::FuncType;
+use standard_kinds::ExportKind;
+use std::alloc::{AllocError, Global};
+
+/// The types of functions.
+pub(crate) fn type_section(alloc: Global, types: &[FuncType]) -> Result<Section, AllocError>
+    ensures { IfOk result (λ made. made ≡ sections.Types types.now) }
+{
+    let mut section = TypeSection::new(alloc);
+    for ty in types {
+        section.function(ty.params.as_slice(), ty.results.as_slice())?;
+    }
+    Ok(Section::Types(section))
+}
+
+/// The shims, by their types.
+pub(crate) fn function_section(alloc: Global, shims: &[ShimFunction]) -> Result<Section, AllocError>
+    ensures { IfOk result (λ made. made ≡ sections.Functions (map (λ s. s.code.type_index) shims.now)) }
+{
+    let mut section = FunctionSection::new(alloc);
+    for shim in shims {
+        section.function(shim.code.type_index)?;
+    }
+    Ok(Section::Functions(section))
+}
+
+/// The table, with a slot for each shim.
+pub(crate) fn table_section(alloc: Global, count: u32) -> Result<Section, AllocError>
+    ensures { IfOk result (λ made. made ≡ sections.Tables (bodies.table_of_shims count ∷ [])) }
+{
+    let mut section = TableSection::new(alloc);
+    section.table(table_of_shims(count))?;
+    Ok(Section::Tables(section))
+}
+
+/// The exports: each shim under its number, and the table.
+pub(crate) fn export_section(alloc: Global, shims: &[ShimFunction]) -> Result<Section, AllocError>
+    requires count { length shims.now < 2 ^ 32 }
+    ensures { IfOk result (λ made. made ≡ sections.Exports (shim_exports 0 shims.now ++ table_export ∷ [])) }
+{
+    let mut section = ExportSection::new(alloc);
+    for (number, _shim) in shims.iter().enumerate() {
+        export_shim(&mut section, alloc, number as u32)?;
+    }
+    section.export("$imports", ExportKind::Table, 0)?;
+    Ok(Section::Exports(section))
+}
+
+/// Exports the shim with a number under the number's decimal digits.
+fn export_shim(section: &mut ExportSection, alloc: Global, number: u32) -> Result<(), AllocError>
+    ensures { OnOk result (section.new ≡ section.old ++ record { name = decimal number; kind = kinds.Func; index = number } ∷ []) }
+{
+    let name = format!(in alloc; "{number}")?;
+    section.export(name.as_str(), ExportKind::Func, number)
+}
+
+/// The bodies of the shims.
+pub(crate) fn code_section(alloc: Global, shims: &[ShimFunction]) -> Result<Section, AllocError>
+    requires count { length shims.now ≤ 2 ^ 32 }
+    ensures { IfOk result (λ made. made ≡ sections.Code (bodies.table_shims 0 (map (λ s. s.code) shims.now))) }
+{
+    let codes = codes_of(alloc, shims)?;
+    Ok(Section::Code(table_shim_bodies(alloc, codes.as_slice())?))
+}
+
+/// The codes of the shims.
+fn codes_of(alloc: Global, shims: &[ShimFunction]) -> Result<Vec<Shim>, AllocError>
+    ensures { IfOk result (λ made. made.items ≡ map (λ s. s.code) shims.now) }
+{
+    let mut codes = Vec::new(alloc);
+    for shim in shims {
+        codes.push(shim.code)?;
+    }
+    Ok(codes)
+}
+
+/// The names of the module and of the shims.
+pub(crate) fn name_section(alloc: Global, shims: &[ShimFunction]) -> Result<Section, AllocError>
+    requires count { length shims.now < 2 ^ 32 }
+    ensures { IfOk result (λ made. made ∷ [] ≡ names_of true shims.now) }
+{
+    Ok(Section::Names(ModuleNames {
+        module_name: Text::from_str(alloc, "wit-component:shim")?,
+        functions: Some(function_names(alloc, shims)?),
+        globals: None,
+    }))
+}
+
+/// The debug names of the shims.
+fn function_names(alloc: Global, shims: &[ShimFunction]) -> Result<NameMap, AllocError>
+    requires count { length shims.now < 2 ^ 32 }
+    ensures { IfOk result (λ made. made ≡ shim_names 0 shims.now) }
+{
+    let mut names = NameMap::new(alloc);
+    for (number, shim) in shims.iter().enumerate() {
+        names.append(number as u32, shim.debug_name.as_str())?;
+    }
+    Ok(names)
+}
