@@ -6,4 +6,5 @@ pub mod Defining
 pub mod Knowing
 pub mod Parting
 pub mod Calling
+pub mod Adding
 pub mod Listing
