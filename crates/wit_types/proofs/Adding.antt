@@ -1,5 +1,5 @@
 -- What is added for the parts of a type is added for the type, and what is added step by step is added in order.
-use Rattle.std.proofs.Common.{◌≡◌, ◌⊎◌, inl, inr, ℕ, zero, suc, List, [], ◌∷◌, ◌++◌, get_or, map, refl, ap, subst, ◌∙◌, sym, append_assoc, append-nil, Option, Some, None}
+use Rattle.std.proofs.Common.{◌≡◌, ◌⊎◌, inl, inr, ℕ, zero, suc, ◌<◌, length, List, [], ◌∷◌, ◌++◌, get_or, map, refl, ap, subst, ◌∙◌, sym, append_assoc, append-nil, Option, Some, None}
 use Rattle.std.specs.Prelude.{IfOk, Result, Ok, Err, option_map, option_to_list}
 use Rattle.std.specs.List.{AllByRecursion}
 use Rattle.byte_encoding.specs.declared.fault.BuildFault.{BuildFault}
@@ -13,9 +13,14 @@ use Rattle.comp_trees.specs.DefinedTrees.{TypeTree, OfValues, OfFunctions}
 use Rattle.wit_data.specs.declared.types.Type.{«Type» as Ty}
 use Rattle.wit_data.specs.declared.types.TypeDefKind.{TypeDefKind}
 use Rattle.wit_data.specs.declared.types.TypeDefKind.TheVariants as kinds
-use Rattle.wit_data.specs.Parts.{parts}
+use Rattle.wit_data.specs.declared.ids.TypeId.{TypeId}
+use Rattle.wit_data.specs.declared.types.Type.TheVariants.{Id}
+use Rattle.wit_data.specs.declared.types.TypeDef.{TypeDef}
+use Rattle.wit_data.specs.Parts.{parts, RefersBack}
+use Rattle.wit_data.specs.Values.{kind_at}
+use Rattle.wit_types.proofs.Permitting.{tree_of_id}
 use Rattle.wit_types.specs.Settings.{Setting, tree_in}
-use Rattle.wit_types.specs.Denoting.{AddsOne, Makes, ValueDenotes}
+use Rattle.wit_types.specs.Denoting.{AddsOne, Makes, MayMake, ValueDenotes}
 use Rattle.wit_types.specs.Order.{PartOf, Inside, InsideOne, IsPart, AddsParts, IsEncoded, AreEncoded}
 
 -- ---- parts of trees
@@ -84,6 +89,10 @@ part_of_kind s n (kinds.Future t) (suc k) ty e = cc
 part_of_kind s n (kinds.Alias t) zero ty e = inl (ap (tree_in s) e)
 part_of_kind s n (kinds.Alias t) (suc k) ty e = cc
 
+pub part_of_id : (s : Setting) (types : List TypeDef) (id : TypeId) (k : ℕ) (ty : Ty) → s.types ≡ types → RefersBack types → id.index < length types → Some ty ≡ get_or (parts (kind_at types id.index)) k None → PartOf (tree_in s (Some ty)) (tree_in s (Some (Id id)))
+part_of_id s types id k ty same back within e =
+    subst (λ t. PartOf (tree_in s (Some ty)) t) (sym (tree_of_id s types id same back within)) (part_of_kind s id.index (kind_at types id.index) k ty e)
+
 -- ---- what is added
 
 pub nothing_added : (old new : List TypeTree) (t : Tree) → new ≡ old → AddsParts old new t
@@ -129,7 +138,20 @@ one_as h same = record { added = same ∙ h.added }
 pub added_to : {a b c : List TypeTree} {t : Tree} → AddsParts a b t → c ≡ b → AddsParts a c t
 added_to h same = record { more = h.more; longer = same ∙ h.longer; only = h.only }
 
+pub result_then : {X : Type 0} (a b c : List TypeTree) (r : Result X BuildFault) (t u : Tree) → AddsParts a b t → u ≡ t → IfOk r (λ x. AddsParts b c u) → IfOk r (λ x. AddsParts a c t)
+result_then a b c (Ok x) t u g e h = added_then g (added_as h e)
+result_then a b c (Err x) t u g e h = tt
+
 -- of a call that defines a type
+pub made_as_one : (old new : List TypeTree) (r : Result ℕ BuildFault) (t u : TypeTree) → Makes old new r t → t ≡ u → IfOk r (λ i. AddsOne old new u)
+made_as_one old new (Ok i) t u m e = subst (λ x. AddsOne old new x) e m.0
+made_as_one old new (Err x) t u m e = tt
+
+-- of one that may define none
+pub maybe_adds : (old new : List TypeTree) (o : Option ℕ) (u : TypeTree) (t : Tree) → MayMake old new (Ok o) u → u ≡ OfValues t → AddsParts old new t
+maybe_adds old new (Some i) u t m e = type_added old new t t refl (subst (λ x. AddsOne old new x) e m.0)
+maybe_adds old new None u t m e = nothing_added old new t m
+
 pub made_adds : (old new : List TypeTree) (r : Result ℕ BuildFault) (t : TypeTree) → Makes old new r t → IfOk r (λ i. AddsOne old new t)
 made_adds old new (Ok i) t m = m.0
 made_adds old new (Err e) t m = tt

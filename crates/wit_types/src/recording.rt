@@ -139,7 +139,7 @@ fn record_unnamed<E: ValtypeEncoder>(
     ensures value { IfOk result (λ v. ValueDenotes (E.scope encoder.new) v (tree_in (E.setting encoder.old) (Some (Id id)))) }
     ensures recorded { IfOk result (λ v. IsRecorded (E.maps encoder.new) (Id id) v) }
     ensures named { IfOk result (λ v. IsNamedValue (E.setting encoder.old) (E.names encoder.new) (Id id) v) }
-    ensures grows { Longer (E.scope encoder.old) (E.scope encoder.new) }
+    ensures scope { E.scope encoder.new ≡ E.scope encoder.old }
     ensures setting { E.setting encoder.new ≡ E.setting encoder.old }
     ensures faithful { Faithful (E.setting encoder.new) (E.scope encoder.new) (E.names encoder.new) (E.offers encoder.new) (E.maps encoder.new) }
     ensures follows { E.follows encoder.old encoder.new }
