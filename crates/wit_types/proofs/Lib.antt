@@ -7,4 +7,5 @@ pub mod Knowing
 pub mod Parting
 pub mod Calling
 pub mod Adding
+pub mod Ordering
 pub mod Listing

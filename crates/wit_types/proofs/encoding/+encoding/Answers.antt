@@ -28,6 +28,7 @@ encode_parts-loop-n-preserved g t c =
     let i = c.loop-n.invariant in
     let e = c.in_ok-encode_part.ensures in
     let kind = kind_at c.args.types.now c.args.id.index in
+    let whole = tree_in (g.E.ValtypeEncoder.setting c.args.encoder.now) (Some (Id c.args.id)) in
     let within : c.loop-n.n < length (parts (kind_at c.args.types.now c.args.id.index)) = omega (arith, c.loop-n-test.true, c.part_count_of-n-end.ensures) in
     record {
       parts = parts_more (g.E.ValtypeEncoder.setting c.args.encoder.now) (g.E.ValtypeEncoder.scope c.loop-n.encoder) (g.E.ValtypeEncoder.scope c.encode_part.new.encoder)
@@ -36,7 +37,7 @@ encode_parts-loop-n-preserved g t c =
       same = ap (λ (s : Setting). s.types) e.setting ∙ i.same;
       defined = subst (λ (s : Setting). IsDefinedHere s kind) (sym e.setting) i.defined;
       grows = longer_on i.grows e.grows;
-      adds = added_then i.adds (added_as e.adds (ap (λ (s : Setting). tree_in s (Some (Id c.args.id))) i.setting));
+      adds = added_then {t = whole} i.adds (added_as {u = whole} e.adds (ap (λ (s : Setting). tree_in s (Some (Id c.args.id))) i.setting));
       setting = e.setting ∙ i.setting;
       faithful = e.faithful;
       follows = g.E.ValtypeEncoder.follows_on _ _ _ i.follows e.follows;
@@ -57,8 +58,8 @@ encode_id-returns-clause-adds g t c =
     (added_then c.in_ok-index.ensures.adds (added_as c.in_ok-given.ensures.adds (ap (λ (s : Setting). tree_in s (Some (Id c.args.id))) c.in_ok-index.ensures.setting)))
     (ap (λ (s : Setting). tree_in s (Some (Id c.args.id))) (c.in_ok-given.ensures.setting ∙ c.in_ok-index.ensures.setting)) c.make_type.ensures.adds
 
-pub encode_part-returns-in-Some-clause-adds : goal.encode_part-returns-in-Some-clause-adds
-encode_part-returns-in-Some-clause-adds g t c =
+pub encode_part-returns-in_ok-encode_type-in-Some-clause-adds : goal.encode_part-returns-in_ok-encode_type-in-Some-clause-adds
+encode_part-returns-in_ok-encode_type-in-Some-clause-adds g t c =
     added_within _ _ _ _
     (part_of_id (g.E.ValtypeEncoder.setting c.args.encoder.now) c.args.types.now c.args.id c.args.n c.in-Some.ty c.requires.same c.requires.back c.requires.present (sym c.in-Some.is ∙ c.part_in.ensures.value))
-    c.in_ok-encode_type.ensures.adds
+    c.in_ok-encode_type-in-Some.ensures.adds
