@@ -1,15 +1,15 @@
 -- What is added for the parts of a type is added for the type, and what is added step by step is added in order.
-use Rattle.std.proofs.Common.{◌≡◌, ◌⊎◌, inl, inr, ℕ, zero, suc, ◌<◌, length, List, [], ◌∷◌, ◌++◌, get_or, map, refl, ap, subst, ◌∙◌, sym, append_assoc, append-nil, Option, Some, None}
-use Rattle.std.specs.Prelude.{IfOk, Result, Ok, Err, option_map, option_to_list}
+use Rattle.std.proofs.Common.{◌≡◌, inl, inr, ℕ, zero, suc, ◌<◌, length, List, [], ◌∷◌, ◌++◌, get_or, map, refl, ap, subst, ◌∙◌, sym, append_assoc, append-nil, Option, Some, None}
+use Rattle.std.specs.Prelude.{IfOk, Result, Ok, Err}
 use Rattle.std.specs.List.{AllByRecursion}
 use Rattle.byte_encoding.specs.declared.fault.BuildFault.{BuildFault}
 use Rattle.comp_bytes.specs.declared.types.ComponentValType.{ComponentValType}
 use Rattle.comp_bytes.specs.declared.types.ComponentValType.TheVariants as values
 use Rattle.standard_kinds.specs.declared.kinds.Primitive.{Primitive}
 use Rattle.comp_lists.proofs.Lists.{AllByRecursion-weaker}
-use Rattle.comp_trees.specs.Trees.{Tree, PrimitiveOf, RecordOf, TupleOf, VariantOf, ListOf, OptionOf, ResultOf, OwnOf, BorrowOf, StreamOf, FutureOf, Trees, Nil, Cons, trees_of, FunctionTree}
+use Rattle.comp_trees.specs.Trees.{Tree, PrimitiveOf, RecordOf, TupleOf, VariantOf, ListOf, OptionOf, ResultOf, OwnOf, BorrowOf, StreamOf, FutureOf, Trees, Nil, Cons, trees_of}
 use Rattle.comp_trees.specs.WitTrees.{kind_tree}
-use Rattle.comp_trees.specs.DefinedTrees.{TypeTree, OfValues, OfFunctions}
+use Rattle.comp_trees.specs.DefinedTrees.{TypeTree, OfValues}
 use Rattle.wit_data.specs.declared.types.Type.{«Type» as Ty}
 use Rattle.wit_data.specs.declared.types.TypeDefKind.{TypeDefKind}
 use Rattle.wit_data.specs.declared.types.TypeDefKind.TheVariants as kinds

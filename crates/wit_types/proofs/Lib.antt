@@ -9,3 +9,4 @@ pub mod Calling
 pub mod Adding
 pub mod Ordering
 pub mod Listing
+mod WorkedOrder

@@ -1,5 +1,5 @@
 -- The type of a function is added behind what its parameters need, parameter by parameter, and what its result needs.
-use Rattle.std.proofs.Common.{◌≡◌, ◌⊎◌, inl, inr, ℕ, ◌+◌, ◌<◌, ◌≤◌, List, [], ◌∷◌, ◌++◌, length, get_or, take, map, refl, ap, subst, ◌∙◌, sym, Option, Some, None}
+use Rattle.std.proofs.Common.{◌≡◌, inr, ℕ, ◌+◌, ◌<◌, ◌≤◌, List, [], ◌∷◌, ◌++◌, length, get_or, take, map, refl, ap, subst, ◌∙◌, sym, Option, Some}
 use Rattle.std.specs.Prelude.{IfOk, Result, Ok, Err, option_map, option_to_list}
 use Rattle.std.proofs.lemmas.List.{take_more, map-append}
 use Rattle.byte_encoding.specs.declared.fault.BuildFault.{BuildFault}

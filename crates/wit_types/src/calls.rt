@@ -23,7 +23,8 @@ use comp_bytes::{ComponentValType, DefinedType};
 use std::alloc::{AllocError, Global};
 use wit_data::{Function, Resolve, Type, TypeId};
 
-/// The value type of a type of the resolve: it, and all that it is made of, is defined in the scope, where it is not yet.
+/// The value type of a type of the resolve: it, and all that it is made of, is defined in the scope, where it is not yet, and
+/// nothing else is.
 pub fn encode_valtype<E: ValtypeEncoder>(
     alloc: Global,
     encoder: &mut E,
@@ -91,7 +92,8 @@ pub fn record_type_index<E: ValtypeEncoder>(
     record_type(encoder, id, index)
 }
 
-/// The index of the type of a function of the resolve, which is defined in the scope, where it is not yet.
+/// The index of the type of a function of the resolve, which is defined in the scope, where it is not yet: first what its
+/// parameters need, in their order, then what its result needs, and then the type itself.
 pub fn encode_func_type<E: ValtypeEncoder>(
     alloc: Global,
     encoder: &mut E,

@@ -29,6 +29,7 @@ encode_parts-loop-n-preserved g t c =
     let e = c.in_ok-encode_part.ensures in
     let kind = kind_at c.args.types.now c.args.id.index in
     let whole = tree_in (g.E.ValtypeEncoder.setting c.args.encoder.now) (Some (Id c.args.id)) in
+    let part = tree_in (g.E.ValtypeEncoder.setting c.loop-n.encoder) (Some (Id c.args.id)) in
     let within : c.loop-n.n < length (parts (kind_at c.args.types.now c.args.id.index)) = omega (arith, c.loop-n-test.true, c.part_count_of-n-end.ensures) in
     record {
       parts = parts_more (g.E.ValtypeEncoder.setting c.args.encoder.now) (g.E.ValtypeEncoder.scope c.loop-n.encoder) (g.E.ValtypeEncoder.scope c.encode_part.new.encoder)
@@ -37,7 +38,7 @@ encode_parts-loop-n-preserved g t c =
       same = ap (λ (s : Setting). s.types) e.setting ∙ i.same;
       defined = subst (λ (s : Setting). IsDefinedHere s kind) (sym e.setting) i.defined;
       grows = longer_on i.grows e.grows;
-      adds = added_then {t = whole} i.adds (added_as {u = whole} e.adds (ap (λ (s : Setting). tree_in s (Some (Id c.args.id))) i.setting));
+      adds = added_then {t = whole} i.adds (added_as {t = part} {u = whole} e.adds (ap (λ (s : Setting). tree_in s (Some (Id c.args.id))) i.setting));
       setting = e.setting ∙ i.setting;
       faithful = e.faithful;
       follows = g.E.ValtypeEncoder.follows_on _ _ _ i.follows e.follows;
