@@ -12,7 +12,7 @@ use Rattle.comp_items.proofs.Extending.{extends_adds}
 use Rattle.comp_terms.specs.Rules.{IsRight}
 use Rattle.comp_worlds.specs.WorldContents.{name_at}
 use Rattle.wit_data.specs.contracts.ids.InterfaceIdPartialEq.TheImpl as same_id
-use Rattle.comp_imports.proofs.Defining.{root_added, one_added}
+use Rattle.comp_imports.proofs.Defining.{one_added, root_added}
 use Rattle.comp_imports.proofs.Growth.{scope_longer}
 use Rattle.comp_imports.proofs.OuterTypes.{IsExported, exported, exported_at, has_name, type_aliased, type_present, type_tree}
 use Rattle.comp_imports.proofs.root_scope.RootScope.alias_type.Goals as goal
