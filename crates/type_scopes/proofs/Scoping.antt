@@ -11,7 +11,7 @@ use Rattle.comp_bytes.specs.declared.types.ExternName.{ExternName}
 use Rattle.comp_bytes.specs.declared.types.Description.{Description}
 use Rattle.comp_trees.specs.DefinedTrees.{TypeTree, OfOthers}
 use Rattle.comp_trees.specs.DefinedScopes.{Denotes}
-use Rattle.wit_types.specs.Denoting.{Longer, Makes}
+use Rattle.wit_types.specs.Denoting.{Longer, AddsOne, Makes}
 use Rattle.wit_types.proofs.Growing.{longer_none, longer_on}
 use Rattle.comp_trees.specs.Members.{Surroundings, IsMemberRight, makes_type, member_tree, with_member, member_trees}
 use Rattle.type_scopes.specs.Members.{types_in}
@@ -65,8 +65,8 @@ length_members s scope (m ∷ ms) =
 pub length_scope : (s : Surroundings) (ms : List Member) → length (member_trees s [] ms) ≡ types_in ms
 length_scope s ms = length_members s [] ms ∙ omega arith
 
-pub grows_by : (s : Surroundings) (old new : List Member) (m : Member) → makes_type m ≡ true → new ≡ old ++ m ∷ [] → Longer (member_trees s [] old) (member_trees s [] new)
-grows_by s old new m makes is = record { more = member_tree s (member_trees s [] old) m ∷ []; longer = ap (member_trees s []) is ∙ one_more s old m makes }
+pub grows_by : (s : Surroundings) (old new : List Member) (m : Member) → makes_type m ≡ true → new ≡ old ++ m ∷ [] → AddsOne (member_trees s [] old) (member_trees s [] new) (member_tree s (member_trees s [] old) m)
+grows_by s old new m makes is = record { added = ap (member_trees s []) is ∙ one_more s old m makes }
 
 pub denotes_new : (s : Surroundings) (old new : List Member) (m : Member) (index : ℕ) → makes_type m ≡ true → index ≡ types_in old → new ≡ old ++ m ∷ [] → Denotes (member_trees s [] new) index (member_tree s (member_trees s [] old) m)
 denotes_new s old new m index makes at is =

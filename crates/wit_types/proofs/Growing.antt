@@ -20,7 +20,7 @@ use Rattle.wit_data.specs.declared.types.Type.TheVariants.{Id}
 use Rattle.wit_types.specs.declared.maps.TypeEncodingMaps.{TypeEncodingMaps}
 use Rattle.wit_types.specs.Settings.{Setting, tree_in, owner_at, name_at}
 use Rattle.comp_trees.specs.DefinedScopes.{Denotes}
-use Rattle.wit_types.specs.Denoting.{Longer, ValueDenotes, Makes, MayMake}
+use Rattle.wit_types.specs.Denoting.{Longer, AddsOne, ValueDenotes, Makes, MayMake}
 use Rattle.wit_types.specs.Maps.{no_maps, Faithful, HasIndex, IsNamed, NamedAs, key_tree}
 use Rattle.wit_types.specs.Allowing.{foreign}
 use Rattle.wit_types.proofs.SameKeys.{IsOne, one_id, one_kind, one_key}
@@ -37,6 +37,12 @@ longer_none ts = record { more = []; longer = sym (append-nil ts) }
 
 pub longer_on : {a b c : List TypeTree} → Longer a b → Longer b c → Longer a c
 longer_on {a = a} g h = record { more = g.more ++ h.more; longer = h.longer ∙ (ap (λ m. m ++ h.more) g.longer ∙ append_assoc a g.more h.more) }
+
+pub longer_one : {old new : List TypeTree} {t : TypeTree} → AddsOne old new t → Longer old new
+longer_one {t = t} h = record { more = t ∷ []; longer = h.added }
+
+pub longer_same : {old new : List TypeTree} → new ≡ old → Longer old new
+longer_same {old = old} e = record { more = []; longer = e ∙ sym (append-nil old) }
 
 pub denotes_on : {old new : List TypeTree} {i : ℕ} {t : TypeTree} → Longer old new → Denotes old i t → Denotes new i t
 denotes_on {old = old} {new = new} {i = i} {t = t} g d =
@@ -113,12 +119,12 @@ faithful_after s t old new N M O P maps now f g same kept names known = subst (�
 
 -- the same of what a call that defines a type leaves
 pub faithful_then : (s t : Setting) (old new : List TypeTree) (N M : List ℕ → ℕ → Type 0) (O P : Type 0) (maps now : TypeEncodingMaps) (r : Result ℕ BuildFault) (made : TypeTree) → Faithful s old N O maps → Makes old new r made → t ≡ s → now ≡ maps → ((name : List ℕ) (i : ℕ) → N name i → M name i) → (O → P) → Faithful t new M P now
-faithful_then s t old new N M O P maps now (Ok i) made f m same kept names known = faithful_after s t old new N M O P maps now f m.0 same kept names known
+faithful_then s t old new N M O P maps now (Ok i) made f m same kept names known = faithful_after s t old new N M O P maps now f (longer_one m.0) same kept names known
 faithful_then s t old new N M O P maps now (Err e) made f m same kept names known = faithful_after s t old new N M O P maps now f m same kept names known
 
 pub faithful_maybe : (s t : Setting) (old new : List TypeTree) (N M : List ℕ → ℕ → Type 0) (O P : Type 0) (maps now : TypeEncodingMaps) (r : Result (Option ℕ) BuildFault) (made : TypeTree) → Faithful s old N O maps → MayMake old new r made → t ≡ s → now ≡ maps → ((name : List ℕ) (i : ℕ) → N name i → M name i) → (O → P) → Faithful t new M P now
-faithful_maybe s t old new N M O P maps now (Ok (Some i)) made f m same kept names known = faithful_after s t old new N M O P maps now f m.0 same kept names known
-faithful_maybe s t old new N M O P maps now (Ok None) made f m same kept names known = faithful_after s t old new N M O P maps now f m same kept names known
+faithful_maybe s t old new N M O P maps now (Ok (Some i)) made f m same kept names known = faithful_after s t old new N M O P maps now f (longer_one m.0) same kept names known
+faithful_maybe s t old new N M O P maps now (Ok None) made f m same kept names known = faithful_after s t old new N M O P maps now f (longer_same m) same kept names known
 faithful_maybe s t old new N M O P maps now (Err e) made f m same kept names known = faithful_after s t old new N M O P maps now f m same kept names known
 
 pub index_as : (scope : List TypeTree) (r : Result ℕ BuildFault) (t u : TypeTree) → IfOk r (λ i. Denotes scope i t) → t ≡ u → IfOk r (λ i. Denotes scope i u)

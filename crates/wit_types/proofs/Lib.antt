@@ -6,4 +6,7 @@ pub mod Defining
 pub mod Knowing
 pub mod Parting
 pub mod Calling
+pub mod Adding
+pub mod Ordering
 pub mod Listing
+mod WorkedOrder

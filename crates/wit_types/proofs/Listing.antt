@@ -7,7 +7,7 @@ use Rattle.std.proofs.Math.Seq.{get_or-append_seam}
 use Rattle.comp_trees.specs.DefinedTrees.{TypeTree, OfOthers}
 use Rattle.wit_types.specs.declared.type_list.ListedType.{ListedType}
 use Rattle.comp_trees.specs.DefinedScopes.{Denotes}
-use Rattle.wit_types.specs.Denoting.{Longer, Makes}
+use Rattle.wit_types.specs.Denoting.{Longer, AddsOne, Makes}
 use Rattle.wit_types.proofs.Growing.{longer_none}
 use Rattle.wit_types.specs.Listing.{listed_tree, listed_trees, IsExported, title_of}
 use Rattle.wit_data.specs.declared.types.TypeDef.{TypeDef}
@@ -25,9 +25,9 @@ length_listed types scope (t ∷ ts) = let u = listed_tree types scope t in omeg
 pub length_list : (types : List TypeDef) (ts : List ListedType) → length (listed_trees types [] ts) ≡ length ts
 length_list types ts = omega (arith, length_listed types [] ts)
 
--- a list with one more type has grown, and the new index denotes that type
-pub grows_by : (types : List TypeDef) (old new : List ListedType) (t : ListedType) → new ≡ old ++ t ∷ [] → Longer (listed_trees types [] old) (listed_trees types [] new)
-grows_by types old new t is = record { more = listed_tree types (listed_trees types [] old) t ∷ []; longer = ap (listed_trees types []) is ∙ list_more types [] old t }
+-- a list with one more type has that type more, and the new index denotes it
+pub grows_by : (types : List TypeDef) (old new : List ListedType) (t : ListedType) → new ≡ old ++ t ∷ [] → AddsOne (listed_trees types [] old) (listed_trees types [] new) (listed_tree types (listed_trees types [] old) t)
+grows_by types old new t is = record { added = ap (listed_trees types []) is ∙ list_more types [] old t }
 
 pub denotes_new : (types : List TypeDef) (old new : List ListedType) (t : ListedType) (index : ℕ) → index ≡ length old → new ≡ old ++ t ∷ [] → Denotes (listed_trees types [] new) index (listed_tree types (listed_trees types [] old) t)
 denotes_new types old new t index at is =

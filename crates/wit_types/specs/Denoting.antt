@@ -1,6 +1,6 @@
 -- What type indices and value types denote in a scope, and how a scope grows (component model, explainer: type
 -- definitions; binary: type indices).
-use Rattle.std.specs.Prelude.{ℕ, ◌≡◌, ◌<◌, List, ◌++◌, Option, Some, None, Result, Ok, Err}
+use Rattle.std.specs.Prelude.{ℕ, ◌≡◌, ◌<◌, List, [], ◌∷◌, ◌++◌, Option, Some, None, Result, Ok, Err}
 use Rattle.std.specs.List.{AllByRecursion}
 use Rattle.byte_encoding.specs.declared.fault.BuildFault.{BuildFault}
 use Rattle.byte_encoding.specs.declared.fault.BuildFault.TheVariants.{Memory, TooMany}
@@ -17,6 +17,10 @@ pub record Longer (old new : List TypeTree) : Type 0 where
   pub more : List TypeTree
   pub longer : new ≡ old ++ more
 
+-- this one type stands behind the old ones
+pub record AddsOne (old new : List TypeTree) (t : TypeTree) : Type 0 where
+  pub added : new ≡ old ++ t ∷ []
+
 -- each item that is referred to is one of the first so many types of the scope
 abbrev pub AreTypes : ℕ → List Reference → Type 0
 AreTypes count references = AllByRecursion (λ r. (r ≡ own spaces.Type r.index) × (r.index < count)) references
@@ -29,15 +33,16 @@ IsValue scope (values.Defined index) t = Denotes scope index (OfValues t)
 pub record ValueDenotes (scope : List TypeTree) (v : ComponentValType) (t : Tree) : Type 0 where
   pub is : IsValue scope v t
 
--- The result of a call that defines a type: the scope has grown, and the index denotes the type.
+-- The result of a call that defines a type: the scope has this type more and no other, and the index denotes it. A refusal
+-- leaves the types that there were.
 abbrev pub Makes : List TypeTree → List TypeTree → Result ℕ BuildFault → TypeTree → Type 0
-Makes old new (Ok index) t = Longer old new × Denotes new index t
+Makes old new (Ok index) t = AddsOne old new t × Denotes new index t
 Makes old new (Err e) t = Longer old new
 
 -- The same of a call that may define none.
 abbrev pub MayMake : List TypeTree → List TypeTree → Result (Option ℕ) BuildFault → TypeTree → Type 0
-MayMake old new (Ok (Some index)) t = Longer old new × Denotes new index t
-MayMake old new (Ok None) t = Longer old new
+MayMake old new (Ok (Some index)) t = AddsOne old new t × Denotes new index t
+MayMake old new (Ok None) t = new ≡ old
 MayMake old new (Err e) t = Longer old new
 
 -- Out of memory, or a count for which a call of the scope may have refused, which left the scope so.

@@ -1,5 +1,6 @@
 pub mod Settings
 pub mod Denoting
+pub mod Order
 pub mod Maps
 pub mod Allowing
 pub mod Definitions

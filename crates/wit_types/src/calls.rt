@@ -8,7 +8,8 @@ ghost use Rattle.wit_data.specs.declared.types.Type.TheVariants.{Id};
 ghost use Rattle.wit_data.specs.Values.{kind_at};
 ghost use Rattle.wit_data.specs.Sound.{IsSound, HasType, HasFunction};
 ghost use Rattle.comp_trees.specs.DefinedScopes.{Denotes};
-ghost use Rattle.wit_types.specs.Denoting.{Longer, ValueDenotes, IsCause};
+ghost use Rattle.wit_types.specs.Denoting.{Longer, AddsOne, ValueDenotes, IsCause};
+ghost use Rattle.wit_types.specs.Order.{AddsParts, MayAddFunction};
 ghost use Rattle.wit_types.specs.Maps.{Faithful, HasIndex, IsRecorded, IsNamed, IsNamedValue};
 ghost use Rattle.wit_types.specs.Allowing.{is_allowed, allows_function, IsDefinedHere};
 
@@ -22,7 +23,8 @@ use comp_bytes::{ComponentValType, DefinedType};
 use std::alloc::{AllocError, Global};
 use wit_data::{Function, Resolve, Type, TypeId};
 
-/// The value type of a type of the resolve: it, and all that it is made of, is defined in the scope, where it is not yet.
+/// The value type of a type of the resolve: it, and all that it is made of, is defined in the scope, where it is not yet, and
+/// nothing else is.
 pub fn encode_valtype<E: ValtypeEncoder>(
     alloc: Global,
     encoder: &mut E,
@@ -37,6 +39,7 @@ pub fn encode_valtype<E: ValtypeEncoder>(
     ensures value { IfOk result (λ v. ValueDenotes (E.scope encoder.new) v (wit_tree (E.setting encoder.old).origin resolve.now.types (Some ty.now))) }
     ensures recorded { IfOk result (λ v. IsRecorded (E.maps encoder.new) ty.now v) }
     ensures named { IfOk result (λ v. IsNamedValue (E.setting encoder.old) (E.names encoder.new) ty.now v) }
+    ensures adds { IfOk result (λ v. AddsParts (E.scope encoder.old) (E.scope encoder.new) (wit_tree (E.setting encoder.old).origin resolve.now.types (Some ty.now))) }
     ensures grows { Longer (E.scope encoder.old) (E.scope encoder.new) }
     ensures setting { E.setting encoder.new ≡ E.setting encoder.old }
     ensures faithful { Faithful (E.setting encoder.new) (E.scope encoder.new) (E.names encoder.new) (E.offers encoder.new) (E.maps encoder.new) }
@@ -61,6 +64,7 @@ pub fn encode_definition<E: ValtypeEncoder>(
     requires defined { IsDefinedHere (E.setting encoder.old) (kind_at resolve.now.types id.index) }
     requires faithful { Faithful (E.setting encoder.old) (E.scope encoder.old) (E.names encoder.old) (E.offers encoder.old) (E.maps encoder.old) }
     ensures denotes { IfOk result (λ index. Denotes (E.scope encoder.new) index (OfValues (wit_tree (E.setting encoder.old).origin resolve.now.types (Some (Id id))))) }
+    ensures adds { IfOk result (λ index. AddsParts (E.scope encoder.old) (E.scope encoder.new) (wit_tree (E.setting encoder.old).origin resolve.now.types (Some (Id id)))) }
     ensures grows { Longer (E.scope encoder.old) (E.scope encoder.new) }
     ensures setting { E.setting encoder.new ≡ E.setting encoder.old }
     ensures faithful { Faithful (E.setting encoder.new) (E.scope encoder.new) (E.names encoder.new) (E.offers encoder.new) (E.maps encoder.new) }
@@ -88,7 +92,8 @@ pub fn record_type_index<E: ValtypeEncoder>(
     record_type(encoder, id, index)
 }
 
-/// The index of the type of a function of the resolve, which is defined in the scope, where it is not yet.
+/// The index of the type of a function of the resolve, which is defined in the scope, where it is not yet: first what its
+/// parameters need, in their order, then what its result needs, and then the type itself.
 pub fn encode_func_type<E: ValtypeEncoder>(
     alloc: Global,
     encoder: &mut E,
@@ -101,6 +106,7 @@ pub fn encode_func_type<E: ValtypeEncoder>(
     requires allowed { IsTrue (allows_function (E.setting encoder.old) function.now) }
     requires faithful { Faithful (E.setting encoder.old) (E.scope encoder.old) (E.names encoder.old) (E.offers encoder.old) (E.maps encoder.old) }
     ensures denotes { IfOk result (λ index. Denotes (E.scope encoder.new) index (OfFunctions (wit_function_tree (E.setting encoder.old).origin resolve.now.types function.now))) }
+    ensures adds { IfOk result (λ index. MayAddFunction (E.scope encoder.old) (E.scope encoder.new) (wit_function_tree (E.setting encoder.old).origin resolve.now.types function.now)) }
     ensures grows { Longer (E.scope encoder.old) (E.scope encoder.new) }
     ensures setting { E.setting encoder.new ≡ E.setting encoder.old }
     ensures faithful { Faithful (E.setting encoder.new) (E.scope encoder.new) (E.names encoder.new) (E.offers encoder.new) (E.maps encoder.new) }
@@ -114,6 +120,7 @@ pub fn encode_func_type<E: ValtypeEncoder>(
 pub fn encode_unit_stream<E: ValtypeEncoder>(encoder: &mut E) -> Result<u32, BuildFault>
     requires faithful { Faithful (E.setting encoder.old) (E.scope encoder.old) (E.names encoder.old) (E.offers encoder.old) (E.maps encoder.old) }
     ensures denotes { IfOk result (λ index. Denotes (E.scope encoder.new) index (OfValues (StreamOf Absent))) }
+    ensures adds { IfOk result (λ index. AddsOne (E.scope encoder.old) (E.scope encoder.new) (OfValues (StreamOf Absent))) }
     ensures grows { Longer (E.scope encoder.old) (E.scope encoder.new) }
     ensures setting { E.setting encoder.new ≡ E.setting encoder.old }
     ensures faithful { Faithful (E.setting encoder.new) (E.scope encoder.new) (E.names encoder.new) (E.offers encoder.new) (E.maps encoder.new) }
@@ -127,6 +134,7 @@ pub fn encode_unit_stream<E: ValtypeEncoder>(encoder: &mut E) -> Result<u32, Bui
 pub fn encode_unit_future<E: ValtypeEncoder>(encoder: &mut E) -> Result<u32, BuildFault>
     requires faithful { Faithful (E.setting encoder.old) (E.scope encoder.old) (E.names encoder.old) (E.offers encoder.old) (E.maps encoder.old) }
     ensures denotes { IfOk result (λ index. Denotes (E.scope encoder.new) index (OfValues (FutureOf Absent))) }
+    ensures adds { IfOk result (λ index. AddsOne (E.scope encoder.old) (E.scope encoder.new) (OfValues (FutureOf Absent))) }
     ensures grows { Longer (E.scope encoder.old) (E.scope encoder.new) }
     ensures setting { E.setting encoder.new ≡ E.setting encoder.old }
     ensures faithful { Faithful (E.setting encoder.new) (E.scope encoder.new) (E.names encoder.new) (E.offers encoder.new) (E.maps encoder.new) }

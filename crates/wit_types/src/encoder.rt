@@ -16,7 +16,8 @@ use byte_encoding::BuildFault;
 use comp_bytes::{DefinedType, ExternName, FuncTypeDef};
 use wit_data::{InterfaceId, TypeId};
 
-/// A scope in which types are defined: a component, or an instance type.
+/// A scope in which types are defined: a component, or an instance type. A call that defines, exports or imports a type adds
+/// that type at the end of the scope, and no other.
 pub trait ValtypeEncoder {
     ghost use Rattle.wit_types.specs.declared.maps.TypeEncodingMaps.{TypeEncodingMaps};
 

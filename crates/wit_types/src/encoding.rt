@@ -8,6 +8,7 @@ ghost use Rattle.wit_types.specs.Settings.{tree_in};
 ghost use Rattle.comp_trees.specs.DefinedTrees.{OfValues};
 ghost use Rattle.comp_trees.specs.DefinedScopes.{Denotes};
 ghost use Rattle.wit_types.specs.Denoting.{Longer, ValueDenotes, IsCause};
+ghost use Rattle.wit_types.specs.Order.{AddsParts};
 ghost use Rattle.wit_types.specs.Definitions.{PartDenotes, PartsDenote};
 ghost use Rattle.wit_types.specs.Maps.{Faithful, IsRecorded, IsNamedValue};
 ghost use Rattle.wit_types.specs.Allowing.{is_allowed, IsDefinedHere};
@@ -38,6 +39,7 @@ pub(crate) fn encode_type<E: ValtypeEncoder>(
     ensures value { IfOk result (λ v. ValueDenotes (E.scope encoder.new) v (tree_in (E.setting encoder.old) (Some ty))) }
     ensures recorded { IfOk result (λ v. IsRecorded (E.maps encoder.new) ty v) }
     ensures named { IfOk result (λ v. IsNamedValue (E.setting encoder.old) (E.names encoder.new) ty v) }
+    ensures adds { IfOk result (λ v. AddsParts (E.scope encoder.old) (E.scope encoder.new) (tree_in (E.setting encoder.old) (Some ty))) }
     ensures grows { Longer (E.scope encoder.old) (E.scope encoder.new) }
     ensures setting { E.setting encoder.new ≡ E.setting encoder.old }
     ensures faithful { Faithful (E.setting encoder.new) (E.scope encoder.new) (E.names encoder.new) (E.offers encoder.new) (E.maps encoder.new) }
@@ -66,6 +68,7 @@ fn encode_id<E: ValtypeEncoder>(
     ensures value { IfOk result (λ v. ValueDenotes (E.scope encoder.new) v (tree_in (E.setting encoder.old) (Some (Id id)))) }
     ensures recorded { IfOk result (λ v. IsRecorded (E.maps encoder.new) (Id id) v) }
     ensures named { IfOk result (λ v. IsNamedValue (E.setting encoder.old) (E.names encoder.new) (Id id) v) }
+    ensures adds { IfOk result (λ v. AddsParts (E.scope encoder.old) (E.scope encoder.new) (tree_in (E.setting encoder.old) (Some (Id id)))) }
     ensures grows { Longer (E.scope encoder.old) (E.scope encoder.new) }
     ensures setting { E.setting encoder.new ≡ E.setting encoder.old }
     ensures faithful { Faithful (E.setting encoder.new) (E.scope encoder.new) (E.names encoder.new) (E.offers encoder.new) (E.maps encoder.new) }
@@ -93,6 +96,7 @@ fn encode_parts<E: ValtypeEncoder>(
     requires present { id.index < length types.now }
     requires defined { IsDefinedHere (E.setting encoder.old) (kind_at types.now id.index) }
     ensures parts { IfOk result (λ given. PartsDenote (E.setting encoder.old) (E.scope encoder.new) given.items (kind_at types.now id.index)) }
+    ensures adds { IfOk result (λ given. AddsParts (E.scope encoder.old) (E.scope encoder.new) (tree_in (E.setting encoder.old) (Some (Id id)))) }
     ensures grows { Longer (E.scope encoder.old) (E.scope encoder.new) }
     ensures setting { E.setting encoder.new ≡ E.setting encoder.old }
     ensures faithful { Faithful (E.setting encoder.new) (E.scope encoder.new) (E.names encoder.new) (E.offers encoder.new) (E.maps encoder.new) }
@@ -122,6 +126,7 @@ fn encode_part<E: ValtypeEncoder>(
     requires index { n < length (parts (kind_at types.now id.index)) }
     requires defined { IsDefinedHere (E.setting encoder.old) (kind_at types.now id.index) }
     ensures part { IfOk result (λ v. PartDenotes (E.setting encoder.old) (E.scope encoder.new) v (get_or (parts (kind_at types.now id.index)) n None)) }
+    ensures adds { IfOk result (λ v. AddsParts (E.scope encoder.old) (E.scope encoder.new) (tree_in (E.setting encoder.old) (Some (Id id)))) }
     ensures grows { Longer (E.scope encoder.old) (E.scope encoder.new) }
     ensures setting { E.setting encoder.new ≡ E.setting encoder.old }
     ensures faithful { Faithful (E.setting encoder.new) (E.scope encoder.new) (E.names encoder.new) (E.offers encoder.new) (E.maps encoder.new) }
@@ -152,6 +157,7 @@ fn make_type<E: ValtypeEncoder>(
     ensures value { IfOk result (λ v. ValueDenotes (E.scope encoder.new) v (tree_in (E.setting encoder.old) (Some (Id id)))) }
     ensures recorded { IfOk result (λ v. IsRecorded (E.maps encoder.new) (Id id) v) }
     ensures named { IfOk result (λ v. IsNamedValue (E.setting encoder.old) (E.names encoder.new) (Id id) v) }
+    ensures adds { IfOk result (λ v. AddsParts (E.scope encoder.old) (E.scope encoder.new) (tree_in (E.setting encoder.old) (Some (Id id)))) }
     ensures grows { Longer (E.scope encoder.old) (E.scope encoder.new) }
     ensures setting { E.setting encoder.new ≡ E.setting encoder.old }
     ensures faithful { Faithful (E.setting encoder.new) (E.scope encoder.new) (E.names encoder.new) (E.offers encoder.new) (E.maps encoder.new) }
@@ -176,6 +182,7 @@ pub(crate) fn define_unnamed<E: ValtypeEncoder>(
     requires present { id.index < length types.now }
     requires defined { IsDefinedHere (E.setting encoder.old) (kind_at types.now id.index) }
     ensures denotes { IfOk result (λ index. Denotes (E.scope encoder.new) index (OfValues (tree_in (E.setting encoder.old) (Some (Id id))))) }
+    ensures adds { IfOk result (λ index. AddsParts (E.scope encoder.old) (E.scope encoder.new) (tree_in (E.setting encoder.old) (Some (Id id)))) }
     ensures grows { Longer (E.scope encoder.old) (E.scope encoder.new) }
     ensures setting { E.setting encoder.new ≡ E.setting encoder.old }
     ensures faithful { Faithful (E.setting encoder.new) (E.scope encoder.new) (E.names encoder.new) (E.offers encoder.new) (E.maps encoder.new) }
@@ -201,6 +208,7 @@ fn define_index<E: ValtypeEncoder>(
     requires defined { IsDefinedHere (E.setting encoder.old) (kind_at types.now id.index) }
     requires parts { PartsDenote (E.setting encoder.old) (E.scope encoder.old) given.items (kind_at types.now id.index) }
     ensures denotes { IfOk result (λ index. Denotes (E.scope encoder.new) index (OfValues (tree_in (E.setting encoder.old) (Some (Id id))))) }
+    ensures adds { IfOk result (λ index. AddsParts (E.scope encoder.old) (E.scope encoder.new) (tree_in (E.setting encoder.old) (Some (Id id)))) }
     ensures grows { Longer (E.scope encoder.old) (E.scope encoder.new) }
     ensures setting { E.setting encoder.new ≡ E.setting encoder.old }
     ensures faithful { Faithful (E.setting encoder.new) (E.scope encoder.new) (E.names encoder.new) (E.offers encoder.new) (E.maps encoder.new) }

@@ -9,6 +9,7 @@ ghost use Rattle.wit_data.specs.declared.types.Type.TheVariants.{Id};
 ghost use Rattle.wit_types.specs.Settings.{tree_in, owner_at, name_at};
 ghost use Rattle.comp_trees.specs.DefinedScopes.{Denotes};
 ghost use Rattle.wit_types.specs.Denoting.{Longer, IsCause};
+ghost use Rattle.wit_types.specs.Order.{AddsParts};
 ghost use Rattle.wit_types.specs.Maps.{Faithful, HasIndex, IsNamed};
 ghost use Rattle.wit_types.specs.Allowing.{foreign, is_resource, is_allowed, may_export_as, IsDefinedHere};
 
@@ -40,6 +41,7 @@ pub(crate) fn find_type<E: ValtypeEncoder>(
     ensures named { IfOk result (λ found. IfSome found (λ index. IsNamed (E.setting encoder.old) (E.names encoder.new) id index)) }
     ensures defined { IfOk result (λ found. found ≡ None → IsDefinedHere (E.setting encoder.old) (kind_at types.now id.index)) }
     ensures own { IfOk result (λ found. found ≡ None → (E.setting encoder.old).may_own id.index ≡ true) }
+    ensures adds { IfOk result (λ found. AddsParts (E.scope encoder.old) (E.scope encoder.new) (tree_in (E.setting encoder.old) (Some (Id id)))) }
     ensures grows { Longer (E.scope encoder.old) (E.scope encoder.new) }
     ensures setting { E.setting encoder.new ≡ E.setting encoder.old }
     ensures faithful { Faithful (E.setting encoder.new) (E.scope encoder.new) (E.names encoder.new) (E.offers encoder.new) (E.maps encoder.new) }
@@ -76,6 +78,7 @@ fn import_type<E: ValtypeEncoder>(
     ensures denotes { IfOk result (λ index. Denotes (E.scope encoder.new) index (OfValues (tree_in (E.setting encoder.old) (Some (Id id))))) }
     ensures recorded { IfOk result (λ index. HasIndex (E.maps encoder.new) id) }
     ensures named { IfOk result (λ index. IsNamed (E.setting encoder.old) (E.names encoder.new) id index) }
+    ensures adds { IfOk result (λ index. AddsParts (E.scope encoder.old) (E.scope encoder.new) (tree_in (E.setting encoder.old) (Some (Id id)))) }
     ensures grows { Longer (E.scope encoder.old) (E.scope encoder.new) }
     ensures setting { E.setting encoder.new ≡ E.setting encoder.old }
     ensures faithful { Faithful (E.setting encoder.new) (E.scope encoder.new) (E.names encoder.new) (E.offers encoder.new) (E.maps encoder.new) }
@@ -105,6 +108,7 @@ fn export_resource<E: ValtypeEncoder>(
     ensures denotes { IfOk result (λ index. Denotes (E.scope encoder.new) index (OfValues (tree_in (E.setting encoder.old) (Some (Id id))))) }
     ensures recorded { IfOk result (λ index. HasIndex (E.maps encoder.new) id) }
     ensures named { IfOk result (λ index. IsNamed (E.setting encoder.old) (E.names encoder.new) id index) }
+    ensures adds { IfOk result (λ index. AddsParts (E.scope encoder.old) (E.scope encoder.new) (tree_in (E.setting encoder.old) (Some (Id id)))) }
     ensures grows { Longer (E.scope encoder.old) (E.scope encoder.new) }
     ensures setting { E.setting encoder.new ≡ E.setting encoder.old }
     ensures faithful { Faithful (E.setting encoder.new) (E.scope encoder.new) (E.names encoder.new) (E.offers encoder.new) (E.maps encoder.new) }
@@ -135,6 +139,7 @@ fn export_resource_as<E: ValtypeEncoder>(
     ensures denotes { IfOk result (λ index. Denotes (E.scope encoder.new) index (OfValues (tree_in (E.setting encoder.old) (Some (Id id))))) }
     ensures recorded { IfOk result (λ index. HasIndex (E.maps encoder.new) id) }
     ensures named { IfOk result (λ index. IsNamed (E.setting encoder.old) (E.names encoder.new) id index) }
+    ensures adds { IfOk result (λ index. AddsParts (E.scope encoder.old) (E.scope encoder.new) (tree_in (E.setting encoder.old) (Some (Id id)))) }
     ensures grows { Longer (E.scope encoder.old) (E.scope encoder.new) }
     ensures setting { E.setting encoder.new ≡ E.setting encoder.old }
     ensures faithful { Faithful (E.setting encoder.new) (E.scope encoder.new) (E.names encoder.new) (E.offers encoder.new) (E.maps encoder.new) }

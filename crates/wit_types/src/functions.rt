@@ -1,6 +1,6 @@
 //! Types of functions in a scope.
 
-ghost use Rattle.std.specs.Prelude.{◌≡◌, IfOk, IfErr, IsTrue, Some, length, true};
+ghost use Rattle.std.specs.Prelude.{◌≡◌, IfOk, IfErr, IsTrue, Some, length, true, map, option_map, option_to_list};
 ghost use Rattle.std.specs.List.{AllByRecursion};
 ghost use Rattle.comp_bytes.specs.References.{type_references};
 ghost use Rattle.comp_bytes.specs.declared.types.TypeDef.TheVariants as definitions;
@@ -9,7 +9,8 @@ ghost use Rattle.comp_trees.specs.DefinedTrees.{OfFunctions, function_tree};
 ghost use Rattle.wit_data.specs.Parts.{RefersBack, IsBelow};
 ghost use Rattle.wit_types.specs.Settings.{tree_in};
 ghost use Rattle.comp_trees.specs.DefinedScopes.{Denotes};
-ghost use Rattle.wit_types.specs.Denoting.{Longer, AreTypes, IsCause};
+ghost use Rattle.wit_types.specs.Denoting.{Longer, AddsOne, AreTypes, IsCause};
+ghost use Rattle.wit_types.specs.Order.{IsEncoded, AreEncoded, AddsFunction, MayAddFunction};
 ghost use Rattle.wit_types.specs.Definitions.{PartDenotes};
 ghost use Rattle.wit_types.specs.Maps.{Faithful, key_params, key_of, key_tree};
 ghost use Rattle.wit_types.specs.Functions.{FieldDenotes, FieldsDenote};
@@ -38,6 +39,7 @@ pub(crate) fn encode_function<E: ValtypeEncoder>(
     requires params { AllByRecursion (λ p. MayEncode (E.setting encoder.old) types.now (Some p.ty)) (key_of function.now).params }
     requires result { MayEncode (E.setting encoder.old) types.now function.now.result }
     ensures denotes { IfOk result (λ index. Denotes (E.scope encoder.new) index (OfFunctions (key_tree (E.setting encoder.old) (key_of function.now)))) }
+    ensures adds { IfOk result (λ index. MayAddFunction (E.scope encoder.old) (E.scope encoder.new) (key_tree (E.setting encoder.old) (key_of function.now))) }
     ensures grows { Longer (E.scope encoder.old) (E.scope encoder.new) }
     ensures setting { E.setting encoder.new ≡ E.setting encoder.old }
     ensures faithful { Faithful (E.setting encoder.new) (E.scope encoder.new) (E.names encoder.new) (E.offers encoder.new) (E.maps encoder.new) }
@@ -102,6 +104,7 @@ fn encode_key<E: ValtypeEncoder>(
     requires params { AllByRecursion (λ p. MayEncode (E.setting encoder.old) types.now (Some p.ty)) key.params }
     requires result { MayEncode (E.setting encoder.old) types.now key.result }
     ensures denotes { IfOk result (λ index. Denotes (E.scope encoder.new) index (OfFunctions (key_tree (E.setting encoder.old) key))) }
+    ensures adds { IfOk result (λ index. AddsFunction (E.scope encoder.old) (E.scope encoder.new) (key_tree (E.setting encoder.old) key)) }
     ensures grows { Longer (E.scope encoder.old) (E.scope encoder.new) }
     ensures setting { E.setting encoder.new ≡ E.setting encoder.old }
     ensures faithful { Faithful (E.setting encoder.new) (E.scope encoder.new) (E.names encoder.new) (E.offers encoder.new) (E.maps encoder.new) }
@@ -126,6 +129,7 @@ fn define_function<E: ValtypeEncoder>(
     requires params { AllByRecursion (λ p. MayEncode (E.setting encoder.old) types.now (Some p.ty)) key.now.params }
     requires result { MayEncode (E.setting encoder.old) types.now key.now.result }
     ensures denotes { IfOk result (λ index. Denotes (E.scope encoder.new) index (OfFunctions (key_tree (E.setting encoder.old) key.now))) }
+    ensures adds { IfOk result (λ index. AddsFunction (E.scope encoder.old) (E.scope encoder.new) (key_tree (E.setting encoder.old) key.now)) }
     ensures grows { Longer (E.scope encoder.old) (E.scope encoder.new) }
     ensures setting { E.setting encoder.new ≡ E.setting encoder.old }
     ensures faithful { Faithful (E.setting encoder.new) (E.scope encoder.new) (E.names encoder.new) (E.offers encoder.new) (E.maps encoder.new) }
@@ -148,6 +152,7 @@ fn define_made<E: ValtypeEncoder>(
     requires params { FieldsDenote (E.setting encoder.old) (E.scope encoder.old) params key.now.params }
     requires result { PartDenotes (E.setting encoder.old) (E.scope encoder.old) returned key.now.result }
     ensures denotes { IfOk result (λ index. Denotes (E.scope encoder.new) index (OfFunctions (key_tree (E.setting encoder.old) key.now))) }
+    ensures adds { IfOk result (λ index. AddsOne (E.scope encoder.old) (E.scope encoder.new) (OfFunctions (key_tree (E.setting encoder.old) key.now))) }
     ensures grows { Longer (E.scope encoder.old) (E.scope encoder.new) }
     ensures setting { E.setting encoder.new ≡ E.setting encoder.old }
     ensures faithful { Faithful (E.setting encoder.new) (E.scope encoder.new) (E.names encoder.new) (E.offers encoder.new) (E.maps encoder.new) }
@@ -173,6 +178,7 @@ fn encode_params<E: ValtypeEncoder>(
     requires faithful { Faithful (E.setting encoder.old) (E.scope encoder.old) (E.names encoder.old) (E.offers encoder.old) (E.maps encoder.old) }
     requires params { AllByRecursion (λ p. MayEncode (E.setting encoder.old) types.now (Some p.ty)) params.now }
     ensures fields { IfOk result (λ fields. FieldsDenote (E.setting encoder.old) (E.scope encoder.new) fields params.now) }
+    ensures adds { IfOk result (λ fields. AreEncoded (E.scope encoder.old) (map (λ p. tree_in (E.setting encoder.old) (Some p.ty)) params.now) (E.scope encoder.new)) }
     ensures grows { Longer (E.scope encoder.old) (E.scope encoder.new) }
     ensures setting { E.setting encoder.new ≡ E.setting encoder.old }
     ensures faithful { Faithful (E.setting encoder.new) (E.scope encoder.new) (E.names encoder.new) (E.offers encoder.new) (E.maps encoder.new) }
@@ -198,6 +204,7 @@ fn encode_param<E: ValtypeEncoder>(
     requires faithful { Faithful (E.setting encoder.old) (E.scope encoder.old) (E.names encoder.old) (E.offers encoder.old) (E.maps encoder.old) }
     requires param { MayEncode (E.setting encoder.old) types.now (Some param.now.ty) }
     ensures field { IfOk result (λ field. FieldDenotes (E.setting encoder.old) (E.scope encoder.new) field param.now) }
+    ensures adds { IfOk result (λ field. IsEncoded (E.scope encoder.old) (E.scope encoder.new) (tree_in (E.setting encoder.old) (Some param.now.ty))) }
     ensures grows { Longer (E.scope encoder.old) (E.scope encoder.new) }
     ensures setting { E.setting encoder.new ≡ E.setting encoder.old }
     ensures faithful { Faithful (E.setting encoder.new) (E.scope encoder.new) (E.names encoder.new) (E.offers encoder.new) (E.maps encoder.new) }
@@ -221,6 +228,7 @@ fn encode_payload<E: ValtypeEncoder>(
     requires faithful { Faithful (E.setting encoder.old) (E.scope encoder.old) (E.names encoder.old) (E.offers encoder.old) (E.maps encoder.old) }
     requires part { MayEncode (E.setting encoder.old) types.now part }
     ensures value { IfOk result (λ v. PartDenotes (E.setting encoder.old) (E.scope encoder.new) v part) }
+    ensures adds { IfOk result (λ v. AreEncoded (E.scope encoder.old) (option_to_list (option_map (λ t. tree_in (E.setting encoder.old) (Some t)) part)) (E.scope encoder.new)) }
     ensures grows { Longer (E.scope encoder.old) (E.scope encoder.new) }
     ensures setting { E.setting encoder.new ≡ E.setting encoder.old }
     ensures faithful { Faithful (E.setting encoder.new) (E.scope encoder.new) (E.names encoder.new) (E.offers encoder.new) (E.maps encoder.new) }

@@ -19,15 +19,19 @@
 //! the list of types that a type is made of).
 //!
 //! In `specs/`: `Settings` (what a scope takes as given), `Denoting` (what indices and value types denote, and how a scope
-//! grows), `Maps` (what the tables say), `Allowing` (which types may be encoded in a scope), `Definitions` and `Functions`
-//! (definitions from the value types of parts), `Listing` (the list that stands alone).
+//! grows), `Order` (parts of a tree; which types are added for a type and for a function, and in which order), `Maps` (what
+//! the tables say), `Allowing` (which types may be encoded in a scope), `Definitions` and `Functions` (definitions from the
+//! value types of parts), `Listing` (the list that stands alone).
 //!
 //! Upward this crate promises: where [`encode_valtype`] succeeds, its result denotes the tree of the WIT type; a type
 //! that is one of the scope is in the tables, and its index is that of its export where it has a name and the scope
 //! exports its types; the index that [`encode_func_type`] returns denotes the tree of the function, and those of
 //! [`encode_unit_stream`] and [`encode_unit_future`] a stream and a future that carry nothing. A scope that gives a type its
 //! name itself takes a definition without the name from [`encode_definition`], whose index denotes the type's tree, and says
-//! by [`record_type_index`] which index has the name; later types find it in the tables. Whatever the result, types were
+//! by [`record_type_index`] which index has the name; later types find it in the tables. Where a call succeeds, each type that
+//! it has added is the type that was asked for or a part of it (`AddsParts`); and for a function there were added first what
+//! its parameters need, parameter by parameter, then what its result needs, and then the type of the function, or nothing,
+//! where such a type was met (`MayAddFunction`). Whatever the result, types were
 //! added at the end of the scope alone, the tables are right, and the scope has become one that its implementation allows
 //! (`follows`). A refusal is out of memory, or that of a call of the scope (`IsCause`).
 #![tactic(auto)]

@@ -10,7 +10,8 @@ ghost use Rattle.wit_data.specs.Values.{kind_at};
 ghost use Rattle.wit_data.specs.declared.types.Type.TheVariants.{Id};
 ghost use Rattle.wit_types.specs.Settings.{tree_in};
 ghost use Rattle.comp_trees.specs.DefinedScopes.{Denotes};
-ghost use Rattle.wit_types.specs.Denoting.{Longer, AreTypes, ValueDenotes, IsCause};
+ghost use Rattle.wit_types.specs.Denoting.{Longer, AddsOne, AreTypes, ValueDenotes, IsCause};
+ghost use Rattle.wit_types.specs.Order.{AddsParts};
 ghost use Rattle.wit_types.specs.Definitions.{PartsDenote, OnlyPart, IsDefined};
 ghost use Rattle.wit_types.specs.Maps.{Faithful};
 ghost use Rattle.wit_types.specs.Allowing.{IsDefinedHere};
@@ -37,6 +38,7 @@ pub(crate) fn define<E: ValtypeEncoder>(
     requires defined { IsDefinedHere (E.setting encoder.old) (kind_at types.now id.index) }
     requires parts { PartsDenote (E.setting encoder.old) (E.scope encoder.old) given.now (kind_at types.now id.index) }
     ensures value { IfOk result (λ v. ValueDenotes (E.scope encoder.new) v (tree_in (E.setting encoder.old) (Some (Id id)))) }
+    ensures adds { IfOk result (λ v. AddsParts (E.scope encoder.old) (E.scope encoder.new) (tree_in (E.setting encoder.old) (Some (Id id)))) }
     ensures grows { Longer (E.scope encoder.old) (E.scope encoder.new) }
     ensures setting { E.setting encoder.new ≡ E.setting encoder.old }
     ensures faithful { Faithful (E.setting encoder.new) (E.scope encoder.new) (E.names encoder.new) (E.offers encoder.new) (E.maps encoder.new) }
@@ -75,6 +77,7 @@ fn define_own<E: ValtypeEncoder>(
     requires faithful { Faithful (E.setting encoder.old) (E.scope encoder.old) (E.names encoder.old) (E.offers encoder.old) (E.maps encoder.old) }
     requires only { OnlyPart (E.setting encoder.old) (E.scope encoder.old) given.now (Id resource) }
     ensures value { IfOk result (λ v. ValueDenotes (E.scope encoder.new) v (OwnOf (tree_in (E.setting encoder.old) (Some (Id resource))))) }
+    ensures adds { IfOk result (λ v. AddsParts (E.scope encoder.old) (E.scope encoder.new) (OwnOf (tree_in (E.setting encoder.old) (Some (Id resource))))) }
     ensures grows { Longer (E.scope encoder.old) (E.scope encoder.new) }
     ensures setting { E.setting encoder.new ≡ E.setting encoder.old }
     ensures faithful { Faithful (E.setting encoder.new) (E.scope encoder.new) (E.names encoder.new) (E.offers encoder.new) (E.maps encoder.new) }
@@ -96,6 +99,7 @@ fn define_borrow<E: ValtypeEncoder>(
     requires faithful { Faithful (E.setting encoder.old) (E.scope encoder.old) (E.names encoder.old) (E.offers encoder.old) (E.maps encoder.old) }
     requires only { OnlyPart (E.setting encoder.old) (E.scope encoder.old) given.now (Id resource) }
     ensures value { IfOk result (λ v. ValueDenotes (E.scope encoder.new) v (BorrowOf (tree_in (E.setting encoder.old) (Some (Id resource))))) }
+    ensures adds { IfOk result (λ v. AddsParts (E.scope encoder.old) (E.scope encoder.new) (BorrowOf (tree_in (E.setting encoder.old) (Some (Id resource))))) }
     ensures grows { Longer (E.scope encoder.old) (E.scope encoder.new) }
     ensures setting { E.setting encoder.new ≡ E.setting encoder.old }
     ensures faithful { Faithful (E.setting encoder.new) (E.scope encoder.new) (E.names encoder.new) (E.offers encoder.new) (E.maps encoder.new) }
@@ -119,6 +123,7 @@ fn define_kind<E: ValtypeEncoder>(
     requires defined { IsDefined kind.now }
     requires parts { PartsDenote (E.setting encoder.old) (E.scope encoder.old) given.now kind.now }
     ensures value { (n : ℕ) → IfOk result (λ v. ValueDenotes (E.scope encoder.new) v (kind_tree (E.setting encoder.old).origin n kind.now (map (tree_in (E.setting encoder.old)) (parts kind.now)))) }
+    ensures adds { (n : ℕ) → IfOk result (λ v. AddsParts (E.scope encoder.old) (E.scope encoder.new) (kind_tree (E.setting encoder.old).origin n kind.now (map (tree_in (E.setting encoder.old)) (parts kind.now)))) }
     ensures grows { Longer (E.scope encoder.old) (E.scope encoder.new) }
     ensures setting { E.setting encoder.new ≡ E.setting encoder.old }
     ensures faithful { Faithful (E.setting encoder.new) (E.scope encoder.new) (E.names encoder.new) (E.offers encoder.new) (E.maps encoder.new) }
@@ -138,6 +143,7 @@ pub(crate) fn index_of<E: ValtypeEncoder>(
 ) -> Result<u32, BuildFault>
     requires faithful { Faithful (E.setting encoder.old) (E.scope encoder.old) (E.names encoder.old) (E.offers encoder.old) (E.maps encoder.old) }
     ensures denotes { (t : Tree) → ValueDenotes (E.scope encoder.old) value t → IfOk result (λ index. Denotes (E.scope encoder.new) index (OfValues t)) }
+    ensures adds { (t : Tree) → ValueDenotes (E.scope encoder.old) value t → IfOk result (λ index. AddsParts (E.scope encoder.old) (E.scope encoder.new) t) }
     ensures grows { Longer (E.scope encoder.old) (E.scope encoder.new) }
     ensures setting { E.setting encoder.new ≡ E.setting encoder.old }
     ensures faithful { Faithful (E.setting encoder.new) (E.scope encoder.new) (E.names encoder.new) (E.offers encoder.new) (E.maps encoder.new) }
@@ -161,6 +167,7 @@ pub(crate) fn define_type<E: ValtypeEncoder>(
     requires present { AreTypes (length (E.scope encoder.old)) (defined_references ty) }
     requires known { is_known (defined_tree (E.scope encoder.old) ty) ≡ true }
     ensures denotes { IfOk result (λ index. Denotes (E.scope encoder.new) index (OfValues (defined_tree (E.scope encoder.old) ty))) }
+    ensures adds { IfOk result (λ index. AddsOne (E.scope encoder.old) (E.scope encoder.new) (OfValues (defined_tree (E.scope encoder.old) ty))) }
     ensures grows { Longer (E.scope encoder.old) (E.scope encoder.new) }
     ensures setting { E.setting encoder.new ≡ E.setting encoder.old }
     ensures faithful { Faithful (E.setting encoder.new) (E.scope encoder.new) (E.names encoder.new) (E.offers encoder.new) (E.maps encoder.new) }

@@ -8,6 +8,7 @@ ghost use Rattle.wit_data.specs.declared.types.Type.TheVariants.{Id};
 ghost use Rattle.wit_types.specs.Settings.{tree_in, name_at};
 ghost use Rattle.comp_trees.specs.DefinedScopes.{Denotes};
 ghost use Rattle.wit_types.specs.Denoting.{Longer, ValueDenotes, IsCause};
+ghost use Rattle.wit_types.specs.Order.{AddsParts};
 ghost use Rattle.wit_types.specs.Maps.{Faithful, IsRecorded, IsNamed, IsNamedValue};
 ghost use Rattle.wit_types.specs.Allowing.{is_resource};
 
@@ -39,6 +40,7 @@ pub(crate) fn export_and_record<E: ValtypeEncoder>(
     ensures value { IfOk result (λ v. ValueDenotes (E.scope encoder.new) v (tree_in (E.setting encoder.old) (Some (Id id)))) }
     ensures recorded { IfOk result (λ v. IsRecorded (E.maps encoder.new) (Id id) v) }
     ensures named { IfOk result (λ v. IsNamedValue (E.setting encoder.old) (E.names encoder.new) (Id id) v) }
+    ensures adds { IfOk result (λ v. AddsParts (E.scope encoder.old) (E.scope encoder.new) (tree_in (E.setting encoder.old) (Some (Id id)))) }
     ensures grows { Longer (E.scope encoder.old) (E.scope encoder.new) }
     ensures setting { E.setting encoder.new ≡ E.setting encoder.old }
     ensures faithful { Faithful (E.setting encoder.new) (E.scope encoder.new) (E.names encoder.new) (E.offers encoder.new) (E.maps encoder.new) }
@@ -69,6 +71,7 @@ fn record_named<E: ValtypeEncoder>(
     ensures value { IfOk result (λ v. ValueDenotes (E.scope encoder.new) v (tree_in (E.setting encoder.old) (Some (Id id)))) }
     ensures recorded { IfOk result (λ v. IsRecorded (E.maps encoder.new) (Id id) v) }
     ensures named { IfOk result (λ v. IsNamedValue (E.setting encoder.old) (E.names encoder.new) (Id id) v) }
+    ensures adds { IfOk result (λ v. AddsParts (E.scope encoder.old) (E.scope encoder.new) (tree_in (E.setting encoder.old) (Some (Id id)))) }
     ensures grows { Longer (E.scope encoder.old) (E.scope encoder.new) }
     ensures setting { E.setting encoder.new ≡ E.setting encoder.old }
     ensures faithful { Faithful (E.setting encoder.new) (E.scope encoder.new) (E.names encoder.new) (E.offers encoder.new) (E.maps encoder.new) }
@@ -98,6 +101,7 @@ fn export_index<E: ValtypeEncoder>(
     requires denotes { Denotes (E.scope encoder.old) defined (OfValues (tree_in (E.setting encoder.old) (Some (Id id)))) }
     ensures named { IfOk result (λ index. IsNamed (E.setting encoder.old) (E.names encoder.new) id index) }
     ensures denotes { IfOk result (λ index. Denotes (E.scope encoder.new) index (OfValues (tree_in (E.setting encoder.old) (Some (Id id))))) }
+    ensures adds { IfOk result (λ index. AddsParts (E.scope encoder.old) (E.scope encoder.new) (tree_in (E.setting encoder.old) (Some (Id id)))) }
     ensures grows { Longer (E.scope encoder.old) (E.scope encoder.new) }
     ensures setting { E.setting encoder.new ≡ E.setting encoder.old }
     ensures faithful { Faithful (E.setting encoder.new) (E.scope encoder.new) (E.names encoder.new) (E.offers encoder.new) (E.maps encoder.new) }
@@ -135,7 +139,7 @@ fn record_unnamed<E: ValtypeEncoder>(
     ensures value { IfOk result (λ v. ValueDenotes (E.scope encoder.new) v (tree_in (E.setting encoder.old) (Some (Id id)))) }
     ensures recorded { IfOk result (λ v. IsRecorded (E.maps encoder.new) (Id id) v) }
     ensures named { IfOk result (λ v. IsNamedValue (E.setting encoder.old) (E.names encoder.new) (Id id) v) }
-    ensures grows { Longer (E.scope encoder.old) (E.scope encoder.new) }
+    ensures scope { E.scope encoder.new ≡ E.scope encoder.old }
     ensures setting { E.setting encoder.new ≡ E.setting encoder.old }
     ensures faithful { Faithful (E.setting encoder.new) (E.scope encoder.new) (E.names encoder.new) (E.offers encoder.new) (E.maps encoder.new) }
     ensures follows { E.follows encoder.old encoder.new }

@@ -7,6 +7,7 @@ use Rattle.wit_types.proofs.Permitting.{params_may}
 use Rattle.comp_trees.specs.DefinedTrees.{OfFunctions}
 use Rattle.wit_types.proofs.Growing.{index_as}
 use Rattle.wit_types.proofs.Calling.{key_is}
+use Rattle.wit_types.proofs.Ordering.{may_add_as}
 use Rattle.wit_types.proofs.calls.encode_func_type.Goals as goal
 
 pub returns-clause-denotes : goal.returns-clause-denotes
@@ -19,3 +20,8 @@ encode_function-requires-clause-params g c =
     let s = g.E.ValtypeEncoder.setting c.args.encoder.now in
     subst (λ (ts : List TypeDef). AllByRecursion (λ p. MayEncode s ts (Some p.ty)) (key_params c.args.function.now.params)) (sym c.as_slice.ensures)
     (params_may s c.args.resolve.now.types c.args.function.now.params (is_allowed s c.args.function.now.result) c.requires.present.params c.requires.allowed)
+
+pub returns-clause-adds : goal.returns-clause-adds
+returns-clause-adds g c =
+    may_add_as _ _ c.encode_function.result _ _ c.encode_function.ensures.adds
+    (key_is (g.E.ValtypeEncoder.setting c.args.encoder.now) c.args.resolve.now.types c.args.function.now c.requires.same)

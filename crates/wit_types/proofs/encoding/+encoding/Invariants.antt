@@ -1,6 +1,9 @@
 use Rattle.std.proofs.Common.{◌≡◌, ◌+◌, ◌*◌, Some}
 use Rattle.wit_data.specs.Parts.{height}
 use Rattle.wit_data.specs.Values.{kind_at}
+use Rattle.wit_data.specs.declared.types.Type.TheVariants.{Id}
+use Rattle.wit_types.specs.Settings.{tree_in}
+use Rattle.wit_types.specs.Order.{AddsParts}
 use Rattle.wit_types.specs.Denoting.{Longer}
 use Rattle.wit_types.specs.Maps.{Faithful}
 use Rattle.wit_types.specs.Allowing.{IsDefinedHere}
@@ -26,6 +29,7 @@ invariant-encode_parts-loop-n g l =
       same : (g.E.ValtypeEncoder.setting l.encoder).types ≡ l.types;
       defined : IsDefinedHere (g.E.ValtypeEncoder.setting l.encoder) (kind_at l.types l.id.index);
       grows : Longer (g.E.ValtypeEncoder.scope l.fn.encoder) (g.E.ValtypeEncoder.scope l.encoder);
+      adds : AddsParts (g.E.ValtypeEncoder.scope l.fn.encoder) (g.E.ValtypeEncoder.scope l.encoder) (tree_in (g.E.ValtypeEncoder.setting l.fn.encoder) (Some (Id l.id)));
       setting : g.E.ValtypeEncoder.setting l.encoder ≡ g.E.ValtypeEncoder.setting l.fn.encoder;
       faithful : Faithful (g.E.ValtypeEncoder.setting l.encoder) (g.E.ValtypeEncoder.scope l.encoder) (g.E.ValtypeEncoder.names l.encoder) (g.E.ValtypeEncoder.offers l.encoder) (g.E.ValtypeEncoder.maps l.encoder);
       follows : g.E.ValtypeEncoder.follows l.fn.encoder l.encoder;

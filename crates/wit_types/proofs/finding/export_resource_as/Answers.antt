@@ -2,7 +2,8 @@ use Rattle.std.proofs.Common.{ap, sym, refl, ◌∙◌, Some}
 use Rattle.comp_trees.specs.DefinedTrees.{OfValues}
 use Rattle.wit_data.specs.declared.types.Type.TheVariants.{Id}
 use Rattle.wit_types.specs.Settings.{Setting, tree_in}
-use Rattle.wit_types.proofs.Growing.{faithful_after, denotes_as, named_by}
+use Rattle.wit_types.proofs.Adding.{one_as, type_added}
+use Rattle.wit_types.proofs.Growing.{longer_one, faithful_after, denotes_as, named_by}
 use Rattle.wit_types.proofs.Permitting.{named_resource, names_resource, resource_tree}
 use Rattle.wit_types.proofs.finding.export_resource_as.Goals as goal
 
@@ -17,7 +18,7 @@ pub returns-in_err-index-clause-faithful : goal.returns-in_err-index-clause-fait
 returns-in_err-index-clause-faithful g c = faithful_after _ _ _ _ _ _ _ _ _ _ c.requires.faithful c.in_err-index.ensures.makes c.in_err-index.ensures.setting c.in_err-index.ensures.maps (g.E.ValtypeEncoder.names_kept _ _ c.in_err-index.ensures.follows) (g.E.ValtypeEncoder.offers_kept _ _ c.in_err-index.ensures.follows)
 
 pub record_type-requires-clause-faithful : goal.record_type-requires-clause-faithful
-record_type-requires-clause-faithful g c = faithful_after _ _ _ _ _ _ _ _ _ _ c.requires.faithful c.in_ok-index.ensures.makes.0 c.in_ok-index.ensures.setting c.in_ok-index.ensures.maps (g.E.ValtypeEncoder.names_kept _ _ c.in_ok-index.ensures.follows) (g.E.ValtypeEncoder.offers_kept _ _ c.in_ok-index.ensures.follows)
+record_type-requires-clause-faithful g c = faithful_after _ _ _ _ _ _ _ _ _ _ c.requires.faithful (longer_one c.in_ok-index.ensures.makes.0) c.in_ok-index.ensures.setting c.in_ok-index.ensures.maps (g.E.ValtypeEncoder.names_kept _ _ c.in_ok-index.ensures.follows) (g.E.ValtypeEncoder.offers_kept _ _ c.in_ok-index.ensures.follows)
 
 pub record_type-requires-clause-denotes : goal.record_type-requires-clause-denotes
 record_type-requires-clause-denotes g c =
@@ -38,3 +39,10 @@ record_type-requires-clause-named g c =
 
 pub returns-in_err-record_type-clause-follows : goal.returns-in_err-record_type-clause-follows
 returns-in_err-record_type-clause-follows g c = g.E.ValtypeEncoder.follows_on _ _ _ c.in_ok-index.ensures.follows c.record_type.ensures.follows
+
+pub returns-clause-adds : goal.returns-clause-adds
+returns-clause-adds g c =
+    let s = g.E.ValtypeEncoder.setting c.args.encoder.now in
+    type_added _ _ _ _
+    (resource_tree s c.args.types.now c.args.id (s.resource c.args.name) c.requires.same c.requires.back c.requires.present c.requires.resource (named_resource s c.args.id.index c.args.name c.requires.named).1)
+    (one_as c.in_ok-index.ensures.makes.0 c.record_type.ensures.scope)

@@ -2,6 +2,7 @@ use Rattle.std.proofs.Common.{ap, ◌∙◌}
 use Rattle.comp_trees.specs.Trees.{is_known_function}
 use Rattle.comp_trees.specs.DefinedTrees.{OfFunctions}
 use Rattle.wit_types.proofs.Growing.{faithful_then, made_as}
+use Rattle.wit_types.proofs.Adding.{made_as_one}
 use Rattle.wit_types.proofs.Calling.{function_stands, function_is}
 use Rattle.wit_types.proofs.Knowing.{key_known}
 use Rattle.wit_types.proofs.functions.define_made.Goals as goal
@@ -21,4 +22,9 @@ returns-clause-faithful g c = faithful_then _ _ _ _ _ _ _ _ _ _ c.define_functio
 pub returns-clause-denotes : goal.returns-clause-denotes
 returns-clause-denotes g c =
     made_as _ _ c.define_function_type.result _ _ c.define_function_type.ensures.makes
+    (ap OfFunctions (function_is (g.E.ValtypeEncoder.setting c.args.encoder.now) (g.E.ValtypeEncoder.scope c.args.encoder.now) c.args.key.now c.args.params c.args.returned c.requires.params c.requires.result))
+
+pub returns-clause-adds : goal.returns-clause-adds
+returns-clause-adds g c =
+    made_as_one _ _ c.define_function_type.result _ _ c.define_function_type.ensures.makes
     (ap OfFunctions (function_is (g.E.ValtypeEncoder.setting c.args.encoder.now) (g.E.ValtypeEncoder.scope c.args.encoder.now) c.args.key.now c.args.params c.args.returned c.requires.params c.requires.result))

@@ -1,10 +1,12 @@
 use Rattle.std.proofs.Common.{◌<◌, length, sym, ap, subst, ◌∙◌, arith, Some}
 use Rattle.std.specs.List.{AllByRecursion}
-use Rattle.wit_types.specs.Settings.{Setting}
+use Rattle.wit_types.specs.Settings.{Setting, tree_in}
+use Rattle.wit_types.specs.Order.{IsEncoded}
 use Rattle.wit_types.specs.Functions.{FieldDenotes}
 use Rattle.wit_types.specs.Allowing.{MayEncode}
 use Rattle.wit_types.proofs.Growing.{longer_on}
 use Rattle.wit_types.proofs.Calling.{fields_more}
+use Rattle.wit_types.proofs.Ordering.{encoded_more}
 use Rattle.wit_types.proofs.functions.encode_params.Goals as goal
 
 pub loop-n-preserved : goal.loop-n-preserved
@@ -16,6 +18,8 @@ loop-n-preserved g c =
       fields = fields_more (g.E.ValtypeEncoder.setting c.args.encoder.now) (g.E.ValtypeEncoder.scope c.loop-n.encoder) (g.E.ValtypeEncoder.scope c.encode_param.new.encoder)
           c.loop-n.fields c.push.new.self c.args.params.now c.loop-n.n c.in_ok-encode_param.field-0 c.index-params-n.result e.grows within c.in_ok-push.ensures.ok i.fields c.index-params-n.is
           (subst (λ (s : Setting). FieldDenotes s (g.E.ValtypeEncoder.scope c.encode_param.new.encoder) c.in_ok-encode_param.field-0 c.index-params-n.result) i.setting e.field);
+      encoded = encoded_more (g.E.ValtypeEncoder.setting c.args.encoder.now) _ _ _ c.args.params.now c.loop-n.n c.index-params-n.result within c.index-params-n.is i.encoded
+          (subst (λ (s : Setting). IsEncoded (g.E.ValtypeEncoder.scope c.loop-n.encoder) (g.E.ValtypeEncoder.scope c.encode_param.new.encoder) (tree_in s (Some c.index-params-n.result.ty))) i.setting e.adds);
       same = ap (λ (s : Setting). s.types) e.setting ∙ i.same;
       params = subst (λ (s : Setting). AllByRecursion (λ p. MayEncode s c.args.types.now (Some p.ty)) c.args.params.now) (sym e.setting) i.params;
       grows = longer_on i.grows e.grows;

@@ -1,6 +1,7 @@
-use Rattle.std.proofs.Common.{sym, ◌∙◌}
+use Rattle.std.proofs.Common.{refl, sym, ◌∙◌}
 use Rattle.wit_data.specs.declared.types.TypeDefKind.TheVariants as kinds
 use Rattle.wit_types.proofs.Growing.{value_as, result_as}
+use Rattle.wit_types.proofs.Adding.{nothing_added, result_adds}
 use Rattle.wit_types.proofs.Permitting.{tree_of_kind}
 use Rattle.wit_types.proofs.making.define.Goals as goal
 
@@ -22,4 +23,22 @@ returns-in-Borrow-clause-value g c =
 pub returns-in_default-clause-value : goal.returns-in_default-clause-value
 returns-in_default-clause-value g c =
     result_as (g.E.ValtypeEncoder.scope c.define_kind.new.encoder) c.define_kind.result _ _ (c.define_kind.ensures.value c.args.id.index)
+    (tree_of_kind (g.E.ValtypeEncoder.setting c.args.encoder.now) c.args.types.now c.args.id c.kind_of.result.now c.requires.same c.requires.back c.requires.present c.kind_of.ensures)
+
+pub returns-in-Alias-clause-adds : goal.returns-in-Alias-clause-adds
+returns-in-Alias-clause-adds g c = nothing_added _ _ _ refl
+
+pub returns-in-Own-clause-adds : goal.returns-in-Own-clause-adds
+returns-in-Own-clause-adds g c =
+    result_adds _ _ c.define_own.result _ _ c.define_own.ensures.adds
+    (tree_of_kind (g.E.ValtypeEncoder.setting c.args.encoder.now) c.args.types.now c.args.id (kinds.Own c.in-Own.resource) c.requires.same c.requires.back c.requires.present (sym c.in-Own.is ∙ c.kind_of.ensures))
+
+pub returns-in-Borrow-clause-adds : goal.returns-in-Borrow-clause-adds
+returns-in-Borrow-clause-adds g c =
+    result_adds _ _ c.define_borrow.result _ _ c.define_borrow.ensures.adds
+    (tree_of_kind (g.E.ValtypeEncoder.setting c.args.encoder.now) c.args.types.now c.args.id (kinds.Borrow c.in-Borrow.resource) c.requires.same c.requires.back c.requires.present (sym c.in-Borrow.is ∙ c.kind_of.ensures))
+
+pub returns-in_default-clause-adds : goal.returns-in_default-clause-adds
+returns-in_default-clause-adds g c =
+    result_adds _ _ c.define_kind.result _ _ (c.define_kind.ensures.adds c.args.id.index)
     (tree_of_kind (g.E.ValtypeEncoder.setting c.args.encoder.now) c.args.types.now c.args.id c.kind_of.result.now c.requires.same c.requires.back c.requires.present c.kind_of.ensures)

@@ -1,5 +1,9 @@
-use Rattle.std.proofs.Common.{Some}
+use Rattle.std.proofs.Common.{ap, refl, inl, inr, Some}
+use Rattle.comp_trees.specs.Trees.{BorrowOf}
+use Rattle.comp_trees.specs.DefinedTrees.{values_of}
 use Rattle.wit_data.specs.declared.types.Type.TheVariants.{Id}
+use Rattle.wit_types.specs.Settings.{tree_in}
+use Rattle.wit_types.proofs.Adding.{added_then, added_within, type_added}
 use Rattle.wit_types.proofs.Knowing.{index_known}
 use Rattle.wit_types.proofs.making.define_borrow.Goals as goal
 
@@ -12,3 +16,10 @@ returns-in_err-index-clause-follows g c = g.E.ValtypeEncoder.follows_on _ _ _ c.
 
 pub returns-clause-follows : goal.returns-clause-follows
 returns-clause-follows g c = g.E.ValtypeEncoder.follows_on _ _ _ c.index_of.ensures.follows c.define_type.ensures.follows
+
+pub returns-clause-adds : goal.returns-clause-adds
+returns-clause-adds g c =
+    let resource = tree_in (g.E.ValtypeEncoder.setting c.args.encoder.now) (Some (Id c.args.resource)) in
+    let denotes = c.in_ok-named.ensures.denotes resource c.only_value-value.ensures in
+    added_then (added_within _ _ resource (BorrowOf resource) (inr (inl refl)) (c.in_ok-named.ensures.adds resource c.only_value-value.ensures))
+    (type_added _ _ _ (BorrowOf resource) (ap (λ t. BorrowOf (values_of t)) denotes.tree) c.in_ok-index.ensures.adds)

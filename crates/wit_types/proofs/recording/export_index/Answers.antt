@@ -1,6 +1,7 @@
 use Rattle.std.proofs.Common.{Option, ℕ, subst}
 use Rattle.wit_types.specs.Denoting.{exported_or}
 use Rattle.wit_types.proofs.Growing.{faithful_maybe, named_by}
+use Rattle.wit_types.proofs.Adding.{maybe_adds}
 use Rattle.wit_types.proofs.recording.export_index.Goals as goal
 
 pub returns-in_err-exported-clause-faithful : goal.returns-in_err-exported-clause-faithful
@@ -21,3 +22,9 @@ pub returns-in-None-clause-named : goal.returns-in-None-clause-named
 returns-in-None-clause-named g c =
     named_by _ c.args.types.now _ c.args.id c.args.name c.args.defined c.requires.same c.requires.named
     (subst (λ (o : Option ℕ). g.E.ValtypeEncoder.names c.export_type.new.self c.args.name (exported_or o c.args.defined)) c.in-None.is c.in_ok-exported.ensures.names)
+
+pub returns-in-Some-clause-adds : goal.returns-in-Some-clause-adds
+returns-in-Some-clause-adds g c = maybe_adds _ _ c.in_ok-exported.exported _ _ c.in_ok-exported.ensures.makes c.requires.denotes.tree
+
+pub returns-in-None-clause-adds : goal.returns-in-None-clause-adds
+returns-in-None-clause-adds g c = maybe_adds _ _ c.in_ok-exported.exported _ _ c.in_ok-exported.ensures.makes c.requires.denotes.tree

@@ -12,7 +12,7 @@ use Rattle.comp_items.proofs.Extending.{extends_adds}
 use Rattle.comp_terms.specs.Rules.{IsRight}
 use Rattle.comp_worlds.specs.WorldContents.{name_at}
 use Rattle.wit_data.specs.contracts.ids.InterfaceIdPartialEq.TheImpl as same_id
-use Rattle.comp_imports.proofs.Defining.{root_added}
+use Rattle.comp_imports.proofs.Defining.{one_added, root_added}
 use Rattle.comp_imports.proofs.Growth.{scope_longer}
 use Rattle.comp_imports.proofs.OuterTypes.{IsExported, exported, exported_at, has_name, type_aliased, type_present, type_tree}
 use Rattle.comp_imports.proofs.root_scope.RootScope.alias_type.Goals as goal
@@ -62,7 +62,6 @@ returns-clause-makes g c =
     let at : lookup (same_id.eq-value.it c.args.interface) c.args.self.now.instances ≡ Some instance = search rules in
     let h : IsExported w old c.args.interface instance c.args.id = exported w old c.args.self.now.instances c.args.interface instance c.args.id c.requires.finds at c.requires.needed in
     let named : name_at w.resolve.types c.args.id.index ≡ Some c.type_name-name.result.now = subst (λ v. name_at v.resolve.types c.args.id.index ≡ Some c.type_name-name.result.now) c.as_world.ensures c.type_name-name.ensures in
-    let d : Def = defs.Item (items.Alias (aliases.Export exports.Type instance c.type_name-name.result.now)) in (
-      scope_longer c.args.self.now.items new (extends_adds c.args.self.now.items new c.alias_type.result spaces.Type d None c.alias_type.ensures.adds),
-      subst (λ t. Denotes (scope_of new.defs) c.in_ok-index.index t) (type_tree h c.type_name-name.result.now named) (c.in_ok-index.ensures.denotes h.import.number h.import.outer h.import.members h.import.imported),
-    )
+    let d : Def = defs.Item (items.Alias (aliases.Export exports.Type instance c.type_name-name.result.now)) in
+    let denotes = subst (λ t. Denotes (scope_of new.defs) c.in_ok-index.index t) (type_tree h c.type_name-name.result.now named) (c.in_ok-index.ensures.denotes h.import.number h.import.outer h.import.members h.import.imported) in
+    (one_added c.args.self.now.items new c.in_ok-index.index d _ _ refl c.in_ok-index.ensures.adds denotes, denotes)
