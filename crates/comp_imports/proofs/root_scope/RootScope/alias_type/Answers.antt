@@ -1,4 +1,4 @@
-use Rattle.std.proofs.Common.{rules, ◌≡◌, ◌<◌, length, Some, None, refl, sym, subst, IsSome}
+use Rattle.std.proofs.Common.{rules, ◌≡◌, ◌<◌, length, Some, refl, sym, subst, IsSome}
 use Rattle.std.specs.Map.{lookup}
 use Rattle.comp_bytes.specs.declared.space.Space.TheVariants as spaces
 use Rattle.comp_bytes.specs.declared.space.ComponentExportKind.TheVariants as exports
@@ -8,12 +8,10 @@ use Rattle.comp_bytes.specs.declared.def.Def.TheVariants as defs
 use Rattle.comp_bytes.specs.declared.def.Item.TheVariants as items
 use Rattle.comp_trees.specs.DefinedScopes.{Denotes}
 use Rattle.comp_trees.specs.Inventories.{scope_of}
-use Rattle.comp_items.proofs.Extending.{extends_adds}
 use Rattle.comp_terms.specs.Rules.{IsRight}
 use Rattle.comp_worlds.specs.WorldContents.{name_at}
 use Rattle.wit_data.specs.contracts.ids.InterfaceIdPartialEq.TheImpl as same_id
 use Rattle.comp_imports.proofs.Defining.{one_added, root_added}
-use Rattle.comp_imports.proofs.Growth.{scope_longer}
 use Rattle.comp_imports.proofs.OuterTypes.{IsExported, exported, exported_at, has_name, type_aliased, type_present, type_tree}
 use Rattle.comp_imports.proofs.root_scope.RootScope.alias_type.Goals as goal
 
