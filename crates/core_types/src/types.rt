@@ -7,14 +7,14 @@ use std::alloc::{AllocError, Global};
 
 /// A reference type: any function or none, or a function of a type that was defined, by its type
 /// index, which is never null.
-#[derive(Clone, Copy, Debug, PartialEq, Eq)]
+#[derive(Clone, Copy, Debug, PartialEq, Eq, Hash)]
 pub enum RefType {
     FuncRef,
     Concrete(u32),
 }
 
 /// A value type.
-#[derive(Clone, Copy, Debug, PartialEq, Eq)]
+#[derive(Clone, Copy, Debug, PartialEq, Eq, Hash)]
 pub enum ValType {
     I32,
     I64,
@@ -24,7 +24,7 @@ pub enum ValType {
 }
 
 /// The type of a function.
-#[derive(Debug, Drop, PartialEq, Eq)]
+#[derive(Debug, Drop, PartialEq, Eq, Hash)]
 pub struct FuncType {
     pub params: Seq<ValType>,
     pub results: Seq<ValType>,
