@@ -5,7 +5,7 @@ use Rattle.wit_data.specs.declared.ids.WorldId.{WorldId}
 use Rattle.wit_data.specs.declared.resolve.Resolve.{Resolve}
 use Rattle.comp_worlds.specs.declared.lower.Lower as lower
 use Rattle.comp_encoder.specs.Encoder.{Encoder, main_bytes, naming}
-use Rattle.comp_state.specs.Causes.{LacksEncoding}
+use Rattle.comp_state.specs.Causes.{LacksMemory, LacksRealloc, LacksEncoding}
 use Rattle.comp_check.specs.declared.fault.CheckFault.TheVariants as checks
 use Rattle.comp_encoder.specs.CanonicalNames.{IsShared}
 use Rattle.comp_encoder.specs.Outputs.{IsNameCause, NoOutputCause}
@@ -15,7 +15,7 @@ use Rattle.comp_encoder.specs.declared.output.OutputFault.TheVariants as outputs
 use Rattle.comp_state.specs.declared.fault.StateFault.{StateFault}
 use Rattle.comp_state.specs.declared.fault.StateFault.TheVariants as state
 use Rattle.comp_encoder.specs.declared.fault.EncodeFault.{EncodeFault}
-use Rattle.comp_encoder.specs.declared.fault.EncodeFault.TheVariants.{Memory, NoModule, Lower, CanonicalNames, NoEncoding, Output, TooMany}
+use Rattle.comp_encoder.specs.declared.fault.EncodeFault.TheVariants.{Memory, NoModule, Lower, CanonicalNames, NoMemory, NoRealloc, NoEncoding, Output, TooMany}
 
 -- a canonical name that is shared as a fault of the encoder
 abbrev pub of_shared : {F : Type 0} → SharedName → EncodeFault F
@@ -24,6 +24,8 @@ of_shared s = CanonicalNames s.first s.second s.name
 -- a fault of the encoding state as one of the encoder
 abbrev pub of_state : {F : Type 0} → StateFault → EncodeFault F
 of_state state.Memory = Memory
+of_state (state.NoMemory place) = NoMemory place
+of_state (state.NoRealloc place) = NoRealloc place
 of_state (state.NoEncoding place) = NoEncoding place
 of_state (state.TooMany excess) = TooMany excess
 
@@ -51,6 +53,8 @@ module _ {L B F : Type 0} (l : lower.Ghosts L B F) where
   IsModuleRefusal e bytes (Lower f) = (l.memory_fault e.lower f ≡ false) × ModuleCause e bytes f
   IsModuleRefusal e bytes NoModule = ⊥
   IsModuleRefusal e bytes (CanonicalNames first second name) = ⊥
+  IsModuleRefusal e bytes (NoMemory place) = ⊥
+  IsModuleRefusal e bytes (NoRealloc place) = ⊥
   IsModuleRefusal e bytes (NoEncoding place) = ⊥
   IsModuleRefusal e bytes (Output fault) = ⊥
   IsModuleRefusal e bytes (TooMany excess) = ⊥
@@ -62,6 +66,8 @@ module _ {L B F : Type 0} (l : lower.Ghosts L B F) where
   IsEncodeRefusal e (Lower f) = (l.memory_fault e.lower f ≡ false) × l.prepare_cause e.lower e.gathered f
   IsEncodeRefusal e (CanonicalNames first second name) =
       let w = l.prepared e.lower e.gathered in IsTrue e.gathered.options.emit_canonical_names × IsShared w.resolve w.world first second name
+  IsEncodeRefusal e (NoMemory place) = let w = l.prepared e.lower e.gathered in LacksMemory w w.main_exports place
+  IsEncodeRefusal e (NoRealloc place) = let w = l.prepared e.lower e.gathered in LacksRealloc w w.main_exports place
   IsEncodeRefusal e (NoEncoding place) = LacksEncoding (l.prepared e.lower e.gathered) place
   IsEncodeRefusal e (Output fault) = IsTrue e.gathered.options.validate × IsNameCause (naming e) (l.prepared e.lower e.gathered) fault
   IsEncodeRefusal e (TooMany excess) = 2 ^ 32 ≤ excess

@@ -35,6 +35,17 @@ pub enum EncodeFault<F> {
         second: Text,
         name: Text,
     },
+    /// A function is lifted with a memory, and main exports none. `place` is the function's name (Canonical ABI, `memory`).
+    #[error("E7 NoMemory place={place}")]
+    NoMemory {
+        place: Text,
+    },
+    /// A function is lifted with a realloc, and main exports none for calls of exports. `place` is the function's name (Canonical
+    /// ABI, `realloc`).
+    #[error("E8 NoRealloc place={place}")]
+    NoRealloc {
+        place: Text,
+    },
     /// The world has no string encoding for a function. `place` is `module::field` for a core
     /// import, and the function's name for an export (Canonical ABI, `string-encoding`).
     #[error("E9 NoEncoding place={place}")]
@@ -95,6 +106,8 @@ impl<F> From<StateFault> for EncodeFault<F> {
     fn from(fault: StateFault) -> EncodeFault<F> {
         match fault {
             StateFault::Memory => EncodeFault::Memory,
+            StateFault::NoMemory { place } => EncodeFault::NoMemory { place },
+            StateFault::NoRealloc { place } => EncodeFault::NoRealloc { place },
             StateFault::NoEncoding { place } => EncodeFault::NoEncoding { place },
             StateFault::TooMany { excess } => EncodeFault::TooMany { excess },
         }

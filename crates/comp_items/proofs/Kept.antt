@@ -57,10 +57,10 @@ module _ {old new : List Def} (g : Longer old new) where
 
 module _ (old new : List Def) (g : Longer old new) where
   pub option-kept : (o : CanonicalOption) (t : TermOption) → IsOption old o t → IsOption new o t
-  option-kept (options.Memory i) (terms.Memory e) h = exported-kept g h
-  option-kept (options.Realloc i) (terms.Realloc e) h = exported-kept g h
-  option-kept (options.PostReturn i) (terms.PostReturn e) h = exported-kept g h
-  option-kept (options.Callback i) (terms.Callback e) h = exported-kept g h
+  option-kept (options.Memory i) (terms.Memory e) h = (h.0, exported-kept g h.1)
+  option-kept (options.Realloc i) (terms.Realloc e) h = (h.0, exported-kept g h.1)
+  option-kept (options.PostReturn i) (terms.PostReturn e) h = (h.0, exported-kept g h.1)
+  option-kept (options.Callback i) (terms.Callback e) h = (h.0, exported-kept g h.1)
   option-kept o t h = h
 
   pub options-kept : (os : List CanonicalOption) (ts : List TermOption) → AllZip (IsOption old) os ts → AllZip (IsOption new) os ts

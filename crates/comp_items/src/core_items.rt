@@ -60,7 +60,7 @@ impl ComponentItems {
     }
 
     /// Adds an alias of what a core instance exports.
-    fn add_alias(&mut self, key: AliasKey) -> Result<u32, BuildFault>
+    fn add_alias(&mut self, debug: &str, key: AliasKey) -> Result<u32, BuildFault>
         ensures extends { Extends self.old self.new }
         ensures adds { OnOk result (MayAdd self.old.defs self.new.defs (Def.Item (Item.Alias (Alias.CoreExport key.kind key.instance key.name)))) }
         ensures at { IfOk result (λ index. IsAt self.new.defs (kind_space key.kind) index (Def.Item (Item.Alias (Alias.CoreExport key.kind key.instance key.name)))) }
@@ -69,26 +69,26 @@ impl ComponentItems {
         let name = key.name.as_str();
         let index = self
             .component
-            .core_alias_export(Some(name), key.instance, name, key.kind)?;
+            .core_alias_export(Some(debug), key.instance, name, key.kind)?;
         self.aliases.insert_if_absent(key, index)?;
         Ok(index)
     }
 
-    /// The item of this kind that a core instance exports under this name: an alias that was added before, or a new one.
-    ///
-    /// The debug name of a new one is the name of the export.
-    pub fn core_export(
+    /// The item of this kind that a core instance exports under this name: an alias that was added before, or a new one with
+    /// this debug name.
+    fn named_export(
         &mut self,
+        debug: &str,
         instance: u32,
         kind: ExportKind,
-        name: &Text,
+        name: &str,
     ) -> Result<u32, BuildFault>
         ensures extends { Extends self.old self.new }
         ensures adds { OnOk result (MayAdd self.old.defs self.new.defs (Def.Item (Item.Alias (Alias.CoreExport kind instance name.now)))) }
         ensures exported { IfOk result (λ index. (number : ℕ) → IsInstanceOf self.old.defs instance number → IsExported self.new.defs index (record { of = number; kind = kind; name = name.now })) }
         ensures cause { IfErr result (Full (kind_space kind) self.old.defs) }
     {
-        let name = name.clone(self.alloc)?;
+        let name = Text::from_str(self.alloc, name)?;
         let key = AliasKey {
             instance,
             kind,
@@ -96,7 +96,31 @@ impl ComponentItems {
         };
         match self.earlier_alias(&key) {
             Some(index) => Ok(index),
-            None => self.add_alias(key),
+            None => self.add_alias(debug, key),
         }
+    }
+
+    /// The function that a core instance exports under this name: an alias that was added before, or a new one.
+    ///
+    /// The debug name of a new one is the name of the export.
+    pub fn core_function(&mut self, instance: u32, name: &str) -> Result<u32, BuildFault>
+        ensures extends { Extends self.old self.new }
+        ensures adds { OnOk result (MayAdd self.old.defs self.new.defs (Def.Item (Item.Alias (Alias.CoreExport ExportKind.Func instance name.now)))) }
+        ensures exported { IfOk result (λ index. (number : ℕ) → IsInstanceOf self.old.defs instance number → IsExported self.new.defs index (record { of = number; kind = ExportKind.Func; name = name.now })) }
+        ensures cause { IfErr result (Full Space.CoreFunc self.old.defs) }
+    {
+        self.named_export(name, instance, ExportKind::Func, name)
+    }
+
+    /// The memory that a core instance exports under this name: an alias that was added before, or a new one.
+    ///
+    /// The debug name of a new one is `memory`.
+    pub fn core_memory(&mut self, instance: u32, name: &str) -> Result<u32, BuildFault>
+        ensures extends { Extends self.old self.new }
+        ensures adds { OnOk result (MayAdd self.old.defs self.new.defs (Def.Item (Item.Alias (Alias.CoreExport ExportKind.Memory instance name.now)))) }
+        ensures exported { IfOk result (λ index. (number : ℕ) → IsInstanceOf self.old.defs instance number → IsExported self.new.defs index (record { of = number; kind = ExportKind.Memory; name = name.now })) }
+        ensures cause { IfErr result (Full Space.CoreMemory self.old.defs) }
+    {
+        self.named_export("memory", instance, ExportKind::Memory, name)
     }
 }

@@ -1,12 +1,20 @@
 -- The link table of a world: what each import of a user module is to be given, and what each required
 -- export is to be lifted from (Canonical ABI: `canon lower`, `canon lift`). It depends on the role of an import or
 -- an export, and on nothing else.
-use Rattle.std.specs.Prelude.{ℕ, List, [], Option, Some}
-use Rattle.std.specs.Option.{option_map, option_and_then}
+use Rattle.std.specs.Prelude.{ℕ, Bool, true, List, [], ◌∷◌, ◌++◌, Option, Some, None}
+use Rattle.std.specs.Option.{option_map, option_map_or, option_and_then}
 use Rattle.comp_lists.specs.Found.{found}
-use Rattle.comp_worlds.specs.WorldContents.{core_name_of}
+use Rattle.standard_kinds.specs.declared.kinds.StringEncoding.{StringEncoding}
+use Rattle.world_values.specs.Items.{root_function_at}
+use Rattle.comp_worlds.specs.WorldContents.{items_of, core_name_of}
+use Rattle.wit_data.specs.Keys.{name_of_key}
+use Rattle.wit_data.specs.declared.functions.AbiVariant.TheVariants.{GuestExport}
 use Rattle.wit_data.specs.declared.worlds.WorldKey.{WorldKey}
 use Rattle.wit_data.specs.declared.worlds.WorldKey.TheVariants as keys
+use Rattle.comp_options.specs.Options.{needs, export_set}
+use Rattle.comp_roles.specs.Lookups.{first_export}
+use Rattle.comp_roles.specs.FunctionExports.{is_post_return}
+use Rattle.comp_roles.specs.Reallocs.{is_export_realloc, realloc_for}
 use Rattle.comp_roles.specs.declared.imports.Import.{Import}
 use Rattle.comp_roles.specs.declared.imports.Import.TheVariants as imports
 use Rattle.comp_roles.specs.declared.imports.ImportInstance.{ImportInstance}
@@ -14,17 +22,45 @@ use Rattle.comp_roles.specs.declared.imports.ImportInstance.TheVariants as insta
 use Rattle.comp_roles.specs.declared.libraries.MainOrAdapter.{MainOrAdapter}
 use Rattle.comp_roles.specs.declared.libraries.MainOrAdapter.TheVariants as modules
 use Rattle.comp_worlds.specs.declared.world.ComponentWorld.{ComponentWorld}
-use Rattle.comp_links.specs.Targets.{UserModule, Main, Adapter, TargetOption, Target, OfRoot, OfInterface, Lowered, ExportOf, MainMemory, Dropped, Lifted, Unlinked}
+use Rattle.comp_links.specs.Targets.{UserModule, Main, Adapter, ExportRef, TargetOption, Memory, Realloc, Encoding, Async, PostReturn, Target, OfRoot, OfInterface, Lowered, ExportOf, MainMemory, Dropped, Lifted, Unlinked}
 use Rattle.comp_links.specs.Modules.{WorldModule}
 use Rattle.comp_links.specs.Lists.{RequiredFunction}
+use Rattle.comp_links.specs.Roles.{export_encoding}
 
--- the options with which a function is lowered, or lifted: where it has no parameter and no result, it
--- needs no memory, no realloc and no encoding
+-- an option, if it is needed and there is what it names
+abbrev pub if_needed : Bool → Option TargetOption → List TargetOption
+if_needed true (Some option) = option ∷ []
+if_needed needed option = []
+
+-- the options of a set, in order, where there are these a realloc and a string encoding
+abbrev pub options_in : ℕ → Option ExportRef → Option StringEncoding → List TargetOption
+options_in set realloc encoding =
+    if_needed (needs set 1) (Some Memory) ++ (if_needed (needs set 2) (option_map Realloc realloc) ++ (if_needed (needs set 4) (option_map Encoding encoding) ++ if_needed (needs set 8) (Some Async)))
+
+-- the options with which a function is lowered: no call of an imported function needs one
 abbrev pub lower_options : ComponentWorld → UserModule → WorldKey → List TargetOption
 lower_options w m key = []
 
+-- the set of options that a lift of the function of a key needs
+abbrev pub lift_needs : ComponentWorld → WorldKey → ℕ
+lift_needs w key = option_map_or (export_set GuestExport w.resolve.types) (root_function_at (items_of w).exports key) 0
+
+-- the realloc of calls of exports, and the post-return of the function of a key, among the exports of main
+abbrev pub lift_realloc : ComponentWorld → Option (List ℕ)
+lift_realloc w = realloc_for is_export_realloc w.main.exports.exports
+
+abbrev pub post_return_of : ComponentWorld → WorldKey → Option (List ℕ)
+post_return_of w key = first_export (is_post_return key (name_of_key key)) w.main.exports.exports
+
+abbrev pub export_of : UserModule → List ℕ → ExportRef
+export_of m name = record { of = m; name = name }
+
+-- the options with which the function of a key is lifted: those that its type needs, and its post-return
+abbrev pub needed_options : ComponentWorld → UserModule → WorldKey → List TargetOption
+needed_options w m key = options_in (lift_needs w key) (option_map (export_of m) (lift_realloc w)) (export_encoding w key)
+
 abbrev pub lift_options : ComponentWorld → UserModule → WorldKey → List TargetOption
-lift_options w m key = []
+lift_options w m key = needed_options w m key ++ if_needed true (option_map PostReturn (option_map (export_of m) (post_return_of w key)))
 
 -- a user module as others name it
 abbrev pub module_of : MainOrAdapter → UserModule
@@ -54,4 +90,4 @@ link_at w m module_name field = option_and_then (link_in w m.of field) (found mo
 
 -- what a required function is to be lifted from: the core export that has this role
 abbrev pub lift_of : ComponentWorld → RequiredFunction → Option Target
-lift_of w r = option_map (λ name. Lifted (record { of = r.of; name = name }) (lift_options w r.of r.key)) (core_name_of w r.key)
+lift_of w r = option_map (λ name. Lifted (export_of r.of name) (lift_options w r.of r.key)) (core_name_of w r.key)

@@ -13,7 +13,9 @@ use Rattle.comp_roles.specs.CoreImports.{CoreImport}
 use Rattle.comp_worlds.specs.WorldContents.{core_imports}
 use Rattle.wit_data.specs.declared.worlds.WorldKey.{WorldKey}
 use Rattle.comp_worlds.specs.declared.world.ComponentWorld.{ComponentWorld}
-use Rattle.comp_state.specs.Causes.{IsEncoded, LacksEncoding}
+use Rattle.comp_state.specs.Causes.{IsEncoded, LacksEncoding, LacksMemory, LacksRealloc}
+use Rattle.comp_state.specs.LiftOptions.{memory_name, HasLiftOptions}
+use Rattle.comp_links.specs.Links.{lift_realloc}
 use Rattle.comp_links.specs.Roles.{import_encoding, IsEncodedImport, export_encoding}
 use Rattle.comp_trees.specs.Inventories.{inventory}
 use Rattle.comp_terms.specs.Terms.{imports_in}
@@ -64,6 +66,13 @@ pub encoded_lacks : (w : ComponentWorld) → IsEncoded w → (place : List ℕ) 
 encoded_lacks w h place (inl l) =
     lacks_none (import_encoding w l.given.role) (AllByRecursion-contains (λ (i : CoreImport). IsEncodedImport w i.role) (core_imports w) l.given h.imports l.present l.needs) l.none
 encoded_lacks w h place (inr l) = lacks_none (export_encoding w l.key) (AllByRecursion-contains (λ (k : WorldKey). IsSome (export_encoding w k)) w.main_exports l.key h.exports l.present) l.none
+
+-- where main has what lifts need, nothing is missing
+pub encoded_memory : (w : ComponentWorld) → IsEncoded w → (place : List ℕ) → LacksMemory w w.main_exports place → ⊥
+encoded_memory w h place l = let has = AllByRecursion-contains (HasLiftOptions w) w.main_exports l.key h.options l.present in lacks_none (memory_name w) (has.memory l.needed) l.none
+
+pub encoded_realloc : (w : ComponentWorld) → IsEncoded w → (place : List ℕ) → LacksRealloc w w.main_exports place → ⊥
+encoded_realloc w h place l = let has = AllByRecursion-contains (HasLiftOptions w) w.main_exports l.key h.options l.present in lacks_none (lift_realloc w) (has.realloc l.needed) l.none
 
 -- the empty list has no imports
 pub no_definitions : (ds : List Def) → ds ≡ [] → imports_in ds ≡ 0

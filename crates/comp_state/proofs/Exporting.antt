@@ -6,6 +6,7 @@ use Rattle.comp_lists.proofs.Lists.{AllByRecursion-push, AllByRecursion-at}
 use Rattle.comp_builder.specs.Built.{Built}
 use Rattle.comp_bytes.proofs.ItemIndices.{in_range}
 use Rattle.comp_bytes.specs.declared.canon.CanonicalOption.{CanonicalOption}
+use Rattle.standard_kinds.specs.declared.kinds.ExportKind.{ExportKind}
 use Rattle.standard_kinds.specs.declared.kinds.ExportKind.TheVariants as kinds
 use Rattle.comp_bytes.specs.declared.space.Sort.TheVariants as sorts
 use Rattle.comp_bytes.specs.declared.types.Alias.TheVariants as aliases
@@ -14,7 +15,6 @@ use Rattle.comp_bytes.specs.declared.def.Def.TheVariants as defs
 use Rattle.comp_bytes.specs.declared.def.Item.TheVariants as items
 use Rattle.wit_data.specs.Keys.{name_of_key}
 use Rattle.wit_data.specs.Keys.{is_same_key}
-use Rattle.wit_data.specs.declared.types.TypeDef.{TypeDef}
 use Rattle.wit_data.specs.declared.worlds.WorldItem.{WorldItem}
 use Rattle.wit_data.specs.declared.worlds.WorldItem.TheVariants as world_items
 use Rattle.std.specs.Map.{lookup}
@@ -36,8 +36,11 @@ use Rattle.comp_trees.specs.Trees.{FunctionTree}
 use Rattle.comp_terms.specs.Planned.{type_of_function}
 use Rattle.std.specs.Option.{option_map, option_and_then}
 use Rattle.comp_links.specs.Targets.{Main, Lifted}
+use Rattle.comp_links.specs.Links.{lift_options}
+use Rattle.comp_state.specs.LiftOptions.{of_main, NameOptions, HasLiftOptions}
+use Rattle.comp_state.proofs.Offered.{main_module}
+use Rattle.comp_state.proofs.LiftOptions.{options_right}
 use Rattle.comp_links.specs.Naming.{plain_name}
-use Rattle.core_types.specs.declared.types.FuncType.{FuncType}
 use Rattle.std.proofs.lemmas.Option.{none-some, same_Some}
 use Rattle.std.specs.Str.{bytes_eq}
 use Rattle.std.specs.List.{flat_map}
@@ -48,92 +51,44 @@ use Rattle.wit_data.specs.declared.resolve.Resolve.{Resolve}
 use Rattle.wit_data.specs.declared.worlds.World.{World}
 use Rattle.wit_data.specs.declared.functions.Function.{Function}
 use Rattle.wit_data.specs.declared.worlds.WorldKey.TheVariants as keys
-use Rattle.comp_roles.specs.CoreTypes.{called_type}
 use Rattle.comp_roles.specs.declared.offered.ExternType.{ExternType}
-use Rattle.comp_roles.specs.declared.offered.ExternType.TheVariants as externs
 use Rattle.comp_roles.specs.declared.exports.Export.{Export as WorldExport}
 use Rattle.comp_roles.specs.declared.exports.Export.TheVariants as exports
-use Rattle.comp_worlds.specs.Typed.{FitsExport}
-use Rattle.comp_links.specs.Modules.{WorldModule}
 use Rattle.comp_terms.specs.Terms.{CoreExport, TermOption, IsFunctionType, IsInstanceOf, IsExported, IsOption, IsLifting}
 use Rattle.comp_links.specs.Roles.{export_encoding}
-use Rattle.comp_terms.specs.Rules.{Grows, named_export}
+use Rattle.comp_terms.specs.Rules.{Grows, IsOfKind, named_export}
 use Rattle.comp_state.proofs.Refusals.{among_more}
 use Rattle.comp_imports.specs.Growing.{Grows-none, Grows-by, Grows-may, Grows-then}
 
--- ---- what main offers
-
--- main, as a user module
-abbrev pub main_module : ComponentWorld → WorldModule
-main_module w = record { of = Main; found = w.main }
-
--- validation found a function of this name among the exports of main
-abbrev pub OffersFunction : ComponentWorld → List ℕ → Type 0
-OffersFunction w name = (type : FuncType) × (found name w.main.offered ≡ Some (externs.Func type))
-
--- an export of main that has the role of a root function is a function
-role_offered : (w : ComponentWorld) (name : List ℕ) (role : WorldExport) → IsExportRole w role → FitsExport w.resolve (items_of w) w.main (name, role) → OffersFunction w name
-role_offered w name (exports.WorldFunc (keys.Name text) function abi) r h = by (root_function_at (items_of w).exports (keys.Name text)) h.type h.fits h.offered
-  where
-    by : (o : Option Function) (type : ExternType) → option_map (called_type w.resolve abi) o ≡ Some type → found name w.main.offered ≡ Some type → OffersFunction w name
-    by None type e f = absurd (none-some type e)
-    by (Some x) (externs.Func type) e f = (type, f)
-    by (Some x) (externs.Table type) e f = cc
-    by (Some x) (externs.Memory type) e f = cc
-    by (Some x) (externs.Global type) e f = cc
-role_offered w name role r h = absurd r
-
-root_offered : (w : ComponentWorld) (text name : List ℕ) (es : List (List ℕ × WorldExport)) → AllByRecursion (λ e. IsExportRole w e.1) es → AllByRecursion (FitsExport w.resolve (items_of w) w.main) es →
-    found text (flat_map root_export es) ≡ Some name → OffersFunction w name
-root_offered w text name [] r f h = absurd (none-some name h)
-root_offered w text name ((n, exports.WorldFunc (keys.Name t) function abi) ∷ es) r f h = by (bytes_eq text t) h (root_offered w text name es r.1 f.1)
-  where
-    here : OffersFunction w n
-    here = role_offered w n (exports.WorldFunc (keys.Name t) function abi) r.0 f.0
-
-    by : (b : Bool) → cond b (Some n) (found text (flat_map root_export es)) ≡ Some name → (found text (flat_map root_export es) ≡ Some name → OffersFunction w name) → OffersFunction w name
-    by true same rest = subst (OffersFunction w) (same_Some n name same) here
-    by false same rest = rest same
-root_offered w text name ((n, role) ∷ es) r f h = absurd r.0
-
 -- ---- what each call adds
 
--- the core export that implements a root function
-abbrev pub main_export : List ℕ → CoreExport
-main_export name = record { of = 0; kind = kinds.Func; name = name }
-
--- an alias of a core export of main that implements a root function, or an earlier one
-pub grows_alias : (w : ComponentWorld) (old new : List Def) (instance : ℕ) (key : WorldKey) (name : List ℕ) → IsEncodable w → IsInstanceOf old instance 0 → core_name_of w key ≡ Some name →
-    MayAdd old new (defs.Item (items.Alias (aliases.CoreExport kinds.Func instance name))) → Grows w old new []
-grows_alias w old new instance key name ok of role adds =
-    let o : OffersFunction w name = by key role in
-    Grows-may (defs.Item (items.Alias (aliases.CoreExport kinds.Func instance name))) refl adds (record { number = 0; of = main_module w; type = o.0; is = of; listed = refl; offered = o.1 })
-  where
-    by : (key : WorldKey) → core_name_of w key ≡ Some name → OffersFunction w name
-    by (keys.Name text) e = root_offered w text name w.main.exports.exports ok.valid.main.export_roles ok.valid.main.exported e
-    by (keys.Interface id) e = absurd (none-some name e)
+-- an alias of a core export of main that validation found
+pub grows_alias : (w : ComponentWorld) (old new : List Def) (kind : ExportKind) (instance : ℕ) (name : List ℕ) (type : ExternType) → IsInstanceOf old instance 0 → found name w.main.offered ≡ Some type → IsOfKind kind type →
+    MayAdd old new (defs.Item (items.Alias (aliases.CoreExport kind instance name))) → Grows w old new []
+grows_alias w old new kind instance name type of offered of_kind adds =
+    Grows-may (defs.Item (items.Alias (aliases.CoreExport kind instance name))) refl adds (record { number = 0; of = main_module w; type = type; is = of; listed = refl; offered = offered; of_kind = of_kind })
 
 pub record AddsLift (w : ComponentWorld) (old new : List Def) (index : ℕ) (key : WorldKey) : Type 0 where
   pub grows : Grows w old new []
   pub lifted : IsRequiredLift w new index key
 
-pub adds_lift : (w : ComponentWorld) (old new : List Def) (core kind index : ℕ) (options : List CanonicalOption) (name : List ℕ) (key : WorldKey) (wit : Function) → options ≡ [] →
-    IsExported old core (main_export name) → IsFunctionType old kind (type_of_function w wit) → core_name_of w key ≡ Some name → root_function_at (items_of w).exports key ≡ Some wit → IsSome (export_encoding w key) →
+pub adds_lift : (w : ComponentWorld) (old new : List Def) (core kind index : ℕ) (options : List CanonicalOption) (name : List ℕ) (key : WorldKey) (wit : Function) → NameOptions w old options (lift_options w Main key) →
+    IsExported old core (of_main kinds.Func name) → IsFunctionType old kind (type_of_function w wit) → core_name_of w key ≡ Some name → root_function_at (items_of w).exports key ≡ Some wit → IsSome (export_encoding w key) →
     new ≡ old ++ defs.Item (items.Lift core options kind) ∷ [] →
     ((entry : CoreExport) (written : List TermOption) (type : FunctionTree) → entry.kind ≡ kinds.Func → IsExported old core entry → AllZip (IsOption old) options written → IsFunctionType old kind type → IsLifting new index entry written type) →
     AddsLift w old new index key
-adds_lift w old new core kind index options name key wit none alias typed role exported encoded appended lifts = record {
-  grows = Grows-by (defs.Item (items.Lift core options kind)) appended (in_range alias.made, none, record { type = type_of_function w wit; is = typed });
+adds_lift w old new core kind index options name key wit fit alias typed role exported encoded appended lifts = record {
+  grows = Grows-by (defs.Item (items.Lift core options kind)) appended (in_range alias.made, options_right w old options fit.terms fit.are, record { type = type_of_function w wit; is = typed });
   lifted = record {
-    target = Lifted (record { of = Main; name = name }) [];
+    target = Lifted (record { of = Main; name = name }) (lift_options w Main key);
     wit = wit;
-    said = ap (option_map (λ n. Lifted (record { of = Main; name = n }) [])) role;
+    said = ap (option_map (λ n. Lifted (record { of = Main; name = n }) (lift_options w Main key))) role;
     exported = exported;
     is = record {
-      entry = main_export name;
-      options = [];
-      is = lifts (main_export name) [] (type_of_function w wit) refl alias (subst (λ os. AllZip (IsOption old) os []) (sym none) tt) typed;
-      asked = (record { of = record { world_module = main_module w; listed = refl; same = refl }; named = refl }, tt);
+      entry = of_main kinds.Func name;
+      options = fit.terms;
+      is = lifts (of_main kinds.Func name) fit.terms (type_of_function w wit) refl alias fit.are typed;
+      asked = (record { of = record { world_module = main_module w; listed = refl; same = refl }; named = refl }, fit.asked);
     };
     encoded = encoded;
   };
@@ -150,13 +105,14 @@ pub record ExportsSoFar (w : ComponentWorld) (old new : Built) (done : List Worl
   pub extends : Extends old new
   pub grows : Grows w old.defs new.defs (map (λ key. named_export (name_of_key key)) done)
   pub encoded : AllByRecursion (λ key. IsSome (export_encoding w key)) done
+  pub has : AllByRecursion (HasLiftOptions w) done
 
 pub exports_start : (w : ComponentWorld) (old : Built) → ExportsSoFar w old old []
-exports_start w old = record { extends = extends_none old; grows = Grows-none w old.defs; encoded = tt }
+exports_start w old = record { extends = extends_none old; grows = Grows-none w old.defs; encoded = tt; has = tt }
 
 pub exports_step : (w : ComponentWorld) (old mid new : Built) (keys : List WorldKey) (i : ℕ) (key : WorldKey) → ExportsSoFar w old mid (take i keys) → i < length keys → key ≡ get_or keys i key →
-    Extends mid new → Grows w mid.defs new.defs (named_export (name_of_key key) ∷ []) → IsSome (export_encoding w key) → ExportsSoFar w old new (take (i + 1) keys)
-exports_step w old mid new keys i key h l is extends grows encoded =
+    Extends mid new → Grows w mid.defs new.defs (named_export (name_of_key key) ∷ []) → IsSome (export_encoding w key) → HasLiftOptions w key → ExportsSoFar w old new (take (i + 1) keys)
+exports_step w old mid new keys i key h l is extends grows encoded has =
     let more : take (i + 1) keys ≡ take i keys ++ key ∷ [] = take_more keys i key l ∙ ap (λ k. take i keys ++ k ∷ []) (sym is) in
     let marks : map (λ k. named_export (name_of_key k)) (take (i + 1) keys) ≡ map (λ k. named_export (name_of_key k)) (take i keys) ++ named_export (name_of_key key) ∷ [] =
     map_more (λ k. named_export (name_of_key k)) keys i key l ∙ ap (λ k. map (λ j. named_export (name_of_key j)) (take i keys) ++ named_export (name_of_key k) ∷ []) (sym is) in
@@ -164,6 +120,7 @@ exports_step w old mid new keys i key h l is extends grows encoded =
       extends = extends_then old mid new h.extends extends;
       grows = subst (λ m. Grows w old.defs new.defs m) (sym marks) (Grows-then h.grows grows);
       encoded = subst (λ ks. AllByRecursion (λ k. IsSome (export_encoding w k)) ks) (sym more) (AllByRecursion-push (λ k. IsSome (export_encoding w k)) (take i keys) key h.encoded encoded);
+      has = subst (λ ks. AllByRecursion (HasLiftOptions w) ks) (sym more) (AllByRecursion-push (HasLiftOptions w) (take i keys) key h.has has);
     }
 
 -- all keys were exported
@@ -193,28 +150,28 @@ name_exported w text name ((n, exports.WorldFunc (keys.Name t) function abi) ∷
     by : (b : Bool) → bytes_eq text t ≡ b → cond b (Some n) (found text (flat_map root_export es)) ≡ Some name → (found text (flat_map root_export es) ≡ Some name → Contains (exported_functions w) text) → Contains (exported_functions w) text
     by true same e rest = subst (λ x. Contains (exported_functions w) x) (sym ((bytes_eq-Decides text t).0 same)) r.0.0
     by false same e rest = rest e
-name_exported w text name ((n, role) ∷ es) r h = absurd r.0
+name_exported w text name ((n, role) ∷ es) r h = name_exported w text name es r.1 h
 
 -- among exports that are all functions, a name is found as a function
 pub record FindsFunction (es : List (WorldKey × WorldItem)) (key : WorldKey) : Type 0 where
   pub function : Function
   pub is : lookup (is_same_key key) es ≡ Some (world_items.Function function)
 
-function_at : (types : List TypeDef) (es : List (WorldKey × WorldItem)) (text : List ℕ) → AllByRecursion (IsExportItem types) es → Contains (flat_map root_function es) text → FindsFunction es (keys.Name text)
-function_at types [] text h c = contains_none text c
-function_at types ((keys.Name t, world_items.Function f) ∷ es) text h c = by (bytes_eq text t) refl (contains_cons t (flat_map root_function es) text c) (λ k. function_at types es text h.1 k)
+function_at : (es : List (WorldKey × WorldItem)) (text : List ℕ) → AllByRecursion IsExportItem es → Contains (flat_map root_function es) text → FindsFunction es (keys.Name text)
+function_at [] text h c = contains_none text c
+function_at ((keys.Name t, world_items.Function f) ∷ es) text h c = by (bytes_eq text t) refl (contains_cons t (flat_map root_function es) text c) (λ k. function_at es text h.1 k)
   where
     by : (b : Bool) → bytes_eq text t ≡ b → (t ≡ text) ⊎ Contains (flat_map root_function es) text → (Contains (flat_map root_function es) text → FindsFunction es (keys.Name text)) → FindsFunction ((keys.Name t, world_items.Function f) ∷ es) (keys.Name text)
     by true same k rest = record { function = f; is = ap (λ b. cond (b && true) (Some (world_items.Function f)) (lookup (is_same_key (keys.Name text)) es)) same }
     by false same (inl k) rest = let yes = (bytes_eq-Decides text t).1 (sym k) in let no = sym yes ∙ same in absurd (true≢false no)
     by false same (inr k) rest = let r = rest k in record { function = r.function; is = ap (λ b. cond (b && true) (Some (world_items.Function f)) (lookup (is_same_key (keys.Name text)) es)) same ∙ r.is }
-function_at types (e ∷ es) text h c = absurd h.0
+function_at (e ∷ es) text h c = absurd h.0
 
 pub key_function : (w : ComponentWorld) → IsEncodable w → (key : WorldKey) → IsSome (core_name_of w key) → FindsFunction (items_of w).exports key
 key_function w ok (keys.Name text) some = by (found text (flat_map root_export w.main.exports.exports)) refl some
   where
     by : (o : Option (List ℕ)) → found text (flat_map root_export w.main.exports.exports) ≡ o → IsSome o → FindsFunction (items_of w).exports (keys.Name text)
-    by (Some name) e h = function_at w.resolve.types (items_of w).exports text ok.valid.exports (name_exported w text name w.main.exports.exports ok.valid.main.export_roles e)
+    by (Some name) e h = function_at (items_of w).exports text ok.valid.exports (name_exported w text name w.main.exports.exports ok.valid.main.export_roles e)
     by None e h = absurd (true≢false (sym h))
 key_function w ok (keys.Interface id) some = absurd (true≢false (sym some))
 

@@ -1,5 +1,7 @@
 pub mod Refusals
 pub mod Building
+pub mod Offered
+pub mod LiftOptions
 pub mod Exporting
 pub mod Growth
 pub mod Indexing

@@ -13,6 +13,8 @@ pub among_more : (w : ComponentWorld) (some all : List CoreImport) (few keys : L
     ((k : WorldKey) → Contains few k → Contains keys k) → (e : StateFault) → IsCauseAmong w some few e → IsCauseAmong w all keys e
 among_more w some all few keys imports exports faults.Memory h = tt
 among_more w some all few keys imports exports (faults.TooMany excess) h = h
+among_more w some all few keys imports exports (faults.NoMemory place) l = record { key = l.key; present = exports l.key l.present; needed = l.needed; none = l.none; at = l.at }
+among_more w some all few keys imports exports (faults.NoRealloc place) l = record { key = l.key; present = exports l.key l.present; needed = l.needed; none = l.none; at = l.at }
 among_more w some all few keys imports exports (faults.NoEncoding place) (inl l) =
     inl (record { given = l.given; present = imports l.given l.present; needs = l.needs; none = l.none; at = l.at })
 among_more w some all few keys imports exports (faults.NoEncoding place) (inr l) = inr (record { key = l.key; present = exports l.key l.present; none = l.none; at = l.at })

@@ -11,10 +11,10 @@ use Rattle.comp_bytes.specs.declared.canon.Intrinsic.TheVariants as intrinsics
 use Rattle.comp_bytes.specs.Scopes.{InScope, EachIn, DefScoped, Scoped, scope_of}
 use Rattle.comp_bytes.proofs.ItemIndices.{in_range}
 use Rattle.comp_bytes.specs.declared.canon.CanonicalOption.{CanonicalOption}
+use Rattle.comp_bytes.specs.declared.canon.CanonicalOption.TheVariants as canonical
 use Rattle.comp_bytes.specs.declared.space.Space.{Space}
 use Rattle.comp_bytes.specs.declared.space.Space.TheVariants as spaces
 use Rattle.comp_bytes.specs.declared.space.ComponentExportKind.TheVariants as exports
-use Rattle.standard_kinds.specs.declared.kinds.ExportKind.TheVariants as kinds
 use Rattle.comp_bytes.specs.declared.space.Sort.TheVariants as sorts
 use Rattle.comp_bytes.specs.declared.types.TypeDef.{TypeDef}
 use Rattle.comp_bytes.specs.declared.types.TypeDef.TheVariants as types
@@ -36,7 +36,7 @@ use Rattle.comp_trees.proofs.InventoryGrowth.{scope_counted}
 use Rattle.comp_trees.proofs.KnownScopes.{known_defined, known_function_names}
 use Rattle.comp_trees.proofs.MemberScopes.{members_scoped}
 use Rattle.comp_items.proofs.Kept.{function_in_range}
-use Rattle.comp_terms.specs.Rules.{AliasesImported, ImportsInterface, IsTypeRight, IsIntrinsicRight, IsRight, RightAfter, IsEntry, IsBuilt}
+use Rattle.comp_terms.specs.Rules.{AliasesImported, ImportsInterface, IsOptionRight, IsTypeRight, IsIntrinsicRight, IsRight, RightAfter, IsEntry, IsBuilt}
 
 abbrev Within : List Def → Reference → Type 0
 Within earlier = InScope (scope_of space_of earlier ∷ [])
@@ -54,6 +54,15 @@ entries_within earlier (e ∷ es) h = (subst (λ k. e.index < items_in (kind_spa
 
 no_options : (earlier : List Def) (options : List CanonicalOption) → options ≡ [] → AllByRecursion (Within earlier) (options_references options)
 no_options earlier options none = subst (λ o. AllByRecursion (Within earlier) (options_references o)) (sym none) tt
+
+-- options name items of the list
+options_within : (earlier : List Def) (os : List CanonicalOption) (rest : List Reference) → AllByRecursion (IsOptionRight earlier) os → AllByRecursion (Within earlier) rest → AllByRecursion (Within earlier) (options_references os ++ rest)
+options_within earlier [] rest h k = k
+options_within earlier (canonical.Memory index ∷ os) rest h k = (h.0, options_within earlier os rest h.1 k)
+options_within earlier (canonical.Realloc index ∷ os) rest h k = (h.0, options_within earlier os rest h.1 k)
+options_within earlier (canonical.PostReturn index ∷ os) rest h k = (h.0, options_within earlier os rest h.1 k)
+options_within earlier (canonical.Callback index ∷ os) rest h k = (h.0, options_within earlier os rest h.1 k)
+options_within earlier (o ∷ os) rest h k = options_within earlier os rest h.1 k
 
 type_named : (earlier : List Def) (index : ℕ) → index < length (inventories.scope_of earlier) → Within earlier (own spaces.Type index)
 type_named earlier index l = subst (λ n. index < n) (scope_counted earlier) l
@@ -88,15 +97,11 @@ within w earlier (defs.Item (items.Alias (aliases.Export exports.Func instance n
 within w earlier (defs.Item (items.Alias (aliases.Export exports.Type instance name))) h = ((instance_in_range earlier spaces.Type instance name h, tt), tt)
 within w earlier (defs.Item (items.Alias (aliases.Export exports.Component instance name))) h = absurd h
 within w earlier (defs.Item (items.Alias (aliases.Export exports.Instance instance name))) h = absurd h
-within w earlier (defs.Item (items.Alias (aliases.CoreExport kinds.Func instance name))) h = ((in_range h.is.made, tt), tt)
-within w earlier (defs.Item (items.Alias (aliases.CoreExport kinds.Table instance name))) h = absurd h
-within w earlier (defs.Item (items.Alias (aliases.CoreExport kinds.Memory instance name))) h = absurd h
-within w earlier (defs.Item (items.Alias (aliases.CoreExport kinds.Global instance name))) h = absurd h
+within w earlier (defs.Item (items.Alias (aliases.CoreExport kind instance name))) h = ((in_range h.is.made, tt), tt)
 within w earlier (defs.Item (items.Alias (aliases.Outer count index))) h = absurd h
 within w earlier (defs.Item (items.Type t)) h = (type_within earlier t h, tt)
 within w earlier (defs.Item (items.InstanceType t)) h = (tt, members_scoped (surroundings_of h.number (inventories.scope_of earlier)) (scope_of space_of earlier) (scope_counted earlier) t.members h.right)
-within w earlier (defs.Item (items.Lift core options kind)) h =
-    ((h.0, subst (λ (o : List CanonicalOption). AllByRecursion (Within earlier) (options_references o ++ type_at kind)) (sym h.1) (type_named earlier kind h.2.is.denotes.within, tt)), tt)
+within w earlier (defs.Item (items.Lift core options kind)) h = ((h.0, options_within earlier options (type_at kind) h.1 (type_named earlier kind h.2.is.denotes.within, tt)), tt)
 within w earlier (defs.Item (items.Lower function options)) h = ((function_in_range h.0.is, no_options earlier options h.1), tt)
 within w earlier (defs.Item (items.Intrinsic i)) h = (intrinsic_within earlier i h, tt)
 within w earlier (defs.Item (items.Import name (descriptions.Func kind))) h = ((type_named earlier kind h.is.denotes.within, tt), tt)

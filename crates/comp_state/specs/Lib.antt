@@ -1,3 +1,4 @@
 pub mod Causes
 pub mod Encoding
+pub mod LiftOptions
 pub mod Tables

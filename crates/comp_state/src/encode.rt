@@ -8,7 +8,7 @@ ghost use Rattle.comp_worlds.specs.Encodable.{IsEncodable};
 ghost use Rattle.comp_imports.specs.Names.{naming_of};
 ghost use Rattle.comp_imports.specs.RootScopes.{IsRefusal};
 ghost use Rattle.comp_state.specs.declared.state.Step.TheVariants.{Started};
-ghost use Rattle.comp_state.specs.Causes.{IsCause, LacksEncoding, IsEncoded};
+ghost use Rattle.comp_state.specs.Causes.{IsCause, LacksEncoding, LacksMemory, LacksRealloc, IsEncoded};
 ghost use Rattle.comp_state.specs.Encoding.{naming_in};
 ghost use Rattle.comp_terms.specs.Rules.{Grows, IsUnnamed, IsBuilt, expected};
 
@@ -59,8 +59,8 @@ impl EncodingState<'_> {
 /// The component of a validated world, definition by definition, with the names of its items. Interfaces are imported under the
 /// names that `names` makes.
 ///
-/// Refused when out of memory, where a function that is imported or exported has no string
-/// encoding (`E9`, with the function), and where a space would have more than 2^32 - 1 items, or a count or a
+/// Refused when out of memory, where a function is lifted with a memory or a realloc that main doesn't export (`E7`, `E8`, with
+/// the function), where a function that is imported or exported has no string encoding (`E9`, with the function), and where a space would have more than 2^32 - 1 items, or a count or a
 /// size among the names would pass that (`E16`).
 pub fn encode_world(
     alloc: Global,
@@ -70,6 +70,8 @@ pub fn encode_world(
     requires { IsEncodable world.now }
     ensures ok { IfOk result (λ component. Scoped component.defs × IsBuilt (naming_of names.entry) world.now component.defs) }
     ensures refused { IsOk result → (place : List ℕ) → LacksEncoding world.now place → ⊥ }
+    ensures memory { IsOk result → (place : List ℕ) → LacksMemory world.now world.now.main_exports place → ⊥ }
+    ensures realloc { IsOk result → (place : List ℕ) → LacksRealloc world.now world.now.main_exports place → ⊥ }
     ensures cause { IfErr result (IsCause world.now) }
 {
     let mut state = EncodingState::new(alloc, world, names)?;

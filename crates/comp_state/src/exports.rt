@@ -1,14 +1,15 @@
-//! The required exports: each is lifted from the core export with its role, and exported.
+//! The required exports: each is lifted from the core export with its role, with the options that it needs, and exported.
 #![tactic(auto, using(crate::proofs::Growth::growing))]
 
 ghost use Rattle.std.specs.Prelude.{◌≡◌, [], ◌∷◌, List, IfOk, IfErr, OnOk, IsSome, Some};
 ghost use Rattle.std.specs.List.{AllByRecursion};
 ghost use Rattle.interface_needs.specs.RootNeeds.{IsExportedFunction};
-ghost use Rattle.comp_imports.specs.RootScopes.{AreTablesRight, IsRefusal};
+ghost use Rattle.comp_imports.specs.RootScopes.{AreTablesRight};
 ghost use Rattle.comp_items.specs.Items.{Extends};
 ghost use Rattle.comp_links.specs.Roles.{export_encoding};
 ghost use Rattle.comp_state.specs.Causes.{IsCause, IsCauseAmong};
 ghost use Rattle.comp_state.specs.Encoding.{IsRequiredLift};
+ghost use Rattle.comp_state.specs.LiftOptions.{HasLiftOptions};
 ghost use Rattle.comp_state.specs.Tables.{AreExports, FindsCoreNames};
 ghost use Rattle.comp_terms.specs.Rules.{Grows, named_export, exports_marked};
 ghost use Rattle.comp_worlds.specs.Encodable.{IsEncodable};
@@ -19,18 +20,17 @@ ghost use Rattle.std.specs.Option.{option_and_then, option_copied};
 ghost use Rattle.world_values.specs.Items.{function_in, root_function_at};
 
 use crate::fault::StateFault;
-use crate::instances::is_encoded;
-use byte_encoding::BuildFault;
+use crate::instances::encoding_of;
 use comp_bytes::{ExternName, Sort};
 use comp_imports::RootScope;
-use comp_lists::{Keyed, Seq, Text};
+use comp_lists::{Keyed, Text};
 use comp_worlds::ComponentWorld;
-use standard_kinds::ExportKind;
+use standard_kinds::StringEncoding;
 use std::alloc::Global;
 use wit_data::{Function, WorldItem, WorldKey};
 
 /// The name of a root function.
-fn function_name<'k>(world: &ComponentWorld, key: &'k WorldKey) -> &'k Text
+pub(crate) fn function_name<'k>(world: &ComponentWorld, key: &'k WorldKey) -> &'k Text
     requires { IsSome (core_name_of world.now key.now) }
     ensures { result.now ≡ name_of_key key.now }
 {
@@ -64,19 +64,25 @@ fn exported_function<'w>(world: &'w ComponentWorld, key: &WorldKey) -> &'w Funct
     as_function(world.items().exports.get(key))
 }
 
-/// Checks that a root function that is lifted has a string encoding.
-fn check_encoding(alloc: Global, world: &ComponentWorld, key: &WorldKey) -> Result<(), StateFault>
+/// The string encoding with which a root function is lifted. `E9` where it has none.
+pub(crate) fn lift_encoding(
+    alloc: Global,
+    world: &ComponentWorld,
+    key: &WorldKey,
+) -> Result<StringEncoding, StateFault>
     requires { IsSome (core_name_of world.now key.now) }
-    ensures ok { OnOk result (IsSome (export_encoding world.now key.now)) }
+    ensures ok { IfOk result (λ encoding. export_encoding world.now key.now ≡ Some encoding) }
     ensures cause { IfErr result (IsCauseAmong world.now [] (key.now ∷ [])) }
 {
     let function = function_name(world, key);
     let encodings = &world.main.metadata.export_encodings;
-    if !is_encoded(alloc, encodings, function, function)? {
-        let place = function.clone(alloc)?;
-        return Err(StateFault::NoEncoding { place });
+    match encoding_of(alloc, encodings, key, function)? {
+        Some(encoding) => Ok(encoding),
+        None => {
+            let place = function.clone(alloc)?;
+            Err(StateFault::NoEncoding { place })
+        }
     }
-    Ok(())
 }
 
 /// What root functions are lifted from: main's instance, and the names of its exports by the functions that they implement.
@@ -100,39 +106,7 @@ impl MainExports<'_> {
         }
     }
 
-    /// Lifts a root function from the core export that implements it.
-    fn lift_function(
-        &self,
-        root: &mut RootScope<'_, ComponentWorld>,
-        key: &WorldKey,
-    ) -> Result<u32, BuildFault>
-        requires exports { AreExports root.old.world.now self.now root.old.last_type root.old.items.defs root.old.maps root.old.instances }
-        requires present { IsSome (core_name_of root.old.world.now key.now) }
-        requires encoded { IsSome (export_encoding root.old.world.now key.now) }
-        ensures world { root.new.world ≡ root.old.world }
-        ensures extends { Extends root.old.items root.new.items }
-        ensures next { root.new.last_type ≡ root.old.last_type }
-        ensures instances { root.new.instances ≡ root.old.instances }
-        ensures tables { AreTablesRight root.old.world.now root.old.last_type root.new.instances root.new.items.defs root.new.maps }
-        ensures grows { OnOk result (Grows root.old.world.now root.old.items.defs root.new.items.defs []) }
-        ensures lifted { IfOk result (λ index. IsRequiredLift root.old.world.now root.new.items.defs index key.now) }
-        ensures cause { IfErr result IsRefusal }
-    {
-        let world = root.world;
-        let ty = root.function_type(exported_function(world, key))?;
-        let core_name = self.core_name(world, key);
-        let core = root
-            .items
-            .core_export(self.instance, ExportKind::Func, core_name)?;
-        let name = function_name(world, key);
-        let options = Seq::new(root.items.allocator());
-        let index = root
-            .items
-            .lift_function(Some(name.as_str()), core, ty, options)?;
-        Ok(index)
-    }
-
-    /// Lifts a required function.
+    /// Lifts a required function from the core export that implements it.
     pub(crate) fn lift(
         &self,
         root: &mut RootScope<'_, ComponentWorld>,
@@ -147,10 +121,17 @@ impl MainExports<'_> {
         ensures tables { AreTablesRight root.old.world.now root.old.last_type root.new.instances root.new.items.defs root.new.maps }
         ensures grows { OnOk result (Grows root.old.world.now root.old.items.defs root.new.items.defs []) }
         ensures lifted { IfOk result (λ index. IsRequiredLift root.old.world.now root.new.items.defs index key.now) }
+        ensures has { OnOk result (HasLiftOptions root.old.world.now key.now) }
         ensures cause { IfErr result (IsCauseAmong root.old.world.now [] (key.now ∷ [])) }
     {
-        check_encoding(root.items.allocator(), root.world, key)?;
-        let index = self.lift_function(root, key)?;
+        let world = root.world;
+        let function = exported_function(world, key);
+        let ty = root.function_type(function)?;
+        let core_name = self.core_name(world, key).as_str();
+        let core = root.items.core_function(self.instance, core_name)?;
+        let options = self.lift_options(root, key, function)?;
+        let name = function_name(world, key).as_str();
+        let index = root.items.lift_function(Some(name), core, ty, options)?;
         Ok(index)
     }
 
@@ -169,6 +150,7 @@ impl MainExports<'_> {
         ensures tables { AreTablesRight root.old.world.now root.old.last_type root.new.instances root.new.items.defs root.new.maps }
         ensures grows { OnOk result (Grows root.old.world.now root.old.items.defs root.new.items.defs (named_export (name_of_key key.now) ∷ [])) }
         ensures encoded { OnOk result (IsSome (export_encoding root.old.world.now key.now)) }
+        ensures has { OnOk result (HasLiftOptions root.old.world.now key.now) }
         ensures cause { IfErr result (IsCauseAmong root.old.world.now [] (key.now ∷ [])) }
     {
         let name = ExternName {
@@ -193,6 +175,7 @@ impl MainExports<'_> {
         ensures tables { AreTablesRight root.old.world.now root.old.last_type root.new.instances root.new.items.defs root.new.maps }
         ensures grows { OnOk result (Grows root.old.world.now root.old.items.defs root.new.items.defs (exports_marked root.old.world.now)) }
         ensures encoded { OnOk result (AllByRecursion (λ key. IsSome (export_encoding root.old.world.now key)) root.old.world.now.main_exports) }
+        ensures has { OnOk result (AllByRecursion (HasLiftOptions root.old.world.now) root.old.world.now.main_exports) }
         ensures cause { IfErr result (IsCause root.old.world.now) }
     {
         let world = root.world;

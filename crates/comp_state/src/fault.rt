@@ -15,6 +15,12 @@ pub enum StateFault {
     /// An allocation failed.
     #[error("E1 Memory")]
     Memory,
+    /// A function is lifted with a memory, and main exports none. `place` is the function's name.
+    #[error("E7 NoMemory place={place}")]
+    NoMemory { place: Text },
+    /// A function is lifted with a realloc, and main exports none for it. `place` is the function's name.
+    #[error("E8 NoRealloc place={place}")]
+    NoRealloc { place: Text },
     /// The world has no string encoding for a function. `place` is `module::field` of a core import, or the
     /// name of a function that is lifted.
     #[error("E9 NoEncoding place={place}")]

@@ -33,8 +33,24 @@ use standard_kinds::{ExportKind, StringEncoding};
 use std::alloc::{AllocError, Global};
 use wit_data::{InterfaceId, TypeId, WorldKey};
 
+/// The string encoding that a table has for a function, by the key of its item and its name.
+pub(crate) fn encoding_of(
+    alloc: Global,
+    encodings: &Keyed<FunctionKey, StringEncoding>,
+    key: &WorldKey,
+    function: &Text,
+) -> Result<Option<StringEncoding>, AllocError>
+    ensures { IfOk result (λ encoding. encoding ≡ of_function key.now function.now encodings.now) }
+{
+    let wanted = FunctionKey {
+        key: key.try_clone(alloc)?,
+        function: function.clone(alloc)?,
+    };
+    Ok(encodings.get(&wanted).copied())
+}
+
 /// Whether a table has the string encoding of a function at the root, by the name of its key and its own.
-pub(crate) fn is_encoded(
+fn is_encoded(
     alloc: Global,
     encodings: &Keyed<FunctionKey, StringEncoding>,
     name: &Text,
@@ -42,27 +58,8 @@ pub(crate) fn is_encoded(
 ) -> Result<bool, AllocError>
     ensures { IfOk result (λ answer. answer ≡ is_some (of_function (keys.Name name.now) function.now encodings.now)) }
 {
-    let wanted = FunctionKey {
-        key: WorldKey::Name(name.clone(alloc)?),
-        function: function.clone(alloc)?,
-    };
-    Ok(encodings.contains_key(&wanted))
-}
-
-/// The same of a function of an interface, by the interface's key and the function's name.
-fn is_encoded_at(
-    alloc: Global,
-    encodings: &Keyed<FunctionKey, StringEncoding>,
-    key: &WorldKey,
-    function: &Text,
-) -> Result<bool, AllocError>
-    ensures { IfOk result (λ answer. answer ≡ is_some (of_function key.now function.now encodings.now)) }
-{
-    let wanted = FunctionKey {
-        key: key.try_clone(alloc)?,
-        function: function.clone(alloc)?,
-    };
-    Ok(encodings.contains_key(&wanted))
+    let key = WorldKey::Name(name.clone(alloc)?);
+    Ok(encoding_of(alloc, encodings, &key, function)?.is_some())
 }
 
 /// The text that names a core import in faults: `module::field`.
@@ -180,7 +177,7 @@ impl ImportSources<'_> {
                 let alloc = root.items.allocator();
                 let world = root.world;
                 let encodings = &world.main.metadata.import_encodings;
-                if !is_encoded_at(alloc, encodings, key, function)? {
+                if encoding_of(alloc, encodings, key, function)?.is_none() {
                     let place = path_of_import(alloc, module, field)?;
                     return Err(StateFault::NoEncoding { place });
                 }

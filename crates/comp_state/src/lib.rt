@@ -8,7 +8,7 @@
 //! (`Terms.antt` and `Planned.antt` there). Nothing here depends on how a component runs; the look-ups are
 //! private to the state, and no public contract mentions them.
 //!
-//! In reading order: `fault`, `indexes` (core exports by the name of a function), `instances` (what the imports of main are given), `exports` (lifts and exports), `state` (the fields, and each step), `encode` (the
+//! In reading order: `fault`, `indexes` (core exports by the name of a function), `instances` (what the imports of main are given), `options` (the options of a lift), `exports` (lifts and exports), `state` (the fields, and each step), `encode` (the
 //! steps in order).
 #![tactic(auto)]
 
@@ -17,6 +17,7 @@ mod exports;
 mod fault;
 mod indexes;
 mod instances;
+mod options;
 mod state;
 
 pub use encode::encode_world;

@@ -11,6 +11,7 @@ ghost use Rattle.comp_links.specs.Roles.{IsEncodedImport, export_encoding};
 ghost use Rattle.comp_links.specs.Targets.{Main};
 ghost use Rattle.comp_state.specs.Causes.{IsCause, IsCauseAmong};
 ghost use Rattle.comp_state.specs.Encoding.{AreImported, IsFirstModule, IsRequiredLift, naming_in};
+ghost use Rattle.comp_state.specs.LiftOptions.{HasLiftOptions};
 ghost use Rattle.comp_state.specs.declared.state.Step.TheVariants.{Started, Imported, Instantiated};
 ghost use Rattle.comp_terms.specs.Planned.{IsItemFor};
 ghost use Rattle.comp_terms.specs.Rules.{Grows, ModuleIs, InstanceOf, imports_marked, exports_marked, landmarks};
@@ -21,6 +22,7 @@ use crate::exports::MainExports;
 use crate::fault::StateFault;
 use crate::indexes::core_names;
 use crate::instances::ImportSources;
+use crate::options::memory_of_main;
 use comp_imports::{ImportNames, RootScope};
 use comp_items::ComponentItems;
 use comp_lists::{Keyed, Text};
@@ -182,7 +184,7 @@ impl EncodingState<'_> {
         sources.materialize(&mut self.root, module, field, import)
     }
 
-    /// Makes main's instance.
+    /// Makes main's instance, and an alias of the memory that it exports, if it exports one.
     pub fn instantiate(&mut self) -> Result<(), StateFault>
         requires first { IsFirstModule self.old.world self.old.built.defs }
         requires imported { AreImported self.old.step }
@@ -202,6 +204,7 @@ impl EncodingState<'_> {
             .root
             .items
             .core_instance(Some("main"), MAIN_MODULE, arguments)?;
+        memory_of_main(&mut self.root, index)?;
         self.main = Some(index);
         self.step = Step::Instantiated;
         Ok(())
@@ -209,7 +212,8 @@ impl EncodingState<'_> {
 
     /// Lifts a required function.
     ///
-    /// `E9` where it has no string encoding.
+    /// `E7` where it needs a memory and main exports none, `E8` where it needs a realloc and main exports none for it, `E9`
+    /// where it has no string encoding.
     pub fn encode_lift(&mut self, key: &WorldKey) -> Result<u32, StateFault>
         requires instantiated { self.old.step ≡ Instantiated }
         requires present { IsSome (core_name_of self.old.world key.now) }
@@ -217,6 +221,7 @@ impl EncodingState<'_> {
         ensures extends { Extends self.old.built self.new.built }
         ensures grows { OnOk result (Grows self.old.world self.old.built.defs self.new.built.defs []) }
         ensures lifted { IfOk result (λ index. IsRequiredLift self.old.world self.new.built.defs index key.now) }
+        ensures has { OnOk result (HasLiftOptions self.old.world key.now) }
         ensures cause { IfErr result (IsCauseAmong self.old.world [] (key.now ∷ [])) }
     {
         let exports = MainExports {
@@ -233,6 +238,7 @@ impl EncodingState<'_> {
         ensures extends { Extends self.old.built self.new.built }
         ensures grows { OnOk result (Grows self.old.world self.old.built.defs self.new.built.defs (exports_marked self.old.world)) }
         ensures encoded { OnOk result (AllByRecursion (λ key. IsSome (export_encoding self.old.world key)) self.old.world.main_exports) }
+        ensures has { OnOk result (AllByRecursion (HasLiftOptions self.old.world) self.old.world.main_exports) }
         ensures cause { IfErr result (IsCause self.old.world) }
     {
         let exports = MainExports {

@@ -11,6 +11,8 @@ use Rattle.comp_bytes.specs.declared.def.CoreInlineExport.{CoreInlineExport}
 use Rattle.comp_bytes.specs.declared.def.Item.TheVariants as items
 use Rattle.comp_bytes.specs.declared.def.Def.{Def}
 use Rattle.comp_bytes.specs.declared.def.Def.TheVariants as defs
+use Rattle.core_types.specs.declared.types.MemoryType.{MemoryType}
+use Rattle.comp_roles.specs.Lookups.{first_memory}
 use Rattle.comp_roles.specs.CoreImports.{fields_of}
 use Rattle.comp_roles.specs.declared.imports.Import.{Import}
 use Rattle.comp_roles.specs.declared.imports.ImportInstance.{ImportInstance}
@@ -32,8 +34,15 @@ pub record IsExportFor (w : ComponentWorld) (e : CoreExport) (export_ref : Expor
   pub of : IsModule w e.of export_ref.of
   pub named : e.name ≡ export_ref.name
 
+-- the first memory that main exports
+pub record IsMemoryFor (w : ComponentWorld) (e : CoreExport) : Type 0 where
+  pub of : IsModule w e.of targets.Main
+  pub type : MemoryType
+  pub first : first_memory w.main.exports.exports ≡ Some (e.name, type)
+
 abbrev pub IsOptionFor : ComponentWorld → TermOption → TargetOption → Type 0
 IsOptionFor w (terms.Encoding e) (targets.Encoding e') = e ≡ e'
+IsOptionFor w (terms.Memory e) targets.Memory = IsMemoryFor w e
 IsOptionFor w (terms.Realloc e) (targets.Realloc export_ref) = IsExportFor w e export_ref
 IsOptionFor w (terms.PostReturn e) (targets.PostReturn export_ref) = IsExportFor w e export_ref
 IsOptionFor w terms.Async targets.Async = Unit {0}

@@ -9,6 +9,7 @@ use Rattle.comp_bytes.specs.ScopeNames.{member_export}
 use Rattle.comp_bytes.specs.declared.space.Space.{Space}
 use Rattle.comp_bytes.specs.declared.space.Space.TheVariants as spaces
 use Rattle.comp_bytes.specs.declared.space.ComponentExportKind.TheVariants as exports
+use Rattle.standard_kinds.specs.declared.kinds.ExportKind.{ExportKind}
 use Rattle.standard_kinds.specs.declared.kinds.ExportKind.TheVariants as kinds
 use Rattle.comp_bytes.specs.declared.space.Sort.{Sort}
 use Rattle.comp_bytes.specs.declared.space.Sort.TheVariants as sorts
@@ -20,6 +21,8 @@ use Rattle.comp_bytes.specs.declared.types.Alias.TheVariants as aliases
 use Rattle.comp_bytes.specs.declared.types.Member.{Member}
 use Rattle.comp_bytes.specs.declared.types.Description.{Description}
 use Rattle.comp_bytes.specs.declared.types.Description.TheVariants as descriptions
+use Rattle.comp_bytes.specs.declared.canon.CanonicalOption.{CanonicalOption}
+use Rattle.comp_bytes.specs.declared.canon.CanonicalOption.TheVariants as options
 use Rattle.comp_bytes.specs.declared.canon.Intrinsic.{Intrinsic}
 use Rattle.comp_bytes.specs.declared.canon.Intrinsic.TheVariants as intrinsics
 use Rattle.comp_bytes.specs.declared.def.CoreArgument.{CoreArgument}
@@ -28,7 +31,6 @@ use Rattle.comp_bytes.specs.declared.def.Item.{Item}
 use Rattle.comp_bytes.specs.declared.def.Item.TheVariants as items
 use Rattle.comp_bytes.specs.declared.def.Def.{Def}
 use Rattle.comp_bytes.specs.declared.def.Def.TheVariants as defs
-use Rattle.core_types.specs.declared.types.FuncType.{FuncType}
 use Rattle.comp_lists.specs.Found.{found}
 use Rattle.wit_data.specs.declared.functions.Function.{Function as WitFunction}
 use Rattle.wit_data.specs.declared.ids.InterfaceId.{InterfaceId}
@@ -40,6 +42,7 @@ use Rattle.comp_trees.specs.Members.{AreMembersRight, exports_name}
 use Rattle.comp_trees.specs.Inventories.{OfInstances, ImportedInstance, surroundings_of, inventory, scope_of}
 use Rattle.comp_worlds.specs.WorldContents.{items_of}
 use Rattle.wit_data.specs.Keys.{name_of_key}
+use Rattle.comp_roles.specs.declared.offered.ExternType.{ExternType}
 use Rattle.comp_roles.specs.declared.offered.ExternType.TheVariants as externs
 use Rattle.wit_data.specs.declared.worlds.WorldKey.{WorldKey}
 use Rattle.comp_worlds.specs.declared.world.ComponentWorld.{ComponentWorld}
@@ -59,14 +62,21 @@ pub record InstantiatesUser (w : ComponentWorld) (earlier : List Def) (number : 
   pub scoped : number < items_in spaces.CoreModule earlier
   pub each : AllZip (IsArgumentFor w of.of earlier) arguments of.found.imports.modules
 
--- an alias of a core export: a function that validation found among the exports of a user module
-pub record AliasesUser (w : ComponentWorld) (earlier : List Def) (instance : ℕ) (name : List ℕ) : Type 0 where
+-- a function, or a memory
+abbrev pub IsOfKind : ExportKind → ExternType → Type 0
+IsOfKind kinds.Func (externs.Func type) = Unit {0}
+IsOfKind kinds.Memory (externs.Memory type) = Unit {0}
+IsOfKind kind type = ⊥
+
+-- an alias of a core export: what validation found among the exports of a user module
+pub record AliasesUser (w : ComponentWorld) (earlier : List Def) (kind : ExportKind) (instance : ℕ) (name : List ℕ) : Type 0 where
   pub number : ℕ
   pub of : WorldModule
-  pub type : FuncType
+  pub type : ExternType
   pub is : Is earlier spaces.CoreInstance instance (InstanceTerm number)
   pub listed : slice_get (user_modules w) number ≡ Some of
-  pub offered : found name of.found.offered ≡ Some (externs.Func type)
+  pub offered : found name of.found.offered ≡ Some type
+  pub of_kind : IsOfKind kind type
 
 -- an export: a required one, under its name, lifted as the link table says, with the function's type
 pub record ExportsRequired (w : ComponentWorld) (earlier : List Def) (name : ExternName) (index : ℕ) : Type 0 where
@@ -99,7 +109,7 @@ pub record AliasesImported (earlier : List Def) (space : Space) (instance : ℕ)
 abbrev pub IsAliasRight : ComponentWorld → List Def → Alias → Type 0
 IsAliasRight w earlier (aliases.Export exports.Func instance name) = AliasesImported earlier spaces.Func instance name
 IsAliasRight w earlier (aliases.Export exports.Type instance name) = AliasesImported earlier spaces.Type instance name
-IsAliasRight w earlier (aliases.CoreExport kinds.Func instance name) = AliasesUser w earlier instance name
+IsAliasRight w earlier (aliases.CoreExport kind instance name) = AliasesUser w earlier kind instance name
 IsAliasRight w earlier _ = ⊥
 
 -- a type of functions
@@ -156,6 +166,14 @@ pub record IsInstanceTypeRight (earlier : List Def) (members : List Member) : Ty
   pub number : ℕ
   pub right : AreMembersRight (surroundings_of number (scope_of earlier)) [] members
 
+-- an option of a lift names an earlier item
+abbrev pub IsOptionRight : List Def → CanonicalOption → Type 0
+IsOptionRight earlier (options.Memory index) = index < items_in spaces.CoreMemory earlier
+IsOptionRight earlier (options.Realloc index) = index < items_in spaces.CoreFunc earlier
+IsOptionRight earlier (options.PostReturn index) = index < items_in spaces.CoreFunc earlier
+IsOptionRight earlier (options.Callback index) = index < items_in spaces.CoreFunc earlier
+IsOptionRight earlier option = Unit {0}
+
 -- an intrinsic: so far, the drop of a resource
 abbrev pub IsIntrinsicRight : List Def → Intrinsic → Type 0
 IsIntrinsicRight earlier (intrinsics.ResourceDrop type) = HasResource earlier type
@@ -174,7 +192,7 @@ IsItemRight w earlier (items.Instantiate component arguments) = ⊥
 IsItemRight w earlier (items.Alias a) = IsAliasRight w earlier a
 IsItemRight w earlier (items.Type t) = IsTypeRight (scope_of earlier) t
 IsItemRight w earlier (items.InstanceType t) = IsInstanceTypeRight earlier t.members
-IsItemRight w earlier (items.Lift core options kind) = (core < items_in spaces.CoreFunc earlier) × (options ≡ []) × HasFunctionType earlier kind
+IsItemRight w earlier (items.Lift core options kind) = (core < items_in spaces.CoreFunc earlier) × AllByRecursion (IsOptionRight earlier) options × HasFunctionType earlier kind
 IsItemRight w earlier (items.Lower function options) = HasImportedFunction earlier function × (options ≡ [])
 IsItemRight w earlier (items.Intrinsic i) = IsIntrinsicRight earlier i
 IsItemRight w earlier (items.Import name description) = IsDescriptionRight w earlier name.name description

@@ -81,11 +81,11 @@ abbrev pub IsOption : List Def → CanonicalOption → TermOption → Type 0
 IsOption ds options.Utf8 (Encoding e) = e ≡ encodings.UTF8
 IsOption ds options.Utf16 (Encoding e) = e ≡ encodings.UTF16
 IsOption ds options.CompactUtf16 (Encoding e) = e ≡ encodings.CompactUTF16
-IsOption ds (options.Memory index) (Memory e) = IsExported ds index e
-IsOption ds (options.Realloc index) (Realloc e) = IsExported ds index e
-IsOption ds (options.PostReturn index) (PostReturn e) = IsExported ds index e
+IsOption ds (options.Memory index) (Memory e) = (e.kind ≡ kinds.Memory) × IsExported ds index e
+IsOption ds (options.Realloc index) (Realloc e) = (e.kind ≡ kinds.Func) × IsExported ds index e
+IsOption ds (options.PostReturn index) (PostReturn e) = (e.kind ≡ kinds.Func) × IsExported ds index e
 IsOption ds options.Async Async = Unit {0}
-IsOption ds (options.Callback index) (Callback e) = IsExported ds index e
+IsOption ds (options.Callback index) (Callback e) = (e.kind ≡ kinds.Func) × IsExported ds index e
 IsOption ds option term = ⊥
 
 pub record IsLowering (ds : List Def) (index : ℕ) (origin : Origin) (type : FunctionTree) (options : List TermOption) : Type 0 where

@@ -1,11 +1,14 @@
 -- The core types that roles require, and the types of a module's imports and exports as validation found them (Canonical
 -- ABI: `canon lower`, `canon lift`; core standard, validation: imports and exports).
-use Rattle.std.specs.Prelude.{◌≡◌, ℕ, List, [], ◌∷◌, Option, Some, None, option_map}
+use Rattle.std.specs.Prelude.{◌≡◌, ℕ, List, [], ◌∷◌, map, Option, Some, None, option_map}
 use Rattle.comp_lists.specs.Found.{found}
 use Rattle.wit_data.specs.declared.worlds.World.{World}
 use Rattle.wit_data.specs.declared.resolve.Resolve.{Resolve}
+use Rattle.wit_data.specs.declared.functions.Function.{Function}
+use Rattle.wit_data.specs.declared.functions.AbiVariant.TheVariants.{GuestExport}
+use Rattle.wit_data.specs.Signatures.{signature}
 use Rattle.comp_roles.specs.CoreImports.{role_at}
-use Rattle.comp_roles.specs.CoreTypes.{called_type}
+use Rattle.comp_roles.specs.CoreTypes.{function_type, value_type, called_type}
 use Rattle.comp_roles.specs.declared.imports.Import.{Import}
 use Rattle.comp_roles.specs.declared.imports.Import.TheVariants as imports
 use Rattle.comp_roles.specs.declared.exports.Export.{Export}
@@ -19,7 +22,15 @@ use Rattle.comp_worlds.specs.declared.world.ValidatedModule.{ValidatedModule}
 
 -- the type of `resource.drop`: a handle is a number
 abbrev pub drop_type : ExternType
-drop_type = externs.Func (record { params = I32 ∷ []; results = [] })
+drop_type = externs.Func (function_type (I32 ∷ []) [])
+
+-- the type of a realloc: the old address, the old size, the alignment and the new size; the new address
+abbrev pub realloc_type : ExternType
+realloc_type = externs.Func (function_type (I32 ∷ I32 ∷ I32 ∷ I32 ∷ []) (I32 ∷ []))
+
+-- the type of a post-return: it takes the core results of the function
+abbrev pub post_return_type : Resolve → Function → ExternType
+post_return_type r f = externs.Func (function_type (map value_type (signature GuestExport r.types f).results) [])
 
 -- the type that the role of an import, or of an export, requires, as far as such roles are encoded
 abbrev pub type_of_import : Resolve → World → Import → Option ExternType
@@ -30,6 +41,12 @@ type_of_import r items role = None
 
 abbrev pub type_of_export : Resolve → World → Export → Option ExternType
 type_of_export r items (exports.WorldFunc key function abi) = option_map (called_type r abi) (root_function_at items.exports key)
+type_of_export r items (exports.WorldFuncPostReturn key) = option_map (post_return_type r) (root_function_at items.exports key)
+type_of_export r items (exports.Memory type) = Some (externs.Memory type)
+type_of_export r items exports.GeneralPurposeRealloc = Some realloc_type
+type_of_export r items exports.GeneralPurposeImportRealloc = Some realloc_type
+type_of_export r items exports.GeneralPurposeExportRealloc = Some realloc_type
+type_of_export r items exports.ReallocForAdapter = Some realloc_type
 type_of_export r items role = None
 
 -- an import that validation found has a role, which requires its type

@@ -54,10 +54,10 @@ IsImportItem r (keys.Name text, items.Interface id) = AllByRecursion (IsNamedPla
 IsImportItem r (keys.Interface other, items.Interface id) = AllByRecursion (IsNamedPlain r.types) (functions_of r id)
 IsImportItem r entry = ⊥
 
--- it exports plain functions at its root, each under its name
-abbrev pub IsExportItem : List TypeDef → WorldKey × WorldItem → Type 0
-IsExportItem types (keys.Name text, items.Function f) = IsNamedPlain types (text, f)
-IsExportItem types entry = ⊥
+-- it exports synchronous functions at its root, each under its name
+abbrev pub IsExportItem : WorldKey × WorldItem → Type 0
+IsExportItem (keys.Name text, items.Function f) = (text ≡ f.name) × IsSynchronous f.kind
+IsExportItem entry = ⊥
 
 -- the type of this number is a resource
 pub record IsResource (types : List TypeDef) (number : ℕ) : Type 0 where
@@ -77,9 +77,16 @@ abbrev pub IsImportGroup : ComponentWorld → List ℕ × ImportInstance → Typ
 IsImportGroup w (name, instances.Names fields) = IsDistinct bytes_eq (map (λ f. f.0) fields) × AllByRecursion (λ f. IsImportRole w f.1) fields
 IsImportGroup w (name, instances.Whole which) = ⊥
 
--- the role of an export is a function that the world exports, called in the right form
+-- the role of an export is a function that the world exports, called in the right form, the post-return of one, the memory, or
+-- a realloc
 abbrev pub IsExportRole : ComponentWorld → Export → Type 0
 IsExportRole w (exports.WorldFunc (keys.Name text) function abi) = Contains (exported_functions w) text × (function ≡ text) × (abi ≡ GuestExport)
+IsExportRole w (exports.WorldFuncPostReturn (keys.Name text)) = Contains (exported_functions w) text
+IsExportRole w (exports.Memory type) = Unit {0}
+IsExportRole w exports.GeneralPurposeRealloc = Unit {0}
+IsExportRole w exports.GeneralPurposeImportRealloc = Unit {0}
+IsExportRole w exports.GeneralPurposeExportRealloc = Unit {0}
+IsExportRole w exports.ReallocForAdapter = Unit {0}
 IsExportRole w role = ⊥
 
 -- a required export is one of the world's, and the module has a core export for it
@@ -102,7 +109,7 @@ pub record IsUserModule (w : ComponentWorld) (m : ValidatedModule) (keys : List 
 pub record IsWorld (w : ComponentWorld) : Type 0 where
   pub present : w.world.index < length w.resolve.worlds
   pub imports : AllByRecursion (IsImportItem w.resolve) (items_of w).imports
-  pub exports : AllByRecursion (IsExportItem w.resolve.types) (items_of w).exports
+  pub exports : AllByRecursion IsExportItem (items_of w).exports
   pub import_names_apart : IsDistinct bytes_eq (imported_functions w)
   pub export_names_apart : IsDistinct bytes_eq (exported_functions w)
   pub main : IsUserModule w w.main w.main_exports

@@ -1,10 +1,11 @@
 -- What the definitions so far have added to the store, and what main's imports find among the arguments.
-use Rattle.std.proofs.Common.{◌≡◌, ◌∙◌, ℕ, ◌<◌, true, List, [], ◌∷◌, length, map, filter, get_or, refl, sym, ap, ap₂, subst, Option, Some, None, is_some}
+use Rattle.std.proofs.Common.{◌≡◌, ◌∙◌, ℕ, ◌<◌, Bool, true, false, cond, true≢false, List, [], ◌∷◌, length, map, filter, get_or, refl, sym, ap, ap₂, subst, Option, Some, None, is_some}
 use Rattle.std.proofs.lemmas.List.{length-map}
 use Rattle.std.proofs.lemmas.List.Sums.{length-filter}
 use Rattle.std.proofs.lemmas.Option.{same_Some, none-some, get_or_from_slice_get}
 use Rattle.std.specs.List.{slice_get, AllZip, AllByRecursion}
 use Rattle.std.specs.Option.{option_map, option_and_then}
+use Rattle.std.specs.Str.{bytes_eq}
 use Rattle.comp_lists.specs.Found.{found}
 use Rattle.comp_lists.proofs.Lists.{AllZip-at, AllZip-weaker, there}
 use Rattle.comp_bytes.specs.Spaces.{kind_space, is_space, space_of, items_in}
@@ -19,7 +20,10 @@ use Rattle.comp_bytes.specs.declared.def.CoreArgument.{CoreArgument}
 use Rattle.comp_bytes.specs.declared.def.CoreInlineExport.{CoreInlineExport}
 use Rattle.comp_bytes.specs.declared.types.Alias.TheVariants as aliases
 use Rattle.comp_bytes.specs.declared.types.Member.{Member}
+use Rattle.comp_bytes.specs.declared.canon.CanonicalOption.{CanonicalOption}
+use Rattle.comp_bytes.specs.declared.canon.CanonicalOption.TheVariants as options
 use Rattle.comp_bytes.specs.declared.canon.Intrinsic.TheVariants as intrinsics
+use Rattle.standard_kinds.specs.declared.kinds.StringEncoding.{StringEncoding}
 use Rattle.comp_bytes.specs.declared.def.Item.TheVariants as items
 use Rattle.comp_bytes.specs.declared.def.Def.{Def}
 use Rattle.comp_bytes.specs.declared.def.Def.TheVariants as defs
@@ -33,25 +37,27 @@ use Rattle.world_values.specs.Items.{functions_of, root_function_at}
 use Rattle.comp_roles.specs.CoreImports.{fields_of}
 use Rattle.comp_roles.specs.CoreTypes.{called_type}
 use Rattle.comp_worlds.specs.Typed.{drop_type, type_of_import}
-use Rattle.comp_worlds.specs.WorldContents.{items_of, core_name_of}
+use Rattle.comp_worlds.specs.WorldContents.{items_of}
 use Rattle.comp_worlds.specs.Worlds.{IsWorld, IsImportRole, IsImportGroup}
-use Rattle.wit_data.specs.declared.worlds.WorldKey.{WorldKey}
 use Rattle.comp_roles.specs.declared.imports.Import.{Import}
 use Rattle.comp_roles.specs.declared.imports.Import.TheVariants as imports
 use Rattle.comp_roles.specs.declared.imports.ImportInstance.{ImportInstance}
 use Rattle.comp_roles.specs.declared.imports.ImportInstance.TheVariants as instances
 use Rattle.comp_worlds.specs.declared.world.ComponentWorld.{ComponentWorld}
-use Rattle.comp_runs.specs.Store.{Thing, Export, CoreItem, Lowering, IntrinsicOf, ExportedBy, Function, Imported, Lifting, TypeItem, TreeOf, tree_held, Store}
+use Rattle.comp_runs.specs.Store.{Thing, Export, HeldOption, HeldEncoding, HeldMemory, HeldRealloc, HeldPostReturn, HeldAsync, HeldCallback, CoreItem, Lowering, IntrinsicOf, ExportedBy, Function, Imported, Lifting, TypeItem, TreeOf, tree_held, Store}
 use Rattle.comp_roles.specs.declared.offered.ExternType.{ExternType}
 use Rattle.comp_roles.specs.declared.offered.ExternType.TheVariants as externs
 use Rattle.comp_roles.specs.declared.offered.ImportType.{ImportType}
-use Rattle.comp_links.specs.Targets.{Main, Target, OfRoot, OfInterface, Lowered, Dropped, Lifted}
+use Rattle.comp_links.specs.Targets.{UserModule, Main, ExportRef, TargetOption, Target, OfRoot, OfInterface, Lowered, Dropped, Lifted}
+use Rattle.comp_links.specs.Targets as targets
+use Rattle.comp_links.specs.Modules.{WorldModule, IsModule}
 use Rattle.comp_links.specs.Lists.{resource_of}
 use Rattle.comp_links.specs.Links.{link_of, link_in, link_at}
-use Rattle.comp_terms.specs.Terms.{CoreExport, TermOption, Term, Is, IsFunctionType, IsResource, IsImportedFunction, IsInstanceOf, IsExported, IsLowering, IsDropping, IsLifting}
+use Rattle.comp_terms.specs.Terms.{CoreExport, TermOption, Term, Is, IsFunctionType, IsResource, IsImportedFunction, IsInstanceOf, IsExported, IsOption, IsLowering, IsDropping, IsLifting}
 use Rattle.comp_terms.specs.Terms as terms
-use Rattle.comp_terms.specs.Planned.{IsTermFor, IsItemFor, IsLiftFor, IsEntryFor, IsArgumentFor}
-use Rattle.comp_runs.specs.Machine.{Scope, Machine, address_at, is_of, all_some, export_named}
+use Rattle.comp_terms.specs.Planned.{IsExportFor, IsMemoryFor, IsOptionFor, IsTermFor, IsItemFor, IsLiftFor, IsEntryFor, IsArgumentFor}
+use Rattle.comp_terms.specs.Rules.{IsOfKind}
+use Rattle.comp_runs.specs.Machine.{Scope, Machine, address_at, is_of, all_some, export_named, export_in, export_of}
 use Rattle.comp_runs.specs.Instances.{type_space, of_kind, matching, given_to, type_at}
 use Rattle.comp_runs.specs.Signatures.{core_signature}
 use Rattle.comp_runs.specs.Running.{core_argument}
@@ -60,8 +66,8 @@ use Rattle.instance_laws.specs.InstanceEntries.{IsInstanceType, IsInstanceEntry}
 use Rattle.instance_laws.proofs.Held.{trees_of_held, held_of_entries, IsTypeThere, type_there as held_at, item_of_functions}
 use Rattle.link_laws.proofs.Zips.{AllZip-filter, AllZip-back, mapped_some, filter-both, all_some-zip, found-zip, found-each}
 use Rattle.comp_worlds.proofs.Roles.{bound_some}
-use Rattle.link_laws.proofs.Plain.{IsFunctionImport, lowered_type, same_signature-refl, function_type_in, core_offered, only_main_is, fields_right}
-use Rattle.link_laws.proofs.Stores.{IsOpaqueOf, IsInstance, IsUserItem, IsUserExport, IsUserInstance, IsNamedEntry, IsInlineInstance, IsLoweredItem, IsTypeAt, IsDropItem, IsLiftedItem, IsAliasedItem, DefIs, Means, makes, IsTypeEntry, entry_of, IsFunctionEntry, IsInstanceThing, IsLoweringOf, IsDropOf, IsServedAs, main_module, IsPlanned, IsLiftedFrom, Agrees}
+use Rattle.link_laws.proofs.Plain.{IsFunctionImport, lowered_type, same_signature-refl, function_type_in, only_main_is, fields_right}
+use Rattle.link_laws.proofs.Stores.{IsOpaqueOf, IsInstance, IsUserItem, IsUserExport, IsUserInstance, IsNamedEntry, IsInlineInstance, IsLoweredItem, IsTypeAt, IsDropItem, IsLiftedItem, IsAliasedItem, DefIs, Means, makes, IsTypeEntry, entry_of, IsFunctionEntry, IsInstanceThing, IsLoweringOf, IsDropOf, IsServedAs, main_module, IsPlanned, IsMainExport, IsFirstMemory, IsOptionFunction, IsHeldOption, IsOptionHeld, IsCoreExportAt, IsLiftedFrom, Agrees}
 
 makes-space : (space : Space) (d : Def) → is_space space (space_of d) ≡ true → makes d ≡ true
 makes-space space d e = by (space_of d) e
@@ -125,6 +131,38 @@ same_type_at {things} {s} {kind} {t} {u} h k =
     let same : h.address ≡ k.address = same_Some h.address k.address (sym h.at ∙ k.at) in
     let both : Some (TreeOf (OfFunctions t)) ≡ Some (TreeOf (OfFunctions u)) = sym h.is ∙ (ap (slice_get s.types) same ∙ k.is) in
     ap (function_in_tree u) (same_Some (TreeOf (OfFunctions t)) (TreeOf (OfFunctions u)) both)
+
+-- what validation found of a kind
+type_of_function_kind : (type : ExternType) → IsOfKind kinds.Func type → (t : FuncType) × (type ≡ externs.Func t)
+type_of_function_kind (externs.Func t) h = (t, refl)
+type_of_function_kind type h = absurd h
+
+pub space_of_kind : (kind : ExportKind) (type : ExternType) → IsOfKind kind type → type_space type ≡ kind_space kind
+space_of_kind kinds.Func (externs.Func t) h = refl
+space_of_kind kinds.Memory (externs.Memory t) h = refl
+space_of_kind kind type h = absurd h
+
+-- an export is equal to the record of its parts
+pub by_parts : (e : Export) (space : Space) (name : List ℕ) → e.space ≡ space → e.name ≡ name → e ≡ record { space = space; name = name; address = e.address }
+by_parts e space name same_space same_name = rw (← same_space, ← same_name) refl
+
+-- a memory that is found by its name is found among the memories
+memory_named : (name : List ℕ) (es : List Export) (e : Export) → export_named name es ≡ Some e → e.space ≡ spaces.CoreMemory → export_of spaces.CoreMemory name es ≡ Some e
+memory_named name [] e h memory = h
+memory_named name (x ∷ es) e h memory = by (bytes_eq name x.name) (export_in spaces.CoreMemory x) refl refl (λ k. memory_named name es e k memory) h
+  where
+    by : (named inside : Bool) → bytes_eq name x.name ≡ named → export_in spaces.CoreMemory x ≡ inside → (export_named name es ≡ Some e → export_of spaces.CoreMemory name es ≡ Some e) → cond named (Some x) (export_named name es) ≡ Some e →
+        export_of spaces.CoreMemory name (x ∷ es) ≡ Some e
+    by true true n i rest k = rw (i, n) k
+    by false true n i rest k = rw (i, n) (rest k)
+    by false false n i rest k = rw i (rest k)
+    by true false n i rest k =
+        let is : export_in spaces.CoreMemory x ≡ true = ap (λ (y : Export). export_in spaces.CoreMemory y) (same_Some x e k) ∙ ap (λ space. is_space spaces.CoreMemory (Some space)) memory in
+        absurd (true≢false (sym is ∙ i))
+
+-- the first user module is main
+module_at_zero : (w : ComponentWorld) {of : UserModule} → IsModule w 0 of → Main ≡ of
+module_at_zero w h = ap (λ (m : WorldModule). m.of) (same_Some (main_module w) h.world_module h.listed) ∙ h.same
 
 at_some : (e : Export) → e.space ≡ spaces.CoreFunc → of_kind kinds.Func e ≡ Some (record { space = e.space; address = e.address })
 at_some e h = rw h refl
@@ -244,45 +282,170 @@ module _ {w : ComponentWorld} {earlier : List Def} {c : Scope} {s : Store} (a : 
   pub user_there : {index number : ℕ} → IsInstanceOf earlier index number → (x : ℕ) × (address_at spaces.CoreInstance index c.items ≡ Some x) × IsUserInstance w s number x
   user_there h = let x = thing_there h.made in (x.0, x.1, x.2)
 
-  -- a function that main offers is found among the exports of its instance
-  pub offered_there : (number address : ℕ) (u : IsUserInstance w s number address) (name : List ℕ) (type : FuncType) → found name w.main.offered ≡ Some (externs.Func type) →
-      (e : Export) × (export_named name u.exports ≡ Some e) × (e.space ≡ spaces.CoreFunc) × IsOpaqueOf s e.address type (ExportedBy u.user e.name)
+  -- what main offers is found among the exports of its instance
+  pub offered_there : (number address : ℕ) (u : IsUserInstance w s number address) (name : List ℕ) (type : ExternType) → found name w.main.offered ≡ Some type →
+      (e : Export) × (export_named name u.exports ≡ Some e) × (e.space ≡ type_space type) × IsUserItem s u.user e type
   offered_there number address u name type h =
-      let x = found-zip (IsOfType s u.user) name (map (λ (e : Export). (e.name, e)) u.exports) w.main.offered (externs.Func type) (exports_named s u.user u.exports w.main.offered u.each) h in
+      let x = found-zip (IsOfType s u.user) name (map (λ (e : Export). (e.name, e)) u.exports) w.main.offered type (exports_named s u.user u.exports w.main.offered u.each) h in
       (x.0, x.1, x.2.0, x.2.1)
 
-  pub exported_there : {index : ℕ} {e : CoreExport} (type : FuncType) → e.kind ≡ kinds.Func → found e.name w.main.offered ≡ Some (externs.Func type) → IsExported earlier index e →
-      (x : ℕ) × (address_at spaces.CoreFunc index c.items ≡ Some x) × (user : ℕ) × IsOpaqueOf s x type (ExportedBy user e.name) × IsInstance s user e.of
-  exported_there {index} {e} type function offered h =
-      let made : IsAt earlier spaces.CoreFunc index (defs.Item (items.Alias (aliases.CoreExport kinds.Func h.instance e.name))) =
-      subst (λ kind. IsAt earlier (kind_space kind) index (defs.Item (items.Alias (aliases.CoreExport kind h.instance e.name)))) function h.made in
-      let l : (x : ℕ) × (address_at spaces.CoreFunc index c.items ≡ Some x) × IsAliasedItem c.items s h.instance e.name x = thing_there made in
+  -- an alias of a core export is that export of an instance of the module, of its type
+  exported_there : {index : ℕ} {e : CoreExport} → IsExported earlier index e → IsCoreExportAt c.items s index e
+  exported_there {index} {e} h =
+      let l : (x : ℕ) × (address_at (kind_space e.kind) index c.items ≡ Some x) × IsAliasedItem w c.items s e.kind h.instance e.name x = thing_there h.made in
       let m : (x : ℕ) × (address_at spaces.CoreInstance h.instance c.items ≡ Some x) × IsUserInstance w s e.of x = user_there h.of in
       let same : m.0 ≡ l.2.from = same_Some m.0 l.2.from (sym m.1 ∙ l.2.at) in
       let exports : m.2.exports ≡ l.2.exports = same_Some m.2.exports l.2.exports (sym m.2.present ∙ (ap (slice_get s.core_instances) same ∙ l.2.present)) in
-      let x = offered_there e.of m.0 m.2 e.name type offered in
+      let x = offered_there e.of m.0 m.2 e.name l.2.type l.2.offered in
       let is : x.0 ≡ l.2.export = same_Some x.0 l.2.export (sym x.1 ∙ (ap (export_named e.name) exports ∙ l.2.found)) in
-      let at : x.0.address ≡ l.0 = ap (λ (y : Export). y.address) is ∙ l.2.is in
-      let called : x.0.name ≡ e.name = found_name e.name m.2.exports x.0 x.1 in
-      (l.0, l.1, m.2.user, subst (λ n. IsOpaqueOf s n type (ExportedBy m.2.user e.name)) at (subst (λ t. IsOpaqueOf s x.0.address type (ExportedBy m.2.user t)) called x.3), m.2.is)
+      record {
+        address = l.0;
+        at = l.1;
+        type = l.2.type;
+        of_kind = l.2.of_kind;
+        user = m.2.user;
+        of = m.2.is;
+        export = x.0;
+        found = subst (λ es. export_named e.name es ≡ Some x.0) (sym m.2.same) x.1;
+        named = found_name e.name m.2.exports x.0 x.1;
+        space = x.2;
+        is = ap (λ (y : Export). y.address) is ∙ l.2.is;
+        item = x.3;
+      }
+
+  -- an alias of a function that main exports is that function, which is opaque
+  pub function_exported : IsWorld w → {index : ℕ} {e : CoreExport} {name : List ℕ} → e.kind ≡ kinds.Func → IsModule w e.of Main → e.name ≡ name → IsExported earlier index e →
+      (x : ℕ) × (address_at spaces.CoreFunc index c.items ≡ Some x) × IsMainExport s x name
+  function_exported ok {index} {e} {name} function of named h =
+      let x : IsCoreExportAt c.items s index e = exported_there h in
+      let type : (t : FuncType) × (x.type ≡ externs.Func t) = type_of_function_kind x.type (subst (λ kind. IsOfKind kind x.type) function x.of_kind) in
+      let opaque : IsOpaqueOf s x.export.address type.0 (ExportedBy x.user x.export.name) = subst (IsUserItem s x.user x.export) type.1 x.item in
+      let renamed : IsOpaqueOf s x.export.address type.0 (ExportedBy x.user name) = subst (λ t. IsOpaqueOf s x.export.address type.0 (ExportedBy x.user t)) (x.named ∙ named) opaque in (
+        x.address,
+        subst (λ kind. address_at (kind_space kind) index c.items ≡ Some x.address) function x.at,
+        record {
+          user = x.user;
+          type = type.0;
+          is = subst (λ n. IsOpaqueOf s n type.0 (ExportedBy x.user name)) x.is renamed;
+          of = subst (IsInstance s x.user) (only_main_is w ok e.of of) x.of;
+        },
+      )
+
+  -- an alias of the first memory that main exports is that memory
+  memory_exported : IsWorld w → {index : ℕ} {e : CoreExport} → e.kind ≡ kinds.Memory → IsMemoryFor w e → IsExported earlier index e →
+      (x : ℕ) × (address_at spaces.CoreMemory index c.items ≡ Some x) × IsFirstMemory w s x
+  memory_exported ok {index} {e} memory asked h =
+      let x : IsCoreExportAt c.items s index e = exported_there h in
+      let space : x.export.space ≡ spaces.CoreMemory = x.space ∙ (space_of_kind e.kind x.type x.of_kind ∙ ap kind_space memory) in
+      let whole : x.export ≡ record { space = spaces.CoreMemory; name = e.name; address = x.address } =
+      by_parts x.export spaces.CoreMemory e.name space x.named ∙ ap (λ n. record { space = spaces.CoreMemory; name = e.name; address = n }) x.is in (
+        x.address,
+        subst (λ kind. address_at (kind_space kind) index c.items ≡ Some x.address) memory x.at,
+        record {
+          name = e.name;
+          type = asked.type;
+          first = asked.first;
+          is = record {
+            user = x.user;
+            instance = x.of.instance;
+            present = x.of.present;
+            of = x.of.of ∙ only_main_is w ok e.of asked.of;
+            exported = memory_named e.name x.of.instance.exports (record { space = spaces.CoreMemory; name = e.name; address = x.address }) (x.found ∙ ap (λ (y : Export). Some y) whole) refl;
+          };
+        },
+      )
+
+  -- ---- options of lifts
+
+  encoding_there : (o : CanonicalOption) (x : HeldOption) (e : StringEncoding) (target : TargetOption) → IsHeldOption c.items o x → IsOption earlier o (terms.Encoding e) → IsOptionFor w (terms.Encoding e) target → IsOptionHeld w s x target
+  encoding_there options.Utf8 (HeldEncoding e') e (targets.Encoding t) h is asked = h ∙ sym is ∙ asked
+  encoding_there options.Utf16 (HeldEncoding e') e (targets.Encoding t) h is asked = h ∙ sym is ∙ asked
+  encoding_there options.CompactUtf16 (HeldEncoding e') e (targets.Encoding t) h is asked = h ∙ sym is ∙ asked
+  encoding_there options.Utf8 x e (targets.Encoding t) h is asked = absurd h
+  encoding_there options.Utf16 x e (targets.Encoding t) h is asked = absurd h
+  encoding_there options.CompactUtf16 x e (targets.Encoding t) h is asked = absurd h
+  encoding_there o x e (targets.Encoding t) h is asked = absurd is
+  encoding_there o x e target h is asked = absurd asked
+
+  memory_there : IsWorld w → (o : CanonicalOption) (x : HeldOption) (e : CoreExport) (target : TargetOption) → IsHeldOption c.items o x → IsOption earlier o (terms.Memory e) → IsOptionFor w (terms.Memory e) target → IsOptionHeld w s x target
+  memory_there ok (options.Memory index) (HeldMemory a) e targets.Memory h is asked =
+      let f = memory_exported ok is.0 asked is.1 in subst (IsFirstMemory w s) (same_Some f.0 a (sym f.1 ∙ h)) f.2
+  memory_there ok (options.Memory index) x e targets.Memory h is asked = absurd h
+  memory_there ok o x e targets.Memory h is asked = absurd is
+  memory_there ok o x e target h is asked = absurd asked
+
+  -- the function that an option names
+  function_named : IsWorld w → {index a : ℕ} {e : CoreExport} {export_ref : ExportRef} → e.kind ≡ kinds.Func → IsExported earlier index e → IsExportFor w e export_ref → address_at spaces.CoreFunc index c.items ≡ Some a → IsOptionFunction s a export_ref
+  function_named ok {index} {a} {e} {export_ref} function is asked at =
+      let number : e.of ≡ 0 = only_main_is w ok e.of asked.of in
+      let main : Main ≡ export_ref.of = module_at_zero w (subst (λ n. IsModule w n export_ref.of) number asked.of) in
+      let f = function_exported ok function (subst (IsModule w e.of) (sym main) asked.of) asked.named is in
+      record { of = sym main; is = subst (λ n. IsMainExport s n export_ref.name) (same_Some f.0 a (sym f.1 ∙ at)) f.2 }
+
+  realloc_there : IsWorld w → (o : CanonicalOption) (x : HeldOption) (e : CoreExport) (target : TargetOption) → IsHeldOption c.items o x → IsOption earlier o (terms.Realloc e) → IsOptionFor w (terms.Realloc e) target → IsOptionHeld w s x target
+  realloc_there ok (options.Realloc index) (HeldRealloc a) e (targets.Realloc export_ref) h is asked = function_named ok is.0 is.1 asked h
+  realloc_there ok (options.Realloc index) x e (targets.Realloc export_ref) h is asked = absurd h
+  realloc_there ok o x e (targets.Realloc export_ref) h is asked = absurd is
+  realloc_there ok o x e target h is asked = absurd asked
+
+  post_return_there : IsWorld w → (o : CanonicalOption) (x : HeldOption) (e : CoreExport) (target : TargetOption) → IsHeldOption c.items o x → IsOption earlier o (terms.PostReturn e) → IsOptionFor w (terms.PostReturn e) target → IsOptionHeld w s x target
+  post_return_there ok (options.PostReturn index) (HeldPostReturn a) e (targets.PostReturn export_ref) h is asked = function_named ok is.0 is.1 asked h
+  post_return_there ok (options.PostReturn index) x e (targets.PostReturn export_ref) h is asked = absurd h
+  post_return_there ok o x e (targets.PostReturn export_ref) h is asked = absurd is
+  post_return_there ok o x e target h is asked = absurd asked
+
+  callback_there : IsWorld w → (o : CanonicalOption) (x : HeldOption) (e : CoreExport) (target : TargetOption) → IsHeldOption c.items o x → IsOption earlier o (terms.Callback e) → IsOptionFor w (terms.Callback e) target → IsOptionHeld w s x target
+  callback_there ok (options.Callback index) (HeldCallback a) e (targets.Callback export_ref) h is asked = function_named ok is.0 is.1 asked h
+  callback_there ok (options.Callback index) x e (targets.Callback export_ref) h is asked = absurd h
+  callback_there ok o x e (targets.Callback export_ref) h is asked = absurd is
+  callback_there ok o x e target h is asked = absurd asked
+
+  async_there : (o : CanonicalOption) (x : HeldOption) (target : TargetOption) → IsHeldOption c.items o x → IsOption earlier o terms.Async → IsOptionFor w terms.Async target → IsOptionHeld w s x target
+  async_there options.Async HeldAsync targets.Async h is asked = tt
+  async_there options.Async x targets.Async h is asked = absurd h
+  async_there o x targets.Async h is asked = absurd is
+  async_there o x target h is asked = absurd asked
+
+  -- an option of a lift is what the target names
+  option_there : IsWorld w → (o : CanonicalOption) (x : HeldOption) (term : TermOption) (target : TargetOption) → IsHeldOption c.items o x → IsOption earlier o term → IsOptionFor w term target → IsOptionHeld w s x target
+  option_there ok o x (terms.Encoding e) target h is asked = encoding_there o x e target h is asked
+  option_there ok o x (terms.Memory e) target h is asked = memory_there ok o x e target h is asked
+  option_there ok o x (terms.Realloc e) target h is asked = realloc_there ok o x e target h is asked
+  option_there ok o x (terms.PostReturn e) target h is asked = post_return_there ok o x e target h is asked
+  option_there ok o x (terms.Callback e) target h is asked = callback_there ok o x e target h is asked
+  option_there ok o x terms.Async target h is asked = async_there o x target h is asked
+
+  options_there : IsWorld w → (os : List CanonicalOption) (xs : List HeldOption) (ts : List TermOption) (gs : List TargetOption) → AllZip (IsHeldOption c.items) os xs → AllZip (IsOption earlier) os ts → AllZip (IsOptionFor w) ts gs →
+      AllZip (IsOptionHeld w s) xs gs
+  options_there ok [] [] [] [] h is asked = tt
+  options_there ok (o ∷ os) (x ∷ xs) (t ∷ ts) (g ∷ gs) h is asked = (option_there ok o x t g h.0 is.0 asked.0, options_there ok os xs ts gs h.1 is.1 asked.1)
+  options_there ok [] (x ∷ xs) ts gs h is asked = absurd h
+  options_there ok (o ∷ os) [] ts gs h is asked = absurd h
+  options_there ok [] [] (t ∷ ts) gs h is asked = absurd is
+  options_there ok (o ∷ os) (x ∷ xs) [] gs h is asked = absurd is
+  options_there ok [] [] [] (g ∷ gs) h is asked = absurd asked
+  options_there ok (o ∷ os) (x ∷ xs) (t ∷ ts) [] h is asked = absurd asked
 
   -- the lift of a required function
-  pub lift_there : IsWorld w → {index : ℕ} (key : WorldKey) (name : List ℕ) (type : FunctionTree) → core_name_of w key ≡ Some name → IsLiftFor w earlier index (Lifted (record { of = Main; name = name }) []) type →
-      (x : ℕ) × (address_at spaces.Func index c.items ≡ Some x) × IsLiftedFrom s x name type
-  lift_there ok {index} key name type role h =
+  pub lift_there : IsWorld w → {index : ℕ} (name : List ℕ) (options : List TargetOption) (type : FunctionTree) → IsLiftFor w earlier index (Lifted (record { of = Main; name = name }) options) type →
+      (x : ℕ) × (address_at spaces.Func index c.items ≡ Some x) × IsLiftedFrom w s x name options type
+  lift_there ok {index} name options type h =
       let entry : CoreExport = h.entry in
       let is : IsLifting earlier index entry h.options type = h.is in
-      let l : (x : ℕ) × (address_at spaces.Func index c.items ≡ Some x) × IsLiftedItem c.items s is.core is.kind x = thing_there is.made in
-      let core : (t : FuncType) × (found name w.main.offered ≡ Some (externs.Func t)) = core_offered w ok key name role in
-      let offered : found entry.name w.main.offered ≡ Some (externs.Func core.0) = subst (λ t. found t w.main.offered ≡ Some (externs.Func core.0)) (sym h.asked.0.named) core.1 in
-      let f = exported_there core.0 is.function offered is.of in
+      let l : (x : ℕ) × (address_at spaces.Func index c.items ≡ Some x) × IsLiftedItem c.items s is.core is.written is.kind x = thing_there is.made in
+      let f = function_exported ok is.function h.asked.0.of h.asked.0.named is.of in
       let same : f.0 ≡ l.2.of = same_Some f.0 l.2.of (sym f.1 ∙ l.2.at) in
-      let number : entry.of ≡ 0 = only_main_is w ok entry.of h.asked.0.of in
-      let is_main : IsInstance s f.2 0 = subst (IsInstance s f.2) number f.4 in
-      let opaque : IsOpaqueOf s l.2.of core.0 (ExportedBy f.2 name) =
-      subst (λ n. IsOpaqueOf s n core.0 (ExportedBy f.2 name)) same (subst (λ t. IsOpaqueOf s f.0 core.0 (ExportedBy f.2 t)) h.asked.0.named f.3) in
-      let typed : l.2.type ≡ type = same_type_at l.2.typed (type_there is.typed) in
-      (l.0, l.1, record { core = l.2.of; is = l.2.is ∙ ap (λ t. Some (Lifting l.2.of [] t)) typed; of = record { user = f.2; type = core.0; is = opaque; of = is_main } })
+      let typed : l.2.type ≡ type = same_type_at l.2.typed (type_there is.typed) in (
+        l.0,
+        l.1,
+        record {
+          core = l.2.of;
+          held = l.2.held;
+          is = l.2.is ∙ ap (λ t. Some (Lifting l.2.of l.2.held t)) typed;
+          of = subst (λ n. IsMainExport s n name) same f.2;
+          with_options = options_there ok is.written l.2.held h.options options l.2.with_options is.with_options h.asked.1;
+        },
+      )
 
   -- the core item that the link table names has an address
   item_there : (kind : ExportKind) (index : ℕ) (role : Import) → IsImportRole w role → IsItemFor w earlier (kind_space kind) index (link_of w Main role) →

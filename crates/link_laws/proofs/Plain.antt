@@ -36,7 +36,7 @@ use Rattle.comp_roles.specs.declared.imports.ImportInstance.TheVariants as insta
 use Rattle.comp_roles.specs.declared.offered.ExternType.{ExternType}
 use Rattle.comp_roles.specs.declared.offered.ExternType.TheVariants as externs
 use Rattle.comp_roles.specs.declared.offered.ImportType.{ImportType}
-use Rattle.comp_roles.specs.Lookups.{first_export, is_initialize, is_task_hook}
+use Rattle.comp_roles.specs.Lookups.{first_export, memory_of_import, memory_of_fields, imported_memory, is_initialize, is_task_hook}
 use Rattle.world_values.specs.Items.{function_in, functions_of, root_function_at, root_export}
 use Rattle.comp_worlds.proofs.Roles.{role_right}
 use Rattle.comp_worlds.specs.Typed.{drop_type, type_of_import, type_of_export, FitsImport, FitsExport}
@@ -83,10 +83,10 @@ entry_found text t f es is h = by (bytes_eq text t) refl h
     by false same (inr k) = record { function = k.function; present = ap found_with same ∙ k.present; same = k.same }
 
 -- the item of a key that the world exports
-pub key_found : (types : List TypeDef) (text : List ℕ) (es : Entries) → AllByRecursion (IsExportItem types) es → Contains (map (λ e. e.0) es) (keys.Name text) → IsFoundFunction es text
-key_found types text [] is h = nothing_in (keys.Name text) h
-key_found types text ((keys.Name t, items.Function f) ∷ es) is h =
-    entry_found text t f es is.0.0 (by (λ k. key_found types text es is.1 k) (Contains-append_cases (keys.Name t ∷ []) (map (λ e. e.0) es) (keys.Name text) h))
+pub key_found : (text : List ℕ) (es : Entries) → AllByRecursion IsExportItem es → Contains (map (λ e. e.0) es) (keys.Name text) → IsFoundFunction es text
+key_found text [] is h = nothing_in (keys.Name text) h
+key_found text ((keys.Name t, items.Function f) ∷ es) is h =
+    entry_found text t f es is.0.0 (by (λ k. key_found text es is.1 k) (Contains-append_cases (keys.Name t ∷ []) (map (λ e. e.0) es) (keys.Name text) h))
   where
     name_in : WorldKey → List ℕ
     name_in (keys.Name n) = n
@@ -95,7 +95,7 @@ key_found types text ((keys.Name t, items.Function f) ∷ es) is h =
     by : (Contains (map (λ e. e.0) es) (keys.Name text) → IsFoundFunction es text) → Contains (keys.Name t ∷ []) (keys.Name text) ⊎ Contains (map (λ e. e.0) es) (keys.Name text) → (t ≡ text) ⊎ IsFoundFunction es text
     by rest (inl k) = inl (ap name_in (only (keys.Name t) (keys.Name text) k))
     by rest (inr k) = inr (rest k)
-key_found types text (e ∷ es) is h = absurd is.0
+key_found text (e ∷ es) is h = absurd is.0
 
 pub root_found : {es : Entries} {text : List ℕ} (h : IsFoundFunction es text) → root_function_at es (keys.Name text) ≡ Some h.function
 root_found h = ap (option_and_then function_in) h.present
@@ -183,43 +183,34 @@ function_imports w ok = AllByRecursion-weaker (one_import w ok) w.main.imported 
 
 -- ---- what main exports
 
--- the role of a root function requires a core type of functions
-export_type : (w : ComponentWorld) (role : WorldExport) (type : ExternType) → IsExportRole w role → type_of_export w.resolve (items_of w) role ≡ Some type → (t : FuncType) × (type ≡ externs.Func t)
-export_type w (exports.WorldFunc (keys.Name text) function abi) type right fits =
-    let x : (f : Function) × (root_function_at (items_of w).exports (keys.Name text) ≡ Some f) × (called_type w.resolve abi f ≡ type) =
-    mapped_some (called_type w.resolve abi) (root_function_at (items_of w).exports (keys.Name text)) type fits in
-    (core_type (signature abi w.resolve.types x.0), sym x.2)
-export_type w role type right fits = absurd right
-
--- a root function that is found among the root exports is a function that main offers
-abbrev IsOfferedFunction : ComponentWorld → List ℕ → Type 0
-IsOfferedFunction w name = (t : FuncType) × (found name w.main.offered ≡ Some (externs.Func t))
-
-root_offered : (w : ComponentWorld) → IsWorld w → (text name : List ℕ) (es : List (List ℕ × WorldExport)) → AllByRecursion (λ e. IsExportRole w e.1) es → AllByRecursion (FitsExport w.resolve (items_of w) w.main) es →
-    found text (flat_map root_export es) ≡ Some name → IsOfferedFunction w name
-root_offered w ok text name [] r f h = absurd (none-some name h)
-root_offered w ok text name ((n, exports.WorldFunc (keys.Name t) function abi) ∷ es) r f h = by (bytes_eq text t) h (root_offered w ok text name es r.1 f.1)
-  where
-    here : IsOfferedFunction w n
-    here = let x : (t : FuncType) × (f.0.type ≡ externs.Func t) = export_type w (exports.WorldFunc (keys.Name t) function abi) f.0.type r.0 f.0.fits in (x.0, f.0.offered ∙ ap (λ (x : ExternType). Some x) x.1)
-
-    by : (b : Bool) → cond b (Some n) (found text (flat_map root_export es)) ≡ Some name → (found text (flat_map root_export es) ≡ Some name → IsOfferedFunction w name) → IsOfferedFunction w name
-    by true same rest = subst (IsOfferedFunction w) (same_Some n name same) here
-    by false same rest = rest same
-root_offered w ok text name ((n, role) ∷ es) r f h = absurd r.0
-
--- main offers the core export of a key, a function
-pub core_offered : (w : ComponentWorld) → IsWorld w → (key : WorldKey) (name : List ℕ) → core_name_of w key ≡ Some name → (t : FuncType) × (found name w.main.offered ≡ Some (externs.Func t))
-core_offered w ok (keys.Name text) name h = root_offered w ok text name w.main.exports.exports ok.main.export_roles ok.main.exported h
-core_offered w ok (keys.Interface id) name h = absurd (none-some name h)
-
 -- main has no task hook, and no initialization
+not_hook : (w : ComponentWorld) (role : WorldExport) → IsExportRole w role → is_task_hook role ≡ false
+not_hook w exports.WasmTaskHook h = absurd h
+not_hook w role h = refl
+
+not_initialize : (w : ComponentWorld) (role : WorldExport) → IsExportRole w role → is_initialize role ≡ false
+not_initialize w exports.Initialize h = absurd h
+not_initialize w role h = refl
+
+none_exported : (w : ComponentWorld) (matching : WorldExport → Bool) → ((role : WorldExport) → IsExportRole w role → matching role ≡ false) → (es : List (List ℕ × WorldExport)) → AllByRecursion (λ e. IsExportRole w e.1) es → first_export matching es ≡ None
+none_exported w matching none [] h = refl
+none_exported w matching none (e ∷ es) h = rw (none e.1 h.0) (none_exported w matching none es h.1)
+
 pub no_hook : (w : ComponentWorld) (es : List (List ℕ × WorldExport)) → AllByRecursion (λ e. IsExportRole w e.1) es → first_export is_task_hook es ≡ None
-no_hook w [] h = refl
-no_hook w ((name, exports.WorldFunc (keys.Name text) function abi) ∷ es) h = no_hook w es h.1
-no_hook w ((name, role) ∷ es) h = absurd h.0
+no_hook w es h = none_exported w is_task_hook (not_hook w) es h
 
 pub no_initialize : (w : ComponentWorld) (es : List (List ℕ × WorldExport)) → AllByRecursion (λ e. IsExportRole w e.1) es → first_export is_initialize es ≡ None
-no_initialize w [] h = refl
-no_initialize w ((name, exports.WorldFunc (keys.Name text) function abi) ∷ es) h = no_initialize w es h.1
-no_initialize w ((name, role) ∷ es) h = absurd h.0
+no_initialize w es h = none_exported w is_initialize (not_initialize w) es h
+
+-- main imports no memory
+no_memory_role : (w : ComponentWorld) (role : Import) → IsImportRole w role → memory_of_import role ≡ None
+no_memory_role w (imports.MainModuleMemory type) h = absurd h
+no_memory_role w role h = refl
+
+no_memory_field : (w : ComponentWorld) (fields : List (List ℕ × Import)) → AllByRecursion (λ f. IsImportRole w f.1) fields → memory_of_fields fields ≡ None
+no_memory_field w [] h = refl
+no_memory_field w (f ∷ fields) h = rw (no_memory_role w f.1 h.0) (no_memory_field w fields h.1)
+
+pub no_memory_imported : (w : ComponentWorld) (groups : List (List ℕ × ImportInstance)) → AllByRecursion (IsImportGroup w) groups → imported_memory groups ≡ None
+no_memory_imported w [] h = refl
+no_memory_imported w (g ∷ groups) h = rw (no_memory_field w (fields_of g.1) (fields_right w g h.0)) (no_memory_imported w groups h.1)

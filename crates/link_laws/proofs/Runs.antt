@@ -3,7 +3,6 @@ use Rattle.std.proofs.Common.{◌≡◌, ◌∙◌, ◌≤◌, ◌+◌, ℕ, fal
 use Rattle.std.proofs.lemmas.List.{map-append}
 use Rattle.std.proofs.lemmas.Option.{slice_get_within}
 use Rattle.std.specs.List.{slice_get, flat_map, AllZip}
-use Rattle.standard_kinds.specs.declared.kinds.ExportKind.TheVariants as kinds
 use Rattle.comp_bytes.specs.ItemIndices.{in_space}
 use Rattle.comp_bytes.specs.declared.space.Space.TheVariants as spaces
 use Rattle.comp_bytes.specs.declared.space.Sort.TheVariants as sorts
@@ -46,13 +45,12 @@ module _ {w : ComponentWorld} {earlier : List Def} {c : Scope} {s : Store} (a : 
   step ok (defs.Item (items.CoreModule bytes)) h = step_module a g bytes
   step ok (defs.Item (items.CoreInstantiate number arguments)) h = step_instantiate a g ok number arguments h
   step ok (defs.Item (items.CoreExports entries)) h = step_inline_instance a g entries h
-  step ok (defs.Item (items.Alias (aliases.CoreExport kinds.Func instance name))) h = step_alias a g ok instance name h
+  step ok (defs.Item (items.Alias (aliases.CoreExport kind instance name))) h = step_alias a g ok kind instance name h
   step ok (defs.Item (items.Alias (aliases.Export exports.Func instance name))) h = step_alias_function a g instance name h
   step ok (defs.Item (items.Alias (aliases.Export exports.Type instance name))) h = step_alias_type a g instance name h
   step ok (defs.Item (items.Type t)) h = step_type a g t h
   step ok (defs.Item (items.InstanceType t)) h = step_instance_type a g t
-  step ok (defs.Item (items.Lift core options kind)) h =
-      subst (λ (o : List CanonicalOption). Steps w earlier c s g (defs.Item (items.Lift core o kind))) (sym h.1) (step_lift a g core kind h.0 h.2)
+  step ok (defs.Item (items.Lift core options kind)) h = step_lift a g core options kind h.0 h.1 h.2
   step ok (defs.Item (items.Lower function options)) h = subst (λ (o : List CanonicalOption). Steps w earlier c s g (defs.Item (items.Lower function o))) (sym h.1) (step_lower a g function h.0)
   step ok (defs.Item (items.Intrinsic (intrinsics.ResourceDrop type))) h = step_drop a g type h
   step ok (defs.Item (items.Import name (descriptions.Func kind))) h = step_import a g name kind h

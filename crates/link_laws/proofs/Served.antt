@@ -2,7 +2,7 @@
 use Rattle.std.proofs.Common.{◌≡◌, ◌∙◌, ℕ, Bool, false, zero, suc, true, List, [], ◌∷◌, map, filter, refl, sym, ap, subst, Option, Some, None, IsSome, is_some, if◌then◌else◌}
 use Rattle.std.proofs.lemmas.Option.{none-some, same_Some}
 use Rattle.std.specs.Str.{bytes_eq}
-use Rattle.std.specs.List.{slice_get, flat_map, list_any, AllByRecursion}
+use Rattle.std.specs.List.{slice_get, flat_map, list_any, AllZip, AllByRecursion}
 use Rattle.std.specs.Option.{option_map, option_and_then}
 use Rattle.comp_lists.proofs.Lists.{AllZip-weaker, AllByRecursion-weaker}
 use Rattle.comp_bytes.specs.declared.space.Sort.TheVariants as sorts
@@ -11,6 +11,7 @@ use Rattle.comp_bytes.specs.declared.space.Space.TheVariants as spaces
 use Rattle.comp_bytes.specs.declared.canon.Intrinsic.TheVariants as intrinsics
 use Rattle.core_types.specs.declared.types.FuncType.{FuncType}
 use Rattle.core_runs.specs.declared.bracket.Bracketed.{Bracketed}
+use Rattle.core_runs.specs.declared.bracket.Bracketed.TheVariants as brackets
 use Rattle.core_runs.specs.declared.bracket.AfterHook.TheVariants.{Nothing}
 use Rattle.core_runs.specs.Hooks.{around, bracket_of}
 use Rattle.core_runs.specs.Values.{Value}
@@ -24,6 +25,7 @@ use Rattle.wit_data.specs.declared.ids.TypeId.{TypeId}
 use Rattle.wit_data.specs.declared.worlds.WorldKey.{WorldKey}
 use Rattle.wit_data.specs.declared.worlds.WorldKey.TheVariants as keys
 use Rattle.comp_roles.specs.declared.offered.ImportType.{ImportType}
+use Rattle.comp_roles.specs.Lookups.{first_memory}
 use Rattle.world_values.specs.Items.{root_function_at}
 use Rattle.comp_worlds.specs.WorldContents.{items_of, core_name_of}
 use Rattle.comp_worlds.specs.Worlds.{IsWorld, IsRequired}
@@ -31,19 +33,22 @@ use Rattle.comp_worlds.specs.declared.world.ComponentWorld.{ComponentWorld}
 use Rattle.comp_worlds.specs.declared.world.WorldAdapter.{WorldAdapter}
 use Rattle.comp_trees.specs.Trees.{FunctionTree}
 use Rattle.comp_trees.specs.DefinedTrees.{OfOthers}
-use Rattle.comp_links.specs.Targets.{Main, WorldFunction, Target, Lowered, Dropped, Lifted}
+use Rattle.comp_links.specs.Targets.{Main, ExportRef, WorldFunction, TargetOption, Target, Lowered, Dropped, Lifted}
+use Rattle.comp_links.specs.Targets as targets
+use Rattle.comp_links.specs.Links.{lift_options}
 use Rattle.comp_links.specs.Modules.{WorldModule, adapter_module, user_modules}
 use Rattle.comp_links.specs.Naming.{Naming, plain_name, name_of}
 use Rattle.comp_links.specs.Lists.{component_types, resource_of, root_function, stated_export, functions_required, functions_in}
 use Rattle.comp_terms.specs.Planned.{type_of_function}
 use Rattle.comp_runs.specs.Signatures.{core_signature}
-use Rattle.comp_runs.specs.Store.{Thing, Export, CoreItem, Lowering, IntrinsicOf, ExportedBy, Imported, Lifting, item_tree, ModuleInstance}
+use Rattle.comp_runs.specs.Store.{Thing, Export, HeldOption, HeldEncoding, HeldMemory, HeldRealloc, HeldPostReturn, HeldAsync, HeldCallback, CoreItem, Lowering, IntrinsicOf, ExportedBy, Imported, Lifting, item_tree, ModuleInstance}
 use Rattle.comp_runs.specs.Machine.{Machine, export_named, export_in, export_of}
-use Rattle.link_laws.specs.Meeting.{CoreMeets, task_hook, hooks_round, ItemIsExport, ItemIsLowering, ItemIsDrop, Meets, MeetsIn, entry_kind}
+use Rattle.link_laws.specs.Meeting.{CoreMeets, CoreExportMeets, task_hook, hooks_round, MemoryMeets, IsMainMemory, MeetsOption, ItemIsExport, ItemIsLowering, ItemIsDrop, Meets, MeetsIn, entry_kind}
 use Rattle.link_laws.specs.Linking.{IsServed, AreServed, UsersServed, IsProvided, exports_at, function_in}
 use Rattle.link_laws.proofs.Zips.{filter-all, found-each, found-listed, AllByRecursion-join}
-use Rattle.link_laws.proofs.Stores.{IsOpaqueOf, drop_core, IsLoweredFor, IsDropOf, IsServedAs, main_module, IsPlanned, IsPlannedUser, IsMainExport, IsLiftedExport}
-use Rattle.link_laws.proofs.Plain.{IsFoundFunction, key_found, root_found, no_hook}
+use Rattle.link_laws.proofs.Stores.{IsOpaqueOf, drop_core, IsLoweredFor, IsDropOf, IsServedAs, main_module, IsPlanned, IsPlannedUser, IsMainExport, IsFirstMemory, IsOptionFunction, IsOptionHeld, IsLiftedExport}
+use Rattle.link_laws.proofs.Given.{by_parts}
+use Rattle.link_laws.proofs.Plain.{IsFoundFunction, key_found, root_found, no_hook, no_memory_imported}
 
 -- ---- opaque functions
 
@@ -135,10 +140,6 @@ module _ (w : ComponentWorld) (ok : IsWorld w) (m : Machine) where
 
 -- ---- exports
 
--- an export is equal to the record of its parts
-by_parts : (e : Export) (space : Space) (name : List ℕ) → e.space ≡ space → e.name ≡ name → e ≡ record { space = space; name = name; address = e.address }
-by_parts e space name same_space same_name = rw (← same_space, ← same_name) refl
-
 -- a key that has a core export is a name, and the world exports a function under it
 pub record IsFunctionKey (w : ComponentWorld) (key : WorldKey) : Type 0 where
   pub text : List ℕ
@@ -152,7 +153,7 @@ function_key w ok (keys.Name text) h = by (core_name_of w (keys.Name text)) refl
   where
     by : (o : Option (List ℕ)) → core_name_of w (keys.Name text) ≡ o → IsSome o → IsFunctionKey w (keys.Name text)
     by None e s = cc
-    by (Some core) e s = record { text = text; core = core; is = refl; role = e; found = key_found w.resolve.types text (items_of w).exports ok.exports h.exported }
+    by (Some core) e s = record { text = text; core = core; is = refl; role = e; found = key_found text (items_of w).exports ok.exports h.exported }
 function_key w ok (keys.Interface id) h = let no = h.present in cc
 
 -- what is stated of a required key is a root function
@@ -175,18 +176,44 @@ module _ (n : Naming) (w : ComponentWorld) (ok : IsWorld w) (m : Machine) (names
   functions_all : filter (export_in spaces.Func) m.scope.exports ≡ m.scope.exports
   functions_all = filter-all (export_in spaces.Func) m.scope.exports (AllByRecursion-weaker (λ (e : Export) h. rw h.space refl) m.scope.exports lifted)
 
-  main_export : (address : ℕ) (name : List ℕ) → IsMainExport m.store address name → (type : FuncType) × (item : CoreItem) × IsOpaqueOf m.store address type item × ItemIsExport w m (record { of = Main; name = name }) item
-  main_export address name h = (
+  main_export : (address : ℕ) (export_ref : ExportRef) → export_ref.of ≡ Main → IsMainExport m.store address export_ref.name → (type : FuncType) × (item : CoreItem) × IsOpaqueOf m.store address type item × ItemIsExport w m export_ref item
+  main_export address export_ref of h = (
     h.type,
-    ExportedBy h.user name,
+    ExportedBy h.user export_ref.name,
     h.is,
     record {
       number = 0;
       is = record { made = h.of.instance; present = h.of.present; of = h.of.of };
-      of = record { world_module = main_module w; listed = refl; same = refl };
+      of = record { world_module = main_module w; listed = refl; same = sym of };
       same_name = refl;
     },
   )
+
+  -- ---- options
+
+  function_meets : (kind : Bracketed) (address : ℕ) (export_ref : ExportRef) → IsOptionFunction m.store address export_ref → CoreExportMeets w m (Some kind) address export_ref
+  function_meets kind address export_ref h =
+      let x : (type : FuncType) × (item : CoreItem) × IsOpaqueOf m.store address type item × ItemIsExport w m export_ref item = main_export address export_ref h.of h.is in
+      opaque_meets w ok m (Some kind) address x.0 x.1 (ItemIsExport w m export_ref) x.2 x.3
+
+  memory_meets : (address : ℕ) → IsFirstMemory w m.store address → IsMainMemory w m address
+  memory_meets address h =
+      subst (λ o. MemoryMeets w m address o (first_memory w.main.exports.exports)) (sym (no_memory_imported w w.main.imports.modules ok.main.import_roles))
+      (subst (λ o. MemoryMeets w m address None o) (sym h.first)
+      (record {
+        number = 0;
+        of = record { world_module = main_module w; listed = refl; same = refl };
+        is = record { made = h.is.instance; instance = h.is.user; present = h.is.present; of = h.is.of; exported = h.is.exported };
+      }))
+
+  option_meets : (held : HeldOption) (o : TargetOption) → IsOptionHeld w m.store held o → MeetsOption w m held o
+  option_meets (HeldEncoding e) (targets.Encoding e') h = h
+  option_meets (HeldMemory a) targets.Memory h = memory_meets a h
+  option_meets (HeldRealloc a) (targets.Realloc export_ref) h = function_meets brackets.Realloc a export_ref h
+  option_meets (HeldPostReturn a) (targets.PostReturn export_ref) h = function_meets brackets.PostReturn a export_ref h
+  option_meets (HeldCallback a) (targets.Callback export_ref) h = function_meets brackets.Callback a export_ref h
+  option_meets HeldAsync targets.Async h = tt
+  option_meets held o h = absurd h
 
   -- the export of a root function
   provided : (text core : List ℕ) → core_name_of w (keys.Name text) ≡ Some core → (at : IsFoundFunction (items_of w).exports text) → list_any (bytes_eq text) (map name_of_key w.main_exports) ≡ true →
@@ -200,21 +227,23 @@ module _ (n : Naming) (w : ComponentWorld) (ok : IsWorld w) (m : Machine) (names
       ap (export_named text) functions_all ∙ (x.1 ∙ ap (λ (e : Export). Some e) whole) in
       let own : root_function_at (items_of w).exports (keys.Name text) ≡ Some is.1.wit = subst (λ t. root_function_at (items_of w).exports (keys.Name t) ≡ Some is.1.wit) is.0 is.1.exported in
       let same_function : is.1.wit ≡ at.function = same_Some is.1.wit at.function (sym own ∙ root_found at) in
-      let entry : (type : FuncType) × (item : CoreItem) × IsOpaqueOf m.store is.1.is.core type item × ItemIsExport w m (record { of = Main; name = is.1.name }) item = main_export is.1.is.core is.1.name is.1.is.of in
+      let entry : (type : FuncType) × (item : CoreItem) × IsOpaqueOf m.store is.1.is.core type item × ItemIsExport w m (record { of = Main; name = is.1.name }) item = main_export is.1.is.core (record { of = Main; name = is.1.name }) refl is.1.is.of in
+      let lifted_with : List TargetOption = lift_options w Main (keys.Name text) in
+      let options : AllZip (IsOptionHeld w m.store) is.1.is.held lifted_with = subst (λ t. AllZip (IsOptionHeld w m.store) is.1.is.held (lift_options w Main (keys.Name t))) is.0 is.1.is.with_options in
       record {
         address = x.0.address;
-        target = Lifted (record { of = Main; name = is.1.name }) [];
+        target = Lifted (record { of = Main; name = is.1.name }) lifted_with;
         wit = at.function;
         provided = ap (λ o. option_and_then (export_of spaces.Func at.function.name) (exports_at w m (name_of n w.resolve (keys.Name text)).name o)) at.present
             ∙ subst (λ n. export_of spaces.Func n m.scope.exports ≡ Some (record { space = spaces.Func; name = n; address = x.0.address })) at.same at_root;
-        said = ap (option_map (λ n. Lifted (record { of = Main; name = n }) [])) (ap (λ t. core_name_of w (keys.Name t)) (sym is.0) ∙ is.1.role);
+        said = ap (option_map (λ n. Lifted (record { of = Main; name = n }) lifted_with)) (ap (λ t. core_name_of w (keys.Name t)) (sym is.0) ∙ is.1.role);
         type_of = ap (function_in w at.function.name) at.present;
         meets = record {
           core = is.1.is.core;
-          held = [];
-          is = is.1.is.is ∙ ap (λ (f : WitFunction). Some (Lifting is.1.is.core [] (type_of_function w f))) same_function;
-          enters = opaque_meets w ok m (Some (entry_kind [])) is.1.is.core entry.0 entry.1 (ItemIsExport w m (record { of = Main; name = is.1.name })) entry.2 entry.3;
-          same = tt;
+          held = is.1.is.held;
+          is = is.1.is.is ∙ ap (λ (f : WitFunction). Some (Lifting is.1.is.core is.1.is.held (type_of_function w f))) same_function;
+          enters = opaque_meets w ok m (Some (entry_kind lifted_with)) is.1.is.core entry.0 entry.1 (ItemIsExport w m (record { of = Main; name = is.1.name })) entry.2 entry.3;
+          same = AllZip-weaker option_meets is.1.is.held lifted_with options;
         };
       }
 

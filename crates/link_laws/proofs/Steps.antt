@@ -12,7 +12,11 @@ use Rattle.comp_bytes.specs.Spaces.{kind_space, space_of, items_in}
 use Rattle.comp_bytes.specs.ScopeNames.{def_export}
 use Rattle.comp_bytes.specs.declared.space.Space.{Space}
 use Rattle.comp_bytes.specs.declared.space.Space.TheVariants as spaces
+use Rattle.standard_kinds.specs.declared.kinds.ExportKind.{ExportKind}
 use Rattle.standard_kinds.specs.declared.kinds.ExportKind.TheVariants as kinds
+use Rattle.standard_kinds.specs.declared.kinds.StringEncoding.TheVariants as encodings
+use Rattle.comp_bytes.specs.declared.canon.CanonicalOption.{CanonicalOption}
+use Rattle.comp_bytes.specs.declared.canon.CanonicalOption.TheVariants as options
 use Rattle.comp_bytes.specs.declared.space.Sort.TheVariants as sorts
 use Rattle.comp_bytes.specs.declared.space.ComponentExportKind.TheVariants as exports
 use Rattle.comp_bytes.specs.declared.types.ExternName.{ExternName}
@@ -50,18 +54,19 @@ use Rattle.core_runs.specs.Values.{Value}
 use Rattle.core_types.specs.declared.types.ValType.TheVariants.{I32}
 use Rattle.core_runs.specs.Store.{Opaque, Answer, Gives, Traps, Event, Instantiated, Now, Cell, Foreign}
 use Rattle.core_runs.specs.Execution.{answered, seen, renewed}
-use Rattle.comp_runs.specs.Store.{Thing, Export, CoreItem, Lowering, IntrinsicOf, ExportedBy, Function, Imported, Lifting, TypeItem, TreeOf, ImportedResource, InstanceTypeOf, ModuleInstance, Store}
-use Rattle.comp_links.specs.Targets.{Main, Lifted}
+use Rattle.comp_runs.specs.Store.{Thing, Export, HeldOption, HeldEncoding, HeldMemory, HeldRealloc, HeldPostReturn, HeldAsync, HeldCallback, CoreItem, Lowering, IntrinsicOf, ExportedBy, Function, Imported, Lifting, TypeItem, TreeOf, ImportedResource, InstanceTypeOf, ModuleInstance, Store}
+use Rattle.comp_links.specs.Targets.{Main, TargetOption, Lifted}
+use Rattle.comp_links.specs.Links.{lift_options}
 use Rattle.comp_links.specs.Modules.{WorldModule}
 use Rattle.comp_roles.specs.declared.offered.ExternType.{ExternType}
 use Rattle.comp_roles.specs.declared.offered.ExternType.TheVariants as externs
 use Rattle.comp_roles.specs.declared.offered.ImportType.{ImportType}
 use Rattle.comp_terms.specs.Planned.{type_of_function, IsLiftFor, IsArgumentFor}
-use Rattle.comp_terms.specs.Rules.{InstantiatesUser, AliasesUser, ExportsRequired, IsEntry, AreEntries, AliasesImported, HasFunctionType, HasResource, HasImportedFunction, IsTypeRight}
+use Rattle.comp_terms.specs.Rules.{InstantiatesUser, AliasesUser, ExportsRequired, IsEntry, AreEntries, AliasesImported, HasFunctionType, HasResource, HasImportedFunction, IsOptionRight, IsTypeRight}
 use Rattle.comp_runs.specs.Machine.{Scope, Machine, Outcome, Done, Trapped, Open, Stuck, with_some, address_at, is_of, export_named, all_some, resumed, with_opaque}
 use Rattle.comp_runs.specs.Instances.{ExportTypes, exported_by, with_exports, with_module_instance, matching, argument_for, type_kind, given_to, new_user, type_scope, known_function, type_item}
 use Rattle.comp_runs.specs.Signatures.{core_signature}
-use Rattle.comp_runs.specs.Running.{core_argument, core_entry, type_of_function as function_type_of, lowered_signature, run}
+use Rattle.comp_runs.specs.Running.{core_argument, core_entry, held, options_held, type_of_function as function_type_of, lowered_signature, run}
 use Rattle.instance_laws.specs.Instantiated.{IsHeldAs}
 use Rattle.instance_laws.specs.InstanceEntries.{IsInstanceType, IsInstanceEntry, RunsImport, AliasesFunction, AliasesType}
 use Rattle.instance_laws.proofs.Held.{keeps_same, keeps_more, keeps_grown, AreHeldAs-kept}
@@ -70,8 +75,8 @@ use Rattle.instance_laws.proofs.Importing.{instance_type_made, import_runs, alia
 use Rattle.link_laws.specs.Composition.{GeneratedModules, at_root, item_instantiates}
 use Rattle.link_laws.specs.Linking.{module_meanings, LetsRun}
 use Rattle.link_laws.proofs.Zips.{all_some-self, all_some-each, mapped_some}
-use Rattle.link_laws.proofs.Stores.{IsOpaqueOf, IsUserItem, IsUserExport, IsUserInstance, IsNamedEntry, IsTypeAt, drop_core, Means, makes, IsTypeEntry, entry_of, IsFunctionEntry, IsInstanceThing, main_module, IsPlanned, IsPlannedUser, IsLiftedFrom, IsLiftedExport, NumberedFrom, Agrees, Keeps, address_at-append, things_kept, keeps_store, keeps_type, keeps_function, keeps_opaque, keeps_core_instance, keeps_module, Means-kept, IsTypeEntry-kept, IsFunctionEntry-kept, IsInstanceThing-kept, IsPlannedUser-kept, IsLiftedExport-kept}
-use Rattle.link_laws.proofs.Given.{IsOffered, address_there, all_held, scope_there, entry_there, held_there, type_there, instance_type_there, instance_there, function_at, imported_there, user_there, offered_there, lift_there, arguments_there, given_there}
+use Rattle.link_laws.proofs.Stores.{IsOpaqueOf, IsUserItem, IsUserExport, IsUserInstance, IsNamedEntry, IsTypeAt, drop_core, Means, makes, IsTypeEntry, entry_of, IsFunctionEntry, IsInstanceThing, main_module, IsPlanned, IsPlannedUser, IsLiftedFrom, IsLiftedExport, IsAliasedItem, IsHeldOption, IsHeldOption-kept, NumberedFrom, Agrees, Keeps, address_at-append, things_kept, keeps_store, keeps_type, keeps_function, keeps_opaque, keeps_core_instance, keeps_module, Means-kept, IsTypeEntry-kept, IsFunctionEntry-kept, IsInstanceThing-kept, IsPlannedUser-kept, IsLiftedExport-kept}
+use Rattle.link_laws.proofs.Given.{IsOffered, address_there, all_held, scope_there, entry_there, held_there, type_there, instance_type_there, instance_there, function_at, imported_there, user_there, space_of_kind, offered_there, lift_there, arguments_there, given_there}
 use Rattle.link_laws.proofs.Plain.{IsFunctionImport, function_imports, listed_main}
 use Rattle.link_laws.proofs.UserExports.{Exports, Alike, all_exports, all_alike, same_exports, each_export}
 
@@ -200,6 +205,20 @@ exported_by_name : (w : ComponentWorld) (key : WorldKey) (name : List ℕ) (wit 
 exported_by_name w (keys.Name text) name wit e h = h
 exported_by_name w (keys.Interface id) name wit e h = absurd (none-some name e)
 
+-- the options of a key are those of its name
+options_by_name : (w : ComponentWorld) (key : WorldKey) (name : List ℕ) → core_name_of w key ≡ Some name → lift_options w Main key ≡ lift_options w Main (keys.Name (name_of_key key))
+options_by_name w (keys.Name text) name h = refl
+options_by_name w (keys.Interface id) name h = absurd (none-some name h)
+
+-- what an option names doesn't depend on what a run changes
+held_same : (c : Scope) (s : Store) (now : Now) (o : CanonicalOption) → held (machine c s now) o ≡ held (machine c s no_answers) o
+held_same c s now options.Utf8 = refl
+held_same c s now o = refl
+
+options_same : (c : Scope) (s : Store) (now : Now) (os : List CanonicalOption) → map (held (machine c s now)) os ≡ map (held (machine c s no_answers)) os
+options_same c s now [] = refl
+options_same c s now (o ∷ os) = ap₂ (λ x xs. x ∷ xs) (held_same c s now o) (options_same c s now os)
+
 -- what an import of a function is given doesn't depend on what a run changes
 matching_same : (c : Scope) (s : Store) (now : Now) (type : FuncType) (space : Space) (address : ℕ) →
     matching (machine c s now) (externs.Func type) (record { space = space; address = address }) ≡ matching (machine c s no_answers) (externs.Func type) (record { space = space; address = address })
@@ -256,6 +275,13 @@ module _ (s : Store) (core_instances : List (List Export)) (module_instances : L
 
   export_beside : (e : Export) (found : List ℕ × ExternType) → IsUserExport s user e found → IsUserExport with_instances user e found
   export_beside e found h = record { named = h.named; space = h.space; is = item_beside e found.1 h.is }
+
+-- the export that an alias finds
+record FindsExport (w : ComponentWorld) (c : Scope) (s : Store) (kind : ExportKind) (instance : ℕ) (name : List ℕ) : Type 0 where
+  pub export : Export
+  pub space : export.space ≡ kind_space kind
+  pub is : IsAliasedItem w c.items s kind instance name export.address
+  pub found : export_named name is.exports ≡ Some export
 
 module _ {w : ComponentWorld} {earlier : List Def} {c : Scope} {s : Store} (a : Agrees w earlier c s) (g : ℕ) where
   -- the types, functions and instances that this definition makes are those of this item
@@ -457,21 +483,38 @@ module _ {w : ComponentWorld} {earlier : List Def} {c : Scope} {s : Store} (a : 
       (record { space = refl; is = record { of = x.0; at = address_at-append c.items (t ∷ []) spaces.Type type x.0 x.1; is = opaque_there item drop_core s } })
       (tt, tt, tt) refl refl refl refl refl a.imports
 
-  pub step_lift : (core kind : ℕ) → core < items_in spaces.CoreFunc earlier → HasFunctionType earlier kind → Steps w earlier c s g (defs.Item (items.Lift core [] kind))
-  step_lift core kind l h =
-      let d : Def = defs.Item (items.Lift core [] kind) in
+  -- an option that names an earlier item has its address
+  option_addressed : (o : CanonicalOption) → IsOptionRight earlier o → (x : HeldOption) × (held (machine c s no_answers) o ≡ Some x) × IsHeldOption c.items o x
+  option_addressed options.Utf8 h = (HeldEncoding encodings.UTF8, refl, refl)
+  option_addressed options.Utf16 h = (HeldEncoding encodings.UTF16, refl, refl)
+  option_addressed options.CompactUtf16 h = (HeldEncoding encodings.CompactUTF16, refl, refl)
+  option_addressed (options.Memory index) h = let x = address_there a spaces.CoreMemory index h in (HeldMemory x.0, ap (option_map (λ n. HeldMemory n)) x.1, x.1)
+  option_addressed (options.Realloc index) h = let x = address_there a spaces.CoreFunc index h in (HeldRealloc x.0, ap (option_map (λ n. HeldRealloc n)) x.1, x.1)
+  option_addressed (options.PostReturn index) h = let x = address_there a spaces.CoreFunc index h in (HeldPostReturn x.0, ap (option_map (λ n. HeldPostReturn n)) x.1, x.1)
+  option_addressed options.Async h = (HeldAsync, refl, tt)
+  option_addressed (options.Callback index) h = let x = address_there a spaces.CoreFunc index h in (HeldCallback x.0, ap (option_map (λ n. HeldCallback n)) x.1, x.1)
+
+  pub step_lift : (core : ℕ) (written : List CanonicalOption) (kind : ℕ) → core < items_in spaces.CoreFunc earlier → AllByRecursion (IsOptionRight earlier) written → HasFunctionType earlier kind → Steps w earlier c s g (defs.Item (items.Lift core written kind))
+  step_lift core written kind l right h =
+      let d : Def = defs.Item (items.Lift core written kind) in
       let x : (x : ℕ) × (address_at spaces.CoreFunc core c.items ≡ Some x) = address_there a spaces.CoreFunc core l in
+      let os : (xs : List HeldOption) × (options_held (machine c s no_answers) written ≡ Some xs) × AllZip (IsHeldOption c.items) written xs =
+      all_some-self (IsHeldOption c.items) (held (machine c s no_answers)) (IsOptionRight earlier) option_addressed written right in
       let y : IsTypeAt c.items s kind h.type = type_there a h.is in
       let t : Thing = record { space = spaces.Func; address = length s.functions } in
-      let f : Function = Lifting x.0 [] h.type in
+      let f : Function = Lifting x.0 os.0 h.type in
       let s' : Store = record s { functions = s.functions ++ f ∷ [] } in
-      quiet_step d c.imports s' t (λ rest now. rw (x.1, y.at, y.is) refl) (keeps_function c.items t s f)
+      let k : Keeps c.items (c.items ++ t ∷ []) s s' = keeps_function c.items t s f in
+      let addressed : (now : Now) → options_held (machine c s now) written ≡ Some os.0 = λ now. ap (λ l. all_some l) (options_same c s now written) ∙ os.1 in
+      quiet_step d c.imports s' t (λ rest now. rw (x.1, addressed now, y.at, y.is) refl) k
       (record {
         space = refl;
         is = record {
           of = x.0;
+          held = os.0;
           type = h.type;
           at = address_at-append c.items (t ∷ []) spaces.CoreFunc core x.0 x.1;
+          with_options = AllZip-weaker (IsHeldOption-kept k) written os.0 os.2;
           typed = record { address = y.address; at = address_at-append c.items (t ∷ []) spaces.Type kind y.address y.at; is = y.is };
           is = slice_get-end s.functions f;
         };
@@ -500,36 +543,58 @@ module _ {w : ComponentWorld} {earlier : List Def} {c : Scope} {s : Store} (a : 
       })
       (tt, tt, tt) refl refl refl refl refl a.imports
 
-  pub step_alias : IsWorld w → (instance : ℕ) (name : List ℕ) → AliasesUser w earlier instance name → Steps w earlier c s g (defs.Item (items.Alias (aliases.CoreExport kinds.Func instance name)))
-  step_alias ok instance name h =
-      let d : Def = defs.Item (items.Alias (aliases.CoreExport kinds.Func instance name)) in
+  -- what an alias of a core export finds
+  alias_found : IsWorld w → (kind : ExportKind) (instance : ℕ) (name : List ℕ) → AliasesUser w earlier kind instance name → FindsExport w c s kind instance name
+  alias_found ok kind instance name h =
       let m : (x : ℕ) × (address_at spaces.CoreInstance instance c.items ≡ Some x) × IsUserInstance w s h.number x = user_there a h.is in
       let main : main_module w ≡ h.of = (listed_main w ok h.number h.of h.listed).1 in
-      let offered : found name w.main.offered ≡ Some (externs.Func h.type) = subst (λ (o : WorldModule). found name o.found.offered ≡ Some (externs.Func h.type)) (sym main) h.offered in
-      let x : (e : Export) × (export_named name m.2.exports ≡ Some e) × (e.space ≡ spaces.CoreFunc) × IsOpaqueOf s e.address h.type (ExportedBy m.2.user e.name) = offered_there a h.number m.0 m.2 name h.type offered in
-      let t : Thing = record { space = spaces.CoreFunc; address = x.0.address } in
-      quiet_step d c.imports s t (λ rest now. rw (m.1, m.2.present, x.1, x.2) refl) (keeps_store c.items t s)
-      (record {
-        space = refl;
-        is = record {
-          from = m.0;
-          exports = m.2.exports;
-          export = x.0;
-          at = address_at-append c.items (t ∷ []) spaces.CoreInstance instance m.0 m.1;
-          present = m.2.present;
-          found = x.1;
-          is = refl;
-        };
-      })
-      (tt, tt, tt) refl refl refl refl refl a.imports
+      let offered : found name w.main.offered ≡ Some h.type = subst (λ (o : WorldModule). found name o.found.offered ≡ Some h.type) (sym main) h.offered in
+      let x = offered_there a h.number m.0 m.2 name h.type offered in
+      record {
+        export = x.0;
+        space = x.2 ∙ space_of_kind kind h.type h.of_kind;
+        is = record { type = h.type; offered = offered; of_kind = h.of_kind; from = m.0; exports = m.2.exports; export = x.0; at = m.1; present = m.2.present; found = x.1; is = refl };
+        found = x.1;
+      }
+
+  -- the same, in a scope with one item more
+  aliased_item : (kind : ExportKind) (instance : ℕ) (name : List ℕ) (f : FindsExport w c s kind instance name) (t : Thing) → IsAliasedItem w (c.items ++ t ∷ []) s kind instance name f.export.address
+  aliased_item kind instance name f t = record {
+    type = f.is.type;
+    offered = f.is.offered;
+    of_kind = f.is.of_kind;
+    from = f.is.from;
+    exports = f.is.exports;
+    export = f.is.export;
+    at = address_at-append c.items (t ∷ []) spaces.CoreInstance instance f.is.from f.is.at;
+    present = f.is.present;
+    found = f.is.found;
+    is = f.is.is;
+  }
+
+  pub step_alias : IsWorld w → (kind : ExportKind) (instance : ℕ) (name : List ℕ) → AliasesUser w earlier kind instance name → Steps w earlier c s g (defs.Item (items.Alias (aliases.CoreExport kind instance name)))
+  step_alias ok kinds.Func instance name h =
+      let f : FindsExport w c s kinds.Func instance name = alias_found ok kinds.Func instance name h in
+      let t : Thing = record { space = spaces.CoreFunc; address = f.export.address } in
+      quiet_step (defs.Item (items.Alias (aliases.CoreExport kinds.Func instance name))) c.imports s t (λ rest now. rw (f.is.at, f.is.present, f.found, f.space) refl) (keeps_store c.items t s)
+      (record { space = refl; is = aliased_item kinds.Func instance name f t }) (tt, tt, tt) refl refl refl refl refl a.imports
+  step_alias ok kinds.Memory instance name h =
+      let f : FindsExport w c s kinds.Memory instance name = alias_found ok kinds.Memory instance name h in
+      let t : Thing = record { space = spaces.CoreMemory; address = f.export.address } in
+      quiet_step (defs.Item (items.Alias (aliases.CoreExport kinds.Memory instance name))) c.imports s t (λ rest now. rw (f.is.at, f.is.present, f.found, f.space) refl) (keeps_store c.items t s)
+      (record { space = refl; is = aliased_item kinds.Memory instance name f t }) (tt, tt, tt) refl refl refl refl refl a.imports
+  step_alias ok kinds.Table instance name h = absurd h.of_kind
+  step_alias ok kinds.Global instance name h = absurd h.of_kind
 
   pub step_export : IsWorld w → (name : ExternName) (index : ℕ) → ExportsRequired w earlier name index → Steps w earlier c s g (defs.Item (items.Export name sorts.Func index None))
   step_export ok name index h =
       let d : Def = defs.Item (items.Export name sorts.Func index None) in
-      let core : (core : List ℕ) × (core_name_of w h.key ≡ Some core) × (Lifted (record { of = Main; name = core }) [] ≡ h.target) = mapped_some (λ core. Lifted (record { of = Main; name = core }) []) (core_name_of w h.key) h.target h.said in
+      let lifted_with : List TargetOption = lift_options w Main h.key in
+      let core : (core : List ℕ) × (core_name_of w h.key ≡ Some core) × (Lifted (record { of = Main; name = core }) lifted_with ≡ h.target) =
+      mapped_some (λ core. Lifted (record { of = Main; name = core }) lifted_with) (core_name_of w h.key) h.target h.said in
       let type : FunctionTree = type_of_function w h.wit in
-      let lifting : IsLiftFor w earlier index (Lifted (record { of = Main; name = core.0 }) []) type = subst (λ target. IsLiftFor w earlier index target type) (sym core.2) h.lifted in
-      let f : (x : ℕ) × (address_at spaces.Func index c.items ≡ Some x) × IsLiftedFrom s x core.0 type = lift_there a ok h.key core.0 type core.1 lifting in
+      let lifting : IsLiftFor w earlier index (Lifted (record { of = Main; name = core.0 }) lifted_with) type = subst (λ target. IsLiftFor w earlier index target type) (sym core.2) h.lifted in
+      let f : (x : ℕ) × (address_at spaces.Func index c.items ≡ Some x) × IsLiftedFrom w s x core.0 lifted_with type = lift_there a ok core.0 lifted_with type lifting in
       let t : Thing = record { space = spaces.Func; address = f.0 } in
       let x : Export = record { space = spaces.Func; name = name.name; address = f.0 } in
       let c' : Scope = record c { items = c.items ++ t ∷ []; exports = c.exports ++ x ∷ [] } in
@@ -553,7 +618,7 @@ module _ {w : ComponentWorld} {earlier : List Def} {c : Scope} {s : Store} (a : 
               space = refl;
               role = ap (λ t. core_name_of w (keys.Name t)) text ∙ role_by_name w h.key core.0 core.1;
               exported = ap (λ t. root_function_at (items_of w).exports (keys.Name t)) text ∙ exported_by_name w h.key core.0 h.wit core.1 h.exported;
-              is = f.2;
+              is = subst (λ os. IsLiftedFrom w s f.0 core.0 os type) (options_by_name w h.key core.0 core.1 ∙ ap (λ t. lift_options w Main (keys.Name t)) (sym text)) f.2;
             }))
             a.imports,
       )
@@ -687,6 +752,7 @@ module _ {w : ComponentWorld} {earlier : List Def} {c : Scope} {s : Store} (a : 
                   present = subst (λ n. slice_get (m1.store.module_instances ++ instance ∷ []) n ≡ Some instance) (ap (λ (l : List ModuleInstance). length l) users) (slice_get-end m1.store.module_instances instance);
                   of = refl;
                 };
+                same = refl;
                 each = AllZip-weaker (export_beside m1.store s'.core_instances s'.module_instances user) own es (each_export user es m0);
               };
             })

@@ -6,7 +6,13 @@ use Rattle.comp_lists.proofs.Lists.{slice_get-append, AllZip-weaker}
 use Rattle.comp_bytes.specs.Spaces.{kind_space, space_of}
 use Rattle.comp_bytes.specs.declared.space.Space.{Space}
 use Rattle.comp_bytes.specs.declared.space.Space.TheVariants as spaces
-use Rattle.standard_kinds.specs.declared.kinds.ExportKind.TheVariants as kinds
+use Rattle.standard_kinds.specs.declared.kinds.ExportKind.{ExportKind}
+use Rattle.standard_kinds.specs.declared.kinds.StringEncoding.TheVariants as encodings
+use Rattle.comp_bytes.specs.declared.canon.CanonicalOption.{CanonicalOption}
+use Rattle.comp_bytes.specs.declared.canon.CanonicalOption.TheVariants as options
+use Rattle.core_types.specs.declared.types.MemoryType.{MemoryType}
+use Rattle.comp_lists.specs.Found.{found}
+use Rattle.comp_roles.specs.Lookups.{first_memory}
 use Rattle.comp_bytes.specs.declared.types.Alias.TheVariants as aliases
 use Rattle.comp_bytes.specs.declared.canon.Intrinsic.TheVariants as intrinsics
 use Rattle.comp_bytes.specs.declared.def.CoreInlineExport.{CoreInlineExport}
@@ -29,16 +35,18 @@ use Rattle.wit_data.specs.declared.worlds.WorldKey.TheVariants as keys
 use Rattle.world_values.specs.Items.{root_function_at}
 use Rattle.comp_worlds.specs.WorldContents.{items_of, core_name_of}
 use Rattle.comp_worlds.specs.declared.world.ComponentWorld.{ComponentWorld}
-use Rattle.comp_links.specs.Targets.{Main, WorldFunction, Target, Lowered, Dropped}
+use Rattle.comp_links.specs.Targets.{Main, ExportRef, WorldFunction, TargetOption, Target, Lowered, Dropped}
+use Rattle.comp_links.specs.Targets as targets
 use Rattle.comp_links.specs.Modules.{WorldModule}
 use Rattle.comp_links.specs.Lists.{IsOriginOf, resource_of}
-use Rattle.comp_links.specs.Links.{link_at}
-use Rattle.comp_terms.specs.Terms.{imports_in}
+use Rattle.comp_links.specs.Links.{lift_options, link_at}
+use Rattle.comp_terms.specs.Terms.{CoreExport, imports_in}
 use Rattle.comp_terms.specs.Planned.{IsTypeOf, type_of_function}
+use Rattle.comp_terms.specs.Rules.{IsOfKind}
 use Rattle.core_runs.specs.Store.{Opaque}
-use Rattle.comp_runs.specs.Store.{Thing, Export, CoreItem, Lowering, IntrinsicOf, ExportedBy, Function, Imported, Lifting, TypeItem, TreeOf, item_tree, ModuleInstance, Store}
+use Rattle.comp_runs.specs.Store.{Thing, Export, HeldOption, HeldEncoding, HeldMemory, HeldRealloc, HeldPostReturn, HeldAsync, HeldCallback, CoreItem, Lowering, IntrinsicOf, ExportedBy, Function, Imported, Lifting, TypeItem, TreeOf, item_tree, ModuleInstance, Store}
 use Rattle.comp_runs.specs.Instances.{type_space}
-use Rattle.comp_runs.specs.Machine.{Scope, address_at, is_of, export_named, with_opaque}
+use Rattle.comp_runs.specs.Machine.{Scope, address_at, is_of, export_named, export_of, with_opaque}
 use Rattle.comp_runs.specs.Signatures.{core_signature}
 use Rattle.instance_laws.specs.Instantiated.{IsHeldAs}
 use Rattle.instance_laws.specs.InstanceEntries.{IsInstanceType, IsInstanceEntry}
@@ -76,6 +84,7 @@ pub record IsUserInstance (w : ComponentWorld) (s : Store) (number address : ℕ
   pub user : ℕ
   pub present : slice_get s.core_instances address ≡ Some exports
   pub is : IsInstance s user number
+  pub same : is.instance.exports ≡ exports
   pub each : AllZip (IsUserExport s user) exports w.main.offered
 
 -- the export is the entry's item under its name
@@ -114,15 +123,33 @@ pub record IsDropItem (things : List Thing) (s : Store) (type address : ℕ) : T
   pub at : address_at spaces.Type type things ≡ Some of
   pub is : IsOpaqueOf s address drop_core (IntrinsicOf (intrinsics.ResourceDrop of))
 
--- a lift of the core function at this index, of the type at this index
-pub record IsLiftedItem (things : List Thing) (s : Store) (core kind address : ℕ) : Type 0 where
+-- an option, with the address of what it names
+abbrev pub IsHeldOption : List Thing → CanonicalOption → HeldOption → Type 0
+IsHeldOption things options.Utf8 (HeldEncoding e) = e ≡ encodings.UTF8
+IsHeldOption things options.Utf16 (HeldEncoding e) = e ≡ encodings.UTF16
+IsHeldOption things options.CompactUtf16 (HeldEncoding e) = e ≡ encodings.CompactUTF16
+IsHeldOption things (options.Memory index) (HeldMemory a) = address_at spaces.CoreMemory index things ≡ Some a
+IsHeldOption things (options.Realloc index) (HeldRealloc a) = address_at spaces.CoreFunc index things ≡ Some a
+IsHeldOption things (options.PostReturn index) (HeldPostReturn a) = address_at spaces.CoreFunc index things ≡ Some a
+IsHeldOption things (options.Callback index) (HeldCallback a) = address_at spaces.CoreFunc index things ≡ Some a
+IsHeldOption things options.Async HeldAsync = Unit {0}
+IsHeldOption things option held = ⊥
+
+-- a lift of the core function at this index, with these options, of the type at this index
+pub record IsLiftedItem (things : List Thing) (s : Store) (core : ℕ) (written : List CanonicalOption) (kind address : ℕ) : Type 0 where
   pub of : ℕ
+  pub held : List HeldOption
   pub type : FunctionTree
   pub at : address_at spaces.CoreFunc core things ≡ Some of
+  pub with_options : AllZip (IsHeldOption things) written held
   pub typed : IsTypeAt things s kind type
-  pub is : slice_get s.functions address ≡ Some (Lifting of [] type)
+  pub is : slice_get s.functions address ≡ Some (Lifting of held type)
 
-pub record IsAliasedItem (things : List Thing) (s : Store) (instance : ℕ) (name : List ℕ) (address : ℕ) : Type 0 where
+-- an alias of an export of an instance of main, of a kind that validation found
+pub record IsAliasedItem (w : ComponentWorld) (things : List Thing) (s : Store) (kind : ExportKind) (instance : ℕ) (name : List ℕ) (address : ℕ) : Type 0 where
+  pub type : ExternType
+  pub offered : found name w.main.offered ≡ Some type
+  pub of_kind : IsOfKind kind type
   pub from : ℕ
   pub exports : List Export
   pub export : Export
@@ -135,8 +162,8 @@ pub record IsAliasedItem (things : List Thing) (s : Store) (instance : ℕ) (nam
 abbrev pub ItemIs : ComponentWorld → List Thing → Store → Item → ℕ → Type 0
 ItemIs w things s (items.CoreInstantiate number arguments) a = IsUserInstance w s number a
 ItemIs w things s (items.CoreExports entries) a = IsInlineInstance things s entries a
-ItemIs w things s (items.Alias (aliases.CoreExport kinds.Func instance name)) a = IsAliasedItem things s instance name a
-ItemIs w things s (items.Lift core options kind) a = IsLiftedItem things s core kind a
+ItemIs w things s (items.Alias (aliases.CoreExport kind instance name)) a = IsAliasedItem w things s kind instance name a
+ItemIs w things s (items.Lift core options kind) a = IsLiftedItem things s core options kind a
 ItemIs w things s (items.Lower function options) a = IsLoweredItem things s function a
 ItemIs w things s (items.Intrinsic (intrinsics.ResourceDrop type)) a = IsDropItem things s type a
 ItemIs w things s _ a = Unit {0}
@@ -229,11 +256,58 @@ pub record IsMainExport (s : Store) (address : ℕ) (name : List ℕ) : Type 0 w
   pub is : IsOpaqueOf s address type (ExportedBy user name)
   pub of : IsInstance s user 0
 
--- the function is lifted from main's export of this name, with this type
-pub record IsLiftedFrom (s : Store) (address : ℕ) (name : List ℕ) (type : FunctionTree) : Type 0 where
+-- the memory is what an instance of main exports under this name
+pub record IsMemoryOfMain (s : Store) (address : ℕ) (name : List ℕ) : Type 0 where
+  pub user : ℕ
+  pub instance : ModuleInstance
+  pub present : slice_get s.module_instances user ≡ Some instance
+  pub of : instance.module_number ≡ 0
+  pub exported : export_of spaces.CoreMemory name instance.exports ≡ Some (record { space = spaces.CoreMemory; name = name; address = address })
+
+-- the memory is the first that main exports
+pub record IsFirstMemory (w : ComponentWorld) (s : Store) (address : ℕ) : Type 0 where
+  pub name : List ℕ
+  pub type : MemoryType
+  pub first : first_memory w.main.exports.exports ≡ Some (name, type)
+  pub is : IsMemoryOfMain s address name
+
+-- the function is what an option names, an export of main
+pub record IsOptionFunction (s : Store) (address : ℕ) (export_ref : ExportRef) : Type 0 where
+  pub of : export_ref.of ≡ Main
+  pub is : IsMainExport s address export_ref.name
+
+-- an option is what the target names
+abbrev pub IsOptionHeld : ComponentWorld → Store → HeldOption → TargetOption → Type 0
+IsOptionHeld w s (HeldEncoding e) (targets.Encoding e') = e ≡ e'
+IsOptionHeld w s (HeldMemory a) targets.Memory = IsFirstMemory w s a
+IsOptionHeld w s (HeldRealloc a) (targets.Realloc export_ref) = IsOptionFunction s a export_ref
+IsOptionHeld w s (HeldPostReturn a) (targets.PostReturn export_ref) = IsOptionFunction s a export_ref
+IsOptionHeld w s (HeldCallback a) (targets.Callback export_ref) = IsOptionFunction s a export_ref
+IsOptionHeld w s HeldAsync targets.Async = Unit {0}
+IsOptionHeld w s held option = ⊥
+
+-- the function is lifted from main's export of this name, with these options and this type
+pub record IsLiftedFrom (w : ComponentWorld) (s : Store) (address : ℕ) (name : List ℕ) (options : List TargetOption) (type : FunctionTree) : Type 0 where
   pub core : ℕ
-  pub is : slice_get s.functions address ≡ Some (Lifting core [] type)
+  pub held : List HeldOption
+  pub is : slice_get s.functions address ≡ Some (Lifting core held type)
   pub of : IsMainExport s core name
+  pub with_options : AllZip (IsOptionHeld w s) held options
+
+-- an export of an instance of a user module, at the address of this index
+pub record IsCoreExportAt (things : List Thing) (s : Store) (index : ℕ) (e : CoreExport) : Type 0 where
+  pub address : ℕ
+  pub at : address_at (kind_space e.kind) index things ≡ Some address
+  pub type : ExternType
+  pub of_kind : IsOfKind e.kind type
+  pub user : ℕ
+  pub of : IsInstance s user e.of
+  pub export : Export
+  pub found : export_named e.name of.instance.exports ≡ Some export
+  pub named : export.name ≡ e.name
+  pub space : export.space ≡ type_space type
+  pub is : export.address ≡ address
+  pub item : IsUserItem s user export type
 
 -- the export is a lift of the core export that has its role, with the type of the world's function
 pub record IsLiftedExport (w : ComponentWorld) (s : Store) (e : Export) : Type 0 where
@@ -242,7 +316,7 @@ pub record IsLiftedExport (w : ComponentWorld) (s : Store) (e : Export) : Type 0
   pub space : e.space ≡ spaces.Func
   pub role : core_name_of w (keys.Name e.name) ≡ Some name
   pub exported : root_function_at (items_of w).exports (keys.Name e.name) ≡ Some wit
-  pub is : IsLiftedFrom s e.address name (type_of_function w wit)
+  pub is : IsLiftedFrom w s e.address name (lift_options w Main (keys.Name e.name)) (type_of_function w wit)
 
 -- the items of this kind have consecutive addresses from this number on
 abbrev pub NumberedFrom : ℕ → List Thing → ℕ → Type 0
@@ -408,20 +482,53 @@ module _ {a b : List Thing} {s t : Store} (k : Keeps a b s t) where
   pub IsMainExport-kept : {address : ℕ} {name : List ℕ} → IsMainExport s address name → IsMainExport t address name
   IsMainExport-kept {address} {name} h = record { user = h.user; type = h.type; is = IsOpaque-kept h.is; of = IsInstance-kept h.of }
 
+  IsFirstMemory-kept : (w : ComponentWorld) (address : ℕ) → IsFirstMemory w s address → IsFirstMemory w t address
+  IsFirstMemory-kept w address h = record { name = h.name; type = h.type; first = h.first; is = record { user = h.is.user; instance = h.is.instance; present = k.users.at h.is.user h.is.instance h.is.present; of = h.is.of; exported = h.is.exported } }
+
+  IsOptionFunction-kept : {address : ℕ} {export_ref : ExportRef} → IsOptionFunction s address export_ref → IsOptionFunction t address export_ref
+  IsOptionFunction-kept h = record { of = h.of; is = IsMainExport-kept h.is }
+
+  IsOptionHeld-kept : (w : ComponentWorld) (held : HeldOption) (o : TargetOption) → IsOptionHeld w s held o → IsOptionHeld w t held o
+  IsOptionHeld-kept w (HeldMemory a) targets.Memory h = IsFirstMemory-kept w a h
+  IsOptionHeld-kept w (HeldRealloc a) (targets.Realloc export_ref) h = IsOptionFunction-kept h
+  IsOptionHeld-kept w (HeldPostReturn a) (targets.PostReturn export_ref) h = IsOptionFunction-kept h
+  IsOptionHeld-kept w (HeldCallback a) (targets.Callback export_ref) h = IsOptionFunction-kept h
+  IsOptionHeld-kept w held o h = h
+
+  pub IsLiftedFrom-kept : {w : ComponentWorld} {address : ℕ} {name : List ℕ} {options : List TargetOption} {type : FunctionTree} → IsLiftedFrom w s address name options type → IsLiftedFrom w t address name options type
+  IsLiftedFrom-kept {w} {address} {name} {options} {type} h = record {
+    core = h.core;
+    held = h.held;
+    is = k.functions.at address (Lifting h.core h.held type) h.is;
+    of = IsMainExport-kept h.of;
+    with_options = AllZip-weaker (IsOptionHeld-kept w) h.held options h.with_options;
+  }
+
+  pub IsHeldOption-kept : (o : CanonicalOption) (held : HeldOption) → IsHeldOption a o held → IsHeldOption b o held
+  IsHeldOption-kept (options.Memory index) (HeldMemory x) h = k.things spaces.CoreMemory index x h
+  IsHeldOption-kept (options.Realloc index) (HeldRealloc x) h = k.things spaces.CoreFunc index x h
+  IsHeldOption-kept (options.PostReturn index) (HeldPostReturn x) h = k.things spaces.CoreFunc index x h
+  IsHeldOption-kept (options.Callback index) (HeldCallback x) h = k.things spaces.CoreFunc index x h
+  IsHeldOption-kept o held h = h
+
 module _ (w : ComponentWorld) {a b : List Thing} {s t : Store} (k : Keeps a b s t) where
   instance-kept : (number address : ℕ) → IsUserInstance w s number address → IsUserInstance w t number address
   instance-kept number address h = record {
     exports = h.exports;
     user = h.user;
     present = k.core_instances.at address h.exports h.present;
-    is = IsInstance-kept k h.is;
+    is = record { instance = h.is.instance; present = k.users.at h.user h.is.instance h.is.present; of = h.is.of };
+    same = h.same;
     each = AllZip-weaker (exports-kept k h.user) h.exports w.main.offered h.each;
   }
 
   item-kept : (i : Item) (x : ℕ) → ItemIs w a s i x → ItemIs w b t i x
   item-kept (items.CoreInstantiate number arguments) x h = instance-kept number x h
   item-kept (items.CoreExports entries) x h = record { exports = h.exports; present = k.core_instances.at x h.exports h.present; each = AllZip-weaker (entry-kept k) entries h.exports h.each }
-  item-kept (items.Alias (aliases.CoreExport kinds.Func instance name)) x h = record {
+  item-kept (items.Alias (aliases.CoreExport kind instance name)) x h = record {
+    type = h.type;
+    offered = h.offered;
+    of_kind = h.of_kind;
     from = h.from;
     exports = h.exports;
     export = h.export;
@@ -432,10 +539,12 @@ module _ (w : ComponentWorld) {a b : List Thing} {s t : Store} (k : Keeps a b s 
   }
   item-kept (items.Lift core options kind) x h = record {
     of = h.of;
+    held = h.held;
     type = h.type;
     at = k.things spaces.CoreFunc core h.of h.at;
+    with_options = AllZip-weaker (IsHeldOption-kept k) options h.held h.with_options;
     typed = IsTypeAt-kept k kind h.type h.typed;
-    is = k.functions.at x (Lifting h.of [] h.type) h.is;
+    is = k.functions.at x (Lifting h.of h.held h.type) h.is;
   }
   item-kept (items.Lower function options) x h = record {
     of = h.of;
@@ -465,5 +574,5 @@ module _ (w : ComponentWorld) {a b : List Thing} {s t : Store} (k : Keeps a b s 
     space = h.space;
     role = h.role;
     exported = h.exported;
-    is = record { core = h.is.core; is = k.functions.at e.address (Lifting h.is.core [] (type_of_function w h.wit)) h.is.is; of = IsMainExport-kept k h.is.of };
+    is = IsLiftedFrom-kept k h.is;
   }

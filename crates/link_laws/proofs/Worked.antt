@@ -429,9 +429,9 @@ keeps_the_rules = record {
             (
               record { of = main_module one_each; listed = refl; scoped = omega arith; each = (f_offered, tt) },
               (
-                record { number = 0; of = main_module one_each; type = plain_core; is = main_made 6 refl; listed = refl; offered = refl },
+                record { number = 0; of = main_module one_each; type = externs.Func plain_core; is = main_made 6 refl; listed = refl; offered = refl; of_kind = tt },
                 (
-                  (omega arith, refl, record { type = plain_tree; is = function_typed_later }),
+                  (omega arith, tt, record { type = plain_tree; is = function_typed_later }),
                   (record { key = keys.Name g; target = LiftedFrom (record { of = Main; name = g }) []; wit = record { name = g; kind = Freestanding; params = []; result = None }; named = refl; said = refl; exported = refl; lifted = g_lifted }, tt),
                 ),
               ),

@@ -107,10 +107,6 @@ f_plain : IsPlain wit_types wit_f
 unfolding values_from
 f_plain = record { kind = tt; imported = refl; exported = refl }
 
-g_plain : IsPlain wit_types wit_g
-unfolding values_from
-g_plain = record { kind = tt; imported = refl; exported = refl }
-
 -- none of the types is a resource
 no_resource : (n : ℕ) → IsResource wit_types n → Contains (0 ∷ []) n
 no_resource zero h = let k = h.kind in cc
@@ -122,7 +118,7 @@ unfolding values_from
 is_world = record {
   present = omega arith;
   imports = (tt, ((refl, f_plain), tt));
-  exports = ((refl, g_plain), tt);
+  exports = ((refl, tt), tt);
   import_names_apart = one_apart f;
   export_names_apart = one_apart g;
   main = record {

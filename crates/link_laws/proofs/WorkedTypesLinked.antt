@@ -24,6 +24,7 @@ use Rattle.comp_trees.specs.DefinedTrees.{TypeTree, OfValues, function_tree}
 use Rattle.comp_trees.specs.Inventories.{inventory, scope_of}
 use Rattle.comp_links.specs.Lists.{stated_types}
 use Rattle.comp_links.specs.Targets.{Main, OfRoot, Lifted as LiftedFrom}
+use Rattle.comp_roles.specs.declared.offered.ExternType.TheVariants as externs
 use Rattle.comp_runs.specs.Store.{Export, Function as Held, Lifting}
 use Rattle.comp_runs.specs.Machine.{Machine}
 use Rattle.wit_data.specs.declared.ids.TypeId.{TypeId}
@@ -121,6 +122,7 @@ g_lifted = record {
 }
 
 g_required : ExportsRequired world (ds 12) (plain g) 1
+unfolding values_from
 g_required = record {
   key = keys.Name g;
   target = LiftedFrom (record { of = Main; name = g }) [];
@@ -136,7 +138,7 @@ keeps_the_rules = record {
   front = typed_list 4;
   names = [];
   whole = refl;
-  right = (refl, (p_imported, (f_known, (record { type = f_tree; is = f_typed }, (tt, ((record { origin = root_import 1; type = f_tree; is = f_imported }, refl), (record { each = (record { kind = refl; scoped = omega arith }, tt); apart = one_apart f }, (record { of = main_module world; listed = refl; scoped = omega arith; each = (f_offered, tt) }, (record { number = 0; of = main_module world; type = g_core; is = main_made 8 refl; listed = refl; offered = refl }, (refl, (g_known, ((omega arith, refl, record { type = g_tree; is = g_typed }), (g_required, tt)))))))))))));
+  right = (refl, (p_imported, (f_known, (record { type = f_tree; is = f_typed }, (tt, ((record { origin = root_import 1; type = f_tree; is = f_imported }, refl), (record { each = (record { kind = refl; scoped = omega arith }, tt); apart = one_apart f }, (record { of = main_module world; listed = refl; scoped = omega arith; each = (f_offered, tt) }, (record { number = 0; of = main_module world; type = externs.Func g_core; is = main_made 8 refl; listed = refl; offered = refl; of_kind = tt }, (refl, (g_known, ((omega arith, tt, record { type = g_tree; is = g_typed }), (g_required, tt)))))))))))));
   marked = refl;
   named = tt;
 }
@@ -162,6 +164,7 @@ abbrev exchanged : Machine
 exchanged = machine_of (outcome world no_modules (typed_list 2) made)
 
 lift_of_g : (origins : TypeId → Resource) → IsProvided own_names world exchanged origins (record { of = Main; key = keys.Name g; function = g }) → ⊥
+unfolding values_from
 lift_of_g origins x =
     let address : 1 ≡ x.address = ap (λ (e : Export). e.address) (same_Some (record { space = spaces.Func; name = g; address = 1 }) (record { space = spaces.Func; name = g; address = x.address }) x.provided) in
     let wit : wit_g ≡ x.wit = same_Some wit_g x.wit x.type_of in

@@ -22,9 +22,10 @@ IsCalled r w (imports.WorldFunc (keys.Name text) function abi) = (function ≡ t
 IsCalled r w (imports.InterfaceFunc key id function abi) = (imported_interface r w key ≡ Some id) × IsSome (function_of r id function)
 IsCalled r w role = Unit {0}
 
--- the world exports the root function of an export's role, under its own name
+-- the world exports the root function of an export's role, under its own name, and that of a post-return
 abbrev pub IsLifted : Resolve → WorldId → Export → Type 0
 IsLifted r w (exports.WorldFunc (keys.Name text) function abi) = (function ≡ text) × IsSome (exported_function r w (keys.Name text))
+IsLifted r w (exports.WorldFuncPostReturn (keys.Name text)) = IsSome (exported_function r w (keys.Name text))
 IsLifted r w role = Unit {0}
 
 -- the world exports something at a key; where that is a root function, it is the role of some core export

@@ -74,9 +74,30 @@ root_in_world r name abi = by (function_at sides.Exported r (at_root name) name)
     by None e = tt
     by (Some f) e = ((refl, ap is_some e), tt)
 
-post_return_in_world : (r : Resolved) (name : List ℕ) (key : WorldKey) (interface : Option InterfaceId) → IsInWorld r (post_return_there key interface name)
-post_return_in_world r name key None = (tt, tt)
-post_return_in_world r name key (Some id) = (tt, tt)
+-- a post-return at the root, and within an interface
+post_return_at_root : (r : Resolved) (name : List ℕ) → IfSome (option_map (post_return name) (function_position sides.Exported r owners.World name)) (IsInWorld r)
+post_return_at_root r name = by (function_at sides.Exported r (at_root name) name) (root_item r (keys.Name name))
+  where
+    by : (o : Option Function) → exported_function r.resolve world_id (keys.Name name) ≡ o → IfSome (option_map (post_return name) (option_map (λ f. at_root name) o)) (IsInWorld r)
+    by None e = tt
+    by (Some f) e = (ap is_some e, tt)
+
+post_return_within : (r : Resolved) (name : List ℕ) (o : Option InterfaceId)
+    → IfSome (option_map (post_return name) (option_and_then (λ p. option_map (λ f. p) (function_at sides.Exported r p name)) (option_and_then (λ id. option_map (in_interface id) (interface_key sides.Exported r id)) o))) (IsInWorld r)
+post_return_within r name None = tt
+post_return_within r name (Some id) = by_key (interface_key sides.Exported r id)
+  where
+    by_function : (key : WorldKey) (o : Option Function) → IfSome (option_map (post_return name) (option_map (λ f. in_interface id key) o)) (IsInWorld r)
+    by_function key None = tt
+    by_function key (Some f) = (tt, tt)
+
+    by_key : (key : Option WorldKey) → IfSome (option_map (post_return name) (option_and_then (λ p. option_map (λ f. p) (function_at sides.Exported r p name)) (option_map (in_interface id) key))) (IsInWorld r)
+    by_key None = tt
+    by_key (Some key) = by_function key (function_at sides.Exported r (in_interface id key) name)
+
+post_return_in_world : (r : Resolved) (owner : Owner) (name : List ℕ) → IfSome (option_map (post_return name) (function_position sides.Exported r owner name)) (IsInWorld r)
+post_return_in_world r owners.World name = post_return_at_root r name
+post_return_in_world r (owners.Interface i) name = post_return_within r name (interface_of sides.Exported r i)
 
 callback_in_world : (r : Resolved) (name : List ℕ) (key : WorldKey) (interface : Option InterfaceId) → IsInWorld r (callback_there key interface name)
 callback_in_world r name key None = (tt, tt)
@@ -129,7 +150,7 @@ module _ (r : Resolved) where
 
   role_in_world : (role : ExportRole) (ty : Option ExternType) → IfSome (resolved_export r role ty) (IsInWorld r)
   role_in_world (roles.Function owner name abi) ty = function_in_world owner name abi
-  role_in_world (roles.PostReturn owner name) ty = mapped (post_return name) (IsInWorld r) (λ p. post_return_in_world r name p.key p.interface) (function_position sides.Exported r owner name)
+  role_in_world (roles.PostReturn owner name) ty = post_return_in_world r owner name
   role_in_world (roles.Callback owner name) ty = mapped (callback name) (IsInWorld r) (λ p. callback_in_world r name p.key p.interface) (function_position sides.Exported r owner name)
   role_in_world (roles.Destructor t) ty = mapped (λ d. exports.ResourceDtor d.id) (IsInWorld r) (λ d. (tt, tt)) (resource_of sides.Exported r t)
   role_in_world (roles.Plain p) ty = plain_in_world r p ty

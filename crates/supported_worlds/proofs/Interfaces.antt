@@ -44,7 +44,7 @@ no_options zero zero h = (refl, refl)
 no_options zero (suc n) h = absurd (true≢false (sym h ∙ not_zero n))
 no_options (suc n) b h = absurd (true≢false (sym h ∙ ap (λ t. t && b == 0) (not_zero n)))
 
-synchronous : (kind : FunctionKind) → kind_left_out kind ≡ None → IsSynchronous kind
+pub synchronous : (kind : FunctionKind) → kind_left_out kind ≡ None → IsSynchronous kind
 synchronous functions.AsyncFreestanding h = nothing _ h
 synchronous (functions.AsyncMethod id) h = nothing _ h
 synchronous (functions.AsyncStatic id) h = nothing _ h

@@ -70,7 +70,7 @@ no_adapters (a ∷ more) h = nothing (codes "adapter") h
 -- nothing of a world is left out
 pub record IsEncoded (p : WorldParts) : Type 0 where
   pub imports : AllByRecursion (λ e. import_item_left_out p.resolve e ≡ None) (items_of p).imports
-  pub exports : AllByRecursion (λ e. export_item_left_out p.resolve.types e ≡ None) (items_of p).exports
+  pub exports : AllByRecursion (λ e. export_item_left_out e ≡ None) (items_of p).exports
   pub apart : are_apart (interfaces_of (items_of p).imports) ≡ true
   pub order : is_world_placed p.resolve (items_of p) ≡ true
   pub resources : ImportsResources (whole_of p)
@@ -93,7 +93,7 @@ all_encoded p h =
     let m = neither (first_some (group_out p) p.main.imports.modules) _ b.0 in
     record {
       imports = none_picked (import_item_left_out p.resolve) world.imports w.0;
-      exports = none_picked (export_item_left_out p.resolve.types) world.exports w.1;
+      exports = none_picked export_item_left_out world.exports w.1;
       apart = passes (are_apart (interfaces_of world.imports)) (codes "interface") t.0;
       order = passes (is_world_placed p.resolve world) (codes "interface") o.0;
       resources = imports_resources (whole_of p) (passes (are_in_place p.resolve.types 0 (imported_numbers world.imports)) (codes "type") r.0);
@@ -108,7 +108,7 @@ none_of reported xs x what h m e = nothing what (sym e ∙ AllByRecursion-contai
 
 by_cases : (p : WorldParts) → IsEncoded p → (f : Refusal) → IsLeftOut p f → ⊥
 by_cases p h f (imported entry what m e) = none_of (import_item_left_out p.resolve) (items_of p).imports entry what h.imports m e
-by_cases p h f (exported entry what m e) = none_of (export_item_left_out p.resolve.types) (items_of p).exports entry what h.exports m e
+by_cases p h f (exported entry what m e) = none_of export_item_left_out (items_of p).exports entry what h.exports m e
 by_cases p h f (twice what e) = nothing what (sym e ∙ ap (λ b. unless b (codes "interface")) h.apart)
 by_cases p h f (order what e) = nothing what (sym e ∙ ap (λ b. unless b (codes "interface")) h.order)
 by_cases p h f (resources lack) = lack h.resources
@@ -135,9 +135,9 @@ module _ (p : WorldParts) (what : List ℕ) where
       subst (λ (w : List ℕ). IsLeftOut p (refusals.LeftOut w)) (cc (e)) (adapter a (subst (λ (xs : List (List ℕ × WorldAdapter)). Contains xs a) (sym is) (at_front a more)))
 
   of_world : world_left_out p.resolve (items_of p) ≡ Some what → IsLeftOut p (refusals.LeftOut what)
-  of_world e = elim (one_of (first_some (import_item_left_out p.resolve) (items_of p).imports) (first_some (export_item_left_out p.resolve.types) (items_of p).exports) what e) [
+  of_world e = elim (one_of (first_some (import_item_left_out p.resolve) (items_of p).imports) (first_some export_item_left_out (items_of p).exports) what e) [
     | inl a ↦ let t = one_picked (import_item_left_out p.resolve) (items_of p).imports what a in imported t.element what t.there t.picks
-    | inr b ↦ let t = one_picked (export_item_left_out p.resolve.types) (items_of p).exports what b in exported t.element what t.there t.picks
+    | inr b ↦ let t = one_picked export_item_left_out (items_of p).exports what b in exported t.element what t.there t.picks
   ]
 
   of_resources : (b : Bool) → are_in_place p.resolve.types 0 (imported_numbers (items_of p).imports) ≡ b → unless b (codes "type") ≡ Some what → IsLeftOut p (refusals.LeftOut what)

@@ -33,7 +33,7 @@ use Rattle.comp_roles.specs.declared.imports.ImportInstance.TheVariants as insta
 use Rattle.comp_roles.specs.declared.offered.ImportType.{ImportType}
 use Rattle.world_values.specs.Items.{no_items, functions_of, function_in, root_function_at}
 use Rattle.world_values.specs.Mentions.{interface_in}
-use Rattle.comp_worlds.specs.Typed.{type_of_import, type_of_export, FitsImport, FitsExport}
+use Rattle.comp_worlds.specs.Typed.{post_return_type, type_of_import, type_of_export, FitsImport, FitsExport}
 use Rattle.comp_worlds.specs.WorldContents.{root_function, core_name_in}
 use Rattle.comp_worlds.specs.Worlds.{IsWorld, IsUserModule, IsPlain, IsImportItem, IsExportItem, IsResource, IsImportRole, IsImportGroup, IsExportRole, IsRequired}
 use Rattle.comp_worlds.specs.WorldTables.{whole_of}
@@ -48,7 +48,7 @@ use Rattle.supported_worlds.specs.LeftOut.{items_of, kind_left_out, needs_no_opt
 use Rattle.supported_worlds.specs.Causes.{role_left_out}
 use Rattle.supported_worlds.specs.Placed.{places_of, is_resource, is_droppable}
 use Rattle.supported_worlds.specs.Guarantees.{HasFoundImport, OffersExport, HasSoundParts}
-use Rattle.supported_worlds.proofs.Interfaces.{plain, plain_interface, other_key, entry_there, name_there as function_there, found_there}
+use Rattle.supported_worlds.proofs.Interfaces.{synchronous, plain, plain_interface, other_key, entry_there, name_there as function_there, found_there}
 use Rattle.supported_worlds.proofs.Lists.{nothing, at_front, after, neither, none_picked}
 use Rattle.supported_worlds.proofs.InPlace.{both, resource_kind}
 use Rattle.supported_worlds.proofs.Order.{passes}
@@ -76,15 +76,15 @@ import_items : (r : Resolve) (es : Entries) → AllByRecursion (λ e. import_ite
 import_items r [] h named listed = tt
 import_items r (e ∷ es) h named listed = (import_item r e h.0 named.0 listed, import_items r es h.1 named.1 listed)
 
-export_item : (types : List TypeDef) (e : WorldKey × WorldItem) → export_item_left_out types e ≡ None → IsNamed e → IsExportItem types e
-export_item types (keys.Name text, items.Function f) h named = (sym named, root_function_plain types f h)
-export_item types (keys.Interface other, items.Function f) h named = nothing _ h
-export_item types (key, items.NamedType id) h named = nothing _ h
-export_item types (key, items.Interface id) h named = nothing _ h
+export_item : (e : WorldKey × WorldItem) → export_item_left_out e ≡ None → IsNamed e → IsExportItem e
+export_item (keys.Name text, items.Function f) h named = (sym named, synchronous f.kind h)
+export_item (keys.Interface other, items.Function f) h named = nothing _ h
+export_item (key, items.NamedType id) h named = nothing _ h
+export_item (key, items.Interface id) h named = nothing _ h
 
-export_items : (types : List TypeDef) (es : Entries) → AllByRecursion (λ e. export_item_left_out types e ≡ None) es → AllByRecursion IsNamed es → AllByRecursion (IsExportItem types) es
-export_items types [] h named = tt
-export_items types (e ∷ es) h named = (export_item types e h.0 named.0, export_items types es h.1 named.1)
+export_items : (es : Entries) → AllByRecursion (λ e. export_item_left_out e ≡ None) es → AllByRecursion IsNamed es → AllByRecursion IsExportItem es
+export_items [] h named = tt
+export_items (e ∷ es) h named = (export_item e h.0 named.0, export_items es h.1 named.1)
 
 -- ---- types
 
@@ -193,14 +193,14 @@ with_entry m f es key r = by (bytes_eq r.text m) refl
     by true same = record { text = r.text; function = f; is = r.is; there = ap found_with same }
     by false same = record { text = r.text; function = r.function; is = r.is; there = ap found_with same ∙ r.there }
 
-root_at : (types : List TypeDef) (es : Entries) (k : ℕ) (key : WorldKey) → AllByRecursion (IsExportItem types) es → k < length (map (λ e. e.0) es) → slice_index_or (map (λ e. e.0) es) k key ≡ key → IsRoot es key
-root_at types [] k key is l e = absurd (omega arith)
-root_at types ((keys.Name m, items.Function f) ∷ es) zero key is l e =
+root_at : (es : Entries) (k : ℕ) (key : WorldKey) → AllByRecursion IsExportItem es → k < length (map (λ e. e.0) es) → slice_index_or (map (λ e. e.0) es) k key ≡ key → IsRoot es key
+root_at [] k key is l e = absurd (omega arith)
+root_at ((keys.Name m, items.Function f) ∷ es) zero key is l e =
     record { text = m; function = f; is = sym e; there = ap (λ b. option_and_then function_in (cond (b && true) (Some (items.Function f)) (lookup (is_same_key (keys.Name m)) es))) ((bytes_eq-Decides m m).1 refl) }
-root_at types ((keys.Name m, items.Function f) ∷ es) (suc k) key is l e = with_entry m f es key (root_at types es k key is.1 (omega arith) e)
-root_at types ((keys.Name m, items.NamedType id) ∷ es) k key is l e = absurd is.0
-root_at types ((keys.Name m, items.Interface id) ∷ es) k key is l e = absurd is.0
-root_at types ((keys.Interface id, item) ∷ es) k key is l e = absurd is.0
+root_at ((keys.Name m, items.Function f) ∷ es) (suc k) key is l e = with_entry m f es key (root_at es k key is.1 (omega arith) e)
+root_at ((keys.Name m, items.NamedType id) ∷ es) k key is l e = absurd is.0
+root_at ((keys.Name m, items.Interface id) ∷ es) k key is l e = absurd is.0
+root_at ((keys.Interface id, item) ∷ es) k key is l e = absurd is.0
 
 -- ---- the world
 
@@ -208,8 +208,8 @@ module _ (p : WorldParts) (present : HasSoundParts p) (encoded : IsEncoded p) (a
   imports_are : AllByRecursion (IsImportItem p.resolve) (items_of p).imports
   imports_are = import_items p.resolve (items_of p).imports encoded.imports present.named.imports present.listed
 
-  exports_are : AllByRecursion (IsExportItem p.resolve.types) (items_of p).exports
-  exports_are = export_items p.resolve.types (items_of p).exports encoded.exports present.named.exports
+  exports_are : AllByRecursion IsExportItem (items_of p).exports
+  exports_are = export_items (items_of p).exports encoded.exports present.named.exports
 
   the_world : slice_get p.resolve.worlds p.world.index ≡ Some (items_of p)
   the_world = slice_get-get_or p.resolve.worlds p.world.index no_items present.present
@@ -259,6 +259,12 @@ module _ (p : WorldParts) (present : HasSoundParts p) (encoded : IsEncoded p) (a
   export_role (exports.WorldFunc (keys.Name text) name GuestExport) h lifted =
       (name_there text (items_of p).exports (subst (λ (o : Option Function). IsSome o) (exported_is (keys.Name text)) lifted.1), lifted.0, refl)
   export_role (exports.WorldFunc (keys.Interface id) name GuestExport) h lifted = nothing _ h
+  export_role (exports.WorldFuncPostReturn (keys.Name text)) h lifted = name_there text (items_of p).exports (subst (λ (o : Option Function). IsSome o) (exported_is (keys.Name text)) lifted)
+  export_role (exports.Memory type) h lifted = tt
+  export_role exports.GeneralPurposeRealloc h lifted = tt
+  export_role exports.GeneralPurposeImportRealloc h lifted = tt
+  export_role exports.GeneralPurposeExportRealloc h lifted = tt
+  export_role exports.ReallocForAdapter h lifted = tt
   export_role role h lifted = nothing _ h
 
   export_roles : (all : List (List ℕ × Export)) → AllByRecursion (λ e. export_left_out e.1 ≡ None) all → AllByRecursion (λ e. IsLifted p.resolve p.world e.1) all
@@ -284,6 +290,13 @@ module _ (p : WorldParts) (present : HasSoundParts p) (encoded : IsEncoded p) (a
   export_typed : (role : Export) → IsExportRole (whole_of p) role → IsSome (type_of_export p.resolve (items_of p) role)
   export_typed (exports.WorldFunc (keys.Name text) function abi) h =
       mapped_there (called_type p.resolve abi) (root_function_at (items_of p).exports (keys.Name text)) (name_at text (items_of p).exports h.0.0 apart.items.exports h.0.1 h.0.2)
+  export_typed (exports.WorldFuncPostReturn (keys.Name text)) h =
+      mapped_there (post_return_type p.resolve) (root_function_at (items_of p).exports (keys.Name text)) (name_at text (items_of p).exports h.0 apart.items.exports h.1 h.2)
+  export_typed (exports.Memory type) h = refl
+  export_typed exports.GeneralPurposeRealloc h = refl
+  export_typed exports.GeneralPurposeImportRealloc h = refl
+  export_typed exports.GeneralPurposeExportRealloc h = refl
+  export_typed exports.ReallocForAdapter h = refl
   export_typed role h = absurd h
 
   offered_exports : (all : List (List ℕ × Export)) → AllByRecursion (λ e. IsExportRole (whole_of p) e.1) all → AllByRecursion (OffersExport p) all
@@ -295,7 +308,7 @@ module _ (p : WorldParts) (present : HasSoundParts p) (encoded : IsEncoded p) (a
 
   required : (key : WorldKey) → IsKept p.resolve p.world p.main.exports.exports key → IsRequired (whole_of p) p.main key
   required key kept =
-      let root = root_at p.resolve.types (items_of p).exports kept.exported.0 key exports_are kept.exported.1 kept.exported.2 in
+      let root = root_at (items_of p).exports kept.exported.0 key exports_are kept.exported.1 kept.exported.2 in
       let is : exported_function p.resolve p.world key ≡ Some root.function = ap (exported_function p.resolve p.world) root.is ∙ (exported_is (keys.Name root.text) ∙ root.there) in
       record {
         exported = kept.exported;

@@ -24,7 +24,7 @@ role_left_out p role = import_left_out p.resolve.types (places_of p.resolve.type
 pub data IsLeftOut (p : WorldParts) : Refusal → Type 0 where
   -- an import or an export of the world
   imported : (entry : WorldKey × WorldItem) (what : List ℕ) → Contains (items_of p).imports entry → import_item_left_out p.resolve entry ≡ Some what → IsLeftOut p (refusals.LeftOut what)
-  exported : (entry : WorldKey × WorldItem) (what : List ℕ) → Contains (items_of p).exports entry → export_item_left_out p.resolve.types entry ≡ Some what → IsLeftOut p (refusals.LeftOut what)
+  exported : (entry : WorldKey × WorldItem) (what : List ℕ) → Contains (items_of p).exports entry → export_item_left_out entry ≡ Some what → IsLeftOut p (refusals.LeftOut what)
   -- the imports, where an interface is among them twice, where something is made of types of a later place, and where their
   -- types are out of order or lack a resource of the root
   twice : (what : List ℕ) → twice_left_out (items_of p) ≡ Some what → IsLeftOut p (refusals.LeftOut what)

@@ -1,8 +1,9 @@
--- Which parts of a world are encoded yet: functions at its root that are synchronous and whose calls need no option of the
--- Canonical ABI (component model, binary format: `canonopt`), imported interfaces of types and of such functions, types that
--- it imports, in their order and with all resources of the root among them, core imports and exports with the role of such a
--- function, and core imports that drop a resource. All else is left out, and reported by the name of its kind. (The names are
--- those of this project's record.)
+-- Which parts of a world are encoded yet: functions that it exports at its root and that are synchronous, functions that it
+-- imports at its root and that are synchronous and whose calls need no option of the Canonical ABI (component model, binary
+-- format: `canonopt`), imported interfaces of types and of such functions, types that it imports, in their order and with all
+-- resources of the root among them, core imports and exports with the role of such a function, core imports that drop a
+-- resource, and core exports that are a post-return, a memory or a realloc. All else is left out, and reported by the name of
+-- its kind. (The names are those of this project's record.)
 use Rattle.std.specs.Prelude.{ℕ, Bool, ◌==◌, ◌&&◌, List, [], ◌∷◌, length, codes, Option, Some, None, Result, Ok, Err, get_or, if◌then◌else◌}
 use Rattle.std.specs.Option.{option_or}
 use Rattle.wit_data.specs.declared.functions.AbiVariant.TheVariants.{GuestImport, GuestExport, GuestImportAsync}
@@ -67,18 +68,20 @@ member_left_out types f = option_or (kind_left_out f.kind) (unless (needs_no_opt
 abbrev pub interface_left_out : Resolve → InterfaceId → Option (List ℕ)
 interface_left_out r id = first_some (λ e. member_left_out r.types e.1) (functions_of r id)
 
--- an export of the world
-abbrev pub export_item_left_out : List TypeDef → WorldKey × WorldItem → Option (List ℕ)
-export_item_left_out types (keys.Name text, items.Function f) = function_left_out types f
-export_item_left_out types (keys.Interface id, items.Function f) = Some (codes "interface")
-export_item_left_out types (key, items.Interface id) = Some (codes "interface")
-export_item_left_out types (key, items.NamedType id) = Some (codes "type")
+-- an export of the world, unless it is a function at the root that is synchronous
+abbrev pub export_item_left_out : WorldKey × WorldItem → Option (List ℕ)
+export_item_left_out (keys.Name text, items.Function f) = kind_left_out f.kind
+export_item_left_out (keys.Interface id, items.Function f) = Some (codes "interface")
+export_item_left_out (key, items.Interface id) = Some (codes "interface")
+export_item_left_out (key, items.NamedType id) = Some (codes "type")
 
--- an import of the world, which may also be a type under its name, or an interface
+-- an import of the world: a function at the root, a type under its name, or an interface
 abbrev pub import_item_left_out : Resolve → WorldKey × WorldItem → Option (List ℕ)
+import_item_left_out r (keys.Name text, items.Function f) = function_left_out r.types f
 import_item_left_out r (keys.Name text, items.NamedType id) = None
+import_item_left_out r (keys.Interface id, items.Function f) = Some (codes "interface")
+import_item_left_out r (keys.Interface id, items.NamedType t) = Some (codes "type")
 import_item_left_out r (key, items.Interface id) = interface_left_out r id
-import_item_left_out r entry = export_item_left_out r.types entry
 
 -- ---- order
 
@@ -106,11 +109,17 @@ import_left_out types places root (imports.InterfaceFunc key id name GuestImport
 import_left_out types places root (imports.ImportedResourceDrop key interface id) = unless (is_droppable types places root id) (codes "imported-drop")
 import_left_out types places root role = Some (import_kind role)
 
--- an export of main, unless it is a root function that is called synchronously
+-- an export of main, unless it is a root function that is called synchronously, the post-return of one, a memory, or a realloc
 abbrev pub export_left_out : Export → Option (List ℕ)
 export_left_out (exports.WorldFunc (keys.Name text) name GuestExport) = None
 export_left_out (exports.WorldFunc (keys.Interface id) name GuestExport) = Some (codes "world-func")
 export_left_out (exports.WorldFunc key name abi) = Some (codes "async")
+export_left_out (exports.WorldFuncPostReturn (keys.Name text)) = None
+export_left_out (exports.Memory type) = None
+export_left_out exports.GeneralPurposeRealloc = None
+export_left_out exports.GeneralPurposeImportRealloc = None
+export_left_out exports.GeneralPurposeExportRealloc = None
+export_left_out exports.ReallocForAdapter = None
 export_left_out role = Some (export_kind role)
 
 -- the imports from one module: the first that is left out, or all of them where a whole module provides them
@@ -129,7 +138,7 @@ items_of p = get_or p.resolve.worlds p.world.index no_items
 
 -- the first of the imports that is left out, or else of the exports
 abbrev pub world_left_out : Resolve → World → Option (List ℕ)
-world_left_out r w = option_or (first_some (import_item_left_out r) w.imports) (first_some (export_item_left_out r.types) w.exports)
+world_left_out r w = option_or (first_some (import_item_left_out r) w.imports) (first_some export_item_left_out w.exports)
 
 -- the first import or export of a module that is left out
 abbrev pub module_left_out : List TypeDef → List ℕ → ℕ → ValidatedModule → Option (List ℕ)

@@ -95,13 +95,11 @@ fn interface_left_out(resolve: &Resolve, id: InterfaceId) -> Option<&'static str
     members_left_out(resolve, &interface_of(resolve, id).functions)
 }
 
-fn export_item_left_out(resolve: &Resolve, key: &WorldKey, item: &WorldItem) -> Option<&'static str>
-    requires sound { IsSound resolve.now }
-    requires present { HasEntry resolve.now (key.now, item.now) }
-    ensures { option_copied result ≡ export_item_left_out resolve.now.types (key.now, item.now) }
+fn export_item_left_out(key: &WorldKey, item: &WorldItem) -> Option<&'static str>
+    ensures { option_copied result ≡ export_item_left_out (key.now, item.now) }
 {
     match (key, item) {
-        (WorldKey::Name(_), WorldItem::Function(function)) => function_left_out(resolve, function),
+        (WorldKey::Name(_), WorldItem::Function(function)) => kind_left_out(function.kind),
         (_, WorldItem::NamedType(_)) => Some("type"),
         _ => Some("interface"),
     }
@@ -113,9 +111,11 @@ fn import_item_left_out(resolve: &Resolve, key: &WorldKey, item: &WorldItem) -> 
     ensures { option_copied result ≡ import_item_left_out resolve.now (key.now, item.now) }
 {
     match (key, item) {
+        (WorldKey::Name(_), WorldItem::Function(function)) => function_left_out(resolve, function),
         (WorldKey::Name(_), WorldItem::NamedType(_)) => None,
         (_, WorldItem::Interface(id)) => interface_left_out(resolve, *id),
-        _ => export_item_left_out(resolve, key, item),
+        (_, WorldItem::NamedType(_)) => Some("type"),
+        _ => Some("interface"),
     }
 }
 
@@ -135,14 +135,12 @@ fn imports_left_out(resolve: &Resolve, items: &Keyed<WorldKey, WorldItem>) -> Op
 }
 
 /// What of the exports of a world is left out; their keys are apart.
-fn exports_left_out(resolve: &Resolve, items: &Keyed<WorldKey, WorldItem>) -> Option<&'static str>
-    requires sound { IsSound resolve.now }
-    requires all_present { AllByRecursion (HasEntry resolve.now) items.now }
-    ensures reported { option_copied result ≡ first_some (export_item_left_out resolve.now.types) items.now }
+fn exports_left_out(items: &Keyed<WorldKey, WorldItem>) -> Option<&'static str>
+    ensures reported { option_copied result ≡ first_some export_item_left_out items.now }
     ensures apart { IsDistinct is_same_key (keys_of items.now) }
 {
     for (key, item) in items.iter() {
-        if let Some(what) = export_item_left_out(resolve, key, item) {
+        if let Some(what) = export_item_left_out(key, item) {
             return Some(what);
         }
     }
@@ -156,5 +154,5 @@ pub(crate) fn world_left_out(resolve: &Resolve, world: &World) -> Option<&'stati
     ensures reported { option_copied result ≡ world_left_out resolve.now world.now }
     ensures apart { ItemsApart world.now }
 {
-    imports_left_out(resolve, &world.imports).or(exports_left_out(resolve, &world.exports))
+    imports_left_out(resolve, &world.imports).or(exports_left_out(&world.exports))
 }

@@ -49,6 +49,12 @@ fn export_left_out(role: &Export) -> Option<&'static str>
         Export::WorldFunc(WorldKey::Name(_), _, AbiVariant::GuestExport) => None,
         Export::WorldFunc(_, _, AbiVariant::GuestExport) => Some("world-func"),
         Export::WorldFunc(..) => Some("async"),
+        Export::WorldFuncPostReturn(WorldKey::Name(_))
+        | Export::Memory(_)
+        | Export::GeneralPurposeRealloc
+        | Export::GeneralPurposeImportRealloc
+        | Export::GeneralPurposeExportRealloc
+        | Export::ReallocForAdapter => None,
         _ => Some(export_kind(role)),
     }
 }

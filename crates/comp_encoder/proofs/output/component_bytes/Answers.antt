@@ -24,6 +24,8 @@ returns-clause-refused c =
     let made = c.in_ok-component.ensures.ok in
     λ _. record {
       canonical = c.in_ok-check_names.ensures.ok;
+      memory = c.in_ok-component.ensures.memory refl;
+      realloc = c.in_ok-component.ensures.realloc refl;
       encodings = c.in_ok-component.ensures.refused refl;
       names = λ on fault. no_name_cause (naming_of c.args.names) c.args.world.now c.in_ok-component.component.defs c.requires.valid made.1 no_modules (composed (naming_of c.args.names) c.args.world.now c.in_ok-component.component.defs c.requires.valid made.1)
           (c.in_ok-check_if.ensures.ok on) fault;

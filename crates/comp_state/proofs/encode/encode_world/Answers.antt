@@ -6,7 +6,7 @@ use Rattle.std.proofs.lemmas.Result.{IfOk-weaker}
 use Rattle.comp_imports.specs.Names.{naming_of}
 use Rattle.comp_terms.specs.Rules.{IsUnnamed, IsBuilt}
 use Rattle.comp_state.specs.Encoding.{Encoding, naming_in}
-use Rattle.comp_state.proofs.Building.{built_named, encoded_lacks}
+use Rattle.comp_state.proofs.Building.{built_named, encoded_lacks, encoded_memory, encoded_realloc}
 use Rattle.comp_state.proofs.Scoping.{built_scoped}
 use Rattle.comp_state.proofs.encode.encode_world.Goals as goal
 
@@ -22,3 +22,9 @@ returns-clause-ok c =
 
 pub returns-clause-refused : goal.returns-clause-refused
 returns-clause-refused c = λ _. encoded_lacks c.args.world.now (search rules)
+
+pub returns-clause-memory : goal.returns-clause-memory
+returns-clause-memory c = λ _. encoded_memory c.args.world.now (search rules)
+
+pub returns-clause-realloc : goal.returns-clause-realloc
+returns-clause-realloc c = λ _. encoded_realloc c.args.world.now (search rules)

@@ -12,5 +12,5 @@ invariant-loop-key l =
     goal.iterator-loop-key.can_next l.key-iterator ×
     goal.iterator-loop-key.is_finite l.key-iterator ×
     AllByRecursion (HasEntry l.resolve) l.key-iterator ×
-    (first_some (export_item_left_out l.resolve.types) l.key-iterator ≡ first_some (export_item_left_out l.resolve.types) l.items) ×
+    (first_some export_item_left_out l.key-iterator ≡ first_some export_item_left_out l.items) ×
     IsDistinct is_same_key (keys_of l.items)

@@ -3,6 +3,7 @@ use Rattle.wit_data.specs.Keys.{name_of_key}
 use Rattle.comp_links.specs.Roles.{export_encoding}
 use Rattle.comp_terms.specs.Rules.{Grows, named_export}
 use Rattle.comp_imports.specs.RootScopes.{AreTablesRight}
+use Rattle.comp_state.specs.LiftOptions.{HasLiftOptions}
 use Rattle.comp_state.specs.Tables.{AreExports}
 use Rattle.comp_state.proofs.Exporting.{exports_start, exports_step}
 use Rattle.comp_state.proofs.Growth.{exports-kept}
@@ -28,6 +29,6 @@ loop-key-preserved c =
       of.next ∙ i.1,
       subst (λ n. AreTablesRight w n new.instances new.items.defs new.maps) i.1 (subst (λ x. AreTablesRight x.now c.loop-key.root.last_type new.instances new.items.defs new.maps) i.0 of.tables),
       exports_step w c.args.root.now.items mid new.items c.as_slice-key-items.result.now c.loop-key.key-index c.key-item.result i.3 (omega arith) c.key-item.is of.extends
-          (subst (λ x. Grows x.now mid.defs new.items.defs (named_export (name_of_key c.key-item.result) ∷ [])) i.0 of.grows) (subst (λ x. IsSome (export_encoding x.now c.key-item.result)) i.0 of.encoded),
+          (subst (λ x. Grows x.now mid.defs new.items.defs (named_export (name_of_key c.key-item.result) ∷ [])) i.0 of.grows) (subst (λ x. IsSome (export_encoding x.now c.key-item.result)) i.0 of.encoded) (subst (λ x. HasLiftOptions x.now c.key-item.result) i.0 of.has),
       of.instances ∙ i.4,
     )

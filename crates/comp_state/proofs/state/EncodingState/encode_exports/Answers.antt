@@ -4,6 +4,7 @@ use Rattle.std.specs.Result.{OnOk, IfErr}
 use Rattle.comp_links.specs.Roles.{export_encoding}
 use Rattle.comp_terms.specs.Rules.{Grows, exports_marked}
 use Rattle.comp_state.specs.Causes.{IsCause}
+use Rattle.comp_state.specs.LiftOptions.{HasLiftOptions}
 use Rattle.comp_state.specs.Tables.{IsEncoding}
 use Rattle.comp_state.specs.Encoding.{Encoding}
 use Rattle.comp_state.proofs.Growth.{encoding-with, exports_of, main_known}
@@ -29,6 +30,9 @@ returns-clause-grows c = subst (λ (e : Encoding). OnOk c.export_all.result (Gro
 pub returns-clause-encoded : goal.returns-clause-encoded
 returns-clause-encoded c =
     subst (λ (e : Encoding). OnOk c.export_all.result (AllByRecursion (λ key. IsSome (export_encoding e.world key)) e.world.main_exports)) c.self.view_is c.export_all.ensures.encoded
+
+pub returns-clause-has : goal.returns-clause-has
+returns-clause-has c = subst (λ (e : Encoding). OnOk c.export_all.result (AllByRecursion (HasLiftOptions e.world) e.world.main_exports)) c.self.view_is c.export_all.ensures.has
 
 pub returns-clause-cause : goal.returns-clause-cause
 returns-clause-cause c = subst (λ (e : Encoding). IfErr c.export_all.result (IsCause e.world)) c.self.view_is c.export_all.ensures.cause

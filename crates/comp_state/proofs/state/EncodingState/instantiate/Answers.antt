@@ -10,7 +10,7 @@ use Rattle.comp_links.specs.Roles.{IsEncodedImport}
 use Rattle.comp_terms.specs.Rules.{Grows, InstanceOf}
 use Rattle.comp_worlds.specs.WorldContents.{core_imports}
 use Rattle.comp_state.specs.Encoding.{Encoding, AreImported, IsFirstModule}
-use Rattle.comp_state.proofs.Exporting.{main_module}
+use Rattle.comp_state.proofs.Offered.{main_module}
 use Rattle.comp_imports.specs.Growing.{Grows-by, Grows-then, kept}
 use Rattle.comp_state.proofs.Growth.{encoding-kept, encoding-instantiated, sources_of}
 use Rattle.comp_state.proofs.Serving.{groups_encoded}

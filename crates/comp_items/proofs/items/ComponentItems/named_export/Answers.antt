@@ -3,7 +3,7 @@ use Rattle.comp_items.proofs.Remembering.{alias_exported}
 use Rattle.comp_bytes.specs.ItemIndices.{IsAt}
 use Rattle.comp_bytes.specs.Spaces.{kind_space}
 use Rattle.comp_items.specs.Items.{alias_of}
-use Rattle.comp_items.proofs.items.ComponentItems.core_export.Goals as goal
+use Rattle.comp_items.proofs.items.ComponentItems.named_export.Goals as goal
 
 pub returns-in-Some-clause-exported : goal.returns-in-Some-clause-exported
 returns-in-Some-clause-exported c =
