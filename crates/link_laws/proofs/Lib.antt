@@ -21,6 +21,7 @@ mod WorkedInstances
 mod NotComposed
 mod WorkedTypes
 mod WorkedTypesLinked
+mod WorkedLifts
 mod WorkedDrops
 mod WorkedInterfaceDrops
 mod WorkedOuterTypes

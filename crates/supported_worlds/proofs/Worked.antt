@@ -380,8 +380,8 @@ drop_of_nothing_is_reported = refl
 async_lift_is_reported : export_left_out (exports.WorldFunc f (codes "f") GuestExportAsync) ≡ Some (codes "async")
 async_lift_is_reported = refl
 
-realloc_is_reported : export_left_out exports.GeneralPurposeRealloc ≡ Some (codes "realloc")
-realloc_is_reported = refl
+realloc_is_encoded : export_left_out exports.GeneralPurposeRealloc ≡ None
+realloc_is_encoded = refl
 
 -- of the imports from one module the first that is left out is reported
 first_field_is_reported : group_left_out [] [] 0 (codes "$root", instances.Names ((codes "f", imports.WorldFunc f (codes "f") GuestImport) ∷ (codes "s", imports.WaitableSetNew) ∷ (codes "i", imports.BackpressureInc) ∷ [])) ≡ Some (codes "waitable-set-new")

@@ -79,9 +79,8 @@ export_item_left_out (key, items.NamedType id) = Some (codes "type")
 abbrev pub import_item_left_out : Resolve → WorldKey × WorldItem → Option (List ℕ)
 import_item_left_out r (keys.Name text, items.Function f) = function_left_out r.types f
 import_item_left_out r (keys.Name text, items.NamedType id) = None
-import_item_left_out r (keys.Interface id, items.Function f) = Some (codes "interface")
-import_item_left_out r (keys.Interface id, items.NamedType t) = Some (codes "type")
 import_item_left_out r (key, items.Interface id) = interface_left_out r id
+import_item_left_out r entry = export_item_left_out entry
 
 -- ---- order
 

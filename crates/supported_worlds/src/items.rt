@@ -114,8 +114,7 @@ fn import_item_left_out(resolve: &Resolve, key: &WorldKey, item: &WorldItem) -> 
         (WorldKey::Name(_), WorldItem::Function(function)) => function_left_out(resolve, function),
         (WorldKey::Name(_), WorldItem::NamedType(_)) => None,
         (_, WorldItem::Interface(id)) => interface_left_out(resolve, *id),
-        (_, WorldItem::NamedType(_)) => Some("type"),
-        _ => Some("interface"),
+        _ => export_item_left_out(key, item),
     }
 }
 
