@@ -55,6 +55,7 @@ use Rattle.link_laws.proofs.Stores.{main_module}
 use Rattle.link_laws.proofs.Steps.{no_modules}
 use Rattle.link_laws.proofs.Runs.{links}
 use Rattle.link_laws.proofs.Worked.{made, machine_of, one_apart}
+use Rattle.link_laws.proofs.WorkedDrops.{none_apart}
 
 -- ---- the world
 
@@ -119,11 +120,11 @@ is_world = record {
   present = omega arith;
   imports = tt;
   exports = ((refl, tt), tt);
-  import_names_apart = tt;
+  import_names_apart = none_apart;
   export_names_apart = one_apart g;
   main = record {
     core = refl;
-    modules_apart = tt;
+    modules_apart = none_apart;
     import_roles = tt;
     imported = tt;
     export_roles = (((0, omega arith, refl), refl, refl), (tt, (tt, ((0, omega arith, refl), tt))));
@@ -277,3 +278,7 @@ keeps_the_rules = record {
 
 pub list_links : Links own_names world no_modules (lifting right_options)
 list_links = links own_names world (lifting right_options) is_world keeps_the_rules
+
+pub list_is_linked : IsLinked own_names world no_modules (machine_of (outcome world no_modules (lifting right_options) made))
+list_is_linked = list_links.linked made (machine_of (outcome world no_modules (lifting right_options) made)) refl
+
