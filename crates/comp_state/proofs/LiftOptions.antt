@@ -1,5 +1,5 @@
 -- The options that are written for a lift are those of the link table, and what is missing is a cause.
-use Rattle.std.proofs.Common.{◌≡◌, ◌∙◌, ℕ, ◌<◌, List, [], ◌∷◌, ◌++◌, refl, sym, ap, subst, Some, None, Option, Bool, true, false, ◌&&◌, not, is_some, true≢false, IsTrue, IsSome, Contains, arith}
+use Rattle.std.proofs.Common.{◌≡◌, ◌∙◌, ℕ, ◌<◌, List, [], ◌∷◌, ◌++◌, refl, sym, ap, subst, Some, None, Option, Bool, true, false, ◌&&◌, not, is_some, true≢false, IsTrue, IsSome, Contains, arith, Result, Ok, Err}
 use Rattle.std.specs.List.{AllZip, AllByRecursion}
 use Rattle.std.specs.Option.{option_map, option_map_or}
 use Rattle.comp_bytes.proofs.ItemIndices.{in_range}
@@ -31,7 +31,8 @@ use Rattle.comp_terms.specs.Planned.{IsOptionFor}
 use Rattle.comp_terms.specs.Rules.{IsOptionRight}
 use Rattle.comp_terms.specs.Terms.{TermOption, IsOption}
 use Rattle.comp_terms.specs.Terms as terms
-use Rattle.comp_items.proofs.Kept.{Longer, options-kept}
+use Rattle.std.specs.Result.{IsErrAnd, IfErr}
+use Rattle.comp_items.proofs.Kept.{Longer, exported-kept, options-kept}
 use Rattle.comp_state.specs.Causes.{IsCauseAmong, IsOptionRefusal, LacksMemory, LacksRealloc}
 use Rattle.comp_state.specs.LiftOptions.{of_main, IsAliasIf, memory_name, NameOptions, HasLiftOptions}
 use Rattle.comp_state.specs.declared.fault.StateFault.{StateFault}
@@ -174,3 +175,54 @@ module _ (w : ComponentWorld) (ds : List Def) (key : WorldKey) (memory realloc :
       by false realloc name needed none alias l = absurd (true≢false (sym l))
   option_refused (faults.NoEncoding place) h = absurd h
   option_refused (faults.TooMany excess) h = absurd h
+
+-- an alias stays one
+pub alias_kept : (old new : List Def) → Longer old new → (kind : ExportKind) (name : Option (List ℕ)) (index : Option ℕ) → IsAliasIf old kind name index → IsAliasIf new kind name index
+alias_kept old new g kind (Some name) (Some index) h = exported-kept g h
+alias_kept old new g kind None None h = tt
+alias_kept old new g kind (Some name) None h = absurd h
+alias_kept old new g kind None (Some index) h = absurd h
+
+-- a result that is refused with a fault, of which this holds
+pub refused_with : {X E : Type 0} (r : Result X E) (e : E) (P : E → Type 0) → IsErrAnd r (λ x. x ≡ e) → P e → IfErr r P
+refused_with (Ok x) e P h k = absurd h
+refused_with (Err x) e P h k = subst P (sym h) k
+
+-- ---- the function of a key
+
+-- the set that the function of a key needs, and the aliases of the memory and of the realloc
+pub record HasAliases (w : ComponentWorld) (ds : List Def) (key : WorldKey) (set : ℕ) (memory realloc : Option ℕ) : Type 0 where
+  pub same : lift_needs w key ≡ set
+  pub memory_is : IsAliasIf ds kinds.Memory (memory_name w) memory
+  pub realloc_is : IsAliasIf ds kinds.Func (when (needs set 2) (lift_realloc w)) realloc
+
+pub aliases_of : (w : ComponentWorld) (mid ds : List Def) → Longer mid ds → (key : WorldKey) (f : Function) (set : ℕ) (memory realloc : Option ℕ) (name : Option (List ℕ)) →
+    root_function_at (items_of w).exports key ≡ Some f → set ≡ export_set GuestExport w.resolve.types f → IsAliasIf mid kinds.Memory (memory_name w) memory → name ≡ when (needs set 2) (lift_realloc w) → IsAliasIf ds kinds.Func name realloc →
+    HasAliases w ds key set memory realloc
+aliases_of w mid ds g key f set memory realloc name there computed m wanted r = record {
+  same = set_of_key w key f there ∙ sym computed;
+  memory_is = alias_kept mid ds g kinds.Memory (memory_name w) memory m;
+  realloc_is = subst (λ o. IsAliasIf ds kinds.Func o realloc) wanted r;
+}
+
+module _ (w : ComponentWorld) (ds : List Def) (key : WorldKey) (set : ℕ) (memory realloc : Option ℕ) (a : HasAliases w ds key set memory realloc) where
+  realloc_of_key : IsAliasIf ds kinds.Func (when (needs (lift_needs w key) 2) (lift_realloc w)) realloc
+  realloc_of_key = subst (λ n. IsAliasIf ds kinds.Func (when (needs n 2) (lift_realloc w)) realloc) (sym a.same) a.realloc_is
+
+  pub named_for : (written : List CanonicalOption) (e : StringEncoding) → written ≡ options_of set e memory realloc → export_encoding w key ≡ Some e → lacks_memory set memory ≡ false → lacks_realloc set realloc ≡ false →
+      NameOptions w ds written (needed_options w Main key)
+  named_for written e same encoded no_m no_r =
+      let fit : NameOptions w ds (options_of set e memory realloc) (options_in set (option_map (export_of Main) (lift_realloc w)) (Some e)) = fit_set w ds set memory realloc e a.memory_is a.realloc_is no_m no_r in
+      let with_encoding : NameOptions w ds (options_of set e memory realloc) (options_in set (option_map (export_of Main) (lift_realloc w)) (export_encoding w key)) =
+      subst (λ o. NameOptions w ds (options_of set e memory realloc) (options_in set (option_map (export_of Main) (lift_realloc w)) o)) (sym encoded) fit in
+      let of_key : NameOptions w ds (options_of set e memory realloc) (needed_options w Main key) =
+      subst (λ n. NameOptions w ds (options_of set e memory realloc) (options_in n (option_map (export_of Main) (lift_realloc w)) (export_encoding w key))) (sym a.same) with_encoding in
+      subst (λ os. NameOptions w ds os (needed_options w Main key)) (sym same) of_key
+
+  pub has_for : lacks_memory set memory ≡ false → lacks_realloc set realloc ≡ false → HasLiftOptions w key
+  has_for no_m no_r =
+      has_options w ds key memory realloc a.memory_is realloc_of_key (subst (λ n. lacks_memory n memory ≡ false) (sym a.same) no_m) (subst (λ n. lacks_realloc n realloc ≡ false) (sym a.same) no_r)
+
+  pub refused_for : (e : StateFault) (name : List ℕ) → name ≡ name_of_key key → IsOptionRefusal set memory realloc name e → IsCauseAmong w [] (key ∷ []) e
+  refused_for e name named h =
+      option_refused w ds key memory realloc a.memory_is realloc_of_key e (subst (λ n. IsOptionRefusal n memory realloc (name_of_key key) e) (sym a.same) (subst (λ n. IsOptionRefusal set memory realloc n e) named h))

@@ -1,8 +1,10 @@
 -- What main offers: the exports that have a role are functions or memories, as validation found them.
-use Rattle.std.proofs.Common.{◌≡◌, ◌∙◌, ℕ, List, [], ◌∷◌, map, refl, sym, ap, subst, Some, None, Option, Bool, true, false, cond, true≢false, if◌then◌else◌}
+use Rattle.std.proofs.Common.{IfSome, IsSome, ◌&&◌, ◌≡◌, ◌∙◌, ℕ, List, [], ◌∷◌, map, refl, sym, ap, subst, Some, None, Option, Bool, true, false, cond, true≢false, if◌then◌else◌}
 use Rattle.std.proofs.lemmas.Option.{none-some, same_Some}
 use Rattle.std.specs.List.{AllByRecursion, flat_map}
-use Rattle.std.specs.Option.{option_map, option_or}
+use Rattle.std.specs.Option.{option_map, option_and_then, option_or}
+use Rattle.std.specs.Map.{lookup}
+use Rattle.std.proofs.lemmas.Slice.Eq.{bytes_eq-Decides}
 use Rattle.std.specs.Str.{bytes_eq}
 use Rattle.comp_lists.specs.Found.{found}
 use Rattle.core_types.specs.declared.types.FuncType.{FuncType}
@@ -12,9 +14,12 @@ use Rattle.wit_data.specs.declared.functions.Function.{Function}
 use Rattle.wit_data.specs.declared.functions.AbiVariant.TheVariants.{GuestExport}
 use Rattle.wit_data.specs.declared.worlds.WorldKey.{WorldKey}
 use Rattle.wit_data.specs.declared.worlds.WorldKey.TheVariants as keys
-use Rattle.wit_data.specs.Keys.{name_of_key}
+use Rattle.wit_data.specs.declared.worlds.WorldItem.{WorldItem}
+use Rattle.wit_data.specs.declared.worlds.WorldItem.TheVariants as world_items
+use Rattle.wit_data.specs.Keys.{is_same_key, name_of_key}
 use Rattle.wit_data.specs.Signatures.{signature}
-use Rattle.world_values.specs.Items.{root_function_at, root_export}
+use Rattle.world_values.specs.Items.{function_in, root_function_at, root_export}
+use Rattle.comp_options.specs.OptionLists.{when}
 use Rattle.comp_roles.specs.CoreTypes.{function_type, value_type, core_type}
 use Rattle.comp_roles.specs.FunctionExports.{is_post_return}
 use Rattle.comp_roles.specs.Lookups.{first_export, first_memory, memory_of}
@@ -25,7 +30,7 @@ use Rattle.comp_roles.specs.declared.offered.ExternType.{ExternType}
 use Rattle.comp_roles.specs.declared.offered.ExternType.TheVariants as externs
 use Rattle.comp_worlds.specs.Typed.{FitsExport}
 use Rattle.comp_worlds.specs.WorldContents.{items_of, core_name_of}
-use Rattle.comp_worlds.specs.Worlds.{IsWorld, IsExportRole}
+use Rattle.comp_worlds.specs.Worlds.{IsWorld, IsExportItem, IsExportRole}
 use Rattle.comp_worlds.specs.declared.world.ComponentWorld.{ComponentWorld}
 use Rattle.comp_links.specs.Links.{lift_realloc, post_return_of}
 use Rattle.comp_links.specs.Modules.{WorldModule}
@@ -68,11 +73,11 @@ role_offered w name role m r h = absurd r
 first_offered : (w : ComponentWorld) (matching : WorldExport → Bool) → ((name : List ℕ) (role : WorldExport) → matching role ≡ true → memory_of (name, role) ≡ None) → (name : List ℕ) (es : List (List ℕ × WorldExport)) → HaveRoles w es → Fits w es →
     first_export matching es ≡ Some name → OffersFunction w name
 first_offered w matching none name [] r f h = absurd (none-some name h)
-first_offered w matching none name ((n, role) ∷ es) r f h = by (matching role) refl h
+first_offered w matching none name ((n, role) ∷ es) r f h = by (matching role) refl (first_offered w matching none name es r.1 f.1) h
   where
-    by : (b : Bool) → matching role ≡ b → (if b then Some n else first_export matching es) ≡ Some name → OffersFunction w name
-    by true m e = subst (OffersFunction w) (same_Some n name e) (role_offered w n role (none n role m) r.0 f.0)
-    by false m e = first_offered w matching none name es r.1 f.1 e
+    by : (b : Bool) → matching role ≡ b → (first_export matching es ≡ Some name → OffersFunction w name) → (if b then Some n else first_export matching es) ≡ Some name → OffersFunction w name
+    by true m rest e = subst (OffersFunction w) (same_Some n name e) (role_offered w n role (none n role m) r.0 f.0)
+    by false m rest e = rest e
 
 -- the core export of a root function is a function
 root_offered : (w : ComponentWorld) (text name : List ℕ) (es : List (List ℕ × WorldExport)) → HaveRoles w es → Fits w es → found text (flat_map root_export es) ≡ Some name → OffersFunction w name
@@ -124,3 +129,39 @@ module _ (w : ComponentWorld) (ok : IsWorld w) where
   -- the first memory is offered
   pub memory_offered : (name : List ℕ) (type : MemoryType) → first_memory w.main.exports.exports ≡ Some (name, type) → OffersMemory w name
   memory_offered name type h = memory_found name type w.main.exports.exports ok.main.exported h
+
+  -- what a lift names is a function
+  pub wanted_offered : (b : Bool) → IfSome (when b (lift_realloc w)) (OffersFunction w)
+  wanted_offered false = tt
+  wanted_offered true = by (lift_realloc w) refl
+    where
+      by : (o : Option (List ℕ)) → lift_realloc w ≡ o → IfSome o (OffersFunction w)
+      by None e = tt
+      by (Some name) e = realloc_offered name e
+
+  pub post_return_if_offered : (key : WorldKey) → IfSome (post_return_of w key) (OffersFunction w)
+  post_return_if_offered key = by (post_return_of w key) refl
+    where
+      by : (o : Option (List ℕ)) → post_return_of w key ≡ o → IfSome o (OffersFunction w)
+      by None e = tt
+      by (Some name) e = post_return_offered key name e
+
+-- a function of the world's exports has the name of its key
+named_at : (es : List (WorldKey × WorldItem)) (text : List ℕ) (f : Function) → AllByRecursion IsExportItem es → root_function_at es (keys.Name text) ≡ Some f → text ≡ f.name
+named_at [] text f h e = absurd (none-some f e)
+named_at ((keys.Name t, world_items.Function g) ∷ es) text f h e = by (bytes_eq text t) refl (named_at es text f h.1) e
+  where
+    by : (b : Bool) → bytes_eq text t ≡ b → (root_function_at es (keys.Name text) ≡ Some f → text ≡ f.name) → option_and_then function_in (cond (b && true) (Some (world_items.Function g)) (lookup (is_same_key (keys.Name text)) es)) ≡ Some f → text ≡ f.name
+    by true same rest e = (bytes_eq-Decides text t).0 same ∙ (h.0.0 ∙ ap (λ (x : Function). x.name) (same_Some g f e))
+    by false same rest e = rest e
+named_at (x ∷ es) text f h e = absurd h.0
+
+pub function_named : (w : ComponentWorld) → IsWorld w → (key : WorldKey) (f : Function) → IsSome (core_name_of w key) → root_function_at (items_of w).exports key ≡ Some f → name_of_key key ≡ f.name
+function_named w ok (keys.Name text) f some e = named_at (items_of w).exports text f ok.exports e
+function_named w ok (keys.Interface id) f some e = absurd (true≢false (sym some))
+
+-- the post-return that is found under the name of a function is that of its key
+pub found_post_return : (w same : ComponentWorld) → same ≡ w → IsWorld w → (key : WorldKey) (f : Function) → IsSome (core_name_of w key) → root_function_at (items_of w).exports key ≡ Some f →
+    first_export (is_post_return key f.name) same.main.exports.exports ≡ post_return_of w key
+found_post_return w same e ok key f some there =
+    ap (λ (x : ComponentWorld). first_export (is_post_return key f.name) x.main.exports.exports) e ∙ ap (λ n. first_export (is_post_return key n) w.main.exports.exports) (sym (function_named w ok key f some there))

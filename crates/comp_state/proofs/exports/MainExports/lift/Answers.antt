@@ -11,7 +11,7 @@ use Rattle.comp_imports.specs.RootScopes.{AreTablesRight}
 use Rattle.comp_imports.specs.Growing.{Grows-then}
 use Rattle.comp_imports.proofs.Growth.{tables_kept}
 use Rattle.comp_state.proofs.Exporting.{main_export, grows_alias, AddsLift, adds_lift}
-use Rattle.comp_state.proofs.exports.MainExports.lift_function.Goals as goal
+use Rattle.comp_state.proofs.exports.MainExports.lift.Goals as goal
 
 main : (c : goal.In_ok-index) → IsInstanceOf c.function_type.new.self.items.defs c.args.self.now.instance 0
 main c = instance-kept (longer c.in_ok-ty.ensures.grows.extends) c.requires.exports.made
