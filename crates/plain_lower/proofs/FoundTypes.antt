@@ -1,7 +1,7 @@
 -- The type of an import or an export that fits its role, and the type that the role requires, are one.
-use Rattle.std.proofs.Common.{◌≡◌, ◌∙◌, ◌<◌, Bool, true, false, ◌&&◌, List, [], ◌∷◌, Option, Some, None, length, map, refl, sym, ap, true≢false}
+use Rattle.std.proofs.Common.{ℕ, nat_eq, ap₂, arith, ◌≡◌, ◌∙◌, ◌<◌, Bool, true, false, ◌&&◌, List, [], ◌∷◌, Option, Some, None, length, map, refl, sym, ap, true≢false}
 use Rattle.std.specs.Prelude.{get_or, option_map, slice_get}
-use Rattle.std.specs.Option.{option_and_then, option_map_or}
+use Rattle.std.specs.Option.{option_and_then, option_map_or, option_eq}
 use Rattle.std.proofs.lemmas.Option.{none-some, slice_get-get_or}
 use Rattle.comp_lists.specs.Found.{found}
 use Rattle.core_sections.specs.declared.core_module.CoreModule.{CoreModule}
@@ -15,9 +15,12 @@ use Rattle.core_sections.specs.declared.entries.ValType.TheVariants as core_valu
 use Rattle.core_sections.specs.contracts.entries.ValTypePartialEq.TheImpl as same_value
 use Rattle.core_sections.specs.Reading.{◌>>=◌}
 use Rattle.core_types.specs.declared.types.FuncType.{FuncType}
+use Rattle.core_types.specs.declared.types.MemoryType.{MemoryType}
 use Rattle.core_types.specs.declared.types.ValType.{ValType}
+use Rattle.core_types.specs.contracts.types.MemoryTypePartialEq.TheImpl as same_memory
 use Rattle.wit_data.specs.Signatures.{signature}
 use Rattle.wit_data.specs.declared.functions.AbiVariant.{AbiVariant}
+use Rattle.wit_data.specs.declared.functions.AbiVariant.TheVariants.{GuestExport}
 use Rattle.wit_data.specs.declared.functions.Function.{Function}
 use Rattle.wit_data.specs.declared.resolve.Resolve.{Resolve}
 use Rattle.wit_data.specs.declared.signatures.WasmSignature.{WasmSignature}
@@ -32,10 +35,10 @@ use Rattle.comp_roles.specs.declared.imports.Import.{Import}
 use Rattle.comp_roles.specs.declared.imports.Import.TheVariants as imports
 use Rattle.comp_roles.specs.declared.offered.ExternType.{ExternType}
 use Rattle.comp_roles.specs.declared.offered.ExternType.TheVariants as externs
-use Rattle.comp_worlds.specs.Typed.{type_of_import, type_of_export}
-use Rattle.record_core_types.specs.Asked.{function, number, called}
-use Rattle.record_core_types.specs.Fitting.{are_same, is_same, is_asked, is_function, fits_import, fits_export}
-use Rattle.record_core_types.specs.Offered.{value_type, value_types, func_type, extern_type, item_type}
+use Rattle.comp_worlds.specs.Typed.{post_return_type, type_of_import, type_of_export}
+use Rattle.record_core_types.specs.Asked.{function, number, called, post_return}
+use Rattle.record_core_types.specs.Fitting.{are_same, is_same, is_asked, is_function, is_memory, fits_import, fits_export}
+use Rattle.record_core_types.specs.Offered.{value_type, value_types, func_type, memory_type, extern_type, item_type}
 use Rattle.plain_lower.specs.Guarantees.{world_id}
 
 -- ---- functions
@@ -89,9 +92,46 @@ entity_typed : (core : CoreModule) (r : Resolve) (abi : AbiVariant) (e : EntityT
 entity_typed core r abi e (Some f) ty fits is = entity_of core e (signature abi r.types f) fits ∙ is
 entity_typed core r abi e None ty fits is = absurd (none-some ty is)
 
+-- a post-return takes the core results of a function
+abbrev returning : WasmSignature → WasmSignature
+returning s = record { params = s.results; results = []; indirect_params = false; retptr = false }
+
+-- an entity that is the post-return of a function
+post_return_typed : (core : CoreModule) (r : Resolve) (e : EntityType) (o : Option Function) (ty : ExternType) → is_function core e (option_map (post_return r) o) ≡ true → option_map (post_return_type r) o ≡ Some ty → extern_type core e ≡ Some ty
+post_return_typed core r e (Some f) ty fits is = entity_of core e (returning (signature GuestExport r.types f)) fits ∙ is
+post_return_typed core r e None ty fits is = absurd (none-some ty is)
+
 -- `resource.drop` takes a handle
 abbrev dropping : WasmSignature
 dropping = record { params = numbers.I32 ∷ []; results = []; indirect_params = false; retptr = false }
+
+-- a realloc takes the old address, the old size, the alignment and the new size, and returns the new address
+abbrev reallocating : WasmSignature
+reallocating = record { params = numbers.I32 ∷ numbers.I32 ∷ numbers.I32 ∷ numbers.I32 ∷ []; results = numbers.I32 ∷ []; indirect_params = false; retptr = false }
+
+-- equal memory types are one
+same_number : (m n : ℕ) → nat_eq m n ≡ true → m ≡ n
+same_number m n e = grind (arith, nat_tests)
+
+same_maximum : (a b : Option ℕ) → option_eq nat_eq a b ≡ true → a ≡ b
+same_maximum None None e = refl
+same_maximum (Some m) (Some n) e = ap (λ (x : ℕ). Some x) (same_number m n e)
+same_maximum None (Some n) e = absurd (true≢false (sym e))
+same_maximum (Some m) None e = absurd (true≢false (sym e))
+
+same_memory_type : (a b : MemoryType) → same_memory.eq-value.it a b ≡ true → a ≡ b
+same_memory_type a b e =
+    let same = both (nat_eq a.minimum b.minimum) (option_eq nat_eq a.maximum b.maximum) e in
+    ap₂ (λ m n. record { minimum = m; maximum = n }) (same_number a.minimum b.minimum same.0) (same_maximum a.maximum b.maximum same.1)
+
+-- an entity that is a memory of this type
+memory_typed : (core : CoreModule) (e : EntityType) (type : MemoryType) → is_memory e type ≡ true → extern_type core e ≡ Some (externs.Memory type)
+memory_typed core (entities.Memory l) type fits = by (memory_type l) fits
+  where
+    by : (o : Option MemoryType) → option_eq same_memory.eq-value.it o (Some type) ≡ true → option_map externs.Memory o ≡ Some (externs.Memory type)
+    by (Some m) e = ap (λ (x : MemoryType). Some (externs.Memory x)) (same_memory_type m type e)
+    by None e = absurd (true≢false (sym e))
+memory_typed core e type fits = absurd (true≢false (sym fits))
 
 -- ---- roles
 
@@ -119,4 +159,19 @@ module _ (r : Resolve) (present : 0 < length r.worlds) (core : CoreModule) where
       ap (λ (o : Option World). is_function core e (option_map (called r abi) (option_and_then (λ w. root_function_at w.exports key) o))) (sym the_world) ∙ fits in
       entity_typed core r abi e (root_function_at the_items.exports key) ty asked is
   export_typed (exports.WorldFunc key name abi) items.Tag ty fits is = absurd (true≢false (sym fits))
+  export_typed (exports.WorldFuncPostReturn key) (items.Entity e) ty fits is =
+      let asked : is_function core e (option_map (post_return r) (root_function_at the_items.exports key)) ≡ true =
+      ap (λ (o : Option World). is_function core e (option_map (post_return r) (option_and_then (λ w. root_function_at w.exports key) o))) (sym the_world) ∙ fits in
+      post_return_typed core r e (root_function_at the_items.exports key) ty asked is
+  export_typed (exports.WorldFuncPostReturn key) items.Tag ty fits is = absurd (true≢false (sym fits))
+  export_typed (exports.Memory type) (items.Entity e) ty fits is = memory_typed core e type fits ∙ is
+  export_typed (exports.Memory type) items.Tag ty fits is = absurd (true≢false (sym fits))
+  export_typed exports.GeneralPurposeRealloc (items.Entity e) ty fits is = entity_of core e reallocating fits ∙ is
+  export_typed exports.GeneralPurposeRealloc items.Tag ty fits is = absurd (true≢false (sym fits))
+  export_typed exports.GeneralPurposeImportRealloc (items.Entity e) ty fits is = entity_of core e reallocating fits ∙ is
+  export_typed exports.GeneralPurposeImportRealloc items.Tag ty fits is = absurd (true≢false (sym fits))
+  export_typed exports.GeneralPurposeExportRealloc (items.Entity e) ty fits is = entity_of core e reallocating fits ∙ is
+  export_typed exports.GeneralPurposeExportRealloc items.Tag ty fits is = absurd (true≢false (sym fits))
+  export_typed exports.ReallocForAdapter (items.Entity e) ty fits is = entity_of core e reallocating fits ∙ is
+  export_typed exports.ReallocForAdapter items.Tag ty fits is = absurd (true≢false (sym fits))
   export_typed role item ty fits is = absurd (none-some ty is)
