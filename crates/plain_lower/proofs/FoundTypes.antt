@@ -3,6 +3,7 @@ use Rattle.std.proofs.Common.{ℕ, nat_eq, ap₂, arith, ◌≡◌, ◌∙◌, �
 use Rattle.std.specs.Prelude.{get_or, option_map, slice_get}
 use Rattle.std.specs.Option.{option_and_then, option_map_or, option_eq}
 use Rattle.std.proofs.lemmas.Option.{none-some, slice_get-get_or}
+use Rattle.std.proofs.lemmas.Bool.Decides.{nat_tests}
 use Rattle.comp_lists.specs.Found.{found}
 use Rattle.core_sections.specs.declared.core_module.CoreModule.{CoreModule}
 use Rattle.core_sections.specs.declared.entries.EntityType.{EntityType}
