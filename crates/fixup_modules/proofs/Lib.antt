@@ -1,0 +1,6 @@
+pub mod Named
+pub mod NamedInstances
+pub mod Listing
+pub mod Importing
+pub mod Building
+pub mod Worked

@@ -1,0 +1,13 @@
+//! What fixup modules do.
+
+ghost use Rattle.fixup_modules.specs.Laws.{AddedShimsAreFilled, FixupsFillShims};
+
+/// Each shim that was added has a slot, which is filled with what is imported for it.
+pub fn added_shims_are_filled()
+    ensures { AddedShimsAreFilled }
+{}
+
+/// Where an instance of a fixup module is made, each shim forwards to the function that is supplied for it.
+pub fn fixups_fill_shims()
+    ensures { FixupsFillShims }
+{}
