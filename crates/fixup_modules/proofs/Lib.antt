@@ -3,4 +3,6 @@ pub mod NamedInstances
 pub mod Listing
 pub mod Importing
 pub mod Building
+pub mod Arguments
+pub mod Filling
 pub mod Worked

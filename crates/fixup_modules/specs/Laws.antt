@@ -1,7 +1,8 @@
 -- What fixup modules do: laws of how they are built, and of their instances.
 -- This project's own, over the core standard's instantiation.
-use Rattle.std.specs.Prelude.{◌≡◌, ◌+◌, ℕ, suc, true, Bool, List, [], ◌∷◌, ◌++◌, length, map, Option, Some, slice_get}
-use Rattle.std.specs.List.{AllZip}
+use Rattle.std.specs.Prelude.{◌≡◌, ◌+◌, ℕ, suc, true, Bool, List, [], ◌∷◌, ◌++◌, length, map, Option, Some, IsSome, slice_get}
+use Rattle.std.specs.List.{AllZip, AllByRecursion}
+use Rattle.comp_lists.specs.Found.{found}
 use Rattle.standard_kinds.specs.declared.kinds.ExportKind.TheVariants as kinds
 use Rattle.core_types.specs.declared.types.FuncType.{FuncType}
 use Rattle.core_bytes.specs.declared.entity.EntityType.{EntityType}
@@ -15,7 +16,8 @@ use Rattle.core_runs.specs.Sections.{parts_of}
 use Rattle.core_runs.specs.LawsOfInstances.{Slot, Extends, ShimsMade}
 use Rattle.fixup_modules.specs.declared.instances.ImportedInstance.{ImportedInstance}
 use Rattle.fixup_modules.specs.declared.instances.ImportedInstance.TheVariants as instances
-use Rattle.fixup_modules.specs.Imports.{Imported, entry_of, count_of, with_import, MayImport}
+use Rattle.fixup_modules.specs.Instances.{instance_name}
+use Rattle.fixup_modules.specs.Imports.{Imported, nothing_imported, entry_of, count_of, with_import, MayImport}
 use Rattle.fixup_modules.specs.Fixups.{Fixup, nothing_fixed, with_type, with_shim, shim_target}
 use Rattle.fixup_modules.specs.Sections.{table_name, shim_table, with_table, fixup_sections}
 
@@ -85,3 +87,15 @@ pub record ShimsAreFilled (f : Fixup) (shims : List NamedShim) (slots : List Slo
 abbrev pub FixupsFillShims : Type 0
 FixupsFillShims =
     (f : Fixup) (shims : List NamedShim) (debug_names : Bool) (types : List FuncType) (slots : List Slot) (store : Store) (now : Now) (made : Made) (later : Store) (moment : Now) (supply : Import → Option Given) (fixed : Made) → FixupMade f shims debug_names types slots store now made later moment supply fixed → ShimsAreFilled f shims slots store made later supply fixed
+
+-- ---- the arguments of its instance
+
+-- Each instance has its own name, and each import is from one of them.
+pub record AreFromInstances (m : Imported) : Type 0 where
+  pub named : AllByRecursion (λ (p : List ℕ × ImportedInstance). p.0 ≡ instance_name p.1) m.instances
+  pub from : AllByRecursion (λ (i : Import). IsSome (found i.module_name m.instances)) m.entries
+
+-- So it is however a fixup is built: the instances are all the arguments that its module needs.
+pub record ImportsAreFromInstances : Type 0 where
+  pub none : AreFromInstances nothing_imported
+  pub one_more : (m : Imported) (instance : ImportedInstance) (field : List ℕ) (item : EntityType) → AreFromInstances m → AreFromInstances (with_import m instance field item)

@@ -5,8 +5,7 @@ ghost use Rattle.core_bytes.specs.declared.entity.EntityType.TheVariants as enti
 ghost use Rattle.interned_types.specs.Interning.{type_index, interned};
 ghost use Rattle.fixup_modules.specs.declared.instances.ImportedInstance.TheVariants as instances;
 ghost use Rattle.fixup_modules.specs.Imports.{with_import, import_index, MayImport, ImportCause};
-ghost use Rattle.fixup_modules.specs.Faults.{IsFull};
-ghost use Rattle.fixup_modules.specs.Fixups.{nothing_fixed, thunk, with_type, with_shim, shim_target, TypeCause, ShimCause};
+ghost use Rattle.fixup_modules.specs.Fixups.{Fixup, nothing_fixed, thunk, with_type, with_shim, shim_target, TypeCause, ShimCause};
 
 use crate::fault::ShimFault;
 use crate::imports::ImportTable;
@@ -86,7 +85,7 @@ fn add_fill(
     ensures room { OnOk result (length fills.old.items + 1 < 2 ^ 32) }
     ensures refused { OnOk result (MayImport imports.old instances.Actual name.now (shim_target types.old ty)) }
     ensures err { OnErr result ((types.new ≡ types.old) × (imports.new ≡ imports.old) × (fills.new.items ≡ fills.old.items)) }
-    ensures cause { IfErr result (λ e. TypeCause types.old ty e ⊎ ImportCause imports.old instances.Actual name.now (shim_target types.old ty) e ⊎ IsFull (length fills.old.items) e) }
+    ensures cause { let f : Fixup = record { types = types.old; imported = imports.old; fills = fills.old.items } in IfErr result (ShimCause f name.now ty) }
 {
     next_count(fills.len() as u32)?;
     fills.reserve(1)?;

@@ -27,5 +27,5 @@ pub use encoding::EncodedFixup;
 pub use fault::ShimFault;
 pub use fixup::FixupModule;
 pub use instances::ImportedInstance;
-pub use laws::{added_shims_are_filled, fixups_fill_shims};
+pub use laws::{added_shims_are_filled, fixups_fill_shims, imports_are_from_instances};
 pub use tables::InstanceTable;
