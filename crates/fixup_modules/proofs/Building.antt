@@ -44,8 +44,8 @@ added_shims_are_filled = record {
       let there = is_there f.imported instances.Actual name (shim_target f.types type) may in
       let g = with_shim f name type in
       AllZip-end (IsTarget g) shims f.fills (record { name = name; type = type }) _
-          (AllZip-weaker (λ s function t. target_kept f g more.0 s function (λ i t' h. type_kept f.types type t' i h) more.1 t) shims f.fills filled)
-          (record { type_index = type_index f.types type; before = there.before; after = there.after; typed = type_at f.types type; imported = there.whole; index = there.index });
+      (AllZip-weaker (λ s function t. target_kept f g more.0 s function (λ i t' h. type_kept f.types type t' i h) more.1 t) shims f.fills filled)
+      (record { type_index = type_index f.types type; before = there.before; after = there.after; typed = type_at f.types type; imported = there.whole; index = there.index });
   more_types = λ f shims type filled.
       AllZip-weaker (λ s function t. target_kept f (with_type f type) [] s function (λ i t' h. type_kept f.types type t' i h) (sym (append-nil f.imported.entries)) t) shims f.fills filled;
   more_imports = λ f shims instance field item filled.

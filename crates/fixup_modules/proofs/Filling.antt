@@ -17,9 +17,9 @@ use Rattle.core_bytes.specs.declared.entry.ElementSegment.{ElementSegment}
 use Rattle.core_bytes.specs.declared.entry.Import.{Import}
 use Rattle.core_bytes.specs.declared.section.Section.TheVariants as sections
 use Rattle.core_runs.specs.Values.{Value, fit, same_reference, same_value_type, same_value_types, same_signature}
-use Rattle.core_runs.specs.Store.{Frame, Func, signature_of, Store, Now}
+use Rattle.core_runs.specs.Store.{Frame, Func, signature_of, Store, Now, Returned}
 use Rattle.core_runs.specs.Bodies.{table_fill}
-use Rattle.core_runs.specs.Instances.{Parts, Given, FunctionAt, TableAt, MemoryAt, GlobalAt, Made, bind, cons_if, all_at, there_is, matches, matches_each, functions_given, tables_given, new_frame, slots_after, with_table as table_with, own_functions, own_globals, own_tables, element_done, elements_done, data_done, made_of, instance_of}
+use Rattle.core_runs.specs.Instances.{Parts, Given, FunctionAt, TableAt, MemoryAt, GlobalAt, Made, bind, cons_if, all_at, there_is, matches, matches_each, functions_given, tables_given, new_frame, slots_after, with_table as table_with, own_functions, own_globals, own_tables, element_done, elements_done, data_done, made_of, instance_of, started}
 use Rattle.core_runs.specs.Sections.{parts_of, no_parts, with_section}
 use Rattle.core_runs.specs.LawsOfInstances.{Slot, Extends, ShimsMade}
 use Rattle.core_runs.proofs.Makings.{bind_some}
@@ -253,6 +253,7 @@ fill_by (suc t) frame fs tables a named = ap (λ o. bind o (λ t. bind (slice_ge
 record MadeWith (m : Parts) (given : List Given) (later : Store) (moment : Now) (fixed : Made) (tables : List (List (Option ℕ))) : Type 0 where
   pub functions : fixed.store.functions ≡ later.functions
   pub tables_are : fixed.store.tables ≡ tables
+  pub now_is : fixed.now ≡ moment
 
 made_with : (types : List FuncType) (imports : List EntityType) (segment : ElementSegment) (given : List Given) (later : Store) (moment : Now) (fixed : Made) (tables : List (List (Option ℕ))) →
     element_done (new_frame (parts_with types imports segment) given later moment) segment later.tables ≡ Some tables →
@@ -269,6 +270,7 @@ made_with types imports segment given later moment fixed tables filled is =
     record {
       functions = ap (λ (x : Made). x.store.functions) (sym one) ∙ append-nil later.functions;
       tables_are = ap (λ (x : Made). x.store.tables) (sym one);
+      now_is = ap (λ (x : Made). x.now) (sym one) ∙ ap (λ l. record moment { globals = l }) (append-nil moment.globals);
     }
 
 -- ---- the law
@@ -301,6 +303,7 @@ fixups_fill_shims f shims debug_names types slots store now made later moment su
       later_tables = h.extends.tables;
       tables = with_all.tables_are;
       functions = with_all.functions;
+      quiet = ap (λ p. started p fixed) (parts_are f debug_names) ∙ ap (λ (n : Now). Returned [] n) with_all.now_is;
       forward = λ final e i s address at_slot at_address n arguments now' fine.
           let t = type_at_slot shims slots i s h.same_types at_slot in
           let g = all.signed i t.0 address t.1 at_address in

@@ -1,5 +1,5 @@
 -- The result of an import, by what the table has of its name.
-use Rattle.std.proofs.Common.{◌≡◌, ◌∙◌, ◌+◌, ◌≤◌, ◌^◌, ℕ, zero, suc, Bool, true, false, ◌||◌, ◌&&◌, not, List, [], ◌∷◌, ◌++◌, length, map, take, Option, Some, None, Result, Ok, Err, OnOk, OnErr, IfOk, IfErr, cond, if◌then◌else◌, refl, sym, ap, subst, true≢false, append-nil, append_assoc, length-append, arith}
+use Rattle.std.proofs.Common.{inl, inr, ◌≡◌, ◌∙◌, ◌+◌, ◌<◌, ◌^◌, ℕ, zero, suc, Bool, true, false, ◌||◌, ◌&&◌, not, List, [], ◌∷◌, ◌++◌, length, map, take, Option, Some, None, Result, Ok, Err, OnOk, OnErr, IfOk, IfErr, cond, if◌then◌else◌, refl, sym, ap, subst, true≢false, append-nil, append_assoc, length-append, arith}
 use Rattle.std.specs.List.{list_any, position_or_len, before_first, find}
 use Rattle.std.specs.Map.{lookup}
 use Rattle.std.specs.Str.{bytes_eq}
@@ -8,6 +8,7 @@ use Rattle.std.proofs.lemmas.List.Elements.{filter-append}
 use Rattle.comp_lists.specs.Tables.{with_first}
 use Rattle.standard_kinds.specs.declared.kinds.ExportKind.{ExportKind}
 use Rattle.core_bytes.specs.declared.entity.EntityType.{EntityType}
+use Rattle.core_bytes.specs.declared.entity.EntityType.TheVariants as entities
 use Rattle.core_bytes.specs.declared.entry.Import.{Import}
 use Rattle.fixup_modules.specs.declared.counts.ImportCounts.{ImportCounts}
 use Rattle.fixup_modules.specs.declared.fault.ShimFault.{ShimFault}
@@ -99,7 +100,7 @@ lacks_item (y ∷ ys) name e = by (is_same_name name y.0) refl e (lacks_item ys 
 -- ---- results
 
 pub import_taken : (m : Imported) (instance : ImportedInstance) (field : List ℕ) (item : EntityType) (text : List ℕ) → text ≡ instance_name instance → is_taken m instance ≡ true → Imports m m (Err (faults.InstanceKind text)) instance field item
-import_taken m instance field item text same taken = record { ok = tt; index = tt; refused = tt; err = refl; cause = (same, taken) }
+import_taken m instance field item text same taken = record { ok = tt; index = tt; refused = tt; room = tt; err = refl; cause = (same, taken) }
 
 abbrev name_of : ImportedInstance → List ℕ → ImportName
 name_of instance field = record { instance = instance_name instance; field = field }
@@ -116,6 +117,7 @@ module _ (instances : List (List ℕ × ImportedInstance)) (items : List Entry) 
     ok = sym (earlier (imported_by instances items) instance field item h.there);
     index = is ∙ h.index ∙ ap (λ (e : EntityType). count_of (kind_of e) (before_first (is_named (instance_name instance) field) (map entry_at items))) (one_item x.entity item alike);
     refused = record { free = free; alike = other_is ∙ ap not alike };
+    room = inl refl;
     err = tt;
     cause = tt;
   }
@@ -125,6 +127,7 @@ module _ (instances : List (List ℕ × ImportedInstance)) (items : List Entry) 
     ok = tt;
     index = tt;
     refused = tt;
+    room = tt;
     err = refl;
     cause = subst (λ f. ImportCause (imported_by instances items) instance field item f) (sym is) (refl, refl, other_is ∙ ap not other);
   }
@@ -165,6 +168,12 @@ pub record NewImport (old new : Imported) (new_counts : ImportCounts) (new_items
   pub imports : Imports old new result instance field item
   pub counted : AreCounted new_counts new_items
 
+own_kind : (item : EntityType) → is_kind (kind_of item) item ≡ true
+own_kind (entities.Function t) = refl
+own_kind (entities.Table t) = refl
+own_kind (entities.Memory t) = refl
+own_kind (entities.Global t) = refl
+
 full_cause : (m : Imported) (instance : ImportedInstance) (field : List ℕ) (item : EntityType) (count : ℕ) (e : ShimFault) → count ≡ count_of (kind_of item) m.entries → IsFull count e → ImportCause m instance field item e
 full_cause m instance field item count faults.Memory same h = tt
 full_cause m instance field item count (faults.TooMany n) same h = (h.0, h.1 ∙ ap (λ k. k + 1) same)
@@ -172,10 +181,18 @@ full_cause m instance field item count (faults.InstanceKind name) same h = absur
 full_cause m instance field item count (faults.ImportType of name) same h = absurd h
 
 module _ (instances new_instances : List (List ℕ × ImportedInstance)) (items new_items : List Entry) (counts new_counts : ImportCounts) (instance : ImportedInstance) (field : List ℕ) (item : EntityType) where
+  -- one more of its kind
+  count_of_new : (index : ℕ) → AreCounted counts items → new_items ≡ items ++ (name_of instance field, record { index = index; entity = item }) ∷ [] → count_of (kind_of item) (map entry_at new_items) ≡ counted counts (kind_of item) + 1
+  count_of_new index before pushed =
+      ap (λ l. count_of (kind_of item) (map entry_at l)) pushed
+      ∙ count_push (kind_of item) items (name_of instance field, record { index = index; entity = item })
+      ∙ ap (λ b. count_of (kind_of item) (map entry_at items) + (if b then 1 else 0)) (own_kind item)
+      ∙ ap (λ n. n + 1) (sym (before.counts_of (kind_of item)))
+
   added : (index : ℕ) → AreCounted counts items → LacksItem items (name_of instance field) → is_taken (imported_by instances items) instance ≡ false → new_instances ≡ with_first bytes_eq instances (instance_name instance) instance →
       new_items ≡ items ++ (name_of instance field, record { index = index; entity = item }) ∷ [] → ((kind : ExportKind) → counted new_counts kind ≡ counted counts kind + (if is_kind kind item then 1 else 0)) →
-      index ≡ counted counts (kind_of item) → NewImport (imported_by instances items) (imported_by new_instances new_items) new_counts new_items (Ok index) instance field item
-  added index before lacks free named pushed more is =
+      index ≡ counted counts (kind_of item) → counted counts (kind_of item) + 1 < 2 ^ 32 → NewImport (imported_by instances items) (imported_by new_instances new_items) new_counts new_items (Ok index) instance field item
+  added index before lacks free named pushed more is room =
       let e : Entry = (name_of instance field, record { index = index; entity = item }) in
       let p : Import → Bool = is_named (instance_name instance) field in
       let counts_to : index ≡ count_of (kind_of item) (map entry_at items) = is ∙ before.counts_of (kind_of item) in
@@ -188,6 +205,7 @@ module _ (instances new_instances : List (List ℕ × ImportedInstance)) (items 
               ∙ sym (grown (imported_by instances items) instance field item lacks.missing);
           index = counts_to ∙ ap (λ l. count_of (kind_of item) l) (sym (all_before p (map entry_at items) lacks.missing));
           refused = record { free = free; alike = ap (λ o. elim o [ None ↦ false | Some j ↦ not (is_item j.entity item) ]) lacks.first };
+          room = inr (subst (λ n. n < 2 ^ 32) (sym (count_of_new index before pushed)) room);
           err = tt;
           cause = tt;
         };
@@ -204,6 +222,7 @@ module _ (instances new_instances : List (List ℕ × ImportedInstance)) (items 
       ok = tt;
       index = tt;
       refused = tt;
+      room = tt;
       err = ap (λ l. imported_by l new_items) same.0 ∙ ap (λ l. imported_by instances l) same.1;
       cause = full_cause (imported_by instances items) instance field item (counted counts (kind_of item)) e (before.counts_of (kind_of item)) full;
     };
@@ -212,19 +231,18 @@ module _ (instances new_instances : List (List ℕ × ImportedInstance)) (items 
 
   new_by : (result : Result ℕ ShimFault) → AreCounted counts items → LacksItem items (name_of instance field) → is_taken (imported_by instances items) instance ≡ false → OnOk result (new_instances ≡ with_first bytes_eq instances (instance_name instance) instance) →
       IfOk result (λ index. new_items ≡ items ++ (name_of instance field, record { index = index; entity = item }) ∷ []) → OnOk result ((kind : ExportKind) → counted new_counts kind ≡ counted counts kind + (if is_kind kind item then 1 else 0)) →
-      IfOk result (λ index. index ≡ counted counts (kind_of item)) → OnErr result ((new_instances ≡ instances) × (new_items ≡ items) × (new_counts ≡ counts)) → IfErr result (IsFull (counted counts (kind_of item))) →
+      IfOk result (λ index. index ≡ counted counts (kind_of item)) → OnOk result (counted counts (kind_of item) + 1 < 2 ^ 32) → OnErr result ((new_instances ≡ instances) × (new_items ≡ items) × (new_counts ≡ counts)) → IfErr result (IsFull (counted counts (kind_of item))) →
       NewImport (imported_by instances items) (imported_by new_instances new_items) new_counts new_items result instance field item
-  new_by (Ok index) before lacks free named pushed more is same full = added index before lacks free named pushed more is
-  new_by (Err e) before lacks free named pushed more is same full = refused e before same full
+  new_by (Ok index) before lacks free named pushed more is room same full = added index before lacks free named pushed more is room
+  new_by (Err e) before lacks free named pushed more is room same full = refused e before same full
 
   pub import_new : (name : ImportName) (result : Result ℕ ShimFault) → AreCounted counts items → name ≡ name_of instance field → lookup (is_same_name name) items ≡ None → is_taken (imported_by instances items) instance ≡ false →
       OnOk result (new_instances ≡ with_first bytes_eq instances name.instance instance) →
       IfOk result (λ index. new_items ≡ items ++ (name, record { index = index; entity = item }) ∷ []) → OnOk result ((kind : ExportKind) → counted new_counts kind ≡ counted counts kind + (if is_kind kind item then 1 else 0)) →
-      IfOk result (λ index. index ≡ counted counts (kind_of item)) → OnErr result ((new_instances ≡ instances) × (new_items ≡ items) × (new_counts ≡ counts)) → IfErr result (IsFull (counted counts (kind_of item))) →
+      IfOk result (λ index. index ≡ counted counts (kind_of item)) → OnOk result (counted counts (kind_of item) + 1 < 2 ^ 32) → OnErr result ((new_instances ≡ instances) × (new_items ≡ items) × (new_counts ≡ counts)) → IfErr result (IsFull (counted counts (kind_of item))) →
       NewImport (imported_by instances items) (imported_by new_instances new_items) new_counts new_items result instance field item
-  import_new name result before named missing free instances_are items_are counts_are index_is same full =
+  import_new name result before named missing free instances_are items_are counts_are index_is room same full =
       new_by result before (lacks_item items (name_of instance field) (subst (λ n. lookup (is_same_name n) items ≡ None) named missing)) free
       (subst (λ (n : ImportName). OnOk result (new_instances ≡ with_first bytes_eq instances n.instance instance)) named instances_are)
       (subst (λ (n : ImportName). IfOk result (λ index. new_items ≡ items ++ (n, record { index = index; entity = item }) ∷ [])) named items_are)
-      counts_are index_is same full
-
+      counts_are index_is room same full

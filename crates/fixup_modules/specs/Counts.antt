@@ -9,7 +9,7 @@ use Rattle.fixup_modules.specs.declared.import_name.ImportName.{ImportName}
 use Rattle.fixup_modules.specs.declared.imports.ImportedItem.{ImportedItem}
 use Rattle.fixup_modules.specs.declared.instances.ImportedInstance.{ImportedInstance}
 use Rattle.fixup_modules.specs.declared.fault.ShimFault.{ShimFault}
-use Rattle.fixup_modules.specs.Imports.{Imported, kind_of, count_of, with_import, import_index, MayImport, ImportCause}
+use Rattle.fixup_modules.specs.Imports.{Imported, kind_of, count_of, with_import, import_index, MayImport, HasRoom, ImportCause}
 
 abbrev pub counted : ImportCounts → ExportKind → ℕ
 counted counts kinds.Func = counts.functions
@@ -40,5 +40,6 @@ pub record Imports (old new : Imported) (result : Result ℕ ShimFault) (instanc
   pub ok : OnOk result (new ≡ with_import old instance field item)
   pub index : IfOk result (λ index. index ≡ import_index old instance field item)
   pub refused : OnOk result (MayImport old instance field item)
+  pub room : OnOk result (HasRoom old new item)
   pub err : OnErr result (new ≡ old)
   pub cause : IfErr result (ImportCause old instance field item)

@@ -1,6 +1,6 @@
 -- What a fixup module imports: each item once, by the instance's name and its own; the index of an import is counted among
 -- those of its kind. Core standard, structure: imports, indices.
-use Rattle.std.specs.Prelude.{ℕ, ◌≡◌, ◌+◌, ◌≤◌, ◌^◌, Bool, true, false, ◌&&◌, not, List, [], ◌∷◌, ◌++◌, length, filter, Some, None, if◌then◌else◌}
+use Rattle.std.specs.Prelude.{ℕ, ◌≡◌, ◌+◌, ◌<◌, ◌≤◌, ◌^◌, ◌⊎◌, Bool, true, false, ◌&&◌, not, List, [], ◌∷◌, ◌++◌, length, filter, Some, None, if◌then◌else◌}
 use Rattle.std.specs.List.{list_any, before_first, find}
 use Rattle.std.specs.Str.{bytes_eq}
 use Rattle.comp_lists.specs.Tables.{with_first}
@@ -90,6 +90,10 @@ has_other_type m instance field item = elim (find (is_named (instance_name insta
 pub record MayImport (m : Imported) (instance : ImportedInstance) (field : List ℕ) (item : EntityType) : Type 0 where
   pub free : is_taken m instance ≡ false
   pub alike : has_other_type m instance field item ≡ false
+
+-- nothing was imported, or there are not too many of the kind
+abbrev pub HasRoom : Imported → Imported → EntityType → Type 0
+HasRoom old new item = (new ≡ old) ⊎ (count_of (kind_of item) new.entries < 2 ^ 32)
 
 -- Why an import is refused.
 abbrev pub ImportCause : Imported → ImportedInstance → List ℕ → EntityType → ShimFault → Type 0

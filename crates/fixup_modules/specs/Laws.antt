@@ -9,9 +9,9 @@ use Rattle.core_bytes.specs.declared.entity.EntityType.{EntityType}
 use Rattle.core_bytes.specs.declared.entity.EntityType.TheVariants as entities
 use Rattle.core_bytes.specs.declared.entry.Import.{Import}
 use Rattle.core_runs.specs.Values.{Value, fit}
-use Rattle.core_runs.specs.Store.{Store, Now}
+use Rattle.core_runs.specs.Store.{Store, Now, Returned}
 use Rattle.core_runs.specs.Execution.{exec}
-use Rattle.core_runs.specs.Instances.{Given, FunctionAt, TableAt, Made, instance_of}
+use Rattle.core_runs.specs.Instances.{Given, FunctionAt, TableAt, Made, instance_of, started}
 use Rattle.core_runs.specs.Sections.{parts_of}
 use Rattle.core_runs.specs.LawsOfInstances.{Slot, Extends, ShimsMade}
 use Rattle.fixup_modules.specs.declared.instances.ImportedInstance.{ImportedInstance}
@@ -72,21 +72,22 @@ abbrev pub AreTargets : Fixup → (Import → Option Given) → List NamedShim �
 AreTargets f supply shims addresses =
     AllZip (λ (s : NamedShim) address. (type_index : ℕ) × (supply (entry_of instances.Actual s.name (entities.Function type_index)) ≡ Some (FunctionAt address))) shims addresses
 
--- Once it is made, before its start function, shim number i acts as the function that is supplied for it; and whatever is
--- instantiated after it. It adds no function, and changes no other table.
-pub record ShimsAreFilled (f : Fixup) (shims : List NamedShim) (slots : List Slot) (store : Store) (made : Made) (later : Store) (supply : Import → Option Given) (fixed : Made) : Type 0 where
+-- Once it is made, shim number i acts as the function that is supplied for it, whatever is instantiated later. It adds no
+-- function, changes no other table, and makes no event: it has no start function.
+pub record ShimsAreFilled (f : Fixup) (shims : List NamedShim) (debug_names : Bool) (slots : List Slot) (store : Store) (made : Made) (later : Store) (moment : Now) (supply : Import → Option Given) (fixed : Made) : Type 0 where
   pub addresses : List ℕ
   pub targets : AreTargets f supply shims addresses
   pub more_tables : List (List (Option ℕ))
   pub later_tables : later.tables ≡ made.store.tables ++ more_tables
   pub tables : fixed.store.tables ≡ store.tables ++ map (λ a. Some a) addresses ∷ more_tables
   pub functions : fixed.store.functions ≡ later.functions
-  pub forward : (final : Store) → Extends fixed.store final → (i : ℕ) (s : Slot) (address : ℕ) → slice_get slots i ≡ Some s → slice_get addresses i ≡ Some address → (n : ℕ) (arguments : List Value) (moment : Now) → fit s.type.params arguments ≡ true → exec (suc n) final (length store.functions + i) arguments moment ≡ exec n final address arguments moment
+  pub quiet : started (parts_of (fixup_sections f debug_names)) fixed ≡ Returned [] moment
+  pub forward : (final : Store) → Extends fixed.store final → (i : ℕ) (s : Slot) (address : ℕ) → slice_get slots i ≡ Some s → slice_get addresses i ≡ Some address → (n : ℕ) (arguments : List Value) (at : Now) → fit s.type.params arguments ≡ true → exec (suc n) final (length store.functions + i) arguments at ≡ exec n final address arguments at
 
 -- Instances of fixups fill the shims.
 abbrev pub FixupsFillShims : Type 0
 FixupsFillShims =
-    (f : Fixup) (shims : List NamedShim) (debug_names : Bool) (types : List FuncType) (slots : List Slot) (store : Store) (now : Now) (made : Made) (later : Store) (moment : Now) (supply : Import → Option Given) (fixed : Made) → FixupMade f shims debug_names types slots store now made later moment supply fixed → ShimsAreFilled f shims slots store made later supply fixed
+    (f : Fixup) (shims : List NamedShim) (debug_names : Bool) (types : List FuncType) (slots : List Slot) (store : Store) (now : Now) (made : Made) (later : Store) (moment : Now) (supply : Import → Option Given) (fixed : Made) → FixupMade f shims debug_names types slots store now made later moment supply fixed → ShimsAreFilled f shims debug_names slots store made later moment supply fixed
 
 -- ---- the arguments of its instance
 

@@ -4,7 +4,7 @@ ghost use Rattle.std.specs.Prelude.{◌≡◌, ◌+◌, ◌<◌, ◌^◌, [], �
 ghost use Rattle.core_bytes.specs.declared.entity.EntityType.TheVariants as entities;
 ghost use Rattle.interned_types.specs.Interning.{type_index, interned};
 ghost use Rattle.fixup_modules.specs.declared.instances.ImportedInstance.TheVariants as instances;
-ghost use Rattle.fixup_modules.specs.Imports.{with_import, import_index, MayImport, ImportCause};
+ghost use Rattle.fixup_modules.specs.Imports.{with_import, import_index, MayImport, HasRoom, ImportCause};
 ghost use Rattle.fixup_modules.specs.Fixups.{Fixup, nothing_fixed, thunk, with_type, with_shim, shim_target, TypeCause, ShimCause};
 
 use crate::fault::ShimFault;
@@ -82,7 +82,7 @@ fn add_fill(
     ensures types { OnOk result (types.new ≡ interned types.old ty) }
     ensures imports { OnOk result (imports.new ≡ with_import imports.old instances.Actual name.now (shim_target types.old ty)) }
     ensures fills { OnOk result (fills.new.items ≡ fills.old.items ++ import_index imports.old instances.Actual name.now (shim_target types.old ty) ∷ []) }
-    ensures room { OnOk result (length fills.old.items + 1 < 2 ^ 32) }
+    ensures room { OnOk result (length fills.new.items < 2 ^ 32) }
     ensures refused { OnOk result (MayImport imports.old instances.Actual name.now (shim_target types.old ty)) }
     ensures err { OnErr result ((types.new ≡ types.old) × (imports.new ≡ imports.old) × (fills.new.items ≡ fills.old.items)) }
     ensures cause { let f : Fixup = record { types = types.old; imported = imports.old; fills = fills.old.items } in IfErr result (ShimCause f name.now ty) }
@@ -116,6 +116,7 @@ impl FixupModule {
         ensures ok { OnOk result (self.new ≡ with_type self.old thunk) }
         ensures index { IfOk result (λ index. index ≡ type_index self.old.types thunk) }
         ensures at { IfOk result (λ index. slice_get self.new.types index ≡ Some thunk) }
+        ensures fits { OnOk result (length self.new.types < 2 ^ 32) }
         ensures err { OnErr result (self.new ≡ self.old) }
         ensures cause { IfErr result (TypeCause self.old.types thunk) }
     {
@@ -134,6 +135,7 @@ impl FixupModule {
         ensures ok { OnOk result (self.new ≡ with_type self.old (record { params = params; results = results })) }
         ensures index { IfOk result (λ index. index ≡ type_index self.old.types (record { params = params; results = results })) }
         ensures at { IfOk result (λ index. slice_get self.new.types index ≡ Some (record { params = params; results = results })) }
+        ensures fits { OnOk result (length self.new.types < 2 ^ 32) }
         ensures err { OnErr result (self.new ≡ self.old) }
         ensures cause { IfErr result (TypeCause self.old.types (record { params = params; results = results })) }
     {
@@ -159,6 +161,7 @@ impl FixupModule {
         ensures ok { OnOk result (self.new ≡ record self.old { imported = with_import self.old.imported instance.now field.now item }) }
         ensures index { IfOk result (λ index. index ≡ import_index self.old.imported instance.now field.now item) }
         ensures refused { OnOk result (MayImport self.old.imported instance.now field.now item) }
+        ensures room { OnOk result (HasRoom self.old.imported self.new.imported item) }
         ensures err { OnErr result (self.new ≡ self.old) }
         ensures cause { IfErr result (ImportCause self.old.imported instance.now field.now item) }
     {
@@ -176,6 +179,7 @@ impl FixupModule {
         ensures ok { OnOk result (self.new ≡ record self.old { imported = with_import self.old.imported instance.now field.now (entities.Global ty) }) }
         ensures index { IfOk result (λ index. index ≡ import_index self.old.imported instance.now field.now (entities.Global ty)) }
         ensures refused { OnOk result (MayImport self.old.imported instance.now field.now (entities.Global ty)) }
+        ensures room { OnOk result (HasRoom self.old.imported self.new.imported (entities.Global ty)) }
         ensures err { OnErr result (self.new ≡ self.old) }
         ensures cause { IfErr result (ImportCause self.old.imported instance.now field.now (entities.Global ty)) }
     {
@@ -192,6 +196,7 @@ impl FixupModule {
         ensures ok { OnOk result (self.new ≡ record self.old { imported = with_import self.old.imported instance.now field.now (entities.Function type_index) }) }
         ensures index { IfOk result (λ index. index ≡ import_index self.old.imported instance.now field.now (entities.Function type_index)) }
         ensures refused { OnOk result (MayImport self.old.imported instance.now field.now (entities.Function type_index)) }
+        ensures room { OnOk result (HasRoom self.old.imported self.new.imported (entities.Function type_index)) }
         ensures err { OnErr result (self.new ≡ self.old) }
         ensures cause { IfErr result (ImportCause self.old.imported instance.now field.now (entities.Function type_index)) }
     {
@@ -208,6 +213,7 @@ impl FixupModule {
     pub fn add_shim(&mut self, name: &str, ty: FuncType) -> Result<(), ShimFault>
         ensures ok { OnOk result (self.new ≡ with_shim self.old name.now ty) }
         ensures refused { OnOk result (MayImport self.old.imported instances.Actual name.now (shim_target self.old.types ty)) }
+        ensures room { OnOk result (length self.new.fills < 2 ^ 32) }
         ensures err { OnErr result (self.new ≡ self.old) }
         ensures cause { IfErr result (ShimCause self.old name.now ty) }
     {

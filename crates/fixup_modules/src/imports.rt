@@ -1,6 +1,6 @@
 //! What is imported.
 
-ghost use Rattle.std.specs.Prelude.{◌≡◌, ◌+◌, [], ◌∷◌, ◌++◌, if◌then◌else◌, true, false, None, List, OnOk, OnErr, IfOk, IfErr};
+ghost use Rattle.std.specs.Prelude.{◌≡◌, ◌+◌, ◌<◌, ◌^◌, [], ◌∷◌, ◌++◌, if◌then◌else◌, true, false, None, List, OnOk, OnErr, IfOk, IfErr};
 ghost use Rattle.std.specs.Map.{lookup};
 ghost use Rattle.std.specs.Str.{bytes_eq};
 ghost use Rattle.comp_lists.specs.Tables.{with_first};
@@ -143,6 +143,7 @@ fn add_import(
     ensures items { IfOk result (λ index. items.new ≡ items.old ++ (name, record { index = index; entity = entity }) ∷ []) }
     ensures counts { OnOk result ((kind : ExportKind) → counted counts.new kind ≡ counted counts.old kind + (if is_kind kind entity then 1 else 0)) }
     ensures index { IfOk result (λ index. index ≡ counted counts.old (kind_of entity)) }
+    ensures room { OnOk result (counted counts.old (kind_of entity) + 1 < 2 ^ 32) }
     ensures err { OnErr result ((instances.new ≡ instances.old) × (items.new ≡ items.old) × (counts.new ≡ counts.old)) }
     ensures cause { IfErr result (IsFull (counted counts.old (kind_of entity))) }
 {

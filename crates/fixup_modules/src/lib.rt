@@ -29,3 +29,6 @@ pub use fixup::FixupModule;
 pub use instances::ImportedInstance;
 pub use laws::{added_shims_are_filled, fixups_fill_shims, imports_are_from_instances};
 pub use tables::InstanceTable;
+
+#[cfg(test)]
+mod tests;

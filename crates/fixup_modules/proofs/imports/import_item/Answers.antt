@@ -18,11 +18,11 @@ returns-in-Some-clause-imports c =
 pub returns-in-None-clause-imports : goal.returns-in-None-clause-imports
 returns-in-None-clause-imports c =
     (import_new c.args.instances.now c.add_import.new.instances c.args.items.now c.add_import.new.items c.args.counts.now c.add_import.new.counts c.args.instance.now c.args.field.now c.args.item c.in_ok-name.name c.add_import.result
-        c.requires c.in_ok-name.ensures (sym c.in-None.ensures) (sym (c.is_taken.ensures (map entry_at c.args.items.now)) ∙ c.if-is_taken.false)
-        c.add_import.ensures.instances c.add_import.ensures.items c.add_import.ensures.counts c.add_import.ensures.index c.add_import.ensures.err c.add_import.ensures.cause).imports
+    c.requires c.in_ok-name.ensures (sym c.in-None.ensures) (sym (c.is_taken.ensures (map entry_at c.args.items.now)) ∙ c.if-is_taken.false)
+    c.add_import.ensures.instances c.add_import.ensures.items c.add_import.ensures.counts c.add_import.ensures.index c.add_import.ensures.room c.add_import.ensures.err c.add_import.ensures.cause).imports
 
 pub returns-in-None-clause-counted : goal.returns-in-None-clause-counted
 returns-in-None-clause-counted c =
     (import_new c.args.instances.now c.add_import.new.instances c.args.items.now c.add_import.new.items c.args.counts.now c.add_import.new.counts c.args.instance.now c.args.field.now c.args.item c.in_ok-name.name c.add_import.result
-        c.requires c.in_ok-name.ensures (sym c.in-None.ensures) (sym (c.is_taken.ensures (map entry_at c.args.items.now)) ∙ c.if-is_taken.false)
-        c.add_import.ensures.instances c.add_import.ensures.items c.add_import.ensures.counts c.add_import.ensures.index c.add_import.ensures.err c.add_import.ensures.cause).counted
+    c.requires c.in_ok-name.ensures (sym c.in-None.ensures) (sym (c.is_taken.ensures (map entry_at c.args.items.now)) ∙ c.if-is_taken.false)
+    c.add_import.ensures.instances c.add_import.ensures.items c.add_import.ensures.counts c.add_import.ensures.index c.add_import.ensures.room c.add_import.ensures.err c.add_import.ensures.cause).counted
