@@ -1,5 +1,5 @@
 -- Each import is from an instance that is known by its name.
-use Rattle.std.proofs.Common.{◌≡◌, ◌∙◌, ℕ, Bool, true, false, List, [], ◌∷◌, ◌++◌, IsSome, is_some, if◌then◌else◌, refl, sym, ap, subst}
+use Rattle.std.proofs.Common.{◌≡◌, ℕ, Bool, true, false, List, [], ◌∷◌, ◌++◌, IsSome, is_some, if◌then◌else◌, refl, sym, subst}
 use Rattle.std.specs.List.{AllByRecursion}
 use Rattle.std.specs.Str.{bytes_eq}
 use Rattle.comp_lists.specs.Found.{found}
@@ -10,7 +10,7 @@ use Rattle.core_bytes.specs.declared.entity.EntityType.{EntityType}
 use Rattle.core_bytes.specs.declared.entry.Import.{Import}
 use Rattle.fixup_modules.specs.declared.instances.ImportedInstance.{ImportedInstance}
 use Rattle.fixup_modules.specs.Instances.{instance_name}
-use Rattle.fixup_modules.specs.Imports.{Imported, nothing_imported, has_import, with_import, entry_of}
+use Rattle.fixup_modules.specs.Imports.{Imported, has_import, with_import, entry_of}
 use Rattle.fixup_modules.specs.Laws.{AreFromInstances, ImportsAreFromInstances}
 use Rattle.fixup_modules.proofs.Named.{earlier, grown}
 

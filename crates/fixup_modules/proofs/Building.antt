@@ -1,18 +1,16 @@
 -- Shims that are added are filled.
-use Rattle.std.proofs.Common.{◌≡◌, ◌∙◌, ℕ, Bool, true, false, List, [], ◌∷◌, ◌++◌, Some, refl, sym, ap, if◌then◌else◌, append_assoc, append-nil}
-use Rattle.std.specs.List.{list_any, slice_get, AllZip}
+use Rattle.std.proofs.Common.{◌≡◌, ◌∙◌, ℕ, Bool, true, false, List, [], ◌∷◌, ◌++◌, Some, sym, ap, if◌then◌else◌, append_assoc, append-nil}
+use Rattle.std.specs.List.{list_any, slice_get}
 use Rattle.comp_lists.proofs.Lists.{slice_get-append, AllZip-weaker, AllZip-end}
 use Rattle.core_types.specs.declared.types.FuncType.{FuncType}
-use Rattle.core_bytes.specs.declared.entity.EntityType.{EntityType}
 use Rattle.core_bytes.specs.declared.entity.EntityType.TheVariants as entities
 use Rattle.core_bytes.specs.declared.entry.Import.{Import}
 use Rattle.interned_types.specs.Interning.{is_type, interned, type_index}
 use Rattle.interned_types.proofs.TypeIndices.{type_at}
-use Rattle.fixup_modules.specs.declared.instances.ImportedInstance.{ImportedInstance}
 use Rattle.fixup_modules.specs.declared.instances.ImportedInstance.TheVariants as instances
-use Rattle.fixup_modules.specs.Imports.{Imported, entry_of, with_import, MayImport}
+use Rattle.fixup_modules.specs.Imports.{entry_of, with_import}
 use Rattle.fixup_modules.specs.Fixups.{Fixup, with_type, with_shim, shim_target}
-use Rattle.fixup_modules.specs.Laws.{NamedShim, IsTarget, FillsShims, AddedShimsAreFilled}
+use Rattle.fixup_modules.specs.Laws.{NamedShim, IsTarget, AddedShimsAreFilled}
 use Rattle.fixup_modules.proofs.Named.{is_there, entries_grow}
 
 -- a type stays at its index

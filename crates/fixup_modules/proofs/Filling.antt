@@ -1,13 +1,11 @@
 -- Instances of fixups fill the shims.
-use Rattle.std.proofs.Common.{◌≡◌, ◌∙◌, ℕ, zero, suc, Bool, true, false, ◌&&◌, List, [], ◌∷◌, ◌++◌, length, map, filter, Option, Some, None, cond, if◌then◌else◌, refl, sym, ap, subst, true≢false, append-nil, append_assoc, rules}
+use Rattle.std.proofs.Common.{◌≡◌, ◌∙◌, ℕ, zero, suc, Bool, true, false, ◌&&◌, List, [], ◌∷◌, ◌++◌, length, map, Option, Some, None, cond, if◌then◌else◌, refl, sym, ap, subst, true≢false, append-nil, append_assoc, rules}
 use Rattle.std.specs.List.{AllZip, slice_get}
 use Rattle.std.specs.Prelude.{pos}
 use Rattle.std.specs.Int.{cast_unsigned, w32}
 use Rattle.std.proofs.lemmas.Option.{same_Some, none-some}
 use Rattle.std.proofs.lemmas.List.{length-map}
-use Rattle.std.proofs.lemmas.List.Elements.{filter-append}
-use Rattle.comp_lists.proofs.Lists.{slice_get-append, AllZip-at, length-AllZip, AllZip-weaker}
-use Rattle.standard_kinds.specs.declared.kinds.ExportKind.{ExportKind}
+use Rattle.comp_lists.proofs.Lists.{slice_get-append, length-AllZip, AllZip-weaker}
 use Rattle.standard_kinds.specs.declared.kinds.ExportKind.TheVariants as kinds
 use Rattle.core_types.specs.declared.types.FuncType.{FuncType}
 use Rattle.core_types.specs.declared.types.ValType.{ValType}
@@ -16,19 +14,18 @@ use Rattle.core_bytes.specs.declared.entity.EntityType.TheVariants as entities
 use Rattle.core_bytes.specs.declared.entry.ElementSegment.{ElementSegment}
 use Rattle.core_bytes.specs.declared.entry.Import.{Import}
 use Rattle.core_bytes.specs.declared.section.Section.TheVariants as sections
-use Rattle.core_runs.specs.Values.{Value, fit, same_reference, same_value_type, same_value_types, same_signature}
+use Rattle.core_runs.specs.Values.{same_value_type, same_value_types, same_signature}
 use Rattle.core_runs.specs.Store.{Frame, Func, signature_of, Store, Now, Returned}
 use Rattle.core_runs.specs.Bodies.{table_fill}
-use Rattle.core_runs.specs.Instances.{Parts, Given, FunctionAt, TableAt, MemoryAt, GlobalAt, Made, bind, cons_if, all_at, there_is, matches, matches_each, functions_given, tables_given, new_frame, slots_after, with_table as table_with, own_functions, own_globals, own_tables, element_done, elements_done, data_done, made_of, instance_of, started}
+use Rattle.core_runs.specs.Instances.{Parts, Given, FunctionAt, TableAt, MemoryAt, GlobalAt, Made, bind, cons_if, all_at, there_is, matches, matches_each, functions_given, tables_given, new_frame, slots_after, with_table as table_with, element_done, elements_done, data_done, made_of, instance_of, started}
 use Rattle.core_runs.specs.Sections.{parts_of, no_parts, with_section}
-use Rattle.core_runs.specs.LawsOfInstances.{Slot, Extends, ShimsMade}
-use Rattle.core_runs.proofs.Makings.{bind_some}
+use Rattle.core_runs.specs.LawsOfInstances.{Slot}
 use Rattle.core_runs.proofs.Instances.{segments_fill, filled_shims_forward}
 use Rattle.fixup_modules.specs.declared.instances.ImportedInstance.TheVariants as instances
 use Rattle.fixup_modules.specs.Imports.{is_kind, of_kind, count_of, entry_of, MayImport}
 use Rattle.fixup_modules.specs.Fixups.{Fixup}
 use Rattle.fixup_modules.specs.Sections.{table_name, shim_table, with_table, table_index, fill_segment, names_of, fixup_sections}
-use Rattle.fixup_modules.specs.Laws.{NamedShim, IsTarget, FillsShims, IsSupplied, FixupMade, AreTargets, ShimsAreFilled, FixupsFillShims}
+use Rattle.fixup_modules.specs.Laws.{NamedShim, IsTarget, IsSupplied, FixupsFillShims}
 use Rattle.fixup_modules.proofs.Named.{both, is_there, entries_grow}
 
 -- ---- types that are the same are one

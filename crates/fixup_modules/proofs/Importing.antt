@@ -1,5 +1,5 @@
 -- The result of an import, by what the table has of its name.
-use Rattle.std.proofs.Common.{inl, inr, ◌≡◌, ◌∙◌, ◌+◌, ◌<◌, ◌^◌, ℕ, zero, suc, Bool, true, false, ◌||◌, ◌&&◌, not, List, [], ◌∷◌, ◌++◌, length, map, take, Option, Some, None, Result, Ok, Err, OnOk, OnErr, IfOk, IfErr, cond, if◌then◌else◌, refl, sym, ap, subst, true≢false, append-nil, append_assoc, length-append, arith}
+use Rattle.std.proofs.Common.{inl, inr, ◌≡◌, ◌∙◌, ◌+◌, ◌<◌, ◌^◌, ℕ, suc, Bool, true, false, ◌||◌, not, List, [], ◌∷◌, ◌++◌, length, map, take, Some, None, Result, Ok, Err, OnOk, OnErr, IfOk, IfErr, cond, if◌then◌else◌, refl, sym, ap, subst, append-nil, append_assoc, length-append, arith}
 use Rattle.std.specs.List.{list_any, position_or_len, before_first, find}
 use Rattle.std.specs.Map.{lookup}
 use Rattle.std.specs.Str.{bytes_eq}
@@ -19,9 +19,8 @@ use Rattle.fixup_modules.specs.declared.instances.ImportedInstance.{ImportedInst
 use Rattle.fixup_modules.specs.ImportNames.{is_same_name}
 use Rattle.fixup_modules.specs.Instances.{instance_name}
 use Rattle.fixup_modules.specs.Faults.{IsFull}
-use Rattle.fixup_modules.specs.Imports.{Imported, is_item, kind_of, is_kind, of_kind, count_of, is_named, entry_of, has_import, with_import, import_index, is_taken, has_other_type, MayImport, ImportCause}
+use Rattle.fixup_modules.specs.Imports.{Imported, is_item, kind_of, is_kind, of_kind, count_of, is_named, is_taken, has_other_type, ImportCause}
 use Rattle.fixup_modules.specs.Counts.{counted, entry_at, AreIndexed, AreCounted, imported_by, Imports}
-use Rattle.fixup_modules.proofs.Listing.{same_kind}
 use Rattle.fixup_modules.proofs.Named.{one_item, all_before, earlier, grown}
 
 abbrev Entry : Type 0

@@ -1,5 +1,5 @@
 -- The names of imports, in a loop over their table.
-use Rattle.std.proofs.Common.{◌≡◌, ◌∙◌, ◌+◌, ℕ, suc, true, false, List, [], ◌∷◌, ◌++◌, length, map, filter, cond, refl, sym, ap, subst, zero-add, rules, append-nil, append_assoc, arith}
+use Rattle.std.proofs.Common.{◌≡◌, ◌∙◌, ◌+◌, ℕ, suc, true, false, List, [], ◌∷◌, ◌++◌, length, map, cond, refl, sym, ap, subst, zero-add, rules, append-nil, append_assoc, arith}
 use Rattle.std.proofs.lemmas.List.{map-append}
 use Rattle.std.proofs.lemmas.List.Elements.{filter-append}
 use Rattle.standard_kinds.specs.declared.kinds.ExportKind.{ExportKind}

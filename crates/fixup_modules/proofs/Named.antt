@@ -1,15 +1,14 @@
 -- Imports by name: which one is found, and what is before it.
-use Rattle.std.proofs.Common.{◌≡◌, ◌∙◌, ◌+◌, ℕ, suc, Bool, true, false, ◌||◌, ◌&&◌, not, List, [], ◌∷◌, ◌++◌, length, take, Some, None, refl, sym, ap, subst, true≢false, cond, if◌then◌else◌, append-nil, arith, rules}
+use Rattle.std.proofs.Common.{◌≡◌, ◌∙◌, ◌+◌, ℕ, suc, Bool, true, false, ◌||◌, ◌&&◌, not, List, [], ◌∷◌, ◌++◌, take, Some, None, refl, sym, ap, true≢false, cond, if◌then◌else◌, append-nil, arith, rules}
 use Rattle.std.specs.List.{list_any, position_or_len, before_first, find}
 use Rattle.std.specs.Str.{bytes_eq}
 use Rattle.std.proofs.lemmas.Slice.Eq.{bytes_eq-Decides}
 use Rattle.comp_lists.specs.Tables.{with_first}
 use Rattle.core_bytes.specs.declared.entity.EntityType.{EntityType}
-use Rattle.core_bytes.specs.declared.entity.EntityType.TheVariants as entities
 use Rattle.core_bytes.specs.declared.entry.Import.{Import}
 use Rattle.fixup_modules.specs.declared.instances.ImportedInstance.{ImportedInstance}
 use Rattle.fixup_modules.specs.Instances.{instance_name}
-use Rattle.fixup_modules.specs.Imports.{Imported, is_item, is_named, entry_of, has_import, with_import, import_index, kind_of, count_of, has_other_type, MayImport}
+use Rattle.fixup_modules.specs.Imports.{Imported, is_item, is_named, entry_of, has_import, with_import, import_index, kind_of, count_of, MayImport}
 
 pub both : (a b : Bool) → (a && b) ≡ true → (a ≡ true) × (b ≡ true)
 both true b e = (refl, e)

@@ -1,5 +1,5 @@
 -- Worked examples: one shim of two parameters; twelve shims; types and imports of a new fixup module.
-use Rattle.std.proofs.Common.{◌≡◌, ℕ, Bool, true, false, List, [], ◌∷◌, ◌++◌, length, drop, take, refl}
+use Rattle.std.proofs.Common.{◌≡◌, ℕ, Bool, true, false, List, [], ◌∷◌, drop, take, refl}
 use Rattle.std.specs.Prelude.{codes, None, zero, suc}
 use Rattle.std.specs.Fmt.{digits, decimal}
 use Rattle.byte_encoding.specs.Encoding.{leb128}

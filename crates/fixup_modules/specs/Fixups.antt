@@ -5,7 +5,6 @@ use Rattle.core_types.specs.declared.types.FuncType.{FuncType}
 use Rattle.core_bytes.specs.declared.entity.EntityType.{EntityType}
 use Rattle.core_bytes.specs.declared.entity.EntityType.TheVariants as entities
 use Rattle.interned_types.specs.Interning.{interned, type_index}
-use Rattle.fixup_modules.specs.declared.instances.ImportedInstance.{ImportedInstance}
 use Rattle.fixup_modules.specs.declared.instances.ImportedInstance.TheVariants as instances
 use Rattle.fixup_modules.specs.declared.fault.ShimFault.{ShimFault}
 use Rattle.fixup_modules.specs.declared.fault.ShimFault.TheVariants as faults

@@ -1,5 +1,5 @@
 -- The index of a type that is interned.
-use Rattle.std.proofs.Common.{◌≡◌, ◌∙◌, ◌+◌, ℕ, suc, Bool, true, false, ◌||◌, not, List, [], ◌∷◌, ◌++◌, length, Some, refl, sym, ap, subst, true≢false, cond, if◌then◌else◌, arith}
+use Rattle.std.proofs.Common.{◌≡◌, ◌∙◌, ◌+◌, ℕ, suc, Bool, true, false, ◌||◌, not, List, [], ◌∷◌, ◌++◌, length, Some, refl, sym, ap, true≢false, cond, if◌then◌else◌, arith}
 use Rattle.std.specs.List.{list_any, position_or_len, slice_get}
 use Rattle.comp_lists.proofs.Lists.{slice_get-end}
 use Rattle.core_types.specs.declared.types.FuncType.{FuncType}

@@ -1,4 +1,4 @@
-use Rattle.std.proofs.Common.{◌≡◌, ◌∙◌, ap, sym, map}
+use Rattle.std.proofs.Common.{◌∙◌, ap, sym, map}
 use Rattle.fixup_modules.specs.declared.import_name.ImportName.{ImportName}
 use Rattle.fixup_modules.specs.Counts.{entry_at, imported_by}
 use Rattle.fixup_modules.proofs.Importing.{import_earlier, import_new, import_taken}

@@ -1,5 +1,4 @@
-use Rattle.std.proofs.Common.{◌≡◌, ◌∙◌, ◌∷◌, ◌++◌, [], List, sym, ap, subst}
-use Rattle.core_bytes.specs.declared.entry.Naming.{Naming}
+use Rattle.std.proofs.Common.{◌∙◌, ◌∷◌, ◌++◌, [], List, sym, ap, subst}
 use Rattle.fixup_modules.specs.declared.import_name.ImportName.{ImportName}
 use Rattle.fixup_modules.specs.declared.imports.ImportedItem.{ImportedItem}
 use Rattle.fixup_modules.proofs.Listing.{NamesSoFar, names_taken, names_passed}
