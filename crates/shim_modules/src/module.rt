@@ -4,11 +4,11 @@ ghost use Rattle.std.specs.Prelude.{false, ◌≡◌, ◌<◌, ◌^◌, ◌++◌
 ghost use Rattle.shim_modules.specs.Shims.{shim_module, shim_sections, names_of};
 
 use crate::sections::{
-    code_section, export_section, function_section, name_section, table_section, type_section,
+    code_section, export_section, function_section, name_section, table_section,
 };
 use crate::shims::ShimFunction;
-use core_bytes::Module;
-use core_types::FuncType;
+use core_bytes::{Module, Section};
+use interned_types::CoreTypes;
 use std::alloc::{AllocError, Global};
 
 /// The module of shims in the table form, or `None` where there are no shims: a function for each shim, exported under the decimal
@@ -18,7 +18,7 @@ use std::alloc::{AllocError, Global};
 /// Core standard, structure: modules.
 pub fn shim_module(
     alloc: Global,
-    types: &[FuncType],
+    types: &CoreTypes,
     shims: &[ShimFunction],
     debug_names: bool,
 ) -> Result<Option<Module>, AllocError>
@@ -36,14 +36,14 @@ pub fn shim_module(
 /// The module without names.
 fn unnamed_module(
     alloc: Global,
-    types: &[FuncType],
+    types: &CoreTypes,
     shims: &[ShimFunction],
 ) -> Result<Module, AllocError>
     requires count { length shims.now < 2 ^ 32 }
     ensures { IfOk result (λ made. made ≡ shim_sections types.now shims.now false) }
 {
     let mut module = Module::new(alloc);
-    module.section(type_section(alloc, types)?)?;
+    module.section(Section::Types(types.section(alloc)?))?;
     module.section(function_section(alloc, shims)?)?;
     module.section(table_section(alloc, shims.len() as u32)?)?;
     module.section(export_section(alloc, shims)?)?;

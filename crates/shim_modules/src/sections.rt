@@ -13,23 +13,10 @@ use crate::shims::ShimFunction;
 use comp_lists::Text;
 use core_bytes::{
     Code, ExportSection, FunctionSection, Module, ModuleNames, NameMap, Section, TableSection,
-    TypeSection,
 };
 use core_runs::{Shim, table_of_shims, table_shim_bodies};
-use core_types::FuncType;
 use standard_kinds::ExportKind;
 use std::alloc::{AllocError, Global};
-
-/// The types of functions.
-pub(crate) fn type_section(alloc: Global, types: &[FuncType]) -> Result<Section, AllocError>
-    ensures { IfOk result (λ made. made ≡ sections.Types types.now) }
-{
-    let mut section = TypeSection::new(alloc);
-    for ty in types {
-        section.function(ty.params.as_slice(), ty.results.as_slice())?;
-    }
-    Ok(Section::Types(section))
-}
 
 /// The shims, by their types.
 pub(crate) fn function_section(alloc: Global, shims: &[ShimFunction]) -> Result<Section, AllocError>

@@ -1,0 +1,94 @@
+-- Worked examples: one shim of two parameters; twelve shims; types and imports of a new fixup module.
+use Rattle.std.proofs.Common.{◌≡◌, ℕ, Bool, true, false, List, [], ◌∷◌, drop, take, refl}
+use Rattle.std.specs.Prelude.{codes, None, zero, suc}
+use Rattle.std.specs.Fmt.{digits, decimal}
+use Rattle.byte_encoding.specs.Encoding.{leb128}
+use Rattle.core_types.specs.declared.types.FuncType.{FuncType}
+use Rattle.core_types.specs.declared.types.ValType.TheVariants.{I32}
+use Rattle.core_bytes.specs.declared.entity.EntityType.TheVariants as entities
+use Rattle.core_bytes.specs.declared.section.Section.TheVariants as sections
+use Rattle.core_bytes.specs.Modules.{encoding_of, section}
+use Rattle.core_bytes.specs.Signed.{signed_within}
+use Rattle.interned_types.specs.Interning.{type_index}
+use Rattle.fixup_modules.specs.declared.instances.ImportedInstance.TheVariants as instances
+use Rattle.fixup_modules.specs.Imports.{with_import, import_index, has_other_type, is_taken, nothing_imported}
+use Rattle.fixup_modules.specs.Fixups.{Fixup, nothing_fixed, thunk, with_type, with_shim}
+use Rattle.fixup_modules.specs.Sections.{fixup_sections, encoded_fixup, fill_segment, table_index}
+
+-- a function of two parameters and no result
+abbrev pair : FuncType
+pair = record { params = I32 ∷ I32 ∷ []; results = [] }
+
+-- ---- one shim
+
+abbrev one_shim : Fixup
+one_shim = with_shim nothing_fixed (codes "0") pair
+
+abbrev bytes_of : Bool → List ℕ
+bytes_of debug_names = (encoding_of (fixup_sections one_shim debug_names)).bytes
+
+-- without names
+unnamed : bytes_of false ≡ 0x00 ∷ 0x61 ∷ 0x73 ∷ 0x6d ∷ 0x01 ∷ 0x00 ∷ 0x00 ∷ 0x00 ∷ 0x01 ∷ 0x06 ∷ 0x01 ∷ 0x60 ∷ 0x02 ∷ 0x7f ∷ 0x7f ∷ 0x00 ∷ 0x02 ∷ 0x1f ∷ 0x02 ∷ 0x06 ∷ 0x61 ∷ 0x63 ∷ 0x74 ∷ 0x75 ∷ 0x61 ∷ 0x6c ∷ 0x01 ∷ 0x30 ∷ 0x00 ∷ 0x00 ∷ 0x04 ∷ 0x73 ∷ 0x68 ∷ 0x69 ∷ 0x6d ∷ 0x08 ∷ 0x24 ∷ 0x69 ∷ 0x6d ∷ 0x70 ∷ 0x6f ∷ 0x72 ∷ 0x74 ∷ 0x73 ∷ 0x01 ∷ 0x70 ∷ 0x01 ∷ 0x01 ∷ 0x01 ∷ 0x09 ∷ 0x07 ∷ 0x01 ∷ 0x00 ∷ 0x41 ∷ 0x00 ∷ 0x0b ∷ 0x01 ∷ 0x00 ∷ []
+unfolding leb128 signed_within digits
+unnamed = refl
+
+-- with names: the section of names follows
+named : drop 58 (bytes_of true) ≡ 0x00 ∷ 0x22 ∷ 0x04 ∷ 0x6e ∷ 0x61 ∷ 0x6d ∷ 0x65 ∷ 0x00 ∷ 0x15 ∷ 0x14 ∷ 0x77 ∷ 0x69 ∷ 0x74 ∷ 0x2d ∷ 0x63 ∷ 0x6f ∷ 0x6d ∷ 0x70 ∷ 0x6f ∷ 0x6e ∷ 0x65 ∷ 0x6e ∷ 0x74 ∷ 0x3a ∷ 0x66 ∷ 0x69 ∷ 0x78 ∷ 0x75 ∷ 0x70 ∷ 0x73 ∷ 0x01 ∷ 0x04 ∷ 0x01 ∷ 0x00 ∷ 0x01 ∷ 0x30 ∷ []
+unfolding leb128 signed_within digits
+named = refl
+
+begins_unnamed : take 58 (bytes_of true) ≡ bytes_of false
+unfolding leb128 signed_within digits
+begins_unnamed = refl
+
+-- ---- twelve shims, which are added in the order of their numbers
+
+abbrev some_shims : ℕ → ℕ → Fixup → Fixup
+some_shims number zero f = f
+some_shims number (suc more) f = some_shims (suc number) more (with_shim f (decimal number) pair)
+
+abbrev twelve : Fixup
+twelve = some_shims 0 12 nothing_fixed
+
+-- their functions are imported in that order, and fill the slots in that order
+twelve_fill : (section (sections.Elements (fill_segment (table_index twelve) twelve.fills ∷ []))).bytes ≡ 0x09 ∷ 0x12 ∷ 0x01 ∷ 0x00 ∷ 0x41 ∷ 0x00 ∷ 0x0b ∷ 0x0c ∷ 0x00 ∷ 0x01 ∷ 0x02 ∷ 0x03 ∷ 0x04 ∷ 0x05 ∷ 0x06 ∷ 0x07 ∷ 0x08 ∷ 0x09 ∷ 0x0a ∷ 0x0b ∷ []
+unfolding leb128 signed_within digits
+twelve_fill = refl
+
+-- ---- types and imports of a new one
+
+abbrev number_to_nothing : FuncType
+number_to_nothing = record { params = I32 ∷ []; results = [] }
+
+-- the thunk twice is one type; another comes after it
+two_types : (with_type (with_type (with_type nothing_fixed thunk) thunk) number_to_nothing).types ≡ thunk ∷ number_to_nothing ∷ []
+two_types = refl
+
+thunk_again : type_index (thunk ∷ []) thunk ≡ 0
+thunk_again = refl
+
+next_type : type_index (thunk ∷ []) number_to_nothing ≡ 1
+next_type = refl
+
+-- an import twice is one
+one_import : with_import (with_import nothing_imported instances.Main (codes "f") (entities.Function 0)) instances.Main (codes "f") (entities.Function 0) ≡ record { instances = (codes "main", instances.Main) ∷ []; entries = record { module_name = codes "main"; field = codes "f"; entity = entities.Function 0 } ∷ [] }
+one_import = refl
+
+import_again : import_index (with_import nothing_imported instances.Main (codes "f") (entities.Function 0)) instances.Main (codes "f") (entities.Function 0) ≡ 0
+import_again = refl
+
+-- with another type it is refused
+other_type : has_other_type (with_import nothing_imported instances.Main (codes "f") (entities.Function 0)) instances.Main (codes "f") (entities.Function 1) ≡ true
+other_type = refl
+
+-- so is an adapter that is named as main is
+same_name : is_taken (with_import nothing_imported instances.Main (codes "f") (entities.Function 0)) (instances.Adapter (codes "main")) ≡ true
+same_name = refl
+
+-- a function has an index among functions, whatever else is imported before it
+second_kind : import_index (with_import (with_import nothing_imported instances.Main (codes "f") (entities.Function 0)) instances.Main (codes "m") (entities.Memory (record { minimum = 1; maximum = None }))) instances.Main (codes "g") (entities.Function 0) ≡ 1
+second_kind = refl
+
+-- nothing to fill: no module
+nothing_to_do : encoded_fixup (with_type nothing_fixed thunk) false ≡ None
+nothing_to_do = refl

@@ -1,0 +1,102 @@
+-- What fixup modules do: laws of how they are built, and of their instances.
+-- This project's own, over the core standard's instantiation.
+use Rattle.std.specs.Prelude.{◌≡◌, ◌+◌, ℕ, suc, true, Bool, List, [], ◌∷◌, ◌++◌, length, map, Option, Some, IsSome, slice_get}
+use Rattle.std.specs.List.{AllZip, AllByRecursion}
+use Rattle.comp_lists.specs.Found.{found}
+use Rattle.standard_kinds.specs.declared.kinds.ExportKind.TheVariants as kinds
+use Rattle.core_types.specs.declared.types.FuncType.{FuncType}
+use Rattle.core_bytes.specs.declared.entity.EntityType.{EntityType}
+use Rattle.core_bytes.specs.declared.entity.EntityType.TheVariants as entities
+use Rattle.core_bytes.specs.declared.entry.Import.{Import}
+use Rattle.core_runs.specs.Values.{Value, fit}
+use Rattle.core_runs.specs.Store.{Store, Now, Returned}
+use Rattle.core_runs.specs.Execution.{exec}
+use Rattle.core_runs.specs.Instances.{Given, FunctionAt, TableAt, Made, instance_of, started}
+use Rattle.core_runs.specs.Sections.{parts_of}
+use Rattle.core_runs.specs.LawsOfInstances.{Slot, Extends, ShimsMade}
+use Rattle.fixup_modules.specs.declared.instances.ImportedInstance.{ImportedInstance}
+use Rattle.fixup_modules.specs.declared.instances.ImportedInstance.TheVariants as instances
+use Rattle.fixup_modules.specs.Instances.{instance_name}
+use Rattle.fixup_modules.specs.Imports.{Imported, nothing_imported, entry_of, count_of, with_import, MayImport}
+use Rattle.fixup_modules.specs.Fixups.{Fixup, nothing_fixed, with_type, with_shim, shim_target}
+use Rattle.fixup_modules.specs.Sections.{table_name, shim_table, with_table, fixup_sections}
+
+-- ---- how a fixup is built
+
+-- a shim that is to be filled, by its name and the type of its function
+pub record NamedShim : Type 0 where
+  pub name : List ℕ
+  pub type : FuncType
+
+-- The function of this index is what is imported from `actual` under the shim's name, with the shim's type.
+pub record IsTarget (f : Fixup) (s : NamedShim) (function : ℕ) : Type 0 where
+  pub type_index : ℕ
+  pub before : List Import
+  pub after : List Import
+  pub typed : slice_get f.types type_index ≡ Some s.type
+  pub imported : f.imported.entries ≡ before ++ entry_of instances.Actual s.name (entities.Function type_index) ∷ after
+  pub index : function ≡ count_of kinds.Func before
+
+-- Slot number i is filled with the function of shim number i, and there is no other slot.
+abbrev pub FillsShims : Fixup → List NamedShim → Type 0
+FillsShims f shims = AllZip (IsTarget f) shims f.fills
+
+-- A new fixup fills no slot; a shim that is added has the next one; and what else is called for leaves the slots.
+pub record AddedShimsAreFilled : Type 0 where
+  pub none : FillsShims nothing_fixed []
+  pub one_more : (f : Fixup) (shims : List NamedShim) (name : List ℕ) (type : FuncType) → FillsShims f shims → MayImport f.imported instances.Actual name (shim_target f.types type) → FillsShims (with_shim f name type) (shims ++ record { name = name; type = type } ∷ [])
+  pub more_types : (f : Fixup) (shims : List NamedShim) (type : FuncType) → FillsShims f shims → FillsShims (with_type f type) shims
+  pub more_imports : (f : Fixup) (shims : List NamedShim) (instance : ImportedInstance) (field : List ℕ) (item : EntityType) → FillsShims f shims → FillsShims (record f { imported = with_import f.imported instance field item }) shims
+
+-- ---- its instance
+
+-- what each import is given, in order
+abbrev pub IsSupplied : (Import → Option Given) → List Import → List Given → Type 0
+IsSupplied supply entries given = AllZip (λ (i : Import) g. supply i ≡ Some g) entries given
+
+-- An instance of the fixup, made after that of the shims: each import is given what is supplied for it, and for the table of
+-- the shims that is theirs. The slots are for these shims, which have the types of those of the module.
+pub record FixupMade (f : Fixup) (shims : List NamedShim) (debug_names : Bool) (types : List FuncType) (slots : List Slot) (store : Store) (now : Now) (made : Made) (later : Store) (moment : Now) (supply : Import → Option Given) (fixed : Made) : Type 0 where
+  pub shims_made : ShimsMade types slots store now made
+  pub extends : Extends made.store later
+  pub same_types : map (λ (s : NamedShim). s.type) shims ≡ map (λ (s : Slot). s.type) slots
+  pub fills : FillsShims f shims
+  pub may_import : MayImport f.imported instances.Shim table_name (shim_table f)
+  pub given : List Given
+  pub supplied : IsSupplied supply (with_table f).entries given
+  pub table : supply (entry_of instances.Shim table_name (shim_table f)) ≡ Some (TableAt (length store.tables))
+  pub is_made : instance_of (parts_of (fixup_sections f debug_names)) given later moment ≡ Some fixed
+
+-- The functions that are supplied as targets, by their addresses.
+abbrev pub AreTargets : Fixup → (Import → Option Given) → List NamedShim → List ℕ → Type 0
+AreTargets f supply shims addresses =
+    AllZip (λ (s : NamedShim) address. (type_index : ℕ) × (supply (entry_of instances.Actual s.name (entities.Function type_index)) ≡ Some (FunctionAt address))) shims addresses
+
+-- Once it is made, shim number i acts as the function that is supplied for it, whatever is instantiated later. It adds no
+-- function, changes no other table, and makes no event: it has no start function.
+pub record ShimsAreFilled (f : Fixup) (shims : List NamedShim) (debug_names : Bool) (slots : List Slot) (store : Store) (made : Made) (later : Store) (moment : Now) (supply : Import → Option Given) (fixed : Made) : Type 0 where
+  pub addresses : List ℕ
+  pub targets : AreTargets f supply shims addresses
+  pub more_tables : List (List (Option ℕ))
+  pub later_tables : later.tables ≡ made.store.tables ++ more_tables
+  pub tables : fixed.store.tables ≡ store.tables ++ map (λ a. Some a) addresses ∷ more_tables
+  pub functions : fixed.store.functions ≡ later.functions
+  pub quiet : started (parts_of (fixup_sections f debug_names)) fixed ≡ Returned [] moment
+  pub forward : (final : Store) → Extends fixed.store final → (i : ℕ) (s : Slot) (address : ℕ) → slice_get slots i ≡ Some s → slice_get addresses i ≡ Some address → (n : ℕ) (arguments : List Value) (at : Now) → fit s.type.params arguments ≡ true → exec (suc n) final (length store.functions + i) arguments at ≡ exec n final address arguments at
+
+-- Instances of fixups fill the shims.
+abbrev pub FixupsFillShims : Type 0
+FixupsFillShims =
+    (f : Fixup) (shims : List NamedShim) (debug_names : Bool) (types : List FuncType) (slots : List Slot) (store : Store) (now : Now) (made : Made) (later : Store) (moment : Now) (supply : Import → Option Given) (fixed : Made) → FixupMade f shims debug_names types slots store now made later moment supply fixed → ShimsAreFilled f shims debug_names slots store made later moment supply fixed
+
+-- ---- the arguments of its instance
+
+-- Each instance has its own name, and each import is from one of them.
+pub record AreFromInstances (m : Imported) : Type 0 where
+  pub named : AllByRecursion (λ (p : List ℕ × ImportedInstance). p.0 ≡ instance_name p.1) m.instances
+  pub from : AllByRecursion (λ (i : Import). IsSome (found i.module_name m.instances)) m.entries
+
+-- So it is however a fixup is built: the instances are all the arguments that its module needs.
+pub record ImportsAreFromInstances : Type 0 where
+  pub none : AreFromInstances nothing_imported
+  pub one_more : (m : Imported) (instance : ImportedInstance) (field : List ℕ) (item : EntityType) → AreFromInstances m → AreFromInstances (with_import m instance field item)

@@ -1,0 +1,229 @@
+//! A fixup module that is built call by call.
+
+ghost use Rattle.std.specs.Prelude.{◌≡◌, ◌+◌, ◌<◌, ◌^◌, [], ◌∷◌, ◌++◌, ◌⊎◌, length, Some, slice_get, OnOk, OnErr, IfOk, IfErr};
+ghost use Rattle.core_bytes.specs.declared.entity.EntityType.TheVariants as entities;
+ghost use Rattle.interned_types.specs.Interning.{type_index, interned};
+ghost use Rattle.fixup_modules.specs.declared.instances.ImportedInstance.TheVariants as instances;
+ghost use Rattle.fixup_modules.specs.Imports.{with_import, import_index, MayImport, HasRoom, ImportCause};
+ghost use Rattle.fixup_modules.specs.Fixups.{Fixup, nothing_fixed, thunk, with_type, with_shim, shim_target, TypeCause, ShimCause};
+
+use crate::fault::ShimFault;
+use crate::imports::ImportTable;
+use crate::instances::ImportedInstance;
+use byte_encoding::next_count;
+use comp_lists::Seq;
+use core_bytes::EntityType;
+use core_types::{FuncType, GlobalType, ValType};
+use interned_types::CoreTypes;
+use std::alloc::Global;
+use std::marker::Model;
+
+/// A fixup module under construction. Contracts see its types, its imports and its fills.
+///
+/// After a refusal it is as it was.
+#[derive(Drop)]
+pub struct FixupModule {
+    pub(crate) alloc: Global,
+    pub(crate) types: CoreTypes,
+    pub(crate) imports: ImportTable,
+    /// The functions for the slots of the table of shims, in their order.
+    pub(crate) fills: Vec<u32>,
+}
+
+impl Model for FixupModule {
+    ghost use Rattle.std.specs.Prelude.{◌<◌, ◌^◌, length};
+    ghost use Rattle.fixup_modules.specs.Fixups.{Fixup};
+
+    ghost Value = { Fixup };
+
+    ghost view = { λ f. record { types = f.types; imported = f.imports; fills = f.fills.items } };
+
+    ghost invariant = { λ f. length f.fills.items < 2 ^ 32 };
+}
+
+/// Imports the function that a shim is to forward to. After a refusal types and imports are as they were.
+fn import_target(
+    types: &mut CoreTypes,
+    imports: &mut ImportTable,
+    name: &str,
+    ty: FuncType,
+) -> Result<u32, ShimFault>
+    ensures types { OnOk result (types.new ≡ interned types.old ty) }
+    ensures imports { OnOk result (imports.new ≡ with_import imports.old instances.Actual name.now (shim_target types.old ty)) }
+    ensures index { IfOk result (λ index. index ≡ import_index imports.old instances.Actual name.now (shim_target types.old ty)) }
+    ensures refused { OnOk result (MayImport imports.old instances.Actual name.now (shim_target types.old ty)) }
+    ensures err { OnErr result ((types.new ≡ types.old) × (imports.new ≡ imports.old)) }
+    ensures cause { IfErr result (λ e. TypeCause types.old ty e ⊎ ImportCause imports.old instances.Actual name.now (shim_target types.old ty) e) }
+{
+    let count = types.len();
+    let type_index = types.intern(ty)?;
+    match imports.import(
+        &ImportedInstance::Actual,
+        name,
+        EntityType::Function(type_index),
+    ) {
+        Ok(index) => Ok(index),
+        Err(fault) => {
+            types.truncate(count);
+            Err(fault)
+        }
+    }
+}
+
+/// Imports the function that a shim is to forward to, and lets it be for the next slot. After a refusal all is as it was.
+fn add_fill(
+    types: &mut CoreTypes,
+    imports: &mut ImportTable,
+    fills: &mut Vec<u32>,
+    name: &str,
+    ty: FuncType,
+) -> Result<(), ShimFault>
+    requires { length fills.old.items < 2 ^ 32 }
+    ensures types { OnOk result (types.new ≡ interned types.old ty) }
+    ensures imports { OnOk result (imports.new ≡ with_import imports.old instances.Actual name.now (shim_target types.old ty)) }
+    ensures fills { OnOk result (fills.new.items ≡ fills.old.items ++ import_index imports.old instances.Actual name.now (shim_target types.old ty) ∷ []) }
+    ensures room { OnOk result (length fills.new.items < 2 ^ 32) }
+    ensures refused { OnOk result (MayImport imports.old instances.Actual name.now (shim_target types.old ty)) }
+    ensures err { OnErr result ((types.new ≡ types.old) × (imports.new ≡ imports.old) × (fills.new.items ≡ fills.old.items)) }
+    ensures cause { let f : Fixup = record { types = types.old; imported = imports.old; fills = fills.old.items } in IfErr result (ShimCause f name.now ty) }
+{
+    next_count(fills.len() as u32)?;
+    fills.reserve(1)?;
+    let function = import_target(types, imports, name, ty)?;
+    match fills.push(function) {
+        Ok(()) => Ok(()),
+        Err(_) => unreachable!(),
+    }
+}
+
+impl FixupModule {
+    /// A module with no types, no imports and no fills. It takes no memory.
+    pub fn new(alloc: Global) -> FixupModule
+        ensures { result ≡ nothing_fixed }
+    {
+        FixupModule {
+            alloc,
+            types: CoreTypes::new(alloc),
+            imports: ImportTable::new(alloc),
+            fills: Vec::new(alloc),
+        }
+    }
+
+    /// The index of the type of functions without parameters and results.
+    ///
+    /// It fails as [`FixupModule::type_intern`] does.
+    pub fn type_thunk(&mut self) -> Result<u32, ShimFault>
+        ensures ok { OnOk result (self.new ≡ with_type self.old thunk) }
+        ensures index { IfOk result (λ index. index ≡ type_index self.old.types thunk) }
+        ensures at { IfOk result (λ index. slice_get self.new.types index ≡ Some thunk) }
+        ensures fits { OnOk result (length self.new.types < 2 ^ 32) }
+        ensures err { OnErr result (self.new ≡ self.old) }
+        ensures cause { IfErr result (TypeCause self.old.types thunk) }
+    {
+        self.type_intern(Seq::new(self.alloc), Seq::new(self.alloc))
+    }
+
+    /// The index of the type of functions with these parameters and results. A type that wasn't there is appended.
+    ///
+    /// It fails with [`ShimFault::TooMany`] exactly where there would be more than 2^32 - 1 types, and with
+    /// [`ShimFault::Memory`] when out of memory.
+    pub fn type_intern(
+        &mut self,
+        params: Seq<ValType>,
+        results: Seq<ValType>,
+    ) -> Result<u32, ShimFault>
+        ensures ok { OnOk result (self.new ≡ with_type self.old (record { params = params; results = results })) }
+        ensures index { IfOk result (λ index. index ≡ type_index self.old.types (record { params = params; results = results })) }
+        ensures at { IfOk result (λ index. slice_get self.new.types index ≡ Some (record { params = params; results = results })) }
+        ensures fits { OnOk result (length self.new.types < 2 ^ 32) }
+        ensures err { OnErr result (self.new ≡ self.old) }
+        ensures cause { IfErr result (TypeCause self.old.types (record { params = params; results = results })) }
+    {
+        let index = self.types.intern(FuncType { params, results })?;
+        Ok(index)
+    }
+
+    /// Imports an item of an instance, and returns its index among the imports of its kind. The second import of an item is none:
+    /// it returns the index of the first.
+    ///
+    /// A function names its type by an index that [`FixupModule::type_intern`] returned. It fails with
+    /// [`ShimFault::InstanceKind`] where the name of the instance is already that of another one, with
+    /// [`ShimFault::ImportType`] where the item is imported with another type, with [`ShimFault::TooMany`] where
+    /// there would be more than 2^32 - 1 imports of the kind, and with [`ShimFault::Memory`] when out of memory.
+    ///
+    /// Core standard, structure: imports.
+    pub fn import(
+        &mut self,
+        instance: &ImportedInstance,
+        field: &str,
+        item: EntityType,
+    ) -> Result<u32, ShimFault>
+        ensures ok { OnOk result (self.new ≡ record self.old { imported = with_import self.old.imported instance.now field.now item }) }
+        ensures index { IfOk result (λ index. index ≡ import_index self.old.imported instance.now field.now item) }
+        ensures refused { OnOk result (MayImport self.old.imported instance.now field.now item) }
+        ensures room { OnOk result (HasRoom self.old.imported self.new.imported item) }
+        ensures err { OnErr result (self.new ≡ self.old) }
+        ensures cause { IfErr result (ImportCause self.old.imported instance.now field.now item) }
+    {
+        let index = self.imports.import(instance, field, item)?;
+        Ok(index)
+    }
+
+    /// Imports a global: [`FixupModule::import`] of one.
+    pub fn import_global(
+        &mut self,
+        instance: &ImportedInstance,
+        field: &str,
+        ty: GlobalType,
+    ) -> Result<u32, ShimFault>
+        ensures ok { OnOk result (self.new ≡ record self.old { imported = with_import self.old.imported instance.now field.now (entities.Global ty) }) }
+        ensures index { IfOk result (λ index. index ≡ import_index self.old.imported instance.now field.now (entities.Global ty)) }
+        ensures refused { OnOk result (MayImport self.old.imported instance.now field.now (entities.Global ty)) }
+        ensures room { OnOk result (HasRoom self.old.imported self.new.imported (entities.Global ty)) }
+        ensures err { OnErr result (self.new ≡ self.old) }
+        ensures cause { IfErr result (ImportCause self.old.imported instance.now field.now (entities.Global ty)) }
+    {
+        self.import(instance, field, EntityType::Global(ty))
+    }
+
+    /// Imports a function, by the index of its type: [`FixupModule::import`] of one.
+    pub fn import_func(
+        &mut self,
+        instance: &ImportedInstance,
+        field: &str,
+        type_index: u32,
+    ) -> Result<u32, ShimFault>
+        ensures ok { OnOk result (self.new ≡ record self.old { imported = with_import self.old.imported instance.now field.now (entities.Function type_index) }) }
+        ensures index { IfOk result (λ index. index ≡ import_index self.old.imported instance.now field.now (entities.Function type_index)) }
+        ensures refused { OnOk result (MayImport self.old.imported instance.now field.now (entities.Function type_index)) }
+        ensures room { OnOk result (HasRoom self.old.imported self.new.imported (entities.Function type_index)) }
+        ensures err { OnErr result (self.new ≡ self.old) }
+        ensures cause { IfErr result (ImportCause self.old.imported instance.now field.now (entities.Function type_index)) }
+    {
+        self.import(instance, field, EntityType::Function(type_index))
+    }
+
+    /// Lets the next slot of the table of shims be filled for a shim with this name and type: the function of this name is imported
+    /// from [`ImportedInstance::Actual`]. So the shims are added in the order of their numbers.
+    ///
+    /// It fails as [`FixupModule::type_intern`] and [`FixupModule::import`] do, and with [`ShimFault::TooMany`] where there
+    /// would be more than 2^32 - 1 slots.
+    ///
+    /// Core standard, structure: element segments.
+    pub fn add_shim(&mut self, name: &str, ty: FuncType) -> Result<(), ShimFault>
+        ensures ok { OnOk result (self.new ≡ with_shim self.old name.now ty) }
+        ensures refused { OnOk result (MayImport self.old.imported instances.Actual name.now (shim_target self.old.types ty)) }
+        ensures room { OnOk result (length self.new.fills < 2 ^ 32) }
+        ensures err { OnErr result (self.new ≡ self.old) }
+        ensures cause { IfErr result (ShimCause self.old name.now ty) }
+    {
+        add_fill(
+            &mut self.types,
+            &mut self.imports,
+            &mut self.fills,
+            name,
+            ty,
+        )?;
+        Ok(())
+    }
+}

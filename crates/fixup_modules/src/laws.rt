@@ -1,0 +1,18 @@
+//! What fixup modules do.
+
+ghost use Rattle.fixup_modules.specs.Laws.{AddedShimsAreFilled, ImportsAreFromInstances, FixupsFillShims};
+
+/// Each shim that was added has a slot, which is filled with what is imported for it.
+pub fn added_shims_are_filled()
+    ensures { AddedShimsAreFilled }
+{}
+
+/// Each import is from an instance that is an argument under its own name.
+pub fn imports_are_from_instances()
+    ensures { ImportsAreFromInstances }
+{}
+
+/// Where an instance of a fixup module is made, each shim forwards to the function that is supplied for it.
+pub fn fixups_fill_shims()
+    ensures { FixupsFillShims }
+{}

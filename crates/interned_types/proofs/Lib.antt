@@ -1,0 +1,2 @@
+pub mod EqualTypes
+pub mod TypeIndices

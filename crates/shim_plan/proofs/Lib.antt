@@ -1,0 +1,4 @@
+pub mod EqualKinds
+pub mod Appending
+pub mod Entries
+pub mod Worked

@@ -1,0 +1,6 @@
+pub mod Kinds
+pub mod Needed
+pub mod Encodings
+pub mod Plans
+pub mod Tables
+pub mod Laws

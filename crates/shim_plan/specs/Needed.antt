@@ -1,0 +1,172 @@
+-- The shims that a module of a world needs, in order: one for each import that is called through a table, followed by one for
+-- the realloc of that call; and one for each destructor that the module exports (Canonical ABI: `canon lower`, `realloc`;
+-- component model, explainer: the destructor of a resource type). Adapters, streams and futures, asynchronous functions and
+-- error contexts have no rows here.
+use Rattle.std.specs.Prelude.{ℕ, Bool, true, false, ◌&&◌, List, [], ◌∷◌, ◌++◌, Option, Some, None, option_map, unwrap_or, is_some, if◌then◌else◌, codes}
+use Rattle.std.specs.List.{flat_map}
+use Rattle.std.specs.Map.{lookup}
+use Rattle.std.specs.Option.{option_and_then}
+use Rattle.comp_lists.specs.Found.{found}
+use Rattle.standard_kinds.specs.declared.kinds.StringEncoding.{StringEncoding}
+use Rattle.wit_data.specs.declared.ids.TypeId.{TypeId}
+use Rattle.wit_data.specs.declared.signatures.WasmSignature.{WasmSignature}
+use Rattle.wit_data.specs.declared.signatures.WasmType.TheVariants.{I32}
+use Rattle.comp_roles.specs.CoreImports.{CoreImport}
+use Rattle.comp_roles.specs.Functions.{of_function}
+use Rattle.comp_roles.specs.Lookups.{first_export, is_task_hook}
+use Rattle.comp_roles.specs.Reallocs.{realloc_for, is_import_realloc}
+use Rattle.comp_roles.specs.declared.exports.Export.{Export}
+use Rattle.comp_roles.specs.declared.exports.Export.TheVariants as exports
+use Rattle.comp_roles.specs.declared.imports.Import.{Import}
+use Rattle.comp_roles.specs.declared.imports.Import.TheVariants as imports
+use Rattle.comp_roles.specs.declared.libraries.MainOrAdapter.{MainOrAdapter}
+use Rattle.comp_roles.specs.declared.libraries.MainOrAdapter.TheVariants as users
+use Rattle.comp_options.specs.Options.{needs}
+use Rattle.comp_options.specs.declared.required.RequiredOptions.{RequiredOptions}
+use Rattle.comp_worlds.specs.Imported.{is_same_import_key}
+use Rattle.comp_worlds.specs.Lookups.{resolved_realloc}
+use Rattle.comp_worlds.specs.Lowerings.{is_same_lowering}
+use Rattle.comp_worlds.specs.Uses.{imports_of}
+use Rattle.comp_worlds.specs.WorldContents.{name_at}
+use Rattle.comp_worlds.specs.declared.lowerings.ImportedInterface.{ImportedInterface}
+use Rattle.comp_worlds.specs.declared.lowerings.Lowering.{Lowering}
+use Rattle.comp_worlds.specs.declared.lowerings.Lowering.TheVariants as lowerings
+use Rattle.comp_worlds.specs.declared.world.ComponentWorld.{ComponentWorld}
+use Rattle.comp_worlds.specs.declared.world.ValidatedModule.{ValidatedModule}
+use Rattle.comp_worlds.specs.declared.world.WorldAdapter.{WorldAdapter}
+use Rattle.shim_plan.specs.declared.calls.FunctionCall.{FunctionCall}
+use Rattle.shim_plan.specs.declared.kinds.ShimKind.TheVariants as kinds
+use Rattle.shim_plan.specs.declared.needs.NeededShim.{NeededShim}
+use Rattle.shim_plan.specs.declared.reallocs.ReallocSite.{ReallocSite}
+use Rattle.shim_plan.specs.declared.reallocs.ReallocSite.TheVariants as sites
+
+-- ---- modules
+
+-- main has no name, an adapter has one
+abbrev pub name_of_module : MainOrAdapter → Option (List ℕ)
+name_of_module users.Main = None
+name_of_module (users.Adapter name) = Some name
+
+abbrev pub module_of_name : Option (List ℕ) → MainOrAdapter
+module_of_name None = users.Main
+module_of_name (Some name) = users.Adapter name
+
+-- a module in debug names
+abbrev pub module_text : MainOrAdapter → List ℕ
+module_text users.Main = codes "main"
+module_text (users.Adapter name) = name
+
+-- what validation found of a module of the world
+abbrev pub found_module : ComponentWorld → MainOrAdapter → Option ValidatedModule
+found_module w users.Main = Some w.main
+found_module w (users.Adapter name) = option_map (λ (a : WorldAdapter). a.info) (found name w.adapters)
+
+-- ---- reallocs
+
+-- an option of a function that is made after its module is instantiated is the realloc itself, except that task hooks are
+-- called round it where main has one
+abbrev pub realloc_needs_shim : ComponentWorld → ReallocSite → Bool
+realloc_needs_shim w sites.BeforeInstantiation = true
+realloc_needs_shim w sites.AfterInstantiation = is_some (first_export is_task_hook w.main.exports.exports)
+
+abbrev pub no_options : RequiredOptions
+no_options = record { 0 = 0 }
+
+-- the core signature of a realloc: the old place and size, the alignment and the new size, and the new place
+abbrev pub realloc_sig : WasmSignature
+realloc_sig = record { params = I32 ∷ I32 ∷ I32 ∷ I32 ∷ []; results = I32 ∷ []; indirect_params = false; retptr = false }
+
+abbrev pub realloc_shim : Option (List ℕ) × List ℕ → NeededShim
+realloc_shim (owner, export) = record {
+  options = no_options;
+  debug_name = codes "realloc-" ++ module_text (module_of_name owner) ++ codes "-" ++ export;
+  kind = kinds.Realloc (module_of_name owner) export;
+  sig = realloc_sig;
+}
+
+abbrev pub realloc_shims : Option (Option (List ℕ) × List ℕ) → List NeededShim
+realloc_shims None = []
+realloc_shims (Some r) = realloc_shim r ∷ []
+
+-- the realloc of the calls of a module's imports: its own, or for a library main's
+abbrev pub import_realloc : ComponentWorld → MainOrAdapter → ValidatedModule → Option (Option (List ℕ) × List ℕ)
+import_realloc w which m = resolved_realloc w (name_of_module which) (realloc_for is_import_realloc m.exports.exports)
+
+-- where the options of a call have a realloc, and it needs a shim there
+abbrev pub realloc_needs : ComponentWorld → MainOrAdapter → ValidatedModule → ReallocSite → RequiredOptions → List NeededShim
+realloc_needs w which m site options = if needs options.0 2 && realloc_needs_shim w site then realloc_shims (import_realloc w which m) else []
+
+-- ---- imports
+
+-- the function that the role of an import calls: the key of its interface, or none at the root, the key of the world's import that has it, and its
+-- name there with the form of the call
+abbrev pub call_of : Import → Option FunctionCall
+call_of (imports.WorldFunc key name abi) = Some (record { interface = None; key = key; function = record { name = name; abi = abi } })
+call_of (imports.InterfaceFunc key id name abi) = Some (record { interface = Some key; key = key; function = record { name = name; abi = abi } })
+call_of role = None
+
+-- how it is lowered
+abbrev pub lowering_of_call : ComponentWorld → FunctionCall → Option Lowering
+lowering_of_call w call = option_and_then (λ (i : ImportedInterface). lookup (is_same_lowering call.function) i.lowerings) (lookup (is_same_import_key call.interface) w.import_map)
+
+-- its string encoding
+abbrev pub encoding_of_call : ValidatedModule → FunctionCall → Option StringEncoding
+encoding_of_call m call = of_function call.key call.function.name m.metadata.import_encodings
+
+abbrev pub indirect_shim : MainOrAdapter → CoreImport → FunctionCall → WasmSignature → RequiredOptions → StringEncoding → NeededShim
+indirect_shim which i call sig options encoding = record {
+  options = options;
+  debug_name = codes "indirect-" ++ i.module_name ++ codes "-" ++ i.field;
+  kind = kinds.IndirectLowering call.interface call.function which encoding;
+  sig = sig;
+}
+
+-- a lowering through a table and the realloc of the call, where there is an encoding
+abbrev pub indirect_needs : ComponentWorld → MainOrAdapter → ValidatedModule → CoreImport → FunctionCall → WasmSignature → RequiredOptions → Option StringEncoding → List NeededShim
+indirect_needs w which m i call sig options None = []
+indirect_needs w which m i call sig options (Some encoding) = indirect_shim which i call sig options encoding ∷ realloc_needs w which m sites.AfterInstantiation options
+
+-- a direct lowering exists before the module is instantiated: it needs the shim of its realloc alone
+abbrev pub lowering_needs : ComponentWorld → MainOrAdapter → ValidatedModule → CoreImport → FunctionCall → Option Lowering → List NeededShim
+lowering_needs w which m i call (Some (lowerings.Direct options)) = realloc_needs w which m sites.BeforeInstantiation options
+lowering_needs w which m i call (Some (lowerings.Indirect sig options)) = indirect_needs w which m i call sig options (encoding_of_call m call)
+lowering_needs w which m i call lowering = []
+
+abbrev pub call_needs : ComponentWorld → MainOrAdapter → ValidatedModule → CoreImport → Option FunctionCall → List NeededShim
+call_needs w which m i None = []
+call_needs w which m i (Some call) = lowering_needs w which m i call (lowering_of_call w call)
+
+abbrev pub import_needs : ComponentWorld → MainOrAdapter → ValidatedModule → CoreImport → List NeededShim
+import_needs w which m i = call_needs w which m i (call_of i.role)
+
+-- ---- destructors
+
+-- the core signature of a destructor: the resource's representation
+abbrev pub dtor_sig : WasmSignature
+dtor_sig = record { params = I32 ∷ []; results = []; indirect_params = false; retptr = false }
+
+-- the name of a type, where it has one
+abbrev pub type_text : ComponentWorld → TypeId → List ℕ
+type_text w id = unwrap_or (name_at w.resolve.types id.index) []
+
+abbrev pub dtor_shim : ComponentWorld → MainOrAdapter → List ℕ → TypeId → NeededShim
+dtor_shim w which export id = record {
+  options = no_options;
+  debug_name = codes "dtor-" ++ type_text w id;
+  kind = kinds.ResourceDtor which export;
+  sig = dtor_sig;
+}
+
+abbrev pub export_needs : ComponentWorld → MainOrAdapter → List ℕ × Export → List NeededShim
+export_needs w which (name, exports.ResourceDtor id) = dtor_shim w which name id ∷ []
+export_needs w which entry = []
+
+-- ---- the whole
+
+abbrev pub needs_of : ComponentWorld → MainOrAdapter → Option ValidatedModule → List NeededShim
+needs_of w which None = []
+needs_of w which (Some m) = flat_map (import_needs w which m) (imports_of m) ++ flat_map (export_needs w which) m.exports.exports
+
+-- what a module of the world needs; there is nothing that an unknown one needs
+abbrev pub needed : ComponentWorld → MainOrAdapter → List NeededShim
+needed w which = needs_of w which (found_module w which)
