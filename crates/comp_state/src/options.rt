@@ -174,8 +174,7 @@ impl MainExports<'_> {
     {
         let world = root.world;
         let encoding = lift_encoding(root.items.allocator(), world, key)?;
-        let needed =
-            RequiredOptions::for_export(&world.resolve, function, AbiVariant::GuestExport);
+        let needed = RequiredOptions::for_export(&world.resolve, function, AbiVariant::GuestExport);
         let memory = memory_of_main(root, self.instance)?;
         let name = realloc_name(world, key, function, needed);
         let realloc = function_of_main(root, self.instance, name)?;

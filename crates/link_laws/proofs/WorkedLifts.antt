@@ -281,4 +281,3 @@ list_links = links own_names world (lifting right_options) is_world keeps_the_ru
 
 pub list_is_linked : IsLinked own_names world no_modules (machine_of (outcome world no_modules (lifting right_options) made))
 list_is_linked = list_links.linked made (machine_of (outcome world no_modules (lifting right_options) made)) refl
-
