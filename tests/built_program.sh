@@ -71,9 +71,22 @@ expect 'a flag that is not there' 2 "$usage" new kept.wasm main.wasm --ref
 expect 'another command' 2 "$usage" old kept.wasm main.wasm
 expect 'a flag twice' 2 "$usage" new kept.wasm main.wasm --validate --validate
 expect 'a flag of another command' 2 "$usage" defs main.wasm --validate
-expect 'all flags' 0 '' new flags_made.wasm main.wasm --validate --canonical --no-merge
+expect 'all flags' 0 '' new flags_made.wasm main.wasm --validate --no-names --canonical --no-merge
 holds 'change nothing without interfaces' flags_made.wasm "$top/examples/component.wasm"
-expect 'one of three flags twice' 2 "$usage" new kept.wasm main.wasm --no-merge --canonical --no-merge
+expect 'one of three flags twice' 2 "$usage" new kept.wasm main.wasm --no-names --canonical --no-names
+
+# A module that imports `f` of `a:b/i`, which takes a string: it is lowered behind a shim, and two modules are generated.
+shims=$top/crates/reader_mutations/data/shims.wasm
+{
+    tail -c +42 "$shims" | head -c 46
+    printf '\000\243\002\016component-type{"version":1,"interfaces":[{"id":"a:b/i","types":[],"functions":['
+    printf '{"name":"f","params":[["s","string"]]}]}],"imports":[{"interface":0}],"core-imports":['
+    printf '{"module":"a:b/i","field":"f","role":["interface-func",0,"f","sync"]}],"core-exports":['
+    printf '{"field":"memory","role":["memory"]}]}'
+} >shims_main.wasm
+expect 'generated modules without names' 0 '' new unnamed.wasm shims_main.wasm --no-names
+holds 'are in their component' unnamed.wasm "$shims"
+expect 'generated modules with names' 0 '' new named.wasm shims_main.wasm
 
 LC_ALL=C sed -e 's/"name":"f"/"name":"1f"/; s/"world-func","f"/"world-func","1f"/' \
     -e 's/\xf1\x01\x0ecomponent-type/\xf3\x01\x0ecomponent-type/' main.wasm >digit.wasm
@@ -114,7 +127,9 @@ core-instance 3 = exports "0"=func 1
 core-instance 4 = instantiate 2 "actual"=3 "shim"=0
 custom "component-name" 189 bytes
 LINES
-prints 'a component with shims is printed' 0 shim_lines '' defs "$top/crates/reader_mutations/data/shims.wasm"
+prints 'a component with shims is printed' 0 shim_lines '' defs "$shims"
+sed -e 's/^core-module 1 = 60/core-module 1 = 109/; s/^core-module 2 = 58/core-module 2 = 94/' shim_lines >named_lines
+prints 'names are in the modules that are generated' 0 named_lines '' defs named.wasm
 prints 'a front that is a component' 0 front_lines '' defs front.wasm
 : >none
 head -c 100 "$top/examples/component.wasm" >cut_component.wasm
@@ -132,6 +147,7 @@ cat >help <<'HELP'
 usage: component_new new OUT MAIN [options] | defs FILE
   --canonical     new: have the canonical part of versions in names, and the rest as suffixes
   --no-merge      new: don't merge imports of compatible versions
+  --no-names      new: don't name the functions of the core modules that are generated
   --validate      new: check the names of the component's imports and exports
   -h, --help      print this text
   --version       print the version of the program, and the kit that it is proved with

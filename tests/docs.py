@@ -15,8 +15,8 @@ import sys
 TOP = os.path.dirname(os.path.dirname(os.path.realpath(__file__)))
 LINKING = f"{TOP}/docs/LINKING.md"
 THEOREM = "comp_encoder/specs/Component"
-REFUSALS = {"comp_encoder/specs/Refusals", "comp_encoder/specs/Outputs", "comp_encoder/specs/CanonicalNames", "comp_state/specs/Causes"}
-MOST_LINES = 2750
+REFUSALS = {"comp_encoder/specs/Refusals", "comp_encoder/specs/Outputs", "comp_encoder/specs/CanonicalNames", "core_options/specs/Causes"}
+MOST_LINES = 2800
 USE = re.compile(r"^use Rattle\.(\w+)\.specs\.([\w.]+?)(?:\.\{| as|$)", re.M)
 ROW = re.compile(r"^(\| .* \| )(`.*`)( \| )(\d+)( \|)$", re.M)
 TOTAL = re.compile(r"(lines of definitions, )([\d,]+)( in all)")

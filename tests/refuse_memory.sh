@@ -83,7 +83,7 @@ refuse_each 'error: E1 Memory' new "$made" "$main"
 refuse_each 'error: E1 Memory' new "$made" "$main" --validate
 # A module with all roles of core imports and exports, whose world isn't encoded yet.
 sed -n '1s/.* <- //p' "$top/crates/record_cases/data/roles.txt" | xxd -r -p >"$folder/roles.wasm"
-ends='error: E3 Lower: P8 LeftOut what="interface"'
+ends='error: E3 Lower: P8 LeftOut what="async"'
 refuse_each 'error: E1 Memory' new "$made" "$folder/roles.wasm"
 ends=
 # (`E1` where the program's own words could not be read: which were they?)

@@ -9,7 +9,9 @@ abbrev pub has : List (List ℕ) → List ℕ → Bool
 has words flag = list_any (λ word. bytes_eq word flag) words
 
 abbrev pub is_flag : List ℕ → Bool
-is_flag word = bytes_eq word (codes "--canonical") || (bytes_eq word (codes "--no-merge") || bytes_eq word (codes "--validate"))
+is_flag word =
+    bytes_eq word (codes "--canonical")
+    || (bytes_eq word (codes "--no-merge") || (bytes_eq word (codes "--no-names") || bytes_eq word (codes "--validate")))
 
 -- whether no word is there twice
 abbrev pub are_apart : List (List ℕ) → Bool
@@ -20,4 +22,10 @@ are_apart (word ∷ words) = not (has words word) && are_apart words
 abbrev pub flags_of : List (List ℕ) → Option Flags
 flags_of words =
     if list_all is_flag words && are_apart words
-    then Some (record { canonical = has words (codes "--canonical"); no_merge = has words (codes "--no-merge"); validate = has words (codes "--validate") }) else None
+    then Some (record {
+      canonical = has words (codes "--canonical");
+      no_merge = has words (codes "--no-merge");
+      no_names = has words (codes "--no-names");
+      validate = has words (codes "--validate");
+    })
+    else None

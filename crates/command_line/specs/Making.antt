@@ -3,7 +3,7 @@
 use Rattle.std.specs.Prelude.{◌≡◌, ℕ, not, List, [], ◌∷◌, ⊤, ◌⊎◌, Result, Ok, Err}
 use Rattle.comp_worlds.specs.declared.lower.Lower as lower
 use Rattle.comp_encoder.specs.Encoder.{Encoder}
-use Rattle.comp_encoder.specs.Calls.{fresh, validating, merging_versions, emitting_canonical_names, after_module}
+use Rattle.comp_encoder.specs.Calls.{fresh, validating, naming_generated, merging_versions, emitting_canonical_names, after_module}
 use Rattle.comp_encoder.specs.Refusals.{ModuleCause, IsModuleRefusal, NoEncodeCause, IsEncodeRefusal}
 use Rattle.comp_encoder.specs.Component.{IsEncoding}
 use Rattle.comp_encoder.specs.declared.fault.EncodeFault.{EncodeFault}
@@ -18,7 +18,9 @@ use Rattle.command_line.specs.declared.fault.RunFault.TheVariants as faults
 module _ {L B F : Type 0} (l : lower.Ghosts L B F) where
   -- an encoder with the options that the flags ask for, and that was given nothing
   abbrev pub begun : L → Flags → Encoder L B
-  begun layer flags = emitting_canonical_names l (merging_versions l (validating l (fresh l layer) flags.validate) (not flags.no_merge)) flags.canonical
+  begun layer flags =
+      emitting_canonical_names l
+      (merging_versions l (naming_generated l (validating l (fresh l layer) flags.validate) (not flags.no_names)) (not flags.no_merge)) flags.canonical
 
   -- such an encoder that was given this module, and nothing else
   abbrev pub given : L → Flags → List ℕ → Encoder L B

@@ -11,6 +11,8 @@ pub(crate) struct Flags {
     pub(crate) canonical: bool,
     /// Imports of compatible versions are not merged.
     pub(crate) no_merge: bool,
+    /// The functions of the core modules that are generated have no names.
+    pub(crate) no_names: bool,
     /// The component is checked.
     pub(crate) validate: bool,
 }
@@ -30,7 +32,7 @@ fn has(words: &[String], flag: &str) -> bool
 fn is_flag(word: &str) -> bool
     ensures { result ≡ is_flag word.now }
 {
-    word == "--canonical" || word == "--no-merge" || word == "--validate"
+    word == "--canonical" || word == "--no-merge" || word == "--no-names" || word == "--validate"
 }
 
 fn are_flags(words: &[String]) -> bool
@@ -67,6 +69,7 @@ impl Flags {
         Some(Flags {
             canonical: has(words, "--canonical"),
             no_merge: has(words, "--no-merge"),
+            no_names: has(words, "--no-names"),
             validate: has(words, "--validate"),
         })
     }

@@ -27,6 +27,7 @@ fn component_of<L: Lower + Drop>(
 {
     let mut encoder = ComponentEncoder::new(alloc, lower);
     encoder.validate(flags.validate);
+    encoder.debug_names(!flags.no_names);
     encoder.merge_imports_based_on_semver(!flags.no_merge);
     encoder.emit_canonical_names(flags.canonical);
     encoder.add_module(bytes)?;

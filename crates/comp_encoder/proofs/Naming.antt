@@ -1,8 +1,8 @@
 -- The names in a component that was built for a world: those of its imports and exports are the stated ones, those of its
 -- types of instances are as the world says, and all other names are distinct in their lists.
 use Rattle.comp_links.specs.Naming.{Naming}
-use Rattle.std.proofs.Common.{◌≡◌, ℕ, zero, suc, Some, Bool, IsTrue, List, [], ◌∷◌, ◌++◌, refl, sym, ap₂, subst, map, arith}
-use Rattle.std.specs.Prelude.{Contains}
+use Rattle.std.proofs.Common.{◌≡◌, ℕ, zero, suc, Some, Bool, IsTrue, List, [], ◌∷◌, ◌++◌, refl, sym, ap₂, subst, map, inl, inr, arith}
+use Rattle.std.specs.Prelude.{Contains, codes}
 use Rattle.std.specs.List.{AllByRecursion, AllZip, IsDistinct, flat_map}
 use Rattle.std.specs.Str.{bytes_eq}
 use Rattle.std.proofs.lemmas.List.Elements.{Contains-append_right}
@@ -61,6 +61,15 @@ adapter_apart w [] h number of e = absurd (none-some of e)
 adapter_apart w (a ∷ as') h zero of e = subst ImportsApart (same_Some (adapter_module a) of e) h.0.modules_apart
 adapter_apart w (a ∷ as') h (suc number) of e = adapter_apart w as' h.1 number of e
 
+-- the arguments of generated modules have distinct names
+none_apart : IsDistinct {K = List ℕ} bytes_eq []
+unfolding IsDistinct
+none_apart = tt
+
+two_apart : IsDistinct bytes_eq (codes "actual" ∷ codes "shim" ∷ [])
+unfolding IsDistinct
+two_apart = ((refl, tt), (tt, tt))
+
 module _ (w : ComponentWorld) (valid : IsWorld w) where
   user_module_apart : (number : ℕ) (of : WorldModule) → slice_get (user_modules w) number ≡ Some of → ImportsApart of
   user_module_apart zero of e = subst ImportsApart (same_Some (record { of = Main; found = w.main }) of e) valid.main.modules_apart
@@ -69,9 +78,12 @@ module _ (w : ComponentWorld) (valid : IsWorld w) where
   -- what holds of distinct names, and of those of each type of instances, holds of each list of names of the definitions
   module _ (P : Names → Type 0) (apart : (list : Names) → IsDistinct bytes_eq list → P list) where
     item_lists : (earlier : List Def) (i : Item) → IsItemRight w earlier i → AllByRecursion P (item_type_names i) → AllByRecursion P (item_names i)
-    item_lists earlier (items.CoreInstantiate number arguments) h k =
+    item_lists earlier (items.CoreInstantiate number arguments) (inl h) k =
         let names : map (λ (a : CoreArgument). a.name) arguments ≡ map (λ g. g.0) h.of.found.imports.modules = argument_names w h.of.of earlier arguments h.of.found.imports.modules h.each in
         (apart (map (λ a. a.name) arguments) (subst (λ (ns : Names). IsDistinct bytes_eq ns) (sym names) (user_module_apart number h.of h.listed)), tt)
+    item_lists earlier (items.CoreInstantiate number arguments) (inr (inl h)) k = (apart (map (λ a. a.name) arguments) (subst (λ (as' : List CoreArgument). IsDistinct bytes_eq (map (λ a. a.name) as')) (sym h.closed) none_apart), tt)
+    item_lists earlier (items.CoreInstantiate number arguments) (inr (inr h)) k =
+        (apart (map (λ a. a.name) arguments) (subst (λ (as' : List CoreArgument). IsDistinct bytes_eq (map (λ a. a.name) as')) (sym h.given) two_apart), tt)
     item_lists earlier (items.CoreExports entries) h k = (apart (map (λ e. e.name) entries) h.apart, tt)
     item_lists earlier (items.Instantiate component arguments) h k = absurd h
     item_lists earlier (items.InstanceType t) h k = k

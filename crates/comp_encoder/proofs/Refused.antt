@@ -6,21 +6,22 @@ use Rattle.comp_worlds.specs.declared.world.ComponentWorld.{ComponentWorld}
 use Rattle.comp_worlds.specs.declared.lower.Lower as lower
 use Rattle.comp_encoder.specs.Encoder.{Encoder, naming}
 use Rattle.comp_encoder.specs.Prepared.{IsWorldOf}
-use Rattle.comp_state.specs.Causes.{IsCause, LacksMemory, LacksRealloc, LacksEncoding}
+use Rattle.comp_worlds.specs.WorldContents.{core_imports}
+use Rattle.core_options.specs.Causes.{IsCause, LacksMemory, LacksRealloc, LacksEncoding}
 use Rattle.comp_check.specs.declared.fault.CheckFault.TheVariants as checks
 use Rattle.comp_encoder.specs.CanonicalNames.{IsShared}
 use Rattle.comp_encoder.specs.Outputs.{IsNameCause, IsOutputRefusal, NoOutputCause}
 use Rattle.comp_encoder.specs.declared.output.OutputFault.{OutputFault}
 use Rattle.comp_encoder.specs.declared.output.OutputFault.TheVariants as outputs
 use Rattle.comp_encoder.specs.Refusals.{of_state, of_output, IsEncodeRefusal, NoWorldCause, NoEncodeCause}
-use Rattle.comp_state.specs.declared.fault.StateFault.{StateFault}
-use Rattle.comp_state.specs.declared.fault.StateFault.TheVariants as state
+use Rattle.core_options.specs.declared.fault.StateFault.{StateFault}
+use Rattle.core_options.specs.declared.fault.StateFault.TheVariants as state
 
 module _ {L B F : Type 0} (l : lower.Ghosts L B F) where
   pub from_state : (e : Encoder L B) (w : ComponentWorld) (s : StateFault) → IsWorldOf l e w → IsCause w s → IsEncodeRefusal l e (of_state s)
   from_state e w state.Memory is h = tt
-  from_state e w (state.NoMemory place) is h = subst (λ (x : ComponentWorld). LacksMemory x x.main_exports place) is.prepared h
-  from_state e w (state.NoRealloc place) is h = subst (λ (x : ComponentWorld). LacksRealloc x x.main_exports place) is.prepared h
+  from_state e w (state.NoMemory place) is h = subst (λ (x : ComponentWorld). LacksMemory x (core_imports x) x.main_exports place) is.prepared h
+  from_state e w (state.NoRealloc place) is h = subst (λ (x : ComponentWorld). LacksRealloc x (core_imports x) x.main_exports place) is.prepared h
   from_state e w (state.NoEncoding place) is h = subst (λ x. LacksEncoding x place) is.prepared h
   from_state e w (state.TooMany excess) is h = h
 

@@ -46,6 +46,10 @@ module _ {L B F : Type 0} (l : lower.Ghosts L B F) where
   abbrev pub validating : Encoder L B → Bool → Encoder L B
   validating e on = record e { gathered = record e.gathered { options = record e.gathered.options { validate = on } } }
 
+  -- the encoder with debug names in generated modules, or without
+  abbrev pub naming_generated : Encoder L B → Bool → Encoder L B
+  naming_generated e on = record e { gathered = record e.gathered { options = record e.gathered.options { debug_names = on } } }
+
   -- the encoder with the merging of compatible versions on or off
   abbrev pub merging_versions : Encoder L B → Bool → Encoder L B
   merging_versions e on = record e { gathered = record e.gathered { options = record e.gathered.options { merge_imports_based_on_semver = on } } }

@@ -8,9 +8,10 @@ use Rattle.comp_check.specs.declared.fault.CheckFault.{CheckFault}
 use Rattle.comp_check.specs.declared.fault.CheckFault.TheVariants as checks
 use Rattle.comp_names.specs.NameForm.{IsFormed}
 use Rattle.comp_names.specs.Names.{OccursTwice}
+use Rattle.comp_worlds.specs.WorldContents.{core_imports}
 use Rattle.comp_worlds.specs.declared.world.ComponentWorld.{ComponentWorld}
-use Rattle.comp_state.specs.Causes.{IsCause, LacksMemory, LacksRealloc, LacksEncoding}
-use Rattle.comp_state.specs.declared.fault.StateFault.TheVariants as states
+use Rattle.core_options.specs.Causes.{IsCause, LacksMemory, LacksRealloc, LacksEncoding}
+use Rattle.core_options.specs.declared.fault.StateFault.TheVariants as states
 use Rattle.comp_links.specs.Lists.{Stated, stated_imports, stated_exports, instance_type_names}
 use Rattle.comp_encoder.specs.CanonicalNames.{IsShared}
 use Rattle.comp_encoder.specs.declared.output.OutputFault.{OutputFault}
@@ -57,7 +58,7 @@ IsOutputRefusal n w validate (outputs.Check fault) = IsTrue validate × IsNameCa
 -- no cause of a refusal holds, apart from memory and sizes
 pub record NoOutputCause (n : Naming) (w : ComponentWorld) (validate : Bool) : Type 0 where
   pub canonical : NoSharedName n.canonical w
-  pub memory : (place : List ℕ) → LacksMemory w w.main_exports place → ⊥
-  pub realloc : (place : List ℕ) → LacksRealloc w w.main_exports place → ⊥
+  pub memory : (place : List ℕ) → LacksMemory w (core_imports w) w.main_exports place → ⊥
+  pub realloc : (place : List ℕ) → LacksRealloc w (core_imports w) w.main_exports place → ⊥
   pub encodings : (place : List ℕ) → LacksEncoding w place → ⊥
   pub names : IsTrue validate → (fault : CheckFault) → IsNameCause n w fault → ⊥

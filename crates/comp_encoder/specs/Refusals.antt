@@ -5,15 +5,16 @@ use Rattle.wit_data.specs.declared.ids.WorldId.{WorldId}
 use Rattle.wit_data.specs.declared.resolve.Resolve.{Resolve}
 use Rattle.comp_worlds.specs.declared.lower.Lower as lower
 use Rattle.comp_encoder.specs.Encoder.{Encoder, main_bytes, naming}
-use Rattle.comp_state.specs.Causes.{LacksMemory, LacksRealloc, LacksEncoding}
+use Rattle.core_options.specs.Causes.{LacksMemory, LacksRealloc, LacksEncoding}
+use Rattle.comp_worlds.specs.WorldContents.{core_imports}
 use Rattle.comp_check.specs.declared.fault.CheckFault.TheVariants as checks
 use Rattle.comp_encoder.specs.CanonicalNames.{IsShared}
 use Rattle.comp_encoder.specs.Outputs.{IsNameCause, NoOutputCause}
 use Rattle.comp_encoder.specs.declared.canonical_names.SharedName.{SharedName}
 use Rattle.comp_encoder.specs.declared.output.OutputFault.{OutputFault}
 use Rattle.comp_encoder.specs.declared.output.OutputFault.TheVariants as outputs
-use Rattle.comp_state.specs.declared.fault.StateFault.{StateFault}
-use Rattle.comp_state.specs.declared.fault.StateFault.TheVariants as state
+use Rattle.core_options.specs.declared.fault.StateFault.{StateFault}
+use Rattle.core_options.specs.declared.fault.StateFault.TheVariants as state
 use Rattle.comp_encoder.specs.declared.fault.EncodeFault.{EncodeFault}
 use Rattle.comp_encoder.specs.declared.fault.EncodeFault.TheVariants.{Memory, NoModule, Lower, CanonicalNames, NoMemory, NoRealloc, NoEncoding, Output, TooMany}
 
@@ -66,8 +67,8 @@ module _ {L B F : Type 0} (l : lower.Ghosts L B F) where
   IsEncodeRefusal e (Lower f) = (l.memory_fault e.lower f ≡ false) × l.prepare_cause e.lower e.gathered f
   IsEncodeRefusal e (CanonicalNames first second name) =
       let w = l.prepared e.lower e.gathered in IsTrue e.gathered.options.emit_canonical_names × IsShared w.resolve w.world first second name
-  IsEncodeRefusal e (NoMemory place) = let w = l.prepared e.lower e.gathered in LacksMemory w w.main_exports place
-  IsEncodeRefusal e (NoRealloc place) = let w = l.prepared e.lower e.gathered in LacksRealloc w w.main_exports place
+  IsEncodeRefusal e (NoMemory place) = let w = l.prepared e.lower e.gathered in LacksMemory w (core_imports w) w.main_exports place
+  IsEncodeRefusal e (NoRealloc place) = let w = l.prepared e.lower e.gathered in LacksRealloc w (core_imports w) w.main_exports place
   IsEncodeRefusal e (NoEncoding place) = LacksEncoding (l.prepared e.lower e.gathered) place
   IsEncodeRefusal e (Output fault) = IsTrue e.gathered.options.validate × IsNameCause (naming e) (l.prepared e.lower e.gathered) fault
   IsEncodeRefusal e (TooMany excess) = 2 ^ 32 ≤ excess

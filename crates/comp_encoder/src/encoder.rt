@@ -3,7 +3,7 @@
 ghost use Rattle.std.specs.Prelude.{◌≡◌, ◌++◌, IfOk, IfErr, OnOk, OnErr, IsOk, if◌then◌else◌, ◌≢◌, [], MatchBool};
 ghost use Rattle.comp_encoder.specs.Encoder.{main_bytes, naming};
 ghost use Rattle.comp_encoder.specs.Prepared.{IsWorldOf};
-ghost use Rattle.comp_encoder.specs.Calls.{fresh, validating, merging_versions, emitting_canonical_names, renaming_imports, rejecting_legacy_names, after_module};
+ghost use Rattle.comp_encoder.specs.Calls.{fresh, validating, naming_generated, merging_versions, emitting_canonical_names, renaming_imports, rejecting_legacy_names, after_module};
 ghost use Rattle.comp_encoder.specs.Refusals.{ModuleCause, IsModuleRefusal, NoWorldCause, NoEncodeCause, IsEncodeRefusal};
 ghost use Rattle.comp_worlds.specs.Encodable.{IsEncodable};
 ghost use Rattle.comp_encoder.specs.Component.{IsComponentOf, IsEncoding};
@@ -94,6 +94,16 @@ impl<L: Lower> ComponentEncoder<L> {
         ensures set { result.now ≡ validating L.Lower self.old on }
     {
         self.gathered.options.validate = on;
+        self
+    }
+
+    /// Whether the core modules that are generated have names of their functions, for debuggers. It is off at first. The names of
+    /// a component's own items are written either way.
+    pub fn debug_names(&mut self, on: bool) -> &mut Self
+        ensures same_reference { result.ghost_name ≡ self.entry.ghost_name }
+        ensures set { result.now ≡ naming_generated L.Lower self.old on }
+    {
+        self.gathered.options.debug_names = on;
         self
     }
 
@@ -223,15 +233,22 @@ impl<L: Lower> ComponentEncoder<L> {
             canonical: self.gathered.options.emit_canonical_names,
             renamed: &self.renamed,
         };
-        component_bytes(self.alloc, world, names, self.gathered.options.validate)
+        let options = &self.gathered.options;
+        component_bytes(
+            self.alloc,
+            world,
+            names,
+            options.debug_names,
+            options.validate,
+        )
     }
 
     /// The component of what was gathered, in the component model's binary format.
     ///
     /// It refuses when out of memory, where there is no main module or its bytes are empty, where
     /// the lower layer can't prepare the world, with canonical names on where two imports or two exports have
-    /// one canonical name, where the world has no string encoding for a function, where a count or a size passes
-    /// 2^32 - 1, and, with `validate` on, where a name of an import or an export occurs twice or is not well formed.
+    /// one canonical name, where the world has no string encoding for a function, where a function is lowered or lifted with a
+    /// memory or a realloc that main doesn't export, where a count or a size passes 2^32 - 1, and, with `validate` on, where a name of an import or an export occurs twice or is not well formed.
     pub fn encode(&self) -> Result<Vec<u8>, EncodeFault<L::Fault>>
         ensures ok { IfOk result (λ bytes. IsEncoding L.Lower self.now bytes.items) }
         ensures refused { IsOk result → NoEncodeCause L.Lower self.now }

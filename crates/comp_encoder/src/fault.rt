@@ -8,7 +8,7 @@ use crate::output::OutputFault;
 use byte_encoding::Excess;
 use comp_check::CheckFault;
 use comp_lists::Text;
-use comp_state::StateFault;
+use core_options::StateFault;
 use std::alloc::{AllocError, AllocFailed};
 use std::fmt::Display;
 use thiserror::Error;
@@ -35,13 +35,14 @@ pub enum EncodeFault<F> {
         second: Text,
         name: Text,
     },
-    /// A function is lifted with a memory, and main exports none. `place` is the function's name (Canonical ABI, `memory`).
+    /// A function is lowered or lifted with a memory, and main exports none. `place` is `indirect-module-field` for a core import,
+    /// and the function's name for an export (Canonical ABI, `memory`).
     #[error("E7 NoMemory place={place}")]
     NoMemory {
         place: Text,
     },
-    /// A function is lifted with a realloc, and main exports none for calls of exports. `place` is the function's name (Canonical
-    /// ABI, `realloc`).
+    /// A function is lowered or lifted with a realloc, and main exports none for calls of imports, or of exports. `place` is
+    /// `indirect-module-field` for a core import, and the function's name for an export (Canonical ABI, `realloc`).
     #[error("E8 NoRealloc place={place}")]
     NoRealloc {
         place: Text,

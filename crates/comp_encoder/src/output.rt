@@ -7,7 +7,7 @@ ghost use Rattle.comp_check.specs.Faults.{IsUnchecked};
 ghost use Rattle.comp_worlds.specs.Encodable.{IsEncodable};
 ghost use Rattle.comp_encoder.specs.Component.{IsComponentOf};
 ghost use Rattle.comp_imports.specs.Names.{naming_of};
-ghost use Rattle.comp_state.specs.Causes.{of_build};
+ghost use Rattle.core_options.specs.Causes.{of_build};
 ghost use Rattle.comp_encoder.specs.Outputs.{IsNamesRefusal, IsOutputRefusal, NoOutputCause, NoSharedName};
 
 use crate::canonical_names::{SharedName, shared_name};
@@ -15,8 +15,9 @@ use byte_encoding::BuildFault;
 use comp_builder::ComponentBuilder;
 use comp_check::{CheckFault, check};
 use comp_imports::ImportNames;
-use comp_state::{StateFault, encode_world};
+use comp_state::encode_world;
 use comp_worlds::ComponentWorld;
+use core_options::StateFault;
 use std::alloc::{AllocError, Global};
 
 /// Why no component of a world is returned.
@@ -32,7 +33,7 @@ pub(crate) enum OutputFault {
 
 impl From<AllocError> for OutputFault {
     ghost use Rattle.comp_encoder.specs.declared.output.OutputFault.TheVariants as outputs;
-    ghost use Rattle.comp_state.specs.declared.fault.StateFault.TheVariants as states;
+    ghost use Rattle.core_options.specs.declared.fault.StateFault.TheVariants as states;
 
     ghost from_gives = { λ a e. e ≡ outputs.State states.Memory };
 
@@ -98,11 +99,13 @@ fn check_if(alloc: Global, validate: bool, component: &ComponentBuilder) -> Resu
     Ok(())
 }
 
-/// The bytes of a world's component, whose imported interfaces have the names that `names` makes.
+/// The bytes of a world's component, whose imported interfaces have the names that `names` makes, and whose generated modules have
+/// debug names if `debug_names` says so.
 pub(crate) fn component_bytes(
     alloc: Global,
     world: &ComponentWorld,
     names: ImportNames<'_>,
+    debug_names: bool,
     validate: bool,
 ) -> Result<Vec<u8>, OutputFault>
     requires { IsEncodable world.now }
@@ -111,7 +114,7 @@ pub(crate) fn component_bytes(
     ensures cause { IfErr result (IsOutputRefusal (naming_of names.entry) world.now validate) }
 {
     check_names(alloc, world, names.canonical)?;
-    let component = encode_world(alloc, world, names)?;
+    let component = encode_world(alloc, world, names, debug_names)?;
     check_if(alloc, validate, &component)?;
     Ok(component.finish()?)
 }

@@ -19,12 +19,12 @@ use Rattle.type_scopes.specs.Exports.{function_exports}
 use Rattle.type_scopes.specs.Interfaces.{FunctionIn, FunctionsIn, used_among}
 use Rattle.wit_data.specs.declared.ids.InterfaceId.{InterfaceId}
 use Rattle.world_values.specs.Items.{functions_of}
-use Rattle.comp_worlds.specs.Worlds.{IsNamedPlain}
+use Rattle.comp_worlds.specs.Worlds.{IsNamedFunction}
 use Rattle.comp_worlds.specs.declared.world.ComponentWorld.{ComponentWorld}
 use Rattle.comp_links.specs.Lists.{resource_of}
 use Rattle.comp_links.specs.Roles.{is_used_of}
 use Rattle.interface_needs.specs.Needs.{AreUsedNames}
-use Rattle.comp_imports.specs.Interfaces.{ExportsUsed}
+use Rattle.root_imports.specs.Interfaces.{ExportsUsed}
 use Rattle.comp_lists.proofs.Lists.{AllByRecursion-weaker}
 
 -- a function is exported where it is found
@@ -117,12 +117,12 @@ any_found ((k, g) ∷ fs) p name f e u = by (bytes_eq name k) refl e (any_found 
     by false apart e rest = rest e u
 
 -- each function of an interface that core imports use is exported, with its type
-pub exports_used : (w : ComponentWorld) (id : InterfaceId) (s : Surroundings) (t : Setting) (ms : List Member) (used : List (List ℕ × Unit {0})) → t.types ≡ w.resolve.types → t.origin ≡ resource_of w → AllByRecursion (IsNamedPlain w.resolve.types) (functions_of w.resolve id) → AreUsedNames w id used →
+pub exports_used : (w : ComponentWorld) (id : InterfaceId) (s : Surroundings) (t : Setting) (ms : List Member) (used : List (List ℕ × Unit {0})) → t.types ≡ w.resolve.types → t.origin ≡ resource_of w → AllByRecursion IsNamedFunction (functions_of w.resolve id) → AreUsedNames w id used →
     FunctionsIn t (member_trees s [] ms) (function_exports ms) (used_among used (functions_of w.resolve id)) → ExportsUsed w id s ms
 exports_used w id s t ms used types origin plain names h = record {
   each = λ name f e u.
       let there : is_some (found name used) ≡ true = names.each name ∙ any_found (functions_of w.resolve id) (is_used_of w id) name f e u in
-      let is = used_found t (member_trees s [] ms) used name (functions_of w.resolve id) (function_exports ms) (AllByRecursion-weaker (λ e (p : IsNamedPlain w.resolve.types e). p.0) (functions_of w.resolve id) plain) h.each f e there in
+      let is = used_found t (member_trees s [] ms) used name (functions_of w.resolve id) (function_exports ms) (AllByRecursion-weaker (λ e (p : IsNamedFunction e). p.0) (functions_of w.resolve id) plain) h.each f e there in
       record {
         there = exports_are ms name ∙ ap is_some is.at;
         typed = exported_is (member_trees s [] ms) ms name ∙ (ap (denoted (member_trees s [] ms)) is.at ∙ (is.denotes.tree ∙ ap₂ (λ o ts. OfFunctions (wit_function_tree o ts f)) origin types));

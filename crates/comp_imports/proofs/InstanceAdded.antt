@@ -19,9 +19,10 @@ use Rattle.comp_terms.specs.Terms.{imports_in}
 use Rattle.comp_worlds.specs.declared.world.ComponentWorld.{ComponentWorld}
 use Rattle.wit_data.specs.declared.ids.InterfaceId.{InterfaceId}
 use Rattle.wit_data.specs.declared.worlds.WorldKey.{WorldKey}
-use Rattle.comp_imports.specs.Growing.{Grows-by}
-use Rattle.comp_imports.specs.Interfaces.{ExportsNeeded, ExportsUsed, IsInterfaceImport, IsNextInterface}
-use Rattle.comp_imports.proofs.Importing.{grown_imports, no_imports}
+use Rattle.root_imports.specs.Growing.{Grows-by}
+use Rattle.root_imports.specs.Interfaces.{ExportsNeeded, ExportsUsed, IsInterfaceImport}
+use Rattle.comp_imports.specs.Interfaces.{IsNextInterface}
+use Rattle.root_imports.proofs.Importing.{grown_imports, no_imports}
 
 pub two_added : (old mid new : Built) (first second : Result ℕ BuildFault) (s t : Space) (d e : Def) (n m : Option (List ℕ)) → Adds old mid first s d n → Adds mid new second t e m → Extends old new
 two_added old mid new first second s t d e n m g h = extends_then old mid new (extends_adds old mid first s d n g) (extends_adds mid new second t e m h)

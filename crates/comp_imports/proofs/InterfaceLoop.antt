@@ -11,7 +11,7 @@ use Rattle.std.proofs.lemmas.Bool.Decides.{Decides-eqb}
 use Rattle.comp_lists.specs.Found.{found}
 use Rattle.comp_lists.specs.Tables.{with_first}
 use Rattle.comp_lists.proofs.Lists.{AllByRecursion-weaker, AllByRecursion-back, AllByRecursion-contains, slice_get-append, slice_get-end}
-use Rattle.comp_imports.proofs.Elements.{contains_none, contains_cons, AllByRecursion-join}
+use Rattle.interface_needs.proofs.Lists.{contains_none, contains_cons, all_both}
 use Rattle.comp_bytes.specs.declared.def.Def.{Def}
 use Rattle.comp_builder.specs.Built.{Built}
 use Rattle.wit_data.specs.contracts.ids.InterfaceIdPartialEq.TheImpl as same_id
@@ -29,9 +29,10 @@ use Rattle.comp_worlds.specs.Encodable.{IsEncodable, place_in}
 use Rattle.comp_worlds.specs.WorldTables.{HasTables}
 use Rattle.world_values.specs.Mentions.{interfaces_of, same_interface}
 use Rattle.interface_needs.specs.Needs.{AreUsedNames}
-use Rattle.comp_imports.proofs.NeededInterfaces.{apart_before, both_none, found_before, names_none, needed_imported, number_behind, place_there}
+use Rattle.comp_imports.proofs.NeededInterfaces.{apart_before, found_before, needed_imported, number_behind, place_there}
+use Rattle.root_imports.proofs.NeededNames.{both_none, names_none}
 use Rattle.comp_worlds.specs.WorldContents.{items_of, imported_types}
-use Rattle.comp_worlds.specs.Worlds.{IsImportItem, IsNamedPlain}
+use Rattle.comp_worlds.specs.Worlds.{IsImportItem, IsNamedFunction}
 use Rattle.comp_worlds.specs.declared.world.ComponentWorld.{ComponentWorld}
 use Rattle.comp_links.specs.Naming.{Naming}
 use Rattle.comp_links.specs.Lists.{ImportedInterface, WorldType, RootFunction, import_entries, interface_entries, interface_entry, needed_types, names_of_interface, number_of_interface, unless_empty}
@@ -40,10 +41,11 @@ use Rattle.comp_terms.specs.Rules.{Grows, import_marked}
 use Rattle.comp_terms.specs.Terms.{imports_in}
 use Rattle.comp_items.specs.Items.{Extends}
 use Rattle.comp_items.proofs.Extending.{extends_none, extends_then}
-use Rattle.comp_imports.specs.Growing.{Grows-none, Grows-then}
-use Rattle.comp_imports.specs.Interfaces.{AreInstancesKnown, FindsInterfaces, FindsInterfacesStill, IsFoundItem, IsInterfaceImport, IsNextInterfaceItem, interfaces_marked}
-use Rattle.comp_imports.proofs.Importing.{interfaces_counted_of}
-use Rattle.comp_imports.proofs.Looking.{entry_sound}
+use Rattle.root_imports.specs.Growing.{Grows-none, Grows-then}
+use Rattle.root_imports.specs.Interfaces.{AreInstancesKnown, FindsInterfaces, IsInterfaceImport}
+use Rattle.comp_imports.specs.Interfaces.{FindsInterfacesStill, IsFoundItem, IsNextInterfaceItem, interfaces_marked}
+use Rattle.comp_imports.proofs.AllImports.{interfaces_counted_of}
+use Rattle.root_imports.proofs.Looking.{entry_sound}
 
 -- ---- a table with one instance more
 
@@ -52,7 +54,7 @@ each_of_first P es id index h p = by (is_some (lookup (same_id.eq-value.it id) e
   where
     by : (b : Bool) → AllByRecursion P (if b then es else es ++ (id, index) ∷ [])
     by true = h
-    by false = AllByRecursion-join P es ((id, index) ∷ []) h (p, tt)
+    by false = all_both P es ((id, index) ∷ []) h (p, tt)
 
 pub finds_added : {w : ComponentWorld} {ds : List Def} (es new : List (InterfaceId × ℕ)) (id : InterfaceId) (index : ℕ) → new ≡ with_first same_id.eq-value.it es id index → FindsInterfaces w ds es → IsInterfaceImport w ds id index → FindsInterfaces w ds new
 finds_added {w} {ds} es new id index same h i = record { each = subst (AllByRecursion (λ (e : InterfaceId × ℕ). IsInterfaceImport w ds e.0 e.1)) (sym same) (each_of_first (λ e. IsInterfaceImport w ds e.0 e.1) es id index h.each i) }
@@ -203,7 +205,7 @@ interfaces_step n w old mid new before after e rest h extends grows finds still 
       ap (flat_map (import_marked n w)) (entries_push w h.done e) ∙ flat_map-append (import_marked n w) (flat_map (interface_entry w) h.done) (interface_entry w e) in
       subst (λ m. Grows w old.defs new.defs m) (sym marks) (Grows-then h.grows grows);
   finds = finds;
-  found = AllByRecursion-join (IsFoundItem w after) h.done (e ∷ []) (AllByRecursion-weaker (still_found w before after still) h.done h.found) (here, tt);
+  found = all_both (IsFoundItem w after) h.done (e ∷ []) (AllByRecursion-weaker (still_found w before after still) h.done h.found) (here, tt);
 }
 
 -- no item is left
@@ -223,13 +225,13 @@ module _ (n : Naming) (w : ComponentWorld) (old new : Built) (instances : List (
 
 -- ---- the next interface
 
-named_plain : (r : Resolve) (key : WorldKey) (id : InterfaceId) → IsImportItem r (key, world_items.Interface id) → AllByRecursion (IsNamedPlain r.types) (functions_of r id)
-named_plain r (keys.Name text) id h = h
-named_plain r (keys.Interface other) id h = h
+named_functions : (r : Resolve) (key : WorldKey) (id : InterfaceId) → IsImportItem r (key, world_items.Interface id) → AllByRecursion IsNamedFunction (functions_of r id)
+named_functions r (keys.Name text) id h = h
+named_functions r (keys.Interface other) id h = h
 
 -- functions have their names
-pub named_only : (types : List TypeDef) (fs : List (List ℕ × Function)) → AllByRecursion (IsNamedPlain types) fs → AllByRecursion (λ e. e.0 ≡ e.1.name) fs
-named_only types fs h = AllByRecursion-weaker (λ e (p : IsNamedPlain types e). p.0) fs h
+pub named_only : (types : List TypeDef) (fs : List (List ℕ × Function)) → AllByRecursion IsNamedFunction fs → AllByRecursion (λ e. e.0 ≡ e.1.name) fs
+named_only types fs h = AllByRecursion-weaker (λ e (p : IsNamedFunction e). p.0) fs h
 
 entry_used : (key : WorldKey) (id : InterfaceId) (names : List (List ℕ)) → names ≢ [] → unless_empty names (ImportedInterface key id) ≡ ImportedInterface key id ∷ []
 entry_used key id [] some = absurd (some refl)
@@ -268,7 +270,7 @@ next_interface n w old mid instances (key, world_items.Interface id) rest ok fir
       has_key = (entry_sound w ok h.done rest e h.split).0;
       present = (entry_sound w ok h.done rest e h.split).1;
       imported = record { key = key; there = subst (λ es. Contains es e) h.split (Contains-append_right h.done (e ∷ rest) e (0, omega arith, refl)) };
-      plain = named_plain w.resolve key id ((AllByRecursion-back (IsImportItem w.resolve) h.done (e ∷ rest) (subst (AllByRecursion (IsImportItem w.resolve)) (sym h.split) ok.valid.imports)).0);
+      plain = named_functions w.resolve key id ((AllByRecursion-back (IsImportItem w.resolve) h.done (e ∷ rest) (subst (AllByRecursion (IsImportItem w.resolve)) (sym h.split) ok.valid.imports)).0);
       stated = λ some.
           let there : slice_get (interface_entries w) (length done) ≡ Some (ImportedInterface key id) =
           ap (λ l. slice_get l (length done)) (all some) ∙ slice_get-append (done ++ ImportedInterface key id ∷ []) more (length done) (ImportedInterface key id) (slice_get-end done (ImportedInterface key id)) in

@@ -1,14 +1,3 @@
-pub mod Growth
-pub mod Elements
-pub mod Indexing
-pub mod Finding
-pub mod Looking
-pub mod Allowing
-pub mod Importing
-pub mod Naming
-pub mod Passing
-pub mod Resources
-pub mod Defining
 pub mod UsedFunctions
 pub mod FunctionExports
 pub mod InstanceAdded
@@ -17,3 +6,4 @@ pub mod InterfaceLoop
 pub mod ListedFunctions
 pub mod TypeNeeds
 pub mod OuterTypes
+pub mod AllImports

@@ -1,5 +1,5 @@
--- Interfaces of which types are needed are imported, and something of them is needed.
-use Rattle.std.proofs.Common.{◌≡◌, ◌≢◌, ◌∙◌, ◌<◌, ◌≤◌, ◌+◌, zero-add, append_assoc, length-append, ap, ap₂, sym, subst, refl, arith, ℕ, suc, Bool, true, false, true≢false, cond, List, [], ◌∷◌, ◌++◌, map, length, Option, Some, None, is_some, if◌then◌else◌, unwrap_or, ◌==◌, Contains}
+-- Interfaces of which types are needed are imported, and which interface is which import.
+use Rattle.std.proofs.Common.{◌≡◌, ◌∙◌, ◌<◌, ◌≤◌, ◌+◌, zero-add, append_assoc, length-append, ap, sym, subst, refl, arith, ℕ, suc, Bool, true, false, true≢false, cond, List, [], ◌∷◌, ◌++◌, length, Option, Some, None, is_some, if◌then◌else◌, unwrap_or, ◌==◌, Contains}
 use Rattle.std.specs.List.{AllByRecursion, IsDistinct, flat_map}
 use Rattle.std.specs.Map.{lookup}
 use Rattle.std.proofs.lemmas.Bool.Decides.{Decides-eqb}
@@ -18,11 +18,11 @@ use Rattle.comp_worlds.specs.Uses.{all_imports}
 use Rattle.comp_worlds.specs.WorldContents.{items_of}
 use Rattle.comp_worlds.specs.WorldTables.{HasTables}
 use Rattle.comp_worlds.specs.declared.world.ComponentWorld.{ComponentWorld}
-use Rattle.comp_links.specs.Lists.{ImportEntry, ImportedInterface, interface_entry, names_of_interface, needed_types, number_of_interface, type_name, unless_empty}
-use Rattle.comp_links.specs.Roles.{used_functions_of}
+use Rattle.comp_links.specs.Lists.{ImportEntry, ImportedInterface, interface_entry, names_of_interface, needed_types, number_of_interface, unless_empty}
 use Rattle.type_scopes.specs.Titles.{is_one_of}
 use Rattle.interface_needs.specs.Needs.{IsImported}
-use Rattle.comp_imports.specs.Interfaces.{IsFoundInterface, IsFoundItem}
+use Rattle.root_imports.specs.Interfaces.{IsFoundInterface}
+use Rattle.comp_imports.specs.Interfaces.{IsFoundItem}
 
 abbrev Entries : Type 0
 Entries = List (WorldKey × WorldItem)
@@ -75,27 +75,6 @@ module _ (w : ComponentWorld) where
       there : (o : Option (List TypeId)) → is_one_of (unwrap_or o []) t.index ≡ true → is_some o ≡ true
       there None e = absurd (true≢false (sym e))
       there (Some ids) e = refl
-
--- ---- whether something of an interface is needed
-
-pub names_none : (w : ComponentWorld) (id : InterfaceId) → needed_types w id ≡ [] → used_functions_of w id ≡ [] → names_of_interface w id ≡ []
-names_none w id none unused = ap₂ (λ ids names. map (type_name w) ids ++ names) none unused
-
-none_left : {X : Type 0} (xs ys : List X) → xs ++ ys ≡ [] → (xs ≡ []) × (ys ≡ [])
-none_left [] ys e = (refl, e)
-none_left (x ∷ xs) ys e = cc
-
-none_mapped : {X Y : Type 0} (f : X → Y) (xs : List X) → map f xs ≡ [] → xs ≡ []
-none_mapped f [] e = refl
-none_mapped f (x ∷ xs) e = cc
-
--- what no name is needed of has no needed types, and no used functions
-pub both_none : (w : ComponentWorld) (id : InterfaceId) → names_of_interface w id ≡ [] → (needed_types w id ≡ []) × (used_functions_of w id ≡ [])
-both_none w id e = let p = none_left (map (type_name w) (needed_types w id)) (used_functions_of w id) e in (none_mapped (type_name w) (needed_types w id) p.0, p.1)
-
--- an interface has a name that is needed, where a type is
-pub needed_named : (w : ComponentWorld) (id : InterfaceId) (n : ℕ) → is_one_of (needed_types w id) n ≡ true → names_of_interface w id ≢ []
-needed_named w id n h e = let p = both_none w id e in true≢false (sym h ∙ ap (λ ids. is_one_of ids n) p.0)
 
 -- ---- which interface is which import
 

@@ -21,7 +21,7 @@ use Rattle.type_scopes.specs.Titles.{HasTitle, AreTitlesApart, AscendFrom, IsKno
 use Rattle.type_scopes.specs.declared.outer_type.OuterType.{OuterType}
 use Rattle.world_values.specs.Items.{functions_of}
 use Rattle.comp_worlds.specs.Encodable.{IsEncodable}
-use Rattle.comp_worlds.specs.Worlds.{IsNamedPlain}
+use Rattle.comp_worlds.specs.Worlds.{IsNamedFunction}
 use Rattle.comp_worlds.specs.declared.world.ComponentWorld.{ComponentWorld}
 use Rattle.comp_links.specs.Lists.{import_entries, names_of_interface, needed_types, number_of_interface, resource_of, type_name}
 use Rattle.comp_links.specs.Roles.{is_used_of}
@@ -29,7 +29,8 @@ use Rattle.comp_terms.specs.Terms.{imports_in}
 use Rattle.interface_needs.specs.Needs.{AreFunctionsApart, AreNeedsAtHand, AreTypesKnown, AreUsedNames, IsImported, IsMetEarlier}
 use Rattle.interface_needs.proofs.InterfaceNeeds.{needs_at_hand}
 use Rattle.interface_needs.proofs.InterfaceTypes.{types_known}
-use Rattle.comp_imports.specs.Interfaces.{AreTypesOffered, ExportsNeeded, ExportsUsed, next_place, offer_of}
+use Rattle.comp_imports.specs.Interfaces.{AreTypesOffered, next_place, offer_of}
+use Rattle.root_imports.specs.Interfaces.{ExportsNeeded, ExportsUsed}
 use Rattle.comp_imports.proofs.FunctionExports.{exports_used, used_names}
 use Rattle.comp_imports.proofs.ListedFunctions.{functions_sound}
 use Rattle.comp_imports.proofs.InterfaceLoop.{names_used, named_only}
@@ -78,7 +79,7 @@ met_earlier w ok here used imported names apart = (needs_at_hand w ok here impor
 
 -- ---- what is exported
 
-module _ (w : ComponentWorld) (ds : List Def) (here : InterfaceId) (used : List (List ℕ × Unit {0})) (table : List (OuterType × ℕ)) (plain : AllByRecursion (IsNamedPlain w.resolve.types) (functions_of w.resolve here)) (names : AreUsedNames w here used) (place : Place)
+module _ (w : ComponentWorld) (ds : List Def) (here : InterfaceId) (used : List (List ℕ × Unit {0})) (table : List (OuterType × ℕ)) (plain : AllByRecursion IsNamedFunction (functions_of w.resolve here)) (names : AreUsedNames w here used) (place : Place)
     (at : place ≡ next_place w ds) (ids : List TypeId) (needed : ids ≡ needed_types w here) (fs : List (List ℕ × Function)) (same : fs ≡ functions_of w.resolve here) (ms : List Member) where
   origin : place.origin ≡ resource_of w
   origin = ap (λ (p : Place). p.origin) at

@@ -12,7 +12,7 @@ use Rattle.wit_data.specs.declared.ids.InterfaceId.{InterfaceId}
 use Rattle.comp_links.specs.Roles.{is_named}
 use Rattle.comp_imports.specs.declared.interface_function.InterfaceFunction.{InterfaceFunction}
 use Rattle.comp_imports.specs.Interfaces.{is_same_function}
-use Rattle.comp_imports.proofs.Indexing.{used_step}
+use Rattle.root_imports.proofs.Indexing.{used_step}
 
 or_false : (b : Bool) → b ≡ (b || false)
 or_false true = refl

@@ -1,27 +1,21 @@
--- What is known of the interfaces that were imported. (The rules are this project's own.)
-use Rattle.std.specs.Prelude.{◌≡◌, ◌≢◌, ◌+◌, ◌<◌, ℕ, nat_eq, Bool, true, List, [], length, Some, slice_get, is_some, IsSome}
-use Rattle.std.specs.List.{AllByRecursion, flat_map, list_any}
+-- What is known while interfaces are imported: what is used of them, what their types are made of, and which is the next one.
+-- (The rules are this project's own.)
+use Rattle.std.specs.Prelude.{◌≡◌, ◌≢◌, ◌<◌, ℕ, nat_eq, Bool, true, List, [], Some, slice_get, is_some, IsSome}
+use Rattle.std.specs.List.{AllByRecursion, flat_map}
 use Rattle.std.specs.Map.{lookup}
 use Rattle.std.specs.Str.{bytes_eq}
 use Rattle.std.specs.Ordering.{on, eq_of_both}
-use Rattle.comp_lists.specs.Found.{found}
-use Rattle.comp_bytes.specs.declared.space.Space.TheVariants as spaces
-use Rattle.comp_bytes.specs.declared.types.Member.{Member}
 use Rattle.comp_bytes.specs.declared.def.Def.{Def}
-use Rattle.comp_trees.specs.Trees.{FunctionTree}
-use Rattle.comp_trees.specs.DefinedTrees.{TypeTree, OfFunctions}
 use Rattle.type_scopes.specs.Places.{Place}
-use Rattle.comp_trees.specs.Members.{Surroundings, member_trees, exports_name, function_exported}
-use Rattle.comp_trees.specs.Inventories.{ImportedInstance, surroundings_of, inventory, scope_of}
+use Rattle.comp_trees.specs.Inventories.{surroundings_of, scope_of}
 use Rattle.wit_data.specs.contracts.ids.InterfaceIdPartialEq.TheImpl as same_id
-use Rattle.wit_data.specs.declared.functions.Function.{Function}
 use Rattle.wit_data.specs.declared.ids.InterfaceId.{InterfaceId}
 use Rattle.wit_data.specs.declared.worlds.WorldItem.{WorldItem}
 use Rattle.wit_data.specs.declared.worlds.WorldItem.TheVariants as world_items
 use Rattle.wit_data.specs.declared.worlds.WorldKey.{WorldKey}
 use Rattle.world_values.specs.Items.{functions_of}
-use Rattle.comp_worlds.specs.WorldContents.{items_of, imported_types}
-use Rattle.comp_worlds.specs.Worlds.{IsNamedPlain}
+use Rattle.comp_worlds.specs.WorldContents.{items_of}
+use Rattle.comp_worlds.specs.Worlds.{IsNamedFunction}
 use Rattle.comp_worlds.specs.Encodable.{place_in}
 use Rattle.wit_data.specs.Sound.{HasKey, HasInterface}
 use Rattle.comp_worlds.specs.declared.world.ComponentWorld.{ComponentWorld}
@@ -32,14 +26,13 @@ use Rattle.type_scopes.specs.Offers.{Offer, IsOfferedType}
 use Rattle.type_scopes.specs.declared.outer_type.OuterType.{OuterType}
 use Rattle.type_scopes.specs.contracts.outer_type.OuterTypePartialEq.TheImpl as same_type
 use Rattle.comp_trees.specs.DefinedScopes.{Denotes}
-use Rattle.type_scopes.specs.Interfaces.{ExportsType, used_among}
+use Rattle.type_scopes.specs.Interfaces.{used_among}
 use Rattle.type_scopes.specs.Titles.{is_one_of}
 use Rattle.interface_needs.specs.Needs.{IsImported}
-use Rattle.wit_data.specs.declared.ids.TypeId.{TypeId}
 use Rattle.comp_links.specs.Roles.{is_used_of}
-use Rattle.comp_terms.specs.Planned.{type_of_function}
 use Rattle.comp_terms.specs.Terms.{imports_in}
 use Rattle.comp_terms.specs.Rules.{Landmark, import_marked}
+use Rattle.root_imports.specs.Interfaces.{IsFoundInterface}
 use Rattle.comp_imports.specs.declared.interface_function.InterfaceFunction.{InterfaceFunction}
 
 -- a function of an interface is another one
@@ -50,30 +43,13 @@ is_same_function = eq_of_both (on (λ k. k.interface.index) nat_eq) (on (λ k. k
 pub record AreInterfaceUses (w : ComponentWorld) (uses : List (InterfaceFunction × Unit {0})) : Type 0 where
   pub each : (k : InterfaceFunction) → is_some (lookup (is_same_function k) uses) ≡ is_used_of w k.interface k.name
 
--- how many imports come before the functions at the root: interfaces and types
-abbrev pub first_imports : ComponentWorld → ℕ
-first_imports w = length (interface_entries w) + length (imported_types w)
-
 -- the landmarks of the imported interfaces
 abbrev pub interfaces_marked : Naming → ComponentWorld → List Landmark
 interfaces_marked n w = flat_map (import_marked n w) (interface_entries w)
 
--- an instance of a type with these members exports a function of this type under a name
-pub record ExportsFunction (s : Surroundings) (members : List Member) (name : List ℕ) (type : FunctionTree) : Type 0 where
-  pub there : list_any (exports_name spaces.Func name) members ≡ true
-  pub typed : function_exported (member_trees s [] members) name members ≡ OfFunctions type
-
--- each function of the interface that core imports use is exported, with its type
-pub record ExportsUsed (w : ComponentWorld) (id : InterfaceId) (s : Surroundings) (members : List Member) : Type 0 where
-  pub each : (name : List ℕ) (f : Function) → found name (functions_of w.resolve id) ≡ Some f → is_used_of w id name ≡ true → ExportsFunction s members name (type_of_function w f)
-
 -- where the type of an instance is defined that is imported next
 abbrev pub next_place : ComponentWorld → List Def → Place
 next_place w ds = record { surroundings = surroundings_of (imports_in ds) (scope_of ds); origin = resource_of w }
-
--- each type of the interface that the component needs is exported, under its name
-abbrev pub ExportsNeeded : ComponentWorld → InterfaceId → Surroundings → List Member → Type 0
-ExportsNeeded w id s members = AllByRecursion (ExportsType s (resource_of w) w.resolve.types id members) (needed_types w id)
 
 -- a type that an instance exports which was imported
 pub record IsOfferable (w : ComponentWorld) (instances : List (InterfaceId × ℕ)) (t : OuterType) : Type 0 where
@@ -98,21 +74,6 @@ pub record AreTypesOffered (w : ComponentWorld) (ds : List Def) (id : InterfaceI
   pub offered : AreOffered w ds table
   pub all : AllByRecursion (IsOfferedType (offer_of w table)) (met_in_all w.resolve.types id (needed_types w id) (used_among used (functions_of w.resolve id)))
 
--- the instance is the world's interface, as it is imported
-pub record IsInterfaceImport (w : ComponentWorld) (ds : List Def) (id : InterfaceId) (index : ℕ) : Type 0 where
-  pub key : WorldKey
-  pub number : ℕ
-  pub outer : List TypeTree
-  pub members : List Member
-  pub stated : slice_get (import_entries w) number ≡ Some (ImportedInterface key id)
-  pub imported : slice_get (inventory ds).instances index ≡ Some (ImportedInstance number outer members)
-  pub functions : ExportsUsed w id (surroundings_of number outer) members
-  pub types : ExportsNeeded w id (surroundings_of number outer) members
-
--- an interface of which something is needed is found
-abbrev pub IsFoundInterface : ComponentWorld → List (InterfaceId × ℕ) → InterfaceId → Type 0
-IsFoundInterface w instances id = names_of_interface w id ≢ [] → is_some (lookup (same_id.eq-value.it id) instances) ≡ true
-
 -- interfaces that are imported before this one are found
 pub record AreEarlierFound (w : ComponentWorld) (instances : List (InterfaceId × ℕ)) (id : InterfaceId) : Type 0 where
   pub each : (other : InterfaceId) → place_in (items_of w).imports other < place_in (items_of w).imports id → IsFoundInterface w instances other
@@ -123,7 +84,7 @@ pub record IsNextInterface (w : ComponentWorld) (ds : List Def) (instances : Lis
   pub has_key : HasKey w.resolve key
   pub present : HasInterface w.resolve id
   pub imported : IsImported w id
-  pub plain : AllByRecursion (IsNamedPlain w.resolve.types) (functions_of w.resolve id)
+  pub plain : AllByRecursion IsNamedFunction (functions_of w.resolve id)
   pub stated : names_of_interface w id ≢ [] → slice_get (import_entries w) (imports_in ds) ≡ Some (ImportedInterface key id)
   pub number : names_of_interface w id ≢ [] → number_of_interface id (import_entries w) ≡ imports_in ds
   pub earlier : AreEarlierFound w instances id
@@ -141,17 +102,3 @@ IsFoundItem w instances entry = Unit {0}
 -- what was found before is still found
 pub record FindsInterfacesStill (old new : List (InterfaceId × ℕ)) : Type 0 where
   pub each : (id : InterfaceId) → is_some (lookup (same_id.eq-value.it id) old) ≡ true → is_some (lookup (same_id.eq-value.it id) new) ≡ true
-
--- each instance is the interface that it is found for
-pub record FindsInterfaces (w : ComponentWorld) (ds : List Def) (instances : List (InterfaceId × ℕ)) : Type 0 where
-  pub each : AllByRecursion (λ e. IsInterfaceImport w ds e.0 e.1) instances
-
--- each interface that the world imports is found, if something of it is needed
-pub record FindsNeededInterfaces (w : ComponentWorld) (instances : List (InterfaceId × ℕ)) : Type 0 where
-  pub each : (id : InterfaceId) → IsImported w id → IsFoundInterface w instances id
-
--- what is known of the instances of the interfaces, once all are imported
-pub record AreInstancesKnown (w : ComponentWorld) (ds : List Def) (instances : List (InterfaceId × ℕ)) : Type 0 where
-  pub finds : FindsInterfaces w ds instances
-  pub needed : FindsNeededInterfaces w instances
-  pub imported : (id : InterfaceId) (t : TypeId) → is_one_of (needed_types w id) t.index ≡ true → IsImported w id

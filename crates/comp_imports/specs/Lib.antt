@@ -1,5 +1,2 @@
-pub mod RootScopes
-pub mod Growing
-pub mod Imports
 pub mod Interfaces
 pub mod Names

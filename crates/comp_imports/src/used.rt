@@ -1,11 +1,11 @@
-//! The functions of the world that core modules use.
+//! The functions of interfaces that core modules use.
 
 ghost use Rattle.std.specs.Prelude.{◌≡◌, ◌≢◌, ◌||◌, ◌&&◌, ℕ, List, [], IfOk, OnOk, is_some, MatchBool};
 ghost use Rattle.std.specs.Str.{bytes_eq};
 ghost use Rattle.comp_lists.specs.Found.{found};
 ghost use Rattle.std.specs.Map.{lookup};
 ghost use Rattle.std.specs.List.{list_any};
-ghost use Rattle.comp_links.specs.Roles.{is_used, is_any_import, is_named, interface_function};
+ghost use Rattle.comp_links.specs.Roles.{is_named, interface_function};
 ghost use Rattle.wit_data.specs.Sound.{HasInterface};
 ghost use Rattle.interface_needs.specs.Needs.{AreUsedNames, AreFunctionsApart};
 ghost use Rattle.comp_imports.specs.Interfaces.{is_same_function, AreInterfaceUses};
@@ -14,43 +14,7 @@ use crate::interface_function::InterfaceFunction;
 use comp_lists::{Keyed, Text};
 use comp_worlds::{ComponentWorld, Import, ImportInstance};
 use std::alloc::{AllocError, Global};
-use wit_data::{InterfaceId, TypeId, WorldKey};
-
-/// Adds the root functions that these imports use.
-#[tactic(auto, using(crate::proofs::Indexing::used_step))]
-fn add_used(
-    alloc: Global,
-    used: &mut Keyed<Text, ()>,
-    fields: &Keyed<Text, Import>,
-) -> Result<(), AllocError>
-    ensures { OnOk result ((text : List ℕ) → is_some (found text used.new) ≡ (is_some (found text used.old) || is_any_import text fields.now)) }
-{
-    for (_, import) in fields.iter() {
-        match import {
-            Import::WorldFunc(WorldKey::Name(function), _, _) => {
-                used.insert_if_absent(function.clone(alloc)?, ())?;
-            }
-            _ => {}
-        }
-    }
-    Ok(())
-}
-
-/// The root functions that imports of main use.
-pub(crate) fn used_functions(
-    alloc: Global,
-    world: &ComponentWorld,
-) -> Result<Keyed<Text, ()>, AllocError>
-    ensures { IfOk result (λ used. (text : List ℕ) → is_some (found text used) ≡ is_used world.now text) }
-{
-    let mut used = Keyed::new(alloc);
-    for (_, instance) in world.main.imports.modules.iter() {
-        if let ImportInstance::Names(fields) = instance {
-            add_used(alloc, &mut used, fields)?;
-        }
-    }
-    Ok(used)
-}
+use wit_data::{InterfaceId, TypeId};
 
 /// Adds the functions of interfaces that these imports use.
 #[tactic(auto, using(crate::proofs::UsedFunctions::interface_step))]

@@ -100,6 +100,22 @@ impl ComponentItems {
         }
     }
 
+    /// The function that a core instance exports under this name: an alias that was added before, or a new one with this debug
+    /// name.
+    pub fn named_function(
+        &mut self,
+        debug: &str,
+        instance: u32,
+        name: &str,
+    ) -> Result<u32, BuildFault>
+        ensures extends { Extends self.old self.new }
+        ensures adds { OnOk result (MayAdd self.old.defs self.new.defs (Def.Item (Item.Alias (Alias.CoreExport ExportKind.Func instance name.now)))) }
+        ensures exported { IfOk result (λ index. (number : ℕ) → IsInstanceOf self.old.defs instance number → IsExported self.new.defs index (record { of = number; kind = ExportKind.Func; name = name.now })) }
+        ensures cause { IfErr result (Full Space.CoreFunc self.old.defs) }
+    {
+        self.named_export(debug, instance, ExportKind::Func, name)
+    }
+
     /// The function that a core instance exports under this name: an alias that was added before, or a new one.
     ///
     /// The debug name of a new one is the name of the export.
@@ -109,7 +125,7 @@ impl ComponentItems {
         ensures exported { IfOk result (λ index. (number : ℕ) → IsInstanceOf self.old.defs instance number → IsExported self.new.defs index (record { of = number; kind = ExportKind.Func; name = name.now })) }
         ensures cause { IfErr result (Full Space.CoreFunc self.old.defs) }
     {
-        self.named_export(name, instance, ExportKind::Func, name)
+        self.named_function(name, instance, name)
     }
 
     /// The memory that a core instance exports under this name: an alias that was added before, or a new one.

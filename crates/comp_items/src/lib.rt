@@ -4,7 +4,7 @@
 //! earlier call added, and returns the index of its item; the contract says which term the index has (`specs/Terms.antt`
 //! of `comp_terms`), of a type, what it denotes, and of a type of instances and of an imported instance, what its members
 //! are (`specs/Inventories.antt` of `comp_trees`). Nothing here knows a world, and no type is found again: a scope of
-//! types does that (`comp_imports`). One look-up is private to it: the aliases of what core instances export, by instance,
+//! types does that (`root_imports`). One look-up is private to it: the aliases of what core instances export, by instance,
 //! kind and name. An alias of what an imported instance exports is new at each call.
 //!
 //! The guarantees: definitions only grow at their end (`Extends`); an error other than out of memory comes

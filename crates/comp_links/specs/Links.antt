@@ -5,16 +5,17 @@ use Rattle.std.specs.Prelude.{ℕ, Bool, true, List, [], ◌∷◌, ◌++◌, Op
 use Rattle.std.specs.Option.{option_map, option_map_or, option_and_then}
 use Rattle.comp_lists.specs.Found.{found}
 use Rattle.standard_kinds.specs.declared.kinds.StringEncoding.{StringEncoding}
-use Rattle.world_values.specs.Items.{root_function_at}
+use Rattle.world_values.specs.Items.{functions_of, root_function_at}
+use Rattle.comp_worlds.specs.Lookups.{resolved_realloc}
 use Rattle.comp_worlds.specs.WorldContents.{items_of, core_name_of}
 use Rattle.wit_data.specs.Keys.{name_of_key}
 use Rattle.wit_data.specs.declared.functions.AbiVariant.TheVariants.{GuestExport}
 use Rattle.wit_data.specs.declared.worlds.WorldKey.{WorldKey}
 use Rattle.wit_data.specs.declared.worlds.WorldKey.TheVariants as keys
-use Rattle.comp_options.specs.Options.{needs, export_set}
+use Rattle.comp_options.specs.Options.{needs, import_set, export_set}
 use Rattle.comp_roles.specs.Lookups.{first_export}
 use Rattle.comp_roles.specs.FunctionExports.{is_post_return}
-use Rattle.comp_roles.specs.Reallocs.{is_export_realloc, realloc_for}
+use Rattle.comp_roles.specs.Reallocs.{is_import_realloc, is_export_realloc, realloc_for}
 use Rattle.comp_roles.specs.declared.imports.Import.{Import}
 use Rattle.comp_roles.specs.declared.imports.Import.TheVariants as imports
 use Rattle.comp_roles.specs.declared.imports.ImportInstance.{ImportInstance}
@@ -22,10 +23,11 @@ use Rattle.comp_roles.specs.declared.imports.ImportInstance.TheVariants as insta
 use Rattle.comp_roles.specs.declared.libraries.MainOrAdapter.{MainOrAdapter}
 use Rattle.comp_roles.specs.declared.libraries.MainOrAdapter.TheVariants as modules
 use Rattle.comp_worlds.specs.declared.world.ComponentWorld.{ComponentWorld}
+use Rattle.comp_worlds.specs.declared.world.WorldAdapter.{WorldAdapter}
 use Rattle.comp_links.specs.Targets.{UserModule, Main, Adapter, ExportRef, TargetOption, Memory, Realloc, Encoding, Async, PostReturn, Target, OfRoot, OfInterface, Lowered, ExportOf, MainMemory, Dropped, Lifted, Unlinked}
 use Rattle.comp_links.specs.Modules.{WorldModule}
 use Rattle.comp_links.specs.Lists.{RequiredFunction}
-use Rattle.comp_links.specs.Roles.{export_encoding}
+use Rattle.comp_links.specs.Roles.{import_encoding, export_encoding}
 
 -- an option, if it is needed and there is what it names
 abbrev pub if_needed : Bool → Option TargetOption → List TargetOption
@@ -37,9 +39,29 @@ abbrev pub options_in : ℕ → Option ExportRef → Option StringEncoding → L
 options_in set realloc encoding =
     if_needed (needs set 1) (Some Memory) ++ (if_needed (needs set 2) (option_map Realloc realloc) ++ (if_needed (needs set 4) (option_map Encoding encoding) ++ if_needed (needs set 8) (Some Async)))
 
--- the options with which a function is lowered: no call of an imported function needs one
-abbrev pub lower_options : ComponentWorld → UserModule → WorldKey → List TargetOption
-lower_options w m key = []
+-- ---- lowerings
+
+-- the set of options that a call of the function of a role needs
+abbrev pub lower_needs : ComponentWorld → Import → ℕ
+lower_needs w (imports.WorldFunc key function abi) = option_map_or (import_set abi w.resolve.types) (root_function_at (items_of w).imports key) 0
+lower_needs w (imports.InterfaceFunc key id function abi) = option_map_or (import_set abi w.resolve.types) (found function (functions_of w.resolve id)) 0
+lower_needs w role = 0
+
+-- the realloc of calls of a module's imports: one that it exports, or, for a library that has none, one of main's
+abbrev pub export_at : Option (List ℕ) × List ℕ → ExportRef
+export_at (None, name) = record { of = Main; name = name }
+export_at (Some adapter, name) = record { of = Adapter adapter; name = name }
+
+abbrev pub lower_realloc : ComponentWorld → UserModule → Option ExportRef
+lower_realloc w Main = option_map export_at (resolved_realloc w None (realloc_for is_import_realloc w.main.exports.exports))
+lower_realloc w (Adapter name) =
+    option_and_then (λ (a : WorldAdapter). option_map export_at (resolved_realloc w (Some name) (realloc_for is_import_realloc a.info.exports.exports))) (found name w.adapters)
+
+-- the options with which the function of a role is lowered: those that its type needs
+abbrev pub lower_options : ComponentWorld → UserModule → Import → List TargetOption
+lower_options w m role = options_in (lower_needs w role) (lower_realloc w m) (import_encoding w role)
+
+-- ---- lifts
 
 -- the set of options that a lift of the function of a key needs
 abbrev pub lift_needs : ComponentWorld → WorldKey → ℕ
@@ -62,6 +84,8 @@ needed_options w m key = options_in (lift_needs w key) (option_map (export_of m)
 abbrev pub lift_options : ComponentWorld → UserModule → WorldKey → List TargetOption
 lift_options w m key = needed_options w m key ++ if_needed true (option_map PostReturn (option_map (export_of m) (post_return_of w key)))
 
+-- ---- the link table
+
 -- a user module as others name it
 abbrev pub module_of : MainOrAdapter → UserModule
 module_of modules.Main = Main
@@ -70,8 +94,8 @@ module_of (modules.Adapter name) = Adapter name
 -- what an import of a user module is to be given, by its role: a function of the world is lowered, handles of a resource are
 -- dropped, and what another module exports is given as it is
 abbrev pub link_of : ComponentWorld → UserModule → Import → Target
-link_of w m (imports.WorldFunc (keys.Name text) function abi) = Lowered (OfRoot text) (lower_options w m (keys.Name text))
-link_of w m (imports.InterfaceFunc key id function abi) = Lowered (OfInterface id function) (lower_options w m key)
+link_of w m (imports.WorldFunc (keys.Name text) function abi) = Lowered (OfRoot text) (lower_options w m (imports.WorldFunc (keys.Name text) function abi))
+link_of w m (imports.InterfaceFunc key id function abi) = Lowered (OfInterface id function) (lower_options w m (imports.InterfaceFunc key id function abi))
 link_of w m (imports.ImportedResourceDrop key interface id) = Dropped id
 link_of w m (imports.MainModuleMemory type) = MainMemory
 link_of w m (imports.MainModuleExport name kind) = ExportOf (record { of = Main; name = name })

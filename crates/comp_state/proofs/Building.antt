@@ -1,6 +1,6 @@
 -- The steps in their order build a whole component.
 use Rattle.comp_links.specs.Naming.{Naming}
-use Rattle.std.proofs.Common.{◌≡◌, ◌∙◌, ℕ, ◌==◌, Bool, true, false, List, [], ◌∷◌, ◌++◌, length, refl, sym, ap, subst, append-nil, append_assoc, Option, Some, None, IsSome, is_some, inl, inr, true≢false, if◌then◌else◌}
+use Rattle.std.proofs.Common.{◌≡◌, ◌∙◌, ℕ, ◌==◌, Bool, true, false, List, [], ◌∷◌, ◌++◌, length, refl, sym, ap, subst, append-nil, append_assoc, Option, Some, None, IsSome, is_some, ◌⊎◌, inl, inr, true≢false, if◌then◌else◌}
 use Rattle.comp_lists.proofs.Lists.{AllByRecursion-contains}
 use Rattle.comp_builder.specs.Built.{Built}
 use Rattle.comp_bytes.specs.DebugNames.{names_text}
@@ -13,25 +13,33 @@ use Rattle.comp_roles.specs.CoreImports.{CoreImport}
 use Rattle.comp_worlds.specs.WorldContents.{core_imports}
 use Rattle.wit_data.specs.declared.worlds.WorldKey.{WorldKey}
 use Rattle.comp_worlds.specs.declared.world.ComponentWorld.{ComponentWorld}
-use Rattle.comp_state.specs.Causes.{IsEncoded, LacksEncoding, LacksMemory, LacksRealloc}
-use Rattle.comp_state.specs.LiftOptions.{memory_name, HasLiftOptions}
-use Rattle.comp_links.specs.Links.{lift_realloc}
+use Rattle.core_instances.specs.Instances.{instances_marked, AddsInstances}
+use Rattle.core_options.specs.Causes.{IsEncoded, LacksEncoding, LacksMemory, LacksRealloc, NeedsLowering, NeedsLift}
+use Rattle.core_options.specs.MainOptions.{memory_name, HasLowerOptions, HasLiftOptions}
+use Rattle.comp_links.specs.Links.{lower_realloc, lift_realloc}
+use Rattle.comp_links.specs.Targets.{Main}
+use Rattle.comp_terms.specs.Generated.{GeneratedBytes, MayBeGenerated}
 use Rattle.comp_links.specs.Roles.{import_encoding, IsEncodedImport, export_encoding}
 use Rattle.comp_trees.specs.Inventories.{inventory}
 use Rattle.comp_terms.specs.Terms.{imports_in}
-use Rattle.comp_terms.specs.Rules.{Grows, RightAfter, Landmark, ModuleIs, InstanceOf, landmarks, imports_marked, exports_marked, expected, IsUnnamed, IsBuilt}
-use Rattle.comp_imports.specs.Growing.{Grows-then}
+use Rattle.comp_terms.specs.Rules.{Grows, RightAfter, Landmark, ModuleIs, landmarks, imports_marked, exports_marked, expected, IsUnnamed, IsBuilt}
+use Rattle.root_imports.specs.Growing.{Grows-then}
 
 -- a list that grew from the empty one
-pub built_from : (n : Naming) (w : ComponentWorld) (old new : List Def) → old ≡ [] → Grows w old new (expected n w) → IsUnnamed n w new
-built_from n w old new empty g =
+pub built_from : (n : Naming) (w : ComponentWorld) (o : Option GeneratedBytes) → MayBeGenerated w o → (old new : List Def) → old ≡ [] → Grows w old new (expected n w o) → IsUnnamed n w new
+built_from n w o generated old new empty g =
     let same : new ≡ g.more = g.extended ∙ ap (λ l. l ++ g.more) empty in
     let right : RightAfter w [] g.more = subst (λ l. RightAfter w l g.more) empty g.right in
-    record { right = subst (λ l. RightAfter w [] l) (sym same) right; marked = ap landmarks same ∙ g.marked }
+    record { generated = o; are_generated = generated; right = subst (λ l. RightAfter w [] l) (sym same) right; marked = ap landmarks same ∙ g.marked }
 
-pub built_by_steps : (n : Naming) (w : ComponentWorld) (a b c d e : List Def) → a ≡ [] → Grows w a b (imports_marked n w) → Grows w b c (ModuleIs w.main.bytes ∷ []) → Grows w c d (InstanceOf 0 ∷ []) →
-    Grows w d e (exports_marked w) → IsUnnamed n w e
-built_by_steps n w a b c d e empty imports main instance exports = built_from n w a e empty (Grows-then imports (Grows-then main (Grows-then instance exports)))
+pub built_by_steps : (n : Naming) (w : ComponentWorld) (a b c d e : List Def) → a ≡ [] → Grows w a b (imports_marked n w) → Grows w b c (ModuleIs w.main.bytes ∷ []) → AddsInstances w c d → Grows w d e (exports_marked w) → IsUnnamed n w e
+built_by_steps n w a b c d e empty imports main added exports =
+    built_from n w added.generated added.are_generated a e empty
+    (subst (λ m. Grows w a e m) (modules_are added.generated) (Grows-then imports (Grows-then main (Grows-then added.grows exports))))
+  where
+    modules_are : (o : Option GeneratedBytes) → imports_marked n w ++ ((ModuleIs w.main.bytes ∷ []) ++ (instances_marked w o ++ exports_marked w)) ≡ expected n w o
+    modules_are None = refl
+    modules_are (Some g) = refl
 
 -- the landmarks of a list that grew from the empty one
 pub marked_from : (w : ComponentWorld) (old new : List Def) (m : List Landmark) → old ≡ [] → Grows w old new m → landmarks new ≡ m
@@ -47,8 +55,10 @@ built_named n w old new same h = subst (λ (b : Built). IsBuilt n w b.defs) (sym
   where
     named : (b : Bool) (contents : List ℕ) →
         IsBuilt n w (if b then old else record { defs = old.defs ++ defs.Item (items.Custom (codes "component-name") contents) ∷ []; names = old.names }).defs
-    named true contents = record { front = old.defs; names = []; whole = sym (append-nil old.defs); right = h.right; marked = h.marked; named = tt }
+    named true contents = record { generated = h.generated; are_generated = h.are_generated; front = old.defs; names = []; whole = sym (append-nil old.defs); right = h.right; marked = h.marked; named = tt }
     named false contents = record {
+      generated = h.generated;
+      are_generated = h.are_generated;
       front = old.defs;
       names = defs.Item (items.Custom (codes "component-name") contents) ∷ [];
       whole = refl;
@@ -67,12 +77,18 @@ encoded_lacks w h place (inl l) =
     lacks_none (import_encoding w l.given.role) (AllByRecursion-contains (λ (i : CoreImport). IsEncodedImport w i.role) (core_imports w) l.given h.imports l.present l.needs) l.none
 encoded_lacks w h place (inr l) = lacks_none (export_encoding w l.key) (AllByRecursion-contains (λ (k : WorldKey). IsSome (export_encoding w k)) w.main_exports l.key h.exports l.present) l.none
 
--- where main has what lifts need, nothing is missing
-pub encoded_memory : (w : ComponentWorld) → IsEncoded w → (place : List ℕ) → LacksMemory w w.main_exports place → ⊥
-encoded_memory w h place l = let has = AllByRecursion-contains (HasLiftOptions w) w.main_exports l.key h.options l.present in lacks_none (memory_name w) (has.memory l.needed) l.none
+-- where main has what lowerings and lifts need, nothing is missing
+pub encoded_memory : (w : ComponentWorld) → IsEncoded w → (place : List ℕ) → LacksMemory w (core_imports w) w.main_exports place → ⊥
+encoded_memory w h place l = lacks_none (memory_name w) (offered l.needed) l.none
+  where
+    offered : NeedsLowering w 1 (core_imports w) place ⊎ NeedsLift w 1 w.main_exports place → IsSome (memory_name w)
+    offered (inl n) = let has = AllByRecursion-contains (λ (i : CoreImport). HasLowerOptions w i.role) (core_imports w) n.given h.lowered n.present in has.memory n.needed
+    offered (inr n) = let has = AllByRecursion-contains (HasLiftOptions w) w.main_exports n.key h.lifted n.present in has.memory n.needed
 
-pub encoded_realloc : (w : ComponentWorld) → IsEncoded w → (place : List ℕ) → LacksRealloc w w.main_exports place → ⊥
-encoded_realloc w h place l = let has = AllByRecursion-contains (HasLiftOptions w) w.main_exports l.key h.options l.present in lacks_none (lift_realloc w) (has.realloc l.needed) l.none
+pub encoded_realloc : (w : ComponentWorld) → IsEncoded w → (place : List ℕ) → LacksRealloc w (core_imports w) w.main_exports place → ⊥
+encoded_realloc w h place (inl l) =
+    let has = AllByRecursion-contains (λ (i : CoreImport). HasLowerOptions w i.role) (core_imports w) l.0.given h.lowered l.0.present in lacks_none (lower_realloc w Main) (has.realloc l.0.needed) l.1
+encoded_realloc w h place (inr l) = let has = AllByRecursion-contains (HasLiftOptions w) w.main_exports l.0.key h.lifted l.0.present in lacks_none (lift_realloc w) (has.realloc l.0.needed) l.1
 
 -- the empty list has no imports
 pub no_definitions : (ds : List Def) → ds ≡ [] → imports_in ds ≡ 0

@@ -1,10 +1,4 @@
-pub mod Refusals
-pub mod Building
-pub mod Offered
-pub mod LiftOptions
-pub mod Exporting
-pub mod Growth
-pub mod Indexing
-pub mod Scoping
-pub mod Serving
-pub mod Interfaces
+mod Alone
+mod Building
+mod Growth
+mod Scoping

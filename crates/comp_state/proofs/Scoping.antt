@@ -1,6 +1,6 @@
 -- A list that keeps the rules names earlier items, each by its index and space.
 use Rattle.comp_links.specs.Naming.{Naming}
-use Rattle.std.proofs.Common.{◌≡◌, ℕ, ◌<◌, length, List, [], ◌∷◌, ◌++◌, sym, subst, Some, None}
+use Rattle.std.proofs.Common.{ℕ, ◌<◌, length, List, [], ◌∷◌, ◌++◌, sym, subst, append-nil, Some, None, inl, inr}
 use Rattle.std.specs.List.{AllByRecursion, AllZip, flat_map}
 use Rattle.std.proofs.lemmas.List.{length-map}
 use Rattle.std.proofs.lemmas.Option.{slice_get_within}
@@ -9,6 +9,7 @@ use Rattle.comp_bytes.specs.References.{Reference, own, type_references, options
 use Rattle.comp_bytes.specs.declared.canon.Intrinsic.{Intrinsic}
 use Rattle.comp_bytes.specs.declared.canon.Intrinsic.TheVariants as intrinsics
 use Rattle.comp_bytes.specs.Scopes.{InScope, EachIn, DefScoped, Scoped, scope_of}
+use Rattle.comp_lists.proofs.Lists.{AllByRecursion-weaker}
 use Rattle.comp_bytes.proofs.ItemIndices.{in_range}
 use Rattle.comp_bytes.specs.declared.canon.CanonicalOption.{CanonicalOption}
 use Rattle.comp_bytes.specs.declared.canon.CanonicalOption.TheVariants as canonical
@@ -36,7 +37,7 @@ use Rattle.comp_trees.proofs.InventoryGrowth.{scope_counted}
 use Rattle.comp_trees.proofs.KnownScopes.{known_defined, known_function_names}
 use Rattle.comp_trees.proofs.MemberScopes.{members_scoped}
 use Rattle.comp_items.proofs.Kept.{function_in_range}
-use Rattle.comp_terms.specs.Rules.{AliasesImported, ImportsInterface, IsOptionRight, IsTypeRight, IsIntrinsicRight, IsRight, RightAfter, IsEntry, IsBuilt}
+use Rattle.comp_terms.specs.Rules.{AliasesImported, ImportsInterface, InstantiatesModule, IsOptionRight, IsLowerOptionRight, IsTypeRight, IsIntrinsicRight, IsRight, RightAfter, IsEntry, IsBuilt}
 
 abbrev Within : List Def → Reference → Type 0
 Within earlier = InScope (scope_of space_of earlier ∷ [])
@@ -52,9 +53,6 @@ entries_within : (earlier : List Def) (es : List CoreInlineExport) → AllByRecu
 entries_within earlier [] h = tt
 entries_within earlier (e ∷ es) h = (subst (λ k. e.index < items_in (kind_space k) earlier) (sym h.0.kind) h.0.scoped, entries_within earlier es h.1)
 
-no_options : (earlier : List Def) (options : List CanonicalOption) → options ≡ [] → AllByRecursion (Within earlier) (options_references options)
-no_options earlier options none = subst (λ o. AllByRecursion (Within earlier) (options_references o)) (sym none) tt
-
 -- options name items of the list
 options_within : (earlier : List Def) (os : List CanonicalOption) (rest : List Reference) → AllByRecursion (IsOptionRight earlier) os → AllByRecursion (Within earlier) rest → AllByRecursion (Within earlier) (options_references os ++ rest)
 options_within earlier [] rest h k = k
@@ -63,6 +61,22 @@ options_within earlier (canonical.Realloc index ∷ os) rest h k = (h.0, options
 options_within earlier (canonical.PostReturn index ∷ os) rest h k = (h.0, options_within earlier os rest h.1 k)
 options_within earlier (canonical.Callback index ∷ os) rest h k = (h.0, options_within earlier os rest h.1 k)
 options_within earlier (o ∷ os) rest h k = options_within earlier os rest h.1 k
+
+-- so do those of a lowering
+lower_right : (earlier : List Def) (o : CanonicalOption) → IsLowerOptionRight earlier o → IsOptionRight earlier o
+lower_right earlier canonical.Async h = absurd h
+lower_right earlier o h = h
+
+lower_within : (earlier : List Def) (os : List CanonicalOption) → AllByRecursion (IsLowerOptionRight earlier) os → AllByRecursion (Within earlier) (options_references os)
+lower_within earlier os h = subst (AllByRecursion (Within earlier)) (append-nil (options_references os)) (options_within earlier os [] (AllByRecursion-weaker (lower_right earlier) os h) tt)
+
+-- the module that is instantiated and its arguments are there
+module_within : (w : ComponentWorld) (earlier : List Def) (number : ℕ) (arguments : List CoreArgument) → InstantiatesModule w earlier number arguments →
+    AllByRecursion (Within earlier) (own spaces.CoreModule number ∷ flat_map (λ a. own spaces.CoreInstance a.instance ∷ []) arguments)
+module_within w earlier number arguments (inl h) = (h.scoped, arguments_within w h.of.of earlier arguments h.of.found.imports.modules h.each)
+module_within w earlier number arguments (inr (inl h)) = (h.scoped, subst (λ (as' : List CoreArgument). AllByRecursion (Within earlier) (flat_map (λ a. own spaces.CoreInstance a.instance ∷ []) as')) (sym h.closed) tt)
+module_within w earlier number arguments (inr (inr h)) =
+    (h.scoped, subst (λ (as' : List CoreArgument). AllByRecursion (Within earlier) (flat_map (λ a. own spaces.CoreInstance a.instance ∷ []) as')) (sym h.given) (in_range h.fills.made, (in_range h.of_shims.made, tt)))
 
 type_named : (earlier : List Def) (index : ℕ) → index < length (inventories.scope_of earlier) → Within earlier (own spaces.Type index)
 type_named earlier index l = subst (λ n. index < n) (scope_counted earlier) l
@@ -90,19 +104,20 @@ instance_type_there w earlier index h =
 within : (w : ComponentWorld) (earlier : List Def) (d : Def) → IsRight w earlier d → DefScoped (scope_of space_of earlier) d
 within w earlier (defs.Component inner) h = absurd h
 within w earlier (defs.Item (items.CoreModule bytes)) h = (tt, tt)
-within w earlier (defs.Item (items.CoreInstantiate number arguments)) h = ((h.scoped, arguments_within w h.of.of earlier arguments h.of.found.imports.modules h.each), tt)
+within w earlier (defs.Item (items.CoreInstantiate number arguments)) h = (module_within w earlier number arguments h, tt)
 within w earlier (defs.Item (items.CoreExports entries)) h = (entries_within earlier entries h.each, tt)
 within w earlier (defs.Item (items.Instantiate component arguments)) h = absurd h
 within w earlier (defs.Item (items.Alias (aliases.Export exports.Func instance name))) h = ((instance_in_range earlier spaces.Func instance name h, tt), tt)
 within w earlier (defs.Item (items.Alias (aliases.Export exports.Type instance name))) h = ((instance_in_range earlier spaces.Type instance name h, tt), tt)
 within w earlier (defs.Item (items.Alias (aliases.Export exports.Component instance name))) h = absurd h
 within w earlier (defs.Item (items.Alias (aliases.Export exports.Instance instance name))) h = absurd h
-within w earlier (defs.Item (items.Alias (aliases.CoreExport kind instance name))) h = ((in_range h.is.made, tt), tt)
+within w earlier (defs.Item (items.Alias (aliases.CoreExport kind instance name))) (inl h) = ((in_range h.is.made, tt), tt)
+within w earlier (defs.Item (items.Alias (aliases.CoreExport kind instance name))) (inr h) = ((in_range h.is.made, tt), tt)
 within w earlier (defs.Item (items.Alias (aliases.Outer count index))) h = absurd h
 within w earlier (defs.Item (items.Type t)) h = (type_within earlier t h, tt)
 within w earlier (defs.Item (items.InstanceType t)) h = (tt, members_scoped (surroundings_of h.number (inventories.scope_of earlier)) (scope_of space_of earlier) (scope_counted earlier) t.members h.right)
 within w earlier (defs.Item (items.Lift core options kind)) h = ((h.0, options_within earlier options (type_at kind) h.1 (type_named earlier kind h.2.is.denotes.within, tt)), tt)
-within w earlier (defs.Item (items.Lower function options)) h = ((function_in_range h.0.is, no_options earlier options h.1), tt)
+within w earlier (defs.Item (items.Lower function options)) h = ((function_in_range h.0.is, lower_within earlier options h.1), tt)
 within w earlier (defs.Item (items.Intrinsic i)) h = (intrinsic_within earlier i h, tt)
 within w earlier (defs.Item (items.Import name (descriptions.Func kind))) h = ((type_named earlier kind h.is.denotes.within, tt), tt)
 within w earlier (defs.Item (items.Import name (descriptions.TypeEqual index))) h = ((type_named earlier index h.0, tt), tt)

@@ -1,4 +1,2 @@
-pub mod Causes
 pub mod Encoding
-pub mod LiftOptions
 pub mod Tables

@@ -6,18 +6,19 @@ ghost use Rattle.comp_builder.specs.Naming.{with_names};
 ghost use Rattle.comp_bytes.specs.Scopes.{Scoped};
 ghost use Rattle.comp_worlds.specs.Encodable.{IsEncodable};
 ghost use Rattle.comp_imports.specs.Names.{naming_of};
-ghost use Rattle.comp_imports.specs.RootScopes.{IsRefusal};
+ghost use Rattle.root_imports.specs.RootScopes.{IsRefusal};
 ghost use Rattle.comp_state.specs.declared.state.Step.TheVariants.{Started};
-ghost use Rattle.comp_state.specs.Causes.{IsCause, LacksEncoding, LacksMemory, LacksRealloc, IsEncoded};
 ghost use Rattle.comp_state.specs.Encoding.{naming_in};
-ghost use Rattle.comp_terms.specs.Rules.{Grows, IsUnnamed, IsBuilt, expected};
+ghost use Rattle.comp_terms.specs.Rules.{IsUnnamed, IsBuilt};
+ghost use Rattle.comp_worlds.specs.WorldContents.{core_imports};
+ghost use Rattle.core_options.specs.Causes.{IsCause, LacksEncoding, LacksMemory, LacksRealloc, IsEncoded};
 
-use crate::fault::StateFault;
 use crate::state::EncodingState;
 use byte_encoding::BuildFault;
 use comp_builder::ComponentBuilder;
 use comp_imports::ImportNames;
 use comp_worlds::ComponentWorld;
+use core_options::StateFault;
 use std::alloc::Global;
 
 /// A component, with the names of its items.
@@ -50,31 +51,33 @@ impl EncodingState<'_> {
     {
         self.encode_imports()?;
         self.encode_core_modules()?;
-        self.instantiate()?;
+        self.encode_core_instantiation()?;
         self.encode_exports()?;
         Ok(())
     }
 }
 
 /// The component of a validated world, definition by definition, with the names of its items. Interfaces are imported under the
-/// names that `names` makes.
+/// names that `names` makes. The modules that are generated have debug names if `debug_names` says so.
 ///
-/// Refused when out of memory, where a function is lifted with a memory or a realloc that main doesn't export (`E7`, `E8`, with
-/// the function), where a function that is imported or exported has no string encoding (`E9`, with the function), and where a space would have more than 2^32 - 1 items, or a count or a
-/// size among the names would pass that (`E16`).
+/// Refused when out of memory, where a function is lowered or lifted with a memory or a realloc that main doesn't export (`E7`,
+/// `E8`, with the name of the import's shim, or the function that is lifted), where a function that is imported or exported has no
+/// string encoding (`E9`, with the import, or the function), and where a space would have more than 2^32 - 1 items, or a count or
+/// a size among the names or in a module that is generated would pass that (`E16`).
 pub fn encode_world(
     alloc: Global,
     world: &ComponentWorld,
     names: ImportNames<'_>,
+    debug_names: bool,
 ) -> Result<ComponentBuilder, StateFault>
     requires { IsEncodable world.now }
     ensures ok { IfOk result (λ component. Scoped component.defs × IsBuilt (naming_of names.entry) world.now component.defs) }
     ensures refused { IsOk result → (place : List ℕ) → LacksEncoding world.now place → ⊥ }
-    ensures memory { IsOk result → (place : List ℕ) → LacksMemory world.now world.now.main_exports place → ⊥ }
-    ensures realloc { IsOk result → (place : List ℕ) → LacksRealloc world.now world.now.main_exports place → ⊥ }
+    ensures memory { IsOk result → (place : List ℕ) → LacksMemory world.now (core_imports world.now) world.now.main_exports place → ⊥ }
+    ensures realloc { IsOk result → (place : List ℕ) → LacksRealloc world.now (core_imports world.now) world.now.main_exports place → ⊥ }
     ensures cause { IfErr result (IsCause world.now) }
 {
-    let mut state = EncodingState::new(alloc, world, names)?;
+    let mut state = EncodingState::new(alloc, world, names, debug_names)?;
     state.encode_all()?;
     state.finish()
 }

@@ -1,39 +1,30 @@
 //! The state while a world is encoded, and the steps in it.
 #![tactic(auto, using(crate::proofs::Growth::growing))]
 
-ghost use Rattle.std.specs.Prelude.{◌≡◌, [], ◌∷◌, IfOk, IfErr, OnOk, IsSome, Contains};
+ghost use Rattle.std.specs.Prelude.{◌≡◌, [], ◌∷◌, IfOk, IfErr, OnOk, IsSome};
 ghost use Rattle.std.specs.List.{AllByRecursion};
 ghost use Rattle.comp_builder.specs.Built.{nothing_built};
-ghost use Rattle.comp_bytes.specs.Spaces.{kind_space};
 ghost use Rattle.comp_items.specs.Items.{Extends};
-ghost use Rattle.comp_links.specs.Links.{link_of};
 ghost use Rattle.comp_links.specs.Roles.{IsEncodedImport, export_encoding};
-ghost use Rattle.comp_links.specs.Targets.{Main};
-ghost use Rattle.comp_state.specs.Causes.{IsCause, IsCauseAmong};
-ghost use Rattle.comp_state.specs.Encoding.{AreImported, IsFirstModule, IsRequiredLift, naming_in};
-ghost use Rattle.comp_state.specs.LiftOptions.{HasLiftOptions};
+ghost use Rattle.comp_state.specs.Encoding.{AreImported, naming_in};
 ghost use Rattle.comp_state.specs.declared.state.Step.TheVariants.{Started, Imported, Instantiated};
-ghost use Rattle.comp_terms.specs.Planned.{IsItemFor};
-ghost use Rattle.comp_terms.specs.Rules.{Grows, ModuleIs, InstanceOf, imports_marked, exports_marked, landmarks};
+ghost use Rattle.comp_terms.specs.Rules.{Grows, ModuleIs, imports_marked, exports_marked, landmarks};
 ghost use Rattle.comp_worlds.specs.Encodable.{IsEncodable};
-ghost use Rattle.comp_worlds.specs.WorldContents.{core_imports, core_name_of};
+ghost use Rattle.comp_worlds.specs.WorldContents.{core_imports};
+ghost use Rattle.core_instances.specs.Instances.{IsMainAlone, AddsInstances};
+ghost use Rattle.core_options.specs.Causes.{IsCause};
+ghost use Rattle.core_options.specs.MainOptions.{HasLowerOptions, HasLiftOptions};
 
-use crate::exports::MainExports;
-use crate::fault::StateFault;
-use crate::indexes::core_names;
-use crate::instances::ImportSources;
-use crate::options::memory_of_main;
-use comp_imports::{ImportNames, RootScope};
+use comp_imports::{ImportNames, import_all};
 use comp_items::ComponentItems;
 use comp_lists::{Keyed, Text};
-use comp_worlds::{ComponentWorld, Import};
-use standard_kinds::ExportKind;
+use comp_worlds::ComponentWorld;
+use core_instances::encode_core_instantiation;
+use core_options::StateFault;
+use main_exports::{MainExports, core_names};
+use root_imports::RootScope;
 use std::alloc::{AllocError, Global};
 use std::marker::Model;
-use wit_data::WorldKey;
-
-/// The index of main's module: it is the first core module of a component.
-const MAIN_MODULE: u32 = 0;
 
 /// How far an encoding has come.
 #[derive(Clone, Copy, Debug, PartialEq, Eq)]
@@ -54,6 +45,8 @@ pub struct EncodingState<'a> {
     pub(crate) root: RootScope<'a, ComponentWorld>,
     /// The names of imported interfaces.
     pub(crate) names: ImportNames<'a>,
+    /// Whether the modules that are generated have debug names.
+    pub(crate) debug_names: bool,
     pub(crate) step: Step,
     /// The root functions that were imported.
     pub(crate) functions: Keyed<Text, u32>,
@@ -68,6 +61,7 @@ impl Drop for EncodingState<'_> {
         let EncodingState {
             root: _,
             names: _,
+            debug_names: _,
             step: _,
             functions: _,
             core_names: _,
@@ -89,11 +83,12 @@ impl<'a> Model for EncodingState<'a> {
 
 impl<'a> EncodingState<'a> {
     /// The state before the first step: no item is made yet. Interfaces are to be imported under the names that `names`
-    /// makes.
+    /// makes, and the modules that are generated have debug names if `debug_names` says so.
     pub fn new(
         alloc: Global,
         world: &'a ComponentWorld,
         names: ImportNames<'a>,
+        debug_names: bool,
     ) -> Result<EncodingState<'a>, AllocError>
         requires { IsEncodable world.now }
         ensures { IfOk result (λ s. s ≡ record { world = world.entry.now; canonical = names.entry.canonical; renamed = names.entry.renamed.now; built = nothing_built; step = Started }) }
@@ -102,6 +97,7 @@ impl<'a> EncodingState<'a> {
         Ok(EncodingState {
             root: RootScope::new(alloc, world),
             names,
+            debug_names,
             step: Step::Started,
             functions: Keyed::new(alloc),
             core_names,
@@ -118,6 +114,7 @@ impl EncodingState<'_> {
         let EncodingState {
             root,
             names: _,
+            debug_names: _,
             step: _,
             functions: _,
             core_names: _,
@@ -138,7 +135,7 @@ impl EncodingState<'_> {
         ensures grows { OnOk result (Grows self.old.world self.old.built.defs self.new.built.defs (imports_marked (naming_in self.old) self.old.world)) }
         ensures cause { IfErr result (IsCause self.old.world) }
     {
-        let functions = self.root.import_all(&self.names)?;
+        let functions = import_all(&mut self.root, &self.names)?;
         self.functions = functions;
         self.step = Step::Imported;
         Ok(())
@@ -150,7 +147,7 @@ impl EncodingState<'_> {
         ensures same { self.new ≡ record self.old { built = self.new.built } }
         ensures extends { Extends self.old.built self.new.built }
         ensures grows { OnOk result (Grows self.old.world self.old.built.defs self.new.built.defs (ModuleIs self.old.world.main.bytes ∷ [])) }
-        ensures first { OnOk result (IsFirstModule self.old.world self.new.built.defs) }
+        ensures alone { OnOk result (IsMainAlone self.old.world self.new.built.defs) }
         ensures cause { IfErr result (IsCause self.old.world) }
     {
         let world = self.root.world;
@@ -160,75 +157,27 @@ impl EncodingState<'_> {
         Ok(())
     }
 
-    /// What an import of main is given: the kind and the index of a core item.
+    /// Makes main's instance, and before and after it the instances of the module of shims and of the fixup, where main needs
+    /// shims.
     ///
-    /// `E9` where the function of the import has no string encoding.
-    pub fn materialize_import(
-        &mut self,
-        module: &Text,
-        field: &Text,
-        import: &Import,
-    ) -> Result<(ExportKind, u32), StateFault>
-        requires imported { AreImported self.old.step }
-        requires present { Contains (core_imports self.old.world) (record { module_name = «module».now; field = field.now; role = import.now }) }
-        ensures same { self.new ≡ record self.old { built = self.new.built } }
-        ensures extends { Extends self.old.built self.new.built }
-        ensures grows { OnOk result (Grows self.old.world self.old.built.defs self.new.built.defs []) }
-        ensures made { IfOk result (λ item. IsItemFor self.old.world self.new.built.defs (kind_space item.0) item.1 (link_of self.old.world Main import.now)) }
-        ensures encoded { OnOk result (IsEncodedImport self.old.world import.now) }
-        ensures cause { IfErr result (IsCauseAmong self.old.world (record { module_name = «module».now; field = field.now; role = import.now } ∷ []) []) }
-    {
-        let sources = ImportSources {
-            functions: &self.functions,
-        };
-        sources.materialize(&mut self.root, module, field, import)
-    }
-
-    /// Makes main's instance, and an alias of the memory that it exports, if it exports one.
-    pub fn instantiate(&mut self) -> Result<(), StateFault>
-        requires first { IsFirstModule self.old.world self.old.built.defs }
+    /// `E9` where an import of a function has no string encoding, `E7` where a function is lowered with a memory and main exports
+    /// none, `E8` where it is lowered with a realloc and main exports none for imports.
+    pub fn encode_core_instantiation(&mut self) -> Result<(), StateFault>
+        requires alone { IsMainAlone self.old.world self.old.built.defs }
         requires imported { AreImported self.old.step }
         ensures world { self.new.world ≡ self.old.world }
         ensures names { naming_in self.new ≡ naming_in self.old }
         ensures step { OnOk result (self.new.step ≡ Instantiated) }
         ensures extends { Extends self.old.built self.new.built }
-        ensures grows { OnOk result (Grows self.old.world self.old.built.defs self.new.built.defs (InstanceOf 0 ∷ [])) }
+        ensures added { OnOk result (AddsInstances self.old.world self.old.built.defs self.new.built.defs) }
         ensures encoded { OnOk result (AllByRecursion (λ i. IsEncodedImport self.old.world i.role) (core_imports self.old.world)) }
+        ensures lowered { OnOk result (AllByRecursion (λ i. HasLowerOptions self.old.world i.role) (core_imports self.old.world)) }
         ensures cause { IfErr result (IsCause self.old.world) }
     {
-        let sources = ImportSources {
-            functions: &self.functions,
-        };
-        let arguments = sources.arguments(&mut self.root)?;
-        let index = self
-            .root
-            .items
-            .core_instance(Some("main"), MAIN_MODULE, arguments)?;
-        memory_of_main(&mut self.root, index)?;
-        self.main = Some(index);
+        let main = encode_core_instantiation(&mut self.root, &self.functions, self.debug_names)?;
+        self.main = Some(main);
         self.step = Step::Instantiated;
         Ok(())
-    }
-
-    /// Lifts a required function.
-    ///
-    /// `E7` where it needs a memory and main exports none, `E8` where it needs a realloc and main exports none for it, `E9`
-    /// where it has no string encoding.
-    pub fn encode_lift(&mut self, key: &WorldKey) -> Result<u32, StateFault>
-        requires instantiated { self.old.step ≡ Instantiated }
-        requires present { IsSome (core_name_of self.old.world key.now) }
-        ensures same { self.new ≡ record self.old { built = self.new.built } }
-        ensures extends { Extends self.old.built self.new.built }
-        ensures grows { OnOk result (Grows self.old.world self.old.built.defs self.new.built.defs []) }
-        ensures lifted { IfOk result (λ index. IsRequiredLift self.old.world self.new.built.defs index key.now) }
-        ensures has { OnOk result (HasLiftOptions self.old.world key.now) }
-        ensures cause { IfErr result (IsCauseAmong self.old.world [] (key.now ∷ [])) }
-    {
-        let exports = MainExports {
-            core_names: &self.core_names,
-            instance: self.main.unwrap(),
-        };
-        exports.lift(&mut self.root, key)
     }
 
     /// Lifts and exports the required exports of main, in order.

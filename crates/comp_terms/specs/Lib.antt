@@ -1,3 +1,4 @@
 pub mod Terms
+pub mod Generated
 pub mod Planned
 pub mod Rules

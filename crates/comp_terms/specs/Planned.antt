@@ -1,6 +1,7 @@
 -- Which terms the link table of a world asks for (Canonical ABI: `canon lower`, `canon lift`; component model, explainer:
 -- core instances), and what the instances of its modules are given.
-use Rattle.std.specs.Prelude.{◌≡◌, ℕ, List, Some}
+use Rattle.std.specs.Prelude.{◌≡◌, ◌⊎◌, ℕ, List, Some, slice_get}
+use Rattle.std.specs.Fmt.{decimal}
 use Rattle.std.specs.List.{AllZip}
 use Rattle.comp_bytes.specs.ItemIndices.{IsAt}
 use Rattle.comp_bytes.specs.Spaces.{kind_space}
@@ -11,6 +12,7 @@ use Rattle.comp_bytes.specs.declared.def.CoreInlineExport.{CoreInlineExport}
 use Rattle.comp_bytes.specs.declared.def.Item.TheVariants as items
 use Rattle.comp_bytes.specs.declared.def.Def.{Def}
 use Rattle.comp_bytes.specs.declared.def.Def.TheVariants as defs
+use Rattle.standard_kinds.specs.declared.kinds.ExportKind.TheVariants as kinds
 use Rattle.core_types.specs.declared.types.MemoryType.{MemoryType}
 use Rattle.comp_roles.specs.Lookups.{first_memory}
 use Rattle.comp_roles.specs.CoreImports.{fields_of}
@@ -26,7 +28,10 @@ use Rattle.comp_links.specs.Modules.{IsModule, function_imported}
 use Rattle.comp_links.specs.Lists.{IsOriginOf, resource_of}
 use Rattle.comp_links.specs.Links.{link_of}
 use Rattle.comp_links.specs.Roles.{IsEncodedImport}
-use Rattle.comp_terms.specs.Terms.{CoreExport, TermOption, Term, IsLifting, Is}
+use Rattle.shim_plan.specs.declared.shims.Shim.{Shim}
+use Rattle.world_shims.specs.WorldShims.{shims_of}
+use Rattle.comp_terms.specs.Generated.{shims_number, IsShimOf}
+use Rattle.comp_terms.specs.Terms.{CoreExport, TermOption, Term, IsExported, IsLifting, Is}
 use Rattle.comp_terms.specs.Terms as terms
 
 -- an export of a user module
@@ -73,6 +78,19 @@ pub record IsItemFor (w : ComponentWorld) (ds : List Def) (space : Space) (index
   pub is : Is ds space index term
   pub asked : IsTermFor w target term
 
+-- the core function of this index is a shim that stands for what an import of this role is to be given
+pub record IsShimFor (w : ComponentWorld) (ds : List Def) (space : Space) (index : ℕ) (role : Import) : Type 0 where
+  pub place : ℕ
+  pub shim : Shim
+  pub listed : slice_get (shims_of w) place ≡ Some shim
+  pub stands_for : IsShimOf w shim role
+  pub in_space : space ≡ spaces.CoreFunc
+  pub is : IsExported ds index (record { of = shims_number w; kind = kinds.Func; name = decimal place })
+
+-- the item of this index is what an import of this role is given: what the link table says, or a shim that stands for it
+abbrev pub IsGivenFor : ComponentWorld → UserModule → List Def → Space → ℕ → Import → Type 0
+IsGivenFor w of ds space index role = IsItemFor w ds space index (link_of w of role) ⊎ IsShimFor w ds space index role
+
 -- the function of this index is a lift of this type that the target names
 pub record IsLiftFor (w : ComponentWorld) (ds : List Def) (index : ℕ) (target : Target) (type : FunctionTree) : Type 0 where
   pub entry : CoreExport
@@ -85,7 +103,7 @@ pub record IsLiftFor (w : ComponentWorld) (ds : List Def) (index : ℕ) (target 
 -- the entry of an inline instance is what the import of this field is given
 pub record IsEntryFor (w : ComponentWorld) (of : UserModule) (ds : List Def) (e : CoreInlineExport) (field : List ℕ × Import) : Type 0 where
   pub named : e.name ≡ field.0
-  pub serves : IsItemFor w ds (kind_space e.kind) e.index (link_of w of field.1)
+  pub serves : IsGivenFor w of ds (kind_space e.kind) e.index field.1
   pub encoded : IsEncodedImport w field.1
 
 -- the core instance is an inline instance with an entry for each field, in order
@@ -98,3 +116,19 @@ pub record IsInlineInstanceFor (w : ComponentWorld) (of : UserModule) (ds : List
 pub record IsArgumentFor (w : ComponentWorld) (of : UserModule) (ds : List Def) (a : CoreArgument) (group : List ℕ × ImportInstance) : Type 0 where
   pub named : a.name ≡ group.0
   pub serves : IsInlineInstanceFor w of ds a.instance (fields_of group.1)
+
+-- ---- what the fixup is given
+
+-- the entry of an inline instance is what the shim stands for, under the shim's name
+pub record IsFillFor (w : ComponentWorld) (ds : List Def) (e : CoreInlineExport) (s : Shim) : Type 0 where
+  pub named : e.name ≡ s.name
+  pub function : e.kind ≡ kinds.Func
+  pub role : Import
+  pub stands_for : IsShimOf w s role
+  pub serves : IsItemFor w ds spaces.CoreFunc e.index (link_of w targets.Main role)
+
+-- the core instance is an inline instance with an entry for each shim, in order
+pub record AreFillsFor (w : ComponentWorld) (ds : List Def) (index : ℕ) : Type 0 where
+  pub entries : List CoreInlineExport
+  pub made : IsAt ds spaces.CoreInstance index (defs.Item (items.CoreExports entries))
+  pub each : AllZip (IsFillFor w ds) entries (shims_of w)

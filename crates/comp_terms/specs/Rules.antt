@@ -1,8 +1,9 @@
 -- Rules that each definition keeps at its index, and the landmarks of the whole list (component model,
 -- explainer: component definitions). They are what the steps guarantee to the proof that the list runs; no rule is
 -- part of a public guarantee.
-use Rattle.std.specs.Prelude.{◌≡◌, ◌<◌, ℕ, List, [], ◌∷◌, ◌++◌, Option, Some, None, true, length, map, filter, get_or, slice_get}
-use Rattle.std.specs.List.{AllByRecursion, AllZip, IsDistinct, flat_map, filter_map, list_any}
+use Rattle.std.specs.Prelude.{◌≡◌, ◌<◌, ◌⊎◌, ℕ, codes, List, [], ◌∷◌, ◌++◌, Option, Some, None, true, length, map, filter, get_or, slice_get}
+use Rattle.std.specs.Fmt.{decimal}
+use Rattle.std.specs.List.{AllByRecursion, AllZip, IsDistinct, flat_map, filter_map, list_any, range_with_len}
 use Rattle.std.specs.Str.{bytes_eq}
 use Rattle.comp_bytes.specs.Spaces.{items_in}
 use Rattle.comp_bytes.specs.ScopeNames.{member_export}
@@ -53,7 +54,53 @@ use Rattle.comp_links.specs.Naming.{Naming, plain_name}
 use Rattle.comp_links.specs.Lists.{ImportEntry, ImportedInterface, WorldType, RootFunction, import_entries, names_of_interface, type_of_world, Stated, root_function, root_type, described_sort, stated_import, AreNames}
 use Rattle.comp_links.specs.Links.{lift_of}
 use Rattle.comp_terms.specs.Terms.{InstanceOf as InstanceTerm, imports_in, IsFunctionType, IsResource, IsImportedFunction, Is}
-use Rattle.comp_terms.specs.Planned.{type_of_function, IsLiftFor, IsArgumentFor}
+use Rattle.world_shims.specs.WorldShims.{shims_of}
+use Rattle.comp_terms.specs.Generated.{shims_number, fixup_number, GeneratedBytes, MayBeGenerated}
+use Rattle.comp_terms.specs.Planned.{type_of_function, IsLiftFor, IsArgumentFor, AreFillsFor}
+
+-- ---- landmarks
+
+-- a definition that is visible in the list of all
+pub data Landmark : Type 0 where
+  Imported : (stated : Stated) → Landmark
+  ModuleIs : (bytes : List ℕ) → Landmark
+  InstanceOf : (number : ℕ) → Landmark
+  Exported : (stated : Stated) → Landmark
+  CustomNamed : (name : List ℕ) → Landmark
+  InstanceTypeOf : (names : List (List ℕ)) → Landmark
+
+-- a function that is imported, or exported, at the root
+abbrev pub named_import : List ℕ → Landmark
+named_import text = Imported (root_function text)
+
+abbrev pub named_export : List ℕ → Landmark
+named_export text = Exported (root_function text)
+
+abbrev pub item_landmark : Item → Option Landmark
+item_landmark (items.CoreModule bytes) = Some (ModuleIs bytes)
+item_landmark (items.CoreInstantiate number arguments) = Some (InstanceOf number)
+item_landmark (items.InstanceType t) = Some (InstanceTypeOf (flat_map member_export t.members))
+item_landmark (items.Import name description) = Some (Imported (record { name = name; sort = described_sort description }))
+item_landmark (items.Export name sort index description) = Some (Exported (record { name = name; sort = sort }))
+item_landmark (items.Custom name contents) = Some (CustomNamed name)
+item_landmark _ = None
+
+abbrev pub landmark : Def → Option Landmark
+landmark (defs.Item i) = item_landmark i
+landmark (defs.Component inner) = None
+
+abbrev pub landmarks : List Def → List Landmark
+landmarks ds = filter_map landmark ds
+
+-- the modules that are instantiated, by their numbers
+abbrev pub instance_number : Landmark → Option ℕ
+instance_number (InstanceOf number) = Some number
+instance_number mark = None
+
+abbrev pub instances_in : List Def → List ℕ
+instances_in ds = filter_map instance_number (landmarks ds)
+
+-- ---- rules
 
 -- a user module is instantiated: an argument for each module of its imports, in order
 pub record InstantiatesUser (w : ComponentWorld) (earlier : List Def) (number : ℕ) (arguments : List CoreArgument) : Type 0 where
@@ -61,6 +108,27 @@ pub record InstantiatesUser (w : ComponentWorld) (earlier : List Def) (number : 
   pub listed : slice_get (user_modules w) number ≡ Some of
   pub scoped : number < items_in spaces.CoreModule earlier
   pub each : AllZip (IsArgumentFor w of.of earlier) arguments of.found.imports.modules
+
+-- the module of shims is instantiated, before every other module
+pub record InstantiatesShims (w : ComponentWorld) (earlier : List Def) (number : ℕ) (arguments : List CoreArgument) : Type 0 where
+  pub numbered : number ≡ shims_number w
+  pub scoped : number < items_in spaces.CoreModule earlier
+  pub first : instances_in earlier ≡ []
+  pub closed : arguments ≡ []
+
+-- the fixup is instantiated, after the shims and the user modules: with what the shims stand for, and with the shims
+pub record InstantiatesFixup (w : ComponentWorld) (earlier : List Def) (number : ℕ) (arguments : List CoreArgument) : Type 0 where
+  pub numbered : number ≡ fixup_number w
+  pub scoped : number < items_in spaces.CoreModule earlier
+  pub last : instances_in earlier ≡ shims_number w ∷ range_with_len 0 (length (user_modules w))
+  pub actual : ℕ
+  pub shims : ℕ
+  pub given : arguments ≡ record { name = codes "actual"; instance = actual } ∷ record { name = codes "shim"; instance = shims } ∷ []
+  pub of_shims : Is earlier spaces.CoreInstance shims (InstanceTerm (shims_number w))
+  pub fills : AreFillsFor w earlier actual
+
+abbrev pub InstantiatesModule : ComponentWorld → List Def → ℕ → List CoreArgument → Type 0
+InstantiatesModule w earlier number arguments = InstantiatesUser w earlier number arguments ⊎ InstantiatesShims w earlier number arguments ⊎ InstantiatesFixup w earlier number arguments
 
 -- a function, or a memory
 abbrev pub IsOfKind : ExportKind → ExternType → Type 0
@@ -77,6 +145,14 @@ pub record AliasesUser (w : ComponentWorld) (earlier : List Def) (kind : ExportK
   pub listed : slice_get (user_modules w) number ≡ Some of
   pub offered : found name of.found.offered ≡ Some type
   pub of_kind : IsOfKind kind type
+
+-- an alias of a shim, by its place
+pub record AliasesShim (w : ComponentWorld) (earlier : List Def) (kind : ExportKind) (instance : ℕ) (name : List ℕ) : Type 0 where
+  pub place : ℕ
+  pub is : Is earlier spaces.CoreInstance instance (InstanceTerm (shims_number w))
+  pub listed : place < length (shims_of w)
+  pub named : name ≡ decimal place
+  pub function : kind ≡ kinds.Func
 
 -- an export: a required one, under its name, lifted as the link table says, with the function's type
 pub record ExportsRequired (w : ComponentWorld) (earlier : List Def) (name : ExternName) (index : ℕ) : Type 0 where
@@ -109,7 +185,7 @@ pub record AliasesImported (earlier : List Def) (space : Space) (instance : ℕ)
 abbrev pub IsAliasRight : ComponentWorld → List Def → Alias → Type 0
 IsAliasRight w earlier (aliases.Export exports.Func instance name) = AliasesImported earlier spaces.Func instance name
 IsAliasRight w earlier (aliases.Export exports.Type instance name) = AliasesImported earlier spaces.Type instance name
-IsAliasRight w earlier (aliases.CoreExport kind instance name) = AliasesUser w earlier kind instance name
+IsAliasRight w earlier (aliases.CoreExport kind instance name) = AliasesUser w earlier kind instance name ⊎ AliasesShim w earlier kind instance name
 IsAliasRight w earlier _ = ⊥
 
 -- a type of functions
@@ -174,6 +250,11 @@ IsOptionRight earlier (options.PostReturn index) = index < items_in spaces.CoreF
 IsOptionRight earlier (options.Callback index) = index < items_in spaces.CoreFunc earlier
 IsOptionRight earlier option = Unit {0}
 
+-- an option of a lowering, which is synchronous
+abbrev pub IsLowerOptionRight : List Def → CanonicalOption → Type 0
+IsLowerOptionRight earlier options.Async = ⊥
+IsLowerOptionRight earlier option = IsOptionRight earlier option
+
 -- an intrinsic: so far, the drop of a resource
 abbrev pub IsIntrinsicRight : List Def → Intrinsic → Type 0
 IsIntrinsicRight earlier (intrinsics.ResourceDrop type) = HasResource earlier type
@@ -186,14 +267,14 @@ IsExportRight w earlier name _ index _ = ⊥
 -- the rule of an item, after the earlier definitions; kinds that are never written have no rule that holds
 abbrev pub IsItemRight : ComponentWorld → List Def → Item → Type 0
 IsItemRight w earlier (items.CoreModule bytes) = Unit {0}
-IsItemRight w earlier (items.CoreInstantiate number arguments) = InstantiatesUser w earlier number arguments
+IsItemRight w earlier (items.CoreInstantiate number arguments) = InstantiatesModule w earlier number arguments
 IsItemRight w earlier (items.CoreExports entries) = AreEntries earlier entries
 IsItemRight w earlier (items.Instantiate component arguments) = ⊥
 IsItemRight w earlier (items.Alias a) = IsAliasRight w earlier a
 IsItemRight w earlier (items.Type t) = IsTypeRight (scope_of earlier) t
 IsItemRight w earlier (items.InstanceType t) = IsInstanceTypeRight earlier t.members
 IsItemRight w earlier (items.Lift core options kind) = (core < items_in spaces.CoreFunc earlier) × AllByRecursion (IsOptionRight earlier) options × HasFunctionType earlier kind
-IsItemRight w earlier (items.Lower function options) = HasImportedFunction earlier function × (options ≡ [])
+IsItemRight w earlier (items.Lower function options) = HasImportedFunction earlier function × AllByRecursion (IsLowerOptionRight earlier) options
 IsItemRight w earlier (items.Intrinsic i) = IsIntrinsicRight earlier i
 IsItemRight w earlier (items.Import name description) = IsDescriptionRight w earlier name.name description
 IsItemRight w earlier (items.Export name sort index description) = IsExportRight w earlier name sort index description
@@ -207,38 +288,6 @@ IsRight w earlier (defs.Component inner) = ⊥
 abbrev pub RightAfter : ComponentWorld → List Def → List Def → Type 0
 RightAfter w earlier [] = Unit {0}
 RightAfter w earlier (d ∷ ds) = IsRight w earlier d × RightAfter w (earlier ++ d ∷ []) ds
-
--- a definition that is visible in the list of all
-pub data Landmark : Type 0 where
-  Imported : (stated : Stated) → Landmark
-  ModuleIs : (bytes : List ℕ) → Landmark
-  InstanceOf : (number : ℕ) → Landmark
-  Exported : (stated : Stated) → Landmark
-  CustomNamed : (name : List ℕ) → Landmark
-  InstanceTypeOf : (names : List (List ℕ)) → Landmark
-
--- a function that is imported, or exported, at the root
-abbrev pub named_import : List ℕ → Landmark
-named_import text = Imported (root_function text)
-
-abbrev pub named_export : List ℕ → Landmark
-named_export text = Exported (root_function text)
-
-abbrev pub item_landmark : Item → Option Landmark
-item_landmark (items.CoreModule bytes) = Some (ModuleIs bytes)
-item_landmark (items.CoreInstantiate number arguments) = Some (InstanceOf number)
-item_landmark (items.InstanceType t) = Some (InstanceTypeOf (flat_map member_export t.members))
-item_landmark (items.Import name description) = Some (Imported (record { name = name; sort = described_sort description }))
-item_landmark (items.Export name sort index description) = Some (Exported (record { name = name; sort = sort }))
-item_landmark (items.Custom name contents) = Some (CustomNamed name)
-item_landmark _ = None
-
-abbrev pub landmark : Def → Option Landmark
-landmark (defs.Item i) = item_landmark i
-landmark (defs.Component inner) = None
-
-abbrev pub landmarks : List Def → List Landmark
-landmarks ds = filter_map landmark ds
 
 -- new definitions are appended, each keeps its rule, and these are their landmarks
 pub record Grows (w : ComponentWorld) (old new : List Def) (marks : List Landmark) : Type 0 where
@@ -264,20 +313,30 @@ imports_marked n w = flat_map (import_marked n w) (import_entries w)
 abbrev pub exports_marked : ComponentWorld → List Landmark
 exports_marked w = map (λ key. named_export (name_of_key key)) w.main_exports
 
+-- the landmarks of the core modules and their instances, where these modules are generated
+abbrev pub modules_marked : ComponentWorld → Option GeneratedBytes → List Landmark
+modules_marked w None = ModuleIs w.main.bytes ∷ InstanceOf 0 ∷ []
+modules_marked w (Some g) =
+    ModuleIs w.main.bytes ∷ ModuleIs g.shims ∷ InstanceOf (shims_number w) ∷ InstanceOf 0 ∷ ModuleIs g.fixup ∷ InstanceOf (fixup_number w) ∷ []
+
 -- the landmarks of a component without the names of its items
-abbrev pub expected : Naming → ComponentWorld → List Landmark
-expected n w = imports_marked n w ++ ModuleIs w.main.bytes ∷ InstanceOf 0 ∷ exports_marked w
+abbrev pub expected : Naming → ComponentWorld → Option GeneratedBytes → List Landmark
+expected n w g = imports_marked n w ++ (modules_marked w g ++ exports_marked w)
 
 -- a component for the world, without the names of its items
 pub record IsUnnamed (n : Naming) (w : ComponentWorld) (ds : List Def) : Type 0 where
+  pub generated : Option GeneratedBytes
+  pub are_generated : MayBeGenerated w generated
   pub right : RightAfter w [] ds
-  pub marked : landmarks ds ≡ expected n w
+  pub marked : landmarks ds ≡ expected n w generated
 
 -- a whole component for the world
 pub record IsBuilt (n : Naming) (w : ComponentWorld) (ds : List Def) : Type 0 where
+  pub generated : Option GeneratedBytes
+  pub are_generated : MayBeGenerated w generated
   pub front : List Def
   pub names : List Def
   pub whole : ds ≡ front ++ names
   pub right : RightAfter w [] ds
-  pub marked : landmarks front ≡ expected n w
+  pub marked : landmarks front ≡ expected n w generated
   pub named : AreNames names

@@ -2,6 +2,7 @@
 -- the preamble of a module).
 use Rattle.std.specs.Prelude.{◌≡◌, ◌<◌, ℕ, List, [], map, length, Contains, IsSome}
 use Rattle.std.specs.List.{IsDistinct, AllByRecursion}
+use Rattle.std.specs.Map.{keys_of}
 use Rattle.std.specs.Str.{bytes_eq}
 use Rattle.core_types.specs.Core.{IsCoreModule}
 use Rattle.wit_data.specs.declared.functions.Function.{Function}
@@ -15,8 +16,8 @@ use Rattle.wit_data.specs.declared.worlds.WorldKey.{WorldKey}
 use Rattle.wit_data.specs.declared.worlds.WorldKey.TheVariants as keys
 use Rattle.wit_data.specs.declared.worlds.WorldItem.{WorldItem}
 use Rattle.wit_data.specs.declared.worlds.WorldItem.TheVariants as items
+use Rattle.wit_data.specs.Keys.{is_same_key}
 use Rattle.wit_data.specs.Values.{kind_at}
-use Rattle.comp_options.specs.Options.{import_set, export_set}
 use Rattle.comp_roles.specs.declared.imports.Import.{Import}
 use Rattle.comp_roles.specs.declared.imports.Import.TheVariants as imports
 use Rattle.comp_roles.specs.declared.imports.ImportInstance.{ImportInstance}
@@ -36,27 +37,21 @@ IsSynchronous (functions.AsyncMethod id) = ⊥
 IsSynchronous (functions.AsyncStatic id) = ⊥
 IsSynchronous kind = Unit {0}
 
--- a synchronous function whose calls, from a core module and into one, need no options (Canonical ABI: `canonopt`)
-pub record IsPlain (types : List TypeDef) (f : Function) : Type 0 where
-  pub kind : IsSynchronous f.kind
-  pub imported : import_set GuestImport types f ≡ 0
-  pub exported : export_set GuestExport types f ≡ 0
+-- a synchronous function under its name
+abbrev pub IsNamedFunction : List ℕ × Function → Type 0
+IsNamedFunction e = (e.0 ≡ e.1.name) × IsSynchronous e.1.kind
 
--- a plain function under its name
-abbrev pub IsNamedPlain : List TypeDef → List ℕ × Function → Type 0
-IsNamedPlain types e = (e.0 ≡ e.1.name) × IsPlain types e.1
-
--- the world imports plain functions at its root, each under its name, types, and interfaces of such functions
+-- the world imports synchronous functions at its root, each under its name, types, and interfaces of such functions
 abbrev pub IsImportItem : Resolve → WorldKey × WorldItem → Type 0
-IsImportItem r (keys.Name text, items.Function f) = IsNamedPlain r.types (text, f)
+IsImportItem r (keys.Name text, items.Function f) = IsNamedFunction (text, f)
 IsImportItem r (keys.Name text, items.NamedType id) = Unit {0}
-IsImportItem r (keys.Name text, items.Interface id) = AllByRecursion (IsNamedPlain r.types) (functions_of r id)
-IsImportItem r (keys.Interface other, items.Interface id) = AllByRecursion (IsNamedPlain r.types) (functions_of r id)
+IsImportItem r (keys.Name text, items.Interface id) = AllByRecursion IsNamedFunction (functions_of r id)
+IsImportItem r (keys.Interface other, items.Interface id) = AllByRecursion IsNamedFunction (functions_of r id)
 IsImportItem r entry = ⊥
 
 -- it exports synchronous functions at its root, each under its name
 abbrev pub IsExportItem : WorldKey × WorldItem → Type 0
-IsExportItem (keys.Name text, items.Function f) = (text ≡ f.name) × IsSynchronous f.kind
+IsExportItem (keys.Name text, items.Function f) = IsNamedFunction (text, f)
 IsExportItem entry = ⊥
 
 -- the type of this number is a resource
@@ -110,6 +105,7 @@ pub record IsWorld (w : ComponentWorld) : Type 0 where
   pub present : w.world.index < length w.resolve.worlds
   pub imports : AllByRecursion (IsImportItem w.resolve) (items_of w).imports
   pub exports : AllByRecursion IsExportItem (items_of w).exports
+  pub import_keys_apart : IsDistinct is_same_key (keys_of (items_of w).imports)
   pub import_names_apart : IsDistinct bytes_eq (imported_functions w)
   pub export_names_apart : IsDistinct bytes_eq (exported_functions w)
   pub main : IsUserModule w w.main w.main_exports

@@ -9,6 +9,10 @@ use Rattle.type_scopes.specs.Titles.{is_one_of}
 pub contains_none : {X : Type 0} {A : Type 0} (i : X) → Contains [] i → A
 contains_none i (n, l, same) = absurd (omega (arith, l))
 
+pub contains_one : {X : Type 0} (x i : X) → Contains (x ∷ []) i → x ≡ i
+contains_one x i (zero, l, same) = same
+contains_one x i (suc n, l, same) = absurd (omega (arith, l))
+
 pub contains_cons : {X : Type 0} (x : X) (xs : List X) (i : X) → Contains (x ∷ xs) i → (x ≡ i) ⊎ Contains xs i
 contains_cons x xs i (zero, l, same) = inl same
 contains_cons x xs i (suc n, l, same) = inr (n, omega (arith, l), same)

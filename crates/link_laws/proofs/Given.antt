@@ -1,9 +1,10 @@
 -- What the definitions so far have added to the store, and what main's imports find among the arguments.
-use Rattle.std.proofs.Common.{◌≡◌, ◌∙◌, ℕ, ◌<◌, Bool, true, false, cond, true≢false, List, [], ◌∷◌, length, map, filter, get_or, refl, sym, ap, ap₂, subst, Option, Some, None, is_some}
+use Rattle.std.proofs.Common.{◌≡◌, ◌∙◌, ◌⊎◌, inl, inr, ◌+◌, ◌^◌, suc, arith, ℕ, ◌<◌, Bool, true, false, cond, true≢false, List, [], ◌∷◌, length, map, filter, get_or, refl, sym, ap, ap₂, subst, Option, Some, None, is_some}
 use Rattle.std.proofs.lemmas.List.{length-map}
 use Rattle.std.proofs.lemmas.List.Sums.{length-filter}
-use Rattle.std.proofs.lemmas.Option.{same_Some, none-some, get_or_from_slice_get}
-use Rattle.std.specs.List.{slice_get, AllZip, AllByRecursion}
+use Rattle.std.proofs.lemmas.Option.{same_Some, none-some, get_or_from_slice_get, slice_get_within}
+use Rattle.std.specs.Fmt.{decimal}
+use Rattle.std.specs.List.{slice_get, flat_map, AllZip, AllByRecursion}
 use Rattle.std.specs.Option.{option_map, option_and_then}
 use Rattle.std.specs.Str.{bytes_eq}
 use Rattle.comp_lists.specs.Found.{found}
@@ -11,14 +12,13 @@ use Rattle.comp_lists.proofs.Lists.{AllZip-at, AllZip-weaker, there}
 use Rattle.comp_bytes.specs.Spaces.{kind_space, is_space, space_of, items_in}
 use Rattle.comp_bytes.specs.ItemIndices.{in_space, IsAt}
 use Rattle.core_types.specs.declared.types.FuncType.{FuncType}
-use Rattle.core_runs.specs.Store.{Now}
+use Rattle.core_runs.specs.Store.{Func, Opaque, Now, signature_of}
 use Rattle.comp_bytes.specs.declared.space.Space.{Space}
 use Rattle.comp_bytes.specs.declared.space.Space.TheVariants as spaces
 use Rattle.standard_kinds.specs.declared.kinds.ExportKind.{ExportKind}
 use Rattle.standard_kinds.specs.declared.kinds.ExportKind.TheVariants as kinds
 use Rattle.comp_bytes.specs.declared.def.CoreArgument.{CoreArgument}
 use Rattle.comp_bytes.specs.declared.def.CoreInlineExport.{CoreInlineExport}
-use Rattle.comp_bytes.specs.declared.types.Alias.TheVariants as aliases
 use Rattle.comp_bytes.specs.declared.types.Member.{Member}
 use Rattle.comp_bytes.specs.declared.canon.CanonicalOption.{CanonicalOption}
 use Rattle.comp_bytes.specs.declared.canon.CanonicalOption.TheVariants as options
@@ -48,14 +48,20 @@ use Rattle.comp_runs.specs.Store.{Thing, Export, HeldOption, HeldEncoding, HeldM
 use Rattle.comp_roles.specs.declared.offered.ExternType.{ExternType}
 use Rattle.comp_roles.specs.declared.offered.ExternType.TheVariants as externs
 use Rattle.comp_roles.specs.declared.offered.ImportType.{ImportType}
-use Rattle.comp_links.specs.Targets.{UserModule, Main, ExportRef, TargetOption, Target, OfRoot, OfInterface, Lowered, Dropped, Lifted}
+use Rattle.comp_links.specs.Targets.{UserModule, Main, WorldFunction, ExportRef, TargetOption, Target, OfRoot, OfInterface, Lowered, Dropped, Lifted}
 use Rattle.comp_links.specs.Targets as targets
-use Rattle.comp_links.specs.Modules.{WorldModule, IsModule}
-use Rattle.comp_links.specs.Lists.{resource_of}
-use Rattle.comp_links.specs.Links.{link_of, link_in, link_at}
+use Rattle.comp_links.specs.Modules.{WorldModule, adapter_module, IsModule}
+use Rattle.comp_links.specs.Lists.{IsOriginOf, resource_of}
+use Rattle.comp_links.specs.Links.{lower_options, link_of, link_in, link_at}
+use Rattle.world_shims.specs.WorldShims.{shims_of, type_of_shim}
+use Rattle.shim_runs.specs.ShimRuns.{IsShimAt, instance_exports}
+use Rattle.shim_runs.proofs.Placed.{shim_at}
+use Rattle.shim_runs.proofs.Exported.{shims_found}
+use Rattle.link_laws.specs.Composition.{at_root, item_instantiates}
+use Rattle.comp_terms.specs.Generated.{shims_number}
 use Rattle.comp_terms.specs.Terms.{CoreExport, TermOption, Term, Is, IsFunctionType, IsResource, IsImportedFunction, IsInstanceOf, IsExported, IsOption, IsLowering, IsDropping, IsLifting}
 use Rattle.comp_terms.specs.Terms as terms
-use Rattle.comp_terms.specs.Planned.{IsExportFor, IsMemoryFor, IsOptionFor, IsTermFor, IsItemFor, IsLiftFor, IsEntryFor, IsArgumentFor}
+use Rattle.comp_terms.specs.Planned.{IsExportFor, IsMemoryFor, IsOptionFor, IsTypeOf, IsTermFor, IsItemFor, IsGivenFor, IsLiftFor, IsEntryFor, IsArgumentFor}
 use Rattle.comp_terms.specs.Rules.{IsOfKind}
 use Rattle.comp_runs.specs.Machine.{Scope, Machine, address_at, is_of, all_some, export_named, export_in, export_of}
 use Rattle.comp_runs.specs.Instances.{type_space, of_kind, matching, given_to, type_at}
@@ -67,7 +73,7 @@ use Rattle.instance_laws.proofs.Held.{trees_of_held, held_of_entries, IsTypeTher
 use Rattle.link_laws.proofs.Zips.{AllZip-filter, AllZip-back, mapped_some, filter-both, all_some-zip, found-zip, found-each}
 use Rattle.comp_worlds.proofs.Roles.{bound_some}
 use Rattle.link_laws.proofs.Plain.{IsFunctionImport, lowered_type, same_signature-refl, function_type_in, only_main_is, fields_right}
-use Rattle.link_laws.proofs.Stores.{IsOpaqueOf, IsInstance, IsUserItem, IsUserExport, IsUserInstance, IsNamedEntry, IsInlineInstance, IsLoweredItem, IsTypeAt, IsDropItem, IsLiftedItem, IsAliasedItem, DefIs, Means, makes, IsTypeEntry, entry_of, IsFunctionEntry, IsInstanceThing, IsLoweringOf, IsDropOf, IsServedAs, main_module, IsPlanned, IsMainExport, IsFirstMemory, IsOptionFunction, IsHeldOption, IsOptionHeld, IsCoreExportAt, IsLiftedFrom, Agrees}
+use Rattle.link_laws.proofs.Stores.{IsOpaqueOf, IsInstance, IsUserItem, IsUserExport, IsUserInstance, IsNamedEntry, IsInlineInstance, ShimsAt, AreModuleExports, IsModuleInstance, NamesUser, IsLoweredItem, IsTypeAt, IsDropItem, IsLiftedItem, IsAliasedItem, DefIs, Means, makes, IsTypeEntry, entry_of, IsFunctionEntry, IsInstanceThing, IsLoweredFor, IsDropOf, IsServedAs, IsShimGivenAt, IsShimGiven, Serves, MayHaveShims, main_module, IsPlanned, IsMainExport, IsFirstMemory, IsOptionFunction, IsHeldOption, IsOptionHeld, IsCoreExportAt, IsLiftedFrom, Agrees}
 
 makes-space : (space : Space) (d : Def) → is_space space (space_of d) ≡ true → makes d ≡ true
 makes-space space d e = by (space_of d) e
@@ -77,15 +83,15 @@ makes-space space d e = by (space_of d) e
     by (Some t) e = refl
 
 -- the item of the export satisfies this field
-pub record IsFieldExport (w : ComponentWorld) (s : Store) (e : Export) (field : List ℕ × Import) : Type 0 where
+pub record IsFieldExport (w : ComponentWorld) (shims : Option ShimsAt) (s : Store) (e : Export) (field : List ℕ × Import) : Type 0 where
   pub named : e.name ≡ field.0
   pub space : e.space ≡ spaces.CoreFunc
-  pub serves : IsServedAs w s e.address (link_of w Main field.1)
+  pub serves : Serves w shims s e.address field.1
 
 -- the argument has an export for each field of this module, as planned
-pub record IsOffered (w : ComponentWorld) (s : Store) (a : List ℕ × List Export) (group : List ℕ × ImportInstance) : Type 0 where
+pub record IsOffered (w : ComponentWorld) (shims : Option ShimsAt) (s : Store) (a : List ℕ × List Export) (group : List ℕ × ImportInstance) : Type 0 where
   pub named : a.0 ≡ group.0
-  pub each : AllZip (IsFieldExport w s) a.1 (fields_of group.1)
+  pub each : AllZip (IsFieldExport w shims s) a.1 (fields_of group.1)
 
 -- an export that is found has the name
 pub found_name : (name : List ℕ) (es : List Export) (e : Export) → export_named name es ≡ Some e → e.name ≡ name
@@ -167,6 +173,48 @@ module_at_zero w h = ap (λ (m : WorldModule). m.of) (same_Some (main_module w) 
 at_some : (e : Export) → e.space ≡ spaces.CoreFunc → of_kind kinds.Func e ≡ Some (record { space = e.space; address = e.address })
 at_some e h = rw h refl
 
+-- ---- instances of modules by their numbers
+
+-- one core instance is made of one module
+abbrev number_in : ℕ → Def → ℕ
+number_in other (defs.Item (items.CoreInstantiate number arguments)) = number
+number_in other d = other
+
+one_instance : {ds : List Def} {index m n : ℕ} → IsInstanceOf ds index m → IsInstanceOf ds index n → m ≡ n
+one_instance {ds} {index} {m} {n} h k = ap (number_in n) (same_Some (defs.Item (items.CoreInstantiate m h.arguments)) (defs.Item (items.CoreInstantiate n k.arguments)) (sym h.made.made ∙ k.made.made))
+
+-- the number of main is none of a generated module
+pub not_shims : (w : ComponentWorld) → 0 ≡ shims_number w → ⊥
+not_shims w e = let no : 0 ≡ suc (length (map adapter_module w.adapters)) = e in absurd (omega (arith, no))
+
+of_main : (w : ComponentWorld) (shims : Option ShimsAt) (s : Store) (address : ℕ) → IsModuleInstance w shims s 0 address → IsUserInstance w s address
+of_main w shims s address h = record { exports = h.exports; user = h.user; present = h.present; is = h.is; same = h.same; each = by shims h.each }
+  where
+    by : (shims : Option ShimsAt) → AreModuleExports w shims s h.user 0 h.exports → AllZip (IsUserExport s h.user) h.exports w.main.offered
+    by shims (inl k) = k.1
+    by None (inr (inl k)) = absurd k
+    by (Some at) (inr (inl k)) = absurd (not_shims w k.0)
+    by shims (inr (inr e)) = let no : 0 ≡ suc (shims_number w) = e in absurd (omega (arith, no))
+
+names_main : (w : ComponentWorld) (number : ℕ) (kind : ExportKind) (name : List ℕ) → number ≡ 0 → NamesUser w number kind name ⊎ (number ≡ shims_number w) → NamesUser w number kind name
+names_main w number kind name zero_is (inl h) = h
+names_main w number kind name zero_is (inr e) = absurd (not_shims w (sym zero_is ∙ e))
+
+-- the instance of the shims exports them
+pub of_shims : (w : ComponentWorld) (s : Store) (numbers : List ℕ) (user : ℕ) (exports : List Export) (shims : Option ShimsAt) → MayHaveShims w s numbers shims → AreModuleExports w shims s user (shims_number w) exports →
+    (at : ShimsAt) × (shims ≡ Some at) × (exports ≡ instance_exports (shims_of w) at.address at.table) × (length (shims_of w) < 2 ^ 32)
+of_shims w s numbers user exports shims there (inl k) = absurd (not_shims w (sym k.0))
+of_shims w s numbers user exports None there (inr (inl k)) = absurd k
+of_shims w s numbers user exports (Some at) there (inr (inl k)) = (at, refl, k.1, there.room)
+of_shims w s numbers user exports shims there (inr (inr e)) = let no : shims_number w ≡ suc (shims_number w) = e in absurd (omega (arith, no))
+
+-- a core function is of one kind
+func_kind : (kind : ExportKind) → kind_space kind ≡ spaces.CoreFunc → kind ≡ kinds.Func
+func_kind kinds.Func e = refl
+func_kind kinds.Table e = cc
+func_kind kinds.Memory e = cc
+func_kind kinds.Global e = cc
+
 module _ {w : ComponentWorld} {earlier : List Def} {c : Scope} {s : Store} (a : Agrees w earlier c s) where
   defined_there : (space : Space) (index : ℕ) → index < items_in space earlier → (d : Def) × (slice_get (in_space space earlier) index ≡ Some d)
   defined_there space index l =
@@ -174,16 +222,16 @@ module _ {w : ComponentWorld} {earlier : List Def} {c : Scope} {s : Store} (a : 
       there (in_space space earlier) index (subst (λ n. index < n) (sym counted) l)
 
   -- the definitions of a space, and the items that they made
-  in_space-along : (space : Space) → AllZip (Means w c.items s) (in_space space earlier) (filter (is_of space) c.items)
+  in_space-along : (space : Space) → AllZip (Means w a.shims earlier c.items s) (in_space space earlier) (filter (is_of space) c.items)
   in_space-along space =
-      subst (λ ds. AllZip (Means w c.items s) ds (filter (is_of space) c.items)) (filter-both (λ d. is_space space (space_of d)) makes (makes-space space) earlier)
-      (AllZip-filter (Means w c.items s) (λ d. is_space space (space_of d)) (is_of space) (λ d t h. ap (is_space space) h.space) (filter makes earlier) c.items a.means)
+      subst (λ ds. AllZip (Means w a.shims earlier c.items s) ds (filter (is_of space) c.items)) (filter-both (λ d. is_space space (space_of d)) makes (makes-space space) earlier)
+      (AllZip-filter (Means w a.shims earlier c.items s) (λ d. is_space space (space_of d)) (is_of space) (λ d t h. ap (is_space space) h.space) (filter makes earlier) c.items a.means)
 
   -- the item that a definition made has an address
-  pub thing_there : {space : Space} {index : ℕ} {d : Def} → IsAt earlier space index d → (x : ℕ) × (address_at space index c.items ≡ Some x) × DefIs w c.items s d x
+  pub thing_there : {space : Space} {index : ℕ} {d : Def} → IsAt earlier space index d → (x : ℕ) × (address_at space index c.items ≡ Some x) × DefIs w a.shims earlier c.items s d x
   thing_there {space} {index} {d} h =
-      let z : (t : Thing) × (slice_get (filter (is_of space) c.items) index ≡ Some t) × Means w c.items s d t =
-      AllZip-at (Means w c.items s) (in_space space earlier) (filter (is_of space) c.items) index d (in_space-along space) h.made in
+      let z : (t : Thing) × (slice_get (filter (is_of space) c.items) index ≡ Some t) × Means w a.shims earlier c.items s d t =
+      AllZip-at (Means w a.shims earlier c.items s) (in_space space earlier) (filter (is_of space) c.items) index d (in_space-along space) h.made in
       (z.0.address, ap (option_map (λ (t : Thing). t.address)) z.1, z.2.is)
 
   -- an index below the count of its space names an item
@@ -191,7 +239,7 @@ module _ {w : ComponentWorld} {earlier : List Def} {c : Scope} {s : Store} (a : 
   address_there space index l =
       let d : (d : Def) × (slice_get (in_space space earlier) index ≡ Some d) = defined_there space index l in
       let at : IsAt earlier space index d.0 = record { made = d.1 } in
-      let x : (x : ℕ) × (address_at space index c.items ≡ Some x) × DefIs w c.items s d.0 x = thing_there at in
+      let x : (x : ℕ) × (address_at space index c.items ≡ Some x) × DefIs w a.shims earlier c.items s d.0 x = thing_there at in
       (x.0, x.1)
 
   -- the types of the scope denote what the inventory says
@@ -262,16 +310,6 @@ module _ {w : ComponentWorld} {earlier : List Def} {c : Scope} {s : Store} (a : 
       let x = function_there index (record { origin = Some origin; type = OfFunctions type }) h.is in
       (x.0, x.1, x.2.present ∙ ap (λ (f : Function). Some f) (imported_of_entry x.2.function origin type x.2.same))
 
-  pub lowered_there : {index : ℕ} {origin : Origin} {type : FunctionTree} {options : List TermOption} → IsLowering earlier index origin type options →
-      (x : ℕ) × (address_at spaces.CoreFunc index c.items ≡ Some x) × IsLoweringOf s x origin type
-  lowered_there {index} {origin} {type} {options} h =
-      let l : (x : ℕ) × (address_at spaces.CoreFunc index c.items ≡ Some x) × IsLoweredItem c.items s h.function x = thing_there h.made in
-      let f : (x : ℕ) × (address_at spaces.Func h.function c.items ≡ Some x) × (slice_get s.functions x ≡ Some (Imported origin type)) = imported_there h.of in
-      let same : f.0 ≡ l.2.of = same_Some f.0 l.2.of (sym f.1 ∙ l.2.at) in
-      let imported : slice_get s.functions l.2.of ≡ Some (Imported origin type) = subst (λ n. slice_get s.functions n ≡ Some (Imported origin type)) same f.2 in
-      let typed : l.2.type ≡ type = ap type_in (same_Some (Imported l.2.origin l.2.type) (Imported origin type) (sym l.2.imported ∙ imported)) in
-      (l.0, l.1, record { of = l.2.of; is = subst (λ t. IsOpaqueOf s l.0 (core_signature t []) (Lowering l.2.of [])) typed l.2.is; imported = imported })
-
   pub dropped_there : {index : ℕ} {resource : Resource} → IsDropping earlier index resource → (x : ℕ) × (address_at spaces.CoreFunc index c.items ≡ Some x) × IsDropOf s x resource
   dropped_there {index} {resource} h =
       let l : (x : ℕ) × (address_at spaces.CoreFunc index c.items ≡ Some x) × IsDropItem c.items s h.type x = thing_there h.made in
@@ -279,32 +317,38 @@ module _ {w : ComponentWorld} {earlier : List Def} {c : Scope} {s : Store} (a : 
       let same : t.0 ≡ l.2.of = same_Some t.0 l.2.of (sym t.1 ∙ l.2.at) in
       (l.0, l.1, record { of = l.2.of; is = l.2.is; held = subst (IsHeldAs s.types (OfValues (ResourceAt resource))) same t.2 })
 
-  pub user_there : {index number : ℕ} → IsInstanceOf earlier index number → (x : ℕ) × (address_at spaces.CoreInstance index c.items ≡ Some x) × IsUserInstance w s number x
-  user_there h = let x = thing_there h.made in (x.0, x.1, x.2)
+  -- the instance of a module, and of main
+  pub module_there : {index number : ℕ} → IsInstanceOf earlier index number → (x : ℕ) × (address_at spaces.CoreInstance index c.items ≡ Some x) × IsModuleInstance w a.shims s number x
+  module_there h = let x = thing_there h.made in (x.0, x.1, x.2)
+
+  pub user_there : {index : ℕ} → IsInstanceOf earlier index 0 → (x : ℕ) × (address_at spaces.CoreInstance index c.items ≡ Some x) × IsUserInstance w s x
+  user_there {index} h = let x : (x : ℕ) × (address_at spaces.CoreInstance index c.items ≡ Some x) × IsModuleInstance w a.shims s 0 x = module_there h in (x.0, x.1, of_main w a.shims s x.0 x.2)
 
   -- what main offers is found among the exports of its instance
-  pub offered_there : (number address : ℕ) (u : IsUserInstance w s number address) (name : List ℕ) (type : ExternType) → found name w.main.offered ≡ Some type →
+  pub offered_there : (address : ℕ) (u : IsUserInstance w s address) (name : List ℕ) (type : ExternType) → found name w.main.offered ≡ Some type →
       (e : Export) × (export_named name u.exports ≡ Some e) × (e.space ≡ type_space type) × IsUserItem s u.user e type
-  offered_there number address u name type h =
+  offered_there address u name type h =
       let x = found-zip (IsOfType s u.user) name (map (λ (e : Export). (e.name, e)) u.exports) w.main.offered type (exports_named s u.user u.exports w.main.offered u.each) h in
       (x.0, x.1, x.2.0, x.2.1)
 
-  -- an alias of a core export is that export of an instance of the module, of its type
-  exported_there : {index : ℕ} {e : CoreExport} → IsExported earlier index e → IsCoreExportAt c.items s index e
-  exported_there {index} {e} h =
-      let l : (x : ℕ) × (address_at (kind_space e.kind) index c.items ≡ Some x) × IsAliasedItem w c.items s e.kind h.instance e.name x = thing_there h.made in
-      let m : (x : ℕ) × (address_at spaces.CoreInstance h.instance c.items ≡ Some x) × IsUserInstance w s e.of x = user_there h.of in
+  -- an alias of an export of main is that export of an instance of main, of its type
+  exported_there : {index : ℕ} {e : CoreExport} → e.of ≡ 0 → IsExported earlier index e → IsCoreExportAt c.items s index e
+  exported_there {index} {e} main h =
+      let l : (x : ℕ) × (address_at (kind_space e.kind) index c.items ≡ Some x) × IsAliasedItem w earlier c.items s e.kind h.instance e.name x = thing_there h.made in
+      let of : IsInstanceOf earlier h.instance 0 = subst (IsInstanceOf earlier h.instance) main h.of in
+      let m : (x : ℕ) × (address_at spaces.CoreInstance h.instance c.items ≡ Some x) × IsUserInstance w s x = user_there of in
+      let names : NamesUser w l.2.number e.kind e.name = names_main w l.2.number e.kind e.name (one_instance l.2.of of) l.2.names in
       let same : m.0 ≡ l.2.from = same_Some m.0 l.2.from (sym m.1 ∙ l.2.at) in
       let exports : m.2.exports ≡ l.2.exports = same_Some m.2.exports l.2.exports (sym m.2.present ∙ (ap (slice_get s.core_instances) same ∙ l.2.present)) in
-      let x = offered_there e.of m.0 m.2 e.name l.2.type l.2.offered in
+      let x = offered_there m.0 m.2 e.name names.type names.offered in
       let is : x.0 ≡ l.2.export = same_Some x.0 l.2.export (sym x.1 ∙ (ap (export_named e.name) exports ∙ l.2.found)) in
       record {
         address = l.0;
         at = l.1;
-        type = l.2.type;
-        of_kind = l.2.of_kind;
+        type = names.type;
+        of_kind = names.of_kind;
         user = m.2.user;
-        of = m.2.is;
+        of = record { instance = m.2.is.instance; present = m.2.is.present; of = m.2.is.of ∙ sym main };
         export = x.0;
         found = subst (λ es. export_named e.name es ≡ Some x.0) (sym m.2.same) x.1;
         named = found_name e.name m.2.exports x.0 x.1;
@@ -313,11 +357,27 @@ module _ {w : ComponentWorld} {earlier : List Def} {c : Scope} {s : Store} (a : 
         item = x.3;
       }
 
+  -- an alias of a shim is that shim
+  shim_exported : {index place : ℕ} → place < length (shims_of w) → IsExported earlier index (record { of = shims_number w; kind = kinds.Func; name = decimal place }) →
+      (x : ℕ) × (address_at spaces.CoreFunc index c.items ≡ Some x) × (at : ShimsAt) × (a.shims ≡ Some at) × (x ≡ at.address + place)
+  shim_exported {index} {place} listed h =
+      let name : List ℕ = decimal place in
+      let l : (x : ℕ) × (address_at spaces.CoreFunc index c.items ≡ Some x) × IsAliasedItem w earlier c.items s kinds.Func h.instance name x = thing_there h.made in
+      let m : (x : ℕ) × (address_at spaces.CoreInstance h.instance c.items ≡ Some x) × IsModuleInstance w a.shims s (shims_number w) x = module_there h.of in
+      let same : m.0 ≡ l.2.from = same_Some m.0 l.2.from (sym m.1 ∙ l.2.at) in
+      let exports : m.2.exports ≡ l.2.exports = same_Some m.2.exports l.2.exports (sym m.2.present ∙ (ap (slice_get s.core_instances) same ∙ l.2.present)) in
+      let at : (at : ShimsAt) × (a.shims ≡ Some at) × (m.2.exports ≡ instance_exports (shims_of w) at.address at.table) × (length (shims_of w) < 2 ^ 32) =
+      of_shims w s (flat_map (at_root item_instantiates) earlier) m.2.user m.2.exports a.shims a.with_shims m.2.each in
+      let shim : Export = record { space = spaces.CoreFunc; name = name; address = at.0.address + place } in
+      let found : export_named name l.2.exports ≡ Some shim = ap (export_named name) (sym exports ∙ at.2) ∙ (shims_found (shims_of w) at.0.address at.0.table).found place listed at.3 in
+      let is : l.2.export ≡ shim = same_Some l.2.export shim (sym l.2.found ∙ found) in
+      (l.0, l.1, at.0, at.1, sym l.2.is ∙ ap (λ (y : Export). y.address) is)
+
   -- an alias of a function that main exports is that function, which is opaque
   pub function_exported : IsWorld w → {index : ℕ} {e : CoreExport} {name : List ℕ} → e.kind ≡ kinds.Func → IsModule w e.of Main → e.name ≡ name → IsExported earlier index e →
       (x : ℕ) × (address_at spaces.CoreFunc index c.items ≡ Some x) × IsMainExport s x name
   function_exported ok {index} {e} {name} function of named h =
-      let x : IsCoreExportAt c.items s index e = exported_there h in
+      let x : IsCoreExportAt c.items s index e = exported_there (only_main_is w ok e.of of) h in
       let type : (t : FuncType) × (x.type ≡ externs.Func t) = type_of_function_kind x.type (subst (λ kind. IsOfKind kind x.type) function x.of_kind) in
       let opaque : IsOpaqueOf s x.export.address type.0 (ExportedBy x.user x.export.name) = subst (IsUserItem s x.user x.export) type.1 x.item in
       let renamed : IsOpaqueOf s x.export.address type.0 (ExportedBy x.user name) = subst (λ t. IsOpaqueOf s x.export.address type.0 (ExportedBy x.user t)) (x.named ∙ named) opaque in (
@@ -335,7 +395,7 @@ module _ {w : ComponentWorld} {earlier : List Def} {c : Scope} {s : Store} (a : 
   memory_exported : IsWorld w → {index : ℕ} {e : CoreExport} → e.kind ≡ kinds.Memory → IsMemoryFor w e → IsExported earlier index e →
       (x : ℕ) × (address_at spaces.CoreMemory index c.items ≡ Some x) × IsFirstMemory w s x
   memory_exported ok {index} {e} memory asked h =
-      let x : IsCoreExportAt c.items s index e = exported_there h in
+      let x : IsCoreExportAt c.items s index e = exported_there (only_main_is w ok e.of asked.of) h in
       let space : x.export.space ≡ spaces.CoreMemory = x.space ∙ (space_of_kind e.kind x.type x.of_kind ∙ ap kind_space memory) in
       let whole : x.export ≡ record { space = spaces.CoreMemory; name = e.name; address = x.address } =
       by_parts x.export spaces.CoreMemory e.name space x.named ∙ ap (λ n. record { space = spaces.CoreMemory; name = e.name; address = n }) x.is in (
@@ -355,7 +415,7 @@ module _ {w : ComponentWorld} {earlier : List Def} {c : Scope} {s : Store} (a : 
         },
       )
 
-  -- ---- options of lifts
+  -- ---- options
 
   encoding_there : (o : CanonicalOption) (x : HeldOption) (e : StringEncoding) (target : TargetOption) → IsHeldOption c.items o x → IsOption earlier o (terms.Encoding e) → IsOptionFor w (terms.Encoding e) target → IsOptionHeld w s x target
   encoding_there options.Utf8 (HeldEncoding e') e (targets.Encoding t) h is asked = h ∙ sym is ∙ asked
@@ -406,7 +466,7 @@ module _ {w : ComponentWorld} {earlier : List Def} {c : Scope} {s : Store} (a : 
   async_there o x targets.Async h is asked = absurd is
   async_there o x target h is asked = absurd asked
 
-  -- an option of a lift is what the target names
+  -- an option is what the target names
   option_there : IsWorld w → (o : CanonicalOption) (x : HeldOption) (term : TermOption) (target : TargetOption) → IsHeldOption c.items o x → IsOption earlier o term → IsOptionFor w term target → IsOptionHeld w s x target
   option_there ok o x (terms.Encoding e) target h is asked = encoding_there o x e target h is asked
   option_there ok o x (terms.Memory e) target h is asked = memory_there ok o x e target h is asked
@@ -425,6 +485,27 @@ module _ {w : ComponentWorld} {earlier : List Def} {c : Scope} {s : Store} (a : 
   options_there ok (o ∷ os) (x ∷ xs) [] gs h is asked = absurd is
   options_there ok [] [] [] (g ∷ gs) h is asked = absurd asked
   options_there ok (o ∷ os) (x ∷ xs) (t ∷ ts) [] h is asked = absurd asked
+
+  pub lowered_there : IsWorld w → {index : ℕ} (function : WorldFunction) (options : List TargetOption) {origin : Origin} {type : FunctionTree} {written : List TermOption} → IsLowering earlier index origin type written →
+      IsOriginOf w function origin → IsTypeOf w function type → AllZip (IsOptionFor w) written options → (x : ℕ) × (address_at spaces.CoreFunc index c.items ≡ Some x) × IsLoweredFor w s x function options
+  lowered_there ok {index} function options {origin} {type} {written} h from typed_as asked =
+      let l : (x : ℕ) × (address_at spaces.CoreFunc index c.items ≡ Some x) × IsLoweredItem c.items s h.function h.written x = thing_there h.made in
+      let f : (x : ℕ) × (address_at spaces.Func h.function c.items ≡ Some x) × (slice_get s.functions x ≡ Some (Imported origin type)) = imported_there h.of in
+      let same : f.0 ≡ l.2.of = same_Some f.0 l.2.of (sym f.1 ∙ l.2.at) in
+      let imported : slice_get s.functions l.2.of ≡ Some (Imported origin type) = subst (λ n. slice_get s.functions n ≡ Some (Imported origin type)) same f.2 in
+      let typed : l.2.type ≡ type = ap type_in (same_Some (Imported l.2.origin l.2.type) (Imported origin type) (sym l.2.imported ∙ imported)) in (
+        l.0,
+        l.1,
+        record {
+          origin = origin;
+          type = type;
+          held = l.2.held;
+          from = from;
+          typed = typed_as;
+          lowered = record { of = l.2.of; is = subst (λ t. IsOpaqueOf s l.0 (core_signature t []) (Lowering l.2.of l.2.held)) typed l.2.is; imported = imported };
+          with_options = options_there ok h.written l.2.held written options l.2.with_options h.with_options asked;
+        },
+      )
 
   -- the lift of a required function
   pub lift_there : IsWorld w → {index : ℕ} (name : List ℕ) (options : List TargetOption) (type : FunctionTree) → IsLiftFor w earlier index (Lifted (record { of = Main; name = name }) options) type →
@@ -448,33 +529,19 @@ module _ {w : ComponentWorld} {earlier : List Def} {c : Scope} {s : Store} (a : 
       )
 
   -- the core item that the link table names has an address
-  item_there : (kind : ExportKind) (index : ℕ) (role : Import) → IsImportRole w role → IsItemFor w earlier (kind_space kind) index (link_of w Main role) →
+  lowering_there : IsWorld w → (kind : ExportKind) (index : ℕ) (function : WorldFunction) (options : List TargetOption) (term : Term) → Is earlier (kind_space kind) index term → IsTermFor w (Lowered function options) term →
+      (kind ≡ kinds.Func) × (x : ℕ) × (address_at spaces.CoreFunc index c.items ≡ Some x) × IsLoweredFor w s x function options
+  lowering_there ok kinds.Func index function options (terms.Lowering origin type written) is asked = let l = lowered_there ok function options is asked.0 asked.1 asked.2 in (refl, l.0, l.1, l.2)
+  lowering_there ok kinds.Table index function options (terms.Lowering origin type written) is asked = absurd is
+  lowering_there ok kinds.Memory index function options (terms.Lowering origin type written) is asked = absurd is
+  lowering_there ok kinds.Global index function options (terms.Lowering origin type written) is asked = absurd is
+  lowering_there ok kind index function options term is asked = absurd asked
+
+  pub item_there : IsWorld w → (kind : ExportKind) (index : ℕ) (role : Import) → IsImportRole w role → IsItemFor w earlier (kind_space kind) index (link_of w Main role) →
       (kind ≡ kinds.Func) × (x : ℕ) × (address_at spaces.CoreFunc index c.items ≡ Some x) × IsServedAs w s x (link_of w Main role)
-  item_there kind index (imports.WorldFunc (keys.Name text) function abi) right h = by kind h.term h.is h.asked
-    where
-      target : Target
-      target = link_of w Main (imports.WorldFunc (keys.Name text) function abi)
-
-      by : (kind : ExportKind) (term : Term) → Is earlier (kind_space kind) index term → IsTermFor w (Lowered (OfRoot text) []) term →
-          (kind ≡ kinds.Func) × (x : ℕ) × (address_at spaces.CoreFunc index c.items ≡ Some x) × IsServedAs w s x (Lowered (OfRoot text) [])
-      by kinds.Func (terms.Lowering origin type options) is asked = let l = lowered_there is in (refl, l.0, l.1, record { origin = origin; type = type; from = asked.0; typed = asked.1; lowered = l.2 })
-      by kinds.Table (terms.Lowering origin type options) is asked = absurd is
-      by kinds.Memory (terms.Lowering origin type options) is asked = absurd is
-      by kinds.Global (terms.Lowering origin type options) is asked = absurd is
-      by kind term is asked = absurd asked
-  item_there kind index (imports.InterfaceFunc key interface function abi) right h = by kind h.term h.is h.asked
-    where
-      target : Target
-      target = link_of w Main (imports.InterfaceFunc key interface function abi)
-
-      by : (kind : ExportKind) (term : Term) → Is earlier (kind_space kind) index term → IsTermFor w (Lowered (OfInterface interface function) []) term →
-          (kind ≡ kinds.Func) × (x : ℕ) × (address_at spaces.CoreFunc index c.items ≡ Some x) × IsServedAs w s x (Lowered (OfInterface interface function) [])
-      by kinds.Func (terms.Lowering origin type options) is asked = let l = lowered_there is in (refl, l.0, l.1, record { origin = origin; type = type; from = asked.0; typed = asked.1; lowered = l.2 })
-      by kinds.Table (terms.Lowering origin type options) is asked = absurd is
-      by kinds.Memory (terms.Lowering origin type options) is asked = absurd is
-      by kinds.Global (terms.Lowering origin type options) is asked = absurd is
-      by kind term is asked = absurd asked
-  item_there kind index (imports.ImportedResourceDrop key interface id) right h = by kind h.term h.is h.asked
+  item_there ok kind index (imports.WorldFunc (keys.Name text) function abi) right h = lowering_there ok kind index (OfRoot text) (lower_options w Main (imports.WorldFunc (keys.Name text) function abi)) h.term h.is h.asked
+  item_there ok kind index (imports.InterfaceFunc key interface function abi) right h = lowering_there ok kind index (OfInterface interface function) (lower_options w Main (imports.InterfaceFunc key interface function abi)) h.term h.is h.asked
+  item_there ok kind index (imports.ImportedResourceDrop key interface id) right h = by kind h.term h.is h.asked
     where
       by : (kind : ExportKind) (term : Term) → Is earlier (kind_space kind) index term → IsTermFor w (Dropped id) term →
           (kind ≡ kinds.Func) × (x : ℕ) × (address_at spaces.CoreFunc index c.items ≡ Some x) × IsDropOf s x (resource_of w id)
@@ -483,28 +550,38 @@ module _ {w : ComponentWorld} {earlier : List Def} {c : Scope} {s : Store} (a : 
       by kinds.Memory (terms.Dropping resource) is asked = absurd is
       by kinds.Global (terms.Dropping resource) is asked = absurd is
       by kind term is asked = absurd asked
-  item_there kind index role right h = absurd right
+  item_there ok kind index role right h = absurd right
+
+  -- so has what is given for an import: that item, or a shim
+  given_item_there : IsWorld w → (kind : ExportKind) (index : ℕ) (role : Import) → IsImportRole w role → IsGivenFor w Main earlier (kind_space kind) index role →
+      (kind ≡ kinds.Func) × (x : ℕ) × (address_at spaces.CoreFunc index c.items ≡ Some x) × Serves w a.shims s x role
+  given_item_there ok kind index role right (inl h) = let x = item_there ok kind index role right h in (x.0, x.1, x.2, inl x.3)
+  given_item_there ok kind index role right (inr h) =
+      let within : h.place < length (shims_of w) = slice_get_within (shims_of w) h.place h.shim h.listed in
+      let x = shim_exported within h.is in
+      let given : IsShimGivenAt w x.2 x.0 role = record { place = h.place; shim = h.shim; listed = h.listed; stands_for = h.stands_for; is = x.4 } in
+      (func_kind kind h.in_space, x.0, x.1, inr (subst (λ o. IsShimGiven w o x.0 role) (sym x.3) given))
 
   -- the entries of an inline instance, as they were put into the store
-  fields_there : (es : List CoreInlineExport) (xs : List Export) (fs : List (List ℕ × Import)) → AllByRecursion (λ f. IsImportRole w f.1) fs → AllZip (IsEntryFor w Main earlier) es fs → AllZip (IsNamedEntry c.items) es xs →
-      AllZip (IsFieldExport w s) xs fs
-  fields_there [] [] [] r h n = tt
-  fields_there (e ∷ es) (x ∷ xs) (f ∷ fs) r h n =
-      let i : (e.kind ≡ kinds.Func) × (y : ℕ) × (address_at spaces.CoreFunc e.index c.items ≡ Some y) × IsServedAs w s y (link_of w Main f.1) = item_there e.kind e.index f.1 r.0 h.0.serves in
+  fields_there : (es : List CoreInlineExport) (xs : List Export) (fs : List (List ℕ × Import)) → IsWorld w → AllByRecursion (λ f. IsImportRole w f.1) fs → AllZip (IsEntryFor w Main earlier) es fs → AllZip (IsNamedEntry c.items) es xs →
+      AllZip (IsFieldExport w a.shims s) xs fs
+  fields_there [] [] [] ok r h n = tt
+  fields_there (e ∷ es) (x ∷ xs) (f ∷ fs) ok r h n =
+      let i : (e.kind ≡ kinds.Func) × (y : ℕ) × (address_at spaces.CoreFunc e.index c.items ≡ Some y) × Serves w a.shims s y f.1 = given_item_there ok e.kind e.index f.1 r.0 h.0.serves in
       let kind : kind_space e.kind ≡ spaces.CoreFunc = ap kind_space i.0 in
       let at : address_at spaces.CoreFunc e.index c.items ≡ Some x.address = subst (λ space. address_at space e.index c.items ≡ Some x.address) kind n.0.at in
       let same : i.1 ≡ x.address = same_Some i.1 x.address (sym i.2 ∙ at) in
-      (record { named = n.0.named ∙ h.0.named; space = n.0.space ∙ kind; serves = subst (λ y. IsServedAs w s y (link_of w Main f.1)) same i.3 }, fields_there es xs fs r.1 h.1 n.1)
-  fields_there [] (x ∷ xs) fs r h n = absurd n
-  fields_there (e ∷ es) [] fs r h n = absurd n
-  fields_there [] [] (f ∷ fs) r h n = absurd h
-  fields_there (e ∷ es) (x ∷ xs) [] r h n = absurd h
+      (record { named = n.0.named ∙ h.0.named; space = n.0.space ∙ kind; serves = subst (λ y. Serves w a.shims s y f.1) same i.3 }, fields_there es xs fs ok r.1 h.1 n.1)
+  fields_there [] (x ∷ xs) fs ok r h n = absurd n
+  fields_there (e ∷ es) [] fs ok r h n = absurd n
+  fields_there [] [] (f ∷ fs) ok r h n = absurd h
+  fields_there (e ∷ es) (x ∷ xs) [] ok r h n = absurd h
 
   module _ (m : Machine) (items : m.scope.items ≡ c.items) (instances : m.store.core_instances ≡ s.core_instances) where
-    argument_there : (x : CoreArgument) (g : List ℕ × ImportInstance) → IsImportGroup w g → IsArgumentFor w Main earlier x g → (y : List ℕ × List Export) × (core_argument m x ≡ Some y) × IsOffered w s y g
-    argument_there x g right h =
+    argument_there : IsWorld w → (x : CoreArgument) (g : List ℕ × ImportInstance) → IsImportGroup w g → IsArgumentFor w Main earlier x g → (y : List ℕ × List Export) × (core_argument m x ≡ Some y) × IsOffered w a.shims s y g
+    argument_there ok x g right h =
         let b : (y : ℕ) × (address_at spaces.CoreInstance x.instance c.items ≡ Some y) × IsInlineInstance c.items s h.serves.entries y = thing_there h.serves.made in
-        ((x.name, b.2.exports), rw (items, b.1, instances, b.2.present) refl, record { named = h.named; each = fields_there h.serves.entries b.2.exports (fields_of g.1) (fields_right w g right) h.serves.each b.2.each })
+        ((x.name, b.2.exports), rw (items, b.1, instances, b.2.present) refl, record { named = h.named; each = fields_there h.serves.entries b.2.exports (fields_of g.1) ok (fields_right w g right) h.serves.each b.2.each })
 
     abbrev IsArgument : CoreArgument → List ℕ × ImportInstance → Type 0
     IsArgument x g = IsImportGroup w g × IsArgumentFor w Main earlier x g
@@ -516,69 +593,89 @@ module _ {w : ComponentWorld} {earlier : List Def} {c : Scope} {s : Store} (a : 
     with_groups (x ∷ xs) [] r h = absurd h
 
     -- the arguments of main's instantiation
-    pub arguments_there : (xs : List CoreArgument) (gs : List (List ℕ × ImportInstance)) → AllByRecursion (IsImportGroup w) gs → AllZip (IsArgumentFor w Main earlier) xs gs →
-        (ys : List (List ℕ × List Export)) × (all_some (map (core_argument m) xs) ≡ Some ys) × AllZip (IsOffered w s) ys gs
-    arguments_there xs gs r h = all_some-zip (IsOffered w s) (core_argument m) IsArgument (λ x g k. argument_there x g k.0 k.1) xs gs (with_groups xs gs r h)
+    pub arguments_there : IsWorld w → (xs : List CoreArgument) (gs : List (List ℕ × ImportInstance)) → AllByRecursion (IsImportGroup w) gs → AllZip (IsArgumentFor w Main earlier) xs gs →
+        (ys : List (List ℕ × List Export)) × (all_some (map (core_argument m) xs) ≡ Some ys) × AllZip (IsOffered w a.shims s) ys gs
+    arguments_there ok xs gs r h = all_some-zip (IsOffered w a.shims s) (core_argument m) IsArgument (λ x g k. argument_there ok x g k.0 k.1) xs gs (with_groups xs gs r h)
 
 -- ---- what main's imports find
 
--- an opaque function matches an import of its core type
-matches_own : (m : Machine) (t : Thing) (type : FuncType) (item : CoreItem) → t.space ≡ spaces.CoreFunc → IsOpaqueOf m.store t.address type item → matching m (externs.Func type) t ≡ Some t
-matches_own m t type item space h = rw (space, h.present, same_signature-refl type) refl
-
 -- what serves a role is opaque, and has the core type that the role requires
-served_opaque : (w : ComponentWorld) (s : Store) (address : ℕ) (role : Import) (type : FuncType) → IsImportRole w role → type_of_import w.resolve (items_of w) role ≡ Some (externs.Func type) →
+pub served_opaque : (w : ComponentWorld) (s : Store) (address : ℕ) (role : Import) (type : FuncType) → IsImportRole w role → type_of_import w.resolve (items_of w) role ≡ Some (externs.Func type) →
     IsServedAs w s address (link_of w Main role) → (item : CoreItem) × IsOpaqueOf s address type item
 served_opaque w s address (imports.WorldFunc (keys.Name text) function abi) type right fits h =
     let asked : called_type w.resolve GuestImport h.typed.wit ≡ externs.Func type =
     same_Some (called_type w.resolve GuestImport h.typed.wit) (externs.Func type)
     (sym (ap (option_map (called_type w.resolve GuestImport)) h.typed.imported) ∙ (ap (λ abi. option_map (called_type w.resolve abi) (root_function_at (items_of w).imports (keys.Name text))) (sym right.2) ∙ fits)) in
     let typed : externs.Func (core_signature h.type []) ≡ externs.Func type = lowered_type w h.type h.typed.wit h.typed.typed ∙ asked in
-    (Lowering h.lowered.of [], subst (λ t. IsOpaqueOf s address t (Lowering h.lowered.of [])) (ap (function_type_in type) typed) h.lowered.is)
+    (Lowering h.lowered.of h.held, subst (λ t. IsOpaqueOf s address t (Lowering h.lowered.of h.held)) (ap (function_type_in type) typed) h.lowered.is)
 served_opaque w s address (imports.InterfaceFunc key id function abi) type right fits h =
     let asked : called_type w.resolve GuestImport h.typed.wit ≡ externs.Func type =
     same_Some (called_type w.resolve GuestImport h.typed.wit) (externs.Func type)
     (sym (ap (option_map (called_type w.resolve GuestImport)) h.typed.imported) ∙ (ap (λ abi. option_map (called_type w.resolve abi) (found function (functions_of w.resolve id))) (sym right.2) ∙ fits)) in
     let typed : externs.Func (core_signature h.type []) ≡ externs.Func type = lowered_type w h.type h.typed.wit h.typed.typed ∙ asked in
-    (Lowering h.lowered.of [], subst (λ t. IsOpaqueOf s address t (Lowering h.lowered.of [])) (ap (function_type_in type) typed) h.lowered.is)
+    (Lowering h.lowered.of h.held, subst (λ t. IsOpaqueOf s address t (Lowering h.lowered.of h.held)) (ap (function_type_in type) typed) h.lowered.is)
 served_opaque w s address (imports.ImportedResourceDrop key interface id) type right fits h =
     (IntrinsicOf (intrinsics.ResourceDrop h.of), subst (λ t. IsOpaqueOf s address t (IntrinsicOf (intrinsics.ResourceDrop h.of))) (ap (function_type_in type) (same_Some drop_type (externs.Func type) fits)) h.is)
 served_opaque w s address role type right fits h = absurd right
+
+-- what is given for a role is a function of the core type that the role requires
+record IsServedFunction (s : Store) (address : ℕ) (type : FuncType) : Type 0 where
+  pub function : Func
+  pub present : slice_get s.code.functions address ≡ Some function
+  pub typed : signature_of function ≡ type
+
+served_function : (w : ComponentWorld) (s : Store) (numbers : List ℕ) (shims : Option ShimsAt) (address : ℕ) (role : Import) (type : FuncType) → MayHaveShims w s numbers shims → IsImportRole w role →
+    type_of_import w.resolve (items_of w) role ≡ Some (externs.Func type) → Serves w shims s address role → IsServedFunction s address type
+served_function w s numbers shims address role type there right fits (inl h) =
+    let o : (item : CoreItem) × IsOpaqueOf s address type item = served_opaque w s address role type right fits h in
+    record { function = Opaque o.1.what type; present = o.1.present; typed = refl }
+served_function w s numbers None address role type there right fits (inr h) = absurd h
+served_function w s numbers (Some at) address role type there right fits (inr h) =
+    let shim : IsShimAt s.code at.table (at.address + h.place) (0 + h.place) (type_of_shim h.shim) = shim_at s.code at.table 0 at.address (shims_of w) h.place h.shim there.made h.listed in
+    record {
+      function = _;
+      present = ap (slice_get s.code.functions) h.is ∙ shim.body;
+      typed = ap (function_type_in type) (same_Some (externs.Func (type_of_shim h.shim)) (externs.Func type) (sym h.stands_for.typed ∙ fits));
+    }
+
+-- a function matches an import of its core type
+matches_function : (m : Machine) (t : Thing) (type : FuncType) → t.space ≡ spaces.CoreFunc → IsServedFunction m.store t.address type → matching m (externs.Func type) t ≡ Some t
+matches_function m t type space h = rw (space, h.present, h.typed, same_signature-refl type) refl
 
 -- an import that has a role is to be given what the link table says of the role
 linked_in : (w : ComponentWorld) (instance : ImportInstance) (field : List ℕ) (role : Import) → found field (fields_of instance) ≡ Some role → link_in w Main field instance ≡ Some (link_of w Main role)
 linked_in w (instances.Names fields) field role e = ap (option_map (link_of w Main)) e
 linked_in w (instances.Whole which) field role e = absurd (none-some role e)
 
-module _ (w : ComponentWorld) (m : Machine) where
+module _ (w : ComponentWorld) (shims : Option ShimsAt) (m : Machine) where
   -- an export serves the role of a field; the exports of an argument serve those of a module's imports
-  abbrev Serves : Export → Import → Type 0
-  Serves e role = (e.space ≡ spaces.CoreFunc) × IsServedAs w m.store e.address (link_of w Main role)
+  abbrev IsFor : Export → Import → Type 0
+  IsFor e role = (e.space ≡ spaces.CoreFunc) × Serves w shims m.store e.address role
 
-  abbrev ServesAll : List Export → ImportInstance → Type 0
-  ServesAll es instance = AllZip (IsFieldExport w m.store) es (fields_of instance)
+  abbrev AreFor : List Export → ImportInstance → Type 0
+  AreFor es instance = AllZip (IsFieldExport w shims m.store) es (fields_of instance)
 
-  fields_named : (es : List Export) (fs : List (List ℕ × Import)) → AllZip (IsFieldExport w m.store) es fs →
-      AllZip (λ (x : List ℕ × Export) (z : List ℕ × Import). (x.0 ≡ z.0) × Serves x.1 z.1) (map (λ (e : Export). (e.name, e)) es) fs
+  fields_named : (es : List Export) (fs : List (List ℕ × Import)) → AllZip (IsFieldExport w shims m.store) es fs →
+      AllZip (λ (x : List ℕ × Export) (z : List ℕ × Import). (x.0 ≡ z.0) × IsFor x.1 z.1) (map (λ (e : Export). (e.name, e)) es) fs
   fields_named [] [] h = tt
   fields_named (e ∷ es) (f ∷ fs) h = ((h.0.named, (h.0.space, h.0.serves)), fields_named es fs h.1)
   fields_named [] (f ∷ fs) h = absurd h
   fields_named (e ∷ es) [] h = absurd h
 
-  groups_named : (arguments : List (List ℕ × List Export)) (gs : List (List ℕ × ImportInstance)) → AllZip (IsOffered w m.store) arguments gs →
-      AllZip (λ (x : List ℕ × List Export) (z : List ℕ × ImportInstance). (x.0 ≡ z.0) × ServesAll x.1 z.1) arguments gs
+  groups_named : (arguments : List (List ℕ × List Export)) (gs : List (List ℕ × ImportInstance)) → AllZip (IsOffered w shims m.store) arguments gs →
+      AllZip (λ (x : List ℕ × List Export) (z : List ℕ × ImportInstance). (x.0 ≡ z.0) × AreFor x.1 z.1) arguments gs
   groups_named arguments gs h = AllZip-weaker (λ a g o. (o.named, o.each)) arguments gs h
 
   -- each import of main finds what was planned for it
-  pub given_there : (arguments : List (List ℕ × List Export)) → AllZip (IsOffered w m.store) arguments w.main.imports.modules → (i : ImportType) → IsFunctionImport w i →
-      (t : Thing) × (given_to m arguments i ≡ Some t) × IsPlanned w m.store t i
-  given_there arguments h i p =
+  pub given_there : (numbers : List ℕ) → MayHaveShims w m.store numbers shims → (arguments : List (List ℕ × List Export)) → AllZip (IsOffered w shims m.store) arguments w.main.imports.modules → (i : ImportType) → IsFunctionImport w i →
+      (t : Thing) × (given_to m arguments i ≡ Some t) × IsPlanned w shims m.store t i
+  given_there numbers there arguments h i p =
       let roles : List (List ℕ × ImportInstance) = w.main.imports.modules in
       let g = bound_some (λ (o : ImportInstance). found i.field (fields_of o)) (found i.module_name roles) p.role p.has_role in
-      let a = found-zip ServesAll i.module_name arguments roles g.0 (groups_named arguments roles h) g.1 in
-      let e = found-zip Serves i.field (map (λ (e : Export). (e.name, e)) a.0) (fields_of g.0) p.role (fields_named a.0 (fields_of g.0) a.2) g.2 in
+      let a = found-zip AreFor i.module_name arguments roles g.0 (groups_named arguments roles h) g.1 in
+      let e = found-zip IsFor i.field (map (λ (e : Export). (e.name, e)) a.0) (fields_of g.0) p.role (fields_named a.0 (fields_of g.0) a.2) g.2 in
       let x : Export = e.0 in
       let t : Thing = record { space = x.space; address = x.address } in
-      let item : (item : CoreItem) × IsOpaqueOf m.store x.address p.type item = served_opaque w m.store x.address p.role p.type p.right p.fits e.2.1 in
+      let function : IsServedFunction m.store x.address p.type = served_function w m.store numbers shims x.address p.role p.type there p.right p.fits e.2.1 in
       let said : link_at w (main_module w) i.module_name i.field ≡ Some (link_of w Main p.role) = ap (option_and_then (link_in w Main i.field)) g.1 ∙ linked_in w g.0 i.field p.role g.2 in
-      (t, rw (p.typed, a.1, e.1, at_some x e.2.0) (matches_own m t p.type item.0 e.2.0 item.1), record { target = link_of w Main p.role; said = said; space = e.2.0; serves = e.2.1 })
+      (t, rw (p.typed, a.1, e.1, at_some x e.2.0) (matches_function m t p.type e.2.0 function), record { role = p.role; said = said; space = e.2.0; serves = e.2.1 })

@@ -4,6 +4,7 @@ mod Plain
 mod Given
 mod UserExports
 pub mod Steps
+pub mod InstanceSteps
 pub mod Marks
 mod ImportedTypes
 mod Served
@@ -27,3 +28,6 @@ mod WorkedInterfaceDrops
 mod WorkedOuterTypes
 mod OtherOuterType
 mod WorkedSharedResource
+mod WorkedTexts
+mod WorkedTextsLinked
+mod OtherTextOptions

@@ -1,5 +1,5 @@
 -- The landmarks of a list of definitions, and what they say of it.
-use Rattle.std.proofs.Common.{◌≡◌, ◌∙◌, ℕ, List, [], ◌∷◌, ◌++◌, map, refl, ap, ap₂, append-nil}
+use Rattle.std.proofs.Common.{◌≡◌, ◌∙◌, ℕ, List, [], ◌∷◌, ◌++◌, map, refl, ap, ap₂, append-nil, Option, Some, None}
 use Rattle.std.proofs.lemmas.Grind.{flat_map-append}
 use Rattle.std.specs.List.{flat_map, filter_map}
 use Rattle.comp_bytes.specs.ScopeNames.{Names, member_export, def_export}
@@ -11,7 +11,8 @@ use Rattle.wit_data.specs.Keys.{name_of_key}
 use Rattle.comp_worlds.specs.declared.world.ComponentWorld.{ComponentWorld}
 use Rattle.comp_links.specs.Naming.{Naming}
 use Rattle.comp_links.specs.Lists.{ImportEntry, ImportedInterface, WorldType, RootFunction, Stated, root_function, root_type, import_entries, names_of_interface, stated_import, stated_imports, names_in, instance_type_names, AreNames}
-use Rattle.comp_terms.specs.Rules.{Landmark, Imported, ModuleIs, InstanceOf, Exported, CustomNamed, InstanceTypeOf, landmark, import_marked, imports_marked, exports_marked, IsBuilt}
+use Rattle.comp_terms.specs.Rules.{Landmark, Imported, ModuleIs, InstanceOf, Exported, CustomNamed, InstanceTypeOf, landmark, import_marked, imports_marked, modules_marked, exports_marked, IsBuilt}
+use Rattle.comp_terms.specs.Generated.{shims_number, fixup_number, GeneratedBytes}
 use Rattle.link_laws.specs.Composition.{at_root, item_module, item_instantiates, item_imports, item_exports, item_customs}
 use Rattle.link_laws.proofs.Zips.{flat_map-marked}
 
@@ -119,6 +120,15 @@ type_of n w (ImportedInterface key id) = refl
 type_of n w (WorldType name id) = refl
 type_of n w (RootFunction name) = refl
 
+-- the generated modules, by their bytes; and the modules in the order of their instances
+abbrev pub bytes_listed : Option GeneratedBytes → List (List ℕ)
+bytes_listed None = []
+bytes_listed (Some b) = b.shims ∷ b.fixup ∷ []
+
+abbrev pub numbers_listed : ComponentWorld → Option GeneratedBytes → List ℕ
+numbers_listed w None = 0 ∷ []
+numbers_listed w (Some b) = shims_number w ∷ 0 ∷ fixup_number w ∷ []
+
 module _ (n : Naming) (w : ComponentWorld) (ds : List Def) (built : IsBuilt n w ds) where
   -- what the landmarks of the imports say
   said_by : {A : Type 0} (g : Landmark → List A) → ((s : Stated) → g (Imported s) ≡ []) → ((names : Names) → g (InstanceTypeOf names) ≡ []) → flat_map g (imports_marked n w) ≡ []
@@ -132,48 +142,70 @@ module _ (n : Naming) (w : ComponentWorld) (ds : List Def) (built : IsBuilt n w 
 
   -- what is read of all definitions but the section of names
   front_marks : {A : Type 0} (f : Def → List A) (g : Landmark → List A) → ((d : Def) → f d ≡ flat_map g (filter_map landmark (d ∷ []))) →
-      flat_map f built.front ≡ flat_map g (imports_marked n w) ++ flat_map g (ModuleIs w.main.bytes ∷ InstanceOf 0 ∷ exports_marked w)
-  front_marks f g same = flat_map-marked f landmark g same built.front ∙ (ap (flat_map g) built.marked ∙ flat_map-append g (imports_marked n w) (ModuleIs w.main.bytes ∷ InstanceOf 0 ∷ exports_marked w))
+      flat_map f built.front ≡ flat_map g (imports_marked n w) ++ (flat_map g (modules_marked w built.generated) ++ flat_map g (exports_marked w))
+  front_marks f g same =
+      flat_map-marked f landmark g same built.front
+      ∙ (ap (flat_map g) built.marked
+      ∙ (flat_map-append g (imports_marked n w) (modules_marked w built.generated ++ exports_marked w)
+      ∙ ap (λ l. flat_map g (imports_marked n w) ++ l) (flat_map-append g (modules_marked w built.generated) (exports_marked w))))
 
   read_marks : {A : Type 0} (f : Def → List A) (g : Landmark → List A) → ((d : Def) → f d ≡ flat_map g (filter_map landmark (d ∷ []))) → ((name contents : List ℕ) → f (defs.Item (items.Custom name contents)) ≡ []) →
-      flat_map f ds ≡ flat_map g (imports_marked n w) ++ flat_map g (ModuleIs w.main.bytes ∷ InstanceOf 0 ∷ exports_marked w)
+      flat_map f ds ≡ flat_map g (imports_marked n w) ++ (flat_map g (modules_marked w built.generated) ++ flat_map g (exports_marked w))
   read_marks f g same none =
       ap (flat_map f) built.whole
       ∙ (flat_map-append f built.front built.names
       ∙ (ap (λ l. flat_map f built.front ++ l) (names_nothing f none built.names built.named) ∙ (append-nil (flat_map f built.front) ∙ front_marks f g same)))
 
+  -- the modules and their instances have no import, no export, no custom section, and no type of instances
+  none_of_modules : {A : Type 0} (g : Landmark → List A) → ((bytes : List ℕ) → g (ModuleIs bytes) ≡ []) → ((number : ℕ) → g (InstanceOf number) ≡ []) → flat_map g (modules_marked w built.generated) ≡ []
+  none_of_modules g m i = by built.generated
+    where
+      by : (o : Option GeneratedBytes) → flat_map g (modules_marked w o) ≡ []
+      by None = rw (m w.main.bytes, i 0) refl
+      by (Some b) = rw (m w.main.bytes, m b.shims, i (shims_number w), i 0, m b.fixup, i (fixup_number w)) refl
+
   pub root_imports : flat_map (at_root item_imports) ds ≡ stated_imports n w
   root_imports =
       read_marks (at_root item_imports) import_mark import_is (λ n c. refl)
-      ∙ rw (imports_said, none_of import_mark (λ key. Exported (root_function (name_of_key key))) (λ key. refl) w.main_exports)
+      ∙ rw (imports_said, none_of_modules import_mark (λ b. refl) (λ k. refl), none_of import_mark (λ key. Exported (root_function (name_of_key key))) (λ key. refl) w.main_exports)
       (append-nil (stated_imports n w))
 
-  pub root_modules : flat_map (at_root item_module) ds ≡ w.main.bytes ∷ []
+  pub root_modules : flat_map (at_root item_module) ds ≡ w.main.bytes ∷ bytes_listed built.generated
   root_modules =
       read_marks (at_root item_module) module_mark module_is (λ n c. refl)
-      ∙ rw (said_by module_mark (λ s. refl) (λ names. refl), none_of module_mark (λ key. Exported (root_function (name_of_key key))) (λ key. refl) w.main_exports) refl
+      ∙ rw (said_by module_mark (λ s. refl) (λ names. refl), none_of module_mark (λ key. Exported (root_function (name_of_key key))) (λ key. refl) w.main_exports)
+      (append-nil (flat_map module_mark (modules_marked w built.generated)) ∙ by built.generated)
+    where
+      by : (o : Option GeneratedBytes) → flat_map module_mark (modules_marked w o) ≡ w.main.bytes ∷ bytes_listed o
+      by None = refl
+      by (Some b) = refl
 
-  pub root_instances : flat_map (at_root item_instantiates) ds ≡ 0 ∷ []
+  pub root_instances : flat_map (at_root item_instantiates) ds ≡ numbers_listed w built.generated
   root_instances =
       read_marks (at_root item_instantiates) instance_mark instance_is (λ n c. refl)
-      ∙ rw (said_by instance_mark (λ s. refl) (λ names. refl), none_of instance_mark (λ key. Exported (root_function (name_of_key key))) (λ key. refl) w.main_exports) refl
+      ∙ rw (said_by instance_mark (λ s. refl) (λ names. refl), none_of instance_mark (λ key. Exported (root_function (name_of_key key))) (λ key. refl) w.main_exports)
+      (append-nil (flat_map instance_mark (modules_marked w built.generated)) ∙ by built.generated)
+    where
+      by : (o : Option GeneratedBytes) → flat_map instance_mark (modules_marked w o) ≡ numbers_listed w o
+      by None = refl
+      by (Some b) = refl
 
   pub root_exports : flat_map (at_root item_exports) ds ≡ map (λ key. root_function (name_of_key key)) w.main_exports
   root_exports =
       read_marks (at_root item_exports) export_mark export_is (λ n c. refl)
-      ∙ rw (said_by export_mark (λ s. refl) (λ names. refl), all_of export_mark (λ key. Exported (root_function (name_of_key key))) (λ key. root_function (name_of_key key)) (λ key. refl) w.main_exports) refl
+      ∙ rw (said_by export_mark (λ s. refl) (λ names. refl), none_of_modules export_mark (λ b. refl) (λ k. refl), all_of export_mark (λ key. Exported (root_function (name_of_key key))) (λ key. root_function (name_of_key key)) (λ key. refl) w.main_exports) refl
 
   pub root_export_names : flat_map def_export ds ≡ map name_of_key w.main_exports
   root_export_names =
       read_marks def_export name_mark name_is (λ n c. refl)
-      ∙ rw (said_by name_mark (λ s. refl) (λ names. refl), all_of name_mark (λ key. Exported (root_function (name_of_key key))) name_of_key (λ key. refl) w.main_exports) refl
+      ∙ rw (said_by name_mark (λ s. refl) (λ names. refl), none_of_modules name_mark (λ b. refl) (λ k. refl), all_of name_mark (λ key. Exported (root_function (name_of_key key))) name_of_key (λ key. refl) w.main_exports) refl
 
   pub root_type_names : flat_map (at_root item_type_names) ds ≡ instance_type_names w
   root_type_names =
       read_marks (at_root item_type_names) type_mark type_is (λ n c. refl)
-      ∙ rw (types_said, none_of type_mark (λ key. Exported (root_function (name_of_key key))) (λ key. refl) w.main_exports) (append-nil (instance_type_names w))
+      ∙ rw (types_said, none_of_modules type_mark (λ b. refl) (λ k. refl), none_of type_mark (λ key. Exported (root_function (name_of_key key))) (λ key. refl) w.main_exports) (append-nil (instance_type_names w))
 
   pub no_customs : flat_map (at_root item_customs) built.front ≡ []
   no_customs =
       front_marks (at_root item_customs) custom_mark custom_is
-      ∙ rw (said_by custom_mark (λ s. refl) (λ names. refl), none_of custom_mark (λ key. Exported (root_function (name_of_key key))) (λ key. refl) w.main_exports) refl
+      ∙ rw (said_by custom_mark (λ s. refl) (λ names. refl), none_of_modules custom_mark (λ b. refl) (λ k. refl), none_of custom_mark (λ key. Exported (root_function (name_of_key key))) (λ key. refl) w.main_exports) refl

@@ -81,6 +81,7 @@ abbrev only_import : ImportType
 only_import = record { module_name = from_u; field = f; ty = externs.Func f_core }
 
 only_meets : (origins : TypeId → Resource) → IsServed world m origins (main_module world) (core_function 0) only_import → CoreMeets world m None 0 (ItemIsLowering world m origins (OfInterface (interface_id 1) f) [])
+unfolding values_from
 only_meets origins s = subst (Meets world m origins (core_function 0)) (same_Some s.target (Lowered (OfInterface (interface_id 1) f) []) (sym s.said)) s.meets
 
 pub other_type_is_not_linked : IsLinked own_names world no_modules (machine_of (end_of 2)) → ⊥

@@ -1,10 +1,10 @@
 -- The functions of a world, and the core types of what main imports and exports.
-use Rattle.std.proofs.Common.{◌≡◌, ◌∙◌, ℕ, zero, suc, Bool, true, false, ◌&&◌, List, [], ◌∷◌, map, refl, sym, ap, subst, Option, Some, None, cond, inl, inr, ◌⊎◌, eq-eqb, arith}
+use Rattle.std.proofs.Common.{◌≡◌, ◌∙◌, ℕ, zero, suc, Bool, true, false, ◌&&◌, List, [], ◌∷◌, map, refl, sym, ap, Option, Some, None, cond, inl, inr, ◌⊎◌, eq-eqb, arith}
 use Rattle.std.proofs.lemmas.List.Elements.{Contains-append_cases}
 use Rattle.std.proofs.lemmas.Option.{none-some, same_Some}
 use Rattle.std.proofs.lemmas.Slice.Eq.{bytes_eq-Decides}
 use Rattle.std.specs.Prelude.{Contains}
-use Rattle.std.specs.List.{slice_get, flat_map, AllByRecursion}
+use Rattle.std.specs.List.{slice_get, AllByRecursion}
 use Rattle.std.specs.Map.{lookup}
 use Rattle.std.specs.Option.{option_and_then}
 use Rattle.std.specs.Str.{bytes_eq}
@@ -19,7 +19,6 @@ use Rattle.core_runs.specs.Values.{same_value_type, same_value_types, same_signa
 use Rattle.wit_data.specs.declared.functions.AbiVariant.TheVariants.{GuestImport}
 use Rattle.wit_data.specs.declared.functions.Function.{Function}
 use Rattle.wit_data.specs.declared.signatures.WasmSignature.{WasmSignature}
-use Rattle.wit_data.specs.declared.types.TypeDef.{TypeDef}
 use Rattle.wit_data.specs.Signatures.{signature}
 use Rattle.wit_data.specs.declared.worlds.WorldItem.{WorldItem}
 use Rattle.wit_data.specs.declared.worlds.WorldItem.TheVariants as items
@@ -37,10 +36,10 @@ use Rattle.comp_roles.specs.declared.offered.ExternType.{ExternType}
 use Rattle.comp_roles.specs.declared.offered.ExternType.TheVariants as externs
 use Rattle.comp_roles.specs.declared.offered.ImportType.{ImportType}
 use Rattle.comp_roles.specs.Lookups.{first_export, memory_of_import, memory_of_fields, imported_memory, is_initialize, is_task_hook}
-use Rattle.world_values.specs.Items.{function_in, functions_of, root_function_at, root_export}
+use Rattle.world_values.specs.Items.{function_in, functions_of, root_function_at}
 use Rattle.comp_worlds.proofs.Roles.{role_right}
-use Rattle.comp_worlds.specs.Typed.{drop_type, type_of_import, type_of_export, FitsImport, FitsExport}
-use Rattle.comp_worlds.specs.WorldContents.{items_of, core_name_of}
+use Rattle.comp_worlds.specs.Typed.{drop_type, type_of_import, FitsImport}
+use Rattle.comp_worlds.specs.WorldContents.{items_of}
 use Rattle.comp_worlds.specs.Worlds.{IsWorld, IsExportItem, IsImportRole, IsImportGroup, IsExportRole}
 use Rattle.comp_worlds.specs.declared.world.ComponentWorld.{ComponentWorld}
 use Rattle.comp_worlds.specs.declared.world.WorldAdapter.{WorldAdapter}
@@ -57,11 +56,11 @@ use Rattle.link_laws.proofs.Stores.{drop_core, main_module}
 abbrev Entries : Type 0
 Entries = List (WorldKey × WorldItem)
 
-only : {X : Type 0} (x y : X) → Contains (x ∷ []) y → x ≡ y
+pub only : {X : Type 0} (x y : X) → Contains (x ∷ []) y → x ≡ y
 only x y (zero, l, e) = e
 only x y (suc k, l, e) = absurd (omega (arith, l))
 
-nothing_in : {X : Type 0} {P : Type 0} (x : X) → Contains [] x → P
+pub nothing_in : {X : Type 0} {P : Type 0} (x : X) → Contains [] x → P
 nothing_in x m = let l = m.1 in absurd (omega (arith, l))
 
 -- an item that is found under a name: a function of this name

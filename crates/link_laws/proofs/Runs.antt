@@ -1,15 +1,26 @@
 -- A list of right definitions runs, and the final state is linked.
-use Rattle.std.proofs.Common.{◌≡◌, ◌∙◌, ◌≤◌, ◌+◌, ℕ, false, List, [], ◌∷◌, ◌++◌, length, map, refl, sym, ap, ap₂, subst, append-nil, append_assoc, Some, None, arith, IsTrue}
+use Rattle.std.proofs.Common.{◌≡◌, ◌∙◌, ◌≤◌, ◌<◌, ◌+◌, ◌==◌, zero, suc, Option, is_some, ℕ, false, List, [], ◌∷◌, ◌++◌, length, map, refl, sym, ap, ap₂, subst, append-nil, append_assoc, Some, None, arith, IsTrue}
 use Rattle.std.proofs.lemmas.List.{map-append}
-use Rattle.std.proofs.lemmas.Option.{slice_get_within}
-use Rattle.std.specs.List.{slice_get, flat_map, AllZip}
+use Rattle.std.proofs.lemmas.Option.{slice_get_within, none-some, same_Some}
+use Rattle.std.proofs.lemmas.List.Elements.{filter-append, Contains-append_right}
+use Rattle.std.proofs.lemmas.Grind.{flat_map-append}
+use Rattle.std.specs.Prelude.{Contains, ◌≢◌}
+use Rattle.comp_lists.proofs.Lists.{there, AllByRecursion-front, AllByRecursion-back, AllByRecursion-contains, Contains-map}
+use Rattle.core_bytes.specs.Modules.{Encodes}
+use Rattle.shim_plan.specs.declared.shims.Shim.{Shim}
+use Rattle.world_shims.specs.WorldShims.{shims_of, type_of_shim}
+use Rattle.shim_runs.specs.ShimRuns.{IsShimAt, instance_exports}
+use Rattle.shim_runs.proofs.Acting.{empty_shims_trap}
+use Rattle.shim_runs.proofs.Placed.{shim_at}
+use Rattle.shim_runs.proofs.Exported.{shims_found}
+use Rattle.comp_terms.specs.Generated.{shims_number, fixup_number, GeneratedBytes, MayBeGenerated}
+use Rattle.std.specs.List.{slice_get, flat_map, AllZip, AllByRecursion}
 use Rattle.comp_bytes.specs.ItemIndices.{in_space}
 use Rattle.comp_bytes.specs.declared.space.Space.TheVariants as spaces
 use Rattle.comp_bytes.specs.declared.space.Sort.TheVariants as sorts
 use Rattle.comp_bytes.specs.declared.space.ComponentExportKind.TheVariants as exports
 use Rattle.comp_bytes.specs.declared.types.Alias.TheVariants as aliases
 use Rattle.comp_bytes.specs.declared.types.Description.TheVariants as descriptions
-use Rattle.comp_bytes.specs.declared.canon.CanonicalOption.{CanonicalOption}
 use Rattle.comp_bytes.specs.declared.canon.Intrinsic.TheVariants as intrinsics
 use Rattle.comp_bytes.specs.declared.def.Item.TheVariants as items
 use Rattle.comp_bytes.specs.declared.def.Def.{Def}
@@ -18,86 +29,132 @@ use Rattle.wit_data.specs.Keys.{name_of_key}
 use Rattle.comp_worlds.specs.Worlds.{IsWorld}
 use Rattle.comp_worlds.specs.declared.world.ComponentWorld.{ComponentWorld}
 use Rattle.comp_links.specs.Naming.{Naming}
-use Rattle.comp_links.specs.Modules.{WorldModule}
+use Rattle.comp_links.specs.Modules.{WorldModule, user_modules}
 use Rattle.comp_links.specs.Lists.{resource_of}
 use Rattle.comp_trees.specs.Inventories.{Inventory}
 use Rattle.comp_trees.proofs.Inventories.{inventory-empty}
 use Rattle.core_types.specs.declared.types.ValType.{ValType}
-use Rattle.core_runs.specs.Store.{Answer, Now, Event, Instantiated}
-use Rattle.comp_runs.specs.Store.{Store}
+use Rattle.core_runs.specs.Bodies.{table_shim}
+use Rattle.core_runs.specs.Store.{Generated, Answer, Now, Event, Instantiated}
+use Rattle.comp_runs.specs.Store.{ModuleInstance, Store}
 use Rattle.comp_runs.specs.Machine.{Scope, Machine, Outcome, Done, Trapped, Open, Stuck}
 use Rattle.comp_runs.specs.Running.{run, fresh_machine}
 use Rattle.comp_terms.specs.Rules.{IsRight, RightAfter, IsBuilt}
 use Rattle.link_laws.specs.Meeting.{task_hook}
-use Rattle.link_laws.specs.Composition.{IsComposed, numbers_from, instance_order, at_root, item_instantiates}
-use Rattle.link_laws.specs.Linking.{module_meanings, outcome, EndsAt, StartCall, start_calls, initialization, questions, LetsRun, IsLinked, imported_among, TypesServed, Links}
+use Rattle.link_laws.specs.Composition.{GeneratedModules, generated_sections, IsComposed, numbers_from, instance_order, at_root, item_instantiates}
+use Rattle.link_laws.specs.Linking.{module_meanings, outcome, EndsAt, StartCall, start_calls, initialization, questions, LetsRun, IsLinked, imported_among, TypesServed, IsShim, TrapsAtOnce, BeforeFixup, Links}
 use Rattle.link_laws.proofs.Zips.{each_listed}
-use Rattle.link_laws.proofs.Stores.{IsTypeEntry, IsFunctionEntry, IsInstanceThing, Agrees}
-use Rattle.link_laws.proofs.Given.{scope_there}
-use Rattle.link_laws.proofs.Plain.{only_main, no_initialize}
-use Rattle.link_laws.proofs.Steps.{no_modules, machine, IsNow, IsGood, asks, events_of, seen_by, Steps, step_type, step_instance_type, step_import, step_import_type, step_import_resource, step_import_instance, step_alias_function, step_alias_type, step_lower, step_drop, step_lift, step_inline_instance, step_alias, step_export, step_module, step_custom, step_instantiate}
-use Rattle.link_laws.proofs.Marks.{root_imports, root_modules, root_instances, root_exports, root_export_names, no_customs}
+use Rattle.link_laws.proofs.Stores.{ShimsAt, ExportsShims, MayHaveShims, IsTypeEntry, IsFunctionEntry, IsInstanceThing, Agrees}
+use Rattle.link_laws.proofs.Given.{not_shims, scope_there}
+use Rattle.link_laws.proofs.Plain.{only, nothing_in, only_main, no_initialize}
+use Rattle.link_laws.proofs.InstanceSteps.{IsGenerated, generated_for, step_instantiate}
+use Rattle.link_laws.proofs.Steps.{no_modules, machine, IsNow, IsGood, users_among, users_in, asks, events_of, seen_by, Steps, step_type, step_instance_type, step_import, step_import_type, step_import_resource, step_import_instance, step_alias_function, step_alias_type, step_lower, step_drop, step_lift, step_inline_instance, step_alias, step_export, step_module, step_custom}
+use Rattle.link_laws.proofs.Marks.{bytes_listed, numbers_listed, root_imports, root_modules, root_instances, root_exports, root_export_names, no_customs}
 use Rattle.link_laws.proofs.ImportedTypes.{types_served}
-use Rattle.link_laws.proofs.Served.{users_served, stated_all, each_provided}
+use Rattle.link_laws.proofs.Served.{FilledAtEnd, users_served, stated_all, each_provided}
 
-module _ {w : ComponentWorld} {earlier : List Def} {c : Scope} {s : Store} (a : Agrees w earlier c s) (g : ℕ) where
-  step : IsWorld w → (d : Def) → IsRight w earlier d → Steps w earlier c s g d
-  step ok (defs.Item (items.CoreModule bytes)) h = step_module a g bytes
-  step ok (defs.Item (items.CoreInstantiate number arguments)) h = step_instantiate a g ok number arguments h
-  step ok (defs.Item (items.CoreExports entries)) h = step_inline_instance a g entries h
-  step ok (defs.Item (items.Alias (aliases.CoreExport kind instance name))) h = step_alias a g ok kind instance name h
-  step ok (defs.Item (items.Alias (aliases.Export exports.Func instance name))) h = step_alias_function a g instance name h
-  step ok (defs.Item (items.Alias (aliases.Export exports.Type instance name))) h = step_alias_type a g instance name h
-  step ok (defs.Item (items.Type t)) h = step_type a g t h
-  step ok (defs.Item (items.InstanceType t)) h = step_instance_type a g t
-  step ok (defs.Item (items.Lift core options kind)) h = step_lift a g core options kind h.0 h.1 h.2
-  step ok (defs.Item (items.Lower function options)) h = subst (λ (o : List CanonicalOption). Steps w earlier c s g (defs.Item (items.Lower function o))) (sym h.1) (step_lower a g function h.0)
-  step ok (defs.Item (items.Intrinsic (intrinsics.ResourceDrop type))) h = step_drop a g type h
-  step ok (defs.Item (items.Import name (descriptions.Func kind))) h = step_import a g name kind h
-  step ok (defs.Item (items.Import name (descriptions.TypeEqual index))) h = step_import_type a g name index h.0
-  step ok (defs.Item (items.Import name descriptions.SubResource)) h = step_import_resource a g name
-  step ok (defs.Item (items.Import name (descriptions.Instance index))) h = step_import_instance a g name index h.outer h.members h.is h.right
-  step ok (defs.Item (items.Export name sorts.Func index None)) h = step_export a g ok name index h
-  step ok (defs.Item (items.Custom name contents)) h = step_custom a g name contents
-  step ok _ h = absurd h
+-- a generated module is instantiated only where it is one of these
+abbrev pub MayMake : ComponentWorld → GeneratedModules → ℕ → Type 0
+MayMake w gen n = (0 ≡ n → ⊥) → IsGenerated w gen
+
+module _ {w : ComponentWorld} {earlier : List Def} {c : Scope} {s : Store} (a : Agrees w earlier c s) (g : ℕ) (gen : GeneratedModules) where
+  step : IsWorld w → (d : Def) → AllByRecursion (MayMake w gen) (at_root item_instantiates d) → IsRight w earlier d → Steps w gen earlier c s g d
+  step ok (defs.Item (items.CoreModule bytes)) may h = step_module a g gen bytes
+  step ok (defs.Item (items.CoreInstantiate number arguments)) may h = step_instantiate a g gen ok number arguments may.0 h
+  step ok (defs.Item (items.CoreExports entries)) may h = step_inline_instance a g gen entries h
+  step ok (defs.Item (items.Alias (aliases.CoreExport kind instance name))) may h = step_alias a g gen ok kind instance name h
+  step ok (defs.Item (items.Alias (aliases.Export exports.Func instance name))) may h = step_alias_function a g gen instance name h
+  step ok (defs.Item (items.Alias (aliases.Export exports.Type instance name))) may h = step_alias_type a g gen instance name h
+  step ok (defs.Item (items.Type t)) may h = step_type a g gen t h
+  step ok (defs.Item (items.InstanceType t)) may h = step_instance_type a g gen t
+  step ok (defs.Item (items.Lift core options kind)) may h = step_lift a g gen core options kind h.0 h.1 h.2
+  step ok (defs.Item (items.Lower function options)) may h = step_lower a g gen function options h.0 h.1
+  step ok (defs.Item (items.Intrinsic (intrinsics.ResourceDrop type))) may h = step_drop a g gen type h
+  step ok (defs.Item (items.Import name (descriptions.Func kind))) may h = step_import a g gen name kind h
+  step ok (defs.Item (items.Import name (descriptions.TypeEqual index))) may h = step_import_type a g gen name index h.0
+  step ok (defs.Item (items.Import name descriptions.SubResource)) may h = step_import_resource a g gen name
+  step ok (defs.Item (items.Import name (descriptions.Instance index))) may h = step_import_instance a g gen name index h.outer h.members h.is h.right
+  step ok (defs.Item (items.Export name sorts.Func index None)) may h = step_export a g gen ok name index h
+  step ok (defs.Item (items.Custom name contents)) may h = step_custom a g gen name contents
+  step ok _ may h = absurd h
 
 -- the calls of the outside that a list makes, in order, by their result types
 abbrev asked_by : List Def → List (List ValType)
 asked_by ds = flat_map asks ds
 
-abbrev Resolves : ComponentWorld → List Def → List Def → Scope → Store → ℕ → Type 0
-Resolves w earlier rest c s g =
+abbrev Resolves : ComponentWorld → GeneratedModules → List Def → List Def → Scope → Store → ℕ → Type 0
+Resolves w gen earlier rest c s g =
     (e : Scope) × (t : Store) × (k : ℕ)
-    × ((es : List Event) (now : Now) → IsNow es g now → IsGood e t k (es ++ seen_by rest) (asked_by rest) now.answers (run (module_meanings w no_modules) rest (machine c s now)))
+    × ((es : List Event) (now : Now) → IsNow es g now → IsGood e t k (es ++ seen_by rest) (asked_by rest) now.answers (run (module_meanings w gen) rest (machine c s now)))
     × Agrees w (earlier ++ rest) e t
 
-resolves : (w : ComponentWorld) → IsWorld w → (earlier rest : List Def) (c : Scope) (s : Store) (g : ℕ) → Agrees w earlier c s → RightAfter w earlier rest → Resolves w earlier rest c s g
-resolves w ok earlier [] c s g a h = (c, s, g, λ es now at. (refl, refl, subst (λ l. IsNow l g now) (sym (append-nil es)) at), rw append-nil a)
-resolves w ok earlier (d ∷ ds) c s g a h =
-    let one : Steps w earlier c s g d = step a g ok d h.0 in
-    let all : Resolves w (earlier ++ d ∷ []) ds one.0 one.1 one.2 = resolves w ok (earlier ++ d ∷ []) ds one.0 one.1 one.2 one.4 h.1 in
+resolves : (w : ComponentWorld) (gen : GeneratedModules) → IsWorld w → (earlier rest : List Def) (c : Scope) (s : Store) (g : ℕ) → Agrees w earlier c s → AllByRecursion (MayMake w gen) (flat_map (at_root item_instantiates) rest) → RightAfter w earlier rest → Resolves w gen earlier rest c s g
+resolves w gen ok earlier [] c s g a may h = (c, s, g, λ es now at. (refl, refl, subst (λ l. IsNow l g now) (sym (append-nil es)) at), rw append-nil a)
+resolves w gen ok earlier (d ∷ ds) c s g a may h =
+    let own : AllByRecursion (MayMake w gen) (at_root item_instantiates d) = AllByRecursion-front (MayMake w gen) (at_root item_instantiates d) (flat_map (at_root item_instantiates) ds) may in
+    let later : AllByRecursion (MayMake w gen) (flat_map (at_root item_instantiates) ds) = AllByRecursion-back (MayMake w gen) (at_root item_instantiates d) (flat_map (at_root item_instantiates) ds) may in
+    let one : Steps w gen earlier c s g d = step a g gen ok d own h.0 in
+    let all : Resolves w gen (earlier ++ d ∷ []) ds one.0 one.1 one.2 = resolves w gen ok (earlier ++ d ∷ []) ds one.0 one.1 one.2 one.4 later h.1 in
     (all.0, all.1, all.2, λ es now at. one.3.continues all.0 all.1 all.2 es (asked_by ds) ds (λ n k. all.3 (es ++ events_of d) n k) now at, subst (λ l. Agrees w l all.0 all.1) (append_assoc earlier (d ∷ []) ds) all.4)
 
--- such lists have one entry for each instantiation
-asked-each : (ds : List Def) → asked_by ds ≡ map (λ (n : ℕ). []) (flat_map (at_root item_instantiates) ds)
-asked-each [] = refl
-asked-each (d ∷ ds) = rw (asked-each ds) (sym (map-append (λ (n : ℕ). []) (at_root item_instantiates d) (flat_map (at_root item_instantiates) ds)))
+-- such lists have one entry for each instance of a user module
+users-append : (d : Def) (ds : List Def) → users_among (flat_map (at_root item_instantiates) (d ∷ ds)) ≡ users_in d ++ users_among (flat_map (at_root item_instantiates) ds)
+users-append d ds = filter-append (λ n. n == 0) (at_root item_instantiates d) (flat_map (at_root item_instantiates) ds)
 
-seen-each : (ds : List Def) → seen_by ds ≡ map (λ (n : ℕ). Instantiated n) (flat_map (at_root item_instantiates) ds)
+asked-each : (ds : List Def) → asked_by ds ≡ map (λ (n : ℕ). []) (users_among (flat_map (at_root item_instantiates) ds))
+asked-each [] = refl
+asked-each (d ∷ ds) =
+    ap (λ l. asks d ++ l) (asked-each ds)
+    ∙ (sym (map-append (λ (n : ℕ). []) (users_in d) (users_among (flat_map (at_root item_instantiates) ds)))
+    ∙ ap (map (λ (n : ℕ). [])) (sym (users-append d ds)))
+
+seen-each : (ds : List Def) → seen_by ds ≡ map (λ (n : ℕ). Instantiated n) (users_among (flat_map (at_root item_instantiates) ds))
 seen-each [] = refl
-seen-each (d ∷ ds) = rw (seen-each ds) (sym (map-append (λ (n : ℕ). Instantiated n) (at_root item_instantiates d) (flat_map (at_root item_instantiates) ds)))
+seen-each (d ∷ ds) =
+    ap (λ l. events_of d ++ l) (seen-each ds)
+    ∙ (sym (map-append (λ (n : ℕ). Instantiated n) (users_in d) (users_among (flat_map (at_root item_instantiates) ds)))
+    ∙ ap (map (λ (n : ℕ). Instantiated n)) (sym (users-append d ds)))
+
+-- ---- the generated modules of what was built
+
+abbrev pub modules_of : (w : ComponentWorld) (o : Option GeneratedBytes) → MayBeGenerated w o → GeneratedModules
+modules_of w None h = no_modules
+modules_of w (Some b) h = generated_for w h.debug_names
+
+-- their bytes encode them
+bytes_encode : (w : ComponentWorld) (o : Option GeneratedBytes) (h : MayBeGenerated w o) → AllZip Encodes (bytes_listed o) (generated_sections (modules_of w o h))
+bytes_encode w None h = tt
+bytes_encode w (Some b) h = (h.shims, (h.fixup, tt))
+
+-- the instances are in their order
+order_is : (w : ComponentWorld) → IsWorld w → (o : Option GeneratedBytes) (h : MayBeGenerated w o) → numbers_listed w o ≡ instance_order (length (user_modules w)) (modules_of w o h)
+order_is w ok None h = sym (ap (λ (us : List WorldModule). instance_order (length us) no_modules) (only_main w ok))
+order_is w ok (Some b) h =
+    ap (λ (us : List WorldModule). length us ∷ 0 ∷ suc (length us) ∷ []) (only_main w ok)
+    ∙ sym (ap (λ (us : List WorldModule). instance_order (length us) (generated_for w h.debug_names)) (only_main w ok))
+
+-- one of them is a user module
+one_user : (w : ComponentWorld) → IsWorld w → (o : Option GeneratedBytes) → users_among (numbers_listed w o) ≡ 0 ∷ []
+one_user w ok None = refl
+one_user w ok (Some b) = ap (λ (us : List WorldModule). users_among (length us ∷ 0 ∷ suc (length us) ∷ [])) (only_main w ok)
+
+may_make : (w : ComponentWorld) (o : Option GeneratedBytes) (h : MayBeGenerated w o) → AllByRecursion (MayMake w (modules_of w o h)) (numbers_listed w o)
+may_make w None h = (λ no. absurd (no refl), tt)
+may_make w (Some b) h =
+    let own : IsGenerated w (generated_for w h.debug_names) = record { debug_names = h.debug_names; is = refl; room = h.room } in
+    (λ no. own, (λ no. own, (λ no. own, tt)))
 
 -- ---- as a list
 
 -- what was built is composed as the world says
-pub composed : (n : Naming) (w : ComponentWorld) (ds : List Def) → IsWorld w → IsBuilt n w ds → IsComposed n w no_modules ds
+pub composed : (n : Naming) (w : ComponentWorld) (ds : List Def) → IsWorld w → (built : IsBuilt n w ds) → IsComposed n w (modules_of w built.generated built.are_generated) ds
 composed n w ds ok built = record {
-  generated = [];
-  modules = root_modules n w ds built ∙ sym (ap (λ us. map (λ (u : WorldModule). u.found.bytes) us ++ []) (only_main w ok));
-  encoded = tt;
+  generated = bytes_listed built.generated;
+  modules = root_modules n w ds built ∙ sym (ap (λ us. map (λ (u : WorldModule). u.found.bytes) us ++ bytes_listed built.generated) (only_main w ok));
+  encoded = bytes_encode w built.generated built.are_generated;
   imports = root_imports n w ds built;
   exports = root_exports n w ds built ∙ stated_all n w ok w.main_exports ok.main.required;
-  instances = root_instances n w ds built ∙ sym (ap (λ (us : List WorldModule). instance_order (length us) no_modules) (only_main w ok));
+  instances = root_instances n w ds built ∙ order_is w ok built.generated built.are_generated;
   customs = record { front = built.front; names = built.names; whole = built.whole; none_before = no_customs n w ds built; named = built.named };
 }
 
@@ -107,16 +164,22 @@ no_calls : (w : ComponentWorld) → IsWorld w → start_calls w ≡ []
 no_calls w ok = ap (initialization (task_hook w)) (no_initialize w w.main.exports.exports ok.main.export_roles)
 
 start : (w : ComponentWorld) → Agrees w [] (fresh_machine []).scope (fresh_machine []).store
-start w = record { means = tt; types = subst (λ (v : Inventory). AllZip (IsTypeEntry (fresh_machine []).store) v.types []) (sym inventory-empty) tt; functions = subst (λ (v : Inventory). AllZip (IsFunctionEntry (fresh_machine []).store) v.functions []) (sym inventory-empty) tt; instances = subst (λ (v : Inventory). AllZip (IsInstanceThing (fresh_machine []).store) v.instances []) (sym inventory-empty) tt; modules = refl; instantiated = refl; served = tt; exports = refl; lifted = tt; imports = sym (ap (λ (v : Inventory). v.imports) inventory-empty) }
+start w = record { shims = None; with_shims = λ yes. nothing_in (shims_number w) yes; means = tt; types = subst (λ (v : Inventory). AllZip (IsTypeEntry (fresh_machine []).store) v.types []) (sym inventory-empty) tt; functions = subst (λ (v : Inventory). AllZip (IsFunctionEntry (fresh_machine []).store) v.functions []) (sym inventory-empty) tt; instances = subst (λ (v : Inventory). AllZip (IsInstanceThing (fresh_machine []).store) v.instances []) (sym inventory-empty) tt; modules = refl; instantiated = refl; served = tt; exports = refl; lifted = tt; imports = sym (ap (λ (v : Inventory). v.imports) inventory-empty) }
+
+-- where the shims are made, they are filled at the end
+filled_at_end : (w : ComponentWorld) (m : Machine) (o : Option GeneratedBytes) (shims : Option ShimsAt) → (numbers : List ℕ) → numbers ≡ numbers_listed w o → MayHaveShims w m.store numbers shims → (ok : IsWorld w) → FilledAtEnd w ok m shims
+filled_at_end w m o None numbers same h ok = tt
+filled_at_end w m None (Some at) numbers same h ok = absurd (not_shims w (only 0 (shims_number w) (subst (λ l. Contains l (shims_number w)) same h.there)))
+filled_at_end w m (Some b) (Some at) numbers same h ok = (h.made, h.filled (subst (λ l. Contains l (fixup_number w)) (sym same) (2, omega arith, refl)), h.room)
 
 -- the end of a run is linked
-linked_at_end : (n : Naming) (w : ComponentWorld) (ds : List Def) (m : Machine) → IsWorld w → IsBuilt n w ds → Agrees w ds m.scope m.store → m.now.events ≡ Instantiated 0 ∷ [] → IsLinked n w no_modules m
+linked_at_end : (n : Naming) (w : ComponentWorld) (ds : List Def) (m : Machine) → IsWorld w → (built : IsBuilt n w ds) → Agrees w ds m.scope m.store → m.now.events ≡ Instantiated 0 ∷ [] → IsLinked n w (modules_of w built.generated built.are_generated) m
 linked_at_end n w ds m ok built a events =
     record {
       origins = resource_of w;
       start_events = [];
-      instances = a.instantiated ∙ (root_instances n w ds built ∙ sym (ap (λ (us : List WorldModule). instance_order (length us) no_modules) (only_main w ok)));
-      imports = users_served w ok m a.served;
+      instances = a.instantiated ∙ (root_instances n w ds built ∙ order_is w ok built.generated built.are_generated);
+      imports = users_served w ok m a.shims (filled_at_end w m built.generated a.shims (flat_map (at_root item_instantiates) ds) (root_instances n w ds built) a.with_shims ok) a.served;
       exports = each_provided n w ok m (a.exports ∙ root_export_names n w ds built) a.lifted w.main_exports ok.main.required (each_listed name_of_key w.main_exports);
       events = events ∙ sym (ap (λ (us : List WorldModule). map (λ n. Instantiated n) (numbers_from 0 (length us)) ++ []) (only_main w ok));
       started = rw (no_calls w ok) tt;
@@ -149,34 +212,108 @@ module _ (e : Scope) (t : Store) (g : ℕ) (es : List Event) (questions : List (
 no_later : {A : Type 0} (xs : List A) (n : ℕ) (x : A) → length xs ≤ 1 → 1 ≤ n → slice_get xs n ≡ Some x → ⊥
 no_later xs n x few late e = let within = slice_get_within xs n x e in omega (arith, few, late, within)
 
--- what was built links, whatever the outside returns
-pub links : (n : Naming) (w : ComponentWorld) (ds : List Def) → IsWorld w → IsBuilt n w ds → Links n w no_modules ds
-links n w ds ok built =
-    let all : Resolves w [] ds (fresh_machine []).scope (fresh_machine []).store 0 = resolves w ok [] ds (fresh_machine []).scope (fresh_machine []).store 0 (start w) built.right in
-    let asked : asked_by ds ≡ questions w =
-    asked-each ds
-    ∙ (ap (map (λ (n : ℕ). [])) (root_instances n w ds built)
-    ∙ sym (ap₂ (λ (us : List WorldModule) (cs : List StartCall). map (λ m. []) us ++ map (λ c. []) cs) (only_main w ok) (no_calls w ok))) in
-    let seen : seen_by ds ≡ Instantiated 0 ∷ [] = seen-each ds ∙ ap (map (λ (n : ℕ). Instantiated n)) (root_instances n w ds built) in
-    let one : List Event = Instantiated 0 ∷ [] in
-    let good : (answers : List Answer) → IsGood all.0 all.1 all.2 one (questions w) answers (outcome w no_modules ds answers) =
-    λ answers. subst (λ q. IsGood all.0 all.1 all.2 one q answers (outcome w no_modules ds answers)) asked
-    (subst (λ es. IsGood all.0 all.1 all.2 es (asked_by ds) answers (outcome w no_modules ds answers)) seen (all.3 [] (fresh_machine answers).now (record { events = refl; moments = refl; globals = refl }))) in
+-- ---- before the fixup
+
+right_before : (w : ComponentWorld) (earlier before after : List Def) → RightAfter w earlier (before ++ after) → RightAfter w earlier before
+right_before w earlier [] after h = tt
+right_before w earlier (d ∷ before) after h = (h.0, right_before w (earlier ++ d ∷ []) before after h.1)
+
+-- an entry is contained
+contained : {X : Type 0} (xs : List X) (i : ℕ) (x : X) → slice_get xs i ≡ Some x → Contains xs x
+contained [] i x e = absurd (none-some x e)
+contained (y ∷ xs) zero x e = (0, omega arith, same_Some y x e)
+contained (y ∷ xs) (suc i) x e =
+    let c : Contains xs x = contained xs i x e in
+    Contains-append_right (y ∷ []) xs x c
+
+-- a shim whose slot is empty traps
+quiet_shims : (w : ComponentWorld) (m : Machine) (numbers : List ℕ) (shims : Option ShimsAt) → map (λ (u : ModuleInstance). u.module_number) m.store.module_instances ≡ numbers → MayHaveShims w m.store numbers shims → (Contains numbers (fixup_number w) → ⊥) →
+    (address : ℕ) → IsShim w m address → TrapsAtOnce m address
+quiet_shims w m numbers None same h unfixed address s =
+    let c : Contains m.store.module_instances s.made = contained m.store.module_instances s.instance s.made s.present in
+    let n : Contains (map (λ (u : ModuleInstance). u.module_number) m.store.module_instances) s.made.module_number = Contains-map (λ (u : ModuleInstance). u.module_number) m.store.module_instances s.made c in
+    absurd (h (subst (λ k. Contains numbers k) s.of (subst (λ l. Contains l s.made.module_number) same n)))
+quiet_shims w m numbers (Some at) same h unfixed address s =
+    let shims : List Shim = shims_of w in
+    let exports : s.made.exports ≡ instance_exports shims at.address at.table =
+    AllByRecursion-contains (ExportsShims w at) m.store.module_instances s.made h.exported (contained m.store.module_instances s.instance s.made s.present) s.of in
+    let place : (place : ℕ) × (place < length shims) × (address ≡ at.address + place) =
+    (shims_found shims at.address at.table).listed s.name address (subst (λ es. Contains es (record { space = spaces.CoreFunc; name = s.name; address = address })) exports s.exported) in
+    let shim : (shim : Shim) × (slice_get shims place.0 ≡ Some shim) = there shims place.0 place.1 in
+    let zero_is : 0 + place.0 ≡ place.0 = omega arith in
+    let is : IsShimAt m.store.code at.table address place.0 (type_of_shim shim.0) =
+    subst (λ n. IsShimAt m.store.code at.table n place.0 (type_of_shim shim.0)) (sym place.2)
+    (subst (λ p. IsShimAt m.store.code at.table (at.address + place.0) p (type_of_shim shim.0)) zero_is (shim_at m.store.code at.table 0 at.address shims place.0 shim.0 h.made shim.1)) in
+    let within = place.1 in
+    let room = h.room in
     record {
-      never_stuck = λ answers. not_stuck all.0 all.1 all.2 one (questions w) answers (outcome w no_modules ds answers) (good answers);
-      ends = λ answers. is_done all.0 all.1 all.2 one (questions w) answers (outcome w no_modules ds answers) (good answers);
-      linked = λ answers m done.
-          let is : (m.scope ≡ all.0) × (m.store ≡ all.1) × IsNow one all.2 m.now = done_with all.0 all.1 all.2 one (questions w) answers (outcome w no_modules ds answers) m (good answers) done in
-          linked_at_end n w ds m ok built (subst (λ s. Agrees w ds m.scope s) (sym is.1) (subst (λ c. Agrees w ds c all.1) (sym is.0) all.4)) is.2.events;
-      types = λ answers m done.
-          let is : (m.scope ≡ all.0) × (m.store ≡ all.1) × IsNow one all.2 m.now = done_with all.0 all.1 all.2 one (questions w) answers (outcome w no_modules ds answers) m (good answers) done in
-          types_at_end n w ds m built (subst (λ s. Agrees w ds m.scope s) (sym is.1) (subst (λ c. Agrees w ds c all.1) (sym is.0) all.4));
-      traps_before = record { each = λ before after whole quiet there answers m done address shim. absurd (no there) };
-      served_throughout = record {
-        each = λ answers m ends event globals late at.
-            absurd (no_later m.now.moments event globals (few_moments all.0 all.1 all.2 one (questions w) answers (outcome w no_modules ds answers) m (good answers) ends) (subst (λ (us : List WorldModule). length us + 0 ≤ event) (only_main w ok) late) at);
-      };
+      function = Generated is.frame (type_of_shim shim.0) (table_shim (length (type_of_shim shim.0).params) place.0 is.index).locals (table_shim (length (type_of_shim shim.0).params) place.0 is.index).instructions;
+      is = is.body;
+      traps = λ arguments now fits kept. empty_shims_trap m.store.code at.table address place.0 (type_of_shim shim.0) (length shims) is (h.unfilled unfixed) place.1 (omega (arith, within, room)) arguments now fits;
     }
+
+-- where the definitions don't instantiate the fixup, its number is none of theirs
+no_fixup_before : (w : ComponentWorld) (o : Option GeneratedBytes) (h : MayBeGenerated w o) (ds : List Def) → IsTrue (is_some (modules_of w o h).fixup) → BeforeFixup w (modules_of w o h) ds → Contains (flat_map (at_root item_instantiates) ds) (fixup_number w) → ⊥
+no_fixup_before w None h ds fixed before contains = let none : IsTrue false = fixed in cc
+no_fixup_before w (Some b) h ds fixed before contains = AllByRecursion-contains (λ n. n ≢ fixup_number w) (flat_map (at_root item_instantiates) ds) (fixup_number w) before contains refl
+
+-- what was built links, whatever the outside returns
+pub links : (n : Naming) (w : ComponentWorld) (ds : List Def) → IsWorld w → (built : IsBuilt n w ds) → Links n w (modules_of w built.generated built.are_generated) ds
+links n w ds ok built = record {
+  never_stuck = λ answers. not_stuck all.0 all.1 all.2 one (questions w) answers (outcome w gen ds answers) (good answers);
+  ends = λ answers. is_done all.0 all.1 all.2 one (questions w) answers (outcome w gen ds answers) (good answers);
+  linked = λ answers m done. let is = at_end answers m done in linked_at_end n w ds m ok built is.0 is.1;
+  types = λ answers m done. types_at_end n w ds m built (at_end answers m done).0;
+  traps_before = record { each = traps };
+  served_throughout = record {
+    each = λ answers m ends event globals late at.
+        let single : length (user_modules w) ≡ 1 = ap (λ (us : List WorldModule). length us) (only_main w ok) in
+        absurd (no_later m.now.moments event globals (few_moments all.0 all.1 all.2 one (questions w) answers (outcome w gen ds answers) m (good answers) ends) (omega (arith, single, late)) at);
+  };
+}
   where
-    no : IsTrue false → ⊥
-    no e = cc
+    gen : GeneratedModules
+    gen = modules_of w built.generated built.are_generated
+
+    may : AllByRecursion (MayMake w gen) (flat_map (at_root item_instantiates) ds)
+    may = subst (AllByRecursion (MayMake w gen)) (sym (root_instances n w ds built)) (may_make w built.generated built.are_generated)
+
+    all : Resolves w gen [] ds (fresh_machine []).scope (fresh_machine []).store 0
+    all = resolves w gen ok [] ds (fresh_machine []).scope (fresh_machine []).store 0 (start w) may built.right
+
+    one : List Event
+    one = Instantiated 0 ∷ []
+
+    asked : asked_by ds ≡ questions w
+    asked =
+        asked-each ds
+        ∙ (ap (map (λ (n : ℕ). [])) (ap users_among (root_instances n w ds built) ∙ one_user w ok built.generated)
+        ∙ sym (ap₂ (λ (us : List WorldModule) (cs : List StartCall). map (λ m. []) us ++ map (λ c. []) cs) (only_main w ok) (no_calls w ok)))
+
+    seen : seen_by ds ≡ one
+    seen = seen-each ds ∙ ap (map (λ (n : ℕ). Instantiated n)) (ap users_among (root_instances n w ds built) ∙ one_user w ok built.generated)
+
+    fresh : (answers : List Answer) → IsNow [] 0 (fresh_machine answers).now
+    fresh answers = record { events = refl; moments = refl; globals = refl }
+
+    good : (answers : List Answer) → IsGood all.0 all.1 all.2 one (questions w) answers (outcome w gen ds answers)
+    good answers =
+        subst (λ q. IsGood all.0 all.1 all.2 one q answers (outcome w gen ds answers)) asked
+        (subst (λ es. IsGood all.0 all.1 all.2 es (asked_by ds) answers (outcome w gen ds answers)) seen (all.3 [] (fresh_machine answers).now (fresh answers)))
+
+    at_end : (answers : List Answer) (m : Machine) → outcome w gen ds answers ≡ Done m → Agrees w ds m.scope m.store × (m.now.events ≡ one)
+    at_end answers m done =
+        let is : (m.scope ≡ all.0) × (m.store ≡ all.1) × IsNow one all.2 m.now = done_with all.0 all.1 all.2 one (questions w) answers (outcome w gen ds answers) m (good answers) done in
+        (subst (λ s. Agrees w ds m.scope s) (sym is.1) (subst (λ c. Agrees w ds c all.1) (sym is.0) all.4), is.2.events)
+
+    traps : (before after : List Def) → ds ≡ before ++ after → BeforeFixup w gen before → IsTrue (is_some gen.fixup) → (answers : List Answer) (m : Machine) → outcome w gen before answers ≡ Done m → (address : ℕ) → IsShim w m address → TrapsAtOnce m address
+    traps before after whole unfixed fixed answers m done =
+        let those : List ℕ = flat_map (at_root item_instantiates) before in
+        let may_before : AllByRecursion (MayMake w gen) those =
+        AllByRecursion-front (MayMake w gen) those (flat_map (at_root item_instantiates) after) (subst (AllByRecursion (MayMake w gen)) (ap (flat_map (at_root item_instantiates)) whole ∙ flat_map-append (at_root item_instantiates) before after) may) in
+        let to : Resolves w gen [] before (fresh_machine []).scope (fresh_machine []).store 0 =
+        resolves w gen ok [] before (fresh_machine []).scope (fresh_machine []).store 0 (start w) may_before (right_before w [] before after (subst (RightAfter w []) whole built.right)) in
+        let is : (m.scope ≡ to.0) × (m.store ≡ to.1) × IsNow (seen_by before) to.2 m.now =
+        done_with to.0 to.1 to.2 (seen_by before) (asked_by before) answers (outcome w gen before answers) m (to.3 [] (fresh_machine answers).now (fresh answers)) done in
+        let a : Agrees w before m.scope m.store = subst (λ s. Agrees w before m.scope s) (sym is.1) (subst (λ c. Agrees w before c to.1) (sym is.0) to.4) in
+        quiet_shims w m those a.shims a.instantiated a.with_shims (no_fixup_before w built.generated built.are_generated before fixed unfixed)

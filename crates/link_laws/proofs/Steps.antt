@@ -1,13 +1,16 @@
 -- A definition that keeps its rule runs, and the store agrees with the longer list.
-use Rattle.std.proofs.Common.{arith, ◌≤◌, ◌+◌, ◌≡◌, ◌∙◌, ℕ, zero, suc, ◌<◌, Bool, true, false, List, [], ◌∷◌, ◌++◌, length, map, filter, get_or, refl, sym, ap, ap₂, subst, append-nil, append_assoc, add-one, length-append, Option, Some, None, is_some, IsTrue, if◌then◌else◌}
+use Rattle.std.proofs.Common.{arith, ◌≤◌, ◌+◌, ◌^◌, ◌⊎◌, inl, inr, ◌==◌, ◌≡◌, ◌∙◌, ℕ, zero, suc, ◌<◌, Bool, true, false, List, [], ◌∷◌, ◌++◌, length, map, filter, get_or, refl, sym, ap, ap₂, subst, append-nil, add-one, length-append, Option, Some, None, is_some, IsTrue, if◌then◌else◌}
 use Rattle.std.proofs.lemmas.List.{map-append, length-map}
-use Rattle.std.proofs.lemmas.List.Elements.{filter-append}
+use Rattle.std.proofs.lemmas.List.Elements.{filter-append, Contains-append_cases}
 use Rattle.std.proofs.lemmas.Grind.{flat_map-append}
 use Rattle.std.proofs.lemmas.Option.{none-some, get_or_from_slice_get}
-use Rattle.std.specs.List.{slice_get, flat_map, AllZip, AllByRecursion}
+use Rattle.std.specs.Prelude.{Contains}
+use Rattle.std.specs.Fmt.{decimal}
+use Rattle.std.specs.List.{slice_get, flat_map, list_any, AllZip, AllByRecursion}
 use Rattle.std.specs.Option.{option_map, option_and_then}
 use Rattle.comp_lists.specs.Found.{found}
 use Rattle.comp_lists.proofs.Lists.{slice_get-end, AllZip-weaker, AllZip-end, AllByRecursion-weaker, AllByRecursion-push}
+use Rattle.comp_bytes.proofs.ItemIndices.{IsAt-append}
 use Rattle.comp_bytes.specs.Spaces.{kind_space, space_of, items_in}
 use Rattle.comp_bytes.specs.ScopeNames.{def_export}
 use Rattle.comp_bytes.specs.declared.space.Space.{Space}
@@ -27,7 +30,6 @@ use Rattle.comp_bytes.specs.declared.types.Member.{Member}
 use Rattle.comp_bytes.specs.declared.types.InstanceType.{InstanceType as InstanceTypeDef}
 use Rattle.comp_bytes.specs.declared.types.Description.TheVariants as descriptions
 use Rattle.comp_bytes.specs.declared.canon.Intrinsic.TheVariants as intrinsics
-use Rattle.comp_bytes.specs.declared.def.CoreArgument.{CoreArgument}
 use Rattle.comp_bytes.specs.declared.def.CoreInlineExport.{CoreInlineExport}
 use Rattle.comp_bytes.specs.declared.def.Item.TheVariants as items
 use Rattle.comp_bytes.specs.declared.def.Def.{Def}
@@ -44,29 +46,35 @@ use Rattle.comp_trees.specs.DefinedTrees.{TypeTree, OfValues, OfFunctions, OfOth
 use Rattle.comp_trees.specs.DefinedScopes.{type_tree}
 use Rattle.comp_trees.specs.Inventories.{Inventory, OfInstances, FunctionEntry, InstanceEntry, ImportedInstance, OtherInstance, entry_tree, no_type, no_function, type_of_instance, function_of_instance, instance_imported, types_made, functions_made, instances_made, imports_made, surroundings_of, inventory, scope_of}
 use Rattle.comp_trees.specs.Members.{AreMembersRight}
-use Rattle.comp_terms.specs.Terms.{imports_in}
+use Rattle.comp_terms.specs.Generated.{shims_number, fixup_number}
+use Rattle.comp_terms.specs.Terms.{IsInstanceOf, imports_in}
+use Rattle.world_shims.specs.WorldShims.{shims_of}
+use Rattle.shim_runs.specs.ShimRuns.{instance_exports}
+use Rattle.shim_runs.proofs.Exported.{shims_found}
+use Rattle.comp_roles.specs.CoreTypes.{core_type}
+use Rattle.comp_trees.specs.Flattening.{tree_signature}
+use Rattle.wit_data.specs.declared.functions.AbiVariant.TheVariants.{GuestImport, GuestImportAsync}
 use Rattle.comp_trees.proofs.Inventories.{inventory-push}
 use Rattle.core_types.specs.declared.types.FuncType.{FuncType}
-use Rattle.comp_roles.specs.declared.imports.ImportInstance.{ImportInstance}
 use Rattle.comp_worlds.specs.declared.world.ComponentWorld.{ComponentWorld}
 use Rattle.core_types.specs.declared.types.ValType.{ValType}
 use Rattle.core_runs.specs.Values.{Value}
 use Rattle.core_types.specs.declared.types.ValType.TheVariants.{I32}
 use Rattle.core_runs.specs.Store.{Opaque, Answer, Gives, Traps, Event, Instantiated, Now, Cell, Foreign}
 use Rattle.core_runs.specs.Execution.{answered, seen, renewed}
-use Rattle.comp_runs.specs.Store.{Thing, Export, HeldOption, HeldEncoding, HeldMemory, HeldRealloc, HeldPostReturn, HeldAsync, HeldCallback, CoreItem, Lowering, IntrinsicOf, ExportedBy, Function, Imported, Lifting, TypeItem, TreeOf, ImportedResource, InstanceTypeOf, ModuleInstance, Store}
+use Rattle.comp_runs.specs.Store.{Thing, Export, HeldOption, HeldEncoding, HeldMemory, HeldRealloc, HeldPostReturn, HeldAsync, HeldCallback, CoreItem, Lowering, IntrinsicOf, Function, Imported, Lifting, TypeItem, TreeOf, ImportedResource, InstanceTypeOf, ModuleInstance, Store}
 use Rattle.comp_links.specs.Targets.{Main, TargetOption, Lifted}
 use Rattle.comp_links.specs.Links.{lift_options}
 use Rattle.comp_links.specs.Modules.{WorldModule}
 use Rattle.comp_roles.specs.declared.offered.ExternType.{ExternType}
 use Rattle.comp_roles.specs.declared.offered.ExternType.TheVariants as externs
 use Rattle.comp_roles.specs.declared.offered.ImportType.{ImportType}
-use Rattle.comp_terms.specs.Planned.{type_of_function, IsLiftFor, IsArgumentFor}
-use Rattle.comp_terms.specs.Rules.{InstantiatesUser, AliasesUser, ExportsRequired, IsEntry, AreEntries, AliasesImported, HasFunctionType, HasResource, HasImportedFunction, IsOptionRight, IsTypeRight}
+use Rattle.comp_terms.specs.Planned.{type_of_function, IsLiftFor}
+use Rattle.comp_terms.specs.Rules.{AliasesUser, AliasesShim, ExportsRequired, IsEntry, AreEntries, AliasesImported, HasFunctionType, HasResource, HasImportedFunction, IsOptionRight, IsLowerOptionRight, IsTypeRight}
 use Rattle.comp_runs.specs.Machine.{Scope, Machine, Outcome, Done, Trapped, Open, Stuck, with_some, address_at, is_of, export_named, all_some, resumed, with_opaque}
-use Rattle.comp_runs.specs.Instances.{ExportTypes, exported_by, with_exports, with_module_instance, matching, argument_for, type_kind, given_to, new_user, type_scope, known_function, type_item}
-use Rattle.comp_runs.specs.Signatures.{core_signature}
-use Rattle.comp_runs.specs.Running.{core_argument, core_entry, held, options_held, type_of_function as function_type_of, lowered_signature, run}
+use Rattle.comp_runs.specs.Instances.{matching, argument_for, type_kind, given_to, type_scope, known_function, type_item}
+use Rattle.comp_runs.specs.Signatures.{is_async, core_signature}
+use Rattle.comp_runs.specs.Running.{core_entry, held, options_held, type_of_function as function_type_of, lowered_signature, run}
 use Rattle.instance_laws.specs.Instantiated.{IsHeldAs}
 use Rattle.instance_laws.specs.InstanceEntries.{IsInstanceType, IsInstanceEntry, RunsImport, AliasesFunction, AliasesType}
 use Rattle.instance_laws.proofs.Held.{keeps_same, keeps_more, keeps_grown, AreHeldAs-kept}
@@ -74,11 +82,10 @@ use Rattle.instance_laws.proofs.Members.{each_joined}
 use Rattle.instance_laws.proofs.Importing.{instance_type_made, import_runs, aliases_function, aliases_type}
 use Rattle.link_laws.specs.Composition.{GeneratedModules, at_root, item_instantiates}
 use Rattle.link_laws.specs.Linking.{module_meanings, LetsRun}
-use Rattle.link_laws.proofs.Zips.{all_some-self, all_some-each, mapped_some}
-use Rattle.link_laws.proofs.Stores.{IsOpaqueOf, IsUserItem, IsUserExport, IsUserInstance, IsNamedEntry, IsTypeAt, drop_core, Means, makes, IsTypeEntry, entry_of, IsFunctionEntry, IsInstanceThing, main_module, IsPlanned, IsPlannedUser, IsLiftedFrom, IsLiftedExport, IsAliasedItem, IsHeldOption, IsHeldOption-kept, NumberedFrom, Agrees, Keeps, address_at-append, things_kept, keeps_store, keeps_type, keeps_function, keeps_opaque, keeps_core_instance, keeps_module, Means-kept, IsTypeEntry-kept, IsFunctionEntry-kept, IsInstanceThing-kept, IsPlannedUser-kept, IsLiftedExport-kept}
-use Rattle.link_laws.proofs.Given.{IsOffered, address_there, all_held, scope_there, entry_there, held_there, type_there, instance_type_there, instance_there, function_at, imported_there, user_there, space_of_kind, offered_there, lift_there, arguments_there, given_there}
-use Rattle.link_laws.proofs.Plain.{IsFunctionImport, function_imports, listed_main}
-use Rattle.link_laws.proofs.UserExports.{Exports, Alike, all_exports, all_alike, same_exports, each_export}
+use Rattle.link_laws.proofs.Zips.{all_some-self, mapped_some}
+use Rattle.link_laws.proofs.Stores.{IsOpaqueOf, IsUserItem, IsUserExport, IsUserInstance, ShimsAt, IsModuleInstance, IsNamedEntry, ExportsShims, MayHaveShims, ShimsKept, shims_same, MayHaveShims-kept, keeps_all, IsTypeAt, drop_core, Means, makes, IsTypeEntry, entry_of, IsFunctionEntry, IsInstanceThing, main_module, IsPlannedUser, IsLiftedFrom, IsLiftedExport, IsAliasedItem, IsHeldOption, IsHeldOption-kept, NumberedFrom, Agrees, Keeps, address_at-append, things_kept, keeps_store, keeps_type, keeps_function, keeps_opaque, keeps_core_instance, keeps_module, Means-kept, IsTypeEntry-kept, IsFunctionEntry-kept, IsInstanceThing-kept, IsPlannedUser-kept, IsLiftedExport-kept}
+use Rattle.link_laws.proofs.Given.{of_shims, module_there, address_there, all_held, scope_there, entry_there, held_there, type_there, instance_type_there, instance_there, function_at, imported_there, user_there, space_of_kind, offered_there, lift_there}
+use Rattle.link_laws.proofs.Plain.{only, IsFunctionImport, listed_main}
 
 -- a list without generated modules
 abbrev pub no_modules : GeneratedModules
@@ -106,12 +113,19 @@ IsGood c s g es questions answers (Trapped m) = (LetsRun questions answers → �
 IsGood c s g es questions answers (Open m) = (LetsRun questions answers → ⊥) × (length m.now.moments ≤ length es)
 IsGood c s g es questions answers Stuck = ⊥
 
+-- the user modules that a definition instantiates: main
+abbrev pub users_among : List ℕ → List ℕ
+users_among numbers = filter (λ n. n == 0) numbers
+
+abbrev pub users_in : Def → List ℕ
+users_in d = users_among (at_root item_instantiates d)
+
 -- the calls of the outside that a definition makes, by their result types, and what is seen of them
 abbrev pub asks : Def → List (List ValType)
-asks d = map (λ n. []) (at_root item_instantiates d)
+asks d = map (λ n. []) (users_in d)
 
 abbrev pub events_of : Def → List Event
-events_of d = map (λ n. Instantiated n) (at_root item_instantiates d)
+events_of d = map (λ n. Instantiated n) (users_in d)
 
 abbrev pub seen_by : List Def → List Event
 seen_by ds = flat_map events_of ds
@@ -138,28 +152,28 @@ good_answered c s g es questions (Gives (v ∷ values) number ∷ answers) now m
     no e = cc
 
 -- a definition runs, and the rest is run from this scope, this store and this many globals
-pub record Runs (w : ComponentWorld) (d : Def) (c : Scope) (s : Store) (g : ℕ) (c' : Scope) (s' : Store) (g' : ℕ) : Type 0 where
+pub record Runs (w : ComponentWorld) (gen : GeneratedModules) (d : Def) (c : Scope) (s : Store) (g : ℕ) (c' : Scope) (s' : Store) (g' : ℕ) : Type 0 where
   pub continues : (e : Scope) (t : Store) (k : ℕ) (es : List Event) (questions : List (List ValType)) (rest : List Def) →
-      ((now : Now) → IsNow (es ++ events_of d) g' now → IsGood e t k ((es ++ events_of d) ++ seen_by rest) questions now.answers (run (module_meanings w no_modules) rest (machine c' s' now))) →
-      (now : Now) → IsNow es g now → IsGood e t k (es ++ (events_of d ++ seen_by rest)) (asks d ++ questions) now.answers (run (module_meanings w no_modules) (d ∷ rest) (machine c s now))
+      ((now : Now) → IsNow (es ++ events_of d) g' now → IsGood e t k ((es ++ events_of d) ++ seen_by rest) questions now.answers (run (module_meanings w gen) rest (machine c' s' now))) →
+      (now : Now) → IsNow es g now → IsGood e t k (es ++ (events_of d ++ seen_by rest)) (asks d ++ questions) now.answers (run (module_meanings w gen) (d ∷ rest) (machine c s now))
 
 -- a definition that calls nothing outside
-quiet : (w : ComponentWorld) (d : Def) (c : Scope) (s : Store) (g : ℕ) (c' : Scope) (s' : Store) → at_root item_instantiates d ≡ [] →
-    ((rest : List Def) (now : Now) → run (module_meanings w no_modules) (d ∷ rest) (machine c s now) ≡ run (module_meanings w no_modules) rest (machine c' s' now)) → Runs w d c s g c' s' g
-quiet w d c s g c' s' none same = record {
+pub quiet : (w : ComponentWorld) (gen : GeneratedModules) (d : Def) (c : Scope) (s : Store) (g : ℕ) (c' : Scope) (s' : Store) → users_in d ≡ [] →
+    ((rest : List Def) (now : Now) → run (module_meanings w gen) (d ∷ rest) (machine c s now) ≡ run (module_meanings w gen) rest (machine c' s' now)) → Runs w gen d c s g c' s' g
+quiet w gen d c s g c' s' none same = record {
   continues = λ e t k es questions rest go now at.
       let after : List Event → Type 0 =
-      λ l. (n : Now) → IsNow l g n → IsGood e t k (l ++ seen_by rest) questions n.answers (run (module_meanings w no_modules) rest (machine c' s' n)) in
+      λ l. (n : Now) → IsNow l g n → IsGood e t k (l ++ seen_by rest) questions n.answers (run (module_meanings w gen) rest (machine c' s' n)) in
       let first : after (es ++ []) = subst (λ (ns : List ℕ). after (es ++ map (λ n. Instantiated n) ns)) none go in
       let plain : after es = subst after (append-nil es) first in
-      subst (λ (ns : List ℕ). IsGood e t k (es ++ (map (λ n. Instantiated n) ns ++ seen_by rest)) (map (λ n. []) ns ++ questions) now.answers (run (module_meanings w no_modules) (d ∷ rest) (machine c s now))) (sym none)
+      subst (λ (ns : List ℕ). IsGood e t k (es ++ (map (λ n. Instantiated n) ns ++ seen_by rest)) (map (λ n. []) ns ++ questions) now.answers (run (module_meanings w gen) (d ∷ rest) (machine c s now))) (sym none)
       (subst (IsGood e t k (es ++ seen_by rest) questions now.answers) (sym (same rest now)) (plain now at));
 }
 
-abbrev pub Steps : ComponentWorld → List Def → Scope → Store → ℕ → Def → Type 0
-Steps w earlier c s g d = (c' : Scope) × (s' : Store) × (g' : ℕ) × Runs w d c s g c' s' g' × Agrees w (earlier ++ d ∷ []) c' s'
+abbrev pub Steps : ComponentWorld → GeneratedModules → List Def → Scope → Store → ℕ → Def → Type 0
+Steps w gen earlier c s g d = (c' : Scope) × (s' : Store) × (g' : ℕ) × Runs w gen d c s g c' s' g' × Agrees w (earlier ++ d ∷ []) c' s'
 
-filter-push : {X : Type 0} (p : X → Bool) (b : Bool) (xs : List X) (x : X) → p x ≡ b → filter p (xs ++ x ∷ []) ≡ (if b then filter p xs ++ x ∷ [] else filter p xs)
+pub filter-push : {X : Type 0} (p : X → Bool) (b : Bool) (xs : List X) (x : X) → p x ≡ b → filter p (xs ++ x ∷ []) ≡ (if b then filter p xs ++ x ∷ [] else filter p xs)
 filter-push p true xs x e = rw (filter-append p xs (x ∷ []), e) refl
 filter-push p false xs x e = rw (filter-append p xs (x ∷ []), e) (append-nil (filter p xs))
 
@@ -173,17 +187,44 @@ flat-push f xs x = rw (flat_map-append f xs (x ∷ [])) (ap (λ l. flat_map f xs
 abbrev pub with_thing : Scope → Thing → ℕ → Scope
 with_thing c t count = record c { items = c.items ++ t ∷ []; imports = count }
 
+-- the item of an index has the address of that number
+pub numbered_at : (k : ℕ) (ts : List Thing) (count number : ℕ) → NumberedFrom k ts count → (x : ℕ) × (option_map (λ (t : Thing). t.address) (slice_get ts number) ≡ Some x) → option_map (λ (t : Thing). t.address) (slice_get ts number) ≡ Some (k + number)
+numbered_at k [] count number h x = absurd (none-some x.0 x.1)
+numbered_at k (t ∷ ts) count zero h x = let same : k + 0 ≡ k = omega arith in ap (λ (n : ℕ). Some n) (h.0 ∙ sym same)
+numbered_at k (t ∷ ts) count (suc number) h x = let same : suc k + number ≡ k + suc number = omega arith in numbered_at (suc k) ts count number h.1 x ∙ ap (λ (n : ℕ). Some n) same
+
 consecutive-push : (k : ℕ) (ts : List Thing) (n : ℕ) (t : Thing) → NumberedFrom k ts n → t.address ≡ n → NumberedFrom k (ts ++ t ∷ []) (suc n)
 consecutive-push k [] n t h e = (e ∙ sym h, ap suc h)
 consecutive-push k (x ∷ ts) n t h e = (h.0, consecutive-push (suc k) ts n t h.1 e)
+
+-- a number that is none of a new one's is an old one
+pub not_last : (numbers : List ℕ) (n : ℕ) → (0 ≡ n → ⊥) → Contains (numbers ++ 0 ∷ []) n → Contains numbers n
+not_last numbers n other h = by (Contains-append_cases numbers (0 ∷ []) n h)
+  where
+    by : Contains numbers n ⊎ Contains (0 ∷ []) n → Contains numbers n
+    by (inl k) = k
+    by (inr k) = absurd (other (only 0 n k))
+
+pub not_fixup : (w : ComponentWorld) → 0 ≡ fixup_number w → ⊥
+not_fixup w e = let no : 0 ≡ suc (shims_number w) = e in absurd (omega (arith, no))
 
 -- an opaque function is at the address at which it was added, and its known item is the one given
 opaque_there : (item : CoreItem) (type : FuncType) (s : Store) → IsOpaqueOf (with_opaque item type s) (length s.code.functions) type item
 opaque_there item type s = record { what = length s.known; present = slice_get-end s.code.functions (Opaque (length s.known) type); known = slice_get-end s.known item }
 
 -- a lowering of an import has the core type of the import's type
-import_lowered : (m : Machine) (x : ℕ) (origin : Origin) (type : FunctionTree) → slice_get m.store.functions x ≡ Some (Imported origin type) → lowered_signature m x [] ≡ Some (core_signature type [])
-import_lowered m x origin type h = ap (option_map (λ f. core_signature (function_type_of f) [])) h
+import_lowered : (m : Machine) (x : ℕ) (origin : Origin) (type : FunctionTree) (held : List HeldOption) → slice_get m.store.functions x ≡ Some (Imported origin type) → list_any is_async held ≡ false → lowered_signature m x held ≡ Some (core_signature type [])
+import_lowered m x origin type held h same = ap (option_map (λ f. core_signature (function_type_of f) held)) h ∙ ap (λ b. Some (core_type (tree_signature (if b then GuestImportAsync else GuestImport) type))) same
+
+-- an option of a synchronous lowering
+abbrev IsLowerHeld : List Thing → CanonicalOption → HeldOption → Type 0
+IsLowerHeld things o held = IsHeldOption things o held × (is_async held ≡ false)
+
+synchronous : (things : List Thing) (written : List CanonicalOption) (held : List HeldOption) → AllZip (IsLowerHeld things) written held → list_any is_async held ≡ false
+synchronous things [] [] h = refl
+synchronous things (o ∷ os) (x ∷ xs) h = rw h.0.1 (synchronous things os xs h.1)
+synchronous things [] (x ∷ xs) h = absurd h
+synchronous things (o ∷ os) [] h = absurd h
 
 -- a type that keeps its rule is held as what it denotes
 type_made : (scope : List TypeTree) (t : TypeDef) → IsTypeRight scope t → (m : Machine) → type_scope m ≡ scope → type_item t m ≡ Some (TreeOf (type_tree scope (DefinedAt 0) t))
@@ -230,7 +271,7 @@ given_one : (c : Scope) (s : Store) (now : Now) (type : FuncType) (o : Option Th
 given_one c s now type None = refl
 given_one c s now type (Some t) = matching_same c s now type t.space t.address
 
-given_same : (w : ComponentWorld) (c : Scope) (s : Store) (now : Now) (arguments : List (List ℕ × List Export)) (is : List ImportType) → AllByRecursion (IsFunctionImport w) is →
+pub given_same : (w : ComponentWorld) (c : Scope) (s : Store) (now : Now) (arguments : List (List ℕ × List Export)) (is : List ImportType) → AllByRecursion (IsFunctionImport w) is →
     map (given_to (machine c s now) arguments) is ≡ map (given_to (machine c s no_answers) arguments) is
 given_same w c s now arguments [] h = refl
 given_same w c s now arguments (i ∷ is) h =
@@ -239,14 +280,14 @@ given_same w c s now arguments (i ∷ is) h =
     ap₂ (λ x xs. x ∷ xs) (subst SameFor (sym h.0.typed) (given_one c s now h.0.type (argument_for arguments kinds.Func i.module_name i.field))) (given_same w c s now arguments is h.1)
 
 -- one event more is among all of them
-few : (es : List Event) (g : ℕ) (rest : List Def) (now : Now) → IsNow es g now → length (seen now (Instantiated 0)).moments ≤ length (es ++ (Instantiated 0 ∷ seen_by rest))
+pub few : (es : List Event) (g : ℕ) (rest : List Def) (now : Now) → IsNow es g now → length (seen now (Instantiated 0)).moments ≤ length (es ++ (Instantiated 0 ∷ seen_by rest))
 few es g rest now at =
     let before : length now.moments ≡ length es = at.moments in
     let more : length (now.moments ++ now.globals ∷ []) ≡ length now.moments + 1 = length-append now.moments (now.globals ∷ []) in
     let all : length (es ++ (Instantiated 0 ∷ seen_by rest)) ≡ length es + suc (length (seen_by rest)) = length-append es (Instantiated 0 ∷ seen_by rest) in
     omega (arith, before, more, all)
 
-one_event : (es : List Event) (g k : ℕ) (now after : Now) → IsNow es g now → after.events ≡ (seen now (Instantiated 0)).events → after.moments ≡ (seen now (Instantiated 0)).moments → length after.globals ≡ k →
+pub one_event : (es : List Event) (g k : ℕ) (now after : Now) → IsNow es g now → after.events ≡ (seen now (Instantiated 0)).events → after.moments ≡ (seen now (Instantiated 0)).moments → length after.globals ≡ k →
     IsNow (es ++ Instantiated 0 ∷ []) k after
 one_event es g k now after at events moments count = record {
   events = events ∙ ap (λ l. l ++ Instantiated 0 ∷ []) at.events;
@@ -255,11 +296,11 @@ one_event es g k now after at events moments count = record {
 }
 
 -- a moment with this many globals
-cells : ℕ → List Cell
+pub cells : ℕ → List Cell
 cells zero = []
 cells (suc n) = Foreign 0 I32 ∷ cells n
 
-length-cells : (n : ℕ) → length (cells n) ≡ n
+pub length-cells : (n : ℕ) → length (cells n) ≡ n
 unfolding cells
 length-cells zero = refl
 length-cells (suc n) = ap suc (length-cells n)
@@ -273,17 +314,21 @@ module _ (s : Store) (core_instances : List (List Export)) (module_instances : L
   item_beside e (externs.Func type) h = record { what = h.what; present = h.present; known = h.known }
   item_beside e type h = tt
 
-  export_beside : (e : Export) (found : List ℕ × ExternType) → IsUserExport s user e found → IsUserExport with_instances user e found
+  pub export_beside : (e : Export) (found : List ℕ × ExternType) → IsUserExport s user e found → IsUserExport with_instances user e found
   export_beside e found h = record { named = h.named; space = h.space; is = item_beside e found.1 h.is }
 
+-- the instance of a module is one after a further definition
+pub instance_kept : (earlier : List Def) (d : Def) {index number : ℕ} → IsInstanceOf earlier index number → IsInstanceOf (earlier ++ d ∷ []) index number
+instance_kept earlier d h = record { arguments = h.arguments; made = IsAt-append (d ∷ []) h.made }
+
 -- the export that an alias finds
-record FindsExport (w : ComponentWorld) (c : Scope) (s : Store) (kind : ExportKind) (instance : ℕ) (name : List ℕ) : Type 0 where
+record FindsExport (w : ComponentWorld) (ds : List Def) (c : Scope) (s : Store) (kind : ExportKind) (instance : ℕ) (name : List ℕ) : Type 0 where
   pub export : Export
   pub space : export.space ≡ kind_space kind
-  pub is : IsAliasedItem w c.items s kind instance name export.address
+  pub is : IsAliasedItem w ds c.items s kind instance name export.address
   pub found : export_named name is.exports ≡ Some export
 
-module _ {w : ComponentWorld} {earlier : List Def} {c : Scope} {s : Store} (a : Agrees w earlier c s) (g : ℕ) where
+module _ {w : ComponentWorld} {earlier : List Def} {c : Scope} {s : Store} (a : Agrees w earlier c s) (g : ℕ) (gen : GeneratedModules) where
   -- the types, functions and instances that this definition makes are those of this item
   abbrev Makes : Def → Store → Thing → Type 0
   Makes d s' t =
@@ -292,16 +337,17 @@ module _ {w : ComponentWorld} {earlier : List Def} {c : Scope} {s : Store} (a : 
       × AllZip (IsInstanceThing s') (instances_made (inventory earlier) d) (filter (is_of spaces.Instance) (t ∷ []))
 
   -- the step of a definition that makes an item
-  agrees_with : (d : Def) (c' : Scope) (s' : Store) (t : Thing) → c'.items ≡ c.items ++ t ∷ [] → Keeps c.items c'.items s s' →
-      Means w c'.items s' d t → Makes d s' t → NumberedFrom 0 (filter (is_of spaces.CoreModule) c'.items) (length s'.core_modules) →
+  pub agrees_with : (d : Def) (c' : Scope) (s' : Store) (t : Thing) (shims : Option ShimsAt) → ShimsKept a.shims shims → c'.items ≡ c.items ++ t ∷ [] → Keeps c.items c'.items s s' →
+      Means w shims (earlier ++ d ∷ []) c'.items s' d t → Makes d s' t → NumberedFrom 0 (filter (is_of spaces.CoreModule) c'.items) (length s'.core_modules) →
       map (λ (u : ModuleInstance). u.module_number) s'.module_instances ≡ map (λ (u : ModuleInstance). u.module_number) s.module_instances ++ at_root item_instantiates d →
-      AllByRecursion (IsPlannedUser w s') s'.module_instances → map (λ (e : Export). e.name) c'.exports ≡ map (λ (e : Export). e.name) c.exports ++ def_export d → AllByRecursion (IsLiftedExport w s') c'.exports →
+      AllByRecursion (IsPlannedUser w shims s') s'.module_instances → MayHaveShims w s' (flat_map (at_root item_instantiates) earlier ++ at_root item_instantiates d) shims → map (λ (e : Export). e.name) c'.exports ≡ map (λ (e : Export). e.name) c.exports ++ def_export d → AllByRecursion (IsLiftedExport w s') c'.exports →
       c'.imports ≡ imports_made (inventory earlier) d → Agrees w (earlier ++ d ∷ []) c' s'
-  agrees_with d c' s' t grew keeps means made modules instantiated served exports lifted imports =
+  agrees_with d c' s' t shims same grew keeps means made modules instantiated served with_shims exports lifted imports =
       let before : List Def = filter makes earlier in
       let old : Inventory = inventory earlier in
-      let kept : AllZip (Means w c'.items s') before c.items = AllZip-weaker (Means-kept w keeps) before c.items a.means in
-      let pushed : AllZip (Means w c'.items s') (before ++ d ∷ []) (c.items ++ t ∷ []) = AllZip-end (Means w c'.items s') before c.items d t kept means in
+      let Meaning : Def → Thing → Type 0 = Means w shims (earlier ++ d ∷ []) c'.items s' in
+      let kept : AllZip Meaning before c.items = AllZip-weaker (Means-kept w a.shims shims same earlier (earlier ++ d ∷ []) (λ index number i. instance_kept earlier d i) keeps) before c.items a.means in
+      let pushed : AllZip Meaning (before ++ d ∷ []) (c.items ++ t ∷ []) = AllZip-end Meaning before c.items d t kept means in
       let of : (space : Space) → filter (is_of space) c'.items ≡ filter (is_of space) c.items ++ filter (is_of space) (t ∷ []) = λ space. ap (filter (is_of space)) grew ∙ filter-append (is_of space) c.items (t ∷ []) in
       let more_types : AllZip (IsTypeEntry s') (old.types ++ types_made old d) (filter (is_of spaces.Type) c.items ++ filter (is_of spaces.Type) (t ∷ [])) =
       each_joined (IsTypeEntry s') old.types (types_made old d) (filter (is_of spaces.Type) c.items) (filter (is_of spaces.Type) (t ∷ [])) (AllZip-weaker (IsTypeEntry-kept keeps) old.types (filter (is_of spaces.Type) c.items) a.types) made.0 in
@@ -310,7 +356,8 @@ module _ {w : ComponentWorld} {earlier : List Def} {c : Scope} {s : Store} (a : 
       let more_instances : AllZip (IsInstanceThing s') (old.instances ++ instances_made old d) (filter (is_of spaces.Instance) c.items ++ filter (is_of spaces.Instance) (t ∷ [])) =
       each_joined (IsInstanceThing s') old.instances (instances_made old d) (filter (is_of spaces.Instance) c.items) (filter (is_of spaces.Instance) (t ∷ [])) (AllZip-weaker (IsInstanceThing-kept keeps) old.instances (filter (is_of spaces.Instance) c.items) a.instances) made.2 in
       record {
-        means = subst (λ ds. AllZip (Means w c'.items s') ds c'.items) (sym (made-push earlier d t.space means.space)) (subst (λ ts. AllZip (Means w c'.items s') (before ++ d ∷ []) ts) (sym grew) pushed);
+        shims = shims;
+        means = subst (λ ds. AllZip Meaning ds c'.items) (sym (made-push earlier d t.space means.space)) (subst (λ ts. AllZip Meaning (before ++ d ∷ []) ts) (sym grew) pushed);
         types = subst (λ (v : Inventory). AllZip (IsTypeEntry s') v.types (filter (is_of spaces.Type) c'.items)) (sym (inventory-push earlier d))
             (subst (λ ts. AllZip (IsTypeEntry s') (old.types ++ types_made old d) ts) (sym (of spaces.Type)) more_types);
         functions = subst (λ (v : Inventory). AllZip (IsFunctionEntry s') v.functions (filter (is_of spaces.Func) c'.items)) (sym (inventory-push earlier d))
@@ -320,40 +367,55 @@ module _ {w : ComponentWorld} {earlier : List Def} {c : Scope} {s : Store} (a : 
         modules = modules;
         instantiated = instantiated ∙ (ap (λ l. l ++ at_root item_instantiates d) a.instantiated ∙ sym (flat-push (at_root item_instantiates) earlier d));
         served = served;
+        with_shims = subst (λ l. MayHaveShims w s' l shims) (sym (flat-push (at_root item_instantiates) earlier d)) with_shims;
         exports = exports ∙ (ap (λ l. l ++ def_export d) a.exports ∙ sym (flat-push def_export earlier d));
         lifted = lifted;
         imports = imports ∙ sym (ap (λ (v : Inventory). v.imports) (inventory-push earlier d));
       }
 
+  -- the shims after a definition that makes no instance
+  shims_beside : {b : List Thing} {s' : Store} → Keeps c.items b s s' → (more : List ℕ) → more ≡ [] → s'.module_instances ≡ s.module_instances → s'.code.tables ≡ s.code.tables →
+      MayHaveShims w s' (flat_map (at_root item_instantiates) earlier ++ more) a.shims
+  shims_beside {b} {s'} keeps more none users tables =
+      MayHaveShims-kept keeps w (flat_map (at_root item_instantiates) earlier) more a.shims (keeps_same tables) (λ yes. among more none yes) (λ yes. among more none yes)
+      (λ at h. subst (AllByRecursion (ExportsShims w at)) (sym users) h) a.with_shims
+    where
+      numbers : List ℕ
+      numbers = flat_map (at_root item_instantiates) earlier
+
+      among : {x : ℕ} (more : List ℕ) → more ≡ [] → Contains (numbers ++ more) x → Contains numbers x
+      among {x} more none h = subst (λ l. Contains l x) (ap (λ l. numbers ++ l) none ∙ append-nil numbers) h
+
   -- The step of a definition that calls nothing outside, and is no module and no export: it makes this item, and there have
   -- been this many imports after it.
-  quiet_step : (d : Def) (count : ℕ) (s' : Store) (t : Thing) → ((rest : List Def) (now : Now) → run (module_meanings w no_modules) (d ∷ rest) (machine c s now) ≡ run (module_meanings w no_modules) rest (machine (with_thing c t count) s' now)) →
-      Keeps c.items (c.items ++ t ∷ []) s s' → Means w (c.items ++ t ∷ []) s' d t → Makes d s' t → is_of spaces.CoreModule t ≡ false → s'.core_modules ≡ s.core_modules → s'.module_instances ≡ s.module_instances →
-      at_root item_instantiates d ≡ [] → def_export d ≡ [] → count ≡ imports_made (inventory earlier) d → Steps w earlier c s g d
-  quiet_step d count s' t same keeps means made other modules users none no_export imports = (
+  quiet_step : (d : Def) (count : ℕ) (s' : Store) (t : Thing) → ((rest : List Def) (now : Now) → run (module_meanings w gen) (d ∷ rest) (machine c s now) ≡ run (module_meanings w gen) rest (machine (with_thing c t count) s' now)) →
+      Keeps c.items (c.items ++ t ∷ []) s s' → Means w a.shims (earlier ++ d ∷ []) (c.items ++ t ∷ []) s' d t → Makes d s' t → is_of spaces.CoreModule t ≡ false → s'.core_modules ≡ s.core_modules → s'.module_instances ≡ s.module_instances →
+      s'.code.tables ≡ s.code.tables → at_root item_instantiates d ≡ [] → def_export d ≡ [] → count ≡ imports_made (inventory earlier) d → Steps w gen earlier c s g d
+  quiet_step d count s' t same keeps means made other modules users tables none no_export imports = (
     with_thing c t count,
     s',
     g,
-    quiet w d c s g (with_thing c t count) s' none same,
-    agrees_with d (with_thing c t count) s' t refl keeps means made
+    quiet w gen d c s g (with_thing c t count) s' (ap users_among none) same,
+    agrees_with d (with_thing c t count) s' t a.shims (shims_same a.shims) refl keeps means made
         (rw (filter-push (is_of spaces.CoreModule) false c.items t other, modules) a.modules)
         (rw (users, none) (sym (append-nil (map (λ (u : ModuleInstance). u.module_number) s.module_instances))))
-        (subst (AllByRecursion (IsPlannedUser w s')) (sym users) (AllByRecursion-weaker (IsPlannedUser-kept w keeps) s.module_instances a.served))
+        (subst (AllByRecursion (IsPlannedUser w a.shims s')) (sym users) (AllByRecursion-weaker (IsPlannedUser-kept w keeps a.shims a.shims (shims_same a.shims)) s.module_instances a.served))
+        (shims_beside keeps (at_root item_instantiates d) none users tables)
         (rw no_export (sym (append-nil (map (λ (e : Export). e.name) c.exports))))
         (AllByRecursion-weaker (IsLiftedExport-kept w keeps) c.exports a.lifted)
         imports,
   )
 
-  pub step_type : (t : TypeDef) → IsTypeRight (scope_of earlier) t → Steps w earlier c s g (defs.Item (items.Type t))
+  pub step_type : (t : TypeDef) → IsTypeRight (scope_of earlier) t → Steps w gen earlier c s g (defs.Item (items.Type t))
   step_type type h =
       let d : Def = defs.Item (items.Type type) in
       let t : Thing = record { space = spaces.Type; address = length s.types } in
       let item : TypeItem = TreeOf (type_tree (scope_of earlier) (DefinedAt 0) type) in
       let s' : Store = record s { types = s.types ++ item ∷ [] } in
       quiet_step d c.imports s' t (λ rest now. rw (type_made (scope_of earlier) type h (machine c s now) (scope_there a)) refl) (keeps_type c.items t s item)
-      (record { space = refl; is = tt }) ((record { item = item; present = slice_get-end s.types item; denotes = refl; is = tt }, tt), tt, tt) refl refl refl refl refl a.imports
+      (record { space = refl; is = tt }) ((record { item = item; present = slice_get-end s.types item; denotes = refl; is = tt }, tt), tt, tt) refl refl refl refl refl refl a.imports
 
-  pub step_import : (name : ExternName) (kind : ℕ) → HasFunctionType earlier kind → Steps w earlier c s g (defs.Item (items.Import name (descriptions.Func kind)))
+  pub step_import : (name : ExternName) (kind : ℕ) → HasFunctionType earlier kind → Steps w gen earlier c s g (defs.Item (items.Import name (descriptions.Func kind)))
   step_import name kind h =
       let d : Def = defs.Item (items.Import name (descriptions.Func kind)) in
       let t : Thing = record { space = spaces.Func; address = length s.functions } in
@@ -363,10 +425,10 @@ module _ {w : ComponentWorld} {earlier : List Def} {c : Scope} {s : Store} (a : 
       let entry : entry_of f ≡ record { origin = Some (record { number = (inventory earlier).imports; inner = None }); type = get_or (scope_of earlier) kind OfOthers } =
       ap₂ (λ n tree. record { origin = Some (record { number = n; inner = None }); type = tree }) a.imports (sym h.is.denotes.tree) in
       quiet_step d (suc c.imports) s' t (λ rest now. rw (y.at, y.is) refl) (keeps_function c.items t s f)
-      (record { space = refl; is = tt }) (tt, (record { function = f; present = slice_get-end s.functions f; same = entry }, tt), tt) refl refl refl refl refl (ap suc a.imports)
+      (record { space = refl; is = tt }) (tt, (record { function = f; present = slice_get-end s.functions f; same = entry }, tt), tt) refl refl refl refl refl refl (ap suc a.imports)
 
   -- a type that equals another is that one
-  pub step_import_type : (name : ExternName) (index : ℕ) → index < length (scope_of earlier) → Steps w earlier c s g (defs.Item (items.Import name (descriptions.TypeEqual index)))
+  pub step_import_type : (name : ExternName) (index : ℕ) → index < length (scope_of earlier) → Steps w gen earlier c s g (defs.Item (items.Import name (descriptions.TypeEqual index)))
   step_import_type name index l =
       let d : Def = defs.Item (items.Import name (descriptions.TypeEqual index)) in
       let x = entry_there a l in
@@ -374,20 +436,20 @@ module _ {w : ComponentWorld} {earlier : List Def} {c : Scope} {s : Store} (a : 
       let at : address_at spaces.Type index c.items ≡ Some x.2.address = ap (option_map (λ (t : Thing). t.address)) x.3 in
       let entry : get_or (inventory earlier).types index no_type ≡ x.0 = get_or_from_slice_get (inventory earlier).types index x.0 no_type x.1 in
       quiet_step d (suc c.imports) s t (λ rest now. rw at refl) (keeps_store c.items t s)
-      (record { space = refl; is = tt }) ((subst (λ e. IsTypeEntry s e t) (sym entry) (record { item = x.4.item; present = x.4.present; denotes = x.4.denotes; is = x.4.is }), tt), tt, tt) refl refl refl refl refl (ap suc a.imports)
+      (record { space = refl; is = tt }) ((subst (λ e. IsTypeEntry s e t) (sym entry) (record { item = x.4.item; present = x.4.present; denotes = x.4.denotes; is = x.4.is }), tt), tt, tt) refl refl refl refl refl refl (ap suc a.imports)
 
   -- a resource is a new type, known by the number of the import
-  pub step_import_resource : (name : ExternName) → Steps w earlier c s g (defs.Item (items.Import name descriptions.SubResource))
+  pub step_import_resource : (name : ExternName) → Steps w gen earlier c s g (defs.Item (items.Import name descriptions.SubResource))
   step_import_resource name =
       let d : Def = defs.Item (items.Import name descriptions.SubResource) in
       let t : Thing = record { space = spaces.Type; address = length s.types } in
       let item : TypeItem = ImportedResource (record { number = c.imports; inner = None }) in
       let s' : Store = record s { types = s.types ++ item ∷ [] } in
       quiet_step d (suc c.imports) s' t (λ rest now. refl) (keeps_type c.items t s item)
-      (record { space = refl; is = tt }) ((record { item = item; present = slice_get-end s.types item; denotes = ap (λ n. OfValues (ResourceAt (ImportedAt (record { number = n; inner = None })))) a.imports; is = tt }, tt), tt, tt) refl refl refl refl refl (ap suc a.imports)
+      (record { space = refl; is = tt }) ((record { item = item; present = slice_get-end s.types item; denotes = ap (λ n. OfValues (ResourceAt (ImportedAt (record { number = n; inner = None })))) a.imports; is = tt }, tt), tt, tt) refl refl refl refl refl refl (ap suc a.imports)
 
   -- a type of instances has the members that the inventory says
-  pub step_instance_type : (type : InstanceTypeDef) → Steps w earlier c s g (defs.Item (items.InstanceType type))
+  pub step_instance_type : (type : InstanceTypeDef) → Steps w gen earlier c s g (defs.Item (items.InstanceType type))
   step_instance_type type =
       let d : Def = defs.Item (items.InstanceType type) in
       let t : Thing = record { space = spaces.Type; address = length s.types } in
@@ -396,11 +458,11 @@ module _ {w : ComponentWorld} {earlier : List Def} {c : Scope} {s : Store} (a : 
       let is : IsInstanceType s'.types (scope_of earlier) type.members item =
       instance_type_made s'.types (inventory earlier) type.members c.items c.around (AreHeldAs-kept (keeps_more s.types (item ∷ [])) (scope_of earlier) c.items (all_held a)) in
       quiet_step d c.imports s' t (λ rest now. refl) (keeps_type c.items t s item)
-      (record { space = refl; is = tt }) ((record { item = item; present = slice_get-end s.types item; denotes = refl; is = is }, tt), tt, tt) refl refl refl refl refl a.imports
+      (record { space = refl; is = tt }) ((record { item = item; present = slice_get-end s.types item; denotes = refl; is = is }, tt), tt, tt) refl refl refl refl refl refl a.imports
 
   -- An import of a type of instances makes types and functions, and one item: the instance.
   pub step_import_instance : (name : ExternName) (index : ℕ) (outer : List TypeTree) (members : List Member) → slice_get (inventory earlier).types index ≡ Some (OfInstances outer members) → AreMembersRight (surroundings_of (imports_in earlier) outer) [] members →
-      Steps w earlier c s g (defs.Item (items.Import name (descriptions.Instance index)))
+      Steps w gen earlier c s g (defs.Item (items.Import name (descriptions.Instance index)))
   step_import_instance name index outer members h right =
       let d : Def = defs.Item (items.Import name (descriptions.Instance index)) in
       let origin : Origin = record { number = c.imports; inner = None } in
@@ -421,11 +483,11 @@ module _ {w : ComponentWorld} {earlier : List Def} {c : Scope} {s : Store} (a : 
       } in
       let entry : ImportedInstance c.imports outer members ≡ instance_imported (inventory earlier).imports (get_or (inventory earlier).types index no_type) =
       ap₂ (λ n e. instance_imported n e) a.imports (sym (get_or_from_slice_get (inventory earlier).types index (OfInstances outer members) no_type h)) in
-      quiet_step d (suc c.imports) s' t (λ rest now. r.runs now (λ address after. run (module_meanings w no_modules) rest after)) k
-      (record { space = refl; is = tt }) (tt, tt, (record { exports = r.exports; present = slice_get-end s.instances r.exports; is = subst (λ e. IsInstanceEntry r.types r.functions e r.exports) entry r.is }, tt)) refl refl refl refl refl (ap suc a.imports)
+      quiet_step d (suc c.imports) s' t (λ rest now. r.runs now (λ address after. run (module_meanings w gen) rest after)) k
+      (record { space = refl; is = tt }) (tt, tt, (record { exports = r.exports; present = slice_get-end s.instances r.exports; is = subst (λ e. IsInstanceEntry r.types r.functions e r.exports) entry r.is }, tt)) refl refl refl refl refl refl (ap suc a.imports)
 
   -- an alias of what an imported instance exports is that item
-  pub step_alias_function : (instance : ℕ) (name : List ℕ) → AliasesImported earlier spaces.Func instance name → Steps w earlier c s g (defs.Item (items.Alias (aliases.Export exports.Func instance name)))
+  pub step_alias_function : (instance : ℕ) (name : List ℕ) → AliasesImported earlier spaces.Func instance name → Steps w gen earlier c s g (defs.Item (items.Alias (aliases.Export exports.Func instance name)))
   step_alias_function instance name h =
       let d : Def = defs.Item (items.Alias (aliases.Export exports.Func instance name)) in
       let of : InstanceEntry = ImportedInstance h.number h.outer h.members in
@@ -434,10 +496,10 @@ module _ {w : ComponentWorld} {earlier : List Def} {c : Scope} {s : Store} (a : 
       let f : AliasesFunction (machine c s no_answers) instance name (function_of_instance name of) =
       aliases_function (machine c s no_answers) instance x.0 x.2 name h.number h.outer h.members x.1 x.3 x.4 h.exported in
       let t : Thing = record { space = spaces.Func; address = f.address } in
-      quiet_step d c.imports s t (λ rest now. ap (λ o. with_some o (λ (x : Thing). run (module_meanings w no_modules) rest (machine (with_thing c x c.imports) s now))) f.at) (keeps_store c.items t s)
-      (record { space = refl; is = tt }) (tt, (record { function = Imported f.origin f.type; present = f.present; same = f.same ∙ ap (function_of_instance name) (sym entry) }, tt), tt) refl refl refl refl refl a.imports
+      quiet_step d c.imports s t (λ rest now. ap (λ o. with_some o (λ (x : Thing). run (module_meanings w gen) rest (machine (with_thing c x c.imports) s now))) f.at) (keeps_store c.items t s)
+      (record { space = refl; is = tt }) (tt, (record { function = Imported f.origin f.type; present = f.present; same = f.same ∙ ap (function_of_instance name) (sym entry) }, tt), tt) refl refl refl refl refl refl a.imports
 
-  pub step_alias_type : (instance : ℕ) (name : List ℕ) → AliasesImported earlier spaces.Type instance name → Steps w earlier c s g (defs.Item (items.Alias (aliases.Export exports.Type instance name)))
+  pub step_alias_type : (instance : ℕ) (name : List ℕ) → AliasesImported earlier spaces.Type instance name → Steps w gen earlier c s g (defs.Item (items.Alias (aliases.Export exports.Type instance name)))
   step_alias_type instance name h =
       let d : Def = defs.Item (items.Alias (aliases.Export exports.Type instance name)) in
       let of : InstanceEntry = ImportedInstance h.number h.outer h.members in
@@ -447,32 +509,10 @@ module _ {w : ComponentWorld} {earlier : List Def} {c : Scope} {s : Store} (a : 
       aliases_type (machine c s no_answers) instance x.0 x.2 name h.number h.outer h.members x.1 x.3 x.4 h.exported in
       let t : Thing = record { space = spaces.Type; address = f.address } in
       let is : IsTypeEntry s (type_of_instance name of) t = record { item = f.is.item; present = f.is.present; denotes = f.is.denotes; is = tt } in
-      quiet_step d c.imports s t (λ rest now. ap (λ o. with_some o (λ (x : Thing). run (module_meanings w no_modules) rest (machine (with_thing c x c.imports) s now))) f.at) (keeps_store c.items t s)
-      (record { space = refl; is = tt }) ((subst (λ e. IsTypeEntry s (type_of_instance name e) t) (sym entry) is, tt), tt, tt) refl refl refl refl refl a.imports
+      quiet_step d c.imports s t (λ rest now. ap (λ o. with_some o (λ (x : Thing). run (module_meanings w gen) rest (machine (with_thing c x c.imports) s now))) f.at) (keeps_store c.items t s)
+      (record { space = refl; is = tt }) ((subst (λ e. IsTypeEntry s (type_of_instance name e) t) (sym entry) is, tt), tt, tt) refl refl refl refl refl refl a.imports
 
-  pub step_lower : (function : ℕ) → HasImportedFunction earlier function → Steps w earlier c s g (defs.Item (items.Lower function []))
-  step_lower function h =
-      let d : Def = defs.Item (items.Lower function []) in
-      let x : (x : ℕ) × (address_at spaces.Func function c.items ≡ Some x) × (slice_get s.functions x ≡ Some (Imported h.origin h.type)) = imported_there a h.is in
-      let t : Thing = record { space = spaces.CoreFunc; address = length s.code.functions } in
-      let item : CoreItem = Lowering x.0 [] in
-      let type : FuncType = core_signature h.type [] in
-      let s' : Store = with_opaque item type s in
-      quiet_step d c.imports s' t (λ rest now. rw (x.1, import_lowered (machine c s now) x.0 h.origin h.type x.2) refl) (keeps_opaque c.items t s item type)
-      (record {
-        space = refl;
-        is = record {
-          of = x.0;
-          origin = h.origin;
-          type = h.type;
-          at = address_at-append c.items (t ∷ []) spaces.Func function x.0 x.1;
-          imported = x.2;
-          is = opaque_there item type s;
-        };
-      })
-      (tt, tt, tt) refl refl refl refl refl a.imports
-
-  pub step_drop : (type : ℕ) → HasResource earlier type → Steps w earlier c s g (defs.Item (items.Intrinsic (intrinsics.ResourceDrop type)))
+  pub step_drop : (type : ℕ) → HasResource earlier type → Steps w gen earlier c s g (defs.Item (items.Intrinsic (intrinsics.ResourceDrop type)))
   step_drop type h =
       let d : Def = defs.Item (items.Intrinsic (intrinsics.ResourceDrop type)) in
       let x : (x : ℕ) × (address_at spaces.Type type c.items ≡ Some x) × IsHeldAs s.types (OfValues (ResourceAt h.resource)) x = held_there a h.is.denotes in
@@ -481,7 +521,7 @@ module _ {w : ComponentWorld} {earlier : List Def} {c : Scope} {s : Store} (a : 
       let s' : Store = with_opaque item drop_core s in
       quiet_step d c.imports s' t (λ rest now. rw x.1 refl) (keeps_opaque c.items t s item drop_core)
       (record { space = refl; is = record { of = x.0; at = address_at-append c.items (t ∷ []) spaces.Type type x.0 x.1; is = opaque_there item drop_core s } })
-      (tt, tt, tt) refl refl refl refl refl a.imports
+      (tt, tt, tt) refl refl refl refl refl refl a.imports
 
   -- an option that names an earlier item has its address
   option_addressed : (o : CanonicalOption) → IsOptionRight earlier o → (x : HeldOption) × (held (machine c s no_answers) o ≡ Some x) × IsHeldOption c.items o x
@@ -494,7 +534,47 @@ module _ {w : ComponentWorld} {earlier : List Def} {c : Scope} {s : Store} (a : 
   option_addressed options.Async h = (HeldAsync, refl, tt)
   option_addressed (options.Callback index) h = let x = address_there a spaces.CoreFunc index h in (HeldCallback x.0, ap (option_map (λ n. HeldCallback n)) x.1, x.1)
 
-  pub step_lift : (core : ℕ) (written : List CanonicalOption) (kind : ℕ) → core < items_in spaces.CoreFunc earlier → AllByRecursion (IsOptionRight earlier) written → HasFunctionType earlier kind → Steps w earlier c s g (defs.Item (items.Lift core written kind))
+  -- so has one of a lowering, which is none that changes the core type
+  lower_option_addressed : (o : CanonicalOption) → IsLowerOptionRight earlier o → (x : HeldOption) × (held (machine c s no_answers) o ≡ Some x) × IsLowerHeld c.items o x
+  unfolding option_addressed
+  lower_option_addressed options.Async h = absurd h
+  lower_option_addressed options.Utf8 h = let x = option_addressed options.Utf8 h in (x.0, x.1, (x.2, refl))
+  lower_option_addressed options.Utf16 h = let x = option_addressed options.Utf16 h in (x.0, x.1, (x.2, refl))
+  lower_option_addressed options.CompactUtf16 h = let x = option_addressed options.CompactUtf16 h in (x.0, x.1, (x.2, refl))
+  lower_option_addressed (options.Memory index) h = let x = option_addressed (options.Memory index) h in (x.0, x.1, (x.2, refl))
+  lower_option_addressed (options.Realloc index) h = let x = option_addressed (options.Realloc index) h in (x.0, x.1, (x.2, refl))
+  lower_option_addressed (options.PostReturn index) h = let x = option_addressed (options.PostReturn index) h in (x.0, x.1, (x.2, refl))
+  lower_option_addressed (options.Callback index) h = let x = option_addressed (options.Callback index) h in (x.0, x.1, (x.2, refl))
+
+  pub step_lower : (function : ℕ) (written : List CanonicalOption) → HasImportedFunction earlier function → AllByRecursion (IsLowerOptionRight earlier) written → Steps w gen earlier c s g (defs.Item (items.Lower function written))
+  step_lower function written h right =
+      let d : Def = defs.Item (items.Lower function written) in
+      let x : (x : ℕ) × (address_at spaces.Func function c.items ≡ Some x) × (slice_get s.functions x ≡ Some (Imported h.origin h.type)) = imported_there a h.is in
+      let os : (xs : List HeldOption) × (options_held (machine c s no_answers) written ≡ Some xs) × AllZip (IsLowerHeld c.items) written xs =
+      all_some-self (IsLowerHeld c.items) (held (machine c s no_answers)) (IsLowerOptionRight earlier) lower_option_addressed written right in
+      let t : Thing = record { space = spaces.CoreFunc; address = length s.code.functions } in
+      let item : CoreItem = Lowering x.0 os.0 in
+      let type : FuncType = core_signature h.type [] in
+      let s' : Store = with_opaque item type s in
+      let k : Keeps c.items (c.items ++ t ∷ []) s s' = keeps_opaque c.items t s item type in
+      let addressed : (now : Now) → options_held (machine c s now) written ≡ Some os.0 = λ now. ap (λ l. all_some l) (options_same c s now written) ∙ os.1 in
+      quiet_step d c.imports s' t (λ rest now. rw (x.1, addressed now, import_lowered (machine c s now) x.0 h.origin h.type os.0 x.2 (synchronous c.items written os.0 os.2)) refl) k
+      (record {
+        space = refl;
+        is = record {
+          of = x.0;
+          origin = h.origin;
+          held = os.0;
+          type = h.type;
+          at = address_at-append c.items (t ∷ []) spaces.Func function x.0 x.1;
+          imported = x.2;
+          with_options = AllZip-weaker (λ o y p. IsHeldOption-kept k o y p.0) written os.0 os.2;
+          is = opaque_there item type s;
+        };
+      })
+      (tt, tt, tt) refl refl refl refl refl refl a.imports
+
+  pub step_lift : (core : ℕ) (written : List CanonicalOption) (kind : ℕ) → core < items_in spaces.CoreFunc earlier → AllByRecursion (IsOptionRight earlier) written → HasFunctionType earlier kind → Steps w gen earlier c s g (defs.Item (items.Lift core written kind))
   step_lift core written kind l right h =
       let d : Def = defs.Item (items.Lift core written kind) in
       let x : (x : ℕ) × (address_at spaces.CoreFunc core c.items ≡ Some x) = address_there a spaces.CoreFunc core l in
@@ -519,9 +599,9 @@ module _ {w : ComponentWorld} {earlier : List Def} {c : Scope} {s : Store} (a : 
           is = slice_get-end s.functions f;
         };
       })
-      (tt, (record { function = f; present = slice_get-end s.functions f; same = ap (λ tree. record { origin = None; type = tree }) (sym h.is.denotes.tree) }, tt), tt) refl refl refl refl refl a.imports
+      (tt, (record { function = f; present = slice_get-end s.functions f; same = ap (λ tree. record { origin = None; type = tree }) (sym h.is.denotes.tree) }, tt), tt) refl refl refl refl refl refl a.imports
 
-  pub step_inline_instance : (entries : List CoreInlineExport) → AreEntries earlier entries → Steps w earlier c s g (defs.Item (items.CoreExports entries))
+  pub step_inline_instance : (entries : List CoreInlineExport) → AreEntries earlier entries → Steps w gen earlier c s g (defs.Item (items.CoreExports entries))
   step_inline_instance entries h =
       let d : Def = defs.Item (items.CoreExports entries) in
       let t : Thing = record { space = spaces.CoreInstance; address = length s.core_instances } in
@@ -541,28 +621,49 @@ module _ {w : ComponentWorld} {earlier : List Def} {c : Scope} {s : Store} (a : 
           each = AllZip-weaker (λ e x n. record { named = n.named; space = n.space; at = address_at-append c.items (t ∷ []) (kind_space e.kind) e.index x.address n.at }) entries found.0 found.2;
         };
       })
-      (tt, tt, tt) refl refl refl refl refl a.imports
+      (tt, tt, tt) refl refl refl refl refl refl a.imports
 
-  -- what an alias of a core export finds
-  alias_found : IsWorld w → (kind : ExportKind) (instance : ℕ) (name : List ℕ) → AliasesUser w earlier kind instance name → FindsExport w c s kind instance name
-  alias_found ok kind instance name h =
-      let m : (x : ℕ) × (address_at spaces.CoreInstance instance c.items ≡ Some x) × IsUserInstance w s h.number x = user_there a h.is in
+  -- what an alias of an export of main finds
+  user_found : IsWorld w → (kind : ExportKind) (instance : ℕ) (name : List ℕ) → AliasesUser w earlier kind instance name → FindsExport w earlier c s kind instance name
+  user_found ok kind instance name h =
+      let number : h.number ≡ 0 = (listed_main w ok h.number h.of h.listed).0 in
       let main : main_module w ≡ h.of = (listed_main w ok h.number h.of h.listed).1 in
+      let of : IsInstanceOf earlier instance 0 = subst (IsInstanceOf earlier instance) number h.is in
+      let m : (x : ℕ) × (address_at spaces.CoreInstance instance c.items ≡ Some x) × IsUserInstance w s x = user_there a of in
       let offered : found name w.main.offered ≡ Some h.type = subst (λ (o : WorldModule). found name o.found.offered ≡ Some h.type) (sym main) h.offered in
-      let x = offered_there a h.number m.0 m.2 name h.type offered in
+      let x = offered_there a m.0 m.2 name h.type offered in
       record {
         export = x.0;
         space = x.2 ∙ space_of_kind kind h.type h.of_kind;
-        is = record { type = h.type; offered = offered; of_kind = h.of_kind; from = m.0; exports = m.2.exports; export = x.0; at = m.1; present = m.2.present; found = x.1; is = refl };
+        is = record { number = 0; of = of; names = inl (record { number_is = refl; type = h.type; offered = offered; of_kind = h.of_kind }); from = m.0; exports = m.2.exports; export = x.0; at = m.1; present = m.2.present; found = x.1; is = refl };
         found = x.1;
       }
 
+  -- and one of a shim
+  shim_found : (instance : ℕ) (name : List ℕ) → AliasesShim w earlier kinds.Func instance name → FindsExport w earlier c s kinds.Func instance name
+  shim_found instance name h =
+      let m : (x : ℕ) × (address_at spaces.CoreInstance instance c.items ≡ Some x) × IsModuleInstance w a.shims s (shims_number w) x = module_there a h.is in
+      let at : (at : ShimsAt) × (a.shims ≡ Some at) × (m.2.exports ≡ instance_exports (shims_of w) at.address at.table) × (length (shims_of w) < 2 ^ 32) =
+      of_shims w s (flat_map (at_root item_instantiates) earlier) m.2.user m.2.exports a.shims a.with_shims m.2.each in
+      let shim : Export = record { space = spaces.CoreFunc; name = decimal h.place; address = at.0.address + h.place } in
+      let there : export_named name m.2.exports ≡ Some shim = ap₂ export_named h.named at.2 ∙ (shims_found (shims_of w) at.0.address at.0.table).found h.place h.listed at.3 in
+      record {
+        export = shim;
+        space = refl;
+        is = record { number = shims_number w; of = h.is; names = inr refl; from = m.0; exports = m.2.exports; export = shim; at = m.1; present = m.2.present; found = there; is = refl };
+        found = there;
+      }
+
+  alias_found : IsWorld w → (kind : ExportKind) (instance : ℕ) (name : List ℕ) → AliasesUser w earlier kind instance name ⊎ AliasesShim w earlier kind instance name → FindsExport w earlier c s kind instance name
+  alias_found ok kind instance name (inl h) = user_found ok kind instance name h
+  alias_found ok kind instance name (inr h) = subst (λ k. FindsExport w earlier c s k instance name) (sym h.function) (shim_found instance name (subst (λ k. AliasesShim w earlier k instance name) h.function h))
+
   -- the same, in a scope with one item more
-  aliased_item : (kind : ExportKind) (instance : ℕ) (name : List ℕ) (f : FindsExport w c s kind instance name) (t : Thing) → IsAliasedItem w (c.items ++ t ∷ []) s kind instance name f.export.address
-  aliased_item kind instance name f t = record {
-    type = f.is.type;
-    offered = f.is.offered;
-    of_kind = f.is.of_kind;
+  aliased_item : (kind : ExportKind) (instance : ℕ) (name : List ℕ) (f : FindsExport w earlier c s kind instance name) (d : Def) (t : Thing) → IsAliasedItem w (earlier ++ d ∷ []) (c.items ++ t ∷ []) s kind instance name f.export.address
+  aliased_item kind instance name f d t = record {
+    number = f.is.number;
+    of = instance_kept earlier d f.is.of;
+    names = f.is.names;
     from = f.is.from;
     exports = f.is.exports;
     export = f.is.export;
@@ -572,21 +673,25 @@ module _ {w : ComponentWorld} {earlier : List Def} {c : Scope} {s : Store} (a : 
     is = f.is.is;
   }
 
-  pub step_alias : IsWorld w → (kind : ExportKind) (instance : ℕ) (name : List ℕ) → AliasesUser w earlier kind instance name → Steps w earlier c s g (defs.Item (items.Alias (aliases.CoreExport kind instance name)))
+  pub step_alias : IsWorld w → (kind : ExportKind) (instance : ℕ) (name : List ℕ) → AliasesUser w earlier kind instance name ⊎ AliasesShim w earlier kind instance name → Steps w gen earlier c s g (defs.Item (items.Alias (aliases.CoreExport kind instance name)))
   step_alias ok kinds.Func instance name h =
-      let f : FindsExport w c s kinds.Func instance name = alias_found ok kinds.Func instance name h in
+      let d : Def = defs.Item (items.Alias (aliases.CoreExport kinds.Func instance name)) in
+      let f : FindsExport w earlier c s kinds.Func instance name = alias_found ok kinds.Func instance name h in
       let t : Thing = record { space = spaces.CoreFunc; address = f.export.address } in
-      quiet_step (defs.Item (items.Alias (aliases.CoreExport kinds.Func instance name))) c.imports s t (λ rest now. rw (f.is.at, f.is.present, f.found, f.space) refl) (keeps_store c.items t s)
-      (record { space = refl; is = aliased_item kinds.Func instance name f t }) (tt, tt, tt) refl refl refl refl refl a.imports
+      quiet_step d c.imports s t (λ rest now. rw (f.is.at, f.is.present, f.found, f.space) refl) (keeps_store c.items t s)
+      (record { space = refl; is = aliased_item kinds.Func instance name f d t }) (tt, tt, tt) refl refl refl refl refl refl a.imports
   step_alias ok kinds.Memory instance name h =
-      let f : FindsExport w c s kinds.Memory instance name = alias_found ok kinds.Memory instance name h in
+      let d : Def = defs.Item (items.Alias (aliases.CoreExport kinds.Memory instance name)) in
+      let f : FindsExport w earlier c s kinds.Memory instance name = alias_found ok kinds.Memory instance name h in
       let t : Thing = record { space = spaces.CoreMemory; address = f.export.address } in
-      quiet_step (defs.Item (items.Alias (aliases.CoreExport kinds.Memory instance name))) c.imports s t (λ rest now. rw (f.is.at, f.is.present, f.found, f.space) refl) (keeps_store c.items t s)
-      (record { space = refl; is = aliased_item kinds.Memory instance name f t }) (tt, tt, tt) refl refl refl refl refl a.imports
-  step_alias ok kinds.Table instance name h = absurd h.of_kind
-  step_alias ok kinds.Global instance name h = absurd h.of_kind
+      quiet_step d c.imports s t (λ rest now. rw (f.is.at, f.is.present, f.found, f.space) refl) (keeps_store c.items t s)
+      (record { space = refl; is = aliased_item kinds.Memory instance name f d t }) (tt, tt, tt) refl refl refl refl refl refl a.imports
+  step_alias ok kinds.Table instance name (inl h) = absurd h.of_kind
+  step_alias ok kinds.Table instance name (inr h) = let no = h.function in cc
+  step_alias ok kinds.Global instance name (inl h) = absurd h.of_kind
+  step_alias ok kinds.Global instance name (inr h) = let no = h.function in cc
 
-  pub step_export : IsWorld w → (name : ExternName) (index : ℕ) → ExportsRequired w earlier name index → Steps w earlier c s g (defs.Item (items.Export name sorts.Func index None))
+  pub step_export : IsWorld w → (name : ExternName) (index : ℕ) → ExportsRequired w earlier name index → Steps w gen earlier c s g (defs.Item (items.Export name sorts.Func index None))
   step_export ok name index h =
       let d : Def = defs.Item (items.Export name sorts.Func index None) in
       let lifted_with : List TargetOption = lift_options w Main h.key in
@@ -604,13 +709,14 @@ module _ {w : ComponentWorld} {earlier : List Def} {c : Scope} {s : Store} (a : 
         c',
         s,
         g,
-        quiet w d c s g c' s refl (λ rest now. rw f.1 refl),
-        agrees_with d c' s t refl k
+        quiet w gen d c s g c' s refl (λ rest now. rw f.1 refl),
+        agrees_with d c' s t a.shims (shims_same a.shims) refl k
             (record { space = refl; is = tt })
             (tt, (record { function = own.1.function; present = own.1.present; same = own.1.same ∙ sym own.2 }, tt), tt)
             (rw (filter-push (is_of spaces.CoreModule) false c.items t refl) a.modules)
             (sym (append-nil (map (λ (u : ModuleInstance). u.module_number) s.module_instances)))
-            (AllByRecursion-weaker (IsPlannedUser-kept w k) s.module_instances a.served)
+            (AllByRecursion-weaker (IsPlannedUser-kept w k a.shims a.shims (shims_same a.shims)) s.module_instances a.served)
+            (shims_beside k [] refl refl refl)
             (map-append (λ (e : Export). e.name) c.exports (x ∷ []))
             (AllByRecursion-push (IsLiftedExport w s) c.exports x a.lifted (record {
               name = core.0;
@@ -623,7 +729,7 @@ module _ {w : ComponentWorld} {earlier : List Def} {c : Scope} {s : Store} (a : 
             a.imports,
       )
 
-  pub step_module : (bytes : List ℕ) → Steps w earlier c s g (defs.Item (items.CoreModule bytes))
+  pub step_module : (bytes : List ℕ) → Steps w gen earlier c s g (defs.Item (items.CoreModule bytes))
   step_module bytes =
       let d : Def = defs.Item (items.CoreModule bytes) in
       let t : Thing = record { space = spaces.CoreModule; address = length s.core_modules } in
@@ -632,17 +738,18 @@ module _ {w : ComponentWorld} {earlier : List Def} {c : Scope} {s : Store} (a : 
         with_thing c t c.imports,
         s',
         g,
-        quiet w d c s g (with_thing c t c.imports) s' refl (λ rest now. refl),
-        agrees_with d (with_thing c t c.imports) s' t refl k (record { space = refl; is = tt }) (tt, tt, tt)
+        quiet w gen d c s g (with_thing c t c.imports) s' refl (λ rest now. refl),
+        agrees_with d (with_thing c t c.imports) s' t a.shims (shims_same a.shims) refl k (record { space = refl; is = tt }) (tt, tt, tt)
             (rw (filter-push (is_of spaces.CoreModule) true c.items t refl, length-append s.core_modules (bytes ∷ []), add-one (length s.core_modules)) (consecutive-push 0 (filter (is_of spaces.CoreModule) c.items) (length s.core_modules) t a.modules refl))
             (sym (append-nil (map (λ (u : ModuleInstance). u.module_number) s.module_instances)))
-            (AllByRecursion-weaker (IsPlannedUser-kept w k) s.module_instances a.served)
+            (AllByRecursion-weaker (IsPlannedUser-kept w k a.shims a.shims (shims_same a.shims)) s.module_instances a.served)
+            (shims_beside k [] refl refl refl)
             (sym (append-nil (map (λ (e : Export). e.name) c.exports)))
             (AllByRecursion-weaker (IsLiftedExport-kept w k) c.exports a.lifted)
             a.imports,
       )
 
-  pub step_custom : (name contents : List ℕ) → Steps w earlier c s g (defs.Item (items.Custom name contents))
+  pub step_custom : (name contents : List ℕ) → Steps w gen earlier c s g (defs.Item (items.Custom name contents))
   step_custom name contents =
       let d : Def = defs.Item (items.Custom name contents) in
       let same : filter makes (earlier ++ d ∷ []) ≡ filter makes earlier = filter-push makes false earlier d refl in
@@ -650,9 +757,11 @@ module _ {w : ComponentWorld} {earlier : List Def} {c : Scope} {s : Store} (a : 
         c,
         s,
         g,
-        quiet w d c s g c s refl (λ rest now. refl),
+        quiet w gen d c s g c s refl (λ rest now. refl),
         record {
-          means = subst (λ ds. AllZip (Means w c.items s) ds c.items) (sym same) a.means;
+          shims = a.shims;
+          means = subst (λ ds. AllZip (Means w a.shims (earlier ++ d ∷ []) c.items s) ds c.items) (sym same)
+              (AllZip-weaker (Means-kept w a.shims a.shims (shims_same a.shims) earlier (earlier ++ d ∷ []) (λ index number i. instance_kept earlier d i) (keeps_all c.items s)) (filter makes earlier) c.items a.means);
           types = subst (λ (v : Inventory). AllZip (IsTypeEntry s) v.types (filter (is_of spaces.Type) c.items)) (sym (inventory-push earlier d))
               (subst (λ es. AllZip (IsTypeEntry s) es (filter (is_of spaces.Type) c.items)) (sym (append-nil old.types)) a.types);
           functions = subst (λ (v : Inventory). AllZip (IsFunctionEntry s) v.functions (filter (is_of spaces.Func) c.items)) (sym (inventory-push earlier d))
@@ -662,106 +771,9 @@ module _ {w : ComponentWorld} {earlier : List Def} {c : Scope} {s : Store} (a : 
           modules = a.modules;
           instantiated = a.instantiated ∙ sym (flat-push (at_root item_instantiates) earlier d ∙ append-nil (flat_map (at_root item_instantiates) earlier));
           served = a.served;
+          with_shims = subst (λ l. MayHaveShims w s l a.shims) (sym (flat-push (at_root item_instantiates) earlier d ∙ append-nil (flat_map (at_root item_instantiates) earlier))) a.with_shims;
           exports = a.exports ∙ sym (flat-push def_export earlier d ∙ append-nil (flat_map def_export earlier));
           lifted = a.lifted;
           imports = a.imports ∙ sym (ap (λ (v : Inventory). v.imports) (inventory-push earlier d));
         },
       )
-
-  -- the first core module has the first address
-  first_address : 0 < items_in spaces.CoreModule earlier → address_at spaces.CoreModule 0 c.items ≡ Some 0
-  first_address l = by (filter (is_of spaces.CoreModule) c.items) a.modules (address_there a spaces.CoreModule 0 l)
-    where
-      by : (ts : List Thing) → NumberedFrom 0 ts (length s.core_modules) → (x : ℕ) × (option_map (λ (t : Thing). t.address) (slice_get ts 0) ≡ Some x) → option_map (λ (t : Thing). t.address) (slice_get ts 0) ≡ Some 0
-      by [] h x = absurd (none-some x.0 x.1)
-      by (t ∷ ts) h x = ap (λ (n : ℕ). Some n) h.0
-
-  pub step_instantiate : IsWorld w → (number : ℕ) (arguments : List CoreArgument) → InstantiatesUser w earlier number arguments → Steps w earlier c s g (defs.Item (items.CoreInstantiate number arguments))
-  step_instantiate ok number arguments h =
-      let d : Def = defs.Item (items.CoreInstantiate 0 arguments) in
-      let es : ExportTypes = w.main.offered in
-      let is : List ImportType = w.main.imported in
-      let roles : List (List ℕ × ImportInstance) = w.main.imports.modules in
-      let user : ℕ = length s.module_instances in
-      let m0 : Machine = machine c s (record no_answers { globals = cells g }) in
-      let m1 : Machine = with_exports user es m0 in
-      let more : Exports m0 m1 = all_exports user es m0 in
-      let own : List Export = exported_by user es m0 in
-      let of_main : (number ≡ 0) × (main_module w ≡ h.of) = listed_main w ok number h.of h.listed in
-      let each : AllZip (IsArgumentFor w Main earlier) arguments roles = subst (λ (o : WorldModule). AllZip (IsArgumentFor w o.of earlier) arguments o.found.imports.modules) (sym of_main.1) h.each in
-      let args : (ys : List (List ℕ × List Export)) × (all_some (map (core_argument m0) arguments) ≡ Some ys) × AllZip (IsOffered w s) ys roles =
-      arguments_there a m0 refl refl arguments roles ok.main.import_roles each in
-      let plain : AllByRecursion (IsFunctionImport w) is = function_imports w ok in
-      let found : (ts : List Thing) × (all_some (map (given_to (machine c s no_answers) args.0) is) ≡ Some ts) × AllZip (IsPlanned w s) ts is =
-      all_some-each (IsPlanned w s) (given_to (machine c s no_answers) args.0) is
-      (AllByRecursion-weaker (given_there w (machine c s no_answers) args.0 args.2) is plain) in
-      let given : (now : Now) → all_some (map (given_to (machine c s now) args.0) is) ≡ Some found.0 = λ now.
-      ap (λ l. all_some l) (given_same w c s now args.0 is plain) ∙ found.1 in
-      let instance : ModuleInstance = record { module_number = 0; given = found.0; exports = own } in
-      let t : Thing = record { space = spaces.CoreInstance; address = length m1.store.core_instances } in
-      let s' : Store = record m1.store { core_instances = m1.store.core_instances ++ own ∷ []; module_instances = m1.store.module_instances ++ instance ∷ [] } in
-      let users : m1.store.module_instances ≡ s.module_instances = ap (λ (m : Machine). m.store.module_instances) more.same in
-      let k : Keeps c.items (c.items ++ t ∷ []) s s' = record {
-        things = things_kept c.items t s;
-        code = more.code;
-        known = more.known;
-        core_instances = keeps_grown s.core_instances (m1.store.core_instances ++ own ∷ []) (own ∷ []) (ap (λ (m : Machine). m.store.core_instances ++ own ∷ []) more.same);
-        functions = keeps_same (ap (λ (m : Machine). m.store.functions) more.same);
-        types = keeps_same (ap (λ (m : Machine). m.store.types) more.same);
-        instances = keeps_same (ap (λ (m : Machine). m.store.instances) more.same);
-        users = keeps_grown s.module_instances (m1.store.module_instances ++ instance ∷ []) (instance ∷ []) (ap (λ l. l ++ instance ∷ []) users);
-      } in
-      let scoped : 0 < items_in spaces.CoreModule earlier = subst (λ n. n < items_in spaces.CoreModule earlier) of_main.0 h.scoped in
-      let planned : AllByRecursion (IsPlannedUser w s') (m1.store.module_instances ++ instance ∷ []) =
-      AllByRecursion-push (IsPlannedUser w s') m1.store.module_instances instance
-      (subst (AllByRecursion (IsPlannedUser w s')) (sym users) (AllByRecursion-weaker (IsPlannedUser-kept w k) s.module_instances a.served))
-      (IsPlannedUser-kept w k instance found.2) in
-      let alike : (after : Now) → length after.globals ≡ g → Alike (machine c s after) m0 = λ after count. record { store = refl; globals = count ∙ sym (length-cells g) } in
-      let new : (after : Now) → length after.globals ≡ g → new_user 0 es found.0 (machine c s after) ≡ machine (with_thing c t c.imports) s' (with_exports user es (machine c s after)).now = λ after count.
-      ap₂ (λ l m. with_module_instance (record { module_number = 0; given = found.0; exports = l }) m)
-      (same_exports user es (machine c s after) m0 (alike after count))
-      (ap₂ (λ x y. machine x y (with_exports user es (machine c s after)).now) (ap (λ (m : Machine). m.scope) (all_exports user es (machine c s after)).same) (all_alike user es (machine c s after) m0 (alike after count)).store) in
-      let steps : Steps w earlier c s g d = (
-        with_thing c t c.imports,
-        s',
-        length m1.now.globals,
-        record {
-          continues = λ e u n events questions rest go now at. rw (first_address scoped, args.1, given now) (
-              good_answered e u n (events ++ (Instantiated 0 ∷ seen_by rest)) questions now.answers (seen now (Instantiated 0)) (machine c s now) _
-              (few events g rest now at)
-              (λ values after same_events same_moments same_globals.
-              let count : length after.globals ≡ g = same_globals ∙ at.globals in
-              let b : Machine = with_exports user es (machine c s after) in
-              let added : Exports (machine c s after) b = all_exports user es (machine c s after) in
-              let is_now : IsNow (events ++ Instantiated 0 ∷ []) (length m1.now.globals) b.now =
-              one_event events g (length m1.now.globals) now b.now at (ap (λ (m : Machine). m.now.events) added.same ∙ same_events) (ap (λ (m : Machine). m.now.moments) added.same ∙ same_moments) (all_alike user es (machine c s after) m0 (alike after count)).globals in
-              subst (λ (m : Machine). IsGood e u n (events ++ (Instantiated 0 ∷ seen_by rest)) questions after.answers (run (module_meanings w no_modules) rest m)) (sym (new after count))
-              (subst (λ l. IsGood e u n (events ++ (Instantiated 0 ∷ seen_by rest)) questions l (run (module_meanings w no_modules) rest (machine (with_thing c t c.imports) s' b.now))) (ap (λ (m : Machine). m.now.answers) added.same)
-              (subst (λ l. IsGood e u n l questions b.now.answers (run (module_meanings w no_modules) rest (machine (with_thing c t c.imports) s' b.now))) (append_assoc events (Instantiated 0 ∷ []) (seen_by rest))
-              (go b.now is_now)))));
-        },
-        agrees_with d (with_thing c t c.imports) s' t refl k
-            (record {
-              space = refl;
-              is = record {
-                exports = own;
-                user = user;
-                present = slice_get-end m1.store.core_instances own;
-                is = record {
-                  instance = instance;
-                  present = subst (λ n. slice_get (m1.store.module_instances ++ instance ∷ []) n ≡ Some instance) (ap (λ (l : List ModuleInstance). length l) users) (slice_get-end m1.store.module_instances instance);
-                  of = refl;
-                };
-                same = refl;
-                each = AllZip-weaker (export_beside m1.store s'.core_instances s'.module_instances user) own es (each_export user es m0);
-              };
-            })
-            (tt, tt, tt)
-            (subst (λ (l : List (List ℕ)). NumberedFrom 0 (filter (is_of spaces.CoreModule) (c.items ++ t ∷ [])) (length l)) (ap (λ (m : Machine). m.store.core_modules) (sym more.same)) (rw (filter-push (is_of spaces.CoreModule) false c.items t refl) a.modules))
-            (map-append (λ (u : ModuleInstance). u.module_number) m1.store.module_instances (instance ∷ []) ∙ ap (λ (l : List ModuleInstance). map (λ (u : ModuleInstance). u.module_number) l ++ 0 ∷ []) users)
-            planned
-            (sym (append-nil (map (λ (e : Export). e.name) c.exports)))
-            (AllByRecursion-weaker (IsLiftedExport-kept w k) c.exports a.lifted)
-            a.imports,
-      ) in
-      subst (λ n. Steps w earlier c s g (defs.Item (items.CoreInstantiate n arguments))) (sym of_main.0) steps

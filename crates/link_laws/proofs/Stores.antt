@@ -1,6 +1,7 @@
 -- What the items of a run are, next to the definitions that made them.
-use Rattle.std.proofs.Common.{None, ◌≡◌, ℕ, suc, Bool, List, [], ◌∷◌, ◌++◌, length, map, filter, refl, ap, Some, is_some}
+use Rattle.std.proofs.Common.{None, ◌≡◌, ◌<◌, ◌^◌, ◌+◌, ◌⊎◌, inl, inr, ℕ, suc, Option, Bool, List, [], ◌∷◌, ◌++◌, length, map, filter, refl, sym, subst, ap, Some, is_some}
 use Rattle.std.proofs.lemmas.List.Elements.{filter-append}
+use Rattle.std.specs.Prelude.{Contains}
 use Rattle.std.specs.List.{slice_get, flat_map, AllZip, AllByRecursion}
 use Rattle.comp_lists.proofs.Lists.{slice_get-append, AllZip-weaker}
 use Rattle.comp_bytes.specs.Spaces.{kind_space, space_of}
@@ -29,6 +30,7 @@ use Rattle.comp_trees.specs.Inventories.{TypeEntry, Denoting, OfInstances, Funct
 use Rattle.comp_roles.specs.CoreTypes.{function_type}
 use Rattle.comp_roles.specs.declared.offered.ExternType.{ExternType}
 use Rattle.comp_roles.specs.declared.offered.ExternType.TheVariants as externs
+use Rattle.comp_roles.specs.declared.imports.Import.{Import}
 use Rattle.comp_roles.specs.declared.offered.ImportType.{ImportType}
 use Rattle.wit_data.specs.declared.functions.Function.{Function as WitFunction}
 use Rattle.wit_data.specs.declared.worlds.WorldKey.TheVariants as keys
@@ -39,11 +41,16 @@ use Rattle.comp_links.specs.Targets.{Main, ExportRef, WorldFunction, TargetOptio
 use Rattle.comp_links.specs.Targets as targets
 use Rattle.comp_links.specs.Modules.{WorldModule}
 use Rattle.comp_links.specs.Lists.{IsOriginOf, resource_of}
-use Rattle.comp_links.specs.Links.{lift_options, link_at}
-use Rattle.comp_terms.specs.Terms.{CoreExport, imports_in}
+use Rattle.comp_links.specs.Links.{lift_options, link_of, link_at}
+use Rattle.shim_plan.specs.declared.shims.Shim.{Shim}
+use Rattle.world_shims.specs.WorldShims.{shims_of}
+use Rattle.shim_runs.specs.ShimRuns.{AreShimsFrom, instance_exports}
+use Rattle.comp_terms.specs.Generated.{shims_number, fixup_number, IsShimOf}
+use Rattle.comp_terms.specs.Terms.{CoreExport, IsInstanceOf, imports_in}
 use Rattle.comp_terms.specs.Planned.{IsTypeOf, type_of_function}
 use Rattle.comp_terms.specs.Rules.{IsOfKind}
 use Rattle.core_runs.specs.Store.{Opaque}
+use Rattle.core_runs.specs.Instances.{empty_table}
 use Rattle.comp_runs.specs.Store.{Thing, Export, HeldOption, HeldEncoding, HeldMemory, HeldRealloc, HeldPostReturn, HeldAsync, HeldCallback, CoreItem, Lowering, IntrinsicOf, ExportedBy, Function, Imported, Lifting, TypeItem, TreeOf, item_tree, ModuleInstance, Store}
 use Rattle.comp_runs.specs.Instances.{type_space}
 use Rattle.comp_runs.specs.Machine.{Scope, address_at, is_of, export_named, export_of, with_opaque}
@@ -52,6 +59,8 @@ use Rattle.instance_laws.specs.Instantiated.{IsHeldAs}
 use Rattle.instance_laws.specs.InstanceEntries.{IsInstanceType, IsInstanceEntry}
 use Rattle.instance_laws.proofs.Held.{KeepsEntries, keeps_same, keeps_more, IsHeldAs-kept}
 use Rattle.instance_laws.proofs.Importing.{IsInstanceType-kept, IsInstanceEntry-kept}
+use Rattle.std.proofs.lemmas.List.Elements.{Contains-append_left}
+use Rattle.shim_runs.proofs.Placed.{shims_kept}
 use Rattle.link_laws.specs.Composition.{at_root, item_instantiates}
 use Rattle.link_laws.proofs.Zips.{mapped_some}
 
@@ -78,14 +87,36 @@ pub record IsInstance (s : Store) (user number : ℕ) : Type 0 where
   pub present : slice_get s.module_instances user ≡ Some instance
   pub of : instance.module_number ≡ number
 
--- the core instance is a user instance of this module, with all that main offers
-pub record IsUserInstance (w : ComponentWorld) (s : Store) (number address : ℕ) : Type 0 where
+-- the core instance is an instance of main, with all that main offers
+pub record IsUserInstance (w : ComponentWorld) (s : Store) (address : ℕ) : Type 0 where
+  pub exports : List Export
+  pub user : ℕ
+  pub present : slice_get s.core_instances address ≡ Some exports
+  pub is : IsInstance s user 0
+  pub same : is.instance.exports ≡ exports
+  pub each : AllZip (IsUserExport s user) exports w.main.offered
+
+-- where the shims are: the address of the first, and that of their table
+pub record ShimsAt : Type 0 where
+  pub address : ℕ
+  pub table : ℕ
+
+-- what an instance of a module exports: of main, of the shims, or of the fixup
+abbrev pub AreShimExports : ComponentWorld → Option ShimsAt → ℕ → List Export → Type 0
+AreShimExports w None number exports = ⊥
+AreShimExports w (Some at) number exports = (number ≡ shims_number w) × (exports ≡ instance_exports (shims_of w) at.address at.table)
+
+abbrev pub AreModuleExports : ComponentWorld → Option ShimsAt → Store → ℕ → ℕ → List Export → Type 0
+AreModuleExports w at s user number exports = ((number ≡ 0) × AllZip (IsUserExport s user) exports w.main.offered) ⊎ AreShimExports w at number exports ⊎ (number ≡ fixup_number w)
+
+-- the core instance is an instance of the module of this number
+pub record IsModuleInstance (w : ComponentWorld) (at : Option ShimsAt) (s : Store) (number address : ℕ) : Type 0 where
   pub exports : List Export
   pub user : ℕ
   pub present : slice_get s.core_instances address ≡ Some exports
   pub is : IsInstance s user number
   pub same : is.instance.exports ≡ exports
-  pub each : AllZip (IsUserExport s user) exports w.main.offered
+  pub each : AreModuleExports w at s user number exports
 
 -- the export is the entry's item under its name
 pub record IsNamedEntry (things : List Thing) (e : CoreInlineExport) (x : Export) : Type 0 where
@@ -97,15 +128,6 @@ pub record IsInlineInstance (things : List Thing) (s : Store) (entries : List Co
   pub exports : List Export
   pub present : slice_get s.core_instances address ≡ Some exports
   pub each : AllZip (IsNamedEntry things) entries exports
-
--- a lowering of the import at this index, of the core type of its type
-pub record IsLoweredItem (things : List Thing) (s : Store) (function address : ℕ) : Type 0 where
-  pub of : ℕ
-  pub origin : Origin
-  pub type : FunctionTree
-  pub at : address_at spaces.Func function things ≡ Some of
-  pub imported : slice_get s.functions of ≡ Some (Imported origin type)
-  pub is : IsOpaqueOf s address (core_signature type []) (Lowering of [])
 
 -- the type at this index is this type of functions
 pub record IsTypeAt (things : List Thing) (s : Store) (kind : ℕ) (type : FunctionTree) : Type 0 where
@@ -135,6 +157,17 @@ IsHeldOption things (options.Callback index) (HeldCallback a) = address_at space
 IsHeldOption things options.Async HeldAsync = Unit {0}
 IsHeldOption things option held = ⊥
 
+-- a lowering of the import at this index, with these options, of the core type of its type
+pub record IsLoweredItem (things : List Thing) (s : Store) (function : ℕ) (written : List CanonicalOption) (address : ℕ) : Type 0 where
+  pub of : ℕ
+  pub origin : Origin
+  pub held : List HeldOption
+  pub type : FunctionTree
+  pub at : address_at spaces.Func function things ≡ Some of
+  pub imported : slice_get s.functions of ≡ Some (Imported origin type)
+  pub with_options : AllZip (IsHeldOption things) written held
+  pub is : IsOpaqueOf s address (core_signature type []) (Lowering of held)
+
 -- a lift of the core function at this index, with these options, of the type at this index
 pub record IsLiftedItem (things : List Thing) (s : Store) (core : ℕ) (written : List CanonicalOption) (kind address : ℕ) : Type 0 where
   pub of : ℕ
@@ -145,11 +178,18 @@ pub record IsLiftedItem (things : List Thing) (s : Store) (core : ℕ) (written 
   pub typed : IsTypeAt things s kind type
   pub is : slice_get s.functions address ≡ Some (Lifting of held type)
 
--- an alias of an export of an instance of main, of a kind that validation found
-pub record IsAliasedItem (w : ComponentWorld) (things : List Thing) (s : Store) (kind : ExportKind) (instance : ℕ) (name : List ℕ) (address : ℕ) : Type 0 where
+-- what an alias names of an instance of a module: an export of main, of a kind that validation found, or a shim
+pub record NamesUser (w : ComponentWorld) (number : ℕ) (kind : ExportKind) (name : List ℕ) : Type 0 where
+  pub number_is : number ≡ 0
   pub type : ExternType
   pub offered : found name w.main.offered ≡ Some type
   pub of_kind : IsOfKind kind type
+
+-- an alias of an export of a module's instance
+pub record IsAliasedItem (w : ComponentWorld) (ds : List Def) (things : List Thing) (s : Store) (kind : ExportKind) (instance : ℕ) (name : List ℕ) (address : ℕ) : Type 0 where
+  pub number : ℕ
+  pub of : IsInstanceOf ds instance number
+  pub names : NamesUser w number kind name ⊎ (number ≡ shims_number w)
   pub from : ℕ
   pub exports : List Export
   pub export : Export
@@ -159,23 +199,24 @@ pub record IsAliasedItem (w : ComponentWorld) (things : List Thing) (s : Store) 
   pub is : export.address ≡ address
 
 -- What is at the address of a definition's item. What types and functions are, the inventory of the list says.
-abbrev pub ItemIs : ComponentWorld → List Thing → Store → Item → ℕ → Type 0
-ItemIs w things s (items.CoreInstantiate number arguments) a = IsUserInstance w s number a
-ItemIs w things s (items.CoreExports entries) a = IsInlineInstance things s entries a
-ItemIs w things s (items.Alias (aliases.CoreExport kind instance name)) a = IsAliasedItem w things s kind instance name a
-ItemIs w things s (items.Lift core options kind) a = IsLiftedItem things s core options kind a
-ItemIs w things s (items.Lower function options) a = IsLoweredItem things s function a
-ItemIs w things s (items.Intrinsic (intrinsics.ResourceDrop type)) a = IsDropItem things s type a
-ItemIs w things s _ a = Unit {0}
+module _ (w : ComponentWorld) (shims : Option ShimsAt) (ds : List Def) (things : List Thing) (s : Store) where
+  abbrev pub ItemIs : Item → ℕ → Type 0
+  ItemIs (items.CoreInstantiate number arguments) a = IsModuleInstance w shims s number a
+  ItemIs (items.CoreExports entries) a = IsInlineInstance things s entries a
+  ItemIs (items.Alias (aliases.CoreExport kind instance name)) a = IsAliasedItem w ds things s kind instance name a
+  ItemIs (items.Lift core options kind) a = IsLiftedItem things s core options kind a
+  ItemIs (items.Lower function options) a = IsLoweredItem things s function options a
+  ItemIs (items.Intrinsic (intrinsics.ResourceDrop type)) a = IsDropItem things s type a
+  ItemIs _ a = Unit {0}
 
-abbrev pub DefIs : ComponentWorld → List Thing → Store → Def → ℕ → Type 0
-DefIs w things s (defs.Item i) a = ItemIs w things s i a
-DefIs w things s (defs.Component inner) a = Unit {0}
+  abbrev pub DefIs : Def → ℕ → Type 0
+  DefIs (defs.Item i) a = ItemIs i a
+  DefIs (defs.Component inner) a = Unit {0}
 
--- the item of a definition
-pub record Means (w : ComponentWorld) (things : List Thing) (s : Store) (d : Def) (t : Thing) : Type 0 where
-  pub space : space_of d ≡ Some t.space
-  pub is : DefIs w things s d t.address
+  -- the item of a definition
+  pub record Means (d : Def) (t : Thing) : Type 0 where
+    pub space : space_of d ≡ Some t.space
+    pub is : DefIs d t.address
 
 -- whether a definition makes an item
 abbrev pub makes : Def → Bool
@@ -209,45 +250,9 @@ pub record IsInstanceThing (s : Store) (e : InstanceEntry) (t : Thing) : Type 0 
   pub present : slice_get s.instances t.address ≡ Some exports
   pub is : IsInstanceEntry s.types s.functions e exports
 
--- the core function is a lowering of the import of this origin, which has this type
-pub record IsLoweringOf (s : Store) (address : ℕ) (origin : Origin) (type : FunctionTree) : Type 0 where
-  pub of : ℕ
-  pub is : IsOpaqueOf s address (core_signature type []) (Lowering of [])
-  pub imported : slice_get s.functions of ≡ Some (Imported origin type)
-
--- the core function is a lowering of this function of the world
-pub record IsLoweredFor (w : ComponentWorld) (s : Store) (address : ℕ) (function : WorldFunction) : Type 0 where
-  pub origin : Origin
-  pub type : FunctionTree
-  pub from : IsOriginOf w function origin
-  pub typed : IsTypeOf w function type
-  pub lowered : IsLoweringOf s address origin type
-
--- the core function is the drop of handles of this resource
-pub record IsDropOf (s : Store) (address : ℕ) (resource : Resource) : Type 0 where
-  pub of : ℕ
-  pub is : IsOpaqueOf s address drop_core (IntrinsicOf (intrinsics.ResourceDrop of))
-  pub held : IsHeldAs s.types (OfValues (ResourceAt resource)) of
-
--- the core function is what the target names
-abbrev pub IsServedAs : ComponentWorld → Store → ℕ → Target → Type 0
-IsServedAs w s address (Lowered function []) = IsLoweredFor w s address function
-IsServedAs w s address (Dropped id) = IsDropOf s address (resource_of w id)
-IsServedAs w s address target = ⊥
-
 -- main, as a user module
 abbrev pub main_module : ComponentWorld → WorldModule
 main_module w = record { of = Main; found = w.main }
-
--- what an import of main is given, by the link table
-pub record IsPlanned (w : ComponentWorld) (s : Store) (t : Thing) (i : ImportType) : Type 0 where
-  pub target : Target
-  pub said : link_at w (main_module w) i.module_name i.field ≡ Some target
-  pub space : t.space ≡ spaces.CoreFunc
-  pub serves : IsServedAs w s t.address target
-
-abbrev pub IsPlannedUser : ComponentWorld → Store → ModuleInstance → Type 0
-IsPlannedUser w s u = AllZip (IsPlanned w s) u.given w.main.imported
 
 -- the core function is main's export of this name
 pub record IsMainExport (s : Store) (address : ℕ) (name : List ℕ) : Type 0 where
@@ -285,6 +290,93 @@ IsOptionHeld w s (HeldPostReturn a) (targets.PostReturn export_ref) = IsOptionFu
 IsOptionHeld w s (HeldCallback a) (targets.Callback export_ref) = IsOptionFunction s a export_ref
 IsOptionHeld w s HeldAsync targets.Async = Unit {0}
 IsOptionHeld w s held option = ⊥
+
+-- the core function is a lowering of the import of this origin, which has this type, with these options
+pub record IsLoweringOf (s : Store) (address : ℕ) (origin : Origin) (type : FunctionTree) (held : List HeldOption) : Type 0 where
+  pub of : ℕ
+  pub is : IsOpaqueOf s address (core_signature type []) (Lowering of held)
+  pub imported : slice_get s.functions of ≡ Some (Imported origin type)
+
+-- the core function is a lowering of this function of the world, with these options
+pub record IsLoweredFor (w : ComponentWorld) (s : Store) (address : ℕ) (function : WorldFunction) (options : List TargetOption) : Type 0 where
+  pub origin : Origin
+  pub type : FunctionTree
+  pub held : List HeldOption
+  pub from : IsOriginOf w function origin
+  pub typed : IsTypeOf w function type
+  pub lowered : IsLoweringOf s address origin type held
+  pub with_options : AllZip (IsOptionHeld w s) held options
+
+-- the core function is the drop of handles of this resource
+pub record IsDropOf (s : Store) (address : ℕ) (resource : Resource) : Type 0 where
+  pub of : ℕ
+  pub is : IsOpaqueOf s address drop_core (IntrinsicOf (intrinsics.ResourceDrop of))
+  pub held : IsHeldAs s.types (OfValues (ResourceAt resource)) of
+
+-- the core function is what the target names
+abbrev pub IsServedAs : ComponentWorld → Store → ℕ → Target → Type 0
+IsServedAs w s address (Lowered function options) = IsLoweredFor w s address function options
+IsServedAs w s address (Dropped id) = IsDropOf s address (resource_of w id)
+IsServedAs w s address target = ⊥
+
+-- the core function is a shim that stands for what an import of this role is to be given
+pub record IsShimGivenAt (w : ComponentWorld) (at : ShimsAt) (address : ℕ) (role : Import) : Type 0 where
+  pub place : ℕ
+  pub shim : Shim
+  pub listed : slice_get (shims_of w) place ≡ Some shim
+  pub stands_for : IsShimOf w shim role
+  pub is : address ≡ at.address + place
+
+abbrev pub IsShimGiven : ComponentWorld → Option ShimsAt → ℕ → Import → Type 0
+IsShimGiven w None address role = ⊥
+IsShimGiven w (Some at) address role = IsShimGivenAt w at address role
+
+-- it is what an import of this role is to be given, or a shim for it
+abbrev pub Serves : ComponentWorld → Option ShimsAt → Store → ℕ → Import → Type 0
+Serves w shims s address role = IsServedAs w s address (link_of w Main role) ⊎ IsShimGiven w shims address role
+
+-- what an import of main is given, by the link table
+pub record IsPlanned (w : ComponentWorld) (shims : Option ShimsAt) (s : Store) (t : Thing) (i : ImportType) : Type 0 where
+  pub role : Import
+  pub said : link_at w (main_module w) i.module_name i.field ≡ Some (link_of w Main role)
+  pub space : t.space ≡ spaces.CoreFunc
+  pub serves : Serves w shims s t.address role
+
+-- an instance of main is given all that it imports
+abbrev pub IsPlannedUser : ComponentWorld → Option ShimsAt → Store → ModuleInstance → Type 0
+IsPlannedUser w shims s u = u.module_number ≡ 0 → AllZip (IsPlanned w shims s) u.given w.main.imported
+
+-- ---- the shims
+
+-- the function of a slot is what the shim of its place stands for
+pub record IsFilledWith (w : ComponentWorld) (s : Store) (shim : Shim) (function : ℕ) : Type 0 where
+  pub role : Import
+  pub stands_for : IsShimOf w shim role
+  pub serves : IsServedAs w s function (link_of w Main role)
+
+-- each slot of the table holds one
+pub record AreFilled (w : ComponentWorld) (s : Store) (table : ℕ) : Type 0 where
+  pub functions : List ℕ
+  pub slots : slice_get s.code.tables table ≡ Some (map (λ f. Some f) functions)
+  pub each : AllZip (IsFilledWith w s) (shims_of w) functions
+
+-- an instance of the module of shims exports those that are here
+abbrev pub ExportsShims : ComponentWorld → ShimsAt → ModuleInstance → Type 0
+ExportsShims w at i = i.module_number ≡ shims_number w → i.exports ≡ instance_exports (shims_of w) at.address at.table
+
+-- The instance of the shims is made, where these modules are instantiated. Its slots are empty until the fixup is, and then
+-- hold what the shims stand for.
+pub record AreShims (w : ComponentWorld) (s : Store) (numbers : List ℕ) (at : ShimsAt) : Type 0 where
+  pub there : Contains numbers (shims_number w)
+  pub room : length (shims_of w) < 2 ^ 32
+  pub made : AreShimsFrom s.code at.table 0 at.address (shims_of w)
+  pub exported : AllByRecursion (ExportsShims w at) s.module_instances
+  pub unfilled : (Contains numbers (fixup_number w) → ⊥) → slice_get s.code.tables at.table ≡ Some (empty_table (length (shims_of w)))
+  pub filled : Contains numbers (fixup_number w) → AreFilled w s at.table
+
+abbrev pub MayHaveShims : ComponentWorld → Store → List ℕ → Option ShimsAt → Type 0
+MayHaveShims w s numbers None = Contains numbers (shims_number w) → ⊥
+MayHaveShims w s numbers (Some at) = AreShims w s numbers at
 
 -- the function is lifted from main's export of this name, with these options and this type
 pub record IsLiftedFrom (w : ComponentWorld) (s : Store) (address : ℕ) (name : List ℕ) (options : List TargetOption) (type : FunctionTree) : Type 0 where
@@ -325,13 +417,15 @@ NumberedFrom k (t ∷ ts) n = (t.address ≡ k) × NumberedFrom (suc k) ts n
 
 -- the scope and the store are what these definitions make
 pub record Agrees (w : ComponentWorld) (earlier : List Def) (c : Scope) (s : Store) : Type 0 where
-  pub means : AllZip (Means w c.items s) (filter makes earlier) c.items
+  pub shims : Option ShimsAt
+  pub means : AllZip (Means w shims earlier c.items s) (filter makes earlier) c.items
   pub types : AllZip (IsTypeEntry s) (inventory earlier).types (filter (is_of spaces.Type) c.items)
   pub functions : AllZip (IsFunctionEntry s) (inventory earlier).functions (filter (is_of spaces.Func) c.items)
   pub instances : AllZip (IsInstanceThing s) (inventory earlier).instances (filter (is_of spaces.Instance) c.items)
   pub modules : NumberedFrom 0 (filter (is_of spaces.CoreModule) c.items) (length s.core_modules)
   pub instantiated : map (λ (u : ModuleInstance). u.module_number) s.module_instances ≡ flat_map (at_root item_instantiates) earlier
-  pub served : AllByRecursion (IsPlannedUser w s) s.module_instances
+  pub served : AllByRecursion (IsPlannedUser w shims s) s.module_instances
+  pub with_shims : MayHaveShims w s (flat_map (at_root item_instantiates) earlier) shims
   pub exports : map (λ (e : Export). e.name) c.exports ≡ flat_map def_export earlier
   pub lifted : AllByRecursion (IsLiftedExport w s) c.exports
   pub imports : c.imports ≡ imports_in earlier
@@ -352,6 +446,19 @@ pub address_at-append : (a more : List Thing) (space : Space) (i x : ℕ) → ad
 address_at-append a more space i x e =
     let m : (t : Thing) × (slice_get (filter (is_of space) a) i ≡ Some t) × (t.address ≡ x) = mapped_some (λ (t : Thing). t.address) (slice_get (filter (is_of space) a) i) x e in
     rw (filter-append (is_of space) a more, slice_get-append (filter (is_of space) a) (filter (is_of space) more) i m.0 m.1) (ap (λ (n : ℕ). Some n) m.2)
+
+-- all stays as it is
+pub keeps_all : (items : List Thing) (s : Store) → Keeps items items s s
+keeps_all items s = record {
+  things = λ space i x e. e;
+  code = keeps_same refl;
+  known = keeps_same refl;
+  core_instances = keeps_same refl;
+  functions = keeps_same refl;
+  types = keeps_same refl;
+  instances = keeps_same refl;
+  users = keeps_same refl;
+}
 
 -- ---- a scope with one item more, and a store with at most one entry more
 
@@ -433,6 +540,23 @@ module _ (items : List Thing) (t : Thing) (s : Store) where
 
 -- ---- what is kept
 
+-- the shims are where they were, or there were none
+abbrev pub ShimsKept : Option ShimsAt → Option ShimsAt → Type 0
+ShimsKept None new = Unit {0}
+ShimsKept (Some at) new = new ≡ Some at
+
+pub shims_same : (shims : Option ShimsAt) → ShimsKept shims shims
+shims_same None = tt
+shims_same (Some at) = refl
+
+IsShimGiven-kept : (w : ComponentWorld) (old new : Option ShimsAt) → ShimsKept old new → (address : ℕ) (role : Import) → IsShimGiven w old address role → IsShimGiven w new address role
+IsShimGiven-kept w None new same address role h = absurd h
+IsShimGiven-kept w (Some at) new same address role h = subst (λ o. IsShimGiven w o address role) (sym same) h
+
+shim_exports-kept : (w : ComponentWorld) (old new : Option ShimsAt) → ShimsKept old new → (number : ℕ) (exports : List Export) → AreShimExports w old number exports → AreShimExports w new number exports
+shim_exports-kept w None new same number exports h = absurd h
+shim_exports-kept w (Some at) new same number exports h = subst (λ o. AreShimExports w o number exports) (sym same) h
+
 module _ {a b : List Thing} {s t : Store} (k : Keeps a b s t) where
   pub IsInstance-kept : {user number : ℕ} → IsInstance s user number → IsInstance t user number
   IsInstance-kept {user} h = record { instance = h.instance; present = k.users.at user h.instance h.present; of = h.of }
@@ -467,17 +591,8 @@ module _ {a b : List Thing} {s t : Store} (k : Keeps a b s t) where
   entry-kept : (e : CoreInlineExport) (x : Export) → IsNamedEntry a e x → IsNamedEntry b e x
   entry-kept e x h = record { named = h.named; space = h.space; at = k.things (kind_space e.kind) e.index x.address h.at }
 
-  IsLoweringOf-kept : (address : ℕ) (origin : Origin) (type : FunctionTree) → IsLoweringOf s address origin type → IsLoweringOf t address origin type
-  IsLoweringOf-kept address origin type h = record { of = h.of; is = IsOpaque-kept h.is; imported = k.functions.at h.of (Imported origin type) h.imported }
-
-  IsServedAs-kept : (w : ComponentWorld) (address : ℕ) (target : Target) → IsServedAs w s address target → IsServedAs w t address target
-  IsServedAs-kept w address (Lowered function []) h =
-      record { origin = h.origin; type = h.type; from = h.from; typed = h.typed; lowered = IsLoweringOf-kept address h.origin h.type h.lowered }
-  IsServedAs-kept w address (Dropped id) h = record { of = h.of; is = IsOpaque-kept h.is; held = IsHeldAs-kept k.types (OfValues (ResourceAt (resource_of w id))) h.of h.held }
-  IsServedAs-kept w address target h = absurd h
-
-  pub IsPlanned-kept : (w : ComponentWorld) (x : Thing) (i : ImportType) → IsPlanned w s x i → IsPlanned w t x i
-  IsPlanned-kept w x i h = record { target = h.target; said = h.said; space = h.space; serves = IsServedAs-kept w x.address h.target h.serves }
+  IsLoweringOf-kept : (address : ℕ) (origin : Origin) (type : FunctionTree) (held : List HeldOption) → IsLoweringOf s address origin type held → IsLoweringOf t address origin type held
+  IsLoweringOf-kept address origin type held h = record { of = h.of; is = IsOpaque-kept h.is; imported = k.functions.at h.of (Imported origin type) h.imported }
 
   pub IsMainExport-kept : {address : ℕ} {name : List ℕ} → IsMainExport s address name → IsMainExport t address name
   IsMainExport-kept {address} {name} h = record { user = h.user; type = h.type; is = IsOpaque-kept h.is; of = IsInstance-kept h.of }
@@ -495,6 +610,49 @@ module _ {a b : List Thing} {s t : Store} (k : Keeps a b s t) where
   IsOptionHeld-kept w (HeldCallback a) (targets.Callback export_ref) h = IsOptionFunction-kept h
   IsOptionHeld-kept w held o h = h
 
+  pub IsServedAs-kept : (w : ComponentWorld) (address : ℕ) (target : Target) → IsServedAs w s address target → IsServedAs w t address target
+  IsServedAs-kept w address (Lowered function options) h = record {
+    origin = h.origin;
+    type = h.type;
+    held = h.held;
+    from = h.from;
+    typed = h.typed;
+    lowered = IsLoweringOf-kept address h.origin h.type h.held h.lowered;
+    with_options = AllZip-weaker (IsOptionHeld-kept w) h.held options h.with_options;
+  }
+  IsServedAs-kept w address (Dropped id) h = record { of = h.of; is = IsOpaque-kept h.is; held = IsHeldAs-kept k.types (OfValues (ResourceAt (resource_of w id))) h.of h.held }
+  IsServedAs-kept w address target h = absurd h
+
+  Serves-kept : (w : ComponentWorld) (old new : Option ShimsAt) → ShimsKept old new → (address : ℕ) (role : Import) → Serves w old s address role → Serves w new t address role
+  Serves-kept w old new same address role (inl h) = inl (IsServedAs-kept w address (link_of w Main role) h)
+  Serves-kept w old new same address role (inr h) = inr (IsShimGiven-kept w old new same address role h)
+
+  pub IsPlanned-kept : (w : ComponentWorld) (old new : Option ShimsAt) → ShimsKept old new → (x : Thing) (i : ImportType) → IsPlanned w old s x i → IsPlanned w new t x i
+  IsPlanned-kept w old new same x i h = record { role = h.role; said = h.said; space = h.space; serves = Serves-kept w old new same x.address h.role h.serves }
+
+  pub IsFilledWith-kept : (w : ComponentWorld) (shim : Shim) (function : ℕ) → IsFilledWith w s shim function → IsFilledWith w t shim function
+  IsFilledWith-kept w shim function h = record { role = h.role; stands_for = h.stands_for; serves = IsServedAs-kept w function (link_of w Main h.role) h.serves }
+
+  -- the shims, where the tables are kept too, and no instance is new but those of modules of other numbers
+  pub AreShims-kept : (w : ComponentWorld) (numbers more : List ℕ) (at : ShimsAt) → KeepsEntries s.code.tables t.code.tables → (Contains (numbers ++ more) (fixup_number w) → Contains numbers (fixup_number w)) →
+      AllByRecursion (ExportsShims w at) t.module_instances → AreShims w s numbers at → AreShims w t (numbers ++ more) at
+  AreShims-kept w numbers more at tables no_fixup exported h = record {
+    there = Contains-append_left numbers more (shims_number w) h.there;
+    room = h.room;
+    made = shims_kept s.code t.code k.code.at at.table 0 at.address (shims_of w) h.made;
+    exported = exported;
+    unfilled = λ no. tables.at at.table (empty_table (length (shims_of w))) (h.unfilled (λ yes. no (Contains-append_left numbers more (fixup_number w) yes)));
+    filled = λ yes.
+        let f : AreFilled w s at.table = h.filled (no_fixup yes) in
+        record { functions = f.functions; slots = tables.at at.table (map (λ f. Some f) f.functions) f.slots; each = AllZip-weaker (IsFilledWith-kept w) (shims_of w) f.functions f.each };
+  }
+
+  pub MayHaveShims-kept : (w : ComponentWorld) (numbers more : List ℕ) (shims : Option ShimsAt) → KeepsEntries s.code.tables t.code.tables →
+      (Contains (numbers ++ more) (shims_number w) → Contains numbers (shims_number w)) → (Contains (numbers ++ more) (fixup_number w) → Contains numbers (fixup_number w)) →
+      ((at : ShimsAt) → AllByRecursion (ExportsShims w at) s.module_instances → AllByRecursion (ExportsShims w at) t.module_instances) → MayHaveShims w s numbers shims → MayHaveShims w t (numbers ++ more) shims
+  MayHaveShims-kept w numbers more None tables no_shims no_fixup exported h = λ yes. h (no_shims yes)
+  MayHaveShims-kept w numbers more (Some at) tables no_shims no_fixup exported h = AreShims-kept w numbers more at tables no_fixup (exported at h.exported) h
+
   pub IsLiftedFrom-kept : {w : ComponentWorld} {address : ℕ} {name : List ℕ} {options : List TargetOption} {type : FunctionTree} → IsLiftedFrom w s address name options type → IsLiftedFrom w t address name options type
   IsLiftedFrom-kept {w} {address} {name} {options} {type} h = record {
     core = h.core;
@@ -511,24 +669,29 @@ module _ {a b : List Thing} {s t : Store} (k : Keeps a b s t) where
   IsHeldOption-kept (options.Callback index) (HeldCallback x) h = k.things spaces.CoreFunc index x h
   IsHeldOption-kept o held h = h
 
-module _ (w : ComponentWorld) {a b : List Thing} {s t : Store} (k : Keeps a b s t) where
-  instance-kept : (number address : ℕ) → IsUserInstance w s number address → IsUserInstance w t number address
+module _ (w : ComponentWorld) (old new : Option ShimsAt) (shims : ShimsKept old new) (ds es : List Def) (defined : (index number : ℕ) → IsInstanceOf ds index number → IsInstanceOf es index number) {a b : List Thing} {s t : Store} (k : Keeps a b s t) where
+  module_exports-kept : (user number : ℕ) (exports : List Export) → AreModuleExports w old s user number exports → AreModuleExports w new t user number exports
+  module_exports-kept user number exports (inl h) = inl (h.0, AllZip-weaker (exports-kept k user) exports w.main.offered h.1)
+  module_exports-kept user number exports (inr (inl h)) = inr (inl (shim_exports-kept w old new shims number exports h))
+  module_exports-kept user number exports (inr (inr h)) = inr (inr h)
+
+  instance-kept : (number address : ℕ) → IsModuleInstance w old s number address → IsModuleInstance w new t number address
   instance-kept number address h = record {
     exports = h.exports;
     user = h.user;
     present = k.core_instances.at address h.exports h.present;
     is = record { instance = h.is.instance; present = k.users.at h.user h.is.instance h.is.present; of = h.is.of };
     same = h.same;
-    each = AllZip-weaker (exports-kept k h.user) h.exports w.main.offered h.each;
+    each = module_exports-kept h.user number h.exports h.each;
   }
 
-  item-kept : (i : Item) (x : ℕ) → ItemIs w a s i x → ItemIs w b t i x
+  item-kept : (i : Item) (x : ℕ) → ItemIs w old ds a s i x → ItemIs w new es b t i x
   item-kept (items.CoreInstantiate number arguments) x h = instance-kept number x h
   item-kept (items.CoreExports entries) x h = record { exports = h.exports; present = k.core_instances.at x h.exports h.present; each = AllZip-weaker (entry-kept k) entries h.exports h.each }
   item-kept (items.Alias (aliases.CoreExport kind instance name)) x h = record {
-    type = h.type;
-    offered = h.offered;
-    of_kind = h.of_kind;
+    number = h.number;
+    of = defined instance h.number h.of;
+    names = h.names;
     from = h.from;
     exports = h.exports;
     export = h.export;
@@ -549,23 +712,26 @@ module _ (w : ComponentWorld) {a b : List Thing} {s t : Store} (k : Keeps a b s 
   item-kept (items.Lower function options) x h = record {
     of = h.of;
     origin = h.origin;
+    held = h.held;
     type = h.type;
     at = k.things spaces.Func function h.of h.at;
     imported = k.functions.at h.of (Imported h.origin h.type) h.imported;
+    with_options = AllZip-weaker (IsHeldOption-kept k) options h.held h.with_options;
     is = IsOpaque-kept k h.is;
   }
   item-kept (items.Intrinsic (intrinsics.ResourceDrop type)) x h = record { of = h.of; at = k.things spaces.Type type h.of h.at; is = IsOpaque-kept k h.is }
   item-kept _ x h = tt
 
-  def-kept : (d : Def) (x : ℕ) → DefIs w a s d x → DefIs w b t d x
+  def-kept : (d : Def) (x : ℕ) → DefIs w old ds a s d x → DefIs w new es b t d x
   def-kept (defs.Item i) x h = item-kept i x h
   def-kept (defs.Component inner) x h = tt
 
-  pub Means-kept : (d : Def) (x : Thing) → Means w a s d x → Means w b t d x
+  pub Means-kept : (d : Def) (x : Thing) → Means w old ds a s d x → Means w new es b t d x
   Means-kept d x h = record { space = h.space; is = def-kept d x.address h.is }
 
-  pub IsPlannedUser-kept : (u : ModuleInstance) → IsPlannedUser w s u → IsPlannedUser w t u
-  IsPlannedUser-kept u h = AllZip-weaker (IsPlanned-kept k w) u.given w.main.imported h
+module _ (w : ComponentWorld) {a b : List Thing} {s t : Store} (k : Keeps a b s t) where
+  pub IsPlannedUser-kept : (old new : Option ShimsAt) → ShimsKept old new → (u : ModuleInstance) → IsPlannedUser w old s u → IsPlannedUser w new t u
+  IsPlannedUser-kept old new same u h is_main = AllZip-weaker (IsPlanned-kept k w old new same) u.given w.main.imported (h is_main)
 
   pub IsLiftedExport-kept : (e : Export) → IsLiftedExport w s e → IsLiftedExport w t e
   IsLiftedExport-kept e h = record {

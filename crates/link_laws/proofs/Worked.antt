@@ -1,6 +1,6 @@
 -- Worked examples: worlds, lists of definitions, and how running them ends.
 use Rattle.comp_links.specs.Naming.{own_names}
-use Rattle.std.proofs.Common.{◌≡◌, ℕ, zero, suc, List, [], ◌∷◌, refl, true, false, Option, Some, None, map, take, arith}
+use Rattle.std.proofs.Common.{inl, ◌≡◌, ℕ, zero, suc, List, [], ◌∷◌, refl, true, false, Option, Some, None, map, take, arith}
 use Rattle.std.specs.Option.{option_map}
 use Rattle.std.specs.List.{slice_get, flat_map}
 use Rattle.std.specs.Str.{bytes_eq}
@@ -383,7 +383,7 @@ f_offered = record {
   serves = record {
     entries = record { name = f; kind = kinds.Func; index = 0 } ∷ [];
     made = record { made = refl };
-    each = (record { named = refl; serves = record { term = terms.Lowering (root_import 0) plain_tree []; is = f_lowered; asked = ((refl, refl), f_typed, tt) }; encoded = λ e. refl }, tt);
+    each = (record { named = refl; serves = inl (record { term = terms.Lowering (root_import 0) plain_tree []; is = f_lowered; asked = ((refl, refl), f_typed, tt) }); encoded = λ e. refl }, tt);
   };
 }
 
@@ -413,6 +413,8 @@ one_apart name = (tt, tt)
 
 pub keeps_the_rules : IsBuilt own_names one_each one_import_one_export
 keeps_the_rules = record {
+  generated = None;
+  are_generated = tt;
   front = one_import_one_export;
   names = [];
   whole = refl;
@@ -423,13 +425,13 @@ keeps_the_rules = record {
       (
         tt,
         (
-          (record { origin = root_import 0; type = plain_tree; is = f_imported }, refl),
+          (record { origin = root_import 0; type = plain_tree; is = f_imported }, tt),
           (
             record { each = (record { kind = refl; scoped = omega arith }, tt); apart = one_apart f },
             (
-              record { of = main_module one_each; listed = refl; scoped = omega arith; each = (f_offered, tt) },
+              inl (record { of = main_module one_each; listed = refl; scoped = omega arith; each = (f_offered, tt) }),
               (
-                record { number = 0; of = main_module one_each; type = externs.Func plain_core; is = main_made 6 refl; listed = refl; offered = refl; of_kind = tt },
+                inl (record { number = 0; of = main_module one_each; type = externs.Func plain_core; is = main_made 6 refl; listed = refl; offered = refl; of_kind = tt }),
                 (
                   (omega arith, tt, record { type = plain_tree; is = function_typed_later }),
                   (record { key = keys.Name g; target = LiftedFrom (record { of = Main; name = g }) []; wit = record { name = g; kind = Freestanding; params = []; result = None }; named = refl; said = refl; exported = refl; lifted = g_lifted }, tt),

@@ -1,7 +1,10 @@
 -- A worked example: a world that imports two resources, of which main drops handles. Its list links, and with the two drops crossed
 -- it isn't linked.
+use Rattle.comp_worlds.specs.WorldContents.{items_of}
+use Rattle.wit_data.specs.Keys.{is_same_key}
+use Rattle.std.specs.Map.{keys_of}
 use Rattle.comp_links.specs.Naming.{own_names}
-use Rattle.std.proofs.Common.{◌≡◌, ℕ, zero, suc, false, List, [], ◌∷◌, ◌++◌, refl, sym, ap, subst, Some, None, map, take, IsTrue, arith}
+use Rattle.std.proofs.Common.{inl, ◌≡◌, ℕ, zero, suc, false, List, [], ◌∷◌, ◌++◌, refl, sym, ap, subst, Some, None, map, take, IsTrue, arith}
 use Rattle.std.proofs.lemmas.Option.{same_Some}
 use Rattle.std.specs.Prelude.{codes, Contains}
 use Rattle.std.specs.List.{IsDistinct}
@@ -121,12 +124,17 @@ each_imported zero h = (0, omega arith, refl)
 each_imported (suc zero) h = (1, omega arith, refl)
 each_imported (suc (suc n)) h = let l = h.present in absurd (omega (arith, l))
 
+keys_apart : IsDistinct is_same_key (keys_of (items_of world).imports)
+unfolding IsDistinct
+keys_apart = ((refl, tt), (tt, tt))
+
 is_world : IsWorld world
 unfolding values_from
 is_world = record {
   present = omega arith;
   imports = (tt, (tt, tt));
   exports = tt;
+  import_keys_apart = keys_apart;
   import_names_apart = none_apart;
   export_names_apart = none_apart;
   main = record {
@@ -208,16 +216,18 @@ pub not_true : {P : Type 0} → IsTrue false → P
 not_true e = cc
 
 r_given : IsEntryFor world Main (ds 6) (record { name = drop_r; kind = kinds.Func; index = 0 }) (drop_r, drop_of r 0)
-r_given = record { named = refl; serves = record { term = terms.Dropping (resource 0); is = r_dropped; asked = refl }; encoded = not_true }
+r_given = record { named = refl; serves = inl (record { term = terms.Dropping (resource 0); is = r_dropped; asked = refl }); encoded = not_true }
 
 s_given : IsEntryFor world Main (ds 6) (record { name = drop_s; kind = kinds.Func; index = 1 }) (drop_s, drop_of s 1)
-s_given = record { named = refl; serves = record { term = terms.Dropping (resource 1); is = s_dropped; asked = refl }; encoded = not_true }
+s_given = record { named = refl; serves = inl (record { term = terms.Dropping (resource 1); is = s_dropped; asked = refl }); encoded = not_true }
 
 both_given : IsArgumentFor world Main (ds 6) (record { name = root; instance = 0 }) (root, instances.Names fields)
 both_given = record { named = refl; serves = record { entries = entries; made = record { made = refl }; each = (r_given, (s_given, tt)) } }
 
 keeps_the_rules : IsBuilt own_names world (list_of 0 1)
 keeps_the_rules = record {
+  generated = None;
+  are_generated = tt;
   front = list_of 0 1;
   names = [];
   whole = refl;
@@ -233,7 +243,7 @@ keeps_the_rules = record {
             record { resource = resource 1; is = s_there },
             (
               record { each = (record { kind = refl; scoped = omega arith }, (record { kind = refl; scoped = omega arith }, tt)); apart = fields_apart },
-              (record { of = main_module world; listed = refl; scoped = omega arith; each = (both_given, tt) }, tt),
+              (inl (record { of = main_module world; listed = refl; scoped = omega arith; each = (both_given, tt) }), tt),
             ),
           ),
         ),
@@ -245,6 +255,7 @@ keeps_the_rules = record {
 }
 
 pub drops_link : Links own_names world no_modules (list_of 0 1)
+unfolding keeps_the_rules
 drops_link = links own_names world (list_of 0 1) is_world keeps_the_rules
 
 pub drops_are_linked : IsLinked own_names world no_modules (machine_of (outcome world no_modules (list_of 0 1) made))

@@ -1,7 +1,10 @@
 -- A worked example: a world that imports an interface of two resources, of which main drops handles. Its list links, and with the
 -- two aliases crossed it isn't linked.
+use Rattle.comp_worlds.specs.WorldContents.{items_of}
+use Rattle.wit_data.specs.Keys.{is_same_key}
+use Rattle.std.specs.Map.{keys_of}
 use Rattle.comp_links.specs.Naming.{own_names}
-use Rattle.std.proofs.Common.{◌≡◌, ℕ, false, List, [], ◌∷◌, ◌++◌, refl, sym, ap, subst, Some, None, map, take, arith}
+use Rattle.std.proofs.Common.{inl, ◌≡◌, ℕ, false, List, [], ◌∷◌, ◌++◌, refl, sym, ap, subst, Some, None, map, take, arith}
 use Rattle.std.proofs.lemmas.Option.{same_Some}
 use Rattle.std.specs.Prelude.{codes}
 use Rattle.std.specs.List.{IsDistinct}
@@ -112,12 +115,17 @@ fields_apart : IsDistinct bytes_eq (drop_s ∷ drop_r ∷ [])
 unfolding IsDistinct
 fields_apart = ((refl, tt), (tt, tt))
 
+keys_apart : IsDistinct is_same_key (keys_of (items_of world).imports)
+unfolding IsDistinct
+keys_apart = (tt, tt)
+
 is_world : IsWorld world
 unfolding values_from
 is_world = record {
   present = omega arith;
   imports = (tt, tt);
   exports = tt;
+  import_keys_apart = keys_apart;
   import_names_apart = none_apart;
   export_names_apart = none_apart;
   main = record {
@@ -211,11 +219,11 @@ r_dropped = record { type = 2; made = record { made = refl }; of = record { deno
 
 s_given : IsEntryFor world Main (ds 8) (record { name = drop_s; kind = kinds.Func; index = 0 }) (drop_s, drop_of 1)
 unfolding values_from
-s_given = record { named = refl; serves = record { term = terms.Dropping (resource s); is = s_dropped; asked = refl }; encoded = not_true }
+s_given = record { named = refl; serves = inl (record { term = terms.Dropping (resource s); is = s_dropped; asked = refl }); encoded = not_true }
 
 r_given : IsEntryFor world Main (ds 8) (record { name = drop_r; kind = kinds.Func; index = 1 }) (drop_r, drop_of 0)
 unfolding values_from
-r_given = record { named = refl; serves = record { term = terms.Dropping (resource r); is = r_dropped; asked = refl }; encoded = not_true }
+r_given = record { named = refl; serves = inl (record { term = terms.Dropping (resource r); is = r_dropped; asked = refl }); encoded = not_true }
 
 both_given : IsArgumentFor world Main (ds 8) (record { name = env; instance = 0 }) (env, instances.Names fields)
 both_given = record { named = refl; serves = record { entries = entries; made = record { made = refl }; each = (s_given, (r_given, tt)) } }
@@ -223,6 +231,8 @@ both_given = record { named = refl; serves = record { entries = entries; made = 
 keeps_the_rules : IsBuilt own_names world (list_of s r)
 unfolding values_from
 keeps_the_rules = record {
+  generated = None;
+  are_generated = tt;
   front = list_of s r;
   names = [];
   whole = refl;
@@ -242,7 +252,7 @@ keeps_the_rules = record {
                 record { resource = resource r; is = r_there },
                 (
                   record { each = (record { kind = refl; scoped = omega arith }, (record { kind = refl; scoped = omega arith }, tt)); apart = fields_apart },
-                  (record { of = main_module world; listed = refl; scoped = omega arith; each = (both_given, tt) }, tt),
+                  (inl (record { of = main_module world; listed = refl; scoped = omega arith; each = (both_given, tt) }), tt),
                 ),
               ),
             ),
@@ -256,6 +266,7 @@ keeps_the_rules = record {
 }
 
 pub drops_link : Links own_names world no_modules (list_of s r)
+unfolding keeps_the_rules
 drops_link = links own_names world (list_of s r) is_world keeps_the_rules
 
 pub drops_are_linked : IsLinked own_names world no_modules (machine_of (outcome world no_modules (list_of s r) made))

@@ -1,11 +1,12 @@
 -- A worked example: a world that exports a function of a text, with a post-return. Its lift has a memory, a realloc, a string
 -- encoding and the post-return; with the realloc and the post-return crossed the list runs to its end, but it isn't linked.
+use Rattle.comp_worlds.specs.WorldContents.{items_of}
+use Rattle.wit_data.specs.Keys.{is_same_key}
+use Rattle.std.specs.Map.{keys_of}
 use Rattle.comp_links.specs.Naming.{own_names}
-use Rattle.std.proofs.Common.{◌≡◌, ◌∙◌, ℕ, false, true, true≢false, List, [], ◌∷◌, ◌++◌, refl, sym, ap, subst, Some, None, map, take, arith}
+use Rattle.std.proofs.Common.{inl, ◌≡◌, ℕ, false, true, List, [], ◌∷◌, refl, subst, Some, None, map, take, arith}
 use Rattle.std.specs.Prelude.{codes}
-use Rattle.std.specs.List.{slice_get}
-use Rattle.std.specs.Str.{bytes_eq}
-use Rattle.std.proofs.lemmas.Option.{same_Some}
+use Rattle.std.specs.List.{slice_get, IsDistinct}
 use Rattle.standard_kinds.specs.declared.kinds.ExportKind.{ExportKind}
 use Rattle.standard_kinds.specs.declared.kinds.ExportKind.TheVariants as kinds
 use Rattle.standard_kinds.specs.declared.kinds.Primitive.TheVariants as primitives
@@ -42,14 +43,13 @@ use Rattle.comp_worlds.specs.declared.world.ComponentWorld.{ComponentWorld}
 use Rattle.comp_trees.specs.Trees.{PrimitiveOf, FunctionTree, is_known_function}
 use Rattle.comp_trees.specs.DefinedTrees.{function_tree}
 use Rattle.comp_trees.specs.Inventories.{inventory, scope_of}
-use Rattle.comp_links.specs.Links.{lift_of, lift_options}
+use Rattle.comp_links.specs.Links.{lift_of}
 use Rattle.comp_links.specs.Targets.{Main, ExportRef, TargetOption, Lifted}
 use Rattle.comp_links.specs.Targets as targets
 use Rattle.comp_terms.specs.Terms.{CoreExport, TermOption, IsInstanceOf, IsExported, IsFunctionType}
 use Rattle.comp_terms.specs.Terms as terms
 use Rattle.comp_terms.specs.Planned.{type_of_function, IsExportFor, IsLiftFor}
 use Rattle.comp_terms.specs.Rules.{IsBuilt, ExportsRequired}
-use Rattle.comp_runs.specs.Machine.{Machine}
 use Rattle.link_laws.specs.Linking.{outcome, IsLinked, Links}
 use Rattle.link_laws.proofs.Stores.{main_module}
 use Rattle.link_laws.proofs.Steps.{no_modules}
@@ -114,12 +114,17 @@ world = whole_of (record {
   can_use_context_slot_1 = false;
 })
 
+keys_apart : IsDistinct is_same_key (keys_of (items_of world).imports)
+unfolding IsDistinct
+keys_apart = tt
+
 is_world : IsWorld world
 unfolding values_from
 is_world = record {
   present = omega arith;
   imports = tt;
   exports = ((refl, tt), tt);
+  import_keys_apart = keys_apart;
   import_names_apart = none_apart;
   export_names_apart = one_apart g;
   main = record {
@@ -244,23 +249,25 @@ g_required = record {
 
 keeps_the_rules : IsBuilt own_names world (lifting right_options)
 keeps_the_rules = record {
+  generated = None;
+  are_generated = tt;
   front = lifting right_options;
   names = [];
   whole = refl;
   right = (
     tt,
     (
-      record { of = main_module world; listed = refl; scoped = omega arith; each = tt },
+      inl (record { of = main_module world; listed = refl; scoped = omega arith; each = tt }),
       (
-        record { number = 0; of = main_module world; type = externs.Memory memory_type; is = main_made 2 refl; listed = refl; offered = refl; of_kind = tt },
+        inl (record { number = 0; of = main_module world; type = externs.Memory memory_type; is = main_made 2 refl; listed = refl; offered = refl; of_kind = tt }),
         (
           type_known,
           (
-            record { number = 0; of = main_module world; type = externs.Func g_core; is = main_made 4 refl; listed = refl; offered = refl; of_kind = tt },
+            inl (record { number = 0; of = main_module world; type = externs.Func g_core; is = main_made 4 refl; listed = refl; offered = refl; of_kind = tt }),
             (
-              record { number = 0; of = main_module world; type = externs.Func r_core; is = main_made 5 refl; listed = refl; offered = refl; of_kind = tt },
+              inl (record { number = 0; of = main_module world; type = externs.Func r_core; is = main_made 5 refl; listed = refl; offered = refl; of_kind = tt }),
               (
-                record { number = 0; of = main_module world; type = externs.Func p_core; is = main_made 6 refl; listed = refl; offered = refl; of_kind = tt },
+                inl (record { number = 0; of = main_module world; type = externs.Func p_core; is = main_made 6 refl; listed = refl; offered = refl; of_kind = tt }),
                 (
                   (omega arith, (omega arith, (omega arith, (tt, (omega arith, tt)))), record { type = g_tree; is = typed_before }),
                   (g_required, tt),
@@ -277,6 +284,7 @@ keeps_the_rules = record {
 }
 
 pub list_links : Links own_names world no_modules (lifting right_options)
+unfolding keeps_the_rules
 list_links = links own_names world (lifting right_options) is_world keeps_the_rules
 
 pub list_is_linked : IsLinked own_names world no_modules (machine_of (outcome world no_modules (lifting right_options) made))

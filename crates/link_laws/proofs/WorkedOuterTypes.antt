@@ -1,7 +1,11 @@
 -- A worked example: a world that imports two interfaces, of which the second has a function of a record of the first. Its list, in
 -- which the second instance type has an outer alias of the record, links.
+use Rattle.std.specs.List.{IsDistinct}
+use Rattle.comp_worlds.specs.WorldContents.{items_of}
+use Rattle.wit_data.specs.Keys.{is_same_key}
+use Rattle.std.specs.Map.{keys_of}
 use Rattle.comp_links.specs.Naming.{own_names}
-use Rattle.std.proofs.Common.{◌≡◌, ◌+◌, ◌++◌, ℕ, false, List, [], ◌∷◌, refl, Some, map, length, take, arith}
+use Rattle.std.proofs.Common.{None, inl, ◌≡◌, ◌+◌, ◌++◌, ℕ, false, List, [], ◌∷◌, refl, Some, map, length, take, arith}
 use Rattle.std.specs.Prelude.{codes}
 use Rattle.standard_kinds.specs.declared.kinds.ExportKind.TheVariants as kinds
 use Rattle.standard_kinds.specs.declared.kinds.Primitive.TheVariants as primitives
@@ -24,12 +28,12 @@ use Rattle.core_runs.specs.Store.{Opaque, Instantiated}
 use Rattle.wit_data.specs.Values.{values_from}
 use Rattle.wit_data.specs.declared.worlds.WorldKey.TheVariants as keys
 use Rattle.comp_roles.specs.declared.imports.ImportInstance.TheVariants as instances
-use Rattle.comp_worlds.specs.Worlds.{IsPlain, IsWorld}
+use Rattle.comp_worlds.specs.Worlds.{IsWorld}
 use Rattle.comp_trees.specs.Trees.{Origin, Tree, PrimitiveOf, RecordOf, Nil, Cons, FunctionTree}
 use Rattle.comp_trees.specs.DefinedTrees.{TypeTree, OfValues, OfOthers}
 use Rattle.comp_trees.specs.Inventories.{inventory, surroundings_of}
 use Rattle.comp_trees.specs.Members.{AreMembersRight}
-use Rattle.comp_links.proofs.WorkedImports.{interface_id, f, p, v, x, from_u, wit_types, wit_f, f_core, f_role, core, world}
+use Rattle.comp_links.proofs.WorkedImports.{interface_id, f, p, v, x, from_u, wit_f, f_core, f_role, core, world}
 use Rattle.comp_links.specs.Targets.{Main, OfInterface}
 use Rattle.comp_terms.specs.Terms.{IsImportedFunction, IsLowering}
 use Rattle.comp_terms.specs.Terms as terms
@@ -45,16 +49,17 @@ use Rattle.link_laws.proofs.WorkedDrops.{none_apart}
 
 -- ---- the world is one
 
-f_plain : IsPlain wit_types wit_f
-unfolding values_from
-f_plain = record { kind = tt; imported = refl; exported = refl }
+keys_apart : IsDistinct is_same_key (keys_of (items_of world).imports)
+unfolding IsDistinct
+keys_apart = ((refl, tt), (tt, tt))
 
 is_world : IsWorld world
 unfolding values_from
 is_world = record {
   present = omega arith;
-  imports = (tt, (((refl, f_plain), tt), tt));
+  imports = (tt, (((refl, tt), tt), tt));
   exports = tt;
+  import_keys_apart = keys_apart;
   import_names_apart = none_apart;
   export_names_apart = none_apart;
   main = record {
@@ -178,7 +183,7 @@ f_given : IsEntryFor world Main (ds 9) (record { name = f; kind = kinds.Func; in
 unfolding values_from
 f_given = record {
   named = refl;
-  serves = record { term = terms.Lowering f_origin (f_tree x) []; is = f_lowered; asked = ((keys.Interface (interface_id 1), refl, refl), f_as_said, tt) };
+  serves = inl (record { term = terms.Lowering f_origin (f_tree x) []; is = f_lowered; asked = ((keys.Interface (interface_id 1), refl, refl), f_as_said, tt) });
   encoded = λ e. refl;
 }
 
@@ -188,6 +193,8 @@ f_offered = record { named = refl; serves = record { entries = record { name = f
 keeps_the_rules : IsBuilt own_names world (list_of [] 1)
 unfolding inventory values_from
 keeps_the_rules = record {
+  generated = None;
+  are_generated = tt;
   front = list_of [] 1;
   names = [];
   whole = refl;
@@ -206,10 +213,10 @@ keeps_the_rules = record {
               (
                 f_aliased,
                 (
-                  (record { origin = f_origin; type = f_tree x; is = f_imported }, refl),
+                  (record { origin = f_origin; type = f_tree x; is = f_imported }, tt),
                   (
                     record { each = (record { kind = refl; scoped = omega arith }, tt); apart = one_apart f },
-                    (record { of = main_module world; listed = refl; scoped = omega arith; each = (f_offered, tt) }, tt),
+                    (inl (record { of = main_module world; listed = refl; scoped = omega arith; each = (f_offered, tt) }), tt),
                   ),
                 ),
               ),
@@ -224,6 +231,7 @@ keeps_the_rules = record {
 }
 
 pub list_links : Links own_names world no_modules (list_of [] 1)
+unfolding keeps_the_rules
 list_links = links own_names world (list_of [] 1) is_world keeps_the_rules
 
 pub list_is_linked : IsLinked own_names world no_modules (machine_of (outcome world no_modules (list_of [] 1) made))

@@ -1,7 +1,10 @@
 -- A worked example: a world that imports two interfaces, of which the second uses a resource of the first. Its list links, and where
 -- the second instance has a resource of its own under that name it isn't linked.
+use Rattle.comp_worlds.specs.WorldContents.{items_of}
+use Rattle.wit_data.specs.Keys.{is_same_key}
+use Rattle.std.specs.Map.{keys_of}
 use Rattle.comp_links.specs.Naming.{own_names}
-use Rattle.std.proofs.Common.{◌≡◌, ◌∙◌, ◌++◌, ℕ, suc, false, List, [], ◌∷◌, refl, sym, ap, subst, Option, Some, None, map, take, arith}
+use Rattle.std.proofs.Common.{inl, ◌≡◌, ◌∙◌, ◌++◌, ℕ, suc, false, List, [], ◌∷◌, refl, sym, ap, subst, Option, Some, None, map, take, arith}
 use Rattle.std.proofs.lemmas.Option.{same_Some}
 use Rattle.std.specs.Prelude.{codes}
 use Rattle.std.specs.List.{IsDistinct}
@@ -42,7 +45,7 @@ use Rattle.comp_roles.specs.declared.offered.ExternType.TheVariants as externs
 use Rattle.comp_roles.specs.declared.offered.ImportType.{ImportType}
 use Rattle.comp_worlds.specs.Typed.{drop_type}
 use Rattle.comp_worlds.specs.WorldTables.{whole_of}
-use Rattle.comp_worlds.specs.Worlds.{IsPlain, IsWorld}
+use Rattle.comp_worlds.specs.Worlds.{IsWorld}
 use Rattle.comp_worlds.specs.declared.world.ComponentWorld.{ComponentWorld}
 use Rattle.comp_trees.specs.Trees.{Origin, Resource, ImportedAt, Tree, BorrowOf, ResourceAt, ParamTree, FunctionTree}
 use Rattle.comp_trees.specs.DefinedTrees.{TypeTree, OfValues, OfOthers}
@@ -114,20 +117,21 @@ world = whole_of (record {
   can_use_context_slot_1 = false;
 })
 
-f_plain : IsPlain wit_types wit_f
-unfolding values_from
-f_plain = record { kind = tt; imported = refl; exported = refl }
-
 modules_apart : IsDistinct bytes_eq (from_t ∷ from_u ∷ [])
 unfolding IsDistinct
 modules_apart = ((refl, tt), (tt, tt))
+
+keys_apart : IsDistinct is_same_key (keys_of (items_of world).imports)
+unfolding IsDistinct
+keys_apart = ((refl, tt), (tt, tt))
 
 is_world : IsWorld world
 unfolding values_from
 is_world = record {
   present = omega arith;
-  imports = (tt, (((refl, f_plain), tt), tt));
+  imports = (tt, (((refl, tt), tt), tt));
   exports = tt;
+  import_keys_apart = keys_apart;
   import_names_apart = none_apart;
   export_names_apart = none_apart;
   main = record {
@@ -261,13 +265,13 @@ f_as_said = record { wit = wit_f; imported = refl; typed = refl }
 
 drop_given : IsEntryFor world Main (ds 11) (record { name = drop_r; kind = kinds.Func; index = 0 }) (drop_r, drop_role)
 unfolding values_from
-drop_given = record { named = refl; serves = record { term = terms.Dropping (resource 0); is = r_dropped; asked = refl }; encoded = not_true }
+drop_given = record { named = refl; serves = inl (record { term = terms.Dropping (resource 0); is = r_dropped; asked = refl }); encoded = not_true }
 
 f_given : IsEntryFor world Main (ds 11) (record { name = f; kind = kinds.Func; index = 1 }) (f, f_role)
 unfolding values_from
 f_given = record {
   named = refl;
-  serves = record { term = terms.Lowering f_origin (f_tree 0) []; is = f_lowered; asked = ((keys.Interface (interface_id 1), refl, refl), f_as_said, tt) };
+  serves = inl (record { term = terms.Lowering f_origin (f_tree 0) []; is = f_lowered; asked = ((keys.Interface (interface_id 1), refl, refl), f_as_said, tt) });
   encoded = λ e. refl;
 }
 
@@ -280,15 +284,18 @@ from_u_given = record { named = refl; serves = record { entries = one_function f
 keeps_the_rules : IsBuilt own_names world (list_of shared)
 unfolding inventory values_from
 keeps_the_rules = record {
+  generated = None;
+  are_generated = tt;
   front = list_of shared;
   names = [];
   whole = refl;
-  right = (record { number = 0; right = resource_right }, (t_imported, (r_aliased, (record { number = 1; right = shared_right }, (u_imported, (tt, (record { resource = resource 0; is = r_there }, (f_aliased, ((record { origin = f_origin; type = f_tree 0; is = f_imported }, refl), (record { each = (record { kind = refl; scoped = omega arith }, tt); apart = one_apart drop_r }, (record { each = (record { kind = refl; scoped = omega arith }, tt); apart = one_apart f }, (record { of = main_module world; listed = refl; scoped = omega arith; each = (from_t_given, (from_u_given, tt)) }, tt))))))))))));
+  right = (record { number = 0; right = resource_right }, (t_imported, (r_aliased, (record { number = 1; right = shared_right }, (u_imported, (tt, (record { resource = resource 0; is = r_there }, (f_aliased, ((record { origin = f_origin; type = f_tree 0; is = f_imported }, tt), (record { each = (record { kind = refl; scoped = omega arith }, tt); apart = one_apart drop_r }, (record { each = (record { kind = refl; scoped = omega arith }, tt); apart = one_apart f }, (inl (record { of = main_module world; listed = refl; scoped = omega arith; each = (from_t_given, (from_u_given, tt)) }), tt))))))))))));
   marked = refl;
   named = tt;
 }
 
 pub shared_links : Links own_names world no_modules (list_of shared)
+unfolding keeps_the_rules
 shared_links = links own_names world (list_of shared) is_world keeps_the_rules
 
 pub shared_is_linked : IsLinked own_names world no_modules (machine_of (outcome world no_modules (list_of shared) made))
@@ -336,6 +343,7 @@ second_import = record { module_name = from_u; field = f; ty = externs.Func drop
 
 second_meets : (origins : TypeId → Resource) → IsServed world m origins (main_module world) (core_function 1) second_import →
     CoreMeets world m None 1 (ItemIsLowering world m origins (OfInterface (interface_id 1) f) [])
+unfolding values_from
 second_meets origins s = subst (Meets world m origins (core_function 1)) (same_Some s.target (Lowered (OfInterface (interface_id 1) f) []) (sym s.said)) s.meets
 
 pub separate_is_not_linked : IsLinked own_names world no_modules m → ⊥

@@ -129,7 +129,7 @@ pub record Ended : Type 0 where
   pub instances : List ModuleInstance
   pub events : List Event
 
-abbrev ended : Outcome → Option Ended
+abbrev pub ended : Outcome → Option Ended
 ended (Done m) = Some (record { code = m.store.code; known = m.store.known; functions = m.store.functions; instances = m.store.module_instances; events = m.now.events })
 ended outcome = None
 
@@ -143,7 +143,7 @@ shim_function slot = Generated frame plain_core [] (instructions.I32Const (pos s
 abbrev pub code_with : List (Option ℕ) → CodeStore
 code_with slots = record { functions = shim_function 0 ∷ shim_function 1 ∷ Opaque 0 plain_core ∷ Opaque 1 plain_core ∷ []; tables = slots ∷ []; memories = [] }
 
-abbrev table_at : ℕ → Thing
+abbrev pub table_at : ℕ → Thing
 table_at address = record { space = spaces.CoreTable; address = address }
 
 abbrev pub shims_instance : ModuleInstance

@@ -1,4 +1,8 @@
 -- A worked example: a world that imports a record and a function of it, and exports a function of a tuple.
+use Rattle.std.specs.List.{IsDistinct}
+use Rattle.comp_worlds.specs.WorldContents.{items_of}
+use Rattle.wit_data.specs.Keys.{is_same_key}
+use Rattle.std.specs.Map.{keys_of}
 use Rattle.std.proofs.Common.{◌≡◌, ℕ, zero, suc, false, List, [], ◌∷◌, ◌++◌, refl, Some, None, map, arith}
 use Rattle.std.specs.Prelude.{codes, Contains}
 use Rattle.standard_kinds.specs.declared.kinds.ExportKind.TheVariants as kinds
@@ -36,7 +40,7 @@ use Rattle.comp_roles.specs.declared.imports.Import.TheVariants as imports
 use Rattle.comp_roles.specs.declared.imports.ImportInstance.TheVariants as instances
 use Rattle.comp_roles.specs.declared.offered.ExternType.TheVariants as externs
 use Rattle.comp_worlds.specs.WorldTables.{whole_of}
-use Rattle.comp_worlds.specs.Worlds.{IsPlain, IsResource, IsWorld}
+use Rattle.comp_worlds.specs.Worlds.{IsResource, IsWorld}
 use Rattle.comp_worlds.specs.declared.world.ComponentWorld.{ComponentWorld}
 use Rattle.comp_trees.specs.Trees.{PrimitiveOf, RecordOf, TupleOf, Nil, Cons, FunctionTree}
 use Rattle.comp_runs.specs.Store.{Lowering, ExportedBy, Imported, Lifting}
@@ -103,22 +107,23 @@ world = whole_of (record {
 })
 
 -- no call of them needs an option
-f_plain : IsPlain wit_types wit_f
-unfolding values_from
-f_plain = record { kind = tt; imported = refl; exported = refl }
-
 -- none of the types is a resource
 no_resource : (n : ℕ) → IsResource wit_types n → Contains (0 ∷ []) n
 no_resource zero h = let k = h.kind in cc
 no_resource (suc zero) h = let k = h.kind in cc
 no_resource (suc (suc n)) h = let l = h.present in absurd (omega (arith, l))
 
+keys_apart : IsDistinct is_same_key (keys_of (items_of world).imports)
+unfolding IsDistinct
+keys_apart = ((refl, tt), (tt, tt))
+
 pub is_world : IsWorld world
 unfolding values_from
 is_world = record {
   present = omega arith;
-  imports = (tt, ((refl, f_plain), tt));
+  imports = (tt, ((refl, tt), tt));
   exports = ((refl, tt), tt);
+  import_keys_apart = keys_apart;
   import_names_apart = one_apart f;
   export_names_apart = one_apart g;
   main = record {

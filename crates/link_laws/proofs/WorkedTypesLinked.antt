@@ -1,7 +1,7 @@
 -- A worked example: the list with types keeps the rules, so that it links; with another type of its lift, or of its import, it
 -- does not.
 use Rattle.comp_links.specs.Naming.{own_names}
-use Rattle.std.proofs.Common.{◌≡◌, ◌∙◌, ℕ, Bool, true, false, true≢false, List, [], ◌∷◌, refl, sym, ap, subst, Option, Some, None, take, arith}
+use Rattle.std.proofs.Common.{inl, ◌≡◌, ◌∙◌, ℕ, Bool, true, false, true≢false, List, [], ◌∷◌, refl, sym, ap, subst, Option, Some, None, take, arith}
 use Rattle.std.proofs.lemmas.Option.{same_Some}
 use Rattle.std.specs.List.{slice_get}
 use Rattle.standard_kinds.specs.declared.kinds.ExportKind.TheVariants as kinds
@@ -76,12 +76,13 @@ unfolding values_from
 f_as_said = record { wit = wit_f; imported = refl; typed = refl }
 
 f_offered : IsArgumentFor world Main (ds 7) (record { name = root; instance = 0 }) (root, instances.Names ((f, imports.WorldFunc (keys.Name f) f GuestImport) ∷ []))
+unfolding values_from
 f_offered = record {
   named = refl;
   serves = record {
     entries = record { name = f; kind = kinds.Func; index = 0 } ∷ [];
     made = record { made = refl };
-    each = (record { named = refl; serves = record { term = terms.Lowering (root_import 1) f_tree []; is = f_lowered; asked = ((refl, refl), f_as_said, tt) }; encoded = λ e. refl }, tt);
+    each = (record { named = refl; serves = inl (record { term = terms.Lowering (root_import 1) f_tree []; is = f_lowered; asked = ((refl, refl), f_as_said, tt) }); encoded = λ e. refl }, tt);
   };
 }
 
@@ -135,19 +136,23 @@ g_required = record {
 
 keeps_the_rules : IsBuilt own_names world (typed_list 4)
 keeps_the_rules = record {
+  generated = None;
+  are_generated = tt;
   front = typed_list 4;
   names = [];
   whole = refl;
-  right = (refl, (p_imported, (f_known, (record { type = f_tree; is = f_typed }, (tt, ((record { origin = root_import 1; type = f_tree; is = f_imported }, refl), (record { each = (record { kind = refl; scoped = omega arith }, tt); apart = one_apart f }, (record { of = main_module world; listed = refl; scoped = omega arith; each = (f_offered, tt) }, (record { number = 0; of = main_module world; type = externs.Func g_core; is = main_made 8 refl; listed = refl; offered = refl; of_kind = tt }, (refl, (g_known, ((omega arith, tt, record { type = g_tree; is = g_typed }), (g_required, tt)))))))))))));
+  right = (refl, (p_imported, (f_known, (record { type = f_tree; is = f_typed }, (tt, ((record { origin = root_import 1; type = f_tree; is = f_imported }, tt), (record { each = (record { kind = refl; scoped = omega arith }, tt); apart = one_apart f }, (inl (record { of = main_module world; listed = refl; scoped = omega arith; each = (f_offered, tt) }), (inl (record { number = 0; of = main_module world; type = externs.Func g_core; is = main_made 8 refl; listed = refl; offered = refl; of_kind = tt }), (refl, (g_known, ((omega arith, tt, record { type = g_tree; is = g_typed }), (g_required, tt)))))))))))));
   marked = refl;
   named = tt;
 }
 
 -- so it is composed as the world says, and linked at its end
 pub typed_list_is_composed : IsComposed own_names world no_modules (typed_list 4)
+unfolding keeps_the_rules
 typed_list_is_composed = composed own_names world (typed_list 4) is_world keeps_the_rules
 
 pub typed_list_links : Links own_names world no_modules (typed_list 4)
+unfolding keeps_the_rules
 typed_list_links = links own_names world (typed_list 4) is_world keeps_the_rules
 
 pub typed_list_is_linked : IsLinked own_names world no_modules (machine_of (outcome world no_modules (typed_list 4) made))

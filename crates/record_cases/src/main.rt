@@ -9,7 +9,8 @@
 //! records have one fault each, or none. The modules are main modules of random worlds (the first 200 of at most
 //! 1,500 bytes by the generator's seeds), and 200 in which the bytes, or the record, were changed at one position; those of
 //! `roles.txt` have each role of core imports and exports with the type that it asks for and with others, all of them at once,
-//! each rule on them broken, roles of lesser versions, and roles of what the module does not import; those of `kinds.txt` have functions that are named
+//! each rule on them broken, roles of lesser versions, roles of what the module does not import, and imported functions whose
+//! parameters or results are passed in memory; those of `kinds.txt` have functions that are named
 //! as ones of a resource, without that resource, after it and before it; those of `versions.txt` import several versions of an interface, and those of `hostile.txt` are one module cut short at every offset, with and without its
 //! record, counts that nothing holds, a pair of names that occurs twice, records that are nested deep, are no JSON or a binary package; those
 //! of `encoded.txt` have root functions with parameters and results of each kind of type, types of the world, its resources

@@ -17,9 +17,12 @@ use Rattle.comp_worlds.specs.Worlds.{IsResource, IsWorld}
 use Rattle.comp_worlds.specs.WorldTables.{HasTables}
 use Rattle.comp_worlds.proofs.WholeTables.{whole_has_tables}
 use Rattle.comp_encoder.specs.Encoder.{main_bytes}
+use Rattle.wit_data.specs.Keys.{is_same_key}
 use Rattle.wit_data.specs.Values.{values_from}
 use Rattle.wit_data.specs.Sizes.{AreSmall}
 use Rattle.wit_data.specs.Sound.{IsSound}
+use Rattle.wit_data.specs.declared.worlds.WorldKey.{WorldKey}
+use Rattle.wit_data.specs.declared.worlds.WorldKey.TheVariants as keys
 use Rattle.stub_lower.specs.Stub.{stub_role, stub_resolve, stub_parts, stub_world, PrepareCause}
 use Rattle.stub_lower.specs.declared.stub.StubFault.{StubFault}
 use Rattle.stub_lower.specs.declared.stub.StubFault.TheVariants as faults
@@ -28,6 +31,10 @@ use Rattle.stub_lower.specs.declared.stub.StubLower.TheVariants as layers
 alone : (x : List ℕ) → IsDistinct bytes_eq (x ∷ [])
 unfolding IsDistinct
 alone x = (tt, tt)
+
+one_key : (key : WorldKey) → IsDistinct is_same_key (key ∷ [])
+unfolding IsDistinct
+one_key key = (tt, tt)
 
 none : IsDistinct bytes_eq []
 unfolding IsDistinct
@@ -65,8 +72,9 @@ valid_of : (bytes : List ℕ) → take 8 bytes ≡ core_preamble → IsWorld (st
 unfolding stub_parts stub_world
 valid_of bytes core = record {
   present = omega arith;
-  imports = ((refl, record { kind = tt; imported = refl; exported = refl }), tt);
+  imports = ((refl, tt), tt);
   exports = tt;
+  import_keys_apart = one_key (keys.Name (codes "f"));
   import_names_apart = alone (codes "f");
   export_names_apart = none;
   main = record {

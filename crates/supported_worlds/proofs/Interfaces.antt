@@ -1,6 +1,6 @@
--- An imported interface of which nothing is left out has plain functions alone.
+-- An imported interface of which nothing is left out has synchronous functions alone.
 use Rattle.std.proofs.Common.{rules, ◌≡◌, ◌<◌, ◌∙◌, ℕ, zero, suc, Bool, true, false, cond, ◌&&◌, List, [], ◌∷◌, map, length, Some, None, refl, sym, ap, subst, true≢false, arith}
-use Rattle.std.specs.Prelude.{◌==◌, nat_eq, slice_get, slice_index_or, option_map, Contains, IsSome, codes}
+use Rattle.std.specs.Prelude.{nat_eq, slice_get, slice_index_or, option_map, Contains, IsSome}
 use Rattle.std.specs.List.{AllByRecursion}
 use Rattle.std.specs.Map.{lookup}
 use Rattle.std.specs.Option.{option_and_then, unwrap_or}
@@ -9,40 +9,27 @@ use Rattle.std.proofs.lemmas.Option.{none-some, same_Some}
 use Rattle.std.proofs.lemmas.Slice.Eq.{bytes_eq-Decides}
 use Rattle.comp_lists.specs.Found.{found}
 use Rattle.wit_data.specs.Keys.{is_same_key}
-use Rattle.wit_data.specs.declared.functions.AbiVariant.TheVariants.{GuestImport, GuestExport}
 use Rattle.wit_data.specs.declared.functions.Function.{Function}
 use Rattle.wit_data.specs.declared.functions.FunctionKind.{FunctionKind}
 use Rattle.wit_data.specs.declared.functions.FunctionKind.TheVariants as functions
 use Rattle.wit_data.specs.declared.ids.InterfaceId.{InterfaceId}
 use Rattle.wit_data.specs.declared.resolve.Interface.{Interface}
 use Rattle.wit_data.specs.declared.resolve.Resolve.{Resolve}
-use Rattle.wit_data.specs.declared.types.TypeDef.{TypeDef}
 use Rattle.wit_data.specs.declared.worlds.WorldItem.{WorldItem}
 use Rattle.wit_data.specs.declared.worlds.WorldItem.TheVariants as items
 use Rattle.wit_data.specs.declared.worlds.WorldKey.{WorldKey}
 use Rattle.wit_data.specs.declared.worlds.WorldKey.TheVariants as keys
-use Rattle.comp_options.specs.Options.{import_set, export_set}
 use Rattle.world_values.specs.Items.{functions_of}
 use Rattle.world_values.specs.Mentions.{interface_in}
-use Rattle.comp_worlds.specs.Worlds.{IsSynchronous, IsPlain, IsNamedPlain}
+use Rattle.comp_worlds.specs.Worlds.{IsSynchronous, IsNamedFunction}
 use Rattle.record_resolve.specs.Resolved.{IsListed, AreListed}
-use Rattle.supported_worlds.specs.LeftOut.{kind_left_out, needs_no_option, unless, member_left_out, interface_left_out}
-use Rattle.supported_worlds.proofs.Lists.{nothing, at_front, after, neither, none_picked}
-use Rattle.supported_worlds.proofs.Order.{passes}
+use Rattle.supported_worlds.specs.LeftOut.{kind_left_out, interface_left_out}
+use Rattle.supported_worlds.proofs.Lists.{nothing, at_front, after, none_picked}
 
 abbrev Entries : Type 0
 Entries = List (WorldKey × WorldItem)
 
 -- ---- functions
-
-not_zero : (n : ℕ) → (suc n == 0) ≡ false
-not_zero n = Prim.search rules
-
--- both sets are empty
-no_options : (a b : ℕ) → (a == 0 && b == 0) ≡ true → (a ≡ 0) × (b ≡ 0)
-no_options zero zero h = (refl, refl)
-no_options zero (suc n) h = absurd (true≢false (sym h ∙ not_zero n))
-no_options (suc n) b h = absurd (true≢false (sym h ∙ ap (λ t. t && b == 0) (not_zero n)))
 
 pub synchronous : (kind : FunctionKind) → kind_left_out kind ≡ None → IsSynchronous kind
 synchronous functions.AsyncFreestanding h = nothing _ h
@@ -50,30 +37,19 @@ synchronous (functions.AsyncMethod id) h = nothing _ h
 synchronous (functions.AsyncStatic id) h = nothing _ h
 synchronous kind h = tt
 
--- a function of which nothing is left out, whatever it is called where something is
-pub plain : (types : List TypeDef) (f : Function) (what : List ℕ) → kind_left_out f.kind ≡ None → unless (needs_no_option types f) what ≡ None → IsPlain types f
-plain types f what kind options =
-    let sets = no_options (import_set GuestImport types f) (export_set GuestExport types f) (passes (needs_no_option types f) what options) in
-    record { kind = synchronous f.kind kind; imported = sets.0; exported = sets.1 }
-
 -- ---- functions of interfaces
 
-member : (types : List TypeDef) (e : List ℕ × Function) → member_left_out types e.1 ≡ None → IsListed e → IsNamedPlain types e
-member types e h listed =
-    let k = neither (kind_left_out e.1.kind) (unless (needs_no_option types e.1) (codes "interface-func")) h in
-    (sym listed, plain types e.1 (codes "interface-func") k.0 k.1)
-
-members : (types : List TypeDef) (fs : List (List ℕ × Function)) → AllByRecursion (λ e. member_left_out types e.1 ≡ None) fs → AllByRecursion IsListed fs → AllByRecursion (IsNamedPlain types) fs
-members types [] h listed = tt
-members types (f ∷ fs) h listed = (member types f h.0 listed.0, members types fs h.1 listed.1)
+named_functions : (fs : List (List ℕ × Function)) → AllByRecursion (λ e. kind_left_out e.1.kind ≡ None) fs → AllByRecursion IsListed fs → AllByRecursion IsNamedFunction fs
+named_functions [] h listed = tt
+named_functions (f ∷ fs) h listed = ((sym listed.0, synchronous f.1.kind h.0), named_functions fs h.1 listed.1)
 
 listed_at : (is : List Interface) (n : ℕ) → AllByRecursion AreListed is → AllByRecursion IsListed (unwrap_or (option_map (λ i. i.functions) (slice_get is n)) [])
 listed_at [] n h = tt
 listed_at (i ∷ is) zero h = let here = h.0 in here.functions
 listed_at (i ∷ is) (suc n) h = listed_at is n h.1
 
-pub plain_interface : (r : Resolve) (id : InterfaceId) → interface_left_out r id ≡ None → AllByRecursion AreListed r.interfaces → AllByRecursion (IsNamedPlain r.types) (functions_of r id)
-plain_interface r id h listed = members r.types (functions_of r id) (none_picked (λ e. member_left_out r.types e.1) (functions_of r id) h) (listed_at r.interfaces id.index listed)
+pub synchronous_interface : (r : Resolve) (id : InterfaceId) → interface_left_out r id ≡ None → AllByRecursion AreListed r.interfaces → AllByRecursion IsNamedFunction (functions_of r id)
+synchronous_interface r id h listed = named_functions (functions_of r id) (none_picked (λ e. kind_left_out e.1.kind) (functions_of r id) h) (listed_at r.interfaces id.index listed)
 
 -- ---- look-ups
 

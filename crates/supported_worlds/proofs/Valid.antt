@@ -35,7 +35,7 @@ use Rattle.world_values.specs.Items.{no_items, functions_of, function_in, root_f
 use Rattle.world_values.specs.Mentions.{interface_in}
 use Rattle.comp_worlds.specs.Typed.{post_return_type, type_of_import, type_of_export, FitsImport, FitsExport}
 use Rattle.comp_worlds.specs.WorldContents.{root_function, core_name_in}
-use Rattle.comp_worlds.specs.Worlds.{IsWorld, IsUserModule, IsPlain, IsImportItem, IsExportItem, IsResource, IsImportRole, IsImportGroup, IsExportRole, IsRequired}
+use Rattle.comp_worlds.specs.Worlds.{IsWorld, IsUserModule, IsImportItem, IsExportItem, IsResource, IsImportRole, IsImportGroup, IsExportRole, IsRequired}
 use Rattle.comp_worlds.specs.WorldTables.{whole_of}
 use Rattle.comp_worlds.specs.declared.world.WorldAdapter.{WorldAdapter}
 use Rattle.comp_worlds.specs.declared.world.WorldParts.{WorldParts}
@@ -44,12 +44,12 @@ use Rattle.record_core_types.specs.Asked.{imported_function, imported_interface,
 use Rattle.record_core_types.specs.Guarantees.{IsCalled, IsLifted, IsKept}
 use Rattle.record_resolve.specs.Resolved.{IsNamed, AreListed}
 use Rattle.supported_worlds.specs.Apart.{FieldsApart, AreApart}
-use Rattle.supported_worlds.specs.LeftOut.{items_of, kind_left_out, needs_no_option, unless, function_left_out, import_item_left_out, export_item_left_out, export_left_out}
+use Rattle.supported_worlds.specs.LeftOut.{items_of, import_item_left_out, export_item_left_out, export_left_out}
 use Rattle.supported_worlds.specs.Causes.{role_left_out}
 use Rattle.supported_worlds.specs.Placed.{places_of, is_resource, is_droppable}
 use Rattle.supported_worlds.specs.Guarantees.{HasFoundImport, OffersExport, HasSoundParts}
-use Rattle.supported_worlds.proofs.Interfaces.{synchronous, plain, plain_interface, other_key, entry_there, name_there as function_there, found_there}
-use Rattle.supported_worlds.proofs.Lists.{nothing, at_front, after, neither, none_picked}
+use Rattle.supported_worlds.proofs.Interfaces.{synchronous, synchronous_interface, other_key, entry_there, name_there as function_there, found_there}
+use Rattle.supported_worlds.proofs.Lists.{nothing, at_front, after, none_picked}
 use Rattle.supported_worlds.proofs.InPlace.{both, resource_kind}
 use Rattle.supported_worlds.proofs.Order.{passes}
 use Rattle.supported_worlds.proofs.Reporting.{group_out, IsEncoded}
@@ -59,18 +59,13 @@ Entries = List (WorldKey × WorldItem)
 
 -- ---- items
 
-root_function_plain : (types : List TypeDef) (f : Function) → function_left_out types f ≡ None → IsPlain types f
-root_function_plain types f h =
-    let both = neither (kind_left_out f.kind) (unless (needs_no_option types f) (codes "world-func")) h in
-    plain types f (codes "world-func") both.0 both.1
-
 import_item : (r : Resolve) (e : WorldKey × WorldItem) → import_item_left_out r e ≡ None → IsNamed e → AllByRecursion AreListed r.interfaces → IsImportItem r e
-import_item r (keys.Name text, items.Function f) h named listed = (sym named, root_function_plain r.types f h)
+import_item r (keys.Name text, items.Function f) h named listed = (sym named, synchronous f.kind h)
 import_item r (keys.Name text, items.NamedType id) h named listed = tt
-import_item r (keys.Name text, items.Interface id) h named listed = plain_interface r id h listed
+import_item r (keys.Name text, items.Interface id) h named listed = synchronous_interface r id h listed
 import_item r (keys.Interface other, items.Function f) h named listed = nothing _ h
 import_item r (keys.Interface other, items.NamedType id) h named listed = nothing _ h
-import_item r (keys.Interface other, items.Interface id) h named listed = plain_interface r id h listed
+import_item r (keys.Interface other, items.Interface id) h named listed = synchronous_interface r id h listed
 
 import_items : (r : Resolve) (es : Entries) → AllByRecursion (λ e. import_item_left_out r e ≡ None) es → AllByRecursion IsNamed es → AllByRecursion AreListed r.interfaces → AllByRecursion (IsImportItem r) es
 import_items r [] h named listed = tt
@@ -338,6 +333,7 @@ module _ (p : WorldParts) (present : HasSoundParts p) (encoded : IsEncoded p) (a
     present = present.present;
     imports = imports_are;
     exports = exports_are;
+    import_keys_apart = apart.items.imports;
     import_names_apart = names_apart (items_of p).imports apart.items.imports;
     export_names_apart = names_apart (items_of p).exports apart.items.exports;
     main = main_is;

@@ -1,7 +1,6 @@
 -- What is left out of some worlds, worked out.
-use Rattle.std.proofs.Common.{◌≡◌, ◌≢◌, ℕ, List, [], ◌∷◌, ◌++◌, map, Option, Some, None, refl}
+use Rattle.std.proofs.Common.{◌≡◌, ℕ, List, [], ◌∷◌, ◌++◌, map, Option, Some, None, refl}
 use Rattle.std.specs.Prelude.{codes, replicate}
-use Rattle.standard_kinds.specs.declared.kinds.Primitive.{Primitive as Prim}
 use Rattle.standard_kinds.specs.declared.kinds.Primitive.TheVariants as prims
 use Rattle.wit_data.specs.declared.functions.AbiVariant.TheVariants.{GuestImport, GuestExport, GuestImportAsync, GuestExportAsync}
 use Rattle.wit_data.specs.declared.functions.Function.{Function}
@@ -28,7 +27,7 @@ use Rattle.comp_roles.specs.declared.imports.ImportInstance.TheVariants as insta
 use Rattle.comp_roles.specs.declared.libraries.Item.{Item}
 use Rattle.comp_roles.specs.declared.libraries.MainOrAdapter.TheVariants as modules
 use Rattle.supported_worlds.specs.Kinds.{import_kind}
-use Rattle.supported_worlds.specs.LeftOut.{function_left_out, interface_left_out, world_left_out, twice_left_out, order_left_out, resources_left_out, import_left_out, export_left_out, group_left_out}
+use Rattle.supported_worlds.specs.LeftOut.{import_item_left_out, interface_left_out, world_left_out, twice_left_out, order_left_out, resources_left_out, import_left_out, export_left_out, group_left_out}
 use Rattle.supported_worlds.specs.Placed.{places_of}
 
 abbrev a_type : TypeId
@@ -60,13 +59,6 @@ function kind params result = record { name = codes "f"; kind = kind; params = m
 abbrev plain : Function
 plain = function Freestanding [] None
 
--- a function from a type to the same type, which is one of the resolve's or a primitive one
-abbrev of_kind : TypeDefKind → Option (List ℕ)
-of_kind kind = function_left_out (unnamed kind ∷ []) (function Freestanding (Id a_type ∷ []) (Some (Id a_type)))
-
-abbrev of_primitive : Prim → Option (List ℕ)
-of_primitive p = function_left_out [] (function Freestanding (Primitive p ∷ []) (Some (Primitive p)))
-
 abbrev f : WorldKey
 f = keys.Name (codes "f")
 
@@ -80,95 +72,49 @@ resolve_of types interfaces = record { interfaces = interfaces; types = types; w
 abbrev importing : List TypeId → World
 importing ids = record { imports = map (λ id. (keys.Name (codes "t"), items.NamedType id)) ids; exports = [] }
 
+-- what is left out of an imported function at the root
+abbrev of_root : List TypeDef → Function → Option (List ℕ)
+of_root types g = import_item_left_out (resolve_of types []) (f, items.Function g)
+
 -- ---- functions
 
-plain_is_encoded : function_left_out [] plain ≡ None
+plain_is_encoded : of_root [] plain ≡ None
 plain_is_encoded = refl
 
--- each primitive type but a text
-simple_is_encoded : (p : Prim) → p ≢ prims.«String» → of_primitive p ≡ None
-simple_is_encoded prims.«Bool» h = refl
-simple_is_encoded prims.S8 h = refl
-simple_is_encoded prims.U8 h = refl
-simple_is_encoded prims.S16 h = refl
-simple_is_encoded prims.U16 h = refl
-simple_is_encoded prims.S32 h = refl
-simple_is_encoded prims.U32 h = refl
-simple_is_encoded prims.S64 h = refl
-simple_is_encoded prims.U64 h = refl
-simple_is_encoded prims.F32 h = refl
-simple_is_encoded prims.F64 h = refl
-simple_is_encoded prims.Char h = refl
-simple_is_encoded prims.ErrorContext h = refl
-simple_is_encoded prims.«String» h = absurd (h refl)
+-- no type is left out: not a text, a list, a result in memory, or more parameters than are passed as core values
+text_is_encoded : of_root [] (function Freestanding (Primitive prims.«String» ∷ []) (Some (Primitive prims.«String»))) ≡ None
+text_is_encoded = refl
 
-text_needs_options : of_primitive prims.«String» ≡ Some (codes "world-func")
-text_needs_options = refl
+list_is_encoded : of_root (unnamed (kinds.«List» (Primitive prims.U8)) ∷ []) (function Freestanding (Id a_type ∷ []) (Some (Id a_type))) ≡ None
+list_is_encoded = refl
 
--- made types of one core value
-enum_is_encoded : of_kind (kinds.Enum (codes "a" ∷ codes "b" ∷ [])) ≡ None
-unfolding values_from
-enum_is_encoded = refl
+pair_is_a_result : of_root (unnamed (kinds.Tuple (Primitive prims.U32 ∷ Primitive prims.U32 ∷ [])) ∷ []) (function Freestanding [] (Some (Id a_type))) ≡ None
+pair_is_a_result = refl
 
-flags_are_encoded : of_kind (kinds.Flags (codes "a" ∷ codes "b" ∷ [])) ≡ None
-unfolding values_from
-flags_are_encoded = refl
-
-record_is_encoded : of_kind (kinds.Record (record { name = codes "x"; ty = Primitive prims.F64 } ∷ [])) ≡ None
-unfolding values_from
-record_is_encoded = refl
-
-stream_is_encoded : of_kind (kinds.Stream (Some (Primitive prims.«String»))) ≡ None
-unfolding values_from
-stream_is_encoded = refl
-
-alias_is_encoded : of_kind (kinds.Alias (Primitive prims.Char)) ≡ None
-unfolding values_from
-alias_is_encoded = refl
-
-list_needs_options : of_kind (kinds.«List» (Primitive prims.U8)) ≡ Some (codes "world-func")
-unfolding values_from
-list_needs_options = refl
-
--- two core values are parameters, but no result
-pair_is_a_parameter : function_left_out (unnamed (kinds.Tuple (Primitive prims.U32 ∷ Primitive prims.U32 ∷ [])) ∷ []) (function Freestanding (Id a_type ∷ []) None) ≡ None
-unfolding values_from
-pair_is_a_parameter = refl
-
-pair_is_no_result : function_left_out (unnamed (kinds.Tuple (Primitive prims.U32 ∷ Primitive prims.U32 ∷ [])) ∷ []) (function Freestanding [] (Some (Id a_type))) ≡ Some (codes "world-func")
-unfolding values_from
-pair_is_no_result = refl
-
-option_is_no_result : of_kind (kinds.«Option» (Primitive prims.U32)) ≡ Some (codes "world-func")
-unfolding values_from
-option_is_no_result = refl
-
--- up to 16 core values are passed as parameters
-many_params_are_encoded : function_left_out [] (function Freestanding (replicate 16 (Primitive prims.U32)) None) ≡ None
+many_params_are_encoded : of_root [] (function Freestanding (replicate 17 (Primitive prims.U32)) None) ≡ None
 many_params_are_encoded = refl
 
-more_params_need_memory : function_left_out [] (function Freestanding (replicate 17 (Primitive prims.U32)) None) ≡ Some (codes "world-func")
-more_params_need_memory = refl
+any_types_are_encoded : (types : List TypeDef) (params : List Ty) (result : Option Ty) → of_root types (function Freestanding params result) ≡ None
+any_types_are_encoded types params result = refl
 
--- the kind of a function is reported first
-async_is_reported_first : function_left_out [] (function AsyncFreestanding (Primitive prims.«String» ∷ []) None) ≡ Some (codes "async")
-async_is_reported_first = refl
+-- an asynchronous one is
+async_is_reported : of_root [] (function AsyncFreestanding (Primitive prims.«String» ∷ []) None) ≡ Some (codes "async")
+async_is_reported = refl
 
 -- a synchronous function may belong to a resource
-method_is_encoded : function_left_out [] (function (Method a_type) [] None) ≡ None
+method_is_encoded : of_root [] (function (Method a_type) [] None) ≡ None
 method_is_encoded = refl
 
-static_is_encoded : function_left_out [] (function (Static a_type) [] None) ≡ None
+static_is_encoded : of_root [] (function (Static a_type) [] None) ≡ None
 static_is_encoded = refl
 
-constructor_is_encoded : function_left_out (unnamed kinds.Resource ∷ unnamed (kinds.Own a_type) ∷ []) (function (Constructor a_type) [] (Some (Id another_type))) ≡ None
-unfolding values_from
+constructor_is_encoded : of_root (unnamed kinds.Resource ∷ unnamed (kinds.Own a_type) ∷ []) (function (Constructor a_type) [] (Some (Id another_type))) ≡ None
 constructor_is_encoded = refl
 
-async_method_is_reported : function_left_out [] (function (AsyncMethod a_type) [] None) ≡ Some (codes "async")
+async_method_is_reported : of_root [] (function (AsyncMethod a_type) [] None) ≡ Some (codes "async")
 async_method_is_reported = refl
 
-async_static_is_reported : function_left_out [] (function (AsyncStatic a_type) [] None) ≡ Some (codes "async")
+async_static_is_reported : of_root [] (function (AsyncStatic a_type) [] None) ≡ Some (codes "async")
 async_static_is_reported = refl
 
 -- ---- items
@@ -207,14 +153,23 @@ empty_interface_is_encoded = refl
 
 -- types of its own, and functions of these
 type_of_interface_is_encoded : of_interface (an_interface_type ∷ []) ((codes "t", a_type) ∷ []) (function Freestanding (Id a_type ∷ []) None) ≡ None
-unfolding values_from
 type_of_interface_is_encoded = refl
 
 async_member_is_reported : of_interface [] [] (function AsyncFreestanding [] None) ≡ Some (codes "async")
 async_member_is_reported = refl
 
-text_of_interface_needs_options : of_interface [] [] (function Freestanding (Primitive prims.«String» ∷ []) None) ≡ Some (codes "interface-func")
-text_of_interface_needs_options = refl
+async_method_of_interface_is_reported : of_interface [] [] (function (AsyncMethod a_type) [] None) ≡ Some (codes "async")
+async_method_of_interface_is_reported = refl
+
+async_static_of_interface_is_reported : of_interface [] [] (function (AsyncStatic a_type) [] None) ≡ Some (codes "async")
+async_static_of_interface_is_reported = refl
+
+-- again no type is left out
+text_of_interface_is_encoded : of_interface [] [] (function Freestanding (Primitive prims.«String» ∷ []) (Some (Primitive prims.«String»))) ≡ None
+text_of_interface_is_encoded = refl
+
+any_types_of_interface_are_encoded : (types : List TypeDef) (params : List Ty) (result : Option Ty) → of_interface types [] (function Freestanding params result) ≡ None
+any_types_of_interface_are_encoded types params result = refl
 
 -- an exported interface is not encoded
 interface_is_not_exported : world_left_out (resolve_of [] (record { id = None; types = []; functions = [] } ∷ [])) (record { imports = []; exports = (keys.Name (codes "i"), items.Interface an_interface) ∷ [] }) ≡ Some (codes "interface")

@@ -1,13 +1,11 @@
--- Which parts of a world are encoded yet: functions that it exports at its root and that are synchronous, functions that it
--- imports at its root and that are synchronous and whose calls need no option of the Canonical ABI (component model, binary
--- format: `canonopt`), imported interfaces of types and of such functions, types that it imports, in their order and with all
--- resources of the root among them, core imports and exports with the role of such a function, core imports that drop a
--- resource, and core exports that are a post-return, a memory or a realloc. All else is left out, and reported by the name of
--- its kind. (The names are those of this project's record.)
-use Rattle.std.specs.Prelude.{ℕ, Bool, ◌==◌, ◌&&◌, List, [], ◌∷◌, length, codes, Option, Some, None, Result, Ok, Err, get_or, if◌then◌else◌}
+-- Which parts of a world are encoded yet: synchronous functions that it imports or exports at its root, imported interfaces of
+-- types and of synchronous functions, types that it imports, in their order and with all resources of the root among them, core
+-- imports and exports with the role of such a function, core imports that drop a resource, and core exports that are a
+-- post-return, a memory or a realloc. All else is left out, and reported by the name of its kind. (The names are those of this
+-- project's record.)
+use Rattle.std.specs.Prelude.{ℕ, Bool, List, [], ◌∷◌, length, codes, Option, Some, None, Result, Ok, Err, get_or, if◌then◌else◌}
 use Rattle.std.specs.Option.{option_or}
 use Rattle.wit_data.specs.declared.functions.AbiVariant.TheVariants.{GuestImport, GuestExport, GuestImportAsync}
-use Rattle.wit_data.specs.declared.functions.Function.{Function}
 use Rattle.wit_data.specs.declared.functions.FunctionKind.{FunctionKind}
 use Rattle.wit_data.specs.declared.functions.FunctionKind.TheVariants as functions
 use Rattle.wit_data.specs.declared.ids.InterfaceId.{InterfaceId}
@@ -18,7 +16,6 @@ use Rattle.wit_data.specs.declared.worlds.WorldItem.{WorldItem}
 use Rattle.wit_data.specs.declared.worlds.WorldItem.TheVariants as items
 use Rattle.wit_data.specs.declared.worlds.WorldKey.{WorldKey}
 use Rattle.wit_data.specs.declared.worlds.WorldKey.TheVariants as keys
-use Rattle.comp_options.specs.Options.{import_set, export_set}
 use Rattle.comp_roles.specs.Lookups.{first_some}
 use Rattle.comp_roles.specs.declared.exports.Export.{Export}
 use Rattle.comp_roles.specs.declared.exports.Export.TheVariants as exports
@@ -48,25 +45,9 @@ kind_left_out (functions.AsyncMethod id) = Some (codes "async")
 kind_left_out (functions.AsyncStatic id) = Some (codes "async")
 kind_left_out kind = None
 
--- calls of a function, from a core module and into one, need no option
-abbrev pub needs_no_option : List TypeDef → Function → Bool
-needs_no_option types f = import_set GuestImport types f == 0 && export_set GuestExport types f == 0
-
--- a kind, unless a test passes
-abbrev pub unless : Bool → List ℕ → Option (List ℕ)
-unless passes what = if passes then None else Some what
-
--- a function at the root that is of such a kind, or whose calls need an option
-abbrev pub function_left_out : List TypeDef → Function → Option (List ℕ)
-function_left_out types f = option_or (kind_left_out f.kind) (unless (needs_no_option types f) (codes "world-func"))
-
--- a function of an interface that is of such a kind, or whose calls need an option
-abbrev pub member_left_out : List TypeDef → Function → Option (List ℕ)
-member_left_out types f = option_or (kind_left_out f.kind) (unless (needs_no_option types f) (codes "interface-func"))
-
--- the first function of an imported interface that is left out
+-- the first function of an imported interface that is asynchronous
 abbrev pub interface_left_out : Resolve → InterfaceId → Option (List ℕ)
-interface_left_out r id = first_some (λ e. member_left_out r.types e.1) (functions_of r id)
+interface_left_out r id = first_some (λ e. kind_left_out e.1.kind) (functions_of r id)
 
 -- an export of the world, unless it is a function at the root that is synchronous
 abbrev pub export_item_left_out : WorldKey × WorldItem → Option (List ℕ)
@@ -75,14 +56,17 @@ export_item_left_out (keys.Interface id, items.Function f) = Some (codes "interf
 export_item_left_out (key, items.Interface id) = Some (codes "interface")
 export_item_left_out (key, items.NamedType id) = Some (codes "type")
 
--- an import of the world: a function at the root, a type under its name, or an interface
+-- an import of the world, unless it is a type under its name, an interface of synchronous functions, or a function as above
 abbrev pub import_item_left_out : Resolve → WorldKey × WorldItem → Option (List ℕ)
-import_item_left_out r (keys.Name text, items.Function f) = function_left_out r.types f
 import_item_left_out r (keys.Name text, items.NamedType id) = None
 import_item_left_out r (key, items.Interface id) = interface_left_out r id
 import_item_left_out r entry = export_item_left_out entry
 
 -- ---- order
+
+-- a kind, unless a test passes
+abbrev pub unless : Bool → List ℕ → Option (List ℕ)
+unless passes what = if passes then None else Some what
 
 -- the world's imports, where one interface is among them twice
 abbrev pub twice_left_out : World → Option (List ℕ)

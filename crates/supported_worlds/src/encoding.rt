@@ -162,17 +162,16 @@ fn unless_left_out(alloc: Global, parts: WorldParts) -> Result<ComponentWorld, F
 
 /// The world of these parts, where all of it is encoded yet.
 ///
-/// It refuses with `LeftOut` and the kind of something of the world that is not encoded yet: `async`,
-/// `world-func`, `interface`, `interface-func` or, of an export, `type` of an item of the world;
-/// `interface` where an interface is imported twice, where a type or a function is made of types that
-/// come later in the order of the imports, or where an interface and its types don't name each other;
-/// `type` where the imported types are out of order or lack a resource; the kind of a role of main's
-/// imports or exports, `library`, or `adapter`. A function of an imported interface is refused as
-/// `async` where it is asynchronous, and as `interface-func` where its calls need an option. The only
-/// other refusal is out of memory. On top of `world_of_parts` it takes time linear in the number of
-/// items, of interfaces' types and functions, of the nodes of functions' types, of types and their
-/// parts, of core imports and of core exports, and memory for one number a type and for an entry an
-/// import, beside the refusal's text.
+/// It refuses with `LeftOut` and the kind of something of the world that is not encoded yet: `async`
+/// for an asynchronous function, imported, exported, or of an imported interface; `interface` or
+/// `type` for an export that is no function at the root; `interface` where an interface is imported
+/// twice, where a type or a function is made of types that come later in the order of the imports, or
+/// where an interface and its types don't name each other; `type` where the imported types are out of
+/// order or lack a resource; the kind of a role of main's imports or exports, `library`, or `adapter`.
+/// A synchronous function is encoded whatever its types are. The only other refusal is out of memory.
+/// On top of `world_of_parts` it takes time linear in the number of items, of interfaces' types and
+/// functions, of the parameters of functions, of types and their parts, of core imports and of core
+/// exports, and memory for one number a type and for an entry an import, beside the refusal's text.
 #[tactic(auto, using(crate::proofs::Reporting::no_cause, crate::proofs::Reporting::has_cause))]
 pub fn encoded_world(alloc: Global, parts: WorldParts) -> Result<ComponentWorld, Failure>
     requires { HasSoundParts parts }

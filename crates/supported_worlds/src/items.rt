@@ -5,19 +5,16 @@ ghost use Rattle.std.specs.List.{IsDistinct, AllByRecursion};
 ghost use Rattle.std.specs.Map.{keys_of};
 ghost use Rattle.std.specs.Option.{option_copied};
 ghost use Rattle.wit_data.specs.Keys.{is_same_key};
-ghost use Rattle.wit_data.specs.Sound.{IsSound, HasFunction, HasInterface, HasEntry, HasWorld};
+ghost use Rattle.wit_data.specs.Sound.{IsSound, HasInterface, HasEntry, HasWorld};
 ghost use Rattle.comp_roles.specs.Lookups.{first_some};
 ghost use Rattle.supported_worlds.specs.Apart.{ItemsApart};
-ghost use Rattle.supported_worlds.specs.LeftOut.{kind_left_out, needs_no_option, function_left_out, member_left_out, interface_left_out, import_item_left_out, export_item_left_out, world_left_out};
+ghost use Rattle.supported_worlds.specs.LeftOut.{kind_left_out, interface_left_out, import_item_left_out, export_item_left_out, world_left_out};
 
-use bitflags::Flags;
 use comp_lists::{Keyed, Text};
-use comp_options::RequiredOptions;
-use wit_data::{
-    AbiVariant, Function, FunctionKind, InterfaceId, Resolve, World, WorldItem, WorldKey,
-};
+use wit_data::{Function, FunctionKind, InterfaceId, Resolve, World, WorldItem, WorldKey};
 use world_tables::interface_of;
 
+/// A kind of function that is asynchronous is left out.
 fn kind_left_out(kind: FunctionKind) -> Option<&'static str>
     ensures { option_copied result ≡ kind_left_out kind }
 {
@@ -29,57 +26,12 @@ fn kind_left_out(kind: FunctionKind) -> Option<&'static str>
     }
 }
 
-/// Whether calls of a function, from a core module and into one, need no option.
-fn needs_no_option(resolve: &Resolve, function: &Function) -> bool
-    requires sound { IsSound resolve.now }
-    requires present { HasFunction resolve.now function.now }
-    ensures { result ≡ needs_no_option resolve.now.types function.now }
-{
-    let imported = RequiredOptions::for_import(resolve, function, AbiVariant::GuestImport);
-    let exported = RequiredOptions::for_export(resolve, function, AbiVariant::GuestExport);
-    imported.is_empty() && exported.is_empty()
-}
-
-/// What of a function at the root is left out.
-fn function_left_out(resolve: &Resolve, function: &Function) -> Option<&'static str>
-    requires sound { IsSound resolve.now }
-    requires present { HasFunction resolve.now function.now }
-    ensures { option_copied result ≡ function_left_out resolve.now.types function.now }
-{
-    if let Some(what) = kind_left_out(function.kind) {
-        return Some(what);
-    }
-    if needs_no_option(resolve, function) {
-        None
-    } else {
-        Some("world-func")
-    }
-}
-
-/// What of a function of an imported interface is left out.
-fn member_left_out(resolve: &Resolve, function: &Function) -> Option<&'static str>
-    requires sound { IsSound resolve.now }
-    requires present { HasFunction resolve.now function.now }
-    ensures { option_copied result ≡ member_left_out resolve.now.types function.now }
-{
-    if let Some(what) = kind_left_out(function.kind) {
-        return Some(what);
-    }
-    if needs_no_option(resolve, function) {
-        None
-    } else {
-        Some("interface-func")
-    }
-}
-
 /// What of the functions of an imported interface is left out.
-fn members_left_out(resolve: &Resolve, functions: &Keyed<Text, Function>) -> Option<&'static str>
-    requires sound { IsSound resolve.now }
-    requires all_present { AllByRecursion (λ e. HasFunction resolve.now e.1) functions.now }
-    ensures { option_copied result ≡ first_some (λ e. member_left_out resolve.now.types e.1) functions.now }
+fn functions_left_out(functions: &Keyed<Text, Function>) -> Option<&'static str>
+    ensures { option_copied result ≡ first_some (λ e. kind_left_out e.1.kind) functions.now }
 {
     for (_, function) in functions.iter() {
-        if let Some(what) = member_left_out(resolve, function) {
+        if let Some(what) = kind_left_out(function.kind) {
             return Some(what);
         }
     }
@@ -92,7 +44,7 @@ fn interface_left_out(resolve: &Resolve, id: InterfaceId) -> Option<&'static str
     requires present { HasInterface resolve.now id }
     ensures { option_copied result ≡ interface_left_out resolve.now id }
 {
-    members_left_out(resolve, &interface_of(resolve, id).functions)
+    functions_left_out(&interface_of(resolve, id).functions)
 }
 
 fn export_item_left_out(key: &WorldKey, item: &WorldItem) -> Option<&'static str>
@@ -111,7 +63,6 @@ fn import_item_left_out(resolve: &Resolve, key: &WorldKey, item: &WorldItem) -> 
     ensures { option_copied result ≡ import_item_left_out resolve.now (key.now, item.now) }
 {
     match (key, item) {
-        (WorldKey::Name(_), WorldItem::Function(function)) => function_left_out(resolve, function),
         (WorldKey::Name(_), WorldItem::NamedType(_)) => None,
         (_, WorldItem::Interface(id)) => interface_left_out(resolve, *id),
         _ => export_item_left_out(key, item),

@@ -1,10 +1,10 @@
 //! Which worlds the encoder can build yet.
 //!
 //! [`encoded_world`] makes a world of its parts, with what follows from them, where all of it is
-//! encoded yet: functions at the world's root that are synchronous and whose calls need no memory, no
-//! realloc and no string encoding, imported interfaces of types and of such functions, imported types
-//! and resources, main alone, and core imports and exports of main with the role of such a function
-//! or, for imports, of a resource's drop. Everything else is refused by the name of its kind
+//! encoded yet: synchronous functions at the world's root, imported interfaces of types and of
+//! synchronous functions, imported types and resources, main alone, core imports of main with the role
+//! of such a function or of a resource's drop, and core exports with the role of such a function, of
+//! its post-return, of a memory or of a realloc. Everything else is refused by the name of its kind
 //! (`specs/LeftOut.antt` and `specs/Kinds.antt` are the tables, `specs/Placed.antt` says in which order
 //! a world imports what, `specs/Causes.antt` when a refusal is right).
 //!

@@ -1,7 +1,8 @@
 //! Runs of the program.
 
 use crate::modules::{
-    COMPONENT, CUT, DIGIT_FIRST, EMPTY, EMPTY_COMPONENT, LINES, MAIN, OPEN, PACKAGE,
+    COMPONENT, CUT, DIGIT_FIRST, EMPTY, EMPTY_COMPONENT, LINES, MAIN, NAMED_COMPONENT, OPEN,
+    PACKAGE, SHIMMED, UNNAMED_COMPONENT,
 };
 use crate::store::{OneFile, Refusing};
 use command_line::{Event, StoreFault, run_with, start_with};
@@ -44,7 +45,7 @@ fn refused(alloc: Global, calls: u32, fault: StoreFault) -> Result<Answer, Alloc
 #[test]
 fn wrong_arguments_are_reported_before_anything_is_read(rt: HostRuntime) {
     let alloc = rt.alloc();
-    let wrong: [&[&str]; 15] = [
+    let wrong: [&[&str]; 16] = [
         &[],
         &["--Help"],
         &["--help", "--version"],
@@ -58,7 +59,8 @@ fn wrong_arguments_are_reported_before_anything_is_read(rt: HostRuntime) {
         &["defs", "main.wasm", "--validate"],
         &["new", "out.wasm", "main.wasm", "--validate", "--validate"],
         &["new", "--canonical", "out.wasm", "main.wasm"],
-        &["new", "out.wasm", "main.wasm", "--no-merge", "--no-names"],
+        &["new", "out.wasm", "main.wasm", "--no-merge", "--names"],
+        &["new", "out.wasm", "main.wasm", "--no-names", "--no-names"],
         &["defs", "main.wasm", "--canonical"],
     ];
     for words in wrong {
@@ -150,9 +152,9 @@ fn refusals_of_the_encoder_are_reported(rt: HostRuntime) -> Result<(), Fail> {
 }
 
 /// Whether a run on this module says nothing, and puts this component after it read the module.
-fn puts(alloc: Global, main: &[u8], component: &[u8]) -> Result<bool, Fail> {
+fn puts(alloc: Global, words: &[&str], main: &[u8], component: &[u8]) -> Result<bool, Fail> {
     let mut store = OneFile::new(alloc, "main.wasm", main)?;
-    let answer = run_on(alloc, &["new", "out.wasm", "main.wasm"], &mut store)?;
+    let answer = run_on(alloc, words, &mut store)?;
     match store.log.as_slice() {
         [Event::Read { name, .. }, Event::Put { name: out, bytes }] => Ok(
             name.as_str() == "main.wasm"
@@ -169,8 +171,20 @@ fn puts(alloc: Global, main: &[u8], component: &[u8]) -> Result<bool, Fail> {
 #[test]
 fn a_component_is_put_and_nothing_is_said(rt: HostRuntime) -> Result<(), Fail> {
     let alloc = rt.alloc();
-    assert!(rt; puts(alloc, MAIN, COMPONENT)?);
-    assert!(rt; puts(alloc, EMPTY, EMPTY_COMPONENT)?);
+    let words = ["new", "out.wasm", "main.wasm"];
+    assert!(rt; puts(alloc, &words, MAIN, COMPONENT)?);
+    assert!(rt; puts(alloc, &words, EMPTY, EMPTY_COMPONENT)?);
+    Ok(())
+}
+
+#[test]
+fn generated_modules_have_names_unless_they_are_left_out(rt: HostRuntime) -> Result<(), Fail> {
+    let alloc = rt.alloc();
+    let named = ["new", "out.wasm", "main.wasm"];
+    let unnamed = ["new", "out.wasm", "main.wasm", "--no-names"];
+    assert!(rt; puts(alloc, &named, SHIMMED, NAMED_COMPONENT)?);
+    assert!(rt; puts(alloc, &unnamed, SHIMMED, UNNAMED_COMPONENT)?);
+    assert!(rt; puts(alloc, &unnamed, MAIN, COMPONENT)?);
     Ok(())
 }
 
@@ -259,6 +273,7 @@ fn help_and_version_are_printed(rt: HostRuntime) -> Result<(), Fail> {
     let help = "usage: component_new new OUT MAIN [options] | defs FILE\n\
         \x20 --canonical     new: have the canonical part of versions in names, and the rest as suffixes\n\
         \x20 --no-merge      new: don't merge imports of compatible versions\n\
+        \x20 --no-names      new: don't name the functions of the core modules that are generated\n\
         \x20 --validate      new: check the names of the component's imports and exports\n\
         \x20 -h, --help      print this text\n\
         \x20 --version       print the version of the program, and the kit that it is proved with\n";

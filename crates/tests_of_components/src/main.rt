@@ -1,8 +1,8 @@
 //! The program `tests_of_components`: the components of core modules with records, by cases from files.
 //!
 //! The input of a case is a core module in hexadecimal digits and, after a space, its records, with ` & ` between two of them.
-//! Options may be in front of it, as in `[canonical, rename a:b/c to d:e/f] 0061736d..`: `canonical`, `no-merge`, `unchecked`
-//! (without `validate`, which is on otherwise) and `rename NAME to NAME`. The answer is the component in hexadecimal digits, by
+//! Options may be in front of it, as in `[canonical, rename a:b/c to d:e/f] 0061736d..`: `canonical`, `debug-names`, `no-merge`,
+//! `unchecked` (without `validate`, which is on otherwise) and `rename NAME to NAME`. The answer is the component in hexadecimal digits, by
 //! the encoder over the lower layer by records; or the fault. `test_cases` says how the files are read; each says where its expected answers are from. The program prints the
 //! comments too, so that the file `stdout`, which its output is compared with, is the data without the inputs.
 #![tactic(auto)]
@@ -69,6 +69,7 @@ fn encoder_with(alloc: Global, options: &str) -> Result<ComponentEncoder<PlainLo
     let names = names_of(alloc, options)?;
     let mut encoder = ComponentEncoder::new(alloc, PlainLower::new());
     encoder.validate(!has(options, "unchecked"));
+    encoder.debug_names(has(options, "debug-names"));
     encoder.merge_imports_based_on_semver(!has(options, "no-merge"));
     encoder.emit_canonical_names(has(options, "canonical"));
     encoder.import_name_map(names);

@@ -1,7 +1,8 @@
 use Rattle.std.proofs.Common.{◌≡◌, ◌∙◌, ◌∷◌, [], ap, ap₂, sym}
 use Rattle.comp_links.specs.Naming.{Naming}
 use Rattle.comp_worlds.specs.declared.world.ComponentWorld.{ComponentWorld}
-use Rattle.comp_terms.specs.Rules.{Grows, ModuleIs, InstanceOf, exports_marked, imports_marked, landmarks}
+use Rattle.comp_terms.specs.Rules.{Grows, ModuleIs, exports_marked, imports_marked, landmarks}
+use Rattle.core_instances.specs.Instances.{AddsInstances}
 use Rattle.comp_state.specs.Encoding.{Encoding, naming_in}
 use Rattle.comp_state.proofs.Building.{built_by_steps, marked_from}
 use Rattle.comp_state.proofs.state.EncodingState.encode_all.Goals as goal
@@ -19,17 +20,17 @@ returns-clause-built c =
     let w : ComponentWorld = c.args.self.now.world in
     let first : c.encode_imports.new.self.world ≡ w = c.in_ok-encode_imports.ensures.world in
     let second : c.encode_core_modules.new.self.world ≡ w = ap (λ (e : Encoding). e.world) c.in_ok-encode_core_modules.ensures.same ∙ first in
-    let third : c.instantiate.new.self.world ≡ w = c.in_ok-instantiate.ensures.world ∙ second in
+    let third : c.encode_core_instantiation.new.self.world ≡ w = c.in_ok-encode_core_instantiation.ensures.world ∙ second in
     let main : Grows w c.encode_imports.new.self.built.defs c.encode_core_modules.new.self.built.defs (ModuleIs w.main.bytes ∷ []) = rw (← first) c.in_ok-encode_core_modules.ensures.grows in
-    let instance : Grows w c.encode_core_modules.new.self.built.defs c.instantiate.new.self.built.defs (InstanceOf 0 ∷ []) = rw (← second) c.in_ok-instantiate.ensures.grows in
-    let exports : Grows w c.instantiate.new.self.built.defs c.encode_exports.new.self.built.defs (exports_marked w) = rw (← third) c.in_ok-encode_exports.ensures.grows in
-    built_by_steps (naming_in c.args.self.now) w c.args.self.now.built.defs c.encode_imports.new.self.built.defs c.encode_core_modules.new.self.built.defs c.instantiate.new.self.built.defs c.encode_exports.new.self.built.defs c.requires.empty
-    c.in_ok-encode_imports.ensures.grows main instance exports
+    let instances : AddsInstances w c.encode_core_modules.new.self.built.defs c.encode_core_instantiation.new.self.built.defs = rw (← second) c.in_ok-encode_core_instantiation.ensures.added in
+    let exports : Grows w c.encode_core_instantiation.new.self.built.defs c.encode_exports.new.self.built.defs (exports_marked w) = rw (← third) c.in_ok-encode_exports.ensures.grows in
+    built_by_steps (naming_in c.args.self.now) w c.args.self.now.built.defs c.encode_imports.new.self.built.defs c.encode_core_modules.new.self.built.defs c.encode_core_instantiation.new.self.built.defs c.encode_exports.new.self.built.defs c.requires.empty
+    c.in_ok-encode_imports.ensures.grows main instances exports
 
 pub returns-clause-encoded : goal.returns-clause-encoded
 returns-clause-encoded c =
     let w : ComponentWorld = c.args.self.now.world in
     let first : c.encode_imports.new.self.world ≡ w = c.in_ok-encode_imports.ensures.world in
     let second : c.encode_core_modules.new.self.world ≡ w = ap (λ (e : Encoding). e.world) c.in_ok-encode_core_modules.ensures.same ∙ first in
-    let third : c.instantiate.new.self.world ≡ w = c.in_ok-instantiate.ensures.world ∙ second in
-    record { imports = rw (← second) c.in_ok-instantiate.ensures.encoded; exports = rw (← third) c.in_ok-encode_exports.ensures.encoded; options = rw (← third) c.in_ok-encode_exports.ensures.has }
+    let third : c.encode_core_instantiation.new.self.world ≡ w = c.in_ok-encode_core_instantiation.ensures.world ∙ second in
+    record { imports = rw (← second) c.in_ok-encode_core_instantiation.ensures.encoded; exports = rw (← third) c.in_ok-encode_exports.ensures.encoded; lowered = rw (← second) c.in_ok-encode_core_instantiation.ensures.lowered; lifted = rw (← third) c.in_ok-encode_exports.ensures.has }

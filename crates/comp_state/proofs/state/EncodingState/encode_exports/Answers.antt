@@ -3,12 +3,11 @@ use Rattle.std.specs.List.{AllByRecursion}
 use Rattle.std.specs.Result.{OnOk, IfErr}
 use Rattle.comp_links.specs.Roles.{export_encoding}
 use Rattle.comp_terms.specs.Rules.{Grows, exports_marked}
-use Rattle.comp_state.specs.Causes.{IsCause}
-use Rattle.comp_state.specs.LiftOptions.{HasLiftOptions}
+use Rattle.core_options.specs.Causes.{IsCause}
+use Rattle.core_options.specs.MainOptions.{HasLiftOptions}
 use Rattle.comp_state.specs.Tables.{IsEncoding}
 use Rattle.comp_state.specs.Encoding.{Encoding}
-use Rattle.comp_state.proofs.Growth.{encoding-with, exports_of, main_known}
-use Rattle.comp_imports.specs.RootScopes.{AreTablesRight, ArePassed}
+use Rattle.comp_state.proofs.Growth.{encoding-typed, exports_of, main_known}
 use Rattle.comp_state.proofs.state.EncodingState.encode_exports.Goals as goal
 
 pub export_all-requires : goal.export_all-requires
@@ -18,8 +17,10 @@ pub invariant_of-self : goal.invariant_of-self
 invariant_of-self c =
     let new = c.export_all.new.root in
     let in' = c.self.inside in
-    subst (λ r. IsEncoding r.now new.last_type new.items.defs new.maps new.instances in'.step in'.functions in'.core_names in'.main) (sym c.export_all.ensures.world) (encoding-with c.export_all.ensures.extends (λ _. subst (λ n. AreTablesRight in'.root.world.now n new.instances new.items.defs new.maps) (sym c.export_all.ensures.next) c.export_all.ensures.tables)
-    (λ i. subst (λ n. ArePassed in'.root.world.now n) (sym c.export_all.ensures.next) (c.self.invariant.passed i)) c.self.invariant)
+    let typed : IsEncoding in'.root.world.now in'.root.last_type new.items.defs new.maps new.instances in'.step in'.functions in'.core_names in'.main =
+    encoding-typed c.export_all.ensures.extends c.export_all.ensures.tables c.self.invariant in
+    subst (λ n. IsEncoding new.world.now n new.items.defs new.maps new.instances in'.step in'.functions in'.core_names in'.main) (sym c.export_all.ensures.next)
+    (subst (λ r. IsEncoding r.now in'.root.last_type new.items.defs new.maps new.instances in'.step in'.functions in'.core_names in'.main) (sym c.export_all.ensures.world) typed)
 
 pub unwrap-requires : goal.unwrap-requires
 unwrap-requires c = main_known c.self.invariant (ap (λ (e : Encoding). e.step) c.self.view_is ∙ c.requires)

@@ -1,6 +1,0 @@
-use Rattle.std.proofs.Common.{refl}
-use Rattle.comp_imports.specs.Growing.{root_same}
-use Rattle.comp_imports.proofs.root_scope.RootScopeValtypeEncoder.export_type.Goals as goal
-
-pub returns-clause-follows : goal.returns-clause-follows
-returns-clause-follows g c = (refl, refl, refl, root_same (g.W.HasWorld.world c.args.self.now.world.now) c.args.self.now.items)

@@ -1,0 +1,72 @@
+-- The core modules that are generated for a component: their numbers, their bytes, and what each shim stands for (this
+-- project's own; component model, explainer: core instances).
+use Rattle.std.specs.Prelude.{◌≡◌, ◌<◌, ◌^◌, ℕ, suc, Bool, List, length, Option, Some, None}
+use Rattle.std.specs.Map.{lookup}
+use Rattle.std.specs.Option.{option_map, option_and_then}
+use Rattle.core_bytes.specs.Modules.{Encodes}
+use Rattle.wit_data.specs.Keys.{is_same_key}
+use Rattle.wit_data.specs.declared.ids.InterfaceId.{InterfaceId}
+use Rattle.wit_data.specs.declared.worlds.WorldItem.{WorldItem}
+use Rattle.wit_data.specs.declared.worlds.WorldItem.TheVariants as items
+use Rattle.wit_data.specs.declared.worlds.WorldKey.{WorldKey}
+use Rattle.wit_data.specs.declared.worlds.WorldKey.TheVariants as keys
+use Rattle.comp_roles.specs.declared.imports.Import.{Import}
+use Rattle.comp_roles.specs.declared.imports.Import.TheVariants as imports
+use Rattle.comp_roles.specs.declared.offered.ExternType.TheVariants as externs
+use Rattle.comp_worlds.specs.Typed.{type_of_import}
+use Rattle.comp_worlds.specs.WorldContents.{items_of}
+use Rattle.comp_worlds.specs.Worlds.{IsImportRole}
+use Rattle.comp_worlds.specs.declared.world.ComponentWorld.{ComponentWorld}
+use Rattle.comp_links.specs.Modules.{user_modules}
+use Rattle.shim_plan.specs.declared.kinds.ShimKind.{ShimKind}
+use Rattle.shim_plan.specs.declared.kinds.ShimKind.TheVariants as kinds
+use Rattle.shim_plan.specs.declared.shims.Shim.{Shim}
+use Rattle.world_shims.specs.WorldShims.{shims_of, type_of_shim, sections_of_shims, sections_of_fixup}
+
+-- ---- the modules
+
+-- the user modules come first, then the module of shims, then the fixup
+abbrev pub shims_number : ComponentWorld → ℕ
+shims_number w = length (user_modules w)
+
+abbrev pub fixup_number : ComponentWorld → ℕ
+fixup_number w = suc (shims_number w)
+
+-- the bytes of the module of shims, and of the fixup
+pub record GeneratedBytes : Type 0 where
+  pub shims : List ℕ
+  pub fixup : List ℕ
+
+-- they encode the modules that are generated for the shims of the world
+pub record AreGenerated (w : ComponentWorld) (g : GeneratedBytes) : Type 0 where
+  pub debug_names : Bool
+  pub shims : Encodes g.shims (sections_of_shims (shims_of w) debug_names)
+  pub fixup : Encodes g.fixup (sections_of_fixup (shims_of w) debug_names)
+  pub room : length (shims_of w) < 2 ^ 32
+
+-- the same, where there are any
+abbrev pub MayBeGenerated : ComponentWorld → Option GeneratedBytes → Type 0
+MayBeGenerated w None = Unit {0}
+MayBeGenerated w (Some g) = AreGenerated w g
+
+-- ---- what shims stand for
+
+-- the interface that the world imports under a key
+abbrev pub interface_in : WorldItem → Option InterfaceId
+interface_in (items.Interface id) = Some id
+interface_in item = None
+
+abbrev pub interface_imported : ComponentWorld → WorldKey → Option InterfaceId
+interface_imported w key = option_and_then interface_in (lookup (is_same_key key) (items_of w).imports)
+
+-- the role of the imports that are given a shim of this kind
+abbrev pub role_of_kind : ComponentWorld → ShimKind → Option Import
+role_of_kind w (kinds.IndirectLowering None function which encoding) = Some (imports.WorldFunc (keys.Name function.name) function.name function.abi)
+role_of_kind w (kinds.IndirectLowering (Some key) function which encoding) = option_map (λ id. imports.InterfaceFunc key id function.name function.abi) (interface_imported w key)
+role_of_kind w kind = None
+
+-- the shim stands for what an import of this role is to be given, and has its core type
+pub record IsShimOf (w : ComponentWorld) (s : Shim) (role : Import) : Type 0 where
+  pub of_kind : role_of_kind w s.kind ≡ Some role
+  pub right : IsImportRole w role
+  pub typed : type_of_import w.resolve (items_of w) role ≡ Some (externs.Func (type_of_shim s))

@@ -1,0 +1,5 @@
+pub mod Counting
+mod Made
+mod Needs
+mod Ordering
+mod Unplanned

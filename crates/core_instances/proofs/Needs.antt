@@ -1,0 +1,74 @@
+-- Main has what the calls of its imports need, where it has what their shims need.
+use Rattle.std.proofs.Common.{◌≡◌, ◌∙◌, Bool, true, false, ℕ, zero, suc, slice_get, is_some, List, [], ◌∷◌, Option, Some, None, IsSome, IsTrue, Contains, refl, sym, ap, subst, true≢false}
+use Rattle.std.proofs.lemmas.Option.{same_Some}
+use Rattle.std.specs.List.{AllByRecursion}
+use Rattle.standard_kinds.specs.declared.kinds.StringEncoding.{StringEncoding}
+use Rattle.comp_lists.proofs.Lists.{AllByRecursion-contains}
+use Rattle.interface_needs.proofs.Lists.{all_of_each}
+use Rattle.comp_options.specs.Options.{needs}
+use Rattle.comp_roles.specs.CoreImports.{CoreImport}
+use Rattle.comp_roles.specs.declared.imports.Import.{Import}
+use Rattle.comp_roles.specs.declared.imports.Import.TheVariants as imports
+use Rattle.comp_worlds.specs.Encodable.{IsEncodable}
+use Rattle.comp_worlds.specs.WorldContents.{core_imports}
+use Rattle.comp_worlds.specs.declared.world.ComponentWorld.{ComponentWorld}
+use Rattle.comp_links.specs.Links.{lower_needs}
+use Rattle.comp_links.specs.Roles.{import_encoding, IsEncodedImport}
+use Rattle.shim_plan.specs.Plans.{shim_of}
+use Rattle.shim_plan.specs.declared.kinds.ShimKind.{ShimKind}
+use Rattle.shim_plan.specs.declared.shims.Shim.{Shim}
+use Rattle.shim_targets.specs.ShimTargets.{kind_of_import, StandsFor}
+use Rattle.shim_targets.proofs.EachShim.{each_stands}
+use Rattle.shim_targets.proofs.FoundShims.{found_shim}
+use Rattle.shim_targets.proofs.GivenShims.{given_shim}
+use Rattle.shim_targets.proofs.NeededShims.{shim_there}
+use Rattle.shim_targets.proofs.NoOptions.{role_without}
+use Rattle.shim_targets.proofs.Roles.{import_role}
+use Rattle.world_shims.specs.WorldShims.{shims_of}
+use Rattle.core_options.specs.MainOptions.{HasLowerOptions}
+use Rattle.main_fixup.specs.Filling.{HasShimOptions}
+
+all_at : {X : Type 0} (P : X → Type 0) (xs : List X) (n : ℕ) (x : X) → AllByRecursion P xs → slice_get xs n ≡ Some x → P x
+all_at P [] n x h e = absurd (true≢false (sym (ap is_some e)))
+all_at P (y ∷ ys) zero x h e = subst P (same_Some y x e) h.0
+all_at P (y ∷ ys) (suc n) x h e = all_at P ys n x h.1 e
+
+known : {X : Type 0} (o : Option X) → IsSome o → (x : X) × (o ≡ Some x)
+known (Some x) h = (x, refl)
+known None h = absurd (true≢false (sym h))
+
+module _ (w : ComponentWorld) (ok : IsEncodable w) (has : AllByRecursion (HasShimOptions w) (shims_of w)) where
+  -- no options
+  without : (i : CoreImport) → Contains (core_imports w) i → needs (lower_needs w i.role) 1 ≡ false → HasLowerOptions w i.role
+  without i there e =
+      let none : lower_needs w i.role ≡ 0 = role_without w i.role (import_role w ok i there) e in
+      record { memory = λ h. absurd (true≢false (sym h ∙ e)); realloc = λ h. absurd (true≢false (sym h ∙ ap (λ n. needs n 2) none)) }
+
+  -- those of a shim
+  through : (i : CoreImport) → Contains (core_imports w) i → needs (lower_needs w i.role) 1 ≡ true → (encoding : StringEncoding) → import_encoding w i.role ≡ Some encoding → (kind : ShimKind) → kind_of_import i.role encoding ≡ Some kind → HasLowerOptions w i.role
+  through i there e encoding encoded kind is =
+      let s = known (shim_of kind (shims_of w)) (shim_there w ok i there encoding encoded e kind is) in
+      let at = found_shim w ok kind s.0 s.1 in
+      let j = all_at (λ (x : Shim). (i : CoreImport) × StandsFor w x i) (shims_of w) at.0 s.0 (each_stands w ok) at.1 in
+      let given = given_shim w ok i there encoding encoded kind is s.0 s.1 in
+      let same : j.0.role ≡ i.role = same_Some j.0.role i.role (sym j.1.is.of_kind ∙ given.of_kind) in
+      let options : s.0.options.0 ≡ lower_needs w i.role = j.1.options ∙ ap (lower_needs w) same in
+      let offered : HasShimOptions w s.0 = all_at (HasShimOptions w) (shims_of w) at.0 s.0 has at.1 in
+      record { memory = λ h. offered.memory (subst (λ n. IsTrue (needs n 1)) (sym options) h); realloc = λ h. offered.realloc (subst (λ n. IsTrue (needs n 2)) (sym options) h) }
+
+  one : (name field : List ℕ) (role : Import) → Contains (core_imports w) (record { module_name = name; field = field; role = role }) → IsEncodedImport w role → (b : Bool) → needs (lower_needs w role) 1 ≡ b → HasLowerOptions w role
+  one name field role there encoded false e = without (record { module_name = name; field = field; role = role }) there e
+  one name field (imports.WorldFunc key function abi) there encoded true e =
+      let i : CoreImport = record { module_name = name; field = field; role = imports.WorldFunc key function abi } in
+      let n = known (import_encoding w i.role) (encoded refl) in
+      through i there e n.0 n.1 _ refl
+  one name field (imports.InterfaceFunc key id function abi) there encoded true e =
+      let i : CoreImport = record { module_name = name; field = field; role = imports.InterfaceFunc key id function abi } in
+      let n = known (import_encoding w i.role) (encoded refl) in
+      through i there e n.0 n.1 _ refl
+  one name field role there encoded true e = absurd (true≢false (sym e))
+
+pub all_lowered : (w : ComponentWorld) → IsEncodable w → AllByRecursion (HasShimOptions w) (shims_of w) → AllByRecursion (λ i. IsEncodedImport w i.role) (core_imports w) → AllByRecursion (λ i. HasLowerOptions w i.role) (core_imports w)
+all_lowered w ok has encoded =
+    all_of_each (λ (i : CoreImport). HasLowerOptions w i.role) (core_imports w)
+    (λ i there. one w ok has i.module_name i.field i.role there (AllByRecursion-contains (λ (i : CoreImport). IsEncodedImport w i.role) (core_imports w) i encoded there) (needs (lower_needs w i.role) 1) refl)

@@ -1,0 +1,88 @@
+-- What the core instances add to a component, and what is taken as given (component model, explainer: core instances; this
+-- project's own).
+use Rattle.std.specs.Prelude.{◌≡◌, ℕ, Bool, List, [], ◌∷◌, length, Option, Some, None}
+use Rattle.std.specs.List.{range_with_len}
+use Rattle.core_bytes.specs.Modules.{Encodes}
+use Rattle.comp_bytes.specs.ItemIndices.{IsAt}
+use Rattle.comp_bytes.specs.Spaces.{items_in}
+use Rattle.comp_bytes.specs.declared.space.Space.TheVariants as spaces
+use Rattle.comp_bytes.specs.declared.def.Item.TheVariants as items
+use Rattle.comp_bytes.specs.declared.def.Def.{Def}
+use Rattle.comp_bytes.specs.declared.def.Def.TheVariants as defs
+use Rattle.wit_data.specs.declared.ids.InterfaceId.{InterfaceId}
+use Rattle.wit_data.specs.declared.ids.TypeId.{TypeId}
+use Rattle.wit_types.specs.declared.maps.TypeEncodingMaps.{TypeEncodingMaps}
+use Rattle.comp_worlds.specs.Encodable.{IsEncodable}
+use Rattle.comp_worlds.specs.declared.world.ComponentWorld.{ComponentWorld}
+use Rattle.comp_links.specs.Modules.{user_modules}
+use Rattle.comp_terms.specs.Generated.{shims_number, fixup_number, GeneratedBytes, MayBeGenerated}
+use Rattle.comp_terms.specs.Rules.{Grows, Landmark, ModuleIs, InstanceOf, instances_in}
+use Rattle.comp_terms.specs.Terms.{IsInstanceOf}
+use Rattle.root_imports.specs.RootScopes.{AreTablesRight, ArePassed}
+use Rattle.root_imports.specs.Imports.{FindsImports, FindsUsed}
+use Rattle.shim_plan.specs.declared.fault.ShimFault.{ShimFault}
+use Rattle.shim_plan.specs.declared.fault.ShimFault.TheVariants as plan
+use Rattle.world_shims.specs.WorldShims.{shims_of, sections_of_fixup}
+use Rattle.core_options.specs.declared.fault.StateFault.{StateFault}
+use Rattle.core_options.specs.declared.fault.StateFault.TheVariants as faults
+
+-- a refusal of the plan of shims, as one of the encoding
+abbrev pub of_plan : ShimFault → StateFault
+of_plan plan.Memory = faults.Memory
+of_plan (plan.NoEncoding place) = faults.NoEncoding place
+
+-- ---- what is given
+
+-- the functions and the types that the world imports are there
+pub record AreImportsMade (w : ComponentWorld) (functions : List (List ℕ × ℕ)) (last : Option TypeId) (ds : List Def) (maps : TypeEncodingMaps) (instances : List (InterfaceId × ℕ)) : Type 0 where
+  pub valid : IsEncodable w
+  pub imports : FindsImports w ds functions
+  pub used : FindsUsed w functions
+  pub tables : AreTablesRight w last instances ds maps
+  pub passed : ArePassed w last
+
+-- the first core module is main's
+pub record IsFirstModule (w : ComponentWorld) (ds : List Def) : Type 0 where
+  pub made : IsAt ds spaces.CoreModule 0 (defs.Item (items.CoreModule w.main.bytes))
+
+-- it is the only one, and nothing is instantiated
+pub record IsMainAlone (w : ComponentWorld) (ds : List Def) : Type 0 where
+  pub first : IsFirstModule w ds
+  pub alone : items_in spaces.CoreModule ds ≡ 1
+  pub nothing : instances_in ds ≡ []
+
+-- ---- what is added
+
+-- the landmarks of the core instances and of the modules that are generated for them
+abbrev pub instances_marked : ComponentWorld → Option GeneratedBytes → List Landmark
+instances_marked w None = InstanceOf 0 ∷ []
+instances_marked w (Some g) = ModuleIs g.shims ∷ InstanceOf (shims_number w) ∷ InstanceOf 0 ∷ ModuleIs g.fixup ∷ InstanceOf (fixup_number w) ∷ []
+
+-- the instance of main, between those of the shims and of the fixup, where there are any
+pub record AddsInstances (w : ComponentWorld) (old new : List Def) : Type 0 where
+  pub generated : Option GeneratedBytes
+  pub are_generated : MayBeGenerated w generated
+  pub grows : Grows w old new (instances_marked w generated)
+
+-- the fixup's module is the next one, and its instance comes after those of the shims and of the user modules
+pub record IsFixupNext (w : ComponentWorld) (ds : List Def) (shim_instance : ℕ) : Type 0 where
+  pub any : shims_of w ≡ [] → ⊥
+  pub made : IsInstanceOf ds shim_instance (shims_number w)
+  pub last : instances_in ds ≡ shims_number w ∷ range_with_len 0 (length (user_modules w))
+  pub next : items_in spaces.CoreModule ds ≡ fixup_number w
+
+-- the same, where there are shims
+abbrev pub IsFixupNextIf : ComponentWorld → List Def → Option ℕ → Type 0
+IsFixupNextIf w ds None = shims_of w ≡ []
+IsFixupNextIf w ds (Some shim_instance) = IsFixupNext w ds shim_instance
+
+-- the fixup's module and its instance
+pub record AddsFixup (w : ComponentWorld) (debug_names : Bool) (old new : List Def) : Type 0 where
+  pub bytes : List ℕ
+  pub encodes : Encodes bytes (sections_of_fixup (shims_of w) debug_names)
+  pub grows : Grows w old new (ModuleIs bytes ∷ InstanceOf (fixup_number w) ∷ [])
+
+-- the same, where there are shims
+abbrev pub MayAddFixup : ComponentWorld → Bool → List Def → List Def → Option ℕ → Type 0
+MayAddFixup w debug_names old new None = new ≡ old
+MayAddFixup w debug_names old new (Some shim_instance) = AddsFixup w debug_names old new

@@ -1,0 +1,37 @@
+//! The shims of main.
+
+ghost use Rattle.std.specs.Prelude.{◌≡◌, IfOk, IfErr};
+ghost use Rattle.comp_worlds.specs.Encodable.{IsEncodable};
+ghost use Rattle.core_instances.specs.Instances.{of_plan};
+ghost use Rattle.core_options.specs.Causes.{IsCause};
+ghost use Rattle.world_shims.specs.WorldShims.{shims_of};
+
+use comp_worlds::ComponentWorld;
+use core_options::StateFault;
+use shim_plan::{ShimFault, Shims};
+use std::alloc::Global;
+use world_shims::main_shims;
+
+/// Why shims can't be planned, as a fault of the encoding.
+fn plan_fault(fault: ShimFault) -> StateFault
+    ensures { result ≡ of_plan fault }
+{
+    match fault {
+        ShimFault::Memory => StateFault::Memory,
+        ShimFault::NoEncoding { place } => StateFault::NoEncoding { place },
+    }
+}
+
+/// The shims that main needs, in order.
+///
+/// `E9` for the first import of main that needs a shim and has no string encoding.
+pub(crate) fn plan_shims(alloc: Global, world: &ComponentWorld) -> Result<Shims, StateFault>
+    requires { IsEncodable world.now }
+    ensures ok { IfOk result (λ shims. shims ≡ shims_of world.now) }
+    ensures cause { IfErr result (IsCause world.now) }
+{
+    match main_shims(alloc, world) {
+        Ok(shims) => Ok(shims),
+        Err(fault) => Err(plan_fault(fault)),
+    }
+}

@@ -1,0 +1,4 @@
+pub mod Refusals
+pub mod Offered
+pub mod OptionTerms
+pub mod Aliases

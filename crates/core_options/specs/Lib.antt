@@ -1,0 +1,2 @@
+pub mod MainOptions
+pub mod Causes

@@ -1,0 +1,59 @@
+//! Why a world is not encoded.
+
+ghost use Rattle.std.specs.Prelude.{◌≡◌};
+ghost use Rattle.core_options.specs.Causes.{of_build};
+ghost use Rattle.core_options.specs.declared.fault.StateFault.TheVariants.{Memory};
+
+use byte_encoding::{BuildFault, Excess};
+use comp_lists::Text;
+use std::alloc::{AllocError, AllocFailed};
+use thiserror::Error;
+
+/// Why a step of the encoding is refused.
+#[derive(Debug, Drop, Error)]
+pub enum StateFault {
+    /// An allocation failed.
+    #[error("E1 Memory")]
+    Memory,
+    /// A function is lowered or lifted with a memory, and main exports none. `place` is the name of the import's shim, or that
+    /// of the function that is lifted.
+    #[error("E7 NoMemory place={place}")]
+    NoMemory { place: Text },
+    /// A function is lowered or lifted with a realloc, and main exports none for it. `place` is as for the memory.
+    #[error("E8 NoRealloc place={place}")]
+    NoRealloc { place: Text },
+    /// The world has no string encoding for a function. `place` is `module::field` of a core import, or the
+    /// name of a function that is lifted.
+    #[error("E9 NoEncoding place={place}")]
+    NoEncoding { place: Text },
+    /// A count or a size would pass 2^32 - 1.
+    #[error("E16 TooMany excess={excess}")]
+    TooMany { excess: Excess },
+}
+
+impl From<AllocError> for StateFault {
+    ghost from_gives = { λ _ e. e ≡ Memory };
+
+    fn from(_fault: AllocError) -> StateFault {
+        StateFault::Memory
+    }
+}
+
+impl<T: Drop> From<AllocFailed<T>> for StateFault {
+    ghost from_gives = { λ _ e. e ≡ Memory };
+
+    fn from(_fault: AllocFailed<T>) -> StateFault {
+        StateFault::Memory
+    }
+}
+
+impl From<BuildFault> for StateFault {
+    ghost from_gives = { λ fault e. e ≡ of_build fault };
+
+    fn from(fault: BuildFault) -> StateFault {
+        match fault {
+            BuildFault::Memory => StateFault::Memory,
+            BuildFault::TooMany { excess } => StateFault::TooMany { excess },
+        }
+    }
+}

@@ -1,0 +1,180 @@
+//! The options of lowerings and lifts, and what they name among the exports of main.
+//!
+//! Component model, binary format: `canonopt`; Canonical ABI: `canon lower`, `canon lift`, `realloc`, `string-encoding`.
+#![tactic(auto, using(comp_items::proofs::Extending::extends_none, comp_items::proofs::Extending::extends_same, comp_items::proofs::Extending::extends_then))]
+
+ghost use Rattle.std.specs.Prelude.{◌≡◌, [], Some, IfOk, IfErr, IfSome, OnOk, IsSome, IsTrue, false};
+ghost use Rattle.std.specs.Option.{option_copied, option_map};
+ghost use Rattle.comp_items.specs.Items.{Extends};
+ghost use Rattle.comp_links.specs.Links.{export_of, options_in};
+ghost use Rattle.comp_links.specs.Targets.{Main};
+ghost use Rattle.comp_options.specs.Options.{needs};
+ghost use Rattle.comp_options.specs.OptionLists.{when, options_of, lacks_memory, lacks_realloc};
+ghost use Rattle.comp_roles.specs.Functions.{of_function};
+ghost use Rattle.comp_terms.specs.Rules.{Grows};
+ghost use Rattle.comp_terms.specs.Terms.{IsInstanceOf};
+ghost use Rattle.comp_worlds.specs.Encodable.{IsEncodable};
+ghost use Rattle.core_options.specs.Causes.{IsListRefusal, IsOptionRefusal, of_option};
+ghost use Rattle.core_options.specs.MainOptions.{OffersFunction, IsAliasIf, memory_name, NameOptions};
+ghost use Rattle.root_imports.specs.RootScopes.{IsRefusal};
+ghost use Rattle.standard_kinds.specs.declared.kinds.ExportKind.TheVariants as kinds;
+
+use crate::fault::StateFault;
+use bitflags::Flags;
+use byte_encoding::BuildFault;
+use comp_bytes::CanonicalOption;
+use comp_lists::{Keyed, Seq, Text, TryClone};
+use comp_options::{OptionFault, RequiredOptions};
+use comp_worlds::{ComponentWorld, FunctionKey};
+use root_imports::RootScope;
+use standard_kinds::StringEncoding;
+use std::alloc::{AllocError, Global};
+use wit_data::WorldKey;
+
+/// The string encoding that a table has for a function, by the key of its item and its name.
+pub fn encoding_of(
+    alloc: Global,
+    encodings: &Keyed<FunctionKey, StringEncoding>,
+    key: &WorldKey,
+    function: &Text,
+) -> Result<Option<StringEncoding>, AllocError>
+    ensures { IfOk result (λ encoding. encoding ≡ of_function key.now function.now encodings.now) }
+{
+    let wanted = FunctionKey {
+        key: key.try_clone(alloc)?,
+        function: function.clone(alloc)?,
+    };
+    Ok(encodings.get(&wanted).copied())
+}
+
+/// The alias of the memory that options name, the first that main exports, if it exports one. `instance` is main's.
+pub fn memory_of_main(
+    root: &mut RootScope<'_, ComponentWorld>,
+    instance: u32,
+) -> Result<Option<u32>, BuildFault>
+    requires valid { IsEncodable root.old.world.now }
+    requires made { IsInstanceOf root.old.items.defs instance 0 }
+    ensures same { root.new ≡ record root.old { items = root.new.items } }
+    ensures extends { Extends root.old.items root.new.items }
+    ensures grows { OnOk result (Grows root.old.world.now root.old.items.defs root.new.items.defs []) }
+    ensures memory { IfOk result (λ index. IsAliasIf root.new.items.defs kinds.Memory (memory_name root.old.world.now) index) }
+    ensures cause { IfErr result IsRefusal }
+{
+    let world = root.world;
+    match world.main.exports.memory() {
+        Some((name, _)) => {
+            let index = root.items.core_memory(instance, name)?;
+            Ok(Some(index))
+        }
+        None => Ok(None),
+    }
+}
+
+/// The alias of a function that main exports, if a name is given. `instance` is main's.
+pub fn function_of_main(
+    root: &mut RootScope<'_, ComponentWorld>,
+    instance: u32,
+    name: Option<&str>,
+) -> Result<Option<u32>, BuildFault>
+    requires made { IsInstanceOf root.old.items.defs instance 0 }
+    requires offered { IfSome (option_copied name) (OffersFunction root.old.world.now) }
+    ensures same { root.new ≡ record root.old { items = root.new.items } }
+    ensures extends { Extends root.old.items root.new.items }
+    ensures grows { OnOk result (Grows root.old.world.now root.old.items.defs root.new.items.defs []) }
+    ensures alias { IfOk result (λ index. IsAliasIf root.new.items.defs kinds.Func (option_copied name.entry) index) }
+    ensures cause { IfErr result IsRefusal }
+{
+    match name {
+        Some(name) => {
+            let index = root.items.core_function(instance, name)?;
+            Ok(Some(index))
+        }
+        None => Ok(None),
+    }
+}
+
+/// The refusal of options for what is missing.
+fn refused(alloc: Global, name: &Text, fault: OptionFault) -> Result<StateFault, AllocError>
+    ensures { IfOk result (λ refusal. refusal ≡ of_option name.now fault) }
+{
+    let place = name.clone(alloc)?;
+    Ok(match fault {
+        OptionFault::NoMemory => StateFault::NoMemory { place },
+        OptionFault::NoRealloc => StateFault::NoRealloc { place },
+    })
+}
+
+/// The options of a set, in order, for a function of this name.
+///
+/// `E7` where a memory is needed and missing, `E8` where a realloc is.
+fn list_options(
+    alloc: Global,
+    name: &Text,
+    needed: RequiredOptions,
+    encoding: StringEncoding,
+    memory: Option<u32>,
+    realloc: Option<u32>,
+) -> Result<Seq<CanonicalOption>, StateFault>
+    ensures ok { IfOk result (λ options. options ≡ options_of needed.0 encoding memory realloc) }
+    ensures memory { OnOk result (lacks_memory needed.0 memory ≡ false) }
+    ensures realloc { OnOk result (lacks_realloc needed.0 realloc ≡ false) }
+    ensures cause { IfErr result (IsListRefusal needed.0 memory realloc name.now) }
+{
+    let listed = match needed.into_iter(encoding, memory, realloc) {
+        Ok(listed) => listed,
+        Err(fault) => return Err(refused(alloc, name, fault)?),
+    };
+    let mut options = Seq::new(alloc);
+    for option in listed {
+        options.push(option)?;
+    }
+    Ok(options)
+}
+
+/// The name of a realloc, where one is needed.
+fn realloc_if_needed(needed: RequiredOptions, name: Option<&str>) -> Option<&str>
+    ensures { option_copied result ≡ when (needs needed.0 2) (option_copied name.entry) }
+{
+    if needed.contains(RequiredOptions::REALLOC) {
+        name
+    } else {
+        None
+    }
+}
+
+/// The options of a set, in order, with which a function is lowered or lifted: the memory that main exports, its export of the
+/// name that is given as the realloc, and the string encoding. `instance` is main's, and `place` names the function in faults.
+///
+/// `E7` where a memory is needed and main exports none, `E8` where a realloc is needed and no name is given.
+pub fn options_of_main(
+    root: &mut RootScope<'_, ComponentWorld>,
+    instance: u32,
+    place: &Text,
+    needed: RequiredOptions,
+    encoding: StringEncoding,
+    realloc: Option<&str>,
+) -> Result<Seq<CanonicalOption>, StateFault>
+    requires valid { IsEncodable root.old.world.now }
+    requires made { IsInstanceOf root.old.items.defs instance 0 }
+    requires offered { IfSome (option_copied realloc) (OffersFunction root.old.world.now) }
+    ensures same { root.new ≡ record root.old { items = root.new.items } }
+    ensures extends { Extends root.old.items root.new.items }
+    ensures grows { OnOk result (Grows root.old.world.now root.old.items.defs root.new.items.defs []) }
+    ensures named { IfOk result (λ options. NameOptions root.old.world.now root.new.items.defs options (options_in needed.0 (option_map (export_of Main) (option_copied realloc.entry)) (Some encoding))) }
+    ensures memory { OnOk result (IsTrue (needs needed.0 1) → IsSome (memory_name root.old.world.now)) }
+    ensures realloc { OnOk result (IsTrue (needs needed.0 2) → IsSome (option_copied realloc.entry)) }
+    ensures cause { IfErr result (IsOptionRefusal root.old.world.now needed.0 (option_copied realloc.entry) place.now) }
+{
+    let memory = memory_of_main(root, instance)?;
+    let wanted = realloc_if_needed(needed, realloc);
+    let realloc = function_of_main(root, instance, wanted)?;
+    let options = list_options(
+        root.items.allocator(),
+        place,
+        needed,
+        encoding,
+        memory,
+        realloc,
+    )?;
+    Ok(options)
+}

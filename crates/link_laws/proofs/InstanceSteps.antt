@@ -1,0 +1,469 @@
+-- An instance of a core module runs, and the store agrees with the longer list: of main, of the shims, and of the fixup.
+use Rattle.std.proofs.Common.{arith, ◌+◌, ◌^◌, inl, inr, ◌≡◌, ◌∙◌, ℕ, zero, suc, ◌<◌, Bool, false, List, [], ◌∷◌, ◌++◌, length, map, filter, refl, sym, ap, ap₂, subst, append-nil, append_assoc, Option, Some, None}
+use Rattle.std.proofs.lemmas.List.{map-append}
+use Rattle.std.proofs.lemmas.Option.{none-some}
+use Rattle.std.specs.Prelude.{Contains}
+use Rattle.std.specs.List.{slice_get, flat_map, AllZip, AllByRecursion}
+use Rattle.comp_lists.proofs.Lists.{slice_get-end, AllZip-weaker, AllByRecursion-weaker, AllByRecursion-push}
+use Rattle.comp_bytes.specs.Spaces.{kind_space, items_in}
+use Rattle.comp_bytes.specs.declared.space.Space.TheVariants as spaces
+use Rattle.standard_kinds.specs.declared.kinds.ExportKind.TheVariants as kinds
+use Rattle.comp_bytes.specs.declared.def.CoreArgument.{CoreArgument}
+use Rattle.comp_bytes.specs.declared.def.CoreInlineExport.{CoreInlineExport}
+use Rattle.comp_bytes.specs.declared.def.Item.TheVariants as items
+use Rattle.comp_bytes.specs.declared.def.Def.{Def}
+use Rattle.comp_bytes.specs.declared.def.Def.TheVariants as defs
+use Rattle.comp_worlds.specs.Worlds.{IsWorld}
+use Rattle.comp_terms.specs.Generated.{shims_number, fixup_number}
+use Rattle.world_shims.specs.WorldShims.{shims_of, type_of_shim, sections_of_shims, sections_of_fixup}
+use Rattle.shim_runs.specs.ShimRuns.{instance_exports}
+use Rattle.comp_roles.specs.declared.imports.ImportInstance.{ImportInstance}
+use Rattle.comp_worlds.specs.declared.world.ComponentWorld.{ComponentWorld}
+use Rattle.core_runs.specs.Store.{Opaque, Instantiated, Now}
+use Rattle.core_runs.specs.Execution.{seen}
+use Rattle.comp_runs.specs.Store.{Thing, Export, CoreItem, ModuleInstance, Store}
+use Rattle.comp_links.specs.Targets.{Main}
+use Rattle.comp_links.specs.Modules.{WorldModule}
+use Rattle.comp_roles.specs.declared.offered.ImportType.{ImportType}
+use Rattle.comp_terms.specs.Planned.{IsArgumentFor}
+use Rattle.comp_terms.specs.Rules.{InstantiatesUser}
+use Rattle.comp_runs.specs.Machine.{Scope, Machine, address_at, is_of, all_some}
+use Rattle.comp_runs.specs.Instances.{ExportTypes, exported_by, with_exports, with_module_instance, given_to, new_user}
+use Rattle.comp_runs.specs.Running.{core_argument, run}
+use Rattle.instance_laws.proofs.Held.{keeps_same, keeps_more, keeps_grown}
+use Rattle.link_laws.proofs.Steps.{machine, IsNow, IsGood, good_answered, quiet, users_among, Steps, filter-push, with_thing, numbered_at, no_answers, given_same, few, one_event, cells, length-cells, export_beside, not_last, not_fixup, agrees_with, seen_by}
+use Rattle.shim_runs.specs.ShimRuns.{with_shims, ShimsRun, IsActual, CanFix, with_slots, fixup_arguments, FixupRun}
+use Rattle.shim_runs.proofs.Placed.{shims_kept}
+use Rattle.shim_runs.proofs.ShimInstance.{shims_run}
+use Rattle.shim_runs.proofs.FixupInstance.{fixup_run}
+use Rattle.world_shims.proofs.Numbered.{shims_numbered}
+use Rattle.shim_plan.specs.declared.shims.Shim.{Shim}
+use Rattle.core_runs.specs.Instances.{empty_table}
+use Rattle.comp_links.specs.Links.{link_of}
+use Rattle.comp_links.specs.Modules.{user_modules}
+use Rattle.comp_runs.specs.Instances.{ModuleMeaning, OfUser, OfGenerated}
+use Rattle.comp_terms.specs.Planned.{IsFillFor}
+use Rattle.comp_terms.specs.Rules.{InstantiatesShims, InstantiatesFixup, InstantiatesModule, instance_number, instances_in, landmark}
+use Rattle.std.proofs.lemmas.Bool.{ne_eqb}
+use Rattle.std.proofs.lemmas.List.{length-replicate}
+use Rattle.std.proofs.lemmas.List.Elements.{filter_map-append, Contains-append_left, Contains-append_right}
+use Rattle.std.proofs.lemmas.Option.{same_Some}
+use Rattle.std.specs.List.{filter_map, slice_set, range_with_len}
+use Rattle.std.specs.Prelude.{codes}
+use Rattle.std.proofs.Common.{cond}
+use Rattle.link_laws.specs.Composition.{GeneratedModules, generated_sections, at_root, item_instantiates}
+use Rattle.link_laws.specs.Linking.{module_meanings}
+use Rattle.link_laws.proofs.Zips.{all_some-each}
+use Rattle.link_laws.proofs.Stores.{IsOpaqueOf, ShimsAt, IsModuleInstance, IsInlineInstance, IsFilledWith, AreFilled, AreShims, IsServedAs, IsFilledWith-kept, IsNamedEntry, ExportsShims, MayHaveShims, ShimsKept, shims_same, MayHaveShims-kept, main_module, IsPlanned, IsPlannedUser, NumberedFrom, Agrees, Keeps, things_kept, IsPlannedUser-kept, IsLiftedExport-kept}
+use Rattle.link_laws.proofs.Given.{thing_there, item_there, served_opaque, not_shims, of_shims, module_there, IsOffered, address_there, arguments_there, given_there}
+use Rattle.link_laws.proofs.Plain.{only, nothing_in, IsFunctionImport, function_imports, only_main, listed_main}
+use Rattle.link_laws.proofs.UserExports.{Exports, Alike, all_exports, all_alike, same_exports, each_export}
+
+-- ---- generated modules
+
+-- the modules that are generated for the shims of a world
+abbrev pub generated_for : ComponentWorld → Bool → GeneratedModules
+generated_for w debug_names = record { shims = Some (sections_of_shims (shims_of w) debug_names); fixup = Some (sections_of_fixup (shims_of w) debug_names) }
+
+-- they are those of the list
+pub record IsGenerated (w : ComponentWorld) (gen : GeneratedModules) : Type 0 where
+  pub debug_names : Bool
+  pub is : gen ≡ generated_for w debug_names
+  pub room : length (shims_of w) < 2 ^ 32
+
+abbrev meaning_at : List WorldModule → GeneratedModules → ℕ → Option ModuleMeaning
+meaning_at us gen n = slice_get (map (λ m. OfUser m.found.imported m.found.offered) us ++ map (λ ss. OfGenerated ss) (generated_sections gen)) n
+
+shims_meaning : (w : ComponentWorld) (gen : GeneratedModules) → IsWorld w → (h : IsGenerated w gen) → slice_get (module_meanings w gen) (shims_number w) ≡ Some (OfGenerated (sections_of_shims (shims_of w) h.debug_names))
+shims_meaning w gen ok h =
+    ap (λ x. meaning_at (user_modules w) x (shims_number w)) h.is
+    ∙ ap (λ (us : List WorldModule). meaning_at us (generated_for w h.debug_names) (length us)) (only_main w ok)
+
+fixup_meaning : (w : ComponentWorld) (gen : GeneratedModules) → IsWorld w → (h : IsGenerated w gen) → slice_get (module_meanings w gen) (fixup_number w) ≡ Some (OfGenerated (sections_of_fixup (shims_of w) h.debug_names))
+fixup_meaning w gen ok h =
+    ap (λ x. meaning_at (user_modules w) x (fixup_number w)) h.is
+    ∙ ap (λ (us : List WorldModule). meaning_at us (generated_for w h.debug_names) (suc (length us))) (only_main w ok)
+
+-- none of them is a user module
+users_of_generated : (n : ℕ) → (0 ≡ n → ⊥) → users_among (n ∷ []) ≡ []
+users_of_generated n other = ap (λ b. cond b (n ∷ []) []) (ne_eqb n 0 (λ e. other (sym e)))
+
+-- the numbers of instances, by the landmarks and by the definitions
+number_of_one : (d : Def) → filter_map instance_number (filter_map landmark (d ∷ [])) ≡ at_root item_instantiates d
+number_of_one (defs.Item (items.CoreModule bytes)) = refl
+number_of_one d = refl
+
+pub numbers_of : (ds : List Def) → instances_in ds ≡ flat_map (at_root item_instantiates) ds
+numbers_of [] = refl
+numbers_of (d ∷ ds) =
+    ap (filter_map instance_number) (filter_map-append landmark (d ∷ []) ds)
+    ∙ (filter_map-append instance_number (filter_map landmark (d ∷ [])) (filter_map landmark ds)
+    ∙ ap₂ (λ xs ys. xs ++ ys) (number_of_one d) (numbers_of ds))
+
+no_entries : {X Y : Type 0} (f : X → Y) (xs : List X) → map f xs ≡ [] → xs ≡ []
+no_entries f [] h = refl
+no_entries f (x ∷ xs) h = cc
+
+none_contained : {X P : Type 0} (xs : List X) (x : X) → xs ≡ [] → Contains xs x → P
+none_contained xs x none h = nothing_in x (subst (λ l. Contains l x) none h)
+
+-- where no instance is made, there are no shims
+no_shims_yet : (w : ComponentWorld) (s : Store) (numbers : List ℕ) (shims new : Option ShimsAt) → numbers ≡ [] → MayHaveShims w s numbers shims → ShimsKept shims new
+no_shims_yet w s numbers None new none h = tt
+no_shims_yet w s numbers (Some at) new none h = none_contained numbers (shims_number w) none h.there
+
+set_there : {X : Type 0} (xs : List X) (n : ℕ) (x y : X) → slice_get xs n ≡ Some y → slice_get (slice_set xs n x) n ≡ Some x
+set_there [] n x y h = absurd (none-some y h)
+set_there (z ∷ xs) zero x y h = refl
+set_there (z ∷ xs) (suc n) x y h = set_there xs n x y h
+
+mapped_twice : (es : List Export) → map (λ (e : Export). Some e.address) es ≡ map (λ f. Some f) (map (λ (e : Export). e.address) es)
+mapped_twice [] = refl
+mapped_twice (e ∷ es) = ap (λ l. Some e.address ∷ l) (mapped_twice es)
+
+-- what is given for a shim: a function of its type that is what the shim stands for
+abbrev IsFilling : ComponentWorld → Store → Shim → Export → Type 0
+IsFilling w s shim e = IsActual s.code shim e × IsFilledWith w s shim e.address
+
+module _ {w : ComponentWorld} {earlier : List Def} {c : Scope} {s : Store} (a : Agrees w earlier c s) (g : ℕ) (gen : GeneratedModules) where
+  -- a core module has the address of its number
+  module_address : (number : ℕ) → number < items_in spaces.CoreModule earlier → address_at spaces.CoreModule number c.items ≡ Some number
+  module_address number l =
+      let same : 0 + number ≡ number = omega arith in
+      numbered_at 0 (filter (is_of spaces.CoreModule) c.items) (length s.core_modules) number a.modules (address_there a spaces.CoreModule number l) ∙ ap (λ (n : ℕ). Some n) same
+
+  pub step_user : IsWorld w → (number : ℕ) (arguments : List CoreArgument) → InstantiatesUser w earlier number arguments → Steps w gen earlier c s g (defs.Item (items.CoreInstantiate number arguments))
+  step_user ok number arguments h =
+      let d : Def = defs.Item (items.CoreInstantiate 0 arguments) in
+      let es : ExportTypes = w.main.offered in
+      let is : List ImportType = w.main.imported in
+      let roles : List (List ℕ × ImportInstance) = w.main.imports.modules in
+      let user : ℕ = length s.module_instances in
+      let numbers : List ℕ = flat_map (at_root item_instantiates) earlier in
+      let m0 : Machine = machine c s (record no_answers { globals = cells g }) in
+      let m1 : Machine = with_exports user es m0 in
+      let more : Exports m0 m1 = all_exports user es m0 in
+      let own : List Export = exported_by user es m0 in
+      let of_main : (number ≡ 0) × (main_module w ≡ h.of) = listed_main w ok number h.of h.listed in
+      let each : AllZip (IsArgumentFor w Main earlier) arguments roles = subst (λ (o : WorldModule). AllZip (IsArgumentFor w o.of earlier) arguments o.found.imports.modules) (sym of_main.1) h.each in
+      let args : (ys : List (List ℕ × List Export)) × (all_some (map (core_argument m0) arguments) ≡ Some ys) × AllZip (IsOffered w a.shims s) ys roles =
+      arguments_there a m0 refl refl ok arguments roles ok.main.import_roles each in
+      let plain : AllByRecursion (IsFunctionImport w) is = function_imports w ok in
+      let found : (ts : List Thing) × (all_some (map (given_to (machine c s no_answers) args.0) is) ≡ Some ts) × AllZip (IsPlanned w a.shims s) ts is =
+      all_some-each (IsPlanned w a.shims s) (given_to (machine c s no_answers) args.0) is
+      (AllByRecursion-weaker (given_there w a.shims (machine c s no_answers) numbers a.with_shims args.0 args.2) is plain) in
+      let given : (now : Now) → all_some (map (given_to (machine c s now) args.0) is) ≡ Some found.0 = λ now.
+      ap (λ l. all_some l) (given_same w c s now args.0 is plain) ∙ found.1 in
+      let instance : ModuleInstance = record { module_number = 0; given = found.0; exports = own } in
+      let t : Thing = record { space = spaces.CoreInstance; address = length m1.store.core_instances } in
+      let s' : Store = record m1.store { core_instances = m1.store.core_instances ++ own ∷ []; module_instances = m1.store.module_instances ++ instance ∷ [] } in
+      let users : m1.store.module_instances ≡ s.module_instances = ap (λ (m : Machine). m.store.module_instances) more.same in
+      let k : Keeps c.items (c.items ++ t ∷ []) s s' = record {
+        things = things_kept c.items t s;
+        code = more.code;
+        known = more.known;
+        core_instances = keeps_grown s.core_instances (m1.store.core_instances ++ own ∷ []) (own ∷ []) (ap (λ (m : Machine). m.store.core_instances ++ own ∷ []) more.same);
+        functions = keeps_same (ap (λ (m : Machine). m.store.functions) more.same);
+        types = keeps_same (ap (λ (m : Machine). m.store.types) more.same);
+        instances = keeps_same (ap (λ (m : Machine). m.store.instances) more.same);
+        users = keeps_grown s.module_instances (m1.store.module_instances ++ instance ∷ []) (instance ∷ []) (ap (λ l. l ++ instance ∷ []) users);
+      } in
+      let scoped : 0 < items_in spaces.CoreModule earlier = subst (λ n. n < items_in spaces.CoreModule earlier) of_main.0 h.scoped in
+      let here : ShimsKept a.shims a.shims = shims_same a.shims in
+      let planned : AllByRecursion (IsPlannedUser w a.shims s') (m1.store.module_instances ++ instance ∷ []) =
+      AllByRecursion-push (IsPlannedUser w a.shims s') m1.store.module_instances instance
+      (subst (AllByRecursion (IsPlannedUser w a.shims s')) (sym users) (AllByRecursion-weaker (IsPlannedUser-kept w k a.shims a.shims here) s.module_instances a.served))
+      (IsPlannedUser-kept w k a.shims a.shims here instance (λ is_main. found.2)) in
+      let exporting : (at : ShimsAt) → AllByRecursion (ExportsShims w at) s.module_instances → AllByRecursion (ExportsShims w at) (m1.store.module_instances ++ instance ∷ []) =
+      λ at e. AllByRecursion-push (ExportsShims w at) m1.store.module_instances instance (subst (AllByRecursion (ExportsShims w at)) (sym users) e) (λ is_shims. absurd (not_shims w is_shims)) in
+      let there : MayHaveShims w s' (numbers ++ 0 ∷ []) a.shims =
+      MayHaveShims-kept k w numbers (0 ∷ []) a.shims more.tables (λ yes. not_last numbers (shims_number w) (not_shims w) yes) (λ yes. not_last numbers (fixup_number w) (not_fixup w) yes) exporting a.with_shims in
+      let alike : (after : Now) → length after.globals ≡ g → Alike (machine c s after) m0 = λ after count. record { store = refl; globals = count ∙ sym (length-cells g) } in
+      let new : (after : Now) → length after.globals ≡ g → new_user 0 es found.0 (machine c s after) ≡ machine (with_thing c t c.imports) s' (with_exports user es (machine c s after)).now = λ after count.
+      ap₂ (λ l m. with_module_instance (record { module_number = 0; given = found.0; exports = l }) m)
+      (same_exports user es (machine c s after) m0 (alike after count))
+      (ap₂ (λ x y. machine x y (with_exports user es (machine c s after)).now) (ap (λ (m : Machine). m.scope) (all_exports user es (machine c s after)).same) (all_alike user es (machine c s after) m0 (alike after count)).store) in
+      let steps : Steps w gen earlier c s g d = (
+        with_thing c t c.imports,
+        s',
+        length m1.now.globals,
+        record {
+          continues = λ e u n events questions rest go now at. rw (module_address 0 scoped, args.1, given now) (
+              good_answered e u n (events ++ (Instantiated 0 ∷ seen_by rest)) questions now.answers (seen now (Instantiated 0)) (machine c s now) _
+              (few events g rest now at)
+              (λ values after same_events same_moments same_globals.
+              let count : length after.globals ≡ g = same_globals ∙ at.globals in
+              let b : Machine = with_exports user es (machine c s after) in
+              let added : Exports (machine c s after) b = all_exports user es (machine c s after) in
+              let is_now : IsNow (events ++ Instantiated 0 ∷ []) (length m1.now.globals) b.now =
+              one_event events g (length m1.now.globals) now b.now at (ap (λ (m : Machine). m.now.events) added.same ∙ same_events) (ap (λ (m : Machine). m.now.moments) added.same ∙ same_moments) (all_alike user es (machine c s after) m0 (alike after count)).globals in
+              subst (λ (m : Machine). IsGood e u n (events ++ (Instantiated 0 ∷ seen_by rest)) questions after.answers (run (module_meanings w gen) rest m)) (sym (new after count))
+              (subst (λ l. IsGood e u n (events ++ (Instantiated 0 ∷ seen_by rest)) questions l (run (module_meanings w gen) rest (machine (with_thing c t c.imports) s' b.now))) (ap (λ (m : Machine). m.now.answers) added.same)
+              (subst (λ l. IsGood e u n l questions b.now.answers (run (module_meanings w gen) rest (machine (with_thing c t c.imports) s' b.now))) (append_assoc events (Instantiated 0 ∷ []) (seen_by rest))
+              (go b.now is_now)))));
+        },
+        agrees_with a g gen d (with_thing c t c.imports) s' t a.shims here refl k
+            (record {
+              space = refl;
+              is = record {
+                exports = own;
+                user = user;
+                present = slice_get-end m1.store.core_instances own;
+                is = record {
+                  instance = instance;
+                  present = subst (λ n. slice_get (m1.store.module_instances ++ instance ∷ []) n ≡ Some instance) (ap (λ (l : List ModuleInstance). length l) users) (slice_get-end m1.store.module_instances instance);
+                  of = refl;
+                };
+                same = refl;
+                each = inl (refl, AllZip-weaker (export_beside m1.store s'.core_instances s'.module_instances user) own es (each_export user es m0));
+              };
+            })
+            (tt, tt, tt)
+            (subst (λ (l : List (List ℕ)). NumberedFrom 0 (filter (is_of spaces.CoreModule) (c.items ++ t ∷ [])) (length l)) (ap (λ (m : Machine). m.store.core_modules) (sym more.same)) (rw (filter-push (is_of spaces.CoreModule) false c.items t refl) a.modules))
+            (map-append (λ (u : ModuleInstance). u.module_number) m1.store.module_instances (instance ∷ []) ∙ ap (λ (l : List ModuleInstance). map (λ (u : ModuleInstance). u.module_number) l ++ 0 ∷ []) users)
+            planned
+            there
+            (sym (append-nil (map (λ (e : Export). e.name) c.exports)))
+            (AllByRecursion-weaker (IsLiftedExport-kept w k) c.exports a.lifted)
+            a.imports,
+      ) in
+      subst (λ n. Steps w gen earlier c s g (defs.Item (items.CoreInstantiate n arguments))) (sym of_main.0) steps
+
+  -- ---- the shims
+
+  pub step_shims : IsWorld w → IsGenerated w gen → InstantiatesShims w earlier (shims_number w) [] → Steps w gen earlier c s g (defs.Item (items.CoreInstantiate (shims_number w) []))
+  step_shims ok there h =
+      let number : ℕ = shims_number w in
+      let d : Def = defs.Item (items.CoreInstantiate number []) in
+      let shims : List Shim = shims_of w in
+      let numbers : List ℕ = flat_map (at_root item_instantiates) earlier in
+      let none : numbers ≡ [] = sym (numbers_of earlier) ∙ h.first in
+      let no_instance : s.module_instances ≡ [] = no_entries (λ (u : ModuleInstance). u.module_number) s.module_instances (a.instantiated ∙ none) in
+      let r : ShimsRun shims there.debug_names number c s = shims_run shims there.debug_names number c s in
+      let at : ShimsAt = record { address = length s.code.functions; table = length s.code.tables } in
+      let own : List Export = instance_exports shims at.address at.table in
+      let instance : ModuleInstance = record { module_number = number; given = []; exports = own } in
+      let t : Thing = record { space = spaces.CoreInstance; address = length s.core_instances } in
+      let s' : Store = record s { code = with_shims shims r.functions s.code; core_instances = s.core_instances ++ own ∷ []; module_instances = s.module_instances ++ instance ∷ [] } in
+      let k : Keeps c.items (c.items ++ t ∷ []) s s' = record {
+        things = things_kept c.items t s;
+        code = keeps_more s.code.functions r.functions;
+        known = keeps_same refl;
+        core_instances = keeps_more s.core_instances (own ∷ []);
+        functions = keeps_same refl;
+        types = keeps_same refl;
+        instances = keeps_same refl;
+        users = keeps_more s.module_instances (instance ∷ []);
+      } in
+      let new : ShimsKept a.shims (Some at) = no_shims_yet w s numbers a.shims (Some at) none a.with_shims in
+      let no_fixup : Contains (numbers ++ number ∷ []) (fixup_number w) → ⊥ =
+      λ yes. let same : number ≡ suc number = only number (fixup_number w) (subst (λ l. Contains l (fixup_number w)) (ap (λ l. l ++ number ∷ []) none) yes) in absurd (omega (arith, same)) in
+      let are : AreShims w s' (numbers ++ number ∷ []) at = record {
+        there = Contains-append_right numbers (number ∷ []) number (zero, omega arith, refl);
+        room = there.room;
+        made = r.are;
+        exported = AllByRecursion-push (ExportsShims w at) s.module_instances instance (subst (AllByRecursion (ExportsShims w at)) (sym no_instance) tt) (λ e. refl);
+        unfilled = λ no. slice_get-end s.code.tables (empty_table (length shims));
+        filled = λ yes. absurd (no_fixup yes);
+      } in (
+        with_thing c t c.imports,
+        s',
+        g,
+        quiet w gen d c s g (with_thing c t c.imports) s' (users_of_generated number (not_shims w)) (λ rest now. rw (module_address number h.scoped, shims_meaning w gen ok there) (r.runs now [] (run (module_meanings w gen) rest))),
+        agrees_with a g gen d (with_thing c t c.imports) s' t (Some at) new refl k
+            (record {
+              space = refl;
+              is = record {
+                exports = own;
+                user = length s.module_instances;
+                present = slice_get-end s.core_instances own;
+                is = record { instance = instance; present = slice_get-end s.module_instances instance; of = refl };
+                same = refl;
+                each = inr (inl (refl, refl));
+              };
+            })
+            (tt, tt, tt)
+            (rw (filter-push (is_of spaces.CoreModule) false c.items t refl) a.modules)
+            (map-append (λ (u : ModuleInstance). u.module_number) s.module_instances (instance ∷ []))
+            (AllByRecursion-push (IsPlannedUser w (Some at) s') s.module_instances instance
+            (AllByRecursion-weaker (IsPlannedUser-kept w k a.shims (Some at) new) s.module_instances a.served)
+            (λ is_main. absurd (not_shims w (sym is_main))))
+            are
+            (sym (append-nil (map (λ (e : Export). e.name) c.exports)))
+            (AllByRecursion-weaker (IsLiftedExport-kept w k) c.exports a.lifted)
+            a.imports,
+      )
+
+  -- ---- the fixup
+
+  -- what the shims stand for, among the entries of an inline instance
+  fill_there : IsWorld w → (e : CoreInlineExport) (shim : Shim) (x : Export) → IsFillFor w earlier e shim → IsNamedEntry c.items e x → IsFilling w s shim x
+  fill_there ok e shim x h n =
+      let kind : kind_space e.kind ≡ spaces.CoreFunc = ap kind_space h.function in
+      let i : (kinds.Func ≡ kinds.Func) × (y : ℕ) × (address_at spaces.CoreFunc e.index c.items ≡ Some y) × IsServedAs w s y (link_of w Main h.role) = item_there a ok kinds.Func e.index h.role h.stands_for.right h.serves in
+      let at : address_at spaces.CoreFunc e.index c.items ≡ Some x.address = subst (λ space. address_at space e.index c.items ≡ Some x.address) kind n.at in
+      let serves : IsServedAs w s x.address (link_of w Main h.role) = subst (λ y. IsServedAs w s y (link_of w Main h.role)) (same_Some i.1 x.address (sym i.2 ∙ at)) i.3 in
+      let o : (item : CoreItem) × IsOpaqueOf s x.address (type_of_shim shim) item = served_opaque w s x.address h.role (type_of_shim shim) h.stands_for.right h.stands_for.typed serves in (
+        record { named = n.named ∙ h.named; space = n.space ∙ kind; function = Opaque o.1.what (type_of_shim shim); present = o.1.present; typed = refl },
+        record { role = h.role; stands_for = h.stands_for; serves = serves },
+      )
+
+  fills_there : IsWorld w → (es : List CoreInlineExport) (shims : List Shim) (xs : List Export) → AllZip (IsFillFor w earlier) es shims → AllZip (IsNamedEntry c.items) es xs → AllZip (IsFilling w s) shims xs
+  fills_there ok [] [] [] h n = tt
+  fills_there ok (e ∷ es) (shim ∷ shims) (x ∷ xs) h n = (fill_there ok e shim x h.0 n.0, fills_there ok es shims xs h.1 n.1)
+  fills_there ok [] (shim ∷ shims) xs h n = absurd h
+  fills_there ok (e ∷ es) [] xs h n = absurd h
+  fills_there ok [] [] (x ∷ xs) h n = absurd n
+  fills_there ok (e ∷ es) (shim ∷ shims) [] h n = absurd n
+
+  pub step_fixup : IsWorld w → IsGenerated w gen → (number : ℕ) (arguments : List CoreArgument) → InstantiatesFixup w earlier number arguments → Steps w gen earlier c s g (defs.Item (items.CoreInstantiate number arguments))
+  step_fixup ok there number arguments h =
+      subst (λ n. Steps w gen earlier c s g (defs.Item (items.CoreInstantiate n arguments))) (sym h.numbered)
+      (subst (λ l. Steps w gen earlier c s g (defs.Item (items.CoreInstantiate (fixup_number w) l))) (sym h.given) steps)
+    where
+      d : Def
+      d = defs.Item (items.CoreInstantiate (fixup_number w) (record { name = codes "actual"; instance = h.actual } ∷ record { name = codes "shim"; instance = h.shims } ∷ []))
+
+      shims : List Shim
+      shims = shims_of w
+
+      numbers : List ℕ
+      numbers = flat_map (at_root item_instantiates) earlier
+
+      inline : (x : ℕ) × (address_at spaces.CoreInstance h.actual c.items ≡ Some x) × IsInlineInstance c.items s h.fills.entries x
+      inline = thing_there a h.fills.made
+
+      of : (x : ℕ) × (address_at spaces.CoreInstance h.shims c.items ≡ Some x) × IsModuleInstance w a.shims s (shims_number w) x
+      of = module_there a h.of_shims
+
+      found : (at : ShimsAt) × (a.shims ≡ Some at) × (of.2.exports ≡ instance_exports shims at.address at.table) × (length shims < 2 ^ 32)
+      found = of_shims w s numbers of.2.user of.2.exports a.shims a.with_shims of.2.each
+
+      at : ShimsAt
+      at = found.0
+
+      before : AreShims w s numbers at
+      before = subst (MayHaveShims w s numbers) found.1 a.with_shims
+
+      actual : List Export
+      actual = inline.2.exports
+
+      filling : AllZip (IsFilling w s) shims actual
+      filling = fills_there ok h.fills.entries shims actual h.fills.each inline.2.each
+
+      -- it is the first fixup
+      first : Contains numbers (fixup_number w) → ⊥
+      first contains = by (only_main w ok) (subst (λ l. Contains l (fixup_number w)) (sym (numbers_of earlier) ∙ h.last) contains)
+        where
+          by : user_modules w ≡ main_module w ∷ [] → Contains (shims_number w ∷ range_with_len 0 (length (user_modules w))) (fixup_number w) → ⊥
+          by e contains = two (subst (λ (us : List WorldModule). Contains (length us ∷ range_with_len 0 (length us)) (suc (length us))) e contains)
+            where
+              two : Contains {X = ℕ} (1 ∷ 0 ∷ []) 2 → ⊥
+              two (zero, l, e) = cc
+              two (suc zero, l, e) = cc
+              two (suc (suc k), l, e) = absurd (omega (arith, l))
+
+      can : CanFix shims actual at.table s.code
+      can = record {
+        numbered = shims_numbered w;
+        room = found.3;
+        each = AllZip-weaker (λ shim e f. f.0) shims actual filling;
+        slots = empty_table (length shims);
+        present = before.unfilled first;
+        size = length-replicate (length shims) None;
+      }
+
+      r : FixupRun shims there.debug_names actual at.address at.table (fixup_number w) c s
+      r = fixup_run shims there.debug_names actual at.address at.table (fixup_number w) c s can
+
+      instance : ModuleInstance
+      instance = record { module_number = fixup_number w; given = r.given; exports = [] }
+
+      t : Thing
+      t = record { space = spaces.CoreInstance; address = length s.core_instances }
+
+      s' : Store
+      s' = record s { code = with_slots at.table actual s.code; core_instances = s.core_instances ++ [] ∷ []; module_instances = s.module_instances ++ instance ∷ [] }
+
+      k : Keeps c.items (c.items ++ t ∷ []) s s'
+      k = record {
+        things = things_kept c.items t s;
+        code = keeps_same refl;
+        known = keeps_same refl;
+        core_instances = keeps_more s.core_instances ([] ∷ []);
+        functions = keeps_same refl;
+        types = keeps_same refl;
+        instances = keeps_same refl;
+        users = keeps_more s.module_instances (instance ∷ []);
+      }
+
+      here : ShimsKept a.shims a.shims
+      here = shims_same a.shims
+
+      is_filled : AreFilled w s' at.table
+      is_filled = record {
+        functions = map (λ (e : Export). e.address) actual;
+        slots = set_there s.code.tables at.table (map (λ (e : Export). Some e.address) actual) (empty_table (length shims)) can.present ∙ ap (λ l. Some l) (mapped_twice actual);
+        each = addresses shims actual filling;
+      }
+        where
+          addresses : (those : List Shim) (xs : List Export) → AllZip (IsFilling w s) those xs → AllZip (IsFilledWith w s') those (map (λ (e : Export). e.address) xs)
+          addresses [] [] f = tt
+          addresses (shim ∷ those) (x ∷ xs) f = (IsFilledWith-kept k w shim x.address f.0.1, addresses those xs f.1)
+          addresses [] (x ∷ xs) f = absurd f
+          addresses (shim ∷ those) [] f = absurd f
+
+      are : AreShims w s' (numbers ++ fixup_number w ∷ []) at
+      are = record {
+        there = Contains-append_left numbers (fixup_number w ∷ []) (shims_number w) before.there;
+        room = found.3;
+        made = shims_kept s.code s'.code (λ i f e. e) at.table 0 at.address shims before.made;
+        exported = AllByRecursion-push (ExportsShims w at) s.module_instances instance before.exported (λ e. let same : suc (shims_number w) ≡ shims_number w = e in absurd (omega (arith, same)));
+        unfilled = λ no. absurd (no (Contains-append_right numbers (fixup_number w ∷ []) (fixup_number w) (zero, omega arith, refl)));
+        filled = λ yes. is_filled;
+      }
+
+      arguments_held : (now : Now) → all_some (map (core_argument (machine c s now)) (record { name = codes "actual"; instance = h.actual } ∷ record { name = codes "shim"; instance = h.shims } ∷ [])) ≡ Some (fixup_arguments shims actual at.address at.table)
+      arguments_held now = rw (inline.1, inline.2.present, of.1, of.2.present, found.2) refl
+
+      steps : Steps w gen earlier c s g d
+      steps = (
+        with_thing c t c.imports,
+        s',
+        g,
+        quiet w gen d c s g (with_thing c t c.imports) s' (users_of_generated (fixup_number w) (not_fixup w)) (λ rest now. rw (module_address (fixup_number w) (subst (λ n. n < items_in spaces.CoreModule earlier) h.numbered h.scoped), fixup_meaning w gen ok there, arguments_held now) (r.runs now (run (module_meanings w gen) rest))),
+        agrees_with a g gen d (with_thing c t c.imports) s' t a.shims here refl k
+            (record {
+              space = refl;
+              is = record {
+                exports = [];
+                user = length s.module_instances;
+                present = slice_get-end s.core_instances [];
+                is = record { instance = instance; present = slice_get-end s.module_instances instance; of = refl };
+                same = refl;
+                each = inr (inr refl);
+              };
+            })
+            (tt, tt, tt)
+            (rw (filter-push (is_of spaces.CoreModule) false c.items t refl) a.modules)
+            (map-append (λ (u : ModuleInstance). u.module_number) s.module_instances (instance ∷ []))
+            (AllByRecursion-push (IsPlannedUser w a.shims s') s.module_instances instance
+            (AllByRecursion-weaker (IsPlannedUser-kept w k a.shims a.shims here) s.module_instances a.served)
+            (λ is_main. let no : suc (shims_number w) ≡ 0 = is_main in absurd (omega (arith, no))))
+            (subst (MayHaveShims w s' (numbers ++ fixup_number w ∷ [])) (sym found.1) are)
+            (sym (append-nil (map (λ (e : Export). e.name) c.exports)))
+            (AllByRecursion-weaker (IsLiftedExport-kept w k) c.exports a.lifted)
+            a.imports,
+      )
+
+  -- ---- any of these
+
+  -- where a generated module is instantiated, it is one of the list
+  pub step_instantiate : IsWorld w → (number : ℕ) (arguments : List CoreArgument) → ((0 ≡ number → ⊥) → IsGenerated w gen) → InstantiatesModule w earlier number arguments → Steps w gen earlier c s g (defs.Item (items.CoreInstantiate number arguments))
+  step_instantiate ok number arguments there (inl h) = step_user ok number arguments h
+  step_instantiate ok number arguments there (inr (inl h)) =
+      let generated : IsGenerated w gen = there (λ e. not_shims w (e ∙ h.numbered)) in
+      let own : InstantiatesShims w earlier (shims_number w) [] = subst (InstantiatesShims w earlier (shims_number w)) h.closed (subst (λ n. InstantiatesShims w earlier n arguments) h.numbered h) in
+      subst (λ n. Steps w gen earlier c s g (defs.Item (items.CoreInstantiate n arguments))) (sym h.numbered)
+      (subst (λ l. Steps w gen earlier c s g (defs.Item (items.CoreInstantiate (shims_number w) l))) (sym h.closed) (step_shims ok generated own))
+  step_instantiate ok number arguments there (inr (inr h)) = step_fixup ok (there (λ e. not_fixup w (e ∙ h.numbered))) number arguments h

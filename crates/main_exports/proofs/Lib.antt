@@ -1,0 +1,4 @@
+pub mod Exporting
+pub mod Growth
+pub mod Indexing
+pub mod NeededOptions

@@ -1,0 +1,6 @@
+pub mod Interfaces
+pub mod Uses
+pub mod Lowering
+pub mod Behind
+pub mod Filled
+pub mod Instantiating

@@ -1,0 +1,16 @@
+use Rattle.std.proofs.Common.{ap}
+use Rattle.comp_builder.specs.Built.{Built}
+use Rattle.root_imports.specs.Growing.{Grows-then}
+use Rattle.main_fixup.proofs.Filled.{IsActual, actual_made}
+use Rattle.main_fixup.proofs.fills.actual_instance.Goals as goal
+
+made : (c : goal.In_ok-instance) → IsActual c.args.root.now.world.now c.fills.new.root.items.defs c.inline_instance.new.self.defs c.in_ok-instance.instance
+made c =
+    actual_made c.args.root.now.world.now c.fills.new.root.items.defs c.inline_instance.new.self.defs c.in_ok-instance.instance c.in_ok-entries.entries c.in_ok-entries.ensures.few c.in_ok-entries.ensures.fills
+    (ap (λ (b : Built). b.defs) c.in_ok-instance.ensures.adds.1) c.in_ok-instance.ensures.at
+
+pub returns-clause-grows : goal.returns-clause-grows
+returns-clause-grows c = let a = made c in Grows-then c.in_ok-entries.ensures.grows a.grows
+
+pub returns-clause-fills : goal.returns-clause-fills
+returns-clause-fills c = let a = made c in a.fills

@@ -1,0 +1,37 @@
+use Rattle.std.proofs.Common.{[], subst, sym}
+use Rattle.comp_items.proofs.Kept.{instance-kept}
+use Rattle.comp_items.proofs.Remembering.{longer}
+use Rattle.comp_terms.specs.Rules.{Grows}
+use Rattle.comp_worlds.specs.declared.world.ComponentWorld.{ComponentWorld}
+use Rattle.root_imports.specs.Growing.{Grows-then}
+use Rattle.root_imports.specs.declared.root_scope.RootScope.{RootScope}
+use Rattle.main_fixup.specs.Filling.{IsBehind}
+use Rattle.main_fixup.proofs.Behind.{called_used, found_behind}
+use Rattle.main_fixup.proofs.lowerings.lower_shim.Goals as goal
+
+abbrev Root : Type 0
+Root = RootScope ComponentWorld
+
+pub imported_function-requires-clause-used : goal.imported_function-requires-clause-used
+imported_function-requires-clause-used c =
+    let k = c.in-IndirectLowering in called_used c.args.root.now.world.now c.args.shim.now c.requires.stands k.interface k.function k.realloc k.encoding k.is
+
+pub lower_function-requires-clause-made : goal.lower_function-requires-clause-made
+lower_function-requires-clause-made c = instance-kept (longer c.in_ok-index-in-IndirectLowering.ensures.extends) c.requires.sources.made
+
+pub lower_function-requires-clause-behind : goal.lower_function-requires-clause-behind
+lower_function-requires-clause-behind c =
+    let k = c.in-IndirectLowering in
+    let of = c.in_ok-index-in-IndirectLowering in
+    let ds = c.imported_function.new.root.items.defs in
+    let behind : IsBehind c.args.root.now.world.now ds c.args.shim.now k.encoding of.index =
+    found_behind c.args.root.now.world.now c.args.shim.now c.requires.stands k.interface k.function k.realloc k.encoding k.is ds of.index of.ensures.function in
+    subst (λ (r : Root). IsBehind r.world.now ds c.args.shim.now k.encoding of.index) (sym of.ensures.same) behind
+
+pub returns-clause-grows : goal.returns-clause-grows
+returns-clause-grows c =
+    let of = c.in_ok-index-in-IndirectLowering in
+    let mid = c.imported_function.new.root.items.defs in
+    let new = c.lower_function.new.root.items.defs in
+    let second : Grows c.args.root.now.world.now mid new [] = subst (λ (r : Root). Grows r.world.now mid new []) of.ensures.same c.in_ok-lowered-in-IndirectLowering.ensures.grows in
+    Grows-then of.ensures.grows second

@@ -1,0 +1,106 @@
+-- What the lowerings behind shims need, and what they are (Canonical ABI: `canon lower`; component model, explainer: core
+-- instances).
+use Rattle.std.specs.Prelude.{◌≡◌, ℕ, List, Option, Some, None, true, map, Contains, IsTrue, IsSome}
+use Rattle.std.specs.Option.{option_map}
+use Rattle.standard_kinds.specs.declared.kinds.StringEncoding.{StringEncoding}
+use Rattle.comp_bytes.specs.declared.def.Def.{Def}
+use Rattle.comp_bytes.specs.declared.space.Space.TheVariants as spaces
+use Rattle.wit_data.specs.declared.ids.InterfaceId.{InterfaceId}
+use Rattle.wit_data.specs.declared.ids.TypeId.{TypeId}
+use Rattle.wit_data.specs.declared.worlds.WorldItem.TheVariants as items
+use Rattle.wit_data.specs.declared.worlds.WorldKey.{WorldKey}
+use Rattle.comp_trees.specs.Trees.{Origin, FunctionTree}
+use Rattle.world_values.specs.Items.{functions_of}
+use Rattle.comp_options.specs.Options.{needs}
+use Rattle.comp_roles.specs.CoreImports.{CoreImport}
+use Rattle.comp_roles.specs.declared.imports.Import.{Import}
+use Rattle.comp_worlds.specs.Encodable.{IsEncodable}
+use Rattle.comp_worlds.specs.WorldContents.{items_of}
+use Rattle.comp_worlds.specs.declared.world.ComponentWorld.{ComponentWorld}
+use Rattle.comp_links.specs.Links.{link_of, lower_options, lower_realloc}
+use Rattle.comp_links.specs.Lists.{IsOriginOf}
+use Rattle.comp_links.specs.Roles.{is_used, is_used_of, import_encoding}
+use Rattle.comp_links.specs.Targets.{Main, WorldFunction, OfRoot, OfInterface, Lowered}
+use Rattle.shim_plan.specs.declared.shims.Shim.{Shim}
+use Rattle.comp_terms.specs.Generated.{interface_imported, IsShimOf}
+use Rattle.comp_terms.specs.Planned.{IsTypeOf, IsItemFor}
+use Rattle.comp_terms.specs.Terms.{IsImportedFunction, IsInstanceOf}
+use Rattle.wit_types.specs.declared.maps.TypeEncodingMaps.{TypeEncodingMaps}
+use Rattle.root_imports.specs.RootScopes.{AreTablesRight, ArePassed}
+use Rattle.root_imports.specs.Imports.{FindsImports, FindsUsed}
+use Rattle.core_options.specs.MainOptions.{memory_name}
+use Rattle.shim_targets.specs.ShimTargets.{StandsFor}
+use Rattle.main_fixup.specs.declared.sources.FillSources.{FillSources}
+
+-- what the lowerings need is there, and the tables of types are right, with the instances of the interfaces
+pub record AreFillSources (w : ComponentWorld) (s : FillSources) (last : Option TypeId) (ds : List Def) (maps : TypeEncodingMaps) (instances : List (InterfaceId × ℕ)) : Type 0 where
+  pub valid : IsEncodable w
+  pub imports : FindsImports w ds s.functions.now
+  pub used : FindsUsed w s.functions.now
+  pub made : IsInstanceOf ds s.instance 0
+  pub tables : AreTablesRight w last instances ds maps
+  pub passed : ArePassed w last
+
+-- main has the memory and the realloc that the options of a shim name
+pub record HasShimOptions (w : ComponentWorld) (s : Shim) : Type 0 where
+  pub memory : IsTrue (needs s.options.0 1) → IsSome (memory_name w)
+  pub realloc : IsTrue (needs s.options.0 2) → IsSome (lower_realloc w Main)
+
+-- ---- functions of the world
+
+-- the world imports this function of an interface, and a core import uses it
+pub record IsUsedOfInterface (w : ComponentWorld) (id : InterfaceId) (name : List ℕ) : Type 0 where
+  pub key : WorldKey
+  pub listed : Contains (items_of w).imports (key, items.Interface id)
+  pub named : Contains (map (λ f. f.0) (functions_of w.resolve id)) name
+  pub used : is_used_of w id name ≡ true
+
+-- a core import uses this function of the world
+abbrev pub IsUsed : ComponentWorld → WorldFunction → Type 0
+IsUsed w (OfRoot text) = IsTrue (is_used w text)
+IsUsed w (OfInterface id text) = IsUsedOfInterface w id text
+
+-- the function of this name at the root, or in the interface that the world imports under a key
+abbrev pub function_at : ComponentWorld → Option WorldKey → List ℕ → Option WorldFunction
+function_at w None name = Some (OfRoot name)
+function_at w (Some key) name = option_map (λ id. OfInterface id name) (interface_imported w key)
+
+-- it is there, and a core import uses it
+pub record IsUsedAt (w : ComponentWorld) (interface : Option WorldKey) (name : List ℕ) : Type 0 where
+  pub function : WorldFunction
+  pub at : function_at w interface name ≡ Some function
+  pub used : IsUsed w function
+
+-- the function of this index is the world's, as it is imported, with its type
+pub record IsFunctionOf (w : ComponentWorld) (ds : List Def) (index : ℕ) (function : WorldFunction) : Type 0 where
+  pub origin : Origin
+  pub type : FunctionTree
+  pub of : IsOriginOf w function origin
+  pub typed : IsTypeOf w function type
+  pub is : IsImportedFunction ds index origin type
+
+-- the function of this index is the one at the root, or in the interface of a key
+abbrev pub IsFunctionAt : ComponentWorld → List Def → Option WorldKey → List ℕ → ℕ → Type 0
+IsFunctionAt w ds interface name index = (function : WorldFunction) → function_at w interface name ≡ Some function → IsFunctionOf w ds index function
+
+-- ---- shims
+
+-- the shim stands for a core import of main
+pub record IsMainShim (w : ComponentWorld) (s : Shim) : Type 0 where
+  pub import : CoreImport
+  pub stands : StandsFor w s import
+
+-- the function of this index is the one that the shim stands for, which is called with this string encoding
+pub record IsBehind (w : ComponentWorld) (ds : List Def) (s : Shim) (encoding : StringEncoding) (index : ℕ) : Type 0 where
+  pub import : CoreImport
+  pub stands : StandsFor w s import
+  pub encoded : import_encoding w import.role ≡ Some encoding
+  pub function : WorldFunction
+  pub linked : link_of w Main import.role ≡ Lowered function (lower_options w Main import.role)
+  pub is : IsFunctionOf w ds index function
+
+-- the core function of this index is what the link table names for the import that the shim stands for
+pub record IsLoweringFor (w : ComponentWorld) (ds : List Def) (s : Shim) (index : ℕ) : Type 0 where
+  pub role : Import
+  pub stands_for : IsShimOf w s role
+  pub serves : IsItemFor w ds spaces.CoreFunc index (link_of w Main role)

@@ -1,0 +1,90 @@
+//! The inline instance that has what each shim stands for.
+#![tactic(auto, using(comp_items::proofs::Extending::extends_none, comp_items::proofs::Extending::extends_same, comp_items::proofs::Extending::extends_then))]
+
+ghost use Rattle.std.specs.Prelude.{◌≡◌, ◌<◌, ◌^◌, [], length, IfOk, IfErr, OnOk};
+ghost use Rattle.std.specs.List.{AllByRecursion, AllZip};
+ghost use Rattle.comp_items.specs.Items.{Extends};
+ghost use Rattle.comp_terms.specs.Planned.{IsFillFor, AreFillsFor};
+ghost use Rattle.comp_terms.specs.Rules.{Grows};
+ghost use Rattle.comp_worlds.specs.WorldContents.{core_imports};
+ghost use Rattle.core_options.specs.Causes.{IsCauseAmong};
+ghost use Rattle.main_fixup.specs.Filling.{AreFillSources, HasShimOptions, IsMainShim};
+ghost use Rattle.world_shims.specs.WorldShims.{shims_of};
+
+use crate::lowerings::lower_shim;
+use crate::sources::FillSources;
+use comp_bytes::CoreInlineExport;
+use comp_lists::Seq;
+use comp_worlds::ComponentWorld;
+use core_options::StateFault;
+use root_imports::RootScope;
+use shim_plan::{Shim, Shims};
+use standard_kinds::ExportKind;
+
+/// What a shim stands for, as an entry under the shim's name.
+fn fill(
+    root: &mut RootScope<'_, ComponentWorld>,
+    sources: &FillSources<'_>,
+    shim: &Shim,
+) -> Result<CoreInlineExport, StateFault>
+    requires sources { AreFillSources root.old.world.now sources.now root.old.last_type root.old.items.defs root.old.maps root.old.instances }
+    requires stands { IsMainShim root.old.world.now shim.now }
+    ensures same { root.new ≡ record root.old { items = root.new.items } }
+    ensures extends { Extends root.old.items root.new.items }
+    ensures grows { OnOk result (Grows root.old.world.now root.old.items.defs root.new.items.defs []) }
+    ensures fills { IfOk result (λ entry. IsFillFor root.old.world.now root.new.items.defs entry shim.now) }
+    ensures offered { OnOk result (HasShimOptions root.old.world.now shim.now) }
+    ensures cause { IfErr result (IsCauseAmong root.old.world.now (core_imports root.old.world.now) []) }
+{
+    let name = shim.name.clone(root.items.allocator())?;
+    let index = lower_shim(root, sources, shim)?;
+    Ok(CoreInlineExport {
+        name,
+        kind: ExportKind::Func,
+        index,
+    })
+}
+
+/// What the shims stand for, in order.
+fn fills(
+    root: &mut RootScope<'_, ComponentWorld>,
+    sources: &FillSources<'_>,
+    shims: &Shims,
+) -> Result<Seq<CoreInlineExport>, StateFault>
+    requires sources { AreFillSources root.old.world.now sources.now root.old.last_type root.old.items.defs root.old.maps root.old.instances }
+    requires shims { shims.now ≡ shims_of root.old.world.now }
+    ensures same { root.new ≡ record root.old { items = root.new.items } }
+    ensures extends { Extends root.old.items root.new.items }
+    ensures grows { OnOk result (Grows root.old.world.now root.old.items.defs root.new.items.defs []) }
+    ensures fills { IfOk result (λ entries. AllZip (IsFillFor root.old.world.now root.new.items.defs) entries (shims_of root.old.world.now)) }
+    ensures offered { OnOk result (AllByRecursion (HasShimOptions root.old.world.now) (shims_of root.old.world.now)) }
+    ensures few { OnOk result (length (shims_of root.old.world.now) < 2 ^ 64) }
+    ensures cause { IfErr result (IsCauseAmong root.old.world.now (core_imports root.old.world.now) []) }
+{
+    let mut entries = Seq::from_vec(Vec::with_capacity(root.items.allocator(), shims.len())?);
+    for shim in shims.iter() {
+        let entry = fill(root, sources, shim)?;
+        entries.push(entry)?;
+    }
+    Ok(entries)
+}
+
+/// Makes the inline instance that has what each shim stands for, under the shim's name.
+pub(crate) fn actual_instance(
+    root: &mut RootScope<'_, ComponentWorld>,
+    sources: &FillSources<'_>,
+    shims: &Shims,
+) -> Result<u32, StateFault>
+    requires sources { AreFillSources root.old.world.now sources.now root.old.last_type root.old.items.defs root.old.maps root.old.instances }
+    requires shims { shims.now ≡ shims_of root.old.world.now }
+    ensures same { root.new ≡ record root.old { items = root.new.items } }
+    ensures extends { Extends root.old.items root.new.items }
+    ensures grows { OnOk result (Grows root.old.world.now root.old.items.defs root.new.items.defs []) }
+    ensures fills { IfOk result (AreFillsFor root.old.world.now root.new.items.defs) }
+    ensures offered { OnOk result (AllByRecursion (HasShimOptions root.old.world.now) (shims_of root.old.world.now)) }
+    ensures cause { IfErr result (IsCauseAmong root.old.world.now (core_imports root.old.world.now) []) }
+{
+    let entries = fills(root, sources, shims)?;
+    let instance = root.items.inline_instance(Some("actual"), entries)?;
+    Ok(instance)
+}

@@ -1,0 +1,86 @@
+//! The lowering behind a shim.
+#![tactic(auto, using(comp_items::proofs::Extending::extends_none, comp_items::proofs::Extending::extends_same, comp_items::proofs::Extending::extends_then))]
+
+ghost use Rattle.std.specs.Prelude.{◌≡◌, [], IfOk, IfErr, OnOk};
+ghost use Rattle.comp_items.specs.Items.{Extends};
+ghost use Rattle.comp_terms.specs.Rules.{Grows};
+ghost use Rattle.comp_terms.specs.Terms.{IsInstanceOf};
+ghost use Rattle.comp_worlds.specs.Encodable.{IsEncodable};
+ghost use Rattle.comp_worlds.specs.WorldContents.{core_imports};
+ghost use Rattle.core_options.specs.Causes.{IsCauseAmong};
+ghost use Rattle.main_fixup.specs.Filling.{AreFillSources, HasShimOptions, IsMainShim, IsBehind, IsLoweringFor};
+
+use crate::functions::imported_function;
+use crate::sources::FillSources;
+use comp_worlds::ComponentWorld;
+use core_options::{StateFault, options_of_main};
+use root_imports::RootScope;
+use shim_plan::{Shim, ShimKind};
+use standard_kinds::StringEncoding;
+
+/// Lowers the function that a shim stands for, with the shim's options and a string encoding. `instance` is main's.
+///
+/// `E7` where the options need a memory and main exports none, `E8` where they need a realloc and main exports none for imports.
+fn lower_function(
+    root: &mut RootScope<'_, ComponentWorld>,
+    instance: u32,
+    shim: &Shim,
+    encoding: StringEncoding,
+    function: u32,
+) -> Result<u32, StateFault>
+    requires valid { IsEncodable root.old.world.now }
+    requires made { IsInstanceOf root.old.items.defs instance 0 }
+    requires behind { IsBehind root.old.world.now root.old.items.defs shim.now encoding function }
+    ensures same { root.new ≡ record root.old { items = root.new.items } }
+    ensures extends { Extends root.old.items root.new.items }
+    ensures grows { OnOk result (Grows root.old.world.now root.old.items.defs root.new.items.defs []) }
+    ensures lowered { IfOk result (IsLoweringFor root.old.world.now root.new.items.defs shim.now) }
+    ensures offered { OnOk result (HasShimOptions root.old.world.now shim.now) }
+    ensures cause { IfErr result (IsCauseAmong root.old.world.now (core_imports root.old.world.now) []) }
+{
+    let world = root.world;
+    let name = shim.debug_name.as_str();
+    let realloc = world.main.exports.import_realloc_for(None, name);
+    let options = options_of_main(
+        root,
+        instance,
+        &shim.debug_name,
+        shim.options,
+        encoding,
+        realloc,
+    )?;
+    let index = root.items.lower_function(Some(name), function, options)?;
+    Ok(index)
+}
+
+/// Lowers the function that a shim stands for: the one at the root, or an alias of the one of an imported interface.
+///
+/// `E7` where its options need a memory and main exports none, `E8` where they need a realloc and main exports none for imports.
+pub(crate) fn lower_shim(
+    root: &mut RootScope<'_, ComponentWorld>,
+    sources: &FillSources<'_>,
+    shim: &Shim,
+) -> Result<u32, StateFault>
+    requires sources { AreFillSources root.old.world.now sources.now root.old.last_type root.old.items.defs root.old.maps root.old.instances }
+    requires stands { IsMainShim root.old.world.now shim.now }
+    ensures same { root.new ≡ record root.old { items = root.new.items } }
+    ensures extends { Extends root.old.items root.new.items }
+    ensures grows { OnOk result (Grows root.old.world.now root.old.items.defs root.new.items.defs []) }
+    ensures lowered { IfOk result (IsLoweringFor root.old.world.now root.new.items.defs shim.now) }
+    ensures offered { OnOk result (HasShimOptions root.old.world.now shim.now) }
+    ensures cause { IfErr result (IsCauseAmong root.old.world.now (core_imports root.old.world.now) []) }
+{
+    match &shim.kind {
+        ShimKind::IndirectLowering {
+            interface,
+            function,
+            realloc: _,
+            encoding,
+        } => {
+            let index = imported_function(root, sources, interface, &function.name)?;
+            let lowered = lower_function(root, sources.instance, shim, *encoding, index)?;
+            Ok(lowered)
+        }
+        _ => unreachable!(),
+    }
+}

@@ -1,0 +1,12 @@
+//! What the lowerings of a fixup are made from.
+
+use comp_lists::{Keyed, Text};
+
+/// What the fixup's lowerings need, beside what the root has.
+#[derive(Clone, Copy)]
+pub struct FillSources<'a> {
+    /// The root functions that were imported, by their names.
+    pub functions: &'a Keyed<Text, u32>,
+    /// Main's instance.
+    pub instance: u32,
+}

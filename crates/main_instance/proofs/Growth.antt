@@ -1,0 +1,108 @@
+-- What was made stays what it is while definitions are added.
+use Rattle.std.proofs.Common.{◌≡◌, ◌<◌, inl, inr, ℕ, Some, None, Option, List, [], ◌∷◌, refl}
+use Rattle.std.specs.List.{AllZip, AllByRecursion}
+use Rattle.comp_lists.proofs.Lists.{AllZip-weaker}
+use Rattle.comp_bytes.proofs.ItemIndices.{in_range}
+use Rattle.comp_bytes.specs.declared.def.Def.{Def}
+use Rattle.comp_bytes.specs.declared.def.CoreInlineExport.{CoreInlineExport}
+use Rattle.comp_bytes.specs.declared.def.CoreArgument.{CoreArgument}
+use Rattle.comp_bytes.specs.declared.space.Space.{Space}
+use Rattle.comp_bytes.specs.declared.space.Space.TheVariants as spaces
+use Rattle.standard_kinds.specs.declared.kinds.ExportKind.{ExportKind}
+use Rattle.standard_kinds.specs.declared.kinds.ExportKind.TheVariants as kinds
+use Rattle.comp_bytes.specs.Spaces.{items_in, kind_space}
+use Rattle.comp_builder.specs.Built.{Built}
+use Rattle.comp_roles.specs.declared.imports.Import.{Import}
+use Rattle.comp_roles.specs.declared.imports.ImportInstance.{ImportInstance}
+use Rattle.comp_worlds.specs.Worlds.{IsImportRole}
+use Rattle.comp_worlds.specs.declared.world.ComponentWorld.{ComponentWorld}
+use Rattle.comp_links.specs.Targets.{Main, UserModule, WorldFunction, TargetOption, Target, OfRoot, OfInterface, Lowered, Dropped}
+use Rattle.wit_data.specs.declared.ids.InterfaceId.{InterfaceId}
+use Rattle.wit_data.specs.declared.ids.TypeId.{TypeId}
+use Rattle.comp_links.specs.Links.{lower_options, link_of}
+use Rattle.comp_terms.specs.Terms.{CoreExport, Term, IsInstanceOf, Is}
+use Rattle.comp_terms.specs.Terms as terms
+use Rattle.comp_terms.specs.Planned.{IsTermFor, IsItemFor, IsShimFor, IsGivenFor, IsEntryFor, IsInlineInstanceFor, IsArgumentFor}
+use Rattle.wit_data.specs.declared.worlds.WorldKey.TheVariants as keys
+use Rattle.comp_roles.specs.declared.imports.Import.TheVariants as imports
+use Rattle.comp_terms.specs.Rules.{IsEntry}
+use Rattle.wit_types.specs.declared.maps.TypeEncodingMaps.{TypeEncodingMaps}
+use Rattle.comp_items.specs.Items.{Extends}
+use Rattle.comp_items.proofs.Extending.{extends_none, extends_same, extends_then}
+use Rattle.comp_items.proofs.Remembering.{longer}
+use Rattle.comp_items.proofs.Kept.{Longer, at-kept, instance-kept, exported-kept, term-kept}
+use Rattle.root_imports.proofs.Growth.{tables_kept}
+use Rattle.root_imports.proofs.Finding.{FindsImports-kept}
+use Rattle.main_instance.specs.declared.instances.ImportSources.{ImportSources}
+use Rattle.main_instance.specs.Sources.{AreSources, IsShimInstance}
+
+pub ruleset growing = (extends_none, extends_same, extends_then)
+
+-- ---- what main is given stays what it is, whatever is added
+
+module _ {w : ComponentWorld} {old new : List Def} (g : Longer old new) where
+  pub IsItemFor-kept : {space : Space} {i : ℕ} {target : Target} → IsItemFor w old space i target → IsItemFor w new space i target
+  IsItemFor-kept {space} {i} {target} h = record { term = h.term; is = term-kept old new g space i h.term h.is; asked = h.asked }
+
+  IsShimFor-kept : {space : Space} {i : ℕ} {role : Import} → IsShimFor w old space i role → IsShimFor w new space i role
+  IsShimFor-kept {space} {i} {role} h = record { place = h.place; shim = h.shim; listed = h.listed; stands_for = h.stands_for; in_space = h.in_space; is = exported-kept g h.is }
+
+  pub IsGivenFor-kept : (of : UserModule) {space : Space} {i : ℕ} {role : Import} → IsGivenFor w of old space i role → IsGivenFor w of new space i role
+  IsGivenFor-kept of (inl h) = inl (IsItemFor-kept h)
+  IsGivenFor-kept of (inr h) = inr (IsShimFor-kept h)
+
+  pub IsEntryFor-kept : {of : UserModule} {e : CoreInlineExport} {f : List ℕ × Import} → IsEntryFor w of old e f → IsEntryFor w of new e f
+  IsEntryFor-kept {of} {e} {f} h = record { named = h.named; serves = IsGivenFor-kept of h.serves; encoded = h.encoded }
+
+  pub IsInlineInstanceFor-kept : {of : UserModule} {b : ℕ} {fields : List (List ℕ × Import)} → IsInlineInstanceFor w of old b fields → IsInlineInstanceFor w of new b fields
+  IsInlineInstanceFor-kept {of} {b} {fields} h = record { entries = h.entries; made = at-kept g h.made; each = AllZip-weaker (λ x y. IsEntryFor-kept) h.entries fields h.each }
+
+  pub IsArgumentFor-kept : {of : UserModule} {a : CoreArgument} {group : List ℕ × ImportInstance} → IsArgumentFor w of old a group → IsArgumentFor w of new a group
+  IsArgumentFor-kept h = record { named = h.named; serves = IsInlineInstanceFor-kept h.serves }
+
+-- ---- the sources hold what they held
+
+shim_instance-kept : (w : ComponentWorld) {old new : List Def} (instance : Option ℕ) → Longer old new → IsShimInstance w old instance → IsShimInstance w new instance
+shim_instance-kept w None g h = h
+shim_instance-kept w (Some instance) g h = instance-kept g h
+
+pub sources-kept : {w : ComponentWorld} {s : ImportSources} {last : Option TypeId} {old new : Built} {maps : TypeEncodingMaps} {instances : List (InterfaceId × ℕ)} → Extends old new → AreSources w s last old.defs maps instances → AreSources w s last new.defs maps instances
+sources-kept {w} {s} {last} {old} {new} {maps} {instances} g h = record { valid = h.valid; imports = FindsImports-kept (longer g) h.imports; used = h.used; shims = h.shims; shim_instance = shim_instance-kept w s.shim_instance (longer g) h.shim_instance; tables = tables_kept w last instances old new maps g h.tables; passed = h.passed }
+
+-- ---- the entries of an inline instance are core functions
+
+pub entries_in_range : (w : ComponentWorld) (ds : List Def) (es : List CoreInlineExport) (fs : List (List ℕ × Import)) → AllByRecursion (λ f. IsImportRole w f.1) fs → AllZip (IsEntryFor w Main ds) es fs → AllByRecursion (IsEntry ds) es
+entries_in_range w ds [] [] r h = tt
+entries_in_range w ds (e ∷ es) (f ∷ fs) r h = (one e f.1 r.0 h.0.serves, entries_in_range w ds es fs r.1 h.1)
+  where
+    by_kind : (kind : ExportKind) (index : ℕ) (function : WorldFunction) (os : List TargetOption) (t : Term) → Is ds (kind_space kind) index t → IsTermFor w (Lowered function os) t → (kind ≡ kinds.Func) × (index < items_in spaces.CoreFunc ds)
+    by_kind kinds.Func index function os (terms.Lowering origin type written) is asked = (refl, in_range is.made)
+    by_kind kinds.Table index function os (terms.Lowering origin type written) is asked = absurd is
+    by_kind kinds.Memory index function os (terms.Lowering origin type written) is asked = absurd is
+    by_kind kinds.Global index function os (terms.Lowering origin type written) is asked = absurd is
+    by_kind kind index function os t is asked = absurd asked
+
+    dropped : (kind : ExportKind) (index : ℕ) (id : TypeId) (t : Term) → Is ds (kind_space kind) index t → IsTermFor w (Dropped id) t → (kind ≡ kinds.Func) × (index < items_in spaces.CoreFunc ds)
+    dropped kinds.Func index id (terms.Dropping resource) is asked = (refl, in_range is.made)
+    dropped kinds.Table index id (terms.Dropping resource) is asked = absurd is
+    dropped kinds.Memory index id (terms.Dropping resource) is asked = absurd is
+    dropped kinds.Global index id (terms.Dropping resource) is asked = absurd is
+    dropped kind index id t is asked = absurd asked
+
+    own : (e : CoreInlineExport) (role : Import) → IsImportRole w role → IsItemFor w ds (kind_space e.kind) e.index (link_of w Main role) → IsEntry ds e
+    own e (imports.WorldFunc (keys.Name text) function abi) r h = let b = by_kind e.kind e.index (OfRoot text) (lower_options w Main (imports.WorldFunc (keys.Name text) function abi)) h.term h.is h.asked in record { kind = b.0; scoped = b.1 }
+    own e (imports.InterfaceFunc key id function abi) r h = let b = by_kind e.kind e.index (OfInterface id function) (lower_options w Main (imports.InterfaceFunc key id function abi)) h.term h.is h.asked in record { kind = b.0; scoped = b.1 }
+    own e (imports.ImportedResourceDrop key interface id) r h = let b = dropped e.kind e.index id h.term h.is h.asked in record { kind = b.0; scoped = b.1 }
+    own e role r h = absurd r
+
+    func_kind : (kind : ExportKind) → kind_space kind ≡ spaces.CoreFunc → kind ≡ kinds.Func
+    func_kind kinds.Func e = refl
+    func_kind kinds.Table e = cc
+    func_kind kinds.Memory e = cc
+    func_kind kinds.Global e = cc
+
+    one : (e : CoreInlineExport) (role : Import) → IsImportRole w role → IsGivenFor w Main ds (kind_space e.kind) e.index role → IsEntry ds e
+    one e role r (inl h) = own e role r h
+    one e role r (inr h) = record { kind = func_kind e.kind h.in_space; scoped = in_range h.is.made }
+entries_in_range w ds [] (f ∷ fs) r h = absurd h
+entries_in_range w ds (e ∷ es) [] r h = absurd h

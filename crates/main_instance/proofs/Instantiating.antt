@@ -1,0 +1,46 @@
+-- The module of shims and its instance keep the rules.
+use Rattle.std.proofs.Common.{◌≡◌, ◌∙◌, ◌<◌, ◌^◌, ℕ, Bool, List, [], ◌∷◌, ◌++◌, length, ap, subst, refl, filter_map, inl, inr}
+use Rattle.core_bytes.specs.Modules.{Encodes}
+use Rattle.comp_builder.specs.Built.{Built}
+use Rattle.comp_bytes.proofs.ItemIndices.{in_range}
+use Rattle.comp_bytes.specs.declared.name.Name.{Name}
+use Rattle.comp_items.specs.Items.{Extends}
+use Rattle.comp_bytes.specs.ItemIndices.{IsAt}
+use Rattle.comp_bytes.specs.Spaces.{items_in}
+use Rattle.comp_bytes.specs.declared.def.Def.{Def}
+use Rattle.comp_bytes.specs.declared.def.Def.TheVariants as defs
+use Rattle.comp_bytes.specs.declared.def.Item.TheVariants as items
+use Rattle.comp_bytes.specs.declared.space.Space.TheVariants as spaces
+use Rattle.comp_worlds.specs.declared.world.ComponentWorld.{ComponentWorld}
+use Rattle.comp_terms.specs.Generated.{shims_number}
+use Rattle.comp_terms.specs.Rules.{Grows, ModuleIs, InstanceOf, instance_number, landmark, landmarks, instances_in}
+use Rattle.comp_terms.specs.Terms.{IsInstanceOf}
+use Rattle.root_imports.specs.Growing.{Grows-by, Grows-then}
+use Rattle.std.proofs.lemmas.List.Elements.{filter_map-append}
+use Rattle.world_shims.specs.WorldShims.{shims_of, sections_of_shims}
+use Rattle.main_instance.specs.Shims.{AddsShims}
+
+pub extends_by : (old new : Built) (d : Def) (names : List Name) → new ≡ record { defs = old.defs ++ d ∷ []; names = old.names ++ names } → Extends old new
+extends_by old new d names h = record { more_defs = d ∷ []; more_names = names; defs = ap (λ (b : Built). b.defs) h; names = ap (λ (b : Built). b.names) h }
+
+-- a module is no instance
+still_first : (bytes : List ℕ) (old mid : List Def) → mid ≡ old ++ defs.Item (items.CoreModule bytes) ∷ [] → instances_in old ≡ [] → instances_in mid ≡ []
+still_first bytes old mid appended first =
+    ap instances_in appended ∙ (ap (λ l. filter_map instance_number l) (filter_map-append landmark old (defs.Item (items.CoreModule bytes) ∷ [])) ∙ (filter_map-append instance_number (landmarks old) (ModuleIs bytes ∷ []) ∙ ap (λ l. l ++ []) first))
+
+pub adds_shims : (w : ComponentWorld) (debug_names : Bool) (old mid new : List Def) (bytes : List ℕ) (index instance : ℕ) →
+    Encodes bytes (sections_of_shims (shims_of w) debug_names) → length (shims_of w) < 2 ^ 32 → instances_in old ≡ [] → items_in spaces.CoreModule old ≡ shims_number w →
+    index ≡ items_in spaces.CoreModule old → mid ≡ old ++ defs.Item (items.CoreModule bytes) ∷ [] → IsAt mid spaces.CoreModule index (defs.Item (items.CoreModule bytes)) →
+    new ≡ mid ++ defs.Item (items.CoreInstantiate index []) ∷ [] → IsInstanceOf new instance index → AddsShims w debug_names old new instance
+adds_shims w debug_names old mid new bytes index instance encodes room first next is module_added at instance_added made =
+    let number : index ≡ shims_number w = is ∙ next in
+    let one : Grows w old mid (ModuleIs bytes ∷ []) = Grows-by (defs.Item (items.CoreModule bytes)) module_added tt in
+    let two : Grows w mid new (InstanceOf index ∷ []) =
+    Grows-by (defs.Item (items.CoreInstantiate index [])) instance_added (inr (inl (record { numbered = number; scoped = in_range at; first = still_first bytes old mid module_added first; closed = refl }))) in
+    record {
+      bytes = bytes;
+      encodes = encodes;
+      room = room;
+      grows = subst (λ n. Grows w old new (ModuleIs bytes ∷ InstanceOf n ∷ [])) number (Grows-then one two);
+      made = subst (λ n. IsInstanceOf new instance n) number made;
+    }

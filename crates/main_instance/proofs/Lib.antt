@@ -1,0 +1,5 @@
+pub mod Growth
+pub mod Serving
+pub mod Interfaces
+pub mod Giving
+pub mod Instantiating

@@ -1,0 +1,10 @@
+use Rattle.std.proofs.Common.{◌≡◌}
+use Rattle.main_instance.proofs.Serving.{GroupsSoFar}
+use Rattle.main_instance.proofs.instances.ImportSources.arguments.Given as goal
+
+abbrev pub invariant-loop-module : goal.invariant-loop-module
+invariant-loop-module l =
+    goal.iterator-loop-module.can_next l.module-iterator ×
+    goal.iterator-loop-module.is_finite l.module-iterator ×
+    (l.root ≡ record l.fn.root { items = l.root.items }) ×
+    GroupsSoFar l.fn.root.world.now l.fn.root.items l.root.items l.arguments l.module-iterator

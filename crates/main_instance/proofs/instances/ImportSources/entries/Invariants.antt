@@ -1,0 +1,10 @@
+use Rattle.std.proofs.Common.{◌≡◌}
+use Rattle.main_instance.proofs.Serving.{FieldsSoFar}
+use Rattle.main_instance.proofs.instances.ImportSources.entries.Given as goal
+
+abbrev pub invariant-loop-field : goal.invariant-loop-field
+invariant-loop-field l =
+    goal.iterator-loop-field.can_next l.field-iterator ×
+    goal.iterator-loop-field.is_finite l.field-iterator ×
+    (l.root ≡ record l.fn.root { items = l.root.items }) ×
+    FieldsSoFar l.fn.root.world.now l.fn.root.items l.root.items l.entries l.fields l.field-iterator

@@ -1,0 +1,45 @@
+use Rattle.std.proofs.Common.{[], IsTrue, refl, subst, sym, rules}
+use Rattle.comp_worlds.specs.declared.world.ComponentWorld.{ComponentWorld}
+use Rattle.comp_terms.specs.Rules.{Grows}
+use Rattle.root_imports.specs.Growing.{Grows-then}
+use Rattle.root_imports.specs.declared.root_scope.RootScope.{RootScope}
+use Rattle.main_instance.specs.Sources.{AreSources}
+use Rattle.main_instance.proofs.Growth.{sources-kept}
+use Rattle.comp_links.specs.Roles.{is_used}
+use Rattle.wit_data.specs.declared.worlds.WorldKey.TheVariants as keys
+use Rattle.comp_roles.specs.declared.imports.Import.TheVariants as imports
+use Rattle.main_instance.proofs.Giving.{given_by_shim, root_given}
+use Rattle.main_instance.proofs.Serving.{used_by_import}
+use Rattle.main_instance.proofs.instances.ImportSources.give_root_function.Goals as goal
+
+abbrev Root : Type 0
+Root = RootScope ComponentWorld
+
+pub lower_function-requires-clause-sources : goal.lower_function-requires-clause-sources
+lower_function-requires-clause-sources c =
+    subst (λ (r : Root). AreSources r.world.now c.args.self.now r.last_type c.shim_of_call.new.root.items.defs r.maps r.instances) (sym c.in_ok-index.ensures.same) (sources-kept c.in_ok-index.ensures.extends c.requires.sources)
+
+pub lower_function-requires-clause-used : goal.lower_function-requires-clause-used
+lower_function-requires-clause-used c =
+    let w = c.args.root.now.world.now in
+    let name = c.args.name.now in
+    let used : IsTrue (is_used w name) = used_by_import w c.args.place.module.now c.args.place.field.now name (imports.WorldFunc (keys.Name name) c.args.function.now c.args.abi) refl c.requires.present in
+    c.requires.sources.used.each name used
+
+pub returns-in-Some-clause-given : goal.returns-in-Some-clause-given
+returns-in-Some-clause-given c =
+    let w = c.args.root.now.world.now in
+    given_by_shim w c.requires.sources.valid (record { module_name = c.args.place.module.now; field = c.args.place.field.now; role = imports.WorldFunc (keys.Name c.args.name.now) c.args.function.now c.args.abi }) c.requires.present c.in_ok-encoding.encoding
+    (search rules) _ refl c.shim_of_call.new.root.items.defs c.in-Some.index (search rules)
+
+pub returns-clause-grows : goal.returns-clause-grows
+returns-clause-grows c =
+    let second : Grows c.args.root.now.world.now c.shim_of_call.new.root.items.defs c.lower_function.new.root.items.defs [] =
+    subst (λ (r : Root). Grows r.world.now c.shim_of_call.new.root.items.defs c.lower_function.new.root.items.defs []) c.in_ok-index.ensures.same c.in_ok-lower_function-in-None.ensures.grows in
+    Grows-then c.in_ok-index.ensures.grows second
+
+pub returns-clause-given : goal.returns-clause-given
+returns-clause-given c =
+    let w = c.args.root.now.world.now in
+    root_given w c.requires.sources.valid c.args.place.module.now c.args.place.field.now c.args.name.now c.args.function.now c.args.abi c.requires.present c.in_ok-encoding.encoding (search rules) _ refl c.lower_function.new.root.items.defs c.in_ok-lower_function-in-None.field-0
+    (search rules) (search rules)

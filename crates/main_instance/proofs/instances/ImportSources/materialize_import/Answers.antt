@@ -1,0 +1,17 @@
+use Rattle.std.proofs.Common.{rules}
+use Rattle.comp_worlds.specs.Worlds.{IsImportRole}
+use Rattle.interface_needs.proofs.RootItems.{drop_known}
+use Rattle.main_instance.proofs.Serving.{import_role}
+use Rattle.main_instance.proofs.instances.ImportSources.materialize_import.Goals as goal
+
+pub drop_resource-requires-clause-known : goal.drop_resource-requires-clause-known
+drop_resource-requires-clause-known c =
+    let w = c.args.root.now.world.now in
+    let drop = c.in-ImportedResourceDrop in
+    drop_known w c.requires.sources.valid (record { module_name = c.args.module.now; field = c.args.field.now; role = c.args.import.now }) drop.field-0 drop.field-1 drop.id c.requires.present drop.is
+
+pub unreachable-requires : goal.unreachable-requires
+unreachable-requires c =
+    let role : IsImportRole c.args.root.now.world.now c.args.import.now =
+    import_role c.args.root.now.world.now c.requires.sources.valid c.args.module.now c.args.field.now c.args.import.now c.requires.present in
+    search rules

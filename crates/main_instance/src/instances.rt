@@ -1,0 +1,363 @@
+//! The instance of main: each of its imports is given what its role needs.
+#![tactic(auto, using(crate::proofs::Growth::growing))]
+
+ghost use Rattle.std.specs.Prelude.{◌≡◌, [], ◌∷◌, List, ℕ, None, IfOk, IfErr, OnOk, IsSome, map, Contains};
+ghost use Rattle.std.specs.List.{AllZip, IsDistinct};
+ghost use Rattle.std.specs.Option.{option_copied};
+ghost use Rattle.std.specs.Str.{bytes_eq};
+ghost use Rattle.comp_bytes.specs.Spaces.{kind_space};
+ghost use Rattle.comp_bytes.specs.declared.space.Space.TheVariants.{CoreFunc};
+ghost use Rattle.comp_items.specs.Items.{Extends};
+ghost use Rattle.comp_links.specs.Roles.{IsEncodedImport};
+ghost use Rattle.comp_links.specs.Targets.{Main, OfRoot, OfInterface, Lowered, Dropped};
+ghost use Rattle.comp_lists.specs.Found.{found};
+ghost use Rattle.comp_roles.specs.CoreImports.{imports_from};
+ghost use Rattle.comp_roles.specs.declared.imports.Import.TheVariants as imports;
+ghost use Rattle.comp_roles.specs.declared.imports.ImportInstance.TheVariants.{Names};
+ghost use Rattle.core_options.specs.Causes.{IsCause, IsCauseAmong};
+ghost use Rattle.main_instance.specs.Calls.{import_at, lowering_kind};
+ghost use Rattle.main_instance.specs.Sources.{AreSources, IsShimAlias, IsUsedOfInterface};
+ghost use Rattle.root_imports.specs.RootScopes.{IsRefusal};
+ghost use Rattle.comp_terms.specs.Planned.{IsItemFor, IsGivenFor, IsEntryFor, IsArgumentFor};
+ghost use Rattle.comp_terms.specs.Rules.{Grows};
+ghost use Rattle.comp_worlds.specs.WorldContents.{core_imports};
+ghost use Rattle.interface_needs.specs.RootNeeds.{IsDropKnown};
+ghost use Rattle.wit_data.specs.declared.worlds.WorldKey.TheVariants as keys;
+
+use crate::calls::{CorePlace, import_encoding, kind_of_call};
+use byte_encoding::BuildFault;
+use comp_bytes::{CoreArgument, CoreInlineExport};
+use comp_lists::{Keyed, Seq, Text};
+use comp_worlds::{ComponentWorld, Import, ImportInstance};
+use core_options::StateFault;
+use root_imports::RootScope;
+use shim_plan::{ShimKind, Shims};
+use standard_kinds::{ExportKind, StringEncoding};
+use wit_data::{AbiVariant, InterfaceId, TypeId, WorldKey};
+
+/// What the imports of main are given, beside what the root has: the root functions that were imported, by their names, and the
+/// shims, with their instance.
+#[derive(Clone, Copy)]
+pub struct ImportSources<'a> {
+    pub functions: &'a Keyed<Text, u32>,
+    pub shims: &'a Shims,
+    /// The instance of the module of shims, where there are shims.
+    pub shim_instance: Option<u32>,
+}
+
+impl ImportSources<'_> {
+    /// Lowers a root function that was imported.
+    fn lower_function(
+        &self,
+        root: &mut RootScope<'_, ComponentWorld>,
+        name: &Text,
+    ) -> Result<u32, BuildFault>
+        requires sources { AreSources root.old.world.now self.now root.old.last_type root.old.items.defs root.old.maps root.old.instances }
+        requires used { IsSome (found name.now self.now.functions.now) }
+        ensures same { root.new ≡ record root.old { items = root.new.items } }
+        ensures extends { Extends root.old.items root.new.items }
+        ensures grows { OnOk result (Grows root.old.world.now root.old.items.defs root.new.items.defs []) }
+        ensures lowered { IfOk result (λ index. IsItemFor root.old.world.now root.new.items.defs CoreFunc index (Lowered (OfRoot name.now) [])) }
+        ensures cause { IfErr result IsRefusal }
+    {
+        let function = *self.functions.get(name).unwrap();
+        let options = Seq::new(root.items.allocator());
+        let index = root
+            .items
+            .lower_function(Some(name.as_str()), function, options)?;
+        Ok(index)
+    }
+
+    /// Lowers a function of an imported interface, as the interface's instance exports it.
+    fn lower_interface_function(
+        &self,
+        root: &mut RootScope<'_, ComponentWorld>,
+        interface: InterfaceId,
+        name: &Text,
+    ) -> Result<u32, BuildFault>
+        requires sources { AreSources root.old.world.now self.now root.old.last_type root.old.items.defs root.old.maps root.old.instances }
+        requires imported { IsUsedOfInterface root.old.world.now interface name.now }
+        ensures same { root.new ≡ record root.old { items = root.new.items } }
+        ensures extends { Extends root.old.items root.new.items }
+        ensures grows { OnOk result (Grows root.old.world.now root.old.items.defs root.new.items.defs []) }
+        ensures lowered { IfOk result (λ index. IsItemFor root.old.world.now root.new.items.defs CoreFunc index (Lowered (OfInterface interface name.now) [])) }
+        ensures cause { IfErr result IsRefusal }
+    {
+        let instance = *root.instances.get(&interface).unwrap();
+        let aliased = root.items.alias_function(instance, name)?;
+        let options = Seq::new(root.items.allocator());
+        let index = root
+            .items
+            .lower_function(Some(name.as_str()), aliased, options)?;
+        Ok(index)
+    }
+
+    /// Makes the drop of handles of a resource of the world or of an imported interface.
+    fn drop_resource(
+        &self,
+        root: &mut RootScope<'_, ComponentWorld>,
+        id: TypeId,
+    ) -> Result<u32, BuildFault>
+        requires sources { AreSources root.old.world.now self.now root.old.last_type root.old.items.defs root.old.maps root.old.instances }
+        requires known { IsDropKnown root.old.world.now id }
+        ensures same { root.new ≡ record root.old { items = root.new.items } }
+        ensures extends { Extends root.old.items root.new.items }
+        ensures grows { OnOk result (Grows root.old.world.now root.old.items.defs root.new.items.defs []) }
+        ensures dropped { IfOk result (λ index. IsItemFor root.old.world.now root.new.items.defs CoreFunc index (Dropped id)) }
+        ensures cause { IfErr result IsRefusal }
+    {
+        let ty = root.dropped_resource(id)?;
+        let index = root.items.drop_resource(ty)?;
+        Ok(index)
+    }
+
+    /// The shim of a kind, as an alias of the shims' instance, if there is one.
+    fn shim(
+        &self,
+        root: &mut RootScope<'_, ComponentWorld>,
+        kind: &ShimKind,
+    ) -> Result<Option<u32>, BuildFault>
+        requires sources { AreSources root.old.world.now self.now root.old.last_type root.old.items.defs root.old.maps root.old.instances }
+        ensures same { root.new ≡ record root.old { items = root.new.items } }
+        ensures extends { Extends root.old.items root.new.items }
+        ensures grows { OnOk result (Grows root.old.world.now root.old.items.defs root.new.items.defs []) }
+        ensures shim { IfOk result (IsShimAlias root.old.world.now root.new.items.defs kind.now) }
+        ensures cause { IfErr result IsRefusal }
+    {
+        let Some(shim) = self.shims.get(kind) else {
+            return Ok(None);
+        };
+        let instance = self.shim_instance.unwrap();
+        let index = root
+            .items
+            .named_function(shim.debug_name.as_str(), instance, shim.name.as_str())?;
+        Ok(Some(index))
+    }
+
+    /// The shim for calls of a function, if there is one: `interface` is the key of its interface, none for a function at the
+    /// root.
+    fn shim_of_call(
+        &self,
+        root: &mut RootScope<'_, ComponentWorld>,
+        interface: Option<&WorldKey>,
+        name: &Text,
+        abi: AbiVariant,
+        encoding: StringEncoding,
+    ) -> Result<Option<u32>, BuildFault>
+        requires sources { AreSources root.old.world.now self.now root.old.last_type root.old.items.defs root.old.maps root.old.instances }
+        ensures same { root.new ≡ record root.old { items = root.new.items } }
+        ensures extends { Extends root.old.items root.new.items }
+        ensures grows { OnOk result (Grows root.old.world.now root.old.items.defs root.new.items.defs []) }
+        ensures shim { IfOk result (IsShimAlias root.old.world.now root.new.items.defs (lowering_kind (option_copied interface.entry) name.now abi encoding)) }
+        ensures cause { IfErr result IsRefusal }
+    {
+        let kind = kind_of_call(root.items.allocator(), interface, name, abi, encoding)?;
+        self.shim(root, &kind)
+    }
+
+    /// What an import of a root function is given: its shim, or else a lowering without options.
+    ///
+    /// `E9` where it has no string encoding.
+    fn give_root_function(
+        &self,
+        root: &mut RootScope<'_, ComponentWorld>,
+        place: CorePlace<'_>,
+        name: &Text,
+        function: &Text,
+        abi: AbiVariant,
+    ) -> Result<u32, StateFault>
+        requires sources { AreSources root.old.world.now self.now root.old.last_type root.old.items.defs root.old.maps root.old.instances }
+        requires present { Contains (core_imports root.old.world.now) (import_at place (imports.WorldFunc (keys.Name name.now) function.now abi)) }
+        ensures same { root.new ≡ record root.old { items = root.new.items } }
+        ensures extends { Extends root.old.items root.new.items }
+        ensures grows { OnOk result (Grows root.old.world.now root.old.items.defs root.new.items.defs []) }
+        ensures given { IfOk result (λ index. IsGivenFor root.old.world.now Main root.new.items.defs CoreFunc index (imports.WorldFunc (keys.Name name.now) function.now abi)) }
+        ensures encoded { OnOk result (IsEncodedImport root.old.world.now (imports.WorldFunc (keys.Name name.now) function.now abi)) }
+        ensures cause { IfErr result (IsCauseAmong root.old.world.now (import_at place.entry (imports.WorldFunc (keys.Name name.now) function.now abi) ∷ []) []) }
+    {
+        let alloc = root.items.allocator();
+        let key = WorldKey::Name(name.clone(alloc)?);
+        let encoding = import_encoding(alloc, root.world, place, &key, function)?;
+        match self.shim_of_call(root, None, function, abi, encoding)? {
+            Some(index) => Ok(index),
+            None => Ok(self.lower_function(root, name)?),
+        }
+    }
+
+    /// What an import of a function of an interface is given: its shim, or else a lowering without options of what the
+    /// interface's instance exports.
+    ///
+    /// `E9` where it has no string encoding.
+    fn give_interface_function(
+        &self,
+        root: &mut RootScope<'_, ComponentWorld>,
+        place: CorePlace<'_>,
+        key: &WorldKey,
+        interface: InterfaceId,
+        function: &Text,
+        abi: AbiVariant,
+    ) -> Result<u32, StateFault>
+        requires sources { AreSources root.old.world.now self.now root.old.last_type root.old.items.defs root.old.maps root.old.instances }
+        requires present { Contains (core_imports root.old.world.now) (import_at place (imports.InterfaceFunc key.now interface function.now abi)) }
+        ensures same { root.new ≡ record root.old { items = root.new.items } }
+        ensures extends { Extends root.old.items root.new.items }
+        ensures grows { OnOk result (Grows root.old.world.now root.old.items.defs root.new.items.defs []) }
+        ensures given { IfOk result (λ index. IsGivenFor root.old.world.now Main root.new.items.defs CoreFunc index (imports.InterfaceFunc key.now interface function.now abi)) }
+        ensures encoded { OnOk result (IsEncodedImport root.old.world.now (imports.InterfaceFunc key.now interface function.now abi)) }
+        ensures cause { IfErr result (IsCauseAmong root.old.world.now (import_at place.entry (imports.InterfaceFunc key.now interface function.now abi) ∷ []) []) }
+    {
+        let alloc = root.items.allocator();
+        let encoding = import_encoding(alloc, root.world, place, key, function)?;
+        match self.shim_of_call(root, Some(key), function, abi, encoding)? {
+            Some(index) => Ok(index),
+            None => Ok(self.lower_interface_function(root, interface, function)?),
+        }
+    }
+
+    /// What an import of main is given: the kind and the index of a core item.
+    ///
+    /// `E9` where the function of the import has no string encoding.
+    pub fn materialize_import(
+        &self,
+        root: &mut RootScope<'_, ComponentWorld>,
+        module: &Text,
+        field: &Text,
+        import: &Import,
+    ) -> Result<(ExportKind, u32), StateFault>
+        requires sources { AreSources root.old.world.now self.now root.old.last_type root.old.items.defs root.old.maps root.old.instances }
+        requires present { Contains (core_imports root.old.world.now) (record { module_name = «module».now; field = field.now; role = import.now }) }
+        ensures same { root.new ≡ record root.old { items = root.new.items } }
+        ensures extends { Extends root.old.items root.new.items }
+        ensures grows { OnOk result (Grows root.old.world.now root.old.items.defs root.new.items.defs []) }
+        ensures made { IfOk result (λ item. IsGivenFor root.old.world.now Main root.new.items.defs (kind_space item.0) item.1 import.now) }
+        ensures encoded { OnOk result (IsEncodedImport root.old.world.now import.now) }
+        ensures cause { IfErr result (IsCauseAmong root.old.world.now (record { module_name = «module».now; field = field.now; role = import.now } ∷ []) []) }
+    {
+        let place = CorePlace { module, field };
+        match import {
+            Import::WorldFunc(WorldKey::Name(name), function, abi) => {
+                let index = self.give_root_function(root, place, name, function, *abi)?;
+                Ok((ExportKind::Func, index))
+            }
+            Import::InterfaceFunc(key, interface, function, abi) => {
+                let index = self.give_interface_function(
+                    root, place, key, *interface, function, *abi,
+                )?;
+                Ok((ExportKind::Func, index))
+            }
+            Import::ImportedResourceDrop(_, _, id) => {
+                let index = self.drop_resource(root, *id)?;
+                Ok((ExportKind::Func, index))
+            }
+            _ => unreachable!(),
+        }
+    }
+
+    /// What the import of a field is given, as an entry of an inline instance.
+    fn entry(
+        &self,
+        root: &mut RootScope<'_, ComponentWorld>,
+        module: &Text,
+        field: &Text,
+        import: &Import,
+    ) -> Result<CoreInlineExport, StateFault>
+        requires sources { AreSources root.old.world.now self.now root.old.last_type root.old.items.defs root.old.maps root.old.instances }
+        requires present { Contains (core_imports root.old.world.now) (record { module_name = «module».now; field = field.now; role = import.now }) }
+        ensures same { root.new ≡ record root.old { items = root.new.items } }
+        ensures extends { Extends root.old.items root.new.items }
+        ensures grows { OnOk result (Grows root.old.world.now root.old.items.defs root.new.items.defs []) }
+        ensures serves { IfOk result (λ entry. IsEntryFor root.old.world.now Main root.new.items.defs entry (field.now, import.now)) }
+        ensures cause { IfErr result (IsCauseAmong root.old.world.now (record { module_name = «module».now; field = field.now; role = import.now } ∷ []) []) }
+    {
+        let name = field.clone(root.items.allocator())?;
+        let (kind, index) = self.materialize_import(root, module, field, import)?;
+        Ok(CoreInlineExport { name, kind, index })
+    }
+
+    /// What the imports from one module are given, in order.
+    fn entries(
+        &self,
+        root: &mut RootScope<'_, ComponentWorld>,
+        module: &Text,
+        fields: &Keyed<Text, Import>,
+    ) -> Result<Seq<CoreInlineExport>, StateFault>
+        requires sources { AreSources root.old.world.now self.now root.old.last_type root.old.items.defs root.old.maps root.old.instances }
+        requires present { Contains root.old.world.now.main.imports.modules («module».now, Names fields.now) }
+        ensures same { root.new ≡ record root.old { items = root.new.items } }
+        ensures extends { Extends root.old.items root.new.items }
+        ensures grows { OnOk result (Grows root.old.world.now root.old.items.defs root.new.items.defs []) }
+        ensures serves { IfOk result (λ entries. AllZip (IsEntryFor root.old.world.now Main root.new.items.defs) entries fields.now) }
+        ensures apart { IfOk result (λ entries. IsDistinct bytes_eq (map (λ e. e.name) entries)) }
+        ensures cause { IfErr result (IsCauseAmong root.old.world.now (imports_from («module».now, Names fields.now)) []) }
+    {
+        let mut entries = Seq::new(root.items.allocator());
+        for (field, import) in fields.iter() {
+            let entry = self.entry(root, module, field, import)?;
+            entries.push(entry)?;
+        }
+        Ok(entries)
+    }
+
+    /// Makes the inline instance for these imports from one module.
+    fn inline_instance(
+        &self,
+        root: &mut RootScope<'_, ComponentWorld>,
+        module: &Text,
+        fields: &Keyed<Text, Import>,
+    ) -> Result<CoreArgument, StateFault>
+        requires sources { AreSources root.old.world.now self.now root.old.last_type root.old.items.defs root.old.maps root.old.instances }
+        requires present { Contains root.old.world.now.main.imports.modules («module».now, Names fields.now) }
+        ensures same { root.new ≡ record root.old { items = root.new.items } }
+        ensures extends { Extends root.old.items root.new.items }
+        ensures grows { OnOk result (Grows root.old.world.now root.old.items.defs root.new.items.defs []) }
+        ensures serves { IfOk result (λ argument. IsArgumentFor root.old.world.now Main root.new.items.defs argument («module».now, Names fields.now)) }
+        ensures cause { IfErr result (IsCauseAmong root.old.world.now (imports_from («module».now, Names fields.now)) []) }
+    {
+        let name = module.clone(root.items.allocator())?;
+        let entries = self.entries(root, module, fields)?;
+        let instance = root.items.inline_instance(Some(module.as_str()), entries)?;
+        Ok(CoreArgument { name, instance })
+    }
+
+    /// Makes the inline instance for the imports from one module.
+    fn argument(
+        &self,
+        root: &mut RootScope<'_, ComponentWorld>,
+        module: &Text,
+        instance: &ImportInstance,
+    ) -> Result<CoreArgument, StateFault>
+        requires sources { AreSources root.old.world.now self.now root.old.last_type root.old.items.defs root.old.maps root.old.instances }
+        requires present { Contains root.old.world.now.main.imports.modules («module».now, instance.now) }
+        ensures same { root.new ≡ record root.old { items = root.new.items } }
+        ensures extends { Extends root.old.items root.new.items }
+        ensures grows { OnOk result (Grows root.old.world.now root.old.items.defs root.new.items.defs []) }
+        ensures serves { IfOk result (λ argument. IsArgumentFor root.old.world.now Main root.new.items.defs argument («module».now, instance.now)) }
+        ensures cause { IfErr result (IsCauseAmong root.old.world.now (imports_from («module».now, instance.now)) []) }
+    {
+        match instance {
+            ImportInstance::Names(fields) => self.inline_instance(root, module, fields),
+            ImportInstance::Whole(_) => unreachable!(),
+        }
+    }
+
+    /// Makes an inline instance for each module that main imports from, in order.
+    pub fn arguments(
+        &self,
+        root: &mut RootScope<'_, ComponentWorld>,
+    ) -> Result<Seq<CoreArgument>, StateFault>
+        requires sources { AreSources root.old.world.now self.now root.old.last_type root.old.items.defs root.old.maps root.old.instances }
+        ensures same { root.new ≡ record root.old { items = root.new.items } }
+        ensures extends { Extends root.old.items root.new.items }
+        ensures grows { OnOk result (Grows root.old.world.now root.old.items.defs root.new.items.defs []) }
+        ensures serves { IfOk result (λ arguments. AllZip (IsArgumentFor root.old.world.now Main root.new.items.defs) arguments root.old.world.now.main.imports.modules) }
+        ensures cause { IfErr result (IsCause root.old.world.now) }
+    {
+        let world = root.world;
+        let mut arguments = Seq::new(root.items.allocator());
+        for (module, instance) in world.main.imports.modules.iter() {
+            let argument = self.argument(root, module, instance)?;
+            arguments.push(argument)?;
+        }
+        Ok(arguments)
+    }
+}

@@ -1,0 +1,72 @@
+//! The module of shims, and its instance.
+#![tactic(auto, using(crate::proofs::Growth::growing))]
+
+ghost use Rattle.std.specs.Prelude.{◌≡◌, ◌<◌, ◌^◌, [], length, IfOk, IfErr};
+ghost use Rattle.comp_bytes.specs.Spaces.{items_in};
+ghost use Rattle.comp_bytes.specs.declared.space.Space.TheVariants as spaces;
+ghost use Rattle.comp_items.specs.Items.{Extends};
+ghost use Rattle.comp_terms.specs.Generated.{shims_number};
+ghost use Rattle.comp_terms.specs.Rules.{instances_in};
+ghost use Rattle.main_instance.specs.Shims.{AddsShims, MayAddShims};
+ghost use Rattle.root_imports.specs.RootScopes.{IsRefusal};
+ghost use Rattle.world_shims.specs.WorldShims.{shims_of, sections_of_shims};
+
+use byte_encoding::BuildFault;
+use comp_lists::Seq;
+use comp_worlds::ComponentWorld;
+use core_bytes::Module;
+use root_imports::RootScope;
+use shim_plan::Shims;
+use world_shims::module_of_shims;
+
+/// Adds the module of shims, and its instance.
+fn instantiate_shims(
+    root: &mut RootScope<'_, ComponentWorld>,
+    module: &Module,
+    debug_names: bool,
+) -> Result<u32, BuildFault>
+    requires module { «module».now ≡ sections_of_shims (shims_of root.old.world.now) debug_names }
+    requires room { length (shims_of root.old.world.now) < 2 ^ 32 }
+    requires first { instances_in root.old.items.defs ≡ [] }
+    requires next { items_in spaces.CoreModule root.old.items.defs ≡ shims_number root.old.world.now }
+    ensures same { root.new ≡ record root.old { items = root.new.items } }
+    ensures extends { Extends root.old.items root.new.items }
+    ensures added { IfOk result (AddsShims root.old.world.now debug_names root.old.items.defs root.new.items.defs) }
+    ensures cause { IfErr result IsRefusal }
+{
+    let alloc = root.items.allocator();
+    let module = module.core_module(alloc)?;
+    let index = root
+        .items
+        .core_module(Some("wit-component-shim-module"), module.as_slice())?;
+    let instance = root.items.core_instance(
+        Some("wit-component-shim-instance"),
+        index,
+        Seq::new(alloc),
+    )?;
+    Ok(instance)
+}
+
+/// Adds the module of shims and its instance, where there are shims: it is the first core instance of a component. The answer is
+/// the index of the instance. After a refusal the definitions that were made until then stay.
+pub fn encode_shim_instantiation(
+    root: &mut RootScope<'_, ComponentWorld>,
+    shims: &Shims,
+    debug_names: bool,
+) -> Result<Option<u32>, BuildFault>
+    requires shims { shims.now ≡ shims_of root.old.world.now }
+    requires first { instances_in root.old.items.defs ≡ [] }
+    requires next { items_in spaces.CoreModule root.old.items.defs ≡ shims_number root.old.world.now }
+    ensures same { root.new ≡ record root.old { items = root.new.items } }
+    ensures extends { Extends root.old.items root.new.items }
+    ensures added { IfOk result (MayAddShims root.old.world.now debug_names root.old.items.defs root.new.items.defs) }
+    ensures cause { IfErr result IsRefusal }
+{
+    match module_of_shims(root.items.allocator(), shims, debug_names)? {
+        Some(module) => {
+            let instance = instantiate_shims(root, &module, debug_names)?;
+            Ok(Some(instance))
+        }
+        None => Ok(None),
+    }
+}

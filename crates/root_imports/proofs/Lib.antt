@@ -1,0 +1,12 @@
+pub mod Growth
+pub mod Indexing
+pub mod Finding
+pub mod Looking
+pub mod Allowing
+pub mod Importing
+pub mod Naming
+pub mod NeededNames
+pub mod ExportedTypes
+pub mod Passing
+pub mod Resources
+pub mod Defining

@@ -1,0 +1,4 @@
+pub mod RootScopes
+pub mod Growing
+pub mod Imports
+pub mod Interfaces

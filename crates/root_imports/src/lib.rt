@@ -1,0 +1,28 @@
+//! The root of a component as a scope of types, and what is imported there by a name of the world: its types, and the functions
+//! that core modules use. The interfaces, which come before both, are imported by `comp_imports`.
+//!
+//! [`RootScope`] is the root of a component as a scope of types ([`ValtypeEncoder`](wit_types::ValtypeEncoder)): a type
+//! of the resolve is defined there once, before what names it. A named type of the world is imported before any function.
+//!
+//! What an imported interface exports is known by its instance: a type of it that the root names is an alias
+//! ([`RootScope::alias_type`]).
+//!
+//! In reading order: `root_scope` (the scope, and types in it), `aliases` (aliases of types of interfaces), `world_types`
+//! (imports of types), `used` (the functions that core modules use), `functions` (imports of functions). In `specs/`:
+//! `RootScopes` (what the scope takes as given, and how it grows), `Growing` (lists of definitions that grow), `Interfaces`
+//! (what is known of the interfaces that were imported), `Imports` (of the functions, and of the next import).
+//!
+//! Upward this crate promises: where the imported interfaces are known, [`RootScope::import_types`] and
+//! [`RootScope::import_functions`] import exactly the types of the world and the functions that core modules use, in its order;
+//! the type of each function, imported or asked for by [`RootScope::function_type`], denotes the tree of the function in the
+//! world; an alias of a type, and what [`RootScope::dropped_resource`] returns, denotes the tree of the type; definitions grow at
+//! their end, and each keeps the rule of its kind (`Grows` of `comp_terms`). A refusal is out of memory, or a full index space.
+#![tactic(auto)]
+
+mod aliases;
+mod functions;
+mod root_scope;
+mod used;
+mod world_types;
+
+pub use root_scope::{HasWorld, RootScope};

@@ -1,0 +1,121 @@
+-- What the imports of a fixup are given: the functions of `actual`, in order, and the table of the shims.
+use Rattle.std.proofs.Common.{◌≡◌, ◌∙◌, ◌+◌, ◌<◌, ◌≤◌, ◌^◌, ℕ, suc, Bool, true, false, List, [], ◌∷◌, ◌++◌, length, map, cond, if◌then◌else◌, Option, Some, None, option_map, codes, append_assoc, refl, sym, ap, subst, arith}
+use Rattle.std.proofs.lemmas.Fmt.{decimal_is_IsNumeral}
+use Rattle.std.proofs.lemmas.Slice.Eq.{bytes_eq-Decides}
+use Rattle.std.specs.Fmt.{decimal}
+use Rattle.std.specs.List.{AllByRecursion, AllZip}
+use Rattle.std.specs.Option.{option_and_then}
+use Rattle.std.specs.Str.{bytes_eq}
+use Rattle.std.specs.Str.Parse.{IsNumeral}
+use Rattle.comp_lists.proofs.Lists.{AllByRecursion-weaker, AllByRecursion-push}
+use Rattle.comp_bytes.specs.Spaces.{is_space}
+use Rattle.comp_bytes.specs.declared.space.Space.TheVariants as spaces
+use Rattle.standard_kinds.specs.declared.kinds.ExportKind.TheVariants as kinds
+use Rattle.core_types.specs.declared.types.FuncType.{FuncType}
+use Rattle.core_bytes.specs.declared.entity.EntityType.TheVariants as entities
+use Rattle.core_bytes.specs.declared.entry.Import.{Import}
+use Rattle.core_runs.specs.Store.{Store}
+use Rattle.core_runs.specs.Bodies.{table_of_shims}
+use Rattle.core_runs.specs.Instances.{Given, FunctionAt, TableAt}
+use Rattle.interned_types.specs.Interning.{interned}
+use Rattle.fixup_modules.specs.declared.instances.ImportedInstance.TheVariants as instances
+use Rattle.fixup_modules.specs.Imports.{entry_of}
+use Rattle.fixup_modules.specs.Sections.{table_name}
+use Rattle.comp_runs.specs.Store.{Thing, Export}
+use Rattle.comp_runs.specs.Machine.{export_named, all_some}
+use Rattle.comp_runs.specs.Instances.{Arguments, argument_for, of_kind, entity_kind, external}
+use Rattle.shim_plan.specs.Plans.{AreNumbered}
+use Rattle.shim_plan.specs.declared.shims.Shim.{Shim}
+use Rattle.world_shims.specs.WorldShims.{type_of_shim}
+use Rattle.shim_runs.specs.ShimRuns.{shims_exported, instance_exports, IsActual, fixup_arguments}
+use Rattle.shim_runs.proofs.Exported.{same_name, other_digits, shim_export}
+use Rattle.shim_runs.proofs.FixupImports.{imports_of}
+
+-- ---- the table
+
+not_numeral : IsNumeral 10 (codes "$imports") → ⊥
+not_numeral h = let below : 36 < 10 = h.1.0 in absurd (omega (arith, below))
+
+-- the table's name is no number
+other_than_table : (place : ℕ) → place < 2 ^ 32 → bytes_eq table_name (decimal place) ≡ false
+other_than_table place small = by (bytes_eq table_name (decimal place)) refl
+  where
+    by : (b : Bool) → bytes_eq table_name (decimal place) ≡ b → b ≡ false
+    by false e = refl
+    by true e = absurd (not_numeral (subst (IsNumeral 10) (sym ((bytes_eq-Decides table_name (decimal place)).0 e)) (decimal_is_IsNumeral place (omega arith)).0))
+
+table_found : (place address : ℕ) (shims : List Shim) (table : Export) → place + length shims ≤ 2 ^ 32 → table.name ≡ table_name → export_named table_name (shims_exported place address shims ++ table ∷ []) ≡ Some table
+table_found place address [] table room named = ap (λ b. cond b (Some table) None) (same_name table_name table.name (sym named))
+table_found place address (s ∷ ss) table room named =
+    ap (λ b. cond b (Some (shim_export place address)) (export_named table_name (shims_exported (suc place) (suc address) ss ++ table ∷ []))) (other_than_table place (omega arith))
+    ∙ table_found (suc place) (suc address) ss table (omega arith) named
+
+-- ---- the functions
+
+-- an export under the digits of an earlier place
+record IsBefore (place : ℕ) (e : Export) : Type 0 where
+  pub number : ℕ
+  pub below : number < place
+  pub named : e.name ≡ decimal number
+
+still_before : (place : ℕ) (e : Export) → IsBefore place e → IsBefore (suc place) e
+still_before place e h = record { number = h.number; below = let b = h.below in omega (arith, b); named = h.named }
+
+found_behind : (place : ℕ) (before : List Export) (e : Export) (after : List Export) → place < 2 ^ 32 → AllByRecursion (IsBefore place) before → e.name ≡ decimal place → export_named (decimal place) (before ++ e ∷ after) ≡ Some e
+found_behind place [] e after small h named = ap (λ b. cond b (Some e) (export_named (decimal place) after)) (same_name (decimal place) e.name (sym named))
+found_behind place (x ∷ xs) e after small h named =
+    let rest = export_named (decimal place) (xs ++ e ∷ after) in
+    ap (λ n. cond (bytes_eq (decimal place) n) (Some x) rest) h.0.named
+    ∙ ap (λ b. cond b (Some x) rest) (other_digits place h.0.number small h.0.below)
+    ∙ found_behind place xs e after small h.1 named
+
+-- a function, as a thing
+abbrev pub function_of : Export → Thing
+function_of e = record { space = spaces.CoreFunc; address = e.address }
+
+of_function : (e : Export) → e.space ≡ spaces.CoreFunc → of_kind kinds.Func e ≡ Some (function_of e)
+of_function e h = ap (λ s. if is_space spaces.CoreFunc (Some s) then Some (record { space = s; address = e.address }) else None) h
+
+-- what an import is given
+abbrev pub argument_of : Arguments → Import → Option Thing
+argument_of arguments i = argument_for arguments (entity_kind i.entity) i.module_name i.field
+
+module _ (code : Store) (whole shim : List Export) where
+  functions_given : (types : List FuncType) (place : ℕ) (shims : List Shim) (actual before : List Export) → AreNumbered place shims → place + length shims ≤ 2 ^ 32 → AllZip (IsActual code) shims actual → AllByRecursion (IsBefore place) before → whole ≡ before ++ actual →
+      (more : List Import) (given : List Thing) → all_some (map (argument_of ((codes "actual", whole) ∷ (codes "shim", shim) ∷ [])) more) ≡ Some given →
+      all_some (map (argument_of ((codes "actual", whole) ∷ (codes "shim", shim) ∷ [])) (imports_of types shims ++ more)) ≡ Some (map function_of actual ++ given)
+  functions_given types place [] [] before numbered room each earlier is more given rest = rest
+  functions_given types place [] (e ∷ es) before numbered room each earlier is more given rest = absurd each
+  functions_given types place (s ∷ ss) [] before numbered room each earlier is more given rest = absurd each
+  functions_given types place (s ∷ ss) (e ∷ es) before numbered room each earlier is more given rest =
+      let others = all_some (map (argument_of ((codes "actual", whole) ∷ (codes "shim", shim) ∷ [])) (imports_of (interned types (type_of_shim s)) ss ++ more)) in
+      let all : Option Thing → Option (List Thing) = λ o. all_some (o ∷ map (argument_of ((codes "actual", whole) ∷ (codes "shim", shim) ∷ [])) (imports_of (interned types (type_of_shim s)) ss ++ more)) in
+      let named : e.name ≡ decimal place = each.0.named ∙ numbered.0 in
+      let own : IsBefore (suc place) e = record { number = place; below = omega arith; named = named } in
+      ap (λ n. all (option_and_then (of_kind kinds.Func) (export_named n whole))) numbered.0
+      ∙ ap (λ l. all (option_and_then (of_kind kinds.Func) (export_named (decimal place) l))) is
+      ∙ ap (λ o. all (option_and_then (of_kind kinds.Func) o)) (found_behind place before e es (omega arith) earlier named)
+      ∙ ap (λ o. all o) (of_function e each.0.space)
+      ∙ ap (λ o. option_map (λ xs. function_of e ∷ xs) o)
+      (functions_given (interned types (type_of_shim s)) (suc place) ss es (before ++ e ∷ []) numbered.1 (omega arith) each.1
+      (AllByRecursion-push (IsBefore (suc place)) before e (AllByRecursion-weaker (still_before place) before earlier) own) (is ∙ sym (append_assoc before (e ∷ []) es)) more given rest)
+
+-- ---- the whole
+
+abbrev pub things_given : List Export → ℕ → List Thing
+things_given actual table = map function_of actual ++ record { space = spaces.CoreTable; address = table } ∷ []
+
+pub imports_given : (code : Store) (shims : List Shim) (actual : List Export) (address table count : ℕ) → AreNumbered 0 shims → length shims < 2 ^ 32 → AllZip (IsActual code) shims actual →
+    all_some (map (argument_of (fixup_arguments shims actual address table)) (imports_of [] shims ++ entry_of instances.Shim table_name (entities.Table (table_of_shims count)) ∷ [])) ≡ Some (things_given actual table)
+imports_given code shims actual address table count numbered room each =
+    functions_given code actual (instance_exports shims address table) [] 0 shims actual [] numbered (omega arith) each tt refl
+    (entry_of instances.Shim table_name (entities.Table (table_of_shims count)) ∷ []) (record { space = spaces.CoreTable; address = table } ∷ [])
+    (ap (λ o. all_some (option_and_then (of_kind kinds.Table) o ∷ [])) (table_found 0 address shims (record { space = spaces.CoreTable; name = codes "$imports"; address = table }) (omega arith) refl))
+
+-- as external values
+abbrev pub values_given : List Export → ℕ → List Given
+values_given actual table = map (λ (e : Export). FunctionAt e.address) actual ++ TableAt table ∷ []
+
+pub values_are : (actual : List Export) (table : ℕ) → all_some (map external (things_given actual table)) ≡ Some (values_given actual table)
+values_are [] table = refl
+values_are (e ∷ es) table = ap (λ o. option_map (λ xs. FunctionAt e.address ∷ xs) o) (values_are es table)

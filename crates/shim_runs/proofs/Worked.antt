@@ -1,0 +1,182 @@
+-- A worked example: two shims of two types, made after two opaque functions, and the fixup that fills their slots with these.
+use Rattle.std.proofs.Common.{◌≡◌, ℕ, pos, Bool, true, false, List, [], ◌∷◌, Option, Some, None, codes, refl}
+use Rattle.std.specs.Fmt.{digits}
+use Rattle.comp_bytes.specs.declared.space.Space.TheVariants as spaces
+use Rattle.core_types.specs.declared.types.FuncType.{FuncType}
+use Rattle.core_types.specs.declared.types.ValType.TheVariants.{I32}
+use Rattle.core_bytes.specs.declared.code.Instruction.TheVariants as instructions
+use Rattle.core_runs.specs.Values.{I32Value}
+use Rattle.core_runs.specs.Store.{Frame, Func, Generated, Opaque, Store as CodeStore, Answer, Gives, Event, Called, Now, ByCode}
+use Rattle.core_runs.specs.Store as core
+use Rattle.core_runs.specs.Execution.{acts, exec}
+use Rattle.comp_roles.specs.declared.libraries.MainOrAdapter.TheVariants as users
+use Rattle.comp_runs.specs.Store.{Thing, Export, ModuleInstance}
+use Rattle.comp_runs.specs.Machine.{Machine, Outcome, Done, Stuck}
+use Rattle.comp_runs.specs.Instances.{instantiate_generated}
+use Rattle.shim_plan.specs.Needed.{no_options, realloc_shim, dtor_sig}
+use Rattle.shim_plan.specs.Plans.{numbered}
+use Rattle.shim_plan.specs.declared.kinds.ShimKind.TheVariants as kinds
+use Rattle.shim_plan.specs.declared.needs.NeededShim.{NeededShim}
+use Rattle.shim_plan.specs.declared.shims.Shim.{Shim}
+use Rattle.world_shims.specs.WorldShims.{sections_of_shims, sections_of_fixup}
+use Rattle.shim_runs.specs.ShimRuns.{fixup_arguments}
+
+-- ---- the shims
+
+-- a realloc and a destructor
+abbrev destructor : NeededShim
+destructor = record { options = no_options; debug_name = codes "dtor-res"; kind = kinds.ResourceDtor users.Main (codes "d"); sig = dtor_sig }
+
+abbrev shims : List Shim
+shims = numbered 0 (realloc_shim (None, codes "r") ∷ destructor ∷ [])
+
+abbrev realloc_core : FuncType
+realloc_core = record { params = I32 ∷ I32 ∷ I32 ∷ I32 ∷ []; results = I32 ∷ [] }
+
+abbrev destructor_core : FuncType
+destructor_core = record { params = I32 ∷ []; results = [] }
+
+-- ---- how they run
+
+-- with one answer to come
+abbrev now_with : List Answer → List Event → Now
+now_with answers events = record { globals = []; answers = answers; events = events; moments = [] }
+
+-- two opaque functions: of the type of a destructor, and of that of a realloc
+abbrev opaque : List Func
+opaque = Opaque 0 destructor_core ∷ Opaque 1 realloc_core ∷ []
+
+abbrev machine_with : List Func → Machine
+machine_with functions = record {
+  scope = record { items = []; around = []; exports = []; imports = 0 };
+  store = record {
+    core_modules = [];
+    code = record { functions = functions; tables = []; memories = [] };
+    known = [];
+    core_instances = [];
+    functions = [];
+    types = [];
+    components = [];
+    instances = [];
+    module_instances = [];
+  };
+  now = now_with [] [];
+}
+
+abbrev with_shims : List Func → Bool → (Machine → Outcome) → Outcome
+with_shims functions debug_names next = instantiate_generated (sections_of_shims shims debug_names) 1 [] (machine_with functions) next
+
+-- the fixup after the shims, whose functions are at 2 and 3, with this for `actual`
+abbrev with_fixup : List Export → Bool → Outcome
+with_fixup actual debug_names = with_shims opaque debug_names (λ m. instantiate_generated (sections_of_fixup shims debug_names) 2 (fixup_arguments shims actual 2 0) m (λ after. Done after))
+
+-- how a run ended
+record Ended : Type 0 where
+  pub code : CodeStore
+  pub instances : List ModuleInstance
+  pub core_instances : List (List Export)
+  pub events : List Event
+
+abbrev ended : Outcome → Option Ended
+ended (Done m) = Some (record { code = m.store.code; instances = m.store.module_instances; core_instances = m.store.core_instances; events = m.now.events })
+ended outcome = None
+
+abbrev frame : Frame
+frame = record { types = realloc_core ∷ destructor_core ∷ []; functions = 2 ∷ 3 ∷ []; tables = 0 ∷ []; globals = []; memories = [] }
+
+abbrev first_frame : Frame
+first_frame = record { types = realloc_core ∷ destructor_core ∷ []; functions = 0 ∷ 1 ∷ []; tables = 0 ∷ []; globals = []; memories = [] }
+
+abbrev realloc_function : Frame → Func
+realloc_function f = Generated f realloc_core [] (instructions.LocalGet 0 ∷ instructions.LocalGet 1 ∷ instructions.LocalGet 2 ∷ instructions.LocalGet 3 ∷ instructions.I32Const (pos 0) ∷ instructions.CallIndirect 0 0 ∷ [])
+
+abbrev destructor_function : Frame → Func
+destructor_function f = Generated f destructor_core [] (instructions.LocalGet 0 ∷ instructions.I32Const (pos 1) ∷ instructions.CallIndirect 1 0 ∷ [])
+
+abbrev function_export : List ℕ → ℕ → Export
+function_export name address = record { space = spaces.CoreFunc; name = name; address = address }
+
+-- what the instance of the shims exports
+abbrev exported : ℕ → ℕ → List Export
+exported first second = function_export (codes "0") first ∷ function_export (codes "1") second ∷ record { space = spaces.CoreTable; name = codes "$imports"; address = 0 } ∷ []
+
+abbrev shims_instance : ℕ → ℕ → ModuleInstance
+shims_instance first second = record { module_number = 1; given = []; exports = exported first second }
+
+-- in an empty machine there are the two functions, and the table with empty slots
+abbrev first_end : Option Ended
+first_end = Some (record {
+  code = record { functions = realloc_function first_frame ∷ destructor_function first_frame ∷ []; tables = (None ∷ None ∷ []) ∷ []; memories = [] };
+  instances = shims_instance 0 1 ∷ [];
+  core_instances = exported 0 1 ∷ [];
+  events = [];
+})
+
+shims_made : ended (with_shims [] false (λ m. Done m)) ≡ first_end
+unfolding digits
+shims_made = refl
+
+shims_made_with_names : ended (with_shims [] true (λ m. Done m)) ≡ first_end
+unfolding digits
+shims_made_with_names = refl
+
+-- ---- the fixup
+
+-- a function for each shim, by its name
+abbrev actual : List Export
+actual = function_export (codes "0") 1 ∷ function_export (codes "1") 0 ∷ []
+
+abbrev code_with : List (Option ℕ) → CodeStore
+code_with slots = record { functions = Opaque 0 destructor_core ∷ Opaque 1 realloc_core ∷ realloc_function frame ∷ destructor_function frame ∷ []; tables = slots ∷ []; memories = [] }
+
+abbrev function_at : ℕ → Thing
+function_at address = record { space = spaces.CoreFunc; address = address }
+
+abbrev fixup_instance : ModuleInstance
+fixup_instance = record { module_number = 2; given = function_at 1 ∷ function_at 0 ∷ record { space = spaces.CoreTable; address = 0 } ∷ []; exports = [] }
+
+-- each slot holds what is given for its shim, and nothing else has changed
+abbrev fixed_end : Option Ended
+fixed_end = Some (record {
+  code = code_with (Some 1 ∷ Some 0 ∷ []);
+  instances = shims_instance 2 3 ∷ fixup_instance ∷ [];
+  core_instances = exported 2 3 ∷ [] ∷ [];
+  events = [];
+})
+
+fixup_made : ended (with_fixup actual false) ≡ fixed_end
+unfolding digits
+fixup_made = refl
+
+fixup_made_with_names : ended (with_fixup actual true) ≡ fixed_end
+unfolding digits
+fixup_made_with_names = refl
+
+-- the names decide, and not the order
+other_order : ended (with_fixup (function_export (codes "1") 0 ∷ function_export (codes "0") 1 ∷ []) false) ≡ fixed_end
+unfolding digits
+other_order = refl
+
+-- a function of another type, and one that isn't there
+other_type : with_fixup (function_export (codes "0") 0 ∷ function_export (codes "1") 1 ∷ []) false ≡ Stuck
+unfolding digits
+other_type = refl
+
+missing_function : with_fixup (function_export (codes "0") 1 ∷ []) false ≡ Stuck
+unfolding digits
+missing_function = refl
+
+-- ---- calls
+
+abbrev one_answer : Now
+one_answer = now_with (Gives [] 0 ∷ []) []
+
+-- a shim traps while its slot is empty, with no event
+trapped : acts (code_with (None ∷ None ∷ [])) 3 (I32Value 5 ∷ []) one_answer ≡ core.Trapped ByCode one_answer
+unfolding acts exec
+trapped = refl
+
+-- and then calls the function of its slot, with its arguments
+forwarded : acts (code_with (Some 1 ∷ Some 0 ∷ [])) 3 (I32Value 5 ∷ []) one_answer ≡ core.Returned [] (record { globals = []; answers = []; events = Called 0 (I32Value 5 ∷ []) ∷ []; moments = [] ∷ [] })
+unfolding acts exec
+forwarded = refl

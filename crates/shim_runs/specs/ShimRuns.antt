@@ -1,0 +1,117 @@
+-- What a run does where the two modules that are generated for shims are instantiated, and what the shims do then (core
+-- standard: instantiation, element segments, `call_indirect`).
+use Rattle.std.specs.Prelude.{◌≡◌, ◌<◌, ◌^◌, ◌+◌, ℕ, suc, Bool, true, List, [], ◌∷◌, ◌++◌, length, map, codes, Option, Some, None, slice_get, slice_set, Contains}
+use Rattle.std.specs.Fmt.{decimal}
+use Rattle.std.specs.List.{AllZip}
+use Rattle.comp_bytes.specs.declared.space.Space.TheVariants as spaces
+use Rattle.core_types.specs.declared.types.FuncType.{FuncType}
+use Rattle.core_runs.specs.declared.bracket.AfterHook.TheVariants.{Nothing}
+use Rattle.core_runs.specs.Hooks.{around}
+use Rattle.core_runs.specs.Values.{Value, fit}
+use Rattle.core_runs.specs.Store.{Frame, Func, Opaque, signature_of, Store, Now, ByCode, Trapped}
+use Rattle.core_runs.specs.Bodies.{table_shim}
+use Rattle.core_runs.specs.Shims.{HasBody}
+use Rattle.core_runs.specs.Execution.{acts}
+use Rattle.core_runs.specs.Expected.{expected}
+use Rattle.core_runs.specs.Instances.{empty_table}
+use Rattle.comp_runs.specs.Store.{Thing, Export, Store as RunStore}
+use Rattle.comp_runs.specs.Machine.{Scope, Machine, Next, export_named}
+use Rattle.comp_runs.specs.Instances.{Arguments, with_module_instance, instantiate_generated}
+use Rattle.shim_plan.specs.Plans.{AreNumbered}
+use Rattle.shim_plan.specs.declared.shims.Shim.{Shim}
+use Rattle.world_shims.specs.WorldShims.{type_of_shim, sections_of_shims, sections_of_fixup}
+
+-- ---- shims in a store
+
+-- the function at this address calls what is in the slot of its place in this table
+pub record IsShimAt (code : Store) (table address place : ℕ) (type : FuncType) : Type 0 where
+  pub frame : Frame
+  pub index : ℕ
+  pub body : HasBody code address frame type (table_shim (length type.params) place index)
+  pub typed : slice_get frame.types index ≡ Some type
+  pub table_is : slice_get frame.tables 0 ≡ Some table
+
+-- these shims are at consecutive addresses, from this place and address on
+abbrev pub AreShimsFrom : Store → ℕ → ℕ → ℕ → List Shim → Type 0
+AreShimsFrom code table place address [] = Unit {0}
+AreShimsFrom code table place address (s ∷ ss) = IsShimAt code table address place (type_of_shim s) × AreShimsFrom code table (suc place) (suc address) ss
+
+-- while its slot is empty, a shim traps with no event
+abbrev pub EmptyShimsTrap : Type 0
+EmptyShimsTrap =
+    (code : Store) (table address place : ℕ) (type : FuncType) (size : ℕ) → IsShimAt code table address place type → slice_get code.tables table ≡ Some (empty_table size) → place < size → place < 2 ^ 32 → (arguments : List Value) (now : Now) → fit type.params arguments ≡ true → acts code address arguments now ≡ Trapped ByCode now
+
+-- where its slot has an opaque function of its type, a call of the shim is one call of that function
+abbrev pub FilledShimsForward : Type 0
+FilledShimsForward =
+    (code : Store) (table address place : ℕ) (type : FuncType) (slots : List (Option ℕ)) (function what hook : ℕ) → IsShimAt code table address place type → slice_get code.tables table ≡ Some slots → slice_get slots place ≡ Some (Some function) → slice_get code.functions function ≡ Some (Opaque what type) → place < 2 ^ 32 → (arguments : List Value) (now : Now) → fit type.params arguments ≡ true →
+    acts code address arguments now ≡ expected (around None Nothing) hook (record { address = function; signature = type }) arguments now
+
+-- ---- the instance of the shims
+
+-- what it exports: each shim under the digits of its place, and the table
+abbrev pub shims_exported : ℕ → ℕ → List Shim → List Export
+shims_exported place address [] = []
+shims_exported place address (s ∷ ss) = record { space = spaces.CoreFunc; name = decimal place; address = address } ∷ shims_exported (suc place) (suc address) ss
+
+abbrev pub instance_exports : List Shim → ℕ → ℕ → List Export
+instance_exports shims address table = shims_exported 0 address shims ++ record { space = spaces.CoreTable; name = codes "$imports"; address = table } ∷ []
+
+-- a store with other code, and a machine of these parts
+abbrev pub with_code : RunStore → Store → RunStore
+with_code s code = record s { code = code }
+
+abbrev pub machine : Scope → RunStore → Now → Machine
+machine c s now = record { scope = c; store = s; now = now }
+
+-- the code with more functions, and a table of empty slots
+abbrev pub with_shims : List Shim → List Func → Store → Store
+with_shims shims functions code = record { functions = code.functions ++ functions; tables = code.tables ++ empty_table (length shims) ∷ []; memories = code.memories }
+
+-- the instance is made, whatever there was: shims with nothing in their slots, and no event
+pub record ShimsRun (shims : List Shim) (debug_names : Bool) (number : ℕ) (c : Scope) (s : RunStore) : Type 0 where
+  pub functions : List Func
+  pub are : AreShimsFrom (with_shims shims functions s.code) (length s.code.tables) 0 (length s.code.functions) shims
+  pub runs : (now : Now) (arguments : Arguments) (next : Next) → instantiate_generated (sections_of_shims shims debug_names) number arguments (machine c s now) next
+      ≡ next (with_module_instance (record { module_number = number; given = []; exports = instance_exports shims (length s.code.functions) (length s.code.tables) }) (machine c (with_code s (with_shims shims functions s.code)) now))
+
+-- ---- the instance of the fixup
+
+-- what is given for a shim: a function of its type, under its name
+pub record IsActual (code : Store) (s : Shim) (e : Export) : Type 0 where
+  pub named : e.name ≡ s.name
+  pub space : e.space ≡ spaces.CoreFunc
+  pub function : Func
+  pub present : slice_get code.functions e.address ≡ Some function
+  pub typed : signature_of function ≡ type_of_shim s
+
+-- the code with these functions in the table
+abbrev pub with_slots : ℕ → List Export → Store → Store
+with_slots table actual code = record code { tables = slice_set code.tables table (map (λ (e : Export). Some e.address) actual) }
+
+-- the arguments of its instance
+abbrev pub fixup_arguments : List Shim → List Export → ℕ → ℕ → Arguments
+fixup_arguments shims actual address table = (codes "actual", actual) ∷ (codes "shim", instance_exports shims address table) ∷ []
+
+-- what is there when it is made: a table with a slot for each shim, and what each is to forward to
+pub record CanFix (shims : List Shim) (actual : List Export) (table : ℕ) (code : Store) : Type 0 where
+  pub numbered : AreNumbered 0 shims
+  pub room : length shims < 2 ^ 32
+  pub each : AllZip (IsActual code) shims actual
+  pub slots : List (Option ℕ)
+  pub present : slice_get code.tables table ≡ Some slots
+  pub size : length slots ≡ length shims
+
+-- The instance is made: each slot holds what is given for the shim of its place. There is no event, and no new function.
+pub record FixupRun (shims : List Shim) (debug_names : Bool) (actual : List Export) (address table number : ℕ) (c : Scope) (s : RunStore) : Type 0 where
+  pub given : List Thing
+  pub runs : (now : Now) (next : Next) → instantiate_generated (sections_of_fixup shims debug_names) number (fixup_arguments shims actual address table) (machine c s now) next
+      ≡ next (with_module_instance (record { module_number = number; given = given; exports = [] }) (machine c (with_code s (with_slots table actual s.code)) now))
+
+-- ---- the exports of the instance of the shims, by place
+
+pub record ShimsAreFound (shims : List Shim) (address table : ℕ) : Type 0 where
+  -- a place has the shim of its address
+  pub found : (place : ℕ) → place < length shims → length shims < 2 ^ 32 → export_named (decimal place) (instance_exports shims address table) ≡ Some (record { space = spaces.CoreFunc; name = decimal place; address = address + place })
+  -- every function among the exports is the shim of a place
+  pub listed : (name : List ℕ) (function : ℕ) → Contains (instance_exports shims address table) (record { space = spaces.CoreFunc; name = name; address = function }) → (place : ℕ) × (place < length shims) × (function ≡ address + place)

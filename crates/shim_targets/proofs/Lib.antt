@@ -1,0 +1,16 @@
+mod Lists
+mod Tables
+mod Keys
+mod OptionSets
+pub mod Roles
+mod Lowered
+mod Calls
+mod CallNeeds
+pub mod NoOptions
+pub mod Unencoded
+pub mod Synchronous
+pub mod FoundShims
+pub mod EachShim
+pub mod GivenShims
+pub mod NeededShims
+pub mod Worked

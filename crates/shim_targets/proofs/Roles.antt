@@ -1,0 +1,81 @@
+-- What the roles of a world exclude: main imports no memory, and exports no task hook and no destructor.
+use Rattle.std.proofs.Common.{◌≡◌, ℕ, false, List, [], ◌∷◌, map, Contains, None, is_some, refl, ap}
+use Rattle.std.specs.List.{AllByRecursion, flat_map}
+use Rattle.comp_lists.proofs.Lists.{AllByRecursion-contains}
+use Rattle.comp_roles.specs.CoreImports.{CoreImport, fields_of, imports_from}
+use Rattle.comp_roles.specs.Lookups.{first_export, is_task_hook, memory_of_import, memory_of_fields, imported_memory}
+use Rattle.comp_roles.specs.declared.exports.Export.{Export}
+use Rattle.comp_roles.specs.declared.exports.Export.TheVariants as exports
+use Rattle.comp_roles.specs.declared.imports.Import.{Import}
+use Rattle.comp_roles.specs.declared.imports.Import.TheVariants as imports
+use Rattle.comp_roles.specs.declared.imports.ImportInstance.{ImportInstance}
+use Rattle.comp_roles.specs.declared.imports.ImportInstance.TheVariants as instances
+use Rattle.comp_roles.specs.declared.libraries.MainOrAdapter.{MainOrAdapter}
+use Rattle.comp_worlds.specs.Encodable.{IsEncodable}
+use Rattle.comp_worlds.specs.WorldContents.{core_imports}
+use Rattle.comp_worlds.specs.Worlds.{IsImportRole, IsImportGroup, IsExportRole}
+use Rattle.comp_worlds.specs.declared.world.ComponentWorld.{ComponentWorld}
+use Rattle.shim_plan.specs.Needed.{export_needs}
+use Rattle.shim_targets.proofs.Lists.{all_both}
+
+-- ---- imports
+
+-- a core import of main has a role of the world
+pub import_role : (w : ComponentWorld) → IsEncodable w → (i : CoreImport) → Contains (core_imports w) i → IsImportRole w i.role
+import_role w ok i c = AllByRecursion-contains (λ (i : CoreImport). IsImportRole w i.role) (core_imports w) i (groups w.main.imports.modules ok.valid.main.import_roles) c
+  where
+    fields : (name : List ℕ) (fs : List (List ℕ × Import)) → AllByRecursion (λ f. IsImportRole w f.1) fs →
+        AllByRecursion (λ (i : CoreImport). IsImportRole w i.role) (map (λ f. record { module_name = name; field = f.0; role = f.1 }) fs)
+    fields name [] h = tt
+    fields name (f ∷ fs) h = (h.0, fields name fs h.1)
+
+    group : (g : List ℕ × ImportInstance) → IsImportGroup w g → AllByRecursion (λ (i : CoreImport). IsImportRole w i.role) (imports_from g)
+    group (name, instances.Names fs) h = fields name fs h.1
+    group (name, instances.Whole which) h = absurd h
+
+    groups : (gs : List (List ℕ × ImportInstance)) → AllByRecursion (IsImportGroup w) gs → AllByRecursion (λ (i : CoreImport). IsImportRole w i.role) (flat_map imports_from gs)
+    groups [] h = tt
+    groups (g ∷ gs) h = all_both (λ (i : CoreImport). IsImportRole w i.role) (imports_from g) (flat_map imports_from gs) (group g h.0) (groups gs h.1)
+
+no_memory_role : (w : ComponentWorld) (role : Import) → IsImportRole w role → memory_of_import role ≡ None
+no_memory_role w (imports.MainModuleMemory type) h = absurd h
+no_memory_role w role h = refl
+
+no_memory_field : (w : ComponentWorld) (fields : List (List ℕ × Import)) → AllByRecursion (λ f. IsImportRole w f.1) fields → memory_of_fields fields ≡ None
+no_memory_field w [] h = refl
+no_memory_field w (f ∷ fields) h = rw (no_memory_role w f.1 h.0) (no_memory_field w fields h.1)
+
+no_memory_group : (w : ComponentWorld) (g : List ℕ × ImportInstance) → IsImportGroup w g → memory_of_fields (fields_of g.1) ≡ None
+no_memory_group w (name, instances.Names fields) h = no_memory_field w fields h.1
+no_memory_group w (name, instances.Whole which) h = absurd h
+
+no_memory_groups : (w : ComponentWorld) (groups : List (List ℕ × ImportInstance)) → AllByRecursion (IsImportGroup w) groups → imported_memory groups ≡ None
+no_memory_groups w [] h = refl
+no_memory_groups w (g ∷ groups) h = rw (no_memory_group w g h.0) (no_memory_groups w groups h.1)
+
+pub no_memory : (w : ComponentWorld) → IsEncodable w → is_some (imported_memory w.main.imports.modules) ≡ false
+no_memory w ok = ap is_some (no_memory_groups w w.main.imports.modules ok.valid.main.import_roles)
+
+-- ---- exports
+
+not_hook : (w : ComponentWorld) (role : Export) → IsExportRole w role → is_task_hook role ≡ false
+not_hook w exports.WasmTaskHook h = absurd h
+not_hook w role h = refl
+
+no_hook_in : (w : ComponentWorld) (es : List (List ℕ × Export)) → AllByRecursion (λ e. IsExportRole w e.1) es → first_export is_task_hook es ≡ None
+no_hook_in w [] h = refl
+no_hook_in w (e ∷ es) h = rw (not_hook w e.1 h.0) (no_hook_in w es h.1)
+
+pub no_hook : (w : ComponentWorld) → IsEncodable w → is_some (first_export is_task_hook w.main.exports.exports) ≡ false
+no_hook w ok = ap is_some (no_hook_in w w.main.exports.exports ok.valid.main.export_roles)
+
+not_destructor : (w : ComponentWorld) (which : MainOrAdapter) (e : List ℕ × Export) → IsExportRole w e.1 → export_needs w which e ≡ []
+not_destructor w which (name, exports.ResourceDtor id) h = absurd h
+not_destructor w which (name, role) h = refl
+
+no_destructor_in : (w : ComponentWorld) (which : MainOrAdapter) (es : List (List ℕ × Export)) → AllByRecursion (λ e. IsExportRole w e.1) es → flat_map (export_needs w which) es ≡ []
+no_destructor_in w which [] h = refl
+no_destructor_in w which (e ∷ es) h = rw (not_destructor w which e h.0) (no_destructor_in w which es h.1)
+
+pub no_destructor : (w : ComponentWorld) → IsEncodable w → (which : MainOrAdapter) → flat_map (export_needs w which) w.main.exports.exports ≡ []
+no_destructor w ok which = no_destructor_in w which w.main.exports.exports ok.valid.main.export_roles

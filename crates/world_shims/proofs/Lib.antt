@@ -1,0 +1,7 @@
+pub mod Numbered
+pub mod Beyond
+pub mod Listing
+pub mod Refused
+pub mod Adding
+pub mod Arguments
+pub mod Worked

@@ -1,0 +1,3 @@
+pub mod WorldShims
+pub mod Refusals
+pub mod Fixing

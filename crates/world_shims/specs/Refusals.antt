@@ -1,0 +1,39 @@
+-- When the modules of shims are there, and why they can't be made.
+use Rattle.std.specs.Prelude.{ℕ, ◌≤◌, ◌^◌, ◌⊎◌, List, [], ◌∷◌, length, Option, Some, None, Contains}
+use Rattle.byte_encoding.specs.declared.fault.BuildFault.{BuildFault}
+use Rattle.byte_encoding.specs.declared.fault.BuildFault.TheVariants as build
+use Rattle.core_bytes.specs.declared.section.Section.{Section}
+use Rattle.fixup_modules.specs.declared.fault.ShimFault.{ShimFault}
+use Rattle.fixup_modules.specs.declared.fault.ShimFault.TheVariants as faults
+use Rattle.shim_plan.specs.declared.shims.Shim.{Shim}
+
+-- a module of these sections, where there are shims
+abbrev pub if_any : List Shim → List Section → Option (List Section)
+if_any [] sections = None
+if_any (s ∷ ss) sections = Some sections
+
+-- out of memory, or a count passes what the binary format can hold
+abbrev pub IsFullOrMemory : BuildFault → Type 0
+IsFullOrMemory build.Memory = Unit {0}
+IsFullOrMemory (build.TooMany n) = 2 ^ 32 ≤ n
+
+-- where it isn't out of memory, there are so many that they can't be counted
+abbrev pub HasTooMany : ℕ → BuildFault → Type 0
+HasTooMany count build.Memory = Unit {0}
+HasTooMany count (build.TooMany n) = 2 ^ 32 ≤ count
+
+-- there are so many, or parameters of this shim
+abbrev pub IsBeyond : ℕ → Shim → BuildFault → Type 0
+IsBeyond count s build.Memory = Unit {0}
+IsBeyond count s (build.TooMany n) = (2 ^ 32 ≤ count) ⊎ (2 ^ 32 ≤ length s.sig.params)
+
+-- there are too many shims, or parameters of one of them
+abbrev pub AreTooMany : List Shim → BuildFault → Type 0
+AreTooMany shims build.Memory = Unit {0}
+AreTooMany shims (build.TooMany n) = (2 ^ 32 ≤ length shims) ⊎ ((s : Shim) × Contains shims s × (2 ^ 32 ≤ length s.sig.params))
+
+-- a refusal of a fixup that is one of these: no import contradicts another
+abbrev pub IsOfCounts : ShimFault → Type 0
+IsOfCounts faults.Memory = Unit {0}
+IsOfCounts (faults.TooMany n) = 2 ^ 32 ≤ n
+IsOfCounts e = ⊥

@@ -1,0 +1,52 @@
+-- The shims of a world, and the two modules that are generated for them, as values. (The rules are this project's own, over
+-- the core standard's modules.)
+use Rattle.std.specs.Prelude.{Bool, List, [], ◌∷◌, length}
+use Rattle.core_types.specs.declared.types.FuncType.{FuncType}
+use Rattle.core_bytes.specs.declared.section.Section.{Section}
+use Rattle.comp_roles.specs.CoreTypes.{core_type}
+use Rattle.comp_roles.specs.declared.libraries.MainOrAdapter.TheVariants as users
+use Rattle.comp_worlds.specs.declared.world.ComponentWorld.{ComponentWorld}
+use Rattle.interned_types.specs.Interning.{interned, type_index}
+use Rattle.shim_plan.specs.Needed.{needed}
+use Rattle.shim_plan.specs.Plans.{with_needed}
+use Rattle.shim_plan.specs.declared.shims.Shim.{Shim}
+use Rattle.shim_modules.specs.Shims.{shim_sections}
+use Rattle.shim_modules.specs.declared.shims.ShimFunction.{ShimFunction}
+use Rattle.fixup_modules.specs.Fixups.{Fixup, nothing_fixed, with_shim}
+use Rattle.fixup_modules.specs.Sections.{fixup_sections}
+
+-- the shims that main needs, in order
+abbrev pub shims_of : ComponentWorld → List Shim
+shims_of w = with_needed [] (needed w users.Main)
+
+-- ---- the module of shims
+
+-- the core type of a shim
+abbrev pub type_of_shim : Shim → FuncType
+type_of_shim s = core_type s.sig
+
+-- the types of shims, interned one after the other
+abbrev pub types_with : List FuncType → List Shim → List FuncType
+types_with types [] = types
+types_with types (s ∷ ss) = types_with (interned types (type_of_shim s)) ss
+
+-- a shim as a function of its module, where these types were interned before
+abbrev pub function_of : List FuncType → Shim → ShimFunction
+function_of types s = record { code = record { params = length (type_of_shim s).params; type_index = type_index types (type_of_shim s) }; debug_name = s.debug_name }
+
+abbrev pub functions_of : List FuncType → List Shim → List ShimFunction
+functions_of types [] = []
+functions_of types (s ∷ ss) = function_of types s ∷ functions_of (interned types (type_of_shim s)) ss
+
+abbrev pub sections_of_shims : List Shim → Bool → List Section
+sections_of_shims shims debug_names = shim_sections (types_with [] shims) (functions_of [] shims) debug_names
+
+-- ---- the fixup
+
+-- a slot for each shim, in order, is filled with what is imported under the shim's name
+abbrev pub fixup_with : Fixup → List Shim → Fixup
+fixup_with f [] = f
+fixup_with f (s ∷ ss) = fixup_with (with_shim f s.name (type_of_shim s)) ss
+
+abbrev pub sections_of_fixup : List Shim → Bool → List Section
+sections_of_fixup shims debug_names = fixup_sections (fixup_with nothing_fixed shims) debug_names

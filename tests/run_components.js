@@ -1,0 +1,99 @@
+// Makes instances of components in Node, calls what they export, and compares what they answer and what they call of the
+// outside. Each argument is NAME=FILE, the component of the example NAME. Run by tests/run_components.sh.
+'use strict';
+const fs = require('fs');
+const { readComponent } = require('./read_component.js');
+const { linked } = require('./link_component.js');
+
+const MAIN = 0;
+let failed = 0;
+const holds = (what, got, wanted) => {
+  const [text, want] = [JSON.stringify(got), JSON.stringify(wanted)];
+  if (text !== want) failed++;
+  console.log(text === want ? `ok: ${what}` : `FAILED: ${what}: got ${text}, not ${want}`);
+};
+const traps = call => {
+  try {
+    call();
+    return false;
+  } catch (fault) {
+    return fault instanceof WebAssembly.RuntimeError;
+  }
+};
+
+// The exports of a component, of whose import the core module main is given a shim: an export of another core module, which
+// traps until the fixup has filled it.
+const withShim = (name, file, outside, module, field) => {
+  let shim = null;
+  const { exports, lowerings } = linked(readComponent(fs.readFileSync(file)), outside, (number, imports) => {
+    if (number !== MAIN) return;
+    shim = imports[module][field];
+    holds(`${name}: main's import traps before the fixup`, traps(shim), true);
+  });
+  holds(`${name}: main's import is not the lowered function`, lowerings.has(shim), false);
+  holds(`${name}: one function is lowered`, lowerings.size, 1);
+  return exports;
+};
+
+const TEXTS = ['world', '', 'Grüße, 世界 🌍', 'x'.repeat(1500)];
+
+const runMain = (name, file) => {
+  let calls = 0;
+  const { exports } = linked(readComponent(fs.readFileSync(file)), { f: () => { calls++; } });
+  holds(`${name}: what it exports`, Object.keys(exports), ['g']);
+  exports.g();
+  holds(`${name}: calls of f, which g doesn't make`, calls, 0);
+};
+
+const runStrings = (name, file) => {
+  const lines = [];
+  const { greet } = withShim(name, file, { log: line => { lines.push(line); } }, '$root', 'log');
+  const wanted = TEXTS.map(text => `Hello, ${text}`);
+  holds(`${name}: greetings`, TEXTS.map(text => greet(text)), wanted);
+  holds(`${name}: what is logged`, lines, wanted);
+};
+
+const runLog = (name, file) => {
+  const lines = [];
+  const { run } = withShim(name, file, { log: line => { lines.push(line); } }, '$root', 'log');
+  const upper = text => text.replace(/[a-z]/g, letter => letter.toUpperCase());
+  holds(`${name}: answers`, TEXTS.map(text => run(text)), TEXTS.map(text => `Hello, ${upper(text)}`));
+  holds(`${name}: what is logged`, lines, TEXTS);
+  // Each call takes more than a third of the heap.
+  for (let i = 0; i < 1000; i++) run(TEXTS[3]);
+  holds(`${name}: the post-return frees what calls took`, lines.length, 1000 + TEXTS.length);
+};
+
+const PEOPLE = [
+  { name: 'Ada', age: 36 },
+  { name: 'Grace', age: 85 },
+  { name: 'Zoë 🌍', age: 4000000000 },
+  { name: '', age: 0 },
+];
+const runPeople = (name, file) => {
+  let list = PEOPLE;
+  const outside = { 'example:registry/people': { people: () => list } };
+  const { oldest, 'from-age': fromAge } = withShim(name, file, outside, 'example:registry/people', 'people');
+  holds(`${name}: the oldest of four`, oldest(), 'Zoë 🌍');
+  holds(`${name}: those from 36 on`, fromAge(36), PEOPLE.slice(0, 3));
+  holds(`${name}: those from 86 on`, fromAge(86), PEOPLE.slice(2, 3));
+  holds(`${name}: all`, fromAge(0), PEOPLE);
+  list = Array.from({ length: 100 }, (_, i) => ({ name: `number ${i}`, age: i }));
+  for (let i = 0; i < 100; i++) fromAge(i);
+  holds(`${name}: the last of a hundred`, fromAge(99), list.slice(99));
+  list = [];
+  holds(`${name}: the oldest of none`, oldest(), '');
+  holds(`${name}: all of none`, fromAge(0), []);
+};
+
+const RUNS = { main: runMain, strings: runStrings, log: runLog, people: runPeople };
+for (const argument of process.argv.slice(2)) {
+  const [name, file] = argument.split('=');
+  try {
+    RUNS[name](name, file);
+  } catch (fault) {
+    holds(`${name}: it runs`, String(fault), 'with no fault');
+  }
+}
+console.log(failed === 0 ? 'all hold' : `${failed} failed`);
+process.exitCode = failed === 0 ? 0 : 1;

@@ -1,0 +1,44 @@
+#!/bin/sh
+# Runs the components of examples/ in Node: those that are kept there, which the program must make of the modules that are
+# kept beside them, and those that it makes of modules compiled anew.
+#
+#     run_components.sh [PROGRAM]    PROGRAM is the program component_new; where none is given, it is built
+set -eu
+
+for tool in node clang wasm-ld llvm-objcopy; do
+    command -v "$tool" >/dev/null 2>&1 || { echo "failed: there is no \`$tool\` in PATH"; exit 1; }
+done
+here=$(cd "$(dirname "$0")" && pwd)
+if [ $# -gt 0 ]; then
+    top=$(dirname "$here")
+    folder=$(mktemp -d)
+    trap 'rm -rf "$folder"' EXIT
+    program=$1
+else
+    . "$here/program.sh"
+fi
+failed=0
+
+# check NAME COMMAND..: the command succeeds
+check() {
+    name=$1
+    shift
+    if "$@"; then echo "ok: $name"; else echo "FAILED: $name"; failed=1; fi
+}
+
+kept="main=$top/examples/component.wasm" anew=
+for example in strings log people; do
+    from=$top/examples/$example made=$folder/$example
+    mkdir "$made"
+    check "$example: the kept module's component is made" "$program" new "$made/kept.wasm" "$from/main.wasm"
+    check "$example: it is the kept one" cmp "$made/kept.wasm" "$from/component.wasm"
+    check "$example: its source is compiled" sh "$from/build.sh" "$made"
+    check "$example: a component is made of that" "$program" new "$made/component.wasm" "$made/main.wasm"
+    kept="$kept $example=$from/component.wasm" anew="$anew $example=$made/component.wasm"
+done
+
+echo "node $(node --version), the components that are kept:"
+check 'they run' node "$here/run_components.js" $kept
+echo 'those of modules compiled anew:'
+check 'they run' node "$here/run_components.js" $anew
+exit "$failed"
