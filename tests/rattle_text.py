@@ -16,6 +16,7 @@ class Function:
     last: int
     cycle: str  # the word of #[cycle(..)]: functions of one cycle have one proof
     block: str  # the impl that it is in: the type's name and the trait's, as the prover joins them
+    is_of_trait: bool  # whether that is an impl of a trait, or the trait itself, which can have no further function
 
     def has_line(self, line):
         return self.first <= line <= self.last
@@ -109,9 +110,12 @@ def functions_of(rattle, text):
             cycle = ""
         elif word == "impl" and before in ("}", ";", "]", "unsafe"):
             header = []
+        elif word == "trait" and tokens[at + 2][1] in ("{", ":", "<"):
+            header = [word]
         elif word == "{":
             if header is not None:
-                blocks.append((depth, block_name(header)))
+                is_trait = header[:1] == ["trait"]
+                blocks.append((depth, "" if is_trait else block_name(header), is_trait or "for" in without_parameters(header)))
                 header = None
             elif started and "opens" not in started[-1] and started[-1]["depth"] == depth:
                 started[-1]["opens"] = line
@@ -121,7 +125,8 @@ def functions_of(rattle, text):
             if started and "opens" in started[-1] and started[-1]["depth"] == depth:
                 made = started.pop()
                 del made["depth"]
-                found.append(Function(**made, last=line, block=blocks[-1][1] if blocks else ""))
+                _, block, is_of_trait = blocks[-1] if blocks else (0, "", False)
+                found.append(Function(**made, last=line, block=block, is_of_trait=is_of_trait))
             elif blocks and blocks[-1][0] == depth:
                 blocks.pop()
         elif word == ";" and started and "opens" not in started[-1] and started[-1]["depth"] == depth:

@@ -19,6 +19,7 @@ Written for the kit rattle-kit-13f: how a crate is checked is taken from its rtl
 check prints from its rattle.
 """
 import argparse
+import collections
 import dataclasses
 import difflib
 import glob
@@ -38,6 +39,8 @@ sys.path.insert(0, os.path.dirname(os.path.realpath(__file__)))
 from rattle_text import functions_of, is_proof_of, names_of  # noqa: E402
 
 ONE_JOB = ["--jobs", "1"]
+# What `--progress` prints as the check of a function's proof has ended.
+ENDED = re.compile(r"checked (\S+), \d+ of \d+$")
 AT = re.compile(r"(?:note: )?(?:\./)?((?:src|specs|proofs)/\S+?):(\d+):\d+: (.*)")
 # What is said of a wrong body whose function may have waited for the proof of one that it calls.
 WAITS = False, "NOT TRIED: its function is not proved, but no goal of it is open"
@@ -91,14 +94,13 @@ class WrongBody:
     name: str
     replaced: dict  # by file: the lines behind `start`, up to `end`, and what is written there
     functions: set  # of (file, function)
+    copied: list = None  # the lines of the function with the wrong body, where it can stand beside the function itself
 
     def keys(self):
-        """What no two wrong bodies of a batch may share."""
+        """What no two wrong bodies of a batch may share: none where it is a function of its own."""
+        if self.copied:
+            return set()
         return {f"+{it.cycle}" if it.cycle else (it.block or file, it.name) for file, it in self.functions}
-
-    def has_place(self, path, line):
-        """Whether a place, by the lines of the unedited crate, is in a function that the edit changes, or in its proof."""
-        return any(path == file and it.has_line(line) or is_proof_of(path, file, it) for file, it in self.functions)
 
 
 class Sources:
@@ -143,33 +145,65 @@ class Sources:
                 raise BadEdit("it adds or hides a function")
         if not made.functions:
             raise BadEdit("it changes nothing")
+        (file, of), *others = made.functions
+        if not (others or of.cycle or of.is_of_trait):
+            again = functions_of(rtlib.RATTLE, texts[file])[self.functions(file).index(of)]
+            made.copied = texts[file].split("\n")[again.first - 1 : again.last]
         return made
 
 
+def renamed(lines, old, new):
+    """The lines of a function, under another name."""
+    return re.sub(rf"\bfn {old}\b", f"fn {new}", "\n".join(lines), count=1).split("\n")
+
+
 class Merged:
-    """The texts of a batch, and where its lines come from."""
+    """The texts of a batch, and its functions as they are there, by their wrong bodies.
+
+    A wrong body stands beside its function where it can, as a function of its own under another name and with the same
+    contract: then all others call the function itself, and any number of wrong bodies of one function fit in a batch.
+    """
 
     def __init__(self, batch, sources):
-        self.replaced = {}
-        for it in batch:
-            for file, changes in it.replaced.items():
-                self.replaced.setdefault(file, []).extend(changes)
-        self.texts = {}
-        for file, changes in self.replaced.items():
+        self.texts, self.functions, self.copies = {}, {it: set() for it in batch}, []
+        changes, names = {}, {}
+        for number, body in enumerate(batch):
+            for file, it in body.functions:
+                name = f"{it.name}__{number}" if body.copied else it.name
+                names.setdefault(file, {})[it.block, name] = body
+                if body.copied:
+                    self.copies.append((it, file, name))
+                    changes.setdefault(file, []).append((it.last, it.last, renamed(body.copied, it.name, name)))
+            for file, replaced in {} if body.copied else body.replaced.items():
+                changes.setdefault(file, []).extend(replaced)
+        for file, of_file in changes.items():
             lines = list(sources.lines(file))
-            for start, end, new in sorted(changes, reverse=True):
+            for start, end, new in sorted(of_file, key=lambda it: it[:2], reverse=True):
                 lines[start:end] = new
             self.texts[file] = "\n".join(lines)
+            for it in functions_of(rtlib.RATTLE, self.texts[file]) or []:
+                if body := names[file].get((it.block, it.name)):
+                    self.functions[body].add((file, it))
 
-    def original(self, file, line):
-        """The line of the unedited file for a line of the batch's."""
-        shift = 0
-        for start, end, new in sorted(self.replaced.get(file, [])):
-            if line > start + shift + len(new):
-                shift += len(new) - (end - start)
-            elif line > start + shift:
-                return start + 1
-        return line - shift
+    def write(self, room):
+        """Writes them over a copy of the crate. A function under another name has the proof files of the one that it is a copy of."""
+        for path, text in self.texts.items():
+            with open(f"{room}/{path}", "w", encoding="utf-8") as file:
+                file.write(text)
+        for of, file, name in self.copies:
+            folders = [it for it in glob.glob(f"{room}/proofs/**/{of.name}/", recursive=True) if is_proof_of(os.path.relpath(it, room) + "/", file, of)]
+            for folder in folders:
+                copy = f"{os.path.dirname(folder.rstrip('/'))}/{name}"
+                shutil.copytree(folder, copy)
+                for path in glob.glob(f"{copy}/*.antt"):
+                    with open(path, encoding="utf-8") as it:
+                        text = it.read()
+                    with open(path, "w", encoding="utf-8") as it:
+                        it.write(re.sub(rf"^(use Rattle\.\w+\.proofs\.\S*\b){of.name}(\.(?:Goals|Given)\b)", rf"\g<1>{name}\2", text, flags=re.M))
+
+    def has_place(self, body, path, line):
+        """Whether a place is in a function that a wrong body changes, or in its proof."""
+        return any(path == file and it.has_line(line) or is_proof_of(path, file, it) for file, it in self.functions[body])
 
 
 def batches_of(bodies):
@@ -209,7 +243,7 @@ class Trial:
     def __init__(self, crate, kept, is_own):
         # (a check writes what it proved of the edited text into the kept work: others see that only where it is the trial's own)
         self.crate, self.kept, self.is_own, self.sources = crate, kept, is_own, Sources(crate.folder)
-        self.said, self.checks, self.seconds = {}, 0, 0.0
+        self.said, self.checks, self.seconds, self.took = {}, 0, 0.0, collections.Counter()
 
     def run(self, paths):
         """The name of each wrong body, whether it is refused, and what is to be printed of it."""
@@ -223,24 +257,29 @@ class Trial:
                 self.said[name] = False, f"BAD EDIT: {why}"
         for batch in batches_of(bodies):
             self.try_batch(batch)
+        # (what was not refused as a function of its own is tried in the place of its function)
+        again = [it for it in bodies if it.copied and not self.said[it.name][0]]
+        for body in again:
+            body.copied = None
+        for batch in batches_of(again):
+            self.try_batch(batch)
         return [(name, *said) for name, said in self.said.items()]
 
     def try_batch(self, batch):
         merged = Merged(batch, self.sources)
-        ran = self.checked(merged.texts, [names_of(file, it) for body in batch for file, it in sorted(body.functions, key=str)])
+        ran = self.checked(merged)
         found = {body: [] for body in batch}
         for line in ran.lines:
             if at := AT.match(line):
-                place = at[1], merged.original(at[1], int(at[2]))
                 for body in batch:
-                    if body.has_place(*place):
+                    if merged.has_place(body, at[1], int(at[2])):
                         found[body].append(at[3])
         if not ran.ended():
             self.without_bad_edits(batch, found, ran)
             return
         waiting = []
         for body in batch:
-            said = self.judged(body, found[body], ran)
+            said = self.judged(merged.functions[body], found[body], ran)
             if said == WAITS and len(batch) > 1:
                 waiting.append(body)
             else:
@@ -262,7 +301,7 @@ class Trial:
         for again in [rest] if bad and rest else [[it] for it in rest]:
             self.try_batch(again)
 
-    def judged(self, body, found, ran):
+    def judged(self, functions, found, ran):
         """Whether a wrong body of a check that ended is refused, and what is to be printed of it."""
         open_goals = [it for it in found if it.startswith("it is not proved") or re.match(r"error\b", it)]
         of_meaning = [it for it in open_goals if not SHAPE.search(it)]
@@ -270,23 +309,23 @@ class Trial:
             return True, f"refused: {of_meaning[0][:160]}"
         if open_goals:
             return False, f"NOT TRIED: a proof file names what the edit took away: change a value, and keep the names: {open_goals[0][:160]}"
-        names = "|".join(re.escape(it.name) for _, it in body.functions)
+        names = "|".join(re.escape(it.name) for _, it in functions)
         if any(re.match(rf"fn \S*\b({names}): (?!proved)", it) for it in ran.lines):
             return WAITS
         if not any(re.match(rf"fn \S*\b({names}): proved", it) for it in ran.lines):
             return False, "NOT TRIED: the check did not come to its function"
         return False, "NOT REFUSED: its function is still proved"
 
-    def checked(self, texts, names):
-        """Checks functions of a copy of the crate with these texts in place of its own. Each function comes with what --only may take for it."""
+    def checked(self, merged):
+        """Checks the functions of a batch in a copy of the crate."""
         self.checks += 1
+        # (each function comes with what --only may take for it)
+        names = [names_of(file, it) for body in merged.functions.values() for file, it in sorted(body, key=str)]
         with tempfile.TemporaryDirectory(prefix="wrong-bodies-") as room:
             for part in rtlib.PARTS:
                 if os.path.isdir(f"{self.crate.folder}/{part}"):
                     shutil.copytree(f"{self.crate.folder}/{part}", f"{room}/{part}")
-            for path, text in texts.items():
-                with open(f"{room}/{path}", "w", encoding="utf-8") as it:
-                    it.write(text)
+            merged.write(room)
             kept = self.kept
             if not self.is_own:
                 kept = shutil.copytree(self.kept, f"{room}/kept", copy_function=link_or_copy)
@@ -308,8 +347,16 @@ class Trial:
 
     def call(self, words, folder):
         how = {"cwd": folder, "stdin": subprocess.DEVNULL, "stdout": subprocess.PIPE, "stderr": subprocess.STDOUT, "errors": "replace"}
-        with subprocess.Popen([*rtlib.guarded(), *words], **how) as process:
-            lines = process.stdout.read().rstrip("\n").split("\n")
+        lines, last = [], None
+        with subprocess.Popen([*rtlib.guarded(), *words, "--progress"], **how) as process:
+            for line in process.stdout:
+                now = time.time()
+                if ended := ENDED.match(line):
+                    # (the first waits for all that is read before it)
+                    self.took[ended[1]] += now - last if last else 0
+                    last = now
+                else:
+                    lines.append(line.rstrip("\n"))
             _, _, used = os.wait4(process.pid, 0)
         self.seconds += used.ru_utime + used.ru_stime
         return Ran(lines, used.ru_utime + used.ru_stime)
@@ -340,6 +387,7 @@ def tried(crate, after_ci):
     lines.append(
         f"cost of wrong bodies: {crate.name} {trial.seconds:.0f} processor seconds, {len(paths)} wrong bodies, "
         f"{trial.checks} checks, {time.time() - start:.0f} seconds"
+        + "".join(f", {it} {seconds:.0f}" for it, seconds in trial.took.most_common(4) if seconds > 4)
     )
     return lines, refused, len(verdicts) - refused
 

@@ -21,7 +21,7 @@ pub(crate) fn kind_of(item: EntityType) -> ExportKind
 }
 
 /// The counts of the imports of each kind: the indices of the next ones.
-#[derive(Clone, Copy, Debug)]
+#[derive(Clone, Copy)]
 pub(crate) struct ImportCounts {
     functions: u32,
     tables: u32,

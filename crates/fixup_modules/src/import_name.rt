@@ -4,7 +4,7 @@ use comp_lists::Text;
 use std::hash::{Hash, Hasher};
 
 /// The two parts of the name of an import: of the instance, and of the item in it.
-#[derive(Debug, Drop)]
+#[derive(Drop)]
 pub(crate) struct ImportName {
     pub(crate) instance: Text,
     pub(crate) field: Text,

@@ -27,7 +27,7 @@ use std::alloc::{AllocError, Global};
 use std::marker::Model;
 
 /// An item that is imported, with its index among those of its kind.
-#[derive(Clone, Copy, Debug)]
+#[derive(Clone, Copy)]
 pub(crate) struct ImportedItem {
     pub(crate) index: u32,
     pub(crate) entity: EntityType,

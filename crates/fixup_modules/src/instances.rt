@@ -8,7 +8,7 @@ use std::alloc::{AllocError, Global};
 use std::hash::{Hash, Hasher};
 
 /// An instance from which a fixup module imports.
-#[derive(Debug, Drop)]
+#[derive(Drop)]
 pub enum ImportedInstance {
     /// The instance of the module of shims.
     Shim,

@@ -1,9 +1,9 @@
 -- What appending shims gives.
-use Rattle.std.proofs.Common.{◌≡◌, ℕ, suc, ◌≤◌, Bool, true, false, List, [], ◌∷◌, ◌++◌, map, length, Some, Result, Ok, Err, is_some, slice_get, get_or, ◌<◌, take, drop, if◌then◌else◌, ◌||◌, cond, refl, sym, ap, subst, ◌∙◌, append_assoc, add-one, arith}
+use Rattle.std.proofs.Common.{◌≡◌, ℕ, suc, ◌+◌, ◌≤◌, Bool, true, false, List, [], ◌∷◌, ◌++◌, map, length, Some, Result, Ok, Err, is_some, slice_get, get_or, ◌<◌, take, drop, if◌then◌else◌, ◌||◌, cond, refl, sym, ap, subst, ◌∙◌, append_assoc, add-one, arith}
 use Rattle.std.specs.List.{list_any, flat_map}
 use Rattle.std.specs.Result.{IfErr, IsErrAnd}
 use Rattle.std.proofs.Math.Seq.{drop-cons}
-use Rattle.std.proofs.lemmas.List.{map-append, append-nil, length_push, take-append-le, length-take}
+use Rattle.std.proofs.lemmas.List.{map-append, append-nil, drop_all, length_push, take-append-le, length-take}
 use Rattle.shim_plan.specs.Encodings.{Explains}
 use Rattle.shim_plan.specs.declared.fault.ShimFault.{ShimFault}
 use Rattle.shim_plan.specs.declared.fault.ShimFault.TheVariants as faults
@@ -99,6 +99,34 @@ pub explains_here : {X Y : Type 0} (g : X → Y) (f : Y → List (List ℕ)) (xs
 explains_here g f xs j x all fault lt is so e =
     let here = drop-cons xs j x lt ∙ ap (λ y. y ∷ drop (suc j) xs) (sym is) in
     explains_all (f (g x)) (flat_map f (map g (drop (suc j) xs))) all fault (sym (ap (λ ys. flat_map f (map g ys)) here) ∙ so) e
+
+-- ---- the loop over imports
+
+cut : {X Y : Type 0} (g : X → Y) (xs : List X) (j : ℕ) (x : X) → j < length xs → x ≡ get_or xs j x → map g (drop j xs) ≡ g x ∷ map g (drop (j + 1) xs)
+cut g xs j x lt is = ap (map g) (drop-cons xs j x lt ∙ ap (λ y. y ∷ drop (suc j) xs) (sym is) ∙ ap (λ k. x ∷ drop k xs) (sym (add-one j)))
+
+-- what one needs is in place of it
+pub one_needed : {X Y Z : Type 0} (g : X → Y) (f : Y → List Z) (xs : List X) (j : ℕ) (x : X) (mid new all : List Z)
+    → j < length xs → x ≡ get_or xs j x → mid ++ flat_map f (map g (drop j xs)) ≡ all → new ≡ mid ++ f (g x) → new ++ flat_map f (map g (drop (j + 1) xs)) ≡ all
+one_needed g f xs j x mid new all lt is so e =
+    let rest = flat_map f (map g (drop (j + 1) xs)) in
+    let here = cut g xs j x lt is in
+    ap (λ n. n ++ rest) e ∙ append_assoc mid (f (g x)) rest ∙ ap (λ ys. mid ++ flat_map f ys) (sym here) ∙ so
+
+-- of one that lacks nothing, nothing is left out
+pub none_lacks : {X Y Z : Type 0} (g : X → Y) (f : Y → List Z) (xs : List X) (j : ℕ) (x : X) (all : List Z)
+    → j < length xs → x ≡ get_or xs j x → flat_map f (map g (drop j xs)) ≡ all → f (g x) ≡ [] → flat_map f (map g (drop (j + 1) xs)) ≡ all
+none_lacks g f xs j x all lt is so e =
+    let rest = flat_map f (map g (drop (j + 1) xs)) in
+    let here = cut g xs j x lt is in
+    sym (ap (λ p. p ++ rest) e) ∙ ap (flat_map f) (sym here) ∙ so
+
+-- after the last one nothing is left
+pub all_needed : {X Y Z : Type 0} (g : X → Y) (f : Y → List Z) (xs : List X) (j : ℕ) (mid all : List Z) → length xs ≤ j → mid ++ flat_map f (map g (drop j xs)) ≡ all → mid ≡ all
+all_needed g f xs j mid all past so = sym (append-nil mid) ∙ ap (λ ys. mid ++ flat_map f (map g ys)) (sym (drop_all j xs past)) ∙ so
+
+pub none_lack : {X Y Z : Type 0} (g : X → Y) (f : Y → List Z) (xs : List X) (j : ℕ) (all : List Z) → length xs ≤ j → flat_map f (map g (drop j xs)) ≡ all → all ≡ []
+none_lack g f xs j all past so = sym so ∙ ap (λ ys. flat_map f (map g ys)) (drop_all j xs past)
 
 pub exits : (places : List (List ℕ)) (r : Result Unit ShimFault) (fault : ShimFault) → IsErrAnd r (λ y. y ≡ fault) → Explains places fault → IfErr r (Explains places)
 exits places (Ok x) fault h e = absurd h

@@ -1,5 +1,6 @@
 -- Kinds of shims: what their hash is made of.
-use Rattle.std.specs.Prelude.{ℕ, List, []}
+use Rattle.std.specs.Prelude.{ℕ, List, [], Some}
+use Rattle.wit_data.specs.declared.worlds.WorldKey.TheVariants as keys
 use Rattle.shim_plan.specs.declared.kinds.ShimKind.{ShimKind}
 use Rattle.shim_plan.specs.declared.kinds.ShimKind.TheVariants as kinds
 
@@ -25,3 +26,13 @@ kind_name (kinds.PayloadFunc which info kind is_async) = info.name
 kind_name (kinds.TaskReturn interface func result which encoding) = func
 kind_name (kinds.Realloc which export) = export
 kind_name kind = []
+
+-- the interface of the function, where the kind has one: its plain name, or its index
+abbrev pub kind_interface_name : ShimKind → List ℕ
+kind_interface_name (kinds.IndirectLowering (Some (keys.Name text)) function realloc encoding) = text
+kind_interface_name kind = []
+
+abbrev pub kind_interface_index : ShimKind → ℕ
+kind_interface_index (kinds.IndirectLowering (Some (keys.Interface id)) function realloc encoding) = id.index
+kind_interface_index (kinds.TaskReturn (Some id) func result which encoding) = id.index
+kind_interface_index kind = 0

@@ -76,10 +76,13 @@ no_options = record { 0 = 0 }
 abbrev pub realloc_sig : WasmSignature
 realloc_sig = record { params = I32 ∷ I32 ∷ I32 ∷ I32 ∷ []; results = I32 ∷ []; indirect_params = false; retptr = false }
 
+abbrev pub realloc_name : MainOrAdapter → List ℕ → List ℕ
+realloc_name which export = codes "realloc-" ++ module_text which ++ codes "-" ++ export
+
 abbrev pub realloc_shim : Option (List ℕ) × List ℕ → NeededShim
 realloc_shim (owner, export) = record {
   options = no_options;
-  debug_name = codes "realloc-" ++ module_text (module_of_name owner) ++ codes "-" ++ export;
+  debug_name = realloc_name (module_of_name owner) export;
   kind = kinds.Realloc (module_of_name owner) export;
   sig = realloc_sig;
 }
@@ -113,10 +116,13 @@ lowering_of_call w call = option_and_then (λ (i : ImportedInterface). lookup (i
 abbrev pub encoding_of_call : ValidatedModule → FunctionCall → Option StringEncoding
 encoding_of_call m call = of_function call.key call.function.name m.metadata.import_encodings
 
+abbrev pub indirect_name : CoreImport → List ℕ
+indirect_name i = codes "indirect-" ++ i.module_name ++ codes "-" ++ i.field
+
 abbrev pub indirect_shim : MainOrAdapter → CoreImport → FunctionCall → WasmSignature → RequiredOptions → StringEncoding → NeededShim
 indirect_shim which i call sig options encoding = record {
   options = options;
-  debug_name = codes "indirect-" ++ i.module_name ++ codes "-" ++ i.field;
+  debug_name = indirect_name i;
   kind = kinds.IndirectLowering call.interface call.function which encoding;
   sig = sig;
 }
@@ -149,10 +155,13 @@ dtor_sig = record { params = I32 ∷ []; results = []; indirect_params = false; 
 abbrev pub type_text : ComponentWorld → TypeId → List ℕ
 type_text w id = unwrap_or (name_at w.resolve.types id.index) []
 
+abbrev pub dtor_name : ComponentWorld → TypeId → List ℕ
+dtor_name w id = codes "dtor-" ++ type_text w id
+
 abbrev pub dtor_shim : ComponentWorld → MainOrAdapter → List ℕ → TypeId → NeededShim
 dtor_shim w which export id = record {
   options = no_options;
-  debug_name = codes "dtor-" ++ type_text w id;
+  debug_name = dtor_name w id;
   kind = kinds.ResourceDtor which export;
   sig = dtor_sig;
 }

@@ -12,7 +12,6 @@ use std::alloc::{AllocError, Global};
 use wit_data::{AbiVariant, WorldKey};
 
 /// A function that the world imports, as a core import calls it.
-#[derive(Drop)]
 pub(crate) struct FunctionCall {
     /// The key of its interface, or none at the root.
     pub interface: Option<WorldKey>,
@@ -20,6 +19,16 @@ pub(crate) struct FunctionCall {
     pub key: WorldKey,
     /// Its name there, and the form of the call.
     pub function: LoweringKey,
+}
+
+impl Drop for FunctionCall {
+    fn drop(self) {
+        let FunctionCall {
+            interface: _,
+            key: _,
+            function: _,
+        } = self;
+    }
 }
 
 /// A call of the function of a name.

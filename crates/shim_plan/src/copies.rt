@@ -48,7 +48,8 @@ fn copy_payload(alloc: Global, info: &PayloadInfo) -> Result<PayloadInfo, AllocE
     })
 }
 
-fn copy_lowering(
+/// The kind of a lowering through a table.
+pub(crate) fn copy_lowering(
     alloc: Global,
     interface: &Option<WorldKey>,
     function: &LoweringKey,

@@ -1,16 +1,16 @@
 //! The shims of destructors of resources.
 
-ghost use Rattle.std.specs.Prelude.{◌≡◌, ◌++◌, IfOk, OnOk};
+ghost use Rattle.std.specs.Prelude.{◌≡◌, [], ◌∷◌, ◌++◌, IfOk, OnOk};
 ghost use Rattle.std.specs.List.{flat_map};
 ghost use Rattle.shim_plan.specs.Needed as specs;
 
 use crate::kinds::ShimKind;
 use crate::modules::UserModule;
-use crate::needs::NeededShim;
+use crate::needs::{NeededShim, append};
 use bitflags::Flags;
 use comp_lists::{Seq, Text};
 use comp_options::RequiredOptions;
-use comp_roles::Export;
+use comp_roles::{Export, MainOrAdapter};
 use comp_worlds::ComponentWorld;
 use std::alloc::{AllocError, Global};
 use wit_data::{TypeId, WasmSignature, WasmType};
@@ -41,24 +41,41 @@ fn type_text(world: &ComponentWorld, id: TypeId) -> &str
     }
 }
 
-impl UserModule<'_> {
-    /// The shim of a destructor that the module exports.
-    fn dtor_shim(&self, alloc: Global, export: &Text, id: TypeId) -> Result<NeededShim, AllocError>
-        ensures { IfOk result (λ n. n ≡ specs.dtor_shim self.now.world.now self.now.which.now export.now id) }
-    {
-        let resource = type_text(self.world, id);
-        let debug_name = Text::from_string(format!(in alloc; "dtor-{resource}")?);
-        let sig = dtor_sig(alloc)?;
-        let module = self.which.clone(alloc)?;
-        let export = export.clone(alloc)?;
-        Ok(NeededShim {
+/// The debug name of the shim of a resource's destructor.
+fn dtor_name(alloc: Global, world: &ComponentWorld, id: TypeId) -> Result<Text, AllocError>
+    ensures { IfOk result (λ name. name ≡ specs.dtor_name world.now id) }
+{
+    let resource = type_text(world, id);
+    Ok(Text::from_string(format!(in alloc; "dtor-{resource}")?))
+}
+
+/// Adds the shim of a destructor that a module exports.
+fn add_dtor(
+    needs: &mut Vec<NeededShim>,
+    alloc: Global,
+    world: &ComponentWorld,
+    which: &MainOrAdapter,
+    export: &Text,
+    id: TypeId,
+) -> Result<(), AllocError>
+    ensures { OnOk result (needs.new.items ≡ needs.old.items ++ specs.dtor_shim world.now which.now export.now id ∷ []) }
+{
+    let debug_name = dtor_name(alloc, world, id)?;
+    let module = which.clone(alloc)?;
+    let export = export.clone(alloc)?;
+    let sig = dtor_sig(alloc)?;
+    append(
+        needs,
+        NeededShim {
             options: RequiredOptions::empty(),
             debug_name,
             kind: ShimKind::ResourceDtor { module, export },
             sig,
-        })
-    }
+        },
+    )
+}
 
+impl UserModule<'_> {
     /// Adds the shim of an export, if it is a destructor.
     fn add_export(
         &self,
@@ -70,10 +87,7 @@ impl UserModule<'_> {
         ensures { OnOk result (needs.new.items ≡ needs.old.items ++ specs.export_needs self.now.world.now self.now.which.now (name.now, export.now)) }
     {
         match export {
-            Export::ResourceDtor(id) => {
-                needs.push(self.dtor_shim(alloc, name, *id)?)?;
-                Ok(())
-            }
+            Export::ResourceDtor(id) => add_dtor(needs, alloc, self.world, self.which, name, *id),
             _ => Ok(()),
         }
     }

@@ -6,13 +6,12 @@ ghost use Rattle.comp_roles.specs.Borrowed.{core_import};
 ghost use Rattle.comp_worlds.specs.Uses.{imports_of};
 ghost use Rattle.shim_plan.specs.Encodings.{Explains, place_of, unencoded_call, unencoded_if, unencoded_import};
 ghost use Rattle.shim_plan.specs.Needed as specs;
-ghost use Rattle.shim_plan.specs.declared.kinds.ShimKind.TheVariants as kinds;
 
 use crate::calls::{FunctionCall, call_of, encoding_of, lowering_of};
+use crate::copies::copy_lowering;
 use crate::fault::ShimFault;
-use crate::kinds::ShimKind;
 use crate::modules::UserModule;
-use crate::needs::{NeededShim, copy_sig};
+use crate::needs::{NeededShim, append, copy_sig};
 use crate::reallocs::ReallocSite;
 use comp_lists::Text;
 use comp_options::RequiredOptions;
@@ -48,61 +47,46 @@ fn no_encoding(alloc: Global, import: &NamedImport<'_>) -> ShimFault
     }
 }
 
-/// The kind of a lowering through a table.
-fn indirect_kind(call: FunctionCall, realloc: MainOrAdapter, encoding: StringEncoding) -> ShimKind
-    ensures { result ≡ kinds.IndirectLowering call.interface call.function realloc encoding }
+/// The debug name of the shim of a lowering through a table.
+fn indirect_name(alloc: Global, import: &NamedImport<'_>) -> Result<Text, AllocError>
+    ensures { IfOk result (λ name. name ≡ specs.indirect_name (core_import import.now)) }
 {
-    let FunctionCall {
-        interface,
-        key: _,
-        function,
-    } = call;
-    ShimKind::IndirectLowering {
-        interface,
-        function,
-        realloc,
-        encoding,
-    }
+    let (from, field) = (import.from, import.field);
+    Ok(Text::from_string(format!(in alloc; "indirect-{from}-{field}")?))
+}
+
+/// Adds the shim of a lowering through a table.
+fn add_own(
+    needs: &mut Vec<NeededShim>,
+    alloc: Global,
+    which: &MainOrAdapter,
+    import: &NamedImport<'_>,
+    call: &FunctionCall,
+    lowered: &IndirectCall<'_>,
+) -> Result<(), AllocError>
+    ensures { OnOk result (needs.new.items ≡ needs.old.items ++ specs.indirect_shim which.now (core_import import.now) call.now lowered.now.sig.now lowered.now.options lowered.now.encoding ∷ []) }
+{
+    let debug_name = indirect_name(alloc, import)?;
+    let sig = copy_sig(alloc, lowered.sig)?;
+    let kind = copy_lowering(
+        alloc,
+        &call.interface,
+        &call.function,
+        which,
+        lowered.encoding,
+    )?;
+    append(
+        needs,
+        NeededShim {
+            options: lowered.options,
+            debug_name,
+            kind,
+            sig,
+        },
+    )
 }
 
 impl UserModule<'_> {
-    /// The shim of a lowering through a table.
-    fn indirect_shim(
-        &self,
-        alloc: Global,
-        import: &NamedImport<'_>,
-        call: FunctionCall,
-        lowered: &IndirectCall<'_>,
-    ) -> Result<NeededShim, AllocError>
-        ensures { IfOk result (λ n. n ≡ specs.indirect_shim self.now.which.now (core_import import.now) call lowered.now.sig.now lowered.now.options lowered.now.encoding) }
-    {
-        let (from, field) = (import.from, import.field);
-        let debug_name = Text::from_string(format!(in alloc; "indirect-{from}-{field}")?);
-        let sig = copy_sig(alloc, lowered.sig)?;
-        let realloc = self.which.clone(alloc)?;
-        Ok(NeededShim {
-            options: lowered.options,
-            debug_name,
-            kind: indirect_kind(call, realloc, lowered.encoding),
-            sig,
-        })
-    }
-
-    /// Adds the shim of a lowering through a table.
-    fn add_own(
-        &self,
-        needs: &mut Vec<NeededShim>,
-        alloc: Global,
-        import: &NamedImport<'_>,
-        call: FunctionCall,
-        lowered: &IndirectCall<'_>,
-    ) -> Result<(), AllocError>
-        ensures { OnOk result (needs.new.items ≡ needs.old.items ++ specs.indirect_shim self.now.which.now (core_import import.now) call lowered.now.sig.now lowered.now.options lowered.now.encoding ∷ []) }
-    {
-        needs.push(self.indirect_shim(alloc, import, call, lowered)?)?;
-        Ok(())
-    }
-
     /// Adds the shims of a lowering through a table: its own, and that of its realloc.
     #[tactic(auto, using(crate::proofs::Appending::one_then))]
     fn add_indirect(
@@ -110,13 +94,13 @@ impl UserModule<'_> {
         needs: &mut Vec<NeededShim>,
         alloc: Global,
         import: &NamedImport<'_>,
-        call: FunctionCall,
+        call: &FunctionCall,
         lowered: &IndirectCall<'_>,
     ) -> Result<(), AllocError>
-        ensures { OnOk result (needs.new.items ≡ needs.old.items ++ specs.indirect_needs self.now.world.now self.now.which.now self.now.found.now (core_import import.now) call lowered.now.sig.now lowered.now.options (Some lowered.now.encoding)) }
+        ensures { OnOk result (needs.new.items ≡ needs.old.items ++ specs.indirect_needs self.now.world.now self.now.which.now self.now.found.now (core_import import.now) call.now lowered.now.sig.now lowered.now.options (Some lowered.now.encoding)) }
     {
         let site = ReallocSite::AfterInstantiation;
-        self.add_own(needs, alloc, import, call, lowered)?;
+        add_own(needs, alloc, self.which, import, call, lowered)?;
         self.add_realloc(needs, alloc, site, lowered.options)?;
         Ok(())
     }
@@ -127,15 +111,15 @@ impl UserModule<'_> {
         needs: &mut Vec<NeededShim>,
         alloc: Global,
         import: &NamedImport<'_>,
-        call: FunctionCall,
+        call: &FunctionCall,
         sig: &WasmSignature,
         options: RequiredOptions,
     ) -> Result<(), ShimFault>
-        ensures ok { OnOk result (needs.new.items ≡ needs.old.items ++ specs.indirect_needs self.now.world.now self.now.which.now self.now.found.now (core_import import.now) call sig.now options (specs.encoding_of_call self.now.found.now call)) }
-        ensures encoded { OnOk result (unencoded_if (core_import import.now) (specs.encoding_of_call self.now.found.now call) ≡ []) }
-        ensures cause { IfErr result (Explains (unencoded_if (core_import import.now) (specs.encoding_of_call self.now.found.now call))) }
+        ensures ok { OnOk result (needs.new.items ≡ needs.old.items ++ specs.indirect_needs self.now.world.now self.now.which.now self.now.found.now (core_import import.now) call.now sig.now options (specs.encoding_of_call self.now.found.now call.now)) }
+        ensures encoded { OnOk result (unencoded_if (core_import import.now) (specs.encoding_of_call self.now.found.now call.now) ≡ []) }
+        ensures cause { IfErr result (Explains (unencoded_if (core_import import.now) (specs.encoding_of_call self.now.found.now call.now))) }
     {
-        match encoding_of(alloc, self.found, &call)? {
+        match encoding_of(alloc, self.found, call)? {
             Some(encoding) => {
                 let lowered = IndirectCall {
                     sig,
@@ -155,13 +139,13 @@ impl UserModule<'_> {
         needs: &mut Vec<NeededShim>,
         alloc: Global,
         import: &NamedImport<'_>,
-        call: FunctionCall,
+        call: &FunctionCall,
     ) -> Result<(), ShimFault>
-        ensures ok { OnOk result (needs.new.items ≡ needs.old.items ++ specs.call_needs self.now.world.now self.now.which.now self.now.found.now (core_import import.now) (Some call)) }
-        ensures encoded { OnOk result (unencoded_call self.now.world.now self.now.found.now (core_import import.now) (Some call) ≡ []) }
-        ensures cause { IfErr result (Explains (unencoded_call self.now.world.now self.now.found.now (core_import import.now) (Some call))) }
+        ensures ok { OnOk result (needs.new.items ≡ needs.old.items ++ specs.call_needs self.now.world.now self.now.which.now self.now.found.now (core_import import.now) (Some call.now)) }
+        ensures encoded { OnOk result (unencoded_call self.now.world.now self.now.found.now (core_import import.now) (Some call.now) ≡ []) }
+        ensures cause { IfErr result (Explains (unencoded_call self.now.world.now self.now.found.now (core_import import.now) (Some call.now))) }
     {
-        match lowering_of(self.world, &call) {
+        match lowering_of(self.world, call) {
             Some(Lowering::Direct { options }) => {
                 self.add_realloc(needs, alloc, ReallocSite::BeforeInstantiation, *options)?;
                 Ok(())
@@ -185,7 +169,7 @@ impl UserModule<'_> {
         ensures cause { IfErr result (Explains (unencoded_import self.now.world.now self.now.found.now (core_import import.now))) }
     {
         match call_of(alloc, import.role)? {
-            Some(call) => self.add_call(needs, alloc, import, call),
+            Some(call) => self.add_call(needs, alloc, import, &call),
             None => Ok(()),
         }
     }

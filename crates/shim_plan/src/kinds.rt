@@ -1,7 +1,7 @@
 //! What a shim stands for.
 
 ghost use Rattle.std.specs.Prelude.{◌≡◌, IfOk};
-ghost use Rattle.shim_plan.specs.Kinds.{kind_number, kind_name};
+ghost use Rattle.shim_plan.specs.Kinds.{kind_number, kind_name, kind_interface_name, kind_interface_index};
 
 use comp_lists::{Text, TryClone};
 use comp_roles::{MainOrAdapter, PayloadFuncKind, PayloadInfo};
@@ -14,7 +14,7 @@ use wit_data::{InterfaceId, Type, WorldKey};
 /// What a shim stands for. Shims of equal kinds are one.
 ///
 /// `for_module`, and the `realloc` of a lowering, are the module that imports the function.
-#[derive(Debug, PartialEq, Eq)]
+#[derive(PartialEq, Eq)]
 pub enum ShimKind {
     /// A lowering of a function that the world imports, whose options name items of the module that imports it (Canonical
     /// ABI: `canon lower`): the key of its interface, or none at the root, and its name there with the form of the call.
@@ -150,22 +150,54 @@ impl ShimKind {
             | ShimKind::ErrorContextDebugMessage { .. } => "",
         }
     }
+
+    /// The plain name of the interface that a function is imported from, where it has one.
+    fn interface_name(&self) -> &str
+        ensures { result.now ≡ kind_interface_name self.now }
+    {
+        match self {
+            ShimKind::IndirectLowering {
+                interface: Some(WorldKey::Name(name)),
+                ..
+            } => name.as_str(),
+            _ => "",
+        }
+    }
+
+    /// The index of the interface that a function belongs to, where it has one.
+    fn interface_index(&self) -> usize
+        ensures { result ≡ kind_interface_index self.now }
+    {
+        match self {
+            ShimKind::IndirectLowering {
+                interface: Some(WorldKey::Interface(id)),
+                ..
+            } => id.index,
+            ShimKind::TaskReturn {
+                interface: Some(id),
+                ..
+            } => id.index,
+            _ => 0,
+        }
+    }
 }
 
-/// It hashes the variant and the name of the function alone.
+/// It hashes the variant, the name of the function, and its interface: many interfaces may have a function of one name.
 impl Hash for ShimKind {
     ghost use Rattle.std.specs.Prelude.{◌++◌};
     ghost use Rattle.std.specs.Hash as fed;
-    ghost use Rattle.shim_plan.specs.Kinds.{kind_number, kind_name};
+    ghost use Rattle.shim_plan.specs.Kinds.{kind_number, kind_name, kind_interface_name, kind_interface_index};
     ghost use Rattle.std.proofs.Common.{rules};
     ghost use Rattle.std.specs.Cmp.Rules.{hashing};
 
-    ghost hash_input = { λ k. fed.u8 (kind_number k) ++ fed.str (kind_name k) };
+    ghost hash_input = { λ k. (fed.u8 (kind_number k) ++ fed.str (kind_name k)) ++ (fed.str (kind_interface_name k) ++ fed.usize (kind_interface_index k)) };
 
     ghost respects_eq = { Prim.search (hashing, rules) };
 
     fn hash<H: Hasher>(&self, state: &mut H) {
         self.number().hash(state);
         self.name().hash(state);
+        self.interface_name().hash(state);
+        self.interface_index().hash(state);
     }
 }

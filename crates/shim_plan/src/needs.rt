@@ -1,6 +1,6 @@
 //! Shims that a module needs, before they have a place.
 
-ghost use Rattle.std.specs.Prelude.{◌≡◌, IfOk};
+ghost use Rattle.std.specs.Prelude.{◌≡◌, [], ◌∷◌, ◌++◌, IfOk, OnOk};
 
 use crate::kinds::ShimKind;
 use crate::shims::Shim;
@@ -47,6 +47,14 @@ impl NeededShim {
             sig,
         }
     }
+}
+
+/// Appends an item to a list. Where memory is refused, the item is dropped.
+pub(crate) fn append<T: Drop>(items: &mut Vec<T>, item: T) -> Result<(), AllocError>
+    ensures { OnOk result (items.new.items ≡ items.old.items ++ item ∷ []) }
+{
+    items.push(item)?;
+    Ok(())
 }
 
 fn copy_types(alloc: Global, types: &[WasmType]) -> Result<Seq<WasmType>, AllocError>

@@ -1,15 +1,16 @@
 //! The shims of reallocs.
 
-ghost use Rattle.std.specs.Prelude.{◌≡◌, ◌++◌, IfOk, OnOk};
+ghost use Rattle.std.specs.Prelude.{◌≡◌, [], ◌∷◌, ◌++◌, IfOk, OnOk};
 ghost use Rattle.comp_worlds.specs.Lookups.{lent_export, module_name};
 ghost use Rattle.shim_plan.specs.Needed as specs;
 
 use crate::kinds::ShimKind;
 use crate::modules::{UserModule, module_text, owned_module};
-use crate::needs::NeededShim;
+use crate::needs::{NeededShim, append};
 use bitflags::Flags;
 use comp_lists::{Seq, Text};
 use comp_options::RequiredOptions;
+use comp_roles::MainOrAdapter;
 use comp_worlds::{ComponentWorld, CustomModule};
 use std::alloc::{AllocError, Global};
 use wit_data::{WasmSignature, WasmType};
@@ -51,25 +52,36 @@ fn realloc_sig(alloc: Global) -> Result<WasmSignature, AllocError>
     })
 }
 
-/// The shim of the realloc that a module exports.
-fn realloc_shim(
+/// The debug name of the shim of a realloc.
+fn realloc_name(alloc: Global, module: &MainOrAdapter, export: &str) -> Result<Text, AllocError>
+    ensures { IfOk result (λ name. name ≡ specs.realloc_name «module».now export.now) }
+{
+    let owner = module_text(module);
+    Ok(Text::from_string(format!(in alloc; "realloc-{owner}-{export}")?))
+}
+
+/// Adds the shim of the realloc that a module exports.
+fn add_realloc_of(
+    needs: &mut Vec<NeededShim>,
     alloc: Global,
     owner: CustomModule<'_>,
     export: &str,
-) -> Result<NeededShim, AllocError>
-    ensures { IfOk result (λ n. n ≡ specs.realloc_shim (module_name owner.entry, export.now)) }
+) -> Result<(), AllocError>
+    ensures { OnOk result (needs.new.items ≡ needs.old.items ++ specs.realloc_shim (module_name owner.entry, export.now) ∷ []) }
 {
     let module = owned_module(alloc, owner)?;
-    let owner = module_text(&module);
-    let debug_name = Text::from_string(format!(in alloc; "realloc-{owner}-{export}")?);
+    let debug_name = realloc_name(alloc, &module, export)?;
     let export = Text::from_str(alloc, export)?;
     let sig = realloc_sig(alloc)?;
-    Ok(NeededShim {
-        options: RequiredOptions::empty(),
-        debug_name,
-        kind: ShimKind::Realloc { module, export },
-        sig,
-    })
+    append(
+        needs,
+        NeededShim {
+            options: RequiredOptions::empty(),
+            debug_name,
+            kind: ShimKind::Realloc { module, export },
+            sig,
+        },
+    )
 }
 
 /// Adds the shim of a realloc, if there is one.
@@ -81,10 +93,7 @@ fn add_shim_of(
     ensures { OnOk result (needs.new.items ≡ needs.old.items ++ specs.realloc_shims (lent_export realloc.entry)) }
 {
     match realloc {
-        Some((owner, export)) => {
-            needs.push(realloc_shim(alloc, owner, export)?)?;
-            Ok(())
-        }
+        Some((owner, export)) => add_realloc_of(needs, alloc, owner, export),
         None => Ok(()),
     }
 }

@@ -200,6 +200,12 @@ module _ (s : Surroundings) (origin : TypeId → Resource) (o : Offer) (here : I
           let same : (j.index == id.index) ≡ true = subst (λ b. (b || (j.index == id.index)) ≡ true) e either in
           subst (λ (n : ℕ). HasIndex maps (record { index = n })) (sym ((Decides-eqb j.index id.index).0 same)) recorded
 
+  pub exported_next : (ids : List TypeId) (n : ℕ) {id : TypeId} (d : TypeId) (passed : List TypeId) (ms new : List Member) → n < length ids → id ≡ get_or ids n d → passed ≡ take n ids → new ≡ ms →
+      AreExported s origin o here (passed ++ id ∷ []) ms → AreExported s origin o here (take (n + 1) ids) new
+  exported_next ids n {id = id} d passed ms new within at same kept h =
+      let whole : passed ++ id ∷ [] ≡ take (n + 1) ids = ap (λ xs. xs ++ id ∷ []) same ∙ (ap (λ i. take n ids ++ i ∷ []) at ∙ sym (take_more ids n d within)) in
+      subst (λ xs. AreExported s origin o here xs new) whole (subst (λ xs. AreExported s origin o here (passed ++ id ∷ []) xs) (sym kept) h)
+
   pub right_next : (ids : List TypeId) (n : ℕ) {id : TypeId} (d : TypeId) (passed : List TypeId) (ms new : List Member) (maps now : TypeEncodingMaps) → n < length ids → id ≡ get_or ids n d → passed ≡ take n ids → new ≡ ms → now ≡ maps → HasIndex maps id →
       IsRight s origin o here passed ms maps → IsRight s origin o here (take (n + 1) ids) new now
   right_next ids n {id = id} d passed ms new maps now within at same kept tables recorded h =

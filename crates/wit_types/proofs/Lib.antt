@@ -8,5 +8,6 @@ pub mod Parting
 pub mod Calling
 pub mod Adding
 pub mod Ordering
+pub mod Stepping
 pub mod Listing
 mod WorkedOrder

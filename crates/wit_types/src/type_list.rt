@@ -22,7 +22,7 @@ use std::alloc::Global;
 use wit_data::{InterfaceId, Resolve, Type, TypeId};
 
 /// How a type of the list is made.
-#[derive(Debug, Drop)]
+#[derive(Drop)]
 pub enum ListedType {
     Defined(DefinedType),
     Func(FuncTypeDef),

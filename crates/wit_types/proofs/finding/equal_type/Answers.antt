@@ -2,7 +2,7 @@ use Rattle.std.proofs.Common.{ap, sym, refl, ◌∙◌, Some}
 use Rattle.comp_trees.specs.DefinedTrees.{OfValues}
 use Rattle.wit_data.specs.declared.types.Type.TheVariants.{Id}
 use Rattle.wit_types.specs.Settings.{Setting, tree_in, name_at}
-use Rattle.wit_types.proofs.Growing.{denotes_as, named_none, no_name}
+use Rattle.wit_types.proofs.Growing.{denotes_as, named_none, no_name, named_in}
 use Rattle.wit_types.proofs.Permitting.{equal_found}
 use Rattle.wit_types.proofs.finding.equal_type.Goals as goal
 
@@ -27,3 +27,21 @@ record_type-requires-clause-named g c =
 
 pub returns-in_ok-record_type-in-Some-clause-follows : goal.returns-in_ok-record_type-in-Some-clause-follows
 returns-in_ok-record_type-in-Some-clause-follows g c = g.E.ValtypeEncoder.follows_on _ _ _ c.met_kind.ensures.follows c.record_type.ensures.follows
+
+pub returns-in_err-record_type-in-Some-clause-scope : goal.returns-in_err-record_type-in-Some-clause-scope
+returns-in_err-record_type-in-Some-clause-scope g c = c.record_type.ensures.scope ∙ c.met_kind.ensures.scope
+
+pub returns-in_err-record_type-in-Some-clause-setting : goal.returns-in_err-record_type-in-Some-clause-setting
+returns-in_err-record_type-in-Some-clause-setting g c = c.record_type.ensures.setting ∙ c.met_kind.ensures.setting
+
+pub returns-in_err-record_type-in-Some-clause-follows : goal.returns-in_err-record_type-in-Some-clause-follows
+returns-in_err-record_type-in-Some-clause-follows g c = g.E.ValtypeEncoder.follows_on _ _ _ c.met_kind.ensures.follows c.record_type.ensures.follows
+
+pub returns-in_ok-record_type-in-Some-clause-scope : goal.returns-in_ok-record_type-in-Some-clause-scope
+returns-in_ok-record_type-in-Some-clause-scope g c = c.record_type.ensures.scope ∙ c.met_kind.ensures.scope
+
+pub returns-in_ok-record_type-in-Some-clause-setting : goal.returns-in_ok-record_type-in-Some-clause-setting
+returns-in_ok-record_type-in-Some-clause-setting g c = c.record_type.ensures.setting ∙ c.met_kind.ensures.setting
+
+pub returns-in_ok-record_type-in-Some-clause-named : goal.returns-in_ok-record_type-in-Some-clause-named
+returns-in_ok-record_type-in-Some-clause-named g c = named_in _ _ _ c.args.id c.in-Some.index (sym c.met_kind.ensures.setting) c.record_type.ensures.named

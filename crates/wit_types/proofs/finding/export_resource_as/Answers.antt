@@ -3,7 +3,7 @@ use Rattle.comp_trees.specs.DefinedTrees.{OfValues}
 use Rattle.wit_data.specs.declared.types.Type.TheVariants.{Id}
 use Rattle.wit_types.specs.Settings.{Setting, tree_in}
 use Rattle.wit_types.proofs.Adding.{one_as, type_added}
-use Rattle.wit_types.proofs.Growing.{longer_one, faithful_after, denotes_as, named_by}
+use Rattle.wit_types.proofs.Growing.{longer_one, faithful_after, denotes_as, named_by, longer_on, longer_same, named_in}
 use Rattle.wit_types.proofs.Permitting.{named_resource, names_resource, resource_tree}
 use Rattle.wit_types.proofs.finding.export_resource_as.Goals as goal
 
@@ -46,3 +46,24 @@ returns-clause-adds g c =
     type_added _ _ _ _
     (resource_tree s c.args.types.now c.args.id (s.resource c.args.name) c.requires.same c.requires.back c.requires.present c.requires.resource (named_resource s c.args.id.index c.args.name c.requires.named).1)
     (one_as c.in_ok-index.ensures.makes.0 c.record_type.ensures.scope)
+
+pub returns-in_err-index-clause-grows : goal.returns-in_err-index-clause-grows
+returns-in_err-index-clause-grows g c = c.in_err-index.ensures.makes
+
+pub returns-in_err-record_type-clause-grows : goal.returns-in_err-record_type-clause-grows
+returns-in_err-record_type-clause-grows g c = longer_on (longer_one c.in_ok-index.ensures.makes.0) (longer_same c.record_type.ensures.scope)
+
+pub returns-in_err-record_type-clause-setting : goal.returns-in_err-record_type-clause-setting
+returns-in_err-record_type-clause-setting g c = c.record_type.ensures.setting ∙ c.in_ok-index.ensures.setting
+
+pub returns-clause-grows : goal.returns-clause-grows
+returns-clause-grows g c = longer_on (longer_one c.in_ok-index.ensures.makes.0) (longer_same c.record_type.ensures.scope)
+
+pub returns-clause-setting : goal.returns-clause-setting
+returns-clause-setting g c = c.record_type.ensures.setting ∙ c.in_ok-index.ensures.setting
+
+pub returns-clause-follows : goal.returns-clause-follows
+returns-clause-follows g c = g.E.ValtypeEncoder.follows_on _ _ _ c.in_ok-index.ensures.follows c.record_type.ensures.follows
+
+pub returns-clause-named : goal.returns-clause-named
+returns-clause-named g c = named_in _ _ _ c.args.id c.in_ok-index.index (sym c.in_ok-index.ensures.setting) c.record_type.ensures.named

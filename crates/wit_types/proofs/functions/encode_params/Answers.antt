@@ -27,3 +27,21 @@ loop-n-preserved g c =
       faithful = e.faithful;
       follows = g.E.ValtypeEncoder.follows_on _ _ _ i.follows e.follows;
     }
+
+pub returns-in_err-encode_param-clause-grows : goal.returns-in_err-encode_param-clause-grows
+returns-in_err-encode_param-clause-grows g c = longer_on c.loop-n.invariant.grows c.in_err-encode_param.ensures.grows
+
+pub returns-in_err-encode_param-clause-setting : goal.returns-in_err-encode_param-clause-setting
+returns-in_err-encode_param-clause-setting g c = c.in_err-encode_param.ensures.setting ∙ c.loop-n.invariant.setting
+
+pub returns-in_err-encode_param-clause-follows : goal.returns-in_err-encode_param-clause-follows
+returns-in_err-encode_param-clause-follows g c = g.E.ValtypeEncoder.follows_on _ _ _ c.loop-n.invariant.follows c.in_err-encode_param.ensures.follows
+
+pub returns-in_err-push-clause-grows : goal.returns-in_err-push-clause-grows
+returns-in_err-push-clause-grows g c = longer_on c.loop-n.invariant.grows c.in_ok-encode_param.ensures.grows
+
+pub returns-in_err-push-clause-setting : goal.returns-in_err-push-clause-setting
+returns-in_err-push-clause-setting g c = c.in_ok-encode_param.ensures.setting ∙ c.loop-n.invariant.setting
+
+pub returns-in_err-push-clause-follows : goal.returns-in_err-push-clause-follows
+returns-in_err-push-clause-follows g c = g.E.ValtypeEncoder.follows_on _ _ _ c.loop-n.invariant.follows c.in_ok-encode_param.ensures.follows

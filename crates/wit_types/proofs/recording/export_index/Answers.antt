@@ -1,7 +1,8 @@
-use Rattle.std.proofs.Common.{Option, ℕ, subst}
+use Rattle.std.proofs.Common.{Option, ℕ, subst, refl}
 use Rattle.wit_types.specs.Denoting.{exported_or}
-use Rattle.wit_types.proofs.Growing.{faithful_maybe, named_by}
+use Rattle.wit_types.proofs.Growing.{faithful_maybe, named_by, denotes_as}
 use Rattle.wit_types.proofs.Adding.{maybe_adds}
+use Rattle.wit_types.proofs.Stepping.{maybe_longer, maybe_denotes, maybe_same}
 use Rattle.wit_types.proofs.recording.export_index.Goals as goal
 
 pub returns-in_err-exported-clause-faithful : goal.returns-in_err-exported-clause-faithful
@@ -28,3 +29,18 @@ returns-in-Some-clause-adds g c = maybe_adds _ _ c.in_ok-exported.exported _ _ c
 
 pub returns-in-None-clause-adds : goal.returns-in-None-clause-adds
 returns-in-None-clause-adds g c = maybe_adds _ _ c.in_ok-exported.exported _ _ c.in_ok-exported.ensures.makes c.requires.denotes.tree
+
+pub returns-in_err-exported-clause-grows : goal.returns-in_err-exported-clause-grows
+returns-in_err-exported-clause-grows g c = maybe_longer _ _ c.export_type.result _ c.export_type.ensures.makes
+
+pub returns-in-Some-clause-grows : goal.returns-in-Some-clause-grows
+returns-in-Some-clause-grows g c = maybe_longer _ _ c.export_type.result _ c.export_type.ensures.makes
+
+pub returns-in-None-clause-grows : goal.returns-in-None-clause-grows
+returns-in-None-clause-grows g c = maybe_longer _ _ c.export_type.result _ c.export_type.ensures.makes
+
+pub returns-in-Some-clause-denotes : goal.returns-in-Some-clause-denotes
+returns-in-Some-clause-denotes g c = maybe_denotes _ _ c.in_ok-exported.exported c.in-Some.index _ _ c.in_ok-exported.ensures.makes c.in-Some.is c.requires.denotes.tree
+
+pub returns-in-None-clause-denotes : goal.returns-in-None-clause-denotes
+returns-in-None-clause-denotes g c = denotes_as c.requires.denotes (maybe_same _ _ c.in_ok-exported.exported _ c.in_ok-exported.ensures.makes c.in-None.is) refl

@@ -1,0 +1,109 @@
+//! The items of a nested component that is being built.
+
+ghost use Rattle.std.specs.Prelude.{◌≡◌, ◌++◌, ◌∷◌, [], IfOk, IfErr, OnOk, OnErr, Some};
+ghost use Rattle.comp_bytes.specs.declared.space.Sort.TheVariants as sorts;
+ghost use Rattle.comp_bytes.specs.declared.types.Description.TheVariants as descriptions;
+ghost use Rattle.comp_bytes.specs.declared.def.Item.TheVariants as items;
+ghost use Rattle.wit_types.specs.Denoting.{IsCause};
+ghost use Rattle.nested_components.specs.Growing.{types_in, is_full};
+
+use byte_encoding::{BuildFault, next_count};
+use comp_bytes::{Description, ExternName, Item, Sort, TypeDef};
+use comp_lists::Seq;
+use std::alloc::{AllocError, Global};
+use std::marker::Model;
+
+/// The items of a nested component, with the number of type indices that they make.
+pub(crate) struct ItemList {
+    items: Seq<Item>,
+    type_count: u32,
+}
+
+impl Drop for ItemList {
+    fn drop(self) {
+        let ItemList {
+            items: _,
+            type_count: _,
+        } = self;
+    }
+}
+
+impl Model for ItemList {
+    ghost use Rattle.std.specs.Prelude.{List, ◌≡◌};
+    ghost use Rattle.comp_bytes.specs.declared.def.Item.{Item};
+    ghost use Rattle.nested_components.specs.Growing.{types_in};
+
+    ghost Value = { List Item };
+
+    ghost view = { λ l. l.items };
+
+    ghost invariant = { λ l. l.type_count ≡ types_in l.items };
+}
+
+impl ItemList {
+    /// No item.
+    pub(crate) fn new(alloc: Global) -> ItemList
+        ensures { result ≡ [] }
+    {
+        ItemList {
+            items: Seq::new(alloc),
+            type_count: 0,
+        }
+    }
+
+    /// Defines a type, and returns its index.
+    pub(crate) fn add_type(&mut self, ty: TypeDef) -> Result<u32, BuildFault>
+        ensures index { IfOk result (λ index. index ≡ types_in self.old) }
+        ensures ok { OnOk result (self.new ≡ self.old ++ items.Type ty ∷ []) }
+        ensures err { OnErr result (self.new ≡ self.old) }
+        ensures cause { IfErr result (IsCause is_full self.new) }
+    {
+        let index = self.type_count;
+        let count = next_count(index)?;
+        self.items.push(Item::Type(ty))?;
+        self.type_count = count;
+        Ok(index)
+    }
+
+    /// Imports a function of the type with an index.
+    pub(crate) fn import_function(&mut self, name: ExternName, ty: u32) -> Result<(), AllocError>
+        ensures ok { OnOk result (self.new ≡ self.old ++ items.Import name (descriptions.Func ty) ∷ []) }
+        ensures err { OnErr result (self.new ≡ self.old) }
+    {
+        let description = Description::Func(ty);
+        self.items.push(Item::Import { name, description })?;
+        Ok(())
+    }
+
+    /// Exports the function with an index, as one of the type with an index.
+    pub(crate) fn export_function(
+        &mut self,
+        name: ExternName,
+        index: u32,
+        ty: u32,
+    ) -> Result<(), AllocError>
+        ensures ok { OnOk result (self.new ≡ self.old ++ items.Export name sorts.Func index (Some (descriptions.Func ty)) ∷ []) }
+        ensures err { OnErr result (self.new ≡ self.old) }
+    {
+        let sort = Sort::Func;
+        let description = Some(Description::Func(ty));
+        self.items.push(Item::Export {
+            name,
+            sort,
+            index,
+            description,
+        })?;
+        Ok(())
+    }
+
+    /// The items.
+    pub(crate) fn into_items(self) -> Seq<Item>
+        ensures { result ≡ self }
+    {
+        let ItemList {
+            items,
+            type_count: _,
+        } = self;
+        items
+    }
+}

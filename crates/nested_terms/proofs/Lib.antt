@@ -1,0 +1,2 @@
+mod WorkedNames
+mod WorkedNested
