@@ -55,7 +55,21 @@ def kit():
     module = importlib.util.module_from_spec(importlib.util.spec_from_loader("rtlib", loader))
     sys.modules["rtlib"] = module
     loader.exec_module(module)
+    # rtlib's stamp reads a library's files once for each way that leads to it: 150,000 times for the highest crates.
+    module.Crate.stamp = once(module.Crate.stamp)
     return module
+
+
+def once(stamp):
+    """A stamp that is computed once for each folder: the crates' own files don't change while wrong bodies are tried."""
+    found = {}
+
+    def known(crate):
+        if crate.folder not in found:
+            found[crate.folder] = stamp(crate)
+        return found[crate.folder]
+
+    return known
 
 
 rtlib = kit()

@@ -13,12 +13,21 @@ use Rattle.comp_terms.specs.Rules.{IsBuilt}
 use Rattle.comp_encoder.specs.Encoder.{Encoder, naming}
 use Rattle.comp_encoder.specs.Prepared.{IsWorldOf}
 use Rattle.comp_encoder.specs.Component.{IsComponentOf, IsEncoding}
+use Rattle.comp_encoder.specs.Outputs.{NoSharedName}
+use Rattle.comp_encoder.proofs.ExportsApart.{exports_apart}
 use Rattle.link_laws.proofs.Runs.{modules_of, composed, links}
 
-pub made_of : (n : Naming) (w : ComponentWorld) (validate : Bool) (bytes : List ℕ) (ds : List Def) → IsEncodable w → Encodes bytes ds → Scoped ds × IsBuilt n w ds → (IsTrue validate → NamesOk ds) →
-    IsComponentOf n w validate bytes
-made_of n w validate bytes ds valid encodes built named =
-    record { defs = ds; encodes = encodes; scoped = built.0; generated = modules_of w built.1.generated built.1.are_generated; composed = composed n w ds valid.valid built.1; links = links n w ds valid.valid built.1; named = named }
+pub made_of : (n : Naming) (w : ComponentWorld) (validate : Bool) (bytes : List ℕ) (ds : List Def) → IsEncodable w → NoSharedName n.canonical w → Encodes bytes ds →
+    Scoped ds × IsBuilt n w ds → (IsTrue validate → NamesOk ds) → IsComponentOf n w validate bytes
+made_of n w validate bytes ds valid none encodes built named = record {
+  defs = ds;
+  encodes = encodes;
+  scoped = built.0;
+  generated = modules_of w built.1.generated built.1.are_generated;
+  composed = composed n w ds valid.valid built.1;
+  links = links n w ds valid.valid (exports_apart n w valid.valid none) built.1;
+  named = named;
+}
 
 module _ {L B F : Type 0} (l : lower.Ghosts L B F) where
   pub component_of : (e : Encoder L B) (w : ComponentWorld) (bytes : List ℕ) → IsWorldOf l e w → IsComponentOf (naming e) w e.gathered.options.validate bytes → IsEncoding l e bytes

@@ -2,3 +2,4 @@ mod Refused
 mod Naming
 mod Answered
 mod MeetingNames
+mod ExportsApart

@@ -1,6 +1,6 @@
 -- Canonical names that are met one after the other.
-use Rattle.std.proofs.Common.{ℕ, zero, suc, get_or, inl, inr, ◌<◌, arith, length, slice_get, slice_index_or, ◌≡◌, ◌∙◌, ◌||◌, Bool, true, false, cond, List, [], ◌∷◌, ◌++◌, map, append_assoc, append-nil, Option, Some, None, IsSome, is_some, true≢false, refl, sym, ap, ap₂, subst}
-use Rattle.std.specs.List.{AllByRecursion, IsDistinct, flat_map, list_any}
+use Rattle.std.proofs.Common.{ℕ, zero, suc, get_or, inl, inr, ◌<◌, arith, length, slice_get, slice_index_or, ◌≡◌, ◌∙◌, ◌||◌, Bool, true, false, cond, List, [], ◌∷◌, ◌++◌, map, append_assoc, append-nil, Option, Some, None, is_some, true≢false, refl, sym, ap, ap₂, subst}
+use Rattle.std.specs.List.{AllByRecursion, IsDistinct, list_any}
 use Rattle.std.specs.Str.{bytes_eq}
 use Rattle.std.specs.Cmp.{IsEquivalence}
 use Rattle.std.specs.Option.{option_and_then}

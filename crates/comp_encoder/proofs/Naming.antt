@@ -1,5 +1,5 @@
 -- The names in a component that was built for a world: those of its imports and exports are the stated ones, those of its
--- types of instances are as the world says, and all other names are distinct in their lists.
+-- types of instances and of its nested components are as the world says, and all other names are distinct in their lists.
 use Rattle.comp_links.specs.Naming.{Naming}
 use Rattle.std.proofs.Common.{◌≡◌, ℕ, zero, suc, Some, Bool, IsTrue, List, [], ◌∷◌, ◌++◌, refl, sym, ap₂, subst, map, inl, inr, arith}
 use Rattle.std.specs.Prelude.{Contains, codes}
@@ -7,14 +7,14 @@ use Rattle.std.specs.List.{AllByRecursion, AllZip, IsDistinct, flat_map}
 use Rattle.std.specs.Str.{bytes_eq}
 use Rattle.std.proofs.lemmas.List.Elements.{Contains-append_right}
 use Rattle.std.proofs.lemmas.List.{map-append}
-use Rattle.comp_links.specs.Lists.{Stated}
-use Rattle.comp_bytes.specs.ScopeNames.{Names, item_names, def_names, def_import, def_export, names}
+use Rattle.comp_links.specs.Lists.{Stated, nested_names}
+use Rattle.comp_bytes.specs.ScopeNames.{Names, member_export, item_import, item_export, item_names, def_names, def_import, def_export, names}
 use Rattle.comp_bytes.specs.declared.def.CoreArgument.{CoreArgument}
 use Rattle.comp_bytes.specs.declared.def.Item.{Item}
 use Rattle.comp_bytes.specs.declared.def.Item.TheVariants as items
 use Rattle.comp_bytes.specs.declared.def.Def.{Def}
 use Rattle.comp_bytes.specs.declared.def.Def.TheVariants as defs
-use Rattle.comp_names.specs.Names.{def_extern_names, extern_names}
+use Rattle.comp_names.specs.Names.{item_extern_names, def_extern_names, extern_names}
 use Rattle.comp_worlds.specs.Worlds.{IsWorld}
 use Rattle.comp_roles.specs.declared.imports.ImportInstance.{ImportInstance}
 use Rattle.comp_worlds.specs.declared.world.ComponentWorld.{ComponentWorld}
@@ -36,7 +36,7 @@ use Rattle.comp_names.proofs.Judging.{not_distinct}
 use Rattle.comp_names.specs.NameForm.{IsFormed}
 use Rattle.comp_names.specs.Names.{OccursTwice, NamesOk}
 use Rattle.link_laws.specs.Composition.{GeneratedModules, IsComposed, at_root, item_imports, item_exports}
-use Rattle.link_laws.proofs.Marks.{item_type_names, root_type_names}
+use Rattle.link_laws.proofs.Marks.{item_type_names, nested_lists_of, component_names, root_type_names, root_nested_names, root_component_names}
 use Rattle.comp_encoder.specs.Outputs.{stated_names, name_lists, IsNameCause, IsOutputRefusal}
 use Rattle.comp_encoder.specs.declared.output.OutputFault.TheVariants as outputs
 
@@ -75,7 +75,8 @@ module _ (w : ComponentWorld) (valid : IsWorld w) where
   user_module_apart zero of e = subst ImportsApart (same_Some (record { of = Main; found = w.main }) of e) valid.main.modules_apart
   user_module_apart (suc number) of e = adapter_apart w w.adapters valid.adapters number of e
 
-  -- what holds of distinct names, and of those of each type of instances, holds of each list of names of the definitions
+  -- what holds of distinct names, of those of each type of instances, and of those in each nested component, holds of each list of
+  -- names of the definitions
   module _ (P : Names → Type 0) (apart : (list : Names) → IsDistinct bytes_eq list → P list) where
     item_lists : (earlier : List Def) (i : Item) → IsItemRight w earlier i → AllByRecursion P (item_type_names i) → AllByRecursion P (item_names i)
     item_lists earlier (items.CoreInstantiate number arguments) (inl h) k =
@@ -85,73 +86,120 @@ module _ (w : ComponentWorld) (valid : IsWorld w) where
     item_lists earlier (items.CoreInstantiate number arguments) (inr (inr h)) k =
         (apart (map (λ a. a.name) arguments) (subst (λ (as' : List CoreArgument). IsDistinct bytes_eq (map (λ a. a.name) as')) (sym h.given) two_apart), tt)
     item_lists earlier (items.CoreExports entries) h k = (apart (map (λ e. e.name) entries) h.apart, tt)
-    item_lists earlier (items.Instantiate component arguments) h k = absurd h
+    item_lists earlier (items.Instantiate component arguments) h k = (apart (map (λ a. a.name) arguments) h.apart, tt)
     item_lists earlier (items.InstanceType t) h k = k
     item_lists earlier i h k = tt
 
-    def_lists : (earlier : List Def) (d : Def) → IsRight w earlier d → AllByRecursion P (at_root item_type_names d) → AllByRecursion P (def_names d)
-    def_lists earlier (defs.Item i) h k = item_lists earlier i h k
-    def_lists earlier (defs.Component inner) h k = absurd h
+    def_lists : (earlier : List Def) (d : Def) → IsRight w earlier d → AllByRecursion P (at_root item_type_names d) → AllByRecursion P (component_names d) → AllByRecursion P (def_names d)
+    def_lists earlier (defs.Item i) h k c = item_lists earlier i h k
+    def_lists earlier (defs.Component inner) h k c = c
 
-    pub each_list : (earlier ds : List Def) → RightAfter w earlier ds → AllByRecursion P (flat_map (at_root item_type_names) ds) → AllByRecursion P (flat_map def_names ds)
-    each_list earlier [] h k = tt
-    each_list earlier (d ∷ ds) h k =
+    pub each_list : (earlier ds : List Def) → RightAfter w earlier ds → AllByRecursion P (flat_map (at_root item_type_names) ds) → AllByRecursion P (flat_map component_names ds) →
+        AllByRecursion P (flat_map def_names ds)
+    each_list earlier [] h k c = tt
+    each_list earlier (d ∷ ds) h k c =
         all_both P (def_names d) (flat_map def_names ds)
-        (def_lists earlier d h.0 (AllByRecursion-front P (at_root item_type_names d) (flat_map (at_root item_type_names) ds) k))
-        (each_list (earlier ++ d ∷ []) ds h.1 (AllByRecursion-back P (at_root item_type_names d) (flat_map (at_root item_type_names) ds) k))
+        (def_lists earlier d h.0
+        (AllByRecursion-front P (at_root item_type_names d) (flat_map (at_root item_type_names) ds) k) (AllByRecursion-front P (component_names d) (flat_map component_names ds) c))
+        (each_list (earlier ++ d ∷ []) ds h.1
+        (AllByRecursion-back P (at_root item_type_names d) (flat_map (at_root item_type_names) ds) k) (AllByRecursion-back P (component_names d) (flat_map component_names ds) c))
 
--- and what holds of these lists holds of those of the types of instances
+-- and what holds of these lists holds of those of the types of instances and of those in nested components
 module _ (P : Names → Type 0) where
-  type_lists : (d : Def) → AllByRecursion P (def_names d) → AllByRecursion P (at_root item_type_names d)
-  type_lists (defs.Item (items.InstanceType t)) h = h
-  type_lists d h = tt
+  parts_of : (d : Def) → AllByRecursion P (def_names d) → AllByRecursion P (at_root item_type_names d) × AllByRecursion P (component_names d)
+  parts_of (defs.Item (items.InstanceType t)) h = (h, tt)
+  parts_of (defs.Item i) h = (tt, tt)
+  parts_of (defs.Component inner) h = (tt, h)
 
-  each_type_list : (ds : List Def) → AllByRecursion P (flat_map def_names ds) → AllByRecursion P (flat_map (at_root item_type_names) ds)
-  each_type_list [] h = tt
-  each_type_list (d ∷ ds) h =
-      all_both P (at_root item_type_names d) (flat_map (at_root item_type_names) ds)
-      (type_lists d (AllByRecursion-front P (def_names d) (flat_map def_names ds) h))
-      (each_type_list ds (AllByRecursion-back P (def_names d) (flat_map def_names ds) h))
+  each_part : (ds : List Def) → AllByRecursion P (flat_map def_names ds) → AllByRecursion P (flat_map (at_root item_type_names) ds) × AllByRecursion P (flat_map component_names ds)
+  each_part [] h = (tt, tt)
+  each_part (d ∷ ds) h =
+      let first = parts_of d (AllByRecursion-front P (def_names d) (flat_map def_names ds) h) in
+      let rest : AllByRecursion P (flat_map (at_root item_type_names) ds) × AllByRecursion P (flat_map component_names ds) =
+      each_part ds (AllByRecursion-back P (def_names d) (flat_map def_names ds) h) in
+      (all_both P (at_root item_type_names d) (flat_map (at_root item_type_names) ds) first.0 rest.0, all_both P (component_names d) (flat_map component_names ds) first.1 rest.1)
 
--- the lists of names of imports and exports in a list of definitions
-abbrev extern_lists : List Def → List Names
-extern_lists ds = flat_map def_import ds ∷ flat_map def_export ds ∷ flat_map (at_root item_type_names) ds
+-- the lists of names of imports and exports in a list of definitions, where this says which of a nested component are taken
+abbrev extern_lists : (Def → List Names) → List Def → List Names
+extern_lists nested ds = flat_map def_import ds ∷ flat_map def_export ds ∷ (flat_map (at_root item_type_names) ds ++ flat_map nested ds)
 
 -- what holds of each name in them holds of all names of imports and exports, and the other way round
-module _ (w : ComponentWorld) (P : List ℕ → Type 0) where
-  def_externs : (earlier : List Def) (d : Def) → IsRight w earlier d → AllByRecursion P (def_import d) → AllByRecursion P (def_export d) → AllByRecursion (AllByRecursion P) (at_root item_type_names d) →
-      AllByRecursion P (def_extern_names d)
-  def_externs earlier (defs.Component inner) h i e t = absurd h
-  def_externs earlier (defs.Item (items.Import name description)) h i e t = i
-  def_externs earlier (defs.Item (items.Export name sort index description)) h i e t = e
-  def_externs earlier (defs.Item (items.InstanceType type)) h i e t = t.0
-  def_externs earlier d h i e t = tt
+module _ (P : List ℕ → Type 0) where
+  inner_externs : (is : List Item) → AllByRecursion P (flat_map item_import is) → AllByRecursion P (flat_map item_export is) → AllByRecursion (AllByRecursion P) (flat_map item_names is) →
+      AllByRecursion P (flat_map item_extern_names is)
+  inner_externs [] i e l = tt
+  inner_externs (items.Import name description ∷ is) i e l = (i.0, inner_externs is i.1 e l)
+  inner_externs (items.Export name sort index description ∷ is) i e l = (e.0, inner_externs is i e.1 l)
+  inner_externs (items.InstanceType t ∷ is) i e l = all_both P (flat_map member_export t.members) (flat_map item_extern_names is) l.0 (inner_externs is i e l.1)
+  inner_externs (items.CoreInstantiate made arguments ∷ is) i e l = inner_externs is i e l.1
+  inner_externs (items.CoreExports entries ∷ is) i e l = inner_externs is i e l.1
+  inner_externs (items.Instantiate made arguments ∷ is) i e l = inner_externs is i e l.1
+  inner_externs (x ∷ is) i e l = inner_externs is i e l
 
-  all_externs : (earlier ds : List Def) → RightAfter w earlier ds → AllByRecursion (AllByRecursion P) (extern_lists ds) → AllByRecursion P (extern_names ds)
-  all_externs earlier [] h k = tt
-  all_externs earlier (d ∷ ds) h k =
+  def_externs : (d : Def) → AllByRecursion P (def_import d) → AllByRecursion P (def_export d) → AllByRecursion (AllByRecursion P) (at_root item_type_names d) →
+      AllByRecursion (AllByRecursion P) (component_names d) → AllByRecursion P (def_extern_names d)
+  def_externs (defs.Component inner) i e t c = inner_externs inner c.0 c.1.0 c.1.1
+  def_externs (defs.Item (items.Import name description)) i e t c = i
+  def_externs (defs.Item (items.Export name sort index description)) i e t c = e
+  def_externs (defs.Item (items.InstanceType type)) i e t c = t.0
+  def_externs d i e t c = tt
+
+  each_extern : (ds : List Def) → AllByRecursion P (flat_map def_import ds) → AllByRecursion P (flat_map def_export ds) → AllByRecursion (AllByRecursion P) (flat_map (at_root item_type_names) ds) →
+      AllByRecursion (AllByRecursion P) (flat_map component_names ds) → AllByRecursion P (extern_names ds)
+  each_extern [] i e t c = tt
+  each_extern (d ∷ ds) i e t c =
+      let Q : List (List ℕ) → Type 0 = AllByRecursion P in
       all_both P (def_extern_names d) (extern_names ds)
-      (def_externs earlier d h.0 (AllByRecursion-front P (def_import d) (flat_map def_import ds) k.0) (AllByRecursion-front P (def_export d) (flat_map def_export ds) k.1.0)
-      (AllByRecursion-front (AllByRecursion P) (at_root item_type_names d) (flat_map (at_root item_type_names) ds) k.1.1))
-      (all_externs (earlier ++ d ∷ []) ds h.1 (
-        AllByRecursion-back P (def_import d) (flat_map def_import ds) k.0,
-        (AllByRecursion-back P (def_export d) (flat_map def_export ds) k.1.0, AllByRecursion-back (AllByRecursion P) (at_root item_type_names d) (flat_map (at_root item_type_names) ds) k.1.1),
-      ))
+      (def_externs d (AllByRecursion-front P (def_import d) (flat_map def_import ds) i) (AllByRecursion-front P (def_export d) (flat_map def_export ds) e)
+      (AllByRecursion-front Q (at_root item_type_names d) (flat_map (at_root item_type_names) ds) t) (AllByRecursion-front Q (component_names d) (flat_map component_names ds) c))
+      (each_extern ds (AllByRecursion-back P (def_import d) (flat_map def_import ds) i) (AllByRecursion-back P (def_export d) (flat_map def_export ds) e)
+      (AllByRecursion-back Q (at_root item_type_names d) (flat_map (at_root item_type_names) ds) t) (AllByRecursion-back Q (component_names d) (flat_map component_names ds) c))
 
-  externs_of : (d : Def) → AllByRecursion P (def_extern_names d) → AllByRecursion P (def_import d) × AllByRecursion P (def_export d) × AllByRecursion (AllByRecursion P) (at_root item_type_names d)
-  externs_of (defs.Item (items.Import name description)) h = (h, tt, tt)
-  externs_of (defs.Item (items.Export name sort index description)) h = (tt, h, tt)
-  externs_of (defs.Item (items.InstanceType type)) h = (tt, tt, (h, tt))
-  externs_of d h = (tt, tt, tt)
+  all_externs : (ds : List Def) → AllByRecursion (AllByRecursion P) (extern_lists component_names ds) → AllByRecursion P (extern_names ds)
+  all_externs ds k =
+      each_extern ds k.0 k.1.0
+      (AllByRecursion-front (AllByRecursion P) (flat_map (at_root item_type_names) ds) (flat_map component_names ds) k.1.1)
+      (AllByRecursion-back (AllByRecursion P) (flat_map (at_root item_type_names) ds) (flat_map component_names ds) k.1.1)
 
-  each_extern_list : (ds : List Def) → AllByRecursion P (extern_names ds) → AllByRecursion (AllByRecursion P) (extern_lists ds)
-  each_extern_list [] h = (tt, (tt, tt))
-  each_extern_list (d ∷ ds) h =
+  -- the names of the imports and of the exports of a nested component
+  inner_parts : (is : List Item) → AllByRecursion P (flat_map item_extern_names is) → AllByRecursion P (flat_map item_import is) × AllByRecursion P (flat_map item_export is)
+  inner_parts [] h = (tt, tt)
+  inner_parts (items.Import name description ∷ is) h = let rest = inner_parts is h.1 in ((h.0, rest.0), rest.1)
+  inner_parts (items.Export name sort index description ∷ is) h = let rest = inner_parts is h.1 in (rest.0, (h.0, rest.1))
+  inner_parts (items.InstanceType t ∷ is) h = inner_parts is (AllByRecursion-back P (flat_map member_export t.members) (flat_map item_extern_names is) h)
+  inner_parts (x ∷ is) h = inner_parts is h
+
+  -- what holds of a definition's names of imports and exports holds of each of its lists
+  record AreExterns (imports exports : Names) (type_lists nested_lists : List Names) : Type 0 where
+    imported : AllByRecursion P imports
+    exported : AllByRecursion P exports
+    types : AllByRecursion (AllByRecursion P) type_lists
+    nested : AllByRecursion (AllByRecursion P) nested_lists
+
+  externs_of : (d : Def) → AllByRecursion P (def_extern_names d) → AreExterns (def_import d) (def_export d) (at_root item_type_names d) (nested_lists_of d)
+  externs_of (defs.Component inner) h = let parts = inner_parts inner h in record { imported = tt; exported = tt; types = tt; nested = (parts.0, (parts.1, tt)) }
+  externs_of (defs.Item (items.Import name description)) h = record { imported = h; exported = tt; types = tt; nested = tt }
+  externs_of (defs.Item (items.Export name sort index description)) h = record { imported = tt; exported = h; types = tt; nested = tt }
+  externs_of (defs.Item (items.InstanceType type)) h = record { imported = tt; exported = tt; types = (h, tt); nested = tt }
+  externs_of (defs.Item i) h = record { imported = tt; exported = tt; types = tt; nested = tt }
+
+  each_externs_of : (ds : List Def) → AllByRecursion P (extern_names ds) → AreExterns (flat_map def_import ds) (flat_map def_export ds) (flat_map (at_root item_type_names) ds) (flat_map nested_lists_of ds)
+  each_externs_of [] h = record { imported = tt; exported = tt; types = tt; nested = tt }
+  each_externs_of (d ∷ ds) h =
       let first = externs_of d (AllByRecursion-front P (def_extern_names d) (extern_names ds) h) in
-      let rest : AllByRecursion (AllByRecursion P) (extern_lists ds) = each_extern_list ds (AllByRecursion-back P (def_extern_names d) (extern_names ds) h) in (
-        all_both P (def_import d) (flat_map def_import ds) first.0 rest.0,
-        (all_both P (def_export d) (flat_map def_export ds) first.1 rest.1.0, all_both (AllByRecursion P) (at_root item_type_names d) (flat_map (at_root item_type_names) ds) first.2 rest.1.1),
-      )
+      let rest : AreExterns (flat_map def_import ds) (flat_map def_export ds) (flat_map (at_root item_type_names) ds) (flat_map nested_lists_of ds) =
+      each_externs_of ds (AllByRecursion-back P (def_extern_names d) (extern_names ds) h) in
+      record {
+        imported = all_both P (def_import d) (flat_map def_import ds) first.imported rest.imported;
+        exported = all_both P (def_export d) (flat_map def_export ds) first.exported rest.exported;
+        types = all_both (AllByRecursion P) (at_root item_type_names d) (flat_map (at_root item_type_names) ds) first.types rest.types;
+        nested = all_both (AllByRecursion P) (nested_lists_of d) (flat_map nested_lists_of ds) first.nested rest.nested;
+      }
+
+  each_extern_list : (ds : List Def) → AllByRecursion P (extern_names ds) → AllByRecursion (AllByRecursion P) (extern_lists nested_lists_of ds)
+  each_extern_list ds h =
+      let externs = each_externs_of ds h in
+      (externs.imported, (externs.exported, all_both (AllByRecursion P) (flat_map (at_root item_type_names) ds) (flat_map nested_lists_of ds) externs.types externs.nested))
 
 -- the names of what is stated
 import_name : (d : Def) → def_import d ≡ stated_names (at_root item_imports d)
@@ -185,23 +233,29 @@ each_in : (lists : List Names) → AllByRecursion (AllByRecursion (IsIn lists)) 
 each_in lists = AllByRecursion-weaker (λ list c. AllByRecursion-weaker (λ name k. (list, c, k)) list (each_contained list)) lists (each_contained lists)
 
 module _ (n : Naming) (w : ComponentWorld) (ds : List Def) (valid : IsWorld w) (built : IsBuilt n w ds) (g : GeneratedModules) (composed : IsComposed n w g ds) where
-  lists_are : extern_lists ds ≡ name_lists n w
-  lists_are =
-      rw (import_names_of ds, export_names_of ds, composed.imports, composed.exports, root_type_names n w ds built) refl
+  lists_are : (nested : Def → List Names) → flat_map nested ds ≡ nested_names w → extern_lists nested ds ≡ name_lists n w
+  lists_are nested same =
+      rw (import_names_of ds, export_names_of ds, composed.imports, composed.exports, root_type_names n w ds built, same) refl
+
+  all_lists : extern_lists component_names ds ≡ name_lists n w
+  all_lists = lists_are component_names (root_component_names n w ds built)
 
   -- a name that occurs twice in a list of names does so in one of these lists
   twice_stated : (name : List ℕ) (list : Names) → Contains (names ds) list → OccursTwice name list → IsNameCause n w (checks.NameTwice name)
   twice_stated name list there twice =
       let P : Names → Type 0 = λ l. OccursTwice name l → IsNameCause n w (checks.NameTwice name) in
-      let stated : AllByRecursion P (extern_lists ds) = subst (AllByRecursion P) (sym lists_are) (AllByRecursion-weaker {Q = P} (λ l c t. (l, c, t)) (name_lists n w) (each_contained (name_lists n w))) in
-      let others : AllByRecursion P (flat_map def_names ds) = each_list w valid P (λ l apart t. absurd (never_twice name l apart t)) [] ds built.right stated.1.1 in
+      let stated : AllByRecursion P (extern_lists component_names ds) =
+      subst (AllByRecursion P) (sym all_lists) (AllByRecursion-weaker {Q = P} (λ l c t. (l, c, t)) (name_lists n w) (each_contained (name_lists n w))) in
+      let others : AllByRecursion P (flat_map def_names ds) = each_list w valid P (λ l apart t. absurd (never_twice name l apart t)) [] ds built.right
+      (AllByRecursion-front P (flat_map (at_root item_type_names) ds) (flat_map component_names ds) stated.1.1)
+      (AllByRecursion-back P (flat_map (at_root item_type_names) ds) (flat_map component_names ds) stated.1.1) in
       AllByRecursion-contains P (names ds) list (stated.0, (stated.1.0, others)) there twice
 
   -- each name of an import or export is in one of them
   extern_stated : (name : List ℕ) → Contains (extern_names ds) name → IsIn (name_lists n w) name
   extern_stated name c =
       let P : List ℕ → Type 0 = IsIn (name_lists n w) in
-      AllByRecursion-contains P (extern_names ds) name (all_externs w P [] ds built.right (subst (AllByRecursion (AllByRecursion P)) (sym lists_are) (each_in (name_lists n w)))) c
+      AllByRecursion-contains P (extern_names ds) name (all_externs P ds (subst (AllByRecursion (AllByRecursion P)) (sym all_lists) (each_in (name_lists n w)))) c
 
   -- a refusal by the check has its cause
   pub check_refusal : Scoped ds → (validate : Bool) (fault : CheckFault) → IsTrue validate × IsUnchecked ds fault → IsOutputRefusal n w validate (outputs.Check fault)
@@ -218,8 +272,10 @@ module _ (n : Naming) (w : ComponentWorld) (ds : List Def) (valid : IsWorld w) (
   no_name_cause ok (checks.Index definition space index) h = h
   no_name_cause ok (checks.NameTwice name) h =
       let P : Names → Type 0 = IsDistinct bytes_eq in
-      let apart : AllByRecursion P (name_lists n w) = subst (AllByRecursion P) lists_are (ok.0.0, (ok.0.1.0, each_type_list P ds ok.0.1.1)) in
+      let parts = each_part P ds ok.0.1.1 in
+      let apart : AllByRecursion P (name_lists n w) = subst (AllByRecursion P) all_lists (ok.0.0, (ok.0.1.0, all_both P (flat_map (at_root item_type_names) ds) (flat_map component_names ds) parts.0 parts.1)) in
       never_twice name h.0 (AllByRecursion-contains P (name_lists n w) h.0 apart h.1) h.2
   no_name_cause ok (checks.NameForm name) h =
-      let formed : AllByRecursion (AllByRecursion IsFormed) (name_lists n w) = subst (AllByRecursion (AllByRecursion IsFormed)) lists_are (each_extern_list w IsFormed ds ok.1) in
+      let formed : AllByRecursion (AllByRecursion IsFormed) (name_lists n w) =
+      subst (AllByRecursion (AllByRecursion IsFormed)) (lists_are nested_lists_of (root_nested_names n w ds built)) (each_extern_list IsFormed ds ok.1) in
       h.3 (AllByRecursion-contains IsFormed h.0 name (AllByRecursion-contains (AllByRecursion IsFormed) (name_lists n w) h.0 formed h.1) h.2)

@@ -2,7 +2,7 @@
 -- `canonversion`, import and export definitions); the string encoding that a function needs is the Canonical ABI's
 -- `string-encoding`.
 use Rattle.comp_links.specs.Naming.{Naming}
-use Rattle.std.specs.Prelude.{◌≡◌, ℕ, Bool, List, ◌∷◌, map, ⊤, IsTrue, Contains}
+use Rattle.std.specs.Prelude.{◌≡◌, ℕ, Bool, List, ◌∷◌, ◌++◌, map, ⊤, IsTrue, Contains}
 use Rattle.comp_bytes.specs.ScopeNames.{Names}
 use Rattle.comp_check.specs.declared.fault.CheckFault.{CheckFault}
 use Rattle.comp_check.specs.declared.fault.CheckFault.TheVariants as checks
@@ -12,7 +12,7 @@ use Rattle.comp_worlds.specs.WorldContents.{core_imports}
 use Rattle.comp_worlds.specs.declared.world.ComponentWorld.{ComponentWorld}
 use Rattle.core_options.specs.Causes.{IsCause, LacksMemory, LacksRealloc, LacksEncoding}
 use Rattle.core_options.specs.declared.fault.StateFault.TheVariants as states
-use Rattle.comp_links.specs.Lists.{Stated, stated_imports, stated_exports, instance_type_names}
+use Rattle.comp_links.specs.Lists.{Stated, stated_imports, stated_exports, instance_type_names, nested_names, required_functions}
 use Rattle.comp_encoder.specs.CanonicalNames.{IsShared}
 use Rattle.comp_encoder.specs.declared.output.OutputFault.{OutputFault}
 use Rattle.comp_encoder.specs.declared.output.OutputFault.TheVariants as outputs
@@ -27,10 +27,10 @@ import_names n w = stated_names (stated_imports n w)
 abbrev pub export_names : Naming → ComponentWorld → Names
 export_names n w = stated_names (stated_exports n w)
 
--- the lists of names of imports and exports that the component has: of its imports, of its exports, and of what each type of
--- instances exports
+-- the lists of names of imports and exports that the component has: of its imports, of its exports, of what each type of
+-- instances exports, and of the imports and the exports of each nested component
 abbrev pub name_lists : Naming → ComponentWorld → List Names
-name_lists n w = import_names n w ∷ export_names n w ∷ instance_type_names w
+name_lists n w = import_names n w ∷ export_names n w ∷ (instance_type_names w ++ nested_names w)
 
 -- what is wrong with them: a name occurs twice in its list, or is not well formed
 abbrev pub IsNameCause : Naming → ComponentWorld → CheckFault → Type 0
@@ -58,7 +58,7 @@ IsOutputRefusal n w validate (outputs.Check fault) = IsTrue validate × IsNameCa
 -- no cause of a refusal holds, apart from memory and sizes
 pub record NoOutputCause (n : Naming) (w : ComponentWorld) (validate : Bool) : Type 0 where
   pub canonical : NoSharedName n.canonical w
-  pub memory : (place : List ℕ) → LacksMemory w (core_imports w) w.main_exports place → ⊥
-  pub realloc : (place : List ℕ) → LacksRealloc w (core_imports w) w.main_exports place → ⊥
+  pub memory : (place : List ℕ) → LacksMemory w (core_imports w) (required_functions w) place → ⊥
+  pub realloc : (place : List ℕ) → LacksRealloc w (core_imports w) (required_functions w) place → ⊥
   pub encodings : (place : List ℕ) → LacksEncoding w place → ⊥
   pub names : IsTrue validate → (fault : CheckFault) → IsNameCause n w fault → ⊥

@@ -1,7 +1,7 @@
-//! The names under which interfaces are imported.
+//! The names of interfaces: under which they are imported, and under which they are exported.
 
 ghost use Rattle.std.specs.Prelude.{◌≡◌, IfOk};
-ghost use Rattle.comp_links.specs.Naming.{import_name, plain_name, suffix_of};
+ghost use Rattle.comp_links.specs.Naming.{import_name, name_of, plain_name, suffix_of};
 ghost use Rattle.wit_data.specs.Names.{canonical_key_text};
 ghost use Rattle.wit_data.specs.Sound.{IsSound, HasKey};
 ghost use Rattle.comp_imports.specs.Names.{naming_of};
@@ -11,12 +11,12 @@ use comp_lists::{Keyed, Text};
 use std::alloc::{AllocError, Global};
 use wit_data::{Resolve, WorldKey};
 
-/// How the names of imported interfaces are made.
+/// How the names of interfaces are made.
 #[derive(Clone, Copy)]
 pub struct ImportNames<'a> {
     /// Whether a name has the canonical part of its version alone, with the rest as a suffix.
     pub canonical: bool,
-    /// Other names for interfaces, by their names with the whole version.
+    /// Other names for imported interfaces, by their names with the whole version.
     pub renamed: &'a Keyed<Text, Text>,
 }
 
@@ -58,6 +58,25 @@ fn canonical_name(
 }
 
 impl ImportNames<'_> {
+    /// The name of a key: with the part of its version that compatible versions share, and the rest as a suffix, where names are
+    /// canonical, or else with its whole version. The only error is out of memory.
+    pub fn key_name(
+        &self,
+        alloc: Global,
+        resolve: &Resolve,
+        key: &WorldKey,
+    ) -> Result<ExternName, AllocError>
+        requires sound { IsSound resolve.now }
+        requires present { HasKey resolve.now key.now }
+        ensures { IfOk result (λ name. name ≡ name_of (naming_of self.now) resolve.now key.now) }
+    {
+        if self.canonical {
+            canonical_name(alloc, resolve, key)
+        } else {
+            Ok(without_suffix(resolve.name_world_key(alloc, key)?))
+        }
+    }
+
     /// The name under which the interface of a key is imported: the one that is given for its name with the whole version, or
     /// else that of the key. The only error is out of memory.
     pub fn name(

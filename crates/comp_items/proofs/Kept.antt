@@ -160,6 +160,16 @@ imports_function old new index kind name at grown type typed =
           ∙ ap (λ t. Some (record { origin = Some origin; type = t })) typed.denotes.tree));
     }
 
+-- a lift
+pub lifts_function : (old new : List Def) (index core kind : ℕ) (written : List CanonicalOption) → index ≡ items_in spaces.Func old → new ≡ old ++ defs.Item (items.Lift core written kind) ∷ [] → (type : FunctionTree) → IsFunctionType old kind type →
+    slice_get (inventory new).functions index ≡ Some (record { origin = None; type = OfFunctions type })
+lifts_function old new index core kind written at grown type typed =
+    let d : Def = defs.Item (items.Lift core written kind) in
+    ap (λ l. slice_get (inventory l).functions index) grown
+    ∙ (ap (λ n. slice_get (inventory (old ++ d ∷ [])).functions n) at
+    ∙ (function_made old d (record { origin = None; type = get_or (scope_of old) kind OfOthers }) refl
+    ∙ ap (λ t. Some (record { origin = None; type = t })) typed.denotes.tree))
+
 -- the same of what a builder's call added
 pub added_type : (old new : Built) (index : ℕ) (d : Def) (debug : Option (List ℕ)) (e : TypeEntry) → types_made (inventory old.defs) d ≡ e ∷ [] → (index ≡ items_in spaces.Type old.defs) × (new ≡ and_then old spaces.Type d debug) →
     Denotes (scope_of new.defs) index (entry_tree e)

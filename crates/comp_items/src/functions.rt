@@ -1,12 +1,14 @@
 //! Functions: imports, lowerings, lifts and exports.
 #![tactic(auto, using(crate::proofs::Extending::extending))]
 
-ghost use Rattle.std.specs.Prelude.{◌≡◌, ℕ, List, IfOk, None};
+ghost use Rattle.std.specs.Prelude.{◌≡◌, ℕ, List, IfOk, Some, None, slice_get};
 ghost use Rattle.std.specs.List.{AllZip};
 ghost use Rattle.comp_bytes.specs.Spaces.{sort_space};
 ghost use Rattle.comp_builder.specs.Built.{Adds, Full};
 ghost use Rattle.comp_builder.specs.Optional.{option_now};
 ghost use Rattle.comp_trees.specs.Trees.{Origin, FunctionTree};
+ghost use Rattle.comp_trees.specs.DefinedTrees.{OfFunctions};
+ghost use Rattle.comp_trees.specs.Inventories.{inventory};
 ghost use Rattle.comp_terms.specs.Terms.{CoreExport, TermOption, IsFunctionType, IsImportedFunction, IsExported, IsOption, IsLowering, IsLifting, imports_in};
 ghost use Rattle.standard_kinds.specs.declared.kinds.ExportKind.TheVariants as kinds;
 
@@ -49,6 +51,7 @@ impl ComponentItems {
     ) -> Result<u32, BuildFault>
         ensures adds { Adds self.old self.new result Space.Func (Def.Item (Item.Lift core options ty)) (option_now debug.entry) }
         ensures lifted { IfOk result (λ index. (entry : CoreExport) (written : List TermOption) (type : FunctionTree) → entry.kind ≡ kinds.Func → IsExported self.old.defs core entry → AllZip (IsOption self.old.defs) options written → IsFunctionType self.old.defs ty type → IsLifting self.new.defs index entry written type) }
+        ensures typed { IfOk result (λ index. (type : FunctionTree) → IsFunctionType self.old.defs ty type → slice_get (inventory self.new.defs).functions index ≡ Some (record { origin = None; type = OfFunctions type })) }
     {
         let index = self.component.lift_func(debug, core, ty, options)?;
         Ok(index)

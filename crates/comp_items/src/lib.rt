@@ -13,7 +13,7 @@
 //!
 //! In reading order: `alias_key` (by what aliases are found), `items` (the fields), `core_items` (core modules, core
 //! instances, and what these export), `types` (types), `instances` (imported instances, and what these export), `functions`
-//! (imports, lowerings, lifts and exports), `intrinsics` (built-in functions).
+//! (imports, lowerings, lifts and exports), `nested` (nested components, and their instances), `intrinsics` (built-in functions).
 #![tactic(auto)]
 
 mod alias_key;
@@ -22,6 +22,7 @@ mod functions;
 mod instances;
 mod intrinsics;
 mod items;
+mod nested;
 mod types;
 
 pub use items::ComponentItems;

@@ -5,16 +5,15 @@ use Rattle.std.specs.Prelude.{ℕ, Bool, true, List, [], ◌∷◌, ◌++◌, Op
 use Rattle.std.specs.Option.{option_map, option_map_or, option_and_then}
 use Rattle.comp_lists.specs.Found.{found}
 use Rattle.standard_kinds.specs.declared.kinds.StringEncoding.{StringEncoding}
+use Rattle.world_values.specs.CoreExports.{post_returns}
 use Rattle.world_values.specs.Items.{functions_of, root_function_at}
 use Rattle.comp_worlds.specs.Lookups.{resolved_realloc}
-use Rattle.comp_worlds.specs.WorldContents.{items_of, core_name_of}
-use Rattle.wit_data.specs.Keys.{name_of_key}
+use Rattle.comp_worlds.specs.WorldContents.{items_of, function_exported, core_name_of}
 use Rattle.wit_data.specs.declared.functions.AbiVariant.TheVariants.{GuestExport}
 use Rattle.wit_data.specs.declared.worlds.WorldKey.{WorldKey}
 use Rattle.wit_data.specs.declared.worlds.WorldKey.TheVariants as keys
 use Rattle.comp_options.specs.Options.{needs, import_set, export_set}
-use Rattle.comp_roles.specs.Lookups.{first_export}
-use Rattle.comp_roles.specs.FunctionExports.{is_post_return}
+use Rattle.comp_roles.specs.Functions.{of_function}
 use Rattle.comp_roles.specs.Reallocs.{is_import_realloc, is_export_realloc, realloc_for}
 use Rattle.comp_roles.specs.declared.imports.Import.{Import}
 use Rattle.comp_roles.specs.declared.imports.Import.TheVariants as imports
@@ -63,26 +62,26 @@ lower_options w m role = options_in (lower_needs w role) (lower_realloc w m) (im
 
 -- ---- lifts
 
--- the set of options that a lift of the function of a key needs
-abbrev pub lift_needs : ComponentWorld → WorldKey → ℕ
-lift_needs w key = option_map_or (export_set GuestExport w.resolve.types) (root_function_at (items_of w).exports key) 0
+-- the set of options that a lift of the function of this name at a key needs
+abbrev pub lift_needs : ComponentWorld → WorldKey → List ℕ → ℕ
+lift_needs w key name = option_map_or (export_set GuestExport w.resolve.types) (function_exported w key name) 0
 
--- the realloc of calls of exports, and the post-return of the function of a key, among the exports of main
+-- the realloc of calls of exports, and the post-return of the function of this name at a key, among the exports of main
 abbrev pub lift_realloc : ComponentWorld → Option (List ℕ)
 lift_realloc w = realloc_for is_export_realloc w.main.exports.exports
 
-abbrev pub post_return_of : ComponentWorld → WorldKey → Option (List ℕ)
-post_return_of w key = first_export (is_post_return key (name_of_key key)) w.main.exports.exports
+abbrev pub post_return_of : ComponentWorld → WorldKey → List ℕ → Option (List ℕ)
+post_return_of w key name = of_function key name (post_returns w.main.exports.exports)
 
 abbrev pub export_of : UserModule → List ℕ → ExportRef
 export_of m name = record { of = m; name = name }
 
--- the options with which the function of a key is lifted: those that its type needs, and its post-return
-abbrev pub needed_options : ComponentWorld → UserModule → WorldKey → List TargetOption
-needed_options w m key = options_in (lift_needs w key) (option_map (export_of m) (lift_realloc w)) (export_encoding w key)
+-- the options with which a required function is lifted: those that its type needs, and its post-return
+abbrev pub needed_options : ComponentWorld → RequiredFunction → List TargetOption
+needed_options w r = options_in (lift_needs w r.key r.function) (option_map (export_of r.of) (lift_realloc w)) (export_encoding w r.key r.function)
 
-abbrev pub lift_options : ComponentWorld → UserModule → WorldKey → List TargetOption
-lift_options w m key = needed_options w m key ++ if_needed true (option_map PostReturn (option_map (export_of m) (post_return_of w key)))
+abbrev pub lift_options : ComponentWorld → RequiredFunction → List TargetOption
+lift_options w r = needed_options w r ++ if_needed true (option_map PostReturn (option_map (export_of r.of) (post_return_of w r.key r.function)))
 
 -- ---- the link table
 
@@ -112,6 +111,6 @@ link_in w m field (instances.Whole which) = Some (ExportOf (record { of = module
 abbrev pub link_at : ComponentWorld → WorldModule → List ℕ → List ℕ → Option Target
 link_at w m module_name field = option_and_then (link_in w m.of field) (found module_name m.found.imports.modules)
 
--- what a required function is to be lifted from: the core export that has this role
+-- what a required function is to be lifted from: the core export that implements it
 abbrev pub lift_of : ComponentWorld → RequiredFunction → Option Target
-lift_of w r = option_map (λ name. Lifted (export_of r.of name) (lift_options w r.of r.key)) (core_name_of w r.key)
+lift_of w r = option_map (λ core. Lifted (export_of r.of core) (lift_options w r)) (core_name_of w r.key r.function)

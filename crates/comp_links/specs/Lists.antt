@@ -12,15 +12,15 @@ use Rattle.comp_bytes.specs.declared.def.Item.TheVariants as parts
 use Rattle.comp_bytes.specs.declared.def.Def.{Def}
 use Rattle.comp_bytes.specs.declared.def.Def.TheVariants as defs
 use Rattle.wit_data.specs.Names.{text_of}
-use Rattle.wit_data.specs.Keys.{is_same_key}
-use Rattle.wit_data.specs.declared.resolve.Resolve.{Resolve}
+use Rattle.wit_data.specs.declared.functions.Function.{Function}
 use Rattle.wit_data.specs.declared.worlds.WorldItem.{WorldItem}
 use Rattle.wit_data.specs.declared.worlds.WorldItem.TheVariants as items
 use Rattle.wit_data.specs.declared.worlds.WorldKey.{WorldKey}
-use Rattle.world_values.specs.Items.{functions_of}
 use Rattle.wit_data.specs.declared.ids.InterfaceId.{InterfaceId}
 use Rattle.wit_data.specs.declared.ids.TypeId.{TypeId}
-use Rattle.comp_worlds.specs.WorldContents.{items_of, imported_types, interface_at, name_at}
+use Rattle.comp_worlds.specs.WorldContents.{items_of, imported_types, interface_at, name_at, exported_item}
+use Rattle.world_values.specs.Items.{functions_of, functions_in}
+use Rattle.nested_terms.specs.Naming.{import_names}
 use Rattle.comp_worlds.specs.declared.world.ComponentWorld.{ComponentWorld}
 use Rattle.wit_data.specs.declared.types.Type.TheVariants.{Id}
 use Rattle.comp_trees.specs.Trees.{Origin, Resource, ImportedAt}
@@ -156,10 +156,6 @@ pub record RequiredKey : Type 0 where
 abbrev pub required_keys : ComponentWorld → List RequiredKey
 required_keys w = map (λ key. record { of = Main; key = key }) w.main_exports
 
--- what the world exports at a key
-abbrev pub exported_item : ComponentWorld → WorldKey → Option WorldItem
-exported_item w key = lookup (is_same_key key) (items_of w).exports
-
 abbrev pub sort_of : Option WorldItem → Sort
 sort_of (Some (items.Function f)) = sorts.Func
 sort_of (Some (items.NamedType id)) = sorts.Type
@@ -170,12 +166,6 @@ stated_export n w r = record { name = name_of n w.resolve r.key; sort = sort_of 
 
 abbrev pub stated_exports : Naming → ComponentWorld → List Stated
 stated_exports n w = map (stated_export n w) (required_keys w)
-
--- the functions of an item: itself, or those of an interface
-abbrev pub functions_in : Resolve → Option WorldItem → List (List ℕ)
-functions_in r (Some (items.Function f)) = f.name ∷ []
-functions_in r (Some (items.Interface id)) = map (λ e. e.0) (functions_of r id)
-functions_in r item = []
 
 -- a function that has to be exported, at a key
 pub record RequiredFunction : Type 0 where
@@ -188,6 +178,29 @@ functions_required w r = map (λ name. record { of = r.of; key = r.key; function
 
 abbrev pub required_functions : ComponentWorld → List RequiredFunction
 required_functions w = flat_map (functions_required w) (required_keys w)
+
+-- ---- nested components
+
+-- the functions of an exported interface, in order
+abbrev pub functions_of_interface : ComponentWorld → InterfaceId → List Function
+functions_of_interface w id = map (λ e. e.1) (functions_of w.resolve id)
+
+-- The lists of names of the nested component that an item is exported by: of its imports, and of its exports. A function is
+-- exported as it is.
+abbrev pub nested_lists : ComponentWorld → Option WorldItem → List (List (List ℕ))
+nested_lists w (Some (items.Interface id)) = import_names (functions_of_interface w id) ∷ map (λ f. f.name) (functions_of_interface w id) ∷ []
+nested_lists w item = []
+
+-- the lists of names of all nested components, in the order of the exports
+abbrev pub nested_names : ComponentWorld → List (List (List ℕ))
+nested_names w = flat_map (λ key. nested_lists w (exported_item w key)) w.main_exports
+
+-- the names of exported interfaces are apart: one that is the name of two is the name of one
+abbrev pub IsExportedInterface : ComponentWorld → WorldKey → Type 0
+IsExportedInterface w key = (id : InterfaceId) × (exported_item w key ≡ Some (items.Interface id))
+
+abbrev pub AreExportsApart : Naming → ComponentWorld → Type 0
+AreExportsApart n w = (a b : WorldKey) → IsExportedInterface w a → IsExportedInterface w b → (name_of n w.resolve a).name ≡ (name_of n w.resolve b).name → a ≡ b
 
 -- the section with the names of the items, where there is one
 abbrev pub AreNames : List Def → Type 0

@@ -3,7 +3,6 @@
 use Rattle.std.specs.Prelude.{◌==◌, ℕ, Bool, true, false, List, ◌∷◌, ◌++◌, Option, Some, None, filter, map, if◌then◌else◌, IsTrue, IsSome}
 use Rattle.std.specs.List.{list_any}
 use Rattle.std.specs.Str.{bytes_eq}
-use Rattle.wit_data.specs.Keys.{name_of_key}
 use Rattle.comp_roles.specs.Functions.{of_function}
 use Rattle.comp_roles.specs.CoreImports.{fields_of}
 use Rattle.comp_worlds.specs.WorldContents.{imported_name, imported_functions}
@@ -66,9 +65,9 @@ import_encoding w role = None
 abbrev pub IsEncodedImport : ComponentWorld → Import → Type 0
 IsEncodedImport w role = IsTrue (needs_encoding role) → IsSome (import_encoding w role)
 
--- the encoding with which the root function of a key is lifted
-abbrev pub export_encoding : ComponentWorld → WorldKey → Option StringEncoding
-export_encoding w key = of_function key (name_of_key key) w.main.metadata.export_encodings
+-- the encoding with which the function of this name at a key is lifted
+abbrev pub export_encoding : ComponentWorld → WorldKey → List ℕ → Option StringEncoding
+export_encoding w key name = of_function key name w.main.metadata.export_encodings
 
 -- the text that names a core import in faults, `module::field`
 abbrev pub field_path : List ℕ → List ℕ → List ℕ

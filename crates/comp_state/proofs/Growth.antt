@@ -17,8 +17,6 @@ use Rattle.root_imports.proofs.Finding.{FindsImports-kept}
 use Rattle.root_imports.proofs.Growth.{tables_kept}
 use Rattle.root_imports.specs.RootScopes.{AreTablesRight}
 use Rattle.core_instances.specs.Instances.{AreImportsMade}
-use Rattle.main_exports.specs.Exports.{FindsCoreNames, AreExports}
-use Rattle.main_exports.specs.declared.exports.MainExports.{MainExports}
 use Rattle.comp_state.specs.declared.state.Step.{Step}
 use Rattle.comp_state.specs.declared.state.Step.TheVariants.{Started, Imported, Instantiated}
 use Rattle.comp_state.specs.Encoding.{AreImported}
@@ -32,56 +30,57 @@ main-kept : {old new : Built} {main : Option ℕ} → Extends old new → IsMain
 main-kept g h = record { index = h.index; known = h.known; made = instance-kept (longer g) h.made }
 
 -- before the first step
-pub encoding-start : (w : ComponentWorld) (items : Built) (maps : TypeEncodingMaps) (instances : List (InterfaceId × ℕ)) (functions : List (List ℕ × ℕ)) (core_names : List (List ℕ × List ℕ)) → IsEncodable w → FindsCoreNames w core_names →
-    IsEncoding w None items.defs maps instances Started functions core_names None
-encoding-start w items maps instances functions core_names ok named = record { valid = ok; named = named; imported = λ s. absurd s; made = λ e. cc }
+pub encoding-start : (w : ComponentWorld) (items : Built) (maps : TypeEncodingMaps) (instances : List (InterfaceId × ℕ)) (functions : List (List ℕ × ℕ)) → IsEncodable w →
+    IsEncoding w None items.defs maps instances Started functions None
+encoding-start w items maps instances functions ok = record { valid = ok; imported = λ s. absurd s; made = λ e. cc }
 
 -- the component has grown
-pub encoding-kept : {w : ComponentWorld} {last : Option TypeId} {old new : Built} {maps : TypeEncodingMaps} {instances : List (InterfaceId × ℕ)} {step : Step} {functions : List (List ℕ × ℕ)} {core_names : List (List ℕ × List ℕ)} {main : Option ℕ} →
-    Extends old new → IsEncoding w last old.defs maps instances step functions core_names main → IsEncoding w last new.defs maps instances step functions core_names main
+pub encoding-kept : {w : ComponentWorld} {last : Option TypeId} {old new : Built} {maps : TypeEncodingMaps} {instances : List (InterfaceId × ℕ)} {step : Step} {functions : List (List ℕ × ℕ)} {main : Option ℕ} →
+    Extends old new → IsEncoding w last old.defs maps instances step functions main → IsEncoding w last new.defs maps instances step functions main
 encoding-kept {w} {last} {old} {new} {maps} {instances} g h = record {
   valid = h.valid;
-  named = h.named;
   imported = λ s. (let i = h.imported s in record { valid = i.valid; imports = FindsImports-kept (longer g) i.imports; used = i.used; tables = tables_kept w last instances old new maps g i.tables; passed = i.passed });
   made = λ s. main-kept g (h.made s);
 }
 
 -- while nothing is imported, the tables hold nothing
-pub encoding-started : {w : ComponentWorld} {last after : Option TypeId} {old new : Built} {maps now : TypeEncodingMaps} {before instances : List (InterfaceId × ℕ)} {step : Step} {functions : List (List ℕ × ℕ)} {core_names : List (List ℕ × List ℕ)} {main : Option ℕ} →
-    Extends old new → step ≡ Started → IsEncoding w last old.defs maps before step functions core_names main → IsEncoding w after new.defs now instances step functions core_names main
-encoding-started g e h = record { valid = h.valid; named = h.named; imported = λ s. absurd (subst AreImported e s); made = λ s. main-kept g (h.made s) }
+pub encoding-started : {w : ComponentWorld} {last after : Option TypeId} {old new : Built} {maps now : TypeEncodingMaps} {before instances : List (InterfaceId × ℕ)} {step : Step} {functions : List (List ℕ × ℕ)} {main : Option ℕ} →
+    Extends old new → step ≡ Started → IsEncoding w last old.defs maps before step functions main → IsEncoding w after new.defs now instances step functions main
+encoding-started g e h = record { valid = h.valid; imported = λ s. absurd (subst AreImported e s); made = λ s. main-kept g (h.made s) }
 
 -- the root has grown by types too, and its tables are right
-pub encoding-typed : {w : ComponentWorld} {last : Option TypeId} {old new : Built} {maps now : TypeEncodingMaps} {before instances : List (InterfaceId × ℕ)} {step : Step} {functions : List (List ℕ × ℕ)} {core_names : List (List ℕ × List ℕ)} {main : Option ℕ} →
-    Extends old new → AreTablesRight w last instances new.defs now → IsEncoding w last old.defs maps before step functions core_names main → IsEncoding w last new.defs now instances step functions core_names main
+pub encoding-typed : {w : ComponentWorld} {last : Option TypeId} {old new : Built} {maps now : TypeEncodingMaps} {before instances : List (InterfaceId × ℕ)} {step : Step} {functions : List (List ℕ × ℕ)} {main : Option ℕ} →
+    Extends old new → AreTablesRight w last instances new.defs now → IsEncoding w last old.defs maps before step functions main → IsEncoding w last new.defs now instances step functions main
 encoding-typed g t h = record {
   valid = h.valid;
-  named = h.named;
   imported = λ s. (let i = h.imported s in record { valid = i.valid; imports = FindsImports-kept (longer g) i.imports; used = i.used; tables = t; passed = i.passed });
   made = λ s. main-kept g (h.made s);
 }
 
 -- after the instance of main
-pub encoding-instantiated : {w : ComponentWorld} {last : Option TypeId} {old new : Built} {maps : TypeEncodingMaps} {instances : List (InterfaceId × ℕ)} {step : Step} {functions : List (List ℕ × ℕ)} {core_names : List (List ℕ × List ℕ)} {main : Option ℕ} →
-    (index : ℕ) → Extends old new → AreImported step → IsInstanceOf new.defs index 0 → IsEncoding w last old.defs maps instances step functions core_names main → IsEncoding w last new.defs maps instances Instantiated functions core_names (Some index)
+pub encoding-instantiated : {w : ComponentWorld} {last : Option TypeId} {old new : Built} {maps : TypeEncodingMaps} {instances : List (InterfaceId × ℕ)} {step : Step} {functions : List (List ℕ × ℕ)} {main : Option ℕ} →
+    (index : ℕ) → Extends old new → AreImported step → IsInstanceOf new.defs index 0 → IsEncoding w last old.defs maps instances step functions main → IsEncoding w last new.defs maps instances Instantiated functions (Some index)
 encoding-instantiated {w} {last} {old} {new} {maps} {instances} index g s made h =
-    let k : IsEncoding w last new.defs maps instances _ _ _ _ = encoding-kept {old = old} {new = new} g h in
-    record { valid = h.valid; named = h.named; imported = λ _. k.imported s; made = λ _. record { index = index; known = refl; made = made } }
+    let k : IsEncoding w last new.defs maps instances _ _ _ = encoding-kept {old = old} {new = new} g h in
+    record { valid = h.valid; imported = λ _. k.imported s; made = λ _. record { index = index; known = refl; made = made } }
 
 -- after the imports
-pub encoding-imported : {w : ComponentWorld} {last after : Option TypeId} {old new : List Def} {maps now : TypeEncodingMaps} {first instances : List (InterfaceId × ℕ)} {step : Step} {before functions : List (List ℕ × ℕ)} {core_names : List (List ℕ × List ℕ)} {main : Option ℕ} →
-    AreImportsMade w functions after new now instances → IsEncoding w last old maps first step before core_names main → IsEncoding w after new now instances Imported functions core_names main
-encoding-imported i h = record { valid = h.valid; named = h.named; imported = λ _. i; made = λ e. cc }
+pub encoding-imported : {w : ComponentWorld} {last after : Option TypeId} {old new : List Def} {maps now : TypeEncodingMaps} {first instances : List (InterfaceId × ℕ)} {step : Step} {before functions : List (List ℕ × ℕ)} {main : Option ℕ} →
+    AreImportsMade w functions after new now instances → IsEncoding w last old maps first step before main → IsEncoding w after new now instances Imported functions main
+encoding-imported i h = record { valid = h.valid; imported = λ _. i; made = λ e. cc }
 
 -- ---- what the steps read of a state
 
-pub exports_of : (w : ComponentWorld) (e : MainExports) {last : Option TypeId} {ds : List Def} {maps : TypeEncodingMaps} {instances : List (InterfaceId × ℕ)} {step : Step} {functions : List (List ℕ × ℕ)} {main : Option ℕ} →
-    IsEncoding w last ds maps instances step functions e.core_names.now main → step ≡ Instantiated → main ≡ Some e.instance → AreExports w e last ds maps instances
-exports_of w e {last} {ds} {maps} {instances} {step} h i known =
-    let m = h.made i in
-    let s : AreImported step = subst AreImported (sym i) tt in
-    record { valid = h.valid; named = h.named; made = subst (λ n. IsInstanceOf ds n 0) (same_Some m.index e.instance (sym m.known ∙ known)) m.made; tables = (h.imported s).tables; passed = (h.imported s).passed }
+-- main's instance is where it is said to be
+pub main_made : {w : ComponentWorld} {last : Option TypeId} {ds : List Def} {maps : TypeEncodingMaps} {instances : List (InterfaceId × ℕ)} {step : Step} {functions : List (List ℕ × ℕ)} {main : Option ℕ} →
+    IsEncoding w last ds maps instances step functions main → step ≡ Instantiated → (index : ℕ) → main ≡ Some index → IsInstanceOf ds index 0
+main_made {w} {last} {ds} h i index known = let m = h.made i in subst (λ n. IsInstanceOf ds n 0) (same_Some m.index index (sym m.known ∙ known)) m.made
 
-pub main_known : {w : ComponentWorld} {last : Option TypeId} {ds : List Def} {maps : TypeEncodingMaps} {instances : List (InterfaceId × ℕ)} {step : Step} {functions : List (List ℕ × ℕ)} {core_names : List (List ℕ × List ℕ)} {main : Option ℕ} →
-    IsEncoding w last ds maps instances step functions core_names main → step ≡ Instantiated → IsSome main
+-- the imports are there
+pub imports_made : {w : ComponentWorld} {last : Option TypeId} {ds : List Def} {maps : TypeEncodingMaps} {instances : List (InterfaceId × ℕ)} {step : Step} {functions : List (List ℕ × ℕ)} {main : Option ℕ} →
+    IsEncoding w last ds maps instances step functions main → step ≡ Instantiated → AreImportsMade w functions last ds maps instances
+imports_made h i = h.imported (subst AreImported (sym i) tt)
+
+pub main_known : {w : ComponentWorld} {last : Option TypeId} {ds : List Def} {maps : TypeEncodingMaps} {instances : List (InterfaceId × ℕ)} {step : Step} {functions : List (List ℕ × ℕ)} {main : Option ℕ} →
+    IsEncoding w last ds maps instances step functions main → step ≡ Instantiated → IsSome main
 main_known h i = let m = h.made i in subst (λ o. IsSome o) (sym m.known) refl

@@ -1,4 +1,6 @@
 mod Alone
 mod Building
+mod Exports
 mod Growth
+mod Nesting
 mod Scoping

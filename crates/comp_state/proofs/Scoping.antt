@@ -4,7 +4,7 @@ use Rattle.std.proofs.Common.{ℕ, ◌<◌, length, List, [], ◌∷◌, ◌++�
 use Rattle.std.specs.List.{AllByRecursion, AllZip, flat_map}
 use Rattle.std.proofs.lemmas.List.{length-map}
 use Rattle.std.proofs.lemmas.Option.{slice_get_within}
-use Rattle.comp_bytes.specs.Spaces.{items_in, space_of, kind_space}
+use Rattle.comp_bytes.specs.Spaces.{items_in, space_of, kind_space, sort_space}
 use Rattle.comp_bytes.specs.References.{Reference, own, type_references, options_references, intrinsic_references, type_at}
 use Rattle.comp_bytes.specs.declared.canon.Intrinsic.{Intrinsic}
 use Rattle.comp_bytes.specs.declared.canon.Intrinsic.TheVariants as intrinsics
@@ -16,11 +16,13 @@ use Rattle.comp_bytes.specs.declared.canon.CanonicalOption.TheVariants as canoni
 use Rattle.comp_bytes.specs.declared.space.Space.{Space}
 use Rattle.comp_bytes.specs.declared.space.Space.TheVariants as spaces
 use Rattle.comp_bytes.specs.declared.space.ComponentExportKind.TheVariants as exports
+use Rattle.comp_bytes.specs.declared.space.Sort.{Sort}
 use Rattle.comp_bytes.specs.declared.space.Sort.TheVariants as sorts
 use Rattle.comp_bytes.specs.declared.types.TypeDef.{TypeDef}
 use Rattle.comp_bytes.specs.declared.types.TypeDef.TheVariants as types
 use Rattle.comp_bytes.specs.declared.types.Alias.TheVariants as aliases
 use Rattle.comp_bytes.specs.declared.types.Description.TheVariants as descriptions
+use Rattle.comp_bytes.specs.declared.def.Argument.{Argument}
 use Rattle.comp_bytes.specs.declared.def.CoreArgument.{CoreArgument}
 use Rattle.comp_bytes.specs.declared.def.CoreInlineExport.{CoreInlineExport}
 use Rattle.comp_bytes.specs.declared.def.Def.{Def}
@@ -29,6 +31,7 @@ use Rattle.comp_bytes.specs.declared.def.Item.TheVariants as items
 use Rattle.comp_roles.specs.declared.imports.ImportInstance.{ImportInstance}
 use Rattle.comp_worlds.specs.declared.world.ComponentWorld.{ComponentWorld}
 use Rattle.comp_links.specs.Targets.{UserModule}
+use Rattle.comp_terms.specs.Exports.{IsArgumentIn, IsArgumentRight}
 use Rattle.comp_terms.specs.Planned.{IsArgumentFor}
 use Rattle.comp_trees.specs.Inventories as inventories
 use Rattle.comp_trees.specs.Inventories.{surroundings_of}
@@ -37,6 +40,7 @@ use Rattle.comp_trees.proofs.InventoryGrowth.{scope_counted}
 use Rattle.comp_trees.proofs.KnownScopes.{known_defined, known_function_names}
 use Rattle.comp_trees.proofs.MemberScopes.{members_scoped}
 use Rattle.comp_items.proofs.Kept.{function_in_range}
+use Rattle.comp_state.proofs.Nesting.{nested_scoped}
 use Rattle.comp_terms.specs.Rules.{AliasesImported, ImportsInterface, InstantiatesModule, IsOptionRight, IsLowerOptionRight, IsTypeRight, IsIntrinsicRight, IsRight, RightAfter, IsEntry, IsBuilt}
 
 abbrev Within : List Def → Reference → Type 0
@@ -48,6 +52,16 @@ arguments_within w of earlier [] [] h = tt
 arguments_within w of earlier (a ∷ as') (g ∷ gs) h = (in_range h.0.serves.made, arguments_within w of earlier as' gs h.1)
 arguments_within w of earlier [] (g ∷ gs) h = absurd h
 arguments_within w of earlier (a ∷ as') [] h = absurd h
+
+-- an argument of an instance of a nested component is an item of the list
+argument_within : (earlier : List Def) (sort : Sort) (index : ℕ) → IsArgumentIn earlier sort index → Within earlier (own (sort_space sort) index)
+argument_within earlier sorts.Func index h = h
+argument_within earlier sorts.Type index h = h
+argument_within earlier sort index h = absurd h
+
+given_within : (earlier : List Def) (as' : List Argument) → AllByRecursion (IsArgumentRight earlier) as' → AllByRecursion (Within earlier) (flat_map (λ a. own (sort_space a.sort) a.index ∷ []) as')
+given_within earlier [] h = tt
+given_within earlier (a ∷ as') h = (argument_within earlier a.sort a.index h.0, given_within earlier as' h.1)
 
 entries_within : (earlier : List Def) (es : List CoreInlineExport) → AllByRecursion (IsEntry earlier) es → AllByRecursion (Within earlier) (flat_map (λ e. own (kind_space e.kind) e.index ∷ []) es)
 entries_within earlier [] h = tt
@@ -102,11 +116,11 @@ instance_type_there w earlier index h =
     subst (λ n. index < n) (sym (length-map (inventories.inventory earlier).types inventories.entry_tree)) (slice_get_within (inventories.inventory earlier).types index (inventories.OfInstances h.outer h.members) h.is)
 
 within : (w : ComponentWorld) (earlier : List Def) (d : Def) → IsRight w earlier d → DefScoped (scope_of space_of earlier) d
-within w earlier (defs.Component inner) h = absurd h
+within w earlier (defs.Component inner) h = nested_scoped h.given (scope_of space_of earlier) inner h.right
 within w earlier (defs.Item (items.CoreModule bytes)) h = (tt, tt)
 within w earlier (defs.Item (items.CoreInstantiate number arguments)) h = (module_within w earlier number arguments h, tt)
 within w earlier (defs.Item (items.CoreExports entries)) h = (entries_within earlier entries h.each, tt)
-within w earlier (defs.Item (items.Instantiate component arguments)) h = absurd h
+within w earlier (defs.Item (items.Instantiate component arguments)) h = ((in_range h.made, given_within earlier arguments h.scoped), tt)
 within w earlier (defs.Item (items.Alias (aliases.Export exports.Func instance name))) h = ((instance_in_range earlier spaces.Func instance name h, tt), tt)
 within w earlier (defs.Item (items.Alias (aliases.Export exports.Type instance name))) h = ((instance_in_range earlier spaces.Type instance name h, tt), tt)
 within w earlier (defs.Item (items.Alias (aliases.Export exports.Component instance name))) h = absurd h
@@ -123,7 +137,7 @@ within w earlier (defs.Item (items.Import name (descriptions.Func kind))) h = ((
 within w earlier (defs.Item (items.Import name (descriptions.TypeEqual index))) h = ((type_named earlier index h.0, tt), tt)
 within w earlier (defs.Item (items.Import name descriptions.SubResource)) h = (tt, tt)
 within w earlier (defs.Item (items.Import name (descriptions.Instance index))) h = ((type_named earlier index (instance_type_there w earlier index h), tt), tt)
-within w earlier (defs.Item (items.Export name sorts.Func index None)) h = ((in_range h.lifted.is.made, tt), tt)
+within w earlier (defs.Item (items.Export name sorts.Func index None)) h = ((in_range h.lifted.is.is.made, tt), tt)
 within w earlier (defs.Item (items.Export name sorts.Func index (Some d))) h = absurd h
 within w earlier (defs.Item (items.Export name (sorts.Core kind) index None)) h = absurd h
 within w earlier (defs.Item (items.Export name (sorts.Core kind) index (Some d))) h = absurd h
@@ -131,7 +145,7 @@ within w earlier (defs.Item (items.Export name sorts.Type index None)) h = absur
 within w earlier (defs.Item (items.Export name sorts.Type index (Some d))) h = absurd h
 within w earlier (defs.Item (items.Export name sorts.Component index None)) h = absurd h
 within w earlier (defs.Item (items.Export name sorts.Component index (Some d))) h = absurd h
-within w earlier (defs.Item (items.Export name sorts.Instance index None)) h = absurd h
+within w earlier (defs.Item (items.Export name sorts.Instance index None)) h = ((in_range h.instance, tt), tt)
 within w earlier (defs.Item (items.Export name sorts.Instance index (Some d))) h = absurd h
 within w earlier (defs.Item (items.Custom name contents)) h = (tt, tt)
 

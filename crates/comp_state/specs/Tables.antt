@@ -8,7 +8,6 @@ use Rattle.comp_worlds.specs.Encodable.{IsEncodable}
 use Rattle.comp_worlds.specs.declared.world.ComponentWorld.{ComponentWorld}
 use Rattle.comp_terms.specs.Terms.{IsInstanceOf}
 use Rattle.core_instances.specs.Instances.{AreImportsMade}
-use Rattle.main_exports.specs.Exports.{FindsCoreNames}
 use Rattle.comp_state.specs.Encoding.{AreImported}
 use Rattle.comp_state.specs.declared.state.Step.{Step}
 use Rattle.comp_state.specs.declared.state.Step.TheVariants.{Instantiated}
@@ -20,8 +19,7 @@ pub record IsMain (ds : List Def) (main : Option ℕ) : Type 0 where
   pub made : IsInstanceOf ds index 0
 
 -- the world is a valid one, and the tables and look-ups hold what the steps so far have made
-pub record IsEncoding (w : ComponentWorld) (last : Option TypeId) (ds : List Def) (maps : TypeEncodingMaps) (instances : List (InterfaceId × ℕ)) (step : Step) (functions : List (List ℕ × ℕ)) (core_names : List (List ℕ × List ℕ)) (main : Option ℕ) : Type 0 where
+pub record IsEncoding (w : ComponentWorld) (last : Option TypeId) (ds : List Def) (maps : TypeEncodingMaps) (instances : List (InterfaceId × ℕ)) (step : Step) (functions : List (List ℕ × ℕ)) (main : Option ℕ) : Type 0 where
   pub valid : IsEncodable w
-  pub named : FindsCoreNames w core_names
   pub imported : AreImported step → AreImportsMade w functions last ds maps instances
   pub made : step ≡ Instantiated → IsMain ds main

@@ -4,6 +4,7 @@
 ghost use Rattle.std.specs.Prelude.{◌≡◌, [], ◌∷◌, ◌++◌, List, ℕ, IfOk, IfErr, OnOk, IsOk};
 ghost use Rattle.comp_builder.specs.Naming.{with_names};
 ghost use Rattle.comp_bytes.specs.Scopes.{Scoped};
+ghost use Rattle.comp_links.specs.Lists.{required_functions};
 ghost use Rattle.comp_worlds.specs.Encodable.{IsEncodable};
 ghost use Rattle.comp_imports.specs.Names.{naming_of};
 ghost use Rattle.root_imports.specs.RootScopes.{IsRefusal};
@@ -73,8 +74,8 @@ pub fn encode_world(
     requires { IsEncodable world.now }
     ensures ok { IfOk result (λ component. Scoped component.defs × IsBuilt (naming_of names.entry) world.now component.defs) }
     ensures refused { IsOk result → (place : List ℕ) → LacksEncoding world.now place → ⊥ }
-    ensures memory { IsOk result → (place : List ℕ) → LacksMemory world.now (core_imports world.now) world.now.main_exports place → ⊥ }
-    ensures realloc { IsOk result → (place : List ℕ) → LacksRealloc world.now (core_imports world.now) world.now.main_exports place → ⊥ }
+    ensures memory { IsOk result → (place : List ℕ) → LacksMemory world.now (core_imports world.now) (required_functions world.now) place → ⊥ }
+    ensures realloc { IsOk result → (place : List ℕ) → LacksRealloc world.now (core_imports world.now) (required_functions world.now) place → ⊥ }
     ensures cause { IfErr result (IsCause world.now) }
 {
     let mut state = EncodingState::new(alloc, world, names, debug_names)?;

@@ -1,18 +1,20 @@
 //! The state while a world is encoded, and the steps in it.
 #![tactic(auto, using(crate::proofs::Growth::growing))]
 
-ghost use Rattle.std.specs.Prelude.{◌≡◌, [], ◌∷◌, IfOk, IfErr, OnOk, IsSome};
+ghost use Rattle.std.specs.Prelude.{◌≡◌, [], ◌∷◌, IfOk, IfErr, OnOk};
 ghost use Rattle.std.specs.List.{AllByRecursion};
 ghost use Rattle.comp_builder.specs.Built.{nothing_built};
 ghost use Rattle.comp_items.specs.Items.{Extends};
-ghost use Rattle.comp_links.specs.Roles.{IsEncodedImport, export_encoding};
+ghost use Rattle.comp_links.specs.Lists.{required_functions};
+ghost use Rattle.comp_links.specs.Roles.{IsEncodedImport};
 ghost use Rattle.comp_state.specs.Encoding.{AreImported, naming_in};
 ghost use Rattle.comp_state.specs.declared.state.Step.TheVariants.{Started, Imported, Instantiated};
+ghost use Rattle.comp_terms.specs.Exports.{exports_in};
 ghost use Rattle.comp_terms.specs.Rules.{Grows, ModuleIs, imports_marked, exports_marked, landmarks};
 ghost use Rattle.comp_worlds.specs.Encodable.{IsEncodable};
 ghost use Rattle.comp_worlds.specs.WorldContents.{core_imports};
 ghost use Rattle.core_instances.specs.Instances.{IsMainAlone, AddsInstances};
-ghost use Rattle.core_options.specs.Causes.{IsCause};
+ghost use Rattle.core_options.specs.Causes.{IsCause, IsEncodedExport};
 ghost use Rattle.core_options.specs.MainOptions.{HasLowerOptions, HasLiftOptions};
 
 use comp_imports::{ImportNames, import_all};
@@ -21,7 +23,7 @@ use comp_lists::{Keyed, Text};
 use comp_worlds::ComponentWorld;
 use core_instances::encode_core_instantiation;
 use core_options::StateFault;
-use main_exports::{MainExports, core_names};
+use main_exports::export_all;
 use root_imports::RootScope;
 use std::alloc::{AllocError, Global};
 use std::marker::Model;
@@ -43,15 +45,13 @@ pub enum Step {
 pub struct EncodingState<'a> {
     /// The world, the component under construction, and the types that were met.
     pub(crate) root: RootScope<'a, ComponentWorld>,
-    /// The names of imported interfaces.
+    /// Makes the names of interfaces that are imported or exported.
     pub(crate) names: ImportNames<'a>,
     /// Whether the modules that are generated have debug names.
     pub(crate) debug_names: bool,
     pub(crate) step: Step,
     /// The root functions that were imported.
     pub(crate) functions: Keyed<Text, u32>,
-    /// The names of main's exports that implement root functions, by the function.
-    pub(crate) core_names: Keyed<Text, Text>,
     /// Main's instance.
     pub(crate) main: Option<u32>,
 }
@@ -64,7 +64,6 @@ impl Drop for EncodingState<'_> {
             debug_names: _,
             step: _,
             functions: _,
-            core_names: _,
             main: _,
         } = self;
     }
@@ -78,7 +77,7 @@ impl<'a> Model for EncodingState<'a> {
 
     ghost view = { λ s. record { world = s.root.world.now; canonical = s.names.canonical; renamed = s.names.renamed.now; built = s.root.items; step = s.step } };
 
-    ghost invariant = { λ s. IsEncoding s.root.world.now s.root.last_type s.root.items.defs s.root.maps s.root.instances s.step s.functions s.core_names s.main };
+    ghost invariant = { λ s. IsEncoding s.root.world.now s.root.last_type s.root.items.defs s.root.maps s.root.instances s.step s.functions s.main };
 }
 
 impl<'a> EncodingState<'a> {
@@ -93,14 +92,12 @@ impl<'a> EncodingState<'a> {
         requires { IsEncodable world.now }
         ensures { IfOk result (λ s. s ≡ record { world = world.entry.now; canonical = names.entry.canonical; renamed = names.entry.renamed.now; built = nothing_built; step = Started }) }
     {
-        let core_names = core_names(alloc, &world.main.exports.exports)?;
         Ok(EncodingState {
             root: RootScope::new(alloc, world),
             names,
             debug_names,
             step: Step::Started,
             functions: Keyed::new(alloc),
-            core_names,
             main: None,
         })
     }
@@ -117,7 +114,6 @@ impl EncodingState<'_> {
             debug_names: _,
             step: _,
             functions: _,
-            core_names: _,
             main: _,
         } = self;
         root.into_items()
@@ -182,18 +178,16 @@ impl EncodingState<'_> {
 
     /// Lifts and exports the required exports of main, in order.
     pub fn encode_exports(&mut self) -> Result<(), StateFault>
-        requires { self.old.step ≡ Instantiated }
+        requires instantiated { self.old.step ≡ Instantiated }
+        requires none { exports_in self.old.built.defs ≡ 0 }
         ensures same { self.new ≡ record self.old { built = self.new.built } }
         ensures extends { Extends self.old.built self.new.built }
-        ensures grows { OnOk result (Grows self.old.world self.old.built.defs self.new.built.defs (exports_marked self.old.world)) }
-        ensures encoded { OnOk result (AllByRecursion (λ key. IsSome (export_encoding self.old.world key)) self.old.world.main_exports) }
-        ensures has { OnOk result (AllByRecursion (HasLiftOptions self.old.world) self.old.world.main_exports) }
+        ensures grows { OnOk result (Grows self.old.world self.old.built.defs self.new.built.defs (exports_marked (naming_in self.old) self.old.world)) }
+        ensures encoded { OnOk result (AllByRecursion (IsEncodedExport self.old.world) (required_functions self.old.world)) }
+        ensures has { OnOk result (AllByRecursion (HasLiftOptions self.old.world) (required_functions self.old.world)) }
         ensures cause { IfErr result (IsCause self.old.world) }
     {
-        let exports = MainExports {
-            core_names: &self.core_names,
-            instance: self.main.unwrap(),
-        };
-        exports.export_all(&mut self.root)
+        let main = self.main.unwrap();
+        export_all(&mut self.root, main, &self.names)
     }
 }

@@ -6,7 +6,7 @@ use Rattle.std.specs.Fmt.{decimal}
 use Rattle.std.specs.List.{AllByRecursion, AllZip, IsDistinct, flat_map, filter_map, list_any, range_with_len}
 use Rattle.std.specs.Str.{bytes_eq}
 use Rattle.comp_bytes.specs.Spaces.{items_in}
-use Rattle.comp_bytes.specs.ScopeNames.{member_export}
+use Rattle.comp_bytes.specs.ScopeNames.{member_export, item_import, item_export}
 use Rattle.comp_bytes.specs.declared.space.Space.{Space}
 use Rattle.comp_bytes.specs.declared.space.Space.TheVariants as spaces
 use Rattle.comp_bytes.specs.declared.space.ComponentExportKind.TheVariants as exports
@@ -33,30 +33,30 @@ use Rattle.comp_bytes.specs.declared.def.Item.TheVariants as items
 use Rattle.comp_bytes.specs.declared.def.Def.{Def}
 use Rattle.comp_bytes.specs.declared.def.Def.TheVariants as defs
 use Rattle.comp_lists.specs.Found.{found}
-use Rattle.wit_data.specs.declared.functions.Function.{Function as WitFunction}
 use Rattle.wit_data.specs.declared.ids.InterfaceId.{InterfaceId}
 use Rattle.wit_data.specs.declared.ids.TypeId.{TypeId}
-use Rattle.world_values.specs.Items.{root_function_at}
 use Rattle.comp_trees.specs.Trees.{Origin, Resource, ImportedAt, ResourceAt, FunctionTree, is_known, is_known_function}
 use Rattle.comp_trees.specs.DefinedTrees.{TypeTree, OfValues, OfOthers, defined_tree, function_tree}
 use Rattle.comp_trees.specs.Members.{AreMembersRight, exports_name}
 use Rattle.comp_trees.specs.Inventories.{OfInstances, ImportedInstance, surroundings_of, inventory, scope_of}
-use Rattle.comp_worlds.specs.WorldContents.{items_of}
-use Rattle.wit_data.specs.Keys.{name_of_key}
 use Rattle.comp_roles.specs.declared.offered.ExternType.{ExternType}
 use Rattle.comp_roles.specs.declared.offered.ExternType.TheVariants as externs
+use Rattle.wit_data.specs.declared.worlds.WorldItem.{WorldItem}
+use Rattle.wit_data.specs.declared.worlds.WorldItem.TheVariants as world_items
 use Rattle.wit_data.specs.declared.worlds.WorldKey.{WorldKey}
+use Rattle.nested_terms.specs.Naming.{import_names}
+use Rattle.comp_worlds.specs.WorldContents.{exported_item}
 use Rattle.comp_worlds.specs.declared.world.ComponentWorld.{ComponentWorld}
 use Rattle.comp_links.specs.Roles.{is_used}
-use Rattle.comp_links.specs.Targets.{Main, Target}
+use Rattle.comp_links.specs.Targets.{Main}
 use Rattle.comp_links.specs.Modules.{WorldModule, user_modules}
-use Rattle.comp_links.specs.Naming.{Naming, plain_name}
-use Rattle.comp_links.specs.Lists.{ImportEntry, ImportedInterface, WorldType, RootFunction, import_entries, names_of_interface, type_of_world, Stated, root_function, root_type, described_sort, stated_import, AreNames}
-use Rattle.comp_links.specs.Links.{lift_of}
+use Rattle.comp_links.specs.Naming.{Naming}
+use Rattle.comp_links.specs.Lists.{ImportEntry, ImportedInterface, WorldType, RootFunction, import_entries, names_of_interface, type_of_world, Stated, root_function, root_type, described_sort, stated_import, stated_export, functions_of_interface, AreNames}
 use Rattle.comp_terms.specs.Terms.{InstanceOf as InstanceTerm, imports_in, IsFunctionType, IsResource, IsImportedFunction, Is}
 use Rattle.world_shims.specs.WorldShims.{shims_of}
 use Rattle.comp_terms.specs.Generated.{shims_number, fixup_number, GeneratedBytes, MayBeGenerated}
-use Rattle.comp_terms.specs.Planned.{type_of_function, IsLiftFor, IsArgumentFor, AreFillsFor}
+use Rattle.comp_terms.specs.Planned.{IsArgumentFor, AreFillsFor}
+use Rattle.comp_terms.specs.Exports.{IsNestedRight, InstantiatesNested, ExportsFunction, ExportsInterface}
 
 -- ---- landmarks
 
@@ -68,13 +68,11 @@ pub data Landmark : Type 0 where
   Exported : (stated : Stated) → Landmark
   CustomNamed : (name : List ℕ) → Landmark
   InstanceTypeOf : (names : List (List ℕ)) → Landmark
+  NestedOf : (imports exports : List (List ℕ)) → Landmark
 
--- a function that is imported, or exported, at the root
+-- a function that is imported at the root
 abbrev pub named_import : List ℕ → Landmark
 named_import text = Imported (root_function text)
-
-abbrev pub named_export : List ℕ → Landmark
-named_export text = Exported (root_function text)
 
 abbrev pub item_landmark : Item → Option Landmark
 item_landmark (items.CoreModule bytes) = Some (ModuleIs bytes)
@@ -87,7 +85,7 @@ item_landmark _ = None
 
 abbrev pub landmark : Def → Option Landmark
 landmark (defs.Item i) = item_landmark i
-landmark (defs.Component inner) = None
+landmark (defs.Component inner) = Some (NestedOf (flat_map item_import inner) (flat_map item_export inner))
 
 abbrev pub landmarks : List Def → List Landmark
 landmarks ds = filter_map landmark ds
@@ -153,16 +151,6 @@ pub record AliasesShim (w : ComponentWorld) (earlier : List Def) (kind : ExportK
   pub listed : place < length (shims_of w)
   pub named : name ≡ decimal place
   pub function : kind ≡ kinds.Func
-
--- an export: a required one, under its name, lifted as the link table says, with the function's type
-pub record ExportsRequired (w : ComponentWorld) (earlier : List Def) (name : ExternName) (index : ℕ) : Type 0 where
-  pub key : WorldKey
-  pub target : Target
-  pub wit : WitFunction
-  pub named : name ≡ plain_name (name_of_key key)
-  pub said : lift_of w (record { of = Main; key = key; function = name_of_key key }) ≡ Some target
-  pub exported : root_function_at (items_of w).exports key ≡ Some wit
-  pub lifted : IsLiftFor w earlier index target (type_of_function w wit)
 
 -- an entry of an inline instance is a core function
 pub record IsEntry (earlier : List Def) (e : CoreInlineExport) : Type 0 where
@@ -260,16 +248,18 @@ abbrev pub IsIntrinsicRight : List Def → Intrinsic → Type 0
 IsIntrinsicRight earlier (intrinsics.ResourceDrop type) = HasResource earlier type
 IsIntrinsicRight earlier _ = ⊥
 
-abbrev pub IsExportRight : ComponentWorld → List Def → ExternName → Sort → ℕ → Option Description → Type 0
-IsExportRight w earlier name sorts.Func index None = ExportsRequired w earlier name index
-IsExportRight w earlier name _ index _ = ⊥
+-- an export is the next required one; its name is a landmark
+abbrev pub IsExportRight : ComponentWorld → List Def → Sort → ℕ → Option Description → Type 0
+IsExportRight w earlier sorts.Func index None = ExportsFunction w earlier index
+IsExportRight w earlier sorts.Instance index None = ExportsInterface w earlier index
+IsExportRight w earlier _ index _ = ⊥
 
 -- the rule of an item, after the earlier definitions; kinds that are never written have no rule that holds
 abbrev pub IsItemRight : ComponentWorld → List Def → Item → Type 0
 IsItemRight w earlier (items.CoreModule bytes) = Unit {0}
 IsItemRight w earlier (items.CoreInstantiate number arguments) = InstantiatesModule w earlier number arguments
 IsItemRight w earlier (items.CoreExports entries) = AreEntries earlier entries
-IsItemRight w earlier (items.Instantiate component arguments) = ⊥
+IsItemRight w earlier (items.Instantiate component arguments) = InstantiatesNested earlier component arguments
 IsItemRight w earlier (items.Alias a) = IsAliasRight w earlier a
 IsItemRight w earlier (items.Type t) = IsTypeRight (scope_of earlier) t
 IsItemRight w earlier (items.InstanceType t) = IsInstanceTypeRight earlier t.members
@@ -277,12 +267,12 @@ IsItemRight w earlier (items.Lift core options kind) = (core < items_in spaces.C
 IsItemRight w earlier (items.Lower function options) = HasImportedFunction earlier function × AllByRecursion (IsLowerOptionRight earlier) options
 IsItemRight w earlier (items.Intrinsic i) = IsIntrinsicRight earlier i
 IsItemRight w earlier (items.Import name description) = IsDescriptionRight w earlier name.name description
-IsItemRight w earlier (items.Export name sort index description) = IsExportRight w earlier name sort index description
+IsItemRight w earlier (items.Export name sort index description) = IsExportRight w earlier sort index description
 IsItemRight w earlier (items.Custom name contents) = Unit {0}
 
 abbrev pub IsRight : ComponentWorld → List Def → Def → Type 0
 IsRight w earlier (defs.Item i) = IsItemRight w earlier i
-IsRight w earlier (defs.Component inner) = ⊥
+IsRight w earlier (defs.Component inner) = IsNestedRight inner
 
 -- each of these definitions keeps its rule, after the earlier ones
 abbrev pub RightAfter : ComponentWorld → List Def → List Def → Type 0
@@ -310,8 +300,16 @@ import_marked n w (RootFunction name) = Imported (root_function name) ∷ []
 abbrev pub imports_marked : Naming → ComponentWorld → List Landmark
 imports_marked n w = flat_map (import_marked n w) (import_entries w)
 
-abbrev pub exports_marked : ComponentWorld → List Landmark
-exports_marked w = map (λ key. named_export (name_of_key key)) w.main_exports
+-- the landmarks of an export: an interface has a nested component
+abbrev pub nested_marked : ComponentWorld → Option WorldItem → List Landmark
+nested_marked w (Some (world_items.Interface id)) = NestedOf (import_names (functions_of_interface w id)) (map (λ f. f.name) (functions_of_interface w id)) ∷ []
+nested_marked w item = []
+
+abbrev pub export_marked : Naming → ComponentWorld → WorldKey → List Landmark
+export_marked n w key = nested_marked w (exported_item w key) ++ Exported (stated_export n w (record { of = Main; key = key })) ∷ []
+
+abbrev pub exports_marked : Naming → ComponentWorld → List Landmark
+exports_marked n w = flat_map (export_marked n w) w.main_exports
 
 -- the landmarks of the core modules and their instances, where these modules are generated
 abbrev pub modules_marked : ComponentWorld → Option GeneratedBytes → List Landmark
@@ -321,7 +319,7 @@ modules_marked w (Some g) =
 
 -- the landmarks of a component without the names of its items
 abbrev pub expected : Naming → ComponentWorld → Option GeneratedBytes → List Landmark
-expected n w g = imports_marked n w ++ (modules_marked w g ++ exports_marked w)
+expected n w g = imports_marked n w ++ (modules_marked w g ++ exports_marked n w)
 
 -- a component for the world, without the names of its items
 pub record IsUnnamed (n : Naming) (w : ComponentWorld) (ds : List Def) : Type 0 where

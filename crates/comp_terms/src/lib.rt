@@ -2,7 +2,7 @@
 //! world.
 //!
 //! This crate holds definitions alone, which the crates above cite: `specs/Terms.antt` (terms, and the items that they
-//! describe; it knows no world), `specs/Planned.antt` (which terms the link table of a world asks for),
-//! `specs/Rules.antt` (the rule of each definition, and the landmarks of the whole list). They are no part of a promise:
-//! `link_laws` proves from them that the list links.
+//! describe; it knows no world), `specs/Planned.antt` (which terms the link table of a world asks for), `specs/Exports.antt`
+//! (the instances of nested components, and what is exported), `specs/Rules.antt` (the rule of each definition, and the
+//! landmarks of the whole list). They are no part of a promise: `link_laws` proves from them that the list links.
 #![tactic(auto)]

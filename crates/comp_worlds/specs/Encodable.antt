@@ -1,7 +1,7 @@
 -- What the encoder takes of a validated world, beside what holds of every one: that its numbers refer to something, and
 -- where it finds the types of which its functions are made (component model, WIT: types, resources, interfaces, `use`).
-use Rattle.std.specs.Prelude.{◌≡◌, ◌≤◌, ◌<◌, ◌==◌, ℕ, suc, List, [], ◌∷◌, length, map, Option, Some, None, IsSome, Contains, if◌then◌else◌}
-use Rattle.std.specs.List.{AllByRecursion, IsDistinct}
+use Rattle.std.specs.Prelude.{◌≡◌, ◌≤◌, ◌<◌, ◌==◌, ◌||◌, ℕ, suc, Bool, true, false, List, [], ◌∷◌, length, map, Option, Some, None, IsSome, is_some, Contains, if◌then◌else◌}
+use Rattle.std.specs.List.{AllByRecursion, IsDistinct, list_any}
 use Rattle.comp_lists.specs.Found.{found}
 use Rattle.wit_data.specs.declared.functions.Function.{Function}
 use Rattle.wit_data.specs.declared.ids.InterfaceId.{InterfaceId}
@@ -10,6 +10,7 @@ use Rattle.wit_data.specs.declared.resolve.Resolve.{Resolve}
 use Rattle.wit_data.specs.declared.types.Type.{«Type» as Ty}
 use Rattle.wit_data.specs.declared.types.Type.TheVariants.{Id}
 use Rattle.wit_data.specs.declared.types.TypeDef.{TypeDef}
+use Rattle.wit_data.specs.declared.types.TypeDefKind.{TypeDefKind}
 use Rattle.wit_data.specs.declared.types.TypeDefKind.TheVariants as kinds
 use Rattle.wit_data.specs.declared.worlds.WorldItem.{WorldItem}
 use Rattle.wit_data.specs.declared.worlds.WorldItem.TheVariants as items
@@ -22,7 +23,7 @@ use Rattle.wit_data.specs.Values.{Making, kind_at, value}
 use Rattle.comp_roles.specs.declared.imports.Import.{Import}
 use Rattle.comp_roles.specs.declared.imports.Import.TheVariants as imports
 use Rattle.world_values.specs.Items.{functions_of}
-use Rattle.world_values.specs.Mentions.{interfaces_of, same_interface}
+use Rattle.world_values.specs.Mentions.{interface_types, interfaces_of, same_interface}
 use Rattle.comp_worlds.specs.WorldContents.{items_of, imported_types, core_imports, interface_at, name_at}
 use Rattle.comp_worlds.specs.Worlds.{IsWorld, IsResource}
 use Rattle.comp_worlds.specs.WorldTables.{HasTables}
@@ -110,6 +111,26 @@ IsItemPlaced r es (items.Interface id) = IsInterfacePlaced r es id
 IsItemPlaced r es (items.Function f) = IsFunctionPlaced r es (length es) f
 IsItemPlaced r es (items.NamedType id) = IsRootType r.types id
 
+-- whether a kind is a resource
+abbrev pub is_resource_kind : TypeDefKind → Bool
+is_resource_kind kinds.Resource = true
+is_resource_kind kind = false
+
+-- whether a type has a name, belongs to an interface or is a resource, or is made of a type of which this holds
+abbrev pub is_titled : List TypeDef → ℕ → TypeDefKind → Bool
+is_titled types n kind = is_some (name_at types n) || (is_some (interface_at types n) || is_resource_kind kind)
+
+abbrev pub reaching_title : List TypeDef → Making Bool
+reaching_title types = record { absent = false; simple = λ p. false; made = λ n kind found. is_titled types n kind || list_any (λ b. b) found }
+
+abbrev pub reaches_title : List TypeDef → Option Ty → Bool
+reaches_title types part = value (reaching_title types) types part
+
+-- an exported interface has no types, and its functions are made of types without names alone; another export is like an import
+abbrev pub IsExportPlaced : Resolve → Entries → WorldItem → Type 0
+IsExportPlaced r es (items.Interface id) = AllByRecursion (λ t. reaches_title r.types (Some t) ≡ false) (interface_types r id)
+IsExportPlaced r es item = IsItemPlaced r es item
+
 -- a resource whose handles are dropped belongs to an imported interface, or to the root
 abbrev pub IsRolePlaced : Resolve → Entries → Import → Type 0
 IsRolePlaced r es (imports.ImportedResourceDrop key interface id) = place r.types es (Some (Id id)) ≤ length es
@@ -126,5 +147,5 @@ pub record IsEncodable (w : ComponentWorld) : Type 0 where
   pub apart : IsDistinct same_interface (interfaces_of (items_of w).imports)
   pub types : (n : ℕ) → n < length w.resolve.types → IsTypePlaced w.resolve (items_of w).imports n
   pub imports : AllByRecursion (λ e. IsItemPlaced w.resolve (items_of w).imports e.1) (items_of w).imports
-  pub exports : AllByRecursion (λ e. IsItemPlaced w.resolve (items_of w).imports e.1) (items_of w).exports
+  pub exports : AllByRecursion (λ e. IsExportPlaced w.resolve (items_of w).imports e.1) (items_of w).exports
   pub roles : AllByRecursion (λ i. IsRolePlaced w.resolve (items_of w).imports i.role) (core_imports w)

@@ -1,7 +1,9 @@
 -- The core types that roles require, and the types of a module's imports and exports as validation found them (Canonical
 -- ABI: `canon lower`, `canon lift`; core standard, validation: imports and exports).
 use Rattle.std.specs.Prelude.{◌≡◌, ℕ, List, [], ◌∷◌, map, Option, Some, None, option_map}
+use Rattle.std.specs.Map.{lookup}
 use Rattle.comp_lists.specs.Found.{found}
+use Rattle.wit_data.specs.Keys.{is_same_key}
 use Rattle.wit_data.specs.declared.worlds.World.{World}
 use Rattle.wit_data.specs.declared.resolve.Resolve.{Resolve}
 use Rattle.wit_data.specs.declared.functions.Function.{Function}
@@ -17,7 +19,7 @@ use Rattle.core_types.specs.declared.types.ValType.TheVariants.{I32}
 use Rattle.comp_roles.specs.declared.offered.ExternType.{ExternType}
 use Rattle.comp_roles.specs.declared.offered.ExternType.TheVariants as externs
 use Rattle.comp_roles.specs.declared.offered.ImportType.{ImportType}
-use Rattle.world_values.specs.Items.{functions_of, root_function_at}
+use Rattle.world_values.specs.Items.{functions_of, root_function_at, function_of_item}
 use Rattle.comp_worlds.specs.declared.world.ValidatedModule.{ValidatedModule}
 
 -- the type of `resource.drop`: a handle is a number
@@ -41,7 +43,9 @@ type_of_import r items role = None
 
 abbrev pub type_of_export : Resolve → World → Export → Option ExternType
 type_of_export r items (exports.WorldFunc key function abi) = option_map (called_type r abi) (root_function_at items.exports key)
+type_of_export r items (exports.InterfaceFunc key id function abi) = option_map (called_type r abi) (found function (functions_of r id))
 type_of_export r items (exports.WorldFuncPostReturn key) = option_map (post_return_type r) (root_function_at items.exports key)
+type_of_export r items (exports.InterfaceFuncPostReturn key function) = option_map (post_return_type r) (function_of_item r function (lookup (is_same_key key) items.exports))
 type_of_export r items (exports.Memory type) = Some (externs.Memory type)
 type_of_export r items exports.GeneralPurposeRealloc = Some realloc_type
 type_of_export r items exports.GeneralPurposeImportRealloc = Some realloc_type

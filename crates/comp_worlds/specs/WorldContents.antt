@@ -1,8 +1,10 @@
 -- What a validated world contains (component model: the imports and exports of a world; WIT: functions, types).
 use Rattle.std.specs.Prelude.{ℕ, List, [], ◌∷◌, Option, Some, None, get_or, slice_get}
 use Rattle.std.specs.List.{flat_map}
+use Rattle.std.specs.Map.{lookup}
 use Rattle.std.specs.Option.{option_and_then}
-use Rattle.comp_lists.specs.Found.{found}
+use Rattle.wit_data.specs.Keys.{is_same_key}
+use Rattle.wit_data.specs.declared.functions.Function.{Function}
 use Rattle.wit_data.specs.declared.ids.InterfaceId.{InterfaceId}
 use Rattle.wit_data.specs.declared.ids.TypeId.{TypeId}
 use Rattle.wit_data.specs.declared.types.TypeDef.{TypeDef}
@@ -18,7 +20,9 @@ use Rattle.comp_roles.specs.declared.imports.Import.TheVariants as imports
 use Rattle.comp_roles.specs.declared.exports.Export.{Export}
 use Rattle.comp_worlds.specs.declared.world.ComponentWorld.{ComponentWorld}
 use Rattle.comp_roles.specs.CoreImports.{CoreImport, imports_from}
-use Rattle.world_values.specs.Items.{no_items, root_export}
+use Rattle.comp_roles.specs.Functions.{of_function}
+use Rattle.world_values.specs.CoreExports.{implementations}
+use Rattle.world_values.specs.Items.{no_items, function_of_item}
 
 -- the imports and exports of the world
 abbrev pub items_of : ComponentWorld → World
@@ -64,10 +68,19 @@ abbrev pub imported_name : Import → Option (List ℕ)
 imported_name (imports.WorldFunc (keys.Name text) function abi) = Some text
 imported_name role = None
 
--- the core export that implements the root function of this key, among those of a module, and of main
-abbrev pub core_name_in : List (List ℕ × Export) → WorldKey → Option (List ℕ)
-core_name_in exports (keys.Name text) = found text (flat_map root_export exports)
-core_name_in exports (keys.Interface id) = None
+-- ---- exports
 
-abbrev pub core_name_of : ComponentWorld → WorldKey → Option (List ℕ)
-core_name_of w key = core_name_in w.main.exports.exports key
+-- what the world exports at a key
+abbrev pub exported_item : ComponentWorld → WorldKey → Option WorldItem
+exported_item w key = lookup (is_same_key key) (items_of w).exports
+
+-- the function of this name that the world exports at a key
+abbrev pub function_exported : ComponentWorld → WorldKey → List ℕ → Option Function
+function_exported w key name = function_of_item w.resolve name (exported_item w key)
+
+-- the core export that implements the function of this name at a key, among those of a module, and of main
+abbrev pub core_name_in : List (List ℕ × Export) → WorldKey → List ℕ → Option (List ℕ)
+core_name_in exports key name = of_function key name (implementations exports)
+
+abbrev pub core_name_of : ComponentWorld → WorldKey → List ℕ → Option (List ℕ)
+core_name_of w key name = core_name_in w.main.exports.exports key name

@@ -1,7 +1,7 @@
 -- What holds of a validated world (component model: the imports and exports of a world; core standard, binary format:
 -- the preamble of a module).
-use Rattle.std.specs.Prelude.{◌≡◌, ◌<◌, ℕ, List, [], map, length, Contains, IsSome}
-use Rattle.std.specs.List.{IsDistinct, AllByRecursion}
+use Rattle.std.specs.Prelude.{◌≡◌, ◌<◌, ◌==◌, ℕ, false, List, [], ◌∷◌, Some, map, length, Contains, IsSome}
+use Rattle.std.specs.List.{IsDistinct, AllByRecursion, list_any, flat_map}
 use Rattle.std.specs.Map.{keys_of}
 use Rattle.std.specs.Str.{bytes_eq}
 use Rattle.core_types.specs.Core.{IsCoreModule}
@@ -9,6 +9,7 @@ use Rattle.wit_data.specs.declared.functions.Function.{Function}
 use Rattle.wit_data.specs.declared.functions.FunctionKind.{FunctionKind}
 use Rattle.wit_data.specs.declared.functions.FunctionKind.TheVariants as functions
 use Rattle.wit_data.specs.declared.functions.AbiVariant.TheVariants.{GuestImport, GuestExport}
+use Rattle.wit_data.specs.declared.ids.InterfaceId.{InterfaceId}
 use Rattle.wit_data.specs.declared.types.TypeDef.{TypeDef}
 use Rattle.wit_data.specs.declared.types.TypeDefKind.TheVariants as kinds
 use Rattle.wit_data.specs.declared.resolve.Resolve.{Resolve}
@@ -17,6 +18,7 @@ use Rattle.wit_data.specs.declared.worlds.WorldKey.TheVariants as keys
 use Rattle.wit_data.specs.declared.worlds.WorldItem.{WorldItem}
 use Rattle.wit_data.specs.declared.worlds.WorldItem.TheVariants as items
 use Rattle.wit_data.specs.Keys.{is_same_key}
+use Rattle.wit_data.specs.Names.{id_name_of, key_text}
 use Rattle.wit_data.specs.Values.{kind_at}
 use Rattle.comp_roles.specs.declared.imports.Import.{Import}
 use Rattle.comp_roles.specs.declared.imports.Import.TheVariants as imports
@@ -26,9 +28,9 @@ use Rattle.comp_roles.specs.declared.exports.Export.{Export}
 use Rattle.comp_roles.specs.declared.exports.Export.TheVariants as exports
 use Rattle.comp_worlds.specs.declared.world.ComponentWorld.{ComponentWorld}
 use Rattle.comp_worlds.specs.declared.world.ValidatedModule.{ValidatedModule}
-use Rattle.world_values.specs.Items.{functions_of}
+use Rattle.world_values.specs.Items.{functions_of, functions_in}
 use Rattle.comp_worlds.specs.Typed.{FitsImport, FitsExport}
-use Rattle.comp_worlds.specs.WorldContents.{items_of, imported_functions, exported_functions, core_name_in}
+use Rattle.comp_worlds.specs.WorldContents.{items_of, imported_functions, exported_functions, exported_item, core_name_in}
 
 -- a kind of function that is called synchronously
 abbrev pub IsSynchronous : FunctionKind → Type 0
@@ -49,10 +51,23 @@ IsImportItem r (keys.Name text, items.Interface id) = AllByRecursion IsNamedFunc
 IsImportItem r (keys.Interface other, items.Interface id) = AllByRecursion IsNamedFunction (functions_of r id)
 IsImportItem r entry = ⊥
 
--- it exports synchronous functions at its root, each under its name
-abbrev pub IsExportItem : WorldKey × WorldItem → Type 0
-IsExportItem (keys.Name text, items.Function f) = IsNamedFunction (text, f)
-IsExportItem entry = ⊥
+-- it exports synchronous functions at its root, each under its name, and interfaces of such functions
+abbrev pub IsExportItem : Resolve → WorldKey × WorldItem → Type 0
+IsExportItem r (keys.Name text, items.Function f) = IsNamedFunction (text, f)
+IsExportItem r (keys.Name text, items.Interface id) = AllByRecursion IsNamedFunction (functions_of r id)
+IsExportItem r (keys.Interface other, items.Interface id) = AllByRecursion IsNamedFunction (functions_of r id)
+IsExportItem r entry = ⊥
+
+-- an exported interface has a name, which has no colon, or an id
+abbrev pub IsExportNamed : Resolve → WorldKey × WorldItem → Type 0
+IsExportNamed r (keys.Name text, items.Interface id) = list_any (λ c. c == 0x3a) text ≡ false
+IsExportNamed r (keys.Interface other, items.Interface id) = IsSome (id_name_of r other)
+IsExportNamed r entry = Unit {0}
+
+-- the name or the id of an interface
+abbrev pub interface_text : Resolve → WorldKey × WorldItem → List (List ℕ)
+interface_text r (key, items.Interface id) = key_text r key ∷ []
+interface_text r entry = []
 
 -- the type of this number is a resource
 pub record IsResource (types : List TypeDef) (number : ℕ) : Type 0 where
@@ -72,11 +87,18 @@ abbrev pub IsImportGroup : ComponentWorld → List ℕ × ImportInstance → Typ
 IsImportGroup w (name, instances.Names fields) = IsDistinct bytes_eq (map (λ f. f.0) fields) × AllByRecursion (λ f. IsImportRole w f.1) fields
 IsImportGroup w (name, instances.Whole which) = ⊥
 
--- the role of an export is a function that the world exports, called in the right form, the post-return of one, the memory, or
--- a realloc
+-- the world exports an interface at a key, with a function of this name
+pub record ExportsFunctionOf (w : ComponentWorld) (key : WorldKey) (id : InterfaceId) (name : List ℕ) : Type 0 where
+  pub exported : exported_item w key ≡ Some (items.Interface id)
+  pub has : Contains (map (λ e. e.0) (functions_of w.resolve id)) name
+
+-- the role of an export is a function that the world exports, at its root or in an interface, called in the right form, the
+-- post-return of one, the memory, or a realloc
 abbrev pub IsExportRole : ComponentWorld → Export → Type 0
 IsExportRole w (exports.WorldFunc (keys.Name text) function abi) = Contains (exported_functions w) text × (function ≡ text) × (abi ≡ GuestExport)
+IsExportRole w (exports.InterfaceFunc key id function abi) = ExportsFunctionOf w key id function × (abi ≡ GuestExport)
 IsExportRole w (exports.WorldFuncPostReturn (keys.Name text)) = Contains (exported_functions w) text
+IsExportRole w (exports.InterfaceFuncPostReturn key function) = (id : InterfaceId) × ExportsFunctionOf w key id function
 IsExportRole w (exports.Memory type) = Unit {0}
 IsExportRole w exports.GeneralPurposeRealloc = Unit {0}
 IsExportRole w exports.GeneralPurposeImportRealloc = Unit {0}
@@ -84,10 +106,10 @@ IsExportRole w exports.GeneralPurposeExportRealloc = Unit {0}
 IsExportRole w exports.ReallocForAdapter = Unit {0}
 IsExportRole w role = ⊥
 
--- a required export is one of the world's, and the module has a core export for it
+-- a required export is one of the world's, and the module has a core export for each of its functions
 pub record IsRequired (w : ComponentWorld) (m : ValidatedModule) (key : WorldKey) : Type 0 where
   pub exported : Contains (map (λ e. e.0) (items_of w).exports) key
-  pub present : IsSome (core_name_in m.exports.exports key)
+  pub present : AllByRecursion (λ name. IsSome (core_name_in m.exports.exports key name)) (functions_in w.resolve (exported_item w key))
 
 -- What holds of each user module, main and adapters alike: its imports and exports have the roles and the types that are
 -- said of them, and these exports are required of it.
@@ -104,10 +126,13 @@ pub record IsUserModule (w : ComponentWorld) (m : ValidatedModule) (keys : List 
 pub record IsWorld (w : ComponentWorld) : Type 0 where
   pub present : w.world.index < length w.resolve.worlds
   pub imports : AllByRecursion (IsImportItem w.resolve) (items_of w).imports
-  pub exports : AllByRecursion IsExportItem (items_of w).exports
+  pub exports : AllByRecursion (IsExportItem w.resolve) (items_of w).exports
   pub import_keys_apart : IsDistinct is_same_key (keys_of (items_of w).imports)
   pub import_names_apart : IsDistinct bytes_eq (imported_functions w)
+  pub export_keys_apart : IsDistinct is_same_key (keys_of (items_of w).exports)
   pub export_names_apart : IsDistinct bytes_eq (exported_functions w)
+  pub exports_named : AllByRecursion (IsExportNamed w.resolve) (items_of w).exports
+  pub exported_interfaces_apart : IsDistinct bytes_eq (flat_map (interface_text w.resolve) (items_of w).exports)
   pub main : IsUserModule w w.main w.main_exports
   pub adapters : AllByRecursion (λ a. IsUserModule w a.1.info a.1.required_exports) w.adapters
   pub alone : w.adapters ≡ []

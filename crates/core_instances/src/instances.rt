@@ -16,7 +16,7 @@ use crate::main_module::instantiate_main_module;
 use crate::plan::plan_shims;
 use comp_lists::{Keyed, Text};
 use comp_worlds::ComponentWorld;
-use core_options::StateFault;
+use core_options::{OptionSources, StateFault, memory_name};
 use main_fixup::FillSources;
 use main_instance::{ImportSources, encode_shim_instantiation};
 use root_imports::RootScope;
@@ -50,9 +50,14 @@ pub fn encode_core_instantiation(
         shim_instance,
     };
     let instance = instantiate_main_module(root, &sources)?;
+    let world = root.world;
     let sources = FillSources {
         functions,
-        instance,
+        options: OptionSources {
+            instance,
+            memory: memory_name(world),
+            realloc: world.main.exports.import_realloc_for(None, ""),
+        },
     };
     encode_indirect_lowerings(root, &sources, &shims, shim_instance, debug_names)?;
     Ok(instance)

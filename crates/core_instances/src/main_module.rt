@@ -13,7 +13,7 @@ ghost use Rattle.core_options.specs.Causes.{IsCause};
 ghost use Rattle.main_instance.specs.Sources.{AreSources};
 
 use comp_worlds::ComponentWorld;
-use core_options::{StateFault, memory_of_main};
+use core_options::{StateFault, memory_name, memory_of_main};
 use main_instance::ImportSources;
 use root_imports::RootScope;
 
@@ -40,6 +40,7 @@ pub(crate) fn instantiate_main_module(
     let index = root
         .items
         .core_instance(Some("main"), MAIN_MODULE, arguments)?;
-    memory_of_main(root, index)?;
+    let memory = memory_name(root.world);
+    memory_of_main(root, index, memory)?;
     Ok(index)
 }

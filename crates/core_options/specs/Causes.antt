@@ -2,10 +2,8 @@
 -- (Canonical ABI: `string-encoding`, `memory`, `realloc`), and where a count passes 32 bits (core standard, binary format: vectors).
 use Rattle.std.specs.Prelude.{◌≡◌, ◌≤◌, ◌^◌, ◌⊎◌, ◌++◌, ℕ, codes, List, Option, None, Contains, IsSome, IsTrue}
 use Rattle.std.specs.List.{AllByRecursion}
-use Rattle.wit_data.specs.Keys.{name_of_key}
 use Rattle.comp_roles.specs.CoreImports.{CoreImport}
 use Rattle.comp_worlds.specs.WorldContents.{core_imports}
-use Rattle.wit_data.specs.declared.worlds.WorldKey.{WorldKey}
 use Rattle.comp_worlds.specs.declared.world.ComponentWorld.{ComponentWorld}
 use Rattle.byte_encoding.specs.declared.fault.BuildFault.{BuildFault}
 use Rattle.byte_encoding.specs.declared.fault.BuildFault.TheVariants as build
@@ -16,6 +14,7 @@ use Rattle.comp_options.specs.OptionLists.{lacks_memory, lacks_realloc}
 use Rattle.comp_options.specs.declared.required.OptionFault.{OptionFault}
 use Rattle.comp_options.specs.declared.required.OptionFault.TheVariants as missing
 use Rattle.comp_links.specs.Targets.{Main}
+use Rattle.comp_links.specs.Lists.{RequiredFunction, required_functions}
 use Rattle.comp_links.specs.Links.{lower_needs, lower_realloc, lift_needs, lift_realloc}
 use Rattle.core_options.specs.MainOptions.{memory_name, HasLowerOptions, HasLiftOptions}
 use Rattle.comp_links.specs.Roles.{needs_encoding, import_encoding, IsEncodedImport, export_encoding, field_path}
@@ -38,12 +37,12 @@ pub record LacksImportEncoding (w : ComponentWorld) (imports : List CoreImport) 
   pub none : import_encoding w given.role ≡ None
   pub at : place ≡ field_path given.module_name given.field
 
--- the required export of one of these keys has no string encoding
-pub record LacksExportEncoding (w : ComponentWorld) (keys : List WorldKey) (place : List ℕ) : Type 0 where
-  pub key : WorldKey
-  pub present : Contains keys key
-  pub none : export_encoding w key ≡ None
-  pub at : place ≡ name_of_key key
+-- one of these required functions has no string encoding
+pub record LacksExportEncoding (w : ComponentWorld) (functions : List RequiredFunction) (place : List ℕ) : Type 0 where
+  pub required : RequiredFunction
+  pub present : Contains functions required
+  pub none : export_encoding w required.key required.function ≡ None
+  pub at : place ≡ required.function
 
 -- the name of the shim of a core import
 abbrev pub indirect_name : CoreImport → List ℕ
@@ -56,29 +55,29 @@ pub record NeedsLowering (w : ComponentWorld) (bit : ℕ) (imports : List CoreIm
   pub needed : IsTrue (needs (lower_needs w given.role) bit)
   pub at : place ≡ indirect_name given
 
--- the required export of one of these keys is lifted with an option of this bit
-pub record NeedsLift (w : ComponentWorld) (bit : ℕ) (keys : List WorldKey) (place : List ℕ) : Type 0 where
-  pub key : WorldKey
-  pub present : Contains keys key
-  pub needed : IsTrue (needs (lift_needs w key) bit)
-  pub at : place ≡ name_of_key key
+-- one of these required functions is lifted with an option of this bit
+pub record NeedsLift (w : ComponentWorld) (bit : ℕ) (functions : List RequiredFunction) (place : List ℕ) : Type 0 where
+  pub required : RequiredFunction
+  pub present : Contains functions required
+  pub needed : IsTrue (needs (lift_needs w required.key required.function) bit)
+  pub at : place ≡ required.function
 
 -- a function is lowered or lifted with a memory, and main exports none
-pub record LacksMemory (w : ComponentWorld) (imports : List CoreImport) (keys : List WorldKey) (place : List ℕ) : Type 0 where
-  pub needed : NeedsLowering w 1 imports place ⊎ NeedsLift w 1 keys place
+pub record LacksMemory (w : ComponentWorld) (imports : List CoreImport) (functions : List RequiredFunction) (place : List ℕ) : Type 0 where
+  pub needed : NeedsLowering w 1 imports place ⊎ NeedsLift w 1 functions place
   pub none : memory_name w ≡ None
 
 -- a function is lowered or lifted with a realloc, and main exports none for it
-abbrev pub LacksRealloc : ComponentWorld → List CoreImport → List WorldKey → List ℕ → Type 0
-LacksRealloc w imports keys place = (NeedsLowering w 2 imports place × (lower_realloc w Main ≡ None)) ⊎ (NeedsLift w 2 keys place × (lift_realloc w ≡ None))
+abbrev pub LacksRealloc : ComponentWorld → List CoreImport → List RequiredFunction → List ℕ → Type 0
+LacksRealloc w imports functions place = (NeedsLowering w 2 imports place × (lower_realloc w Main ≡ None)) ⊎ (NeedsLift w 2 functions place × (lift_realloc w ≡ None))
 
--- the cause of a fault, where these imports are given what they need and the exports of these keys are lifted
-abbrev pub IsCauseAmong : ComponentWorld → List CoreImport → List WorldKey → StateFault → Type 0
-IsCauseAmong w imports keys faults.Memory = Unit {0}
-IsCauseAmong w imports keys (faults.NoEncoding place) = LacksImportEncoding w imports place ⊎ LacksExportEncoding w keys place
-IsCauseAmong w imports keys (faults.NoMemory place) = LacksMemory w imports keys place
-IsCauseAmong w imports keys (faults.NoRealloc place) = LacksRealloc w imports keys place
-IsCauseAmong w imports keys (faults.TooMany excess) = 2 ^ 32 ≤ excess
+-- the cause of a fault, where these imports are given what they need and these functions are lifted
+abbrev pub IsCauseAmong : ComponentWorld → List CoreImport → List RequiredFunction → StateFault → Type 0
+IsCauseAmong w imports functions faults.Memory = Unit {0}
+IsCauseAmong w imports functions (faults.NoEncoding place) = LacksImportEncoding w imports place ⊎ LacksExportEncoding w functions place
+IsCauseAmong w imports functions (faults.NoMemory place) = LacksMemory w imports functions place
+IsCauseAmong w imports functions (faults.NoRealloc place) = LacksRealloc w imports functions place
+IsCauseAmong w imports functions (faults.TooMany excess) = 2 ^ 32 ≤ excess
 
 -- the cause of a fault where the options of a set are listed for the function of a name
 abbrev pub IsListRefusal : ℕ → Option ℕ → Option ℕ → List ℕ → StateFault → Type 0
@@ -95,17 +94,21 @@ IsOptionRefusal w set realloc name (faults.NoMemory place) = IsTrue (needs set 1
 IsOptionRefusal w set realloc name (faults.NoRealloc place) = IsTrue (needs set 2) × (realloc ≡ None) × (place ≡ name)
 IsOptionRefusal w set realloc name (faults.NoEncoding place) = ⊥
 
--- a core import of the world, or a required export, has no string encoding
+-- a core import of the world, or a required function, has no string encoding
 abbrev pub LacksEncoding : ComponentWorld → List ℕ → Type 0
-LacksEncoding w place = LacksImportEncoding w (core_imports w) place ⊎ LacksExportEncoding w w.main_exports place
+LacksEncoding w place = LacksImportEncoding w (core_imports w) place ⊎ LacksExportEncoding w (required_functions w) place
 
 -- the cause of a fault
 abbrev pub IsCause : ComponentWorld → StateFault → Type 0
-IsCause w = IsCauseAmong w (core_imports w) w.main_exports
+IsCause w = IsCauseAmong w (core_imports w) (required_functions w)
 
--- each core import that needs a string encoding, and each required export, has one, and main has what lowerings and lifts need
+-- a required function has a string encoding
+abbrev pub IsEncodedExport : ComponentWorld → RequiredFunction → Type 0
+IsEncodedExport w r = IsSome (export_encoding w r.key r.function)
+
+-- each core import that needs a string encoding, and each required function, has one, and main has what lowerings and lifts need
 pub record IsEncoded (w : ComponentWorld) : Type 0 where
   pub imports : AllByRecursion (λ i. IsEncodedImport w i.role) (core_imports w)
-  pub exports : AllByRecursion (λ key. IsSome (export_encoding w key)) w.main_exports
+  pub exports : AllByRecursion (IsEncodedExport w) (required_functions w)
   pub lowered : AllByRecursion (λ i. HasLowerOptions w i.role) (core_imports w)
-  pub lifted : AllByRecursion (HasLiftOptions w) w.main_exports
+  pub lifted : AllByRecursion (HasLiftOptions w) (required_functions w)

@@ -12,4 +12,6 @@ mod fault;
 mod options;
 
 pub use fault::StateFault;
-pub use options::{encoding_of, function_of_main, memory_of_main, options_of_main};
+pub use options::{
+    OptionSources, encoding_of, function_of_main, memory_name, memory_of_main, options_of_main,
+};

@@ -15,7 +15,7 @@ ghost use Rattle.comp_terms.specs.Rules.{Grows};
 ghost use Rattle.comp_terms.specs.Terms.{IsInstanceOf};
 ghost use Rattle.comp_worlds.specs.Encodable.{IsEncodable};
 ghost use Rattle.core_options.specs.Causes.{IsListRefusal, IsOptionRefusal, of_option};
-ghost use Rattle.core_options.specs.MainOptions.{OffersFunction, IsAliasIf, memory_name, NameOptions};
+ghost use Rattle.core_options.specs.MainOptions.{OffersFunction, IsAliasIf, memory_name, AreOptionSources, NameOptions};
 ghost use Rattle.root_imports.specs.RootScopes.{IsRefusal};
 ghost use Rattle.standard_kinds.specs.declared.kinds.ExportKind.TheVariants as kinds;
 
@@ -47,22 +47,44 @@ pub fn encoding_of(
     Ok(encodings.get(&wanted).copied())
 }
 
-/// The alias of the memory that options name, the first that main exports, if it exports one. `instance` is main's.
+/// Main's instance, and the names of its exports that options name, looked up once for all functions.
+#[derive(Clone, Copy)]
+pub struct OptionSources<'a> {
+    /// Main's instance.
+    pub instance: u32,
+    /// The memory, the first that main exports, if it exports one.
+    pub memory: Option<&'a str>,
+    /// The realloc of these calls, if main exports one.
+    pub realloc: Option<&'a str>,
+}
+
+/// The name of the memory that options name, the first that main exports, if it exports one.
+pub fn memory_name(world: &ComponentWorld) -> Option<&str>
+    ensures { option_copied result ≡ memory_name world.now }
+{
+    match world.main.exports.memory() {
+        Some((name, _)) => Some(name),
+        None => None,
+    }
+}
+
+/// The alias of the memory that options name, if there is one. `instance` is main's.
 pub fn memory_of_main(
     root: &mut RootScope<'_, ComponentWorld>,
     instance: u32,
+    memory: Option<&str>,
 ) -> Result<Option<u32>, BuildFault>
     requires valid { IsEncodable root.old.world.now }
     requires made { IsInstanceOf root.old.items.defs instance 0 }
+    requires named { option_copied memory ≡ memory_name root.old.world.now }
     ensures same { root.new ≡ record root.old { items = root.new.items } }
     ensures extends { Extends root.old.items root.new.items }
     ensures grows { OnOk result (Grows root.old.world.now root.old.items.defs root.new.items.defs []) }
     ensures memory { IfOk result (λ index. IsAliasIf root.new.items.defs kinds.Memory (memory_name root.old.world.now) index) }
     ensures cause { IfErr result IsRefusal }
 {
-    let world = root.world;
-    match world.main.exports.memory() {
-        Some((name, _)) => {
+    match memory {
+        Some(name) => {
             let index = root.items.core_memory(instance, name)?;
             Ok(Some(index))
         }
@@ -142,32 +164,30 @@ fn realloc_if_needed(needed: RequiredOptions, name: Option<&str>) -> Option<&str
     }
 }
 
-/// The options of a set, in order, with which a function is lowered or lifted: the memory that main exports, its export of the
-/// name that is given as the realloc, and the string encoding. `instance` is main's, and `place` names the function in faults.
+/// The options of a set, in order, with which a function is lowered or lifted: the memory that main exports, a realloc of main,
+/// and the string encoding. `place` names the function in faults.
 ///
-/// `E7` where a memory is needed and main exports none, `E8` where a realloc is needed and no name is given.
+/// `E7` where a memory is needed and main exports none, `E8` where a realloc is needed and main exports none for these calls.
 pub fn options_of_main(
     root: &mut RootScope<'_, ComponentWorld>,
-    instance: u32,
+    sources: &OptionSources<'_>,
     place: &Text,
     needed: RequiredOptions,
     encoding: StringEncoding,
-    realloc: Option<&str>,
 ) -> Result<Seq<CanonicalOption>, StateFault>
     requires valid { IsEncodable root.old.world.now }
-    requires made { IsInstanceOf root.old.items.defs instance 0 }
-    requires offered { IfSome (option_copied realloc) (OffersFunction root.old.world.now) }
+    requires sources { AreOptionSources root.old.world.now root.old.items.defs sources.now }
     ensures same { root.new ≡ record root.old { items = root.new.items } }
     ensures extends { Extends root.old.items root.new.items }
     ensures grows { OnOk result (Grows root.old.world.now root.old.items.defs root.new.items.defs []) }
-    ensures named { IfOk result (λ options. NameOptions root.old.world.now root.new.items.defs options (options_in needed.0 (option_map (export_of Main) (option_copied realloc.entry)) (Some encoding))) }
+    ensures named { IfOk result (λ options. NameOptions root.old.world.now root.new.items.defs options (options_in needed.0 (option_map (export_of Main) (option_copied sources.now.realloc)) (Some encoding))) }
     ensures memory { OnOk result (IsTrue (needs needed.0 1) → IsSome (memory_name root.old.world.now)) }
-    ensures realloc { OnOk result (IsTrue (needs needed.0 2) → IsSome (option_copied realloc.entry)) }
-    ensures cause { IfErr result (IsOptionRefusal root.old.world.now needed.0 (option_copied realloc.entry) place.now) }
+    ensures realloc { OnOk result (IsTrue (needs needed.0 2) → IsSome (option_copied sources.now.realloc)) }
+    ensures cause { IfErr result (IsOptionRefusal root.old.world.now needed.0 (option_copied sources.now.realloc) place.now) }
 {
-    let memory = memory_of_main(root, instance)?;
-    let wanted = realloc_if_needed(needed, realloc);
-    let realloc = function_of_main(root, instance, wanted)?;
+    let memory = memory_of_main(root, sources.instance, sources.memory)?;
+    let wanted = realloc_if_needed(needed, sources.realloc);
+    let realloc = function_of_main(root, sources.instance, wanted)?;
     let options = list_options(
         root.items.allocator(),
         place,

@@ -5,6 +5,7 @@ mod Places
 mod Live
 mod Needed
 mod Near
+mod Untitled
 mod Uses
 mod Sound
 pub mod InterfaceTypes

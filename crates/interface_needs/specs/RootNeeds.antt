@@ -11,7 +11,7 @@ use Rattle.wit_data.specs.declared.worlds.WorldKey.TheVariants as keys
 use Rattle.wit_types.specs.Settings.{Setting}
 use Rattle.world_values.specs.Items.{root_function_at}
 use Rattle.comp_worlds.specs.Encodable.{place}
-use Rattle.comp_worlds.specs.WorldContents.{items_of, imported_types, interface_at, name_at}
+use Rattle.comp_worlds.specs.WorldContents.{items_of, function_exported, imported_types, interface_at, name_at}
 use Rattle.comp_worlds.specs.Worlds.{IsResource}
 use Rattle.comp_worlds.specs.declared.world.ComponentWorld.{ComponentWorld}
 use Rattle.comp_links.specs.Roles.{is_used}
@@ -33,10 +33,11 @@ pub record IsUsedFunction (w : ComponentWorld) (name : List ℕ) (f : Function) 
   pub imported : root_function_at (items_of w).imports (keys.Name name) ≡ Some f
   pub used : is_used w name ≡ true
 
--- a function that is exported at the root
+-- a function that is exported, at the root or in an interface
 pub record IsExportedFunction (w : ComponentWorld) (f : Function) : Type 0 where
   pub key : WorldKey
-  pub there : Contains (items_of w).exports (key, items.Function f)
+  pub name : List ℕ
+  pub exported : function_exported w key name ≡ Some f
 
 -- a type that the world imports, made of types of imported interfaces and of the root
 pub record IsWorldType (w : ComponentWorld) (id : TypeId) : Type 0 where

@@ -1,9 +1,9 @@
 -- An instance of a core module runs, and the store agrees with the longer list: of main, of the shims, and of the fixup.
-use Rattle.std.proofs.Common.{arith, ◌+◌, ◌^◌, inl, inr, ◌≡◌, ◌∙◌, ℕ, zero, suc, ◌<◌, Bool, false, List, [], ◌∷◌, ◌++◌, length, map, filter, refl, sym, ap, ap₂, subst, append-nil, append_assoc, Option, Some, None}
-use Rattle.std.proofs.lemmas.List.{map-append}
-use Rattle.std.proofs.lemmas.Option.{none-some}
-use Rattle.std.specs.Prelude.{Contains}
-use Rattle.std.specs.List.{slice_get, flat_map, AllZip, AllByRecursion}
+use Rattle.std.proofs.Common.{arith, ◌+◌, ◌^◌, inl, inr, ◌≡◌, ◌∙◌, ℕ, zero, suc, ◌<◌, Bool, false, List, [], ◌∷◌, ◌++◌, length, map, filter, refl, sym, ap, ap₂, subst, append-nil, append_assoc, Option, Some, None, cond}
+use Rattle.std.proofs.lemmas.List.{map-append, length-replicate}
+use Rattle.std.proofs.lemmas.Option.{none-some, same_Some}
+use Rattle.std.specs.Prelude.{Contains, codes}
+use Rattle.std.specs.List.{slice_get, flat_map, AllZip, AllByRecursion, filter_map, slice_set, range_with_len}
 use Rattle.comp_lists.proofs.Lists.{slice_get-end, AllZip-weaker, AllByRecursion-weaker, AllByRecursion-push}
 use Rattle.comp_bytes.specs.Spaces.{kind_space, items_in}
 use Rattle.comp_bytes.specs.declared.space.Space.TheVariants as spaces
@@ -16,23 +16,22 @@ use Rattle.comp_bytes.specs.declared.def.Def.TheVariants as defs
 use Rattle.comp_worlds.specs.Worlds.{IsWorld}
 use Rattle.comp_terms.specs.Generated.{shims_number, fixup_number}
 use Rattle.world_shims.specs.WorldShims.{shims_of, type_of_shim, sections_of_shims, sections_of_fixup}
-use Rattle.shim_runs.specs.ShimRuns.{instance_exports}
+use Rattle.shim_runs.specs.ShimRuns.{instance_exports, with_shims, ShimsRun, IsActual, CanFix, with_slots, fixup_arguments, FixupRun}
 use Rattle.comp_roles.specs.declared.imports.ImportInstance.{ImportInstance}
 use Rattle.comp_worlds.specs.declared.world.ComponentWorld.{ComponentWorld}
 use Rattle.core_runs.specs.Store.{Opaque, Instantiated, Now}
 use Rattle.core_runs.specs.Execution.{seen}
 use Rattle.comp_runs.specs.Store.{Thing, Export, CoreItem, ModuleInstance, Store}
 use Rattle.comp_links.specs.Targets.{Main}
-use Rattle.comp_links.specs.Modules.{WorldModule}
+use Rattle.comp_links.specs.Modules.{WorldModule, user_modules}
 use Rattle.comp_roles.specs.declared.offered.ImportType.{ImportType}
-use Rattle.comp_terms.specs.Planned.{IsArgumentFor}
-use Rattle.comp_terms.specs.Rules.{InstantiatesUser}
+use Rattle.comp_terms.specs.Planned.{IsArgumentFor, IsFillFor}
+use Rattle.comp_terms.specs.Rules.{InstantiatesUser, InstantiatesShims, InstantiatesFixup, InstantiatesModule, instance_number, instances_in, landmark}
 use Rattle.comp_runs.specs.Machine.{Scope, Machine, address_at, is_of, all_some}
-use Rattle.comp_runs.specs.Instances.{ExportTypes, exported_by, with_exports, with_module_instance, given_to, new_user}
+use Rattle.comp_runs.specs.Instances.{ExportTypes, exported_by, with_exports, with_module_instance, given_to, new_user, ModuleMeaning, OfUser, OfGenerated}
 use Rattle.comp_runs.specs.Running.{core_argument, run}
 use Rattle.instance_laws.proofs.Held.{keeps_same, keeps_more, keeps_grown}
 use Rattle.link_laws.proofs.Steps.{machine, IsNow, IsGood, good_answered, quiet, users_among, Steps, filter-push, with_thing, numbered_at, no_answers, given_same, few, one_event, cells, length-cells, export_beside, not_last, not_fixup, agrees_with, seen_by}
-use Rattle.shim_runs.specs.ShimRuns.{with_shims, ShimsRun, IsActual, CanFix, with_slots, fixup_arguments, FixupRun}
 use Rattle.shim_runs.proofs.Placed.{shims_kept}
 use Rattle.shim_runs.proofs.ShimInstance.{shims_run}
 use Rattle.shim_runs.proofs.FixupInstance.{fixup_run}
@@ -40,24 +39,16 @@ use Rattle.world_shims.proofs.Numbered.{shims_numbered}
 use Rattle.shim_plan.specs.declared.shims.Shim.{Shim}
 use Rattle.core_runs.specs.Instances.{empty_table}
 use Rattle.comp_links.specs.Links.{link_of}
-use Rattle.comp_links.specs.Modules.{user_modules}
-use Rattle.comp_runs.specs.Instances.{ModuleMeaning, OfUser, OfGenerated}
-use Rattle.comp_terms.specs.Planned.{IsFillFor}
-use Rattle.comp_terms.specs.Rules.{InstantiatesShims, InstantiatesFixup, InstantiatesModule, instance_number, instances_in, landmark}
 use Rattle.std.proofs.lemmas.Bool.{ne_eqb}
-use Rattle.std.proofs.lemmas.List.{length-replicate}
 use Rattle.std.proofs.lemmas.List.Elements.{filter_map-append, Contains-append_left, Contains-append_right}
-use Rattle.std.proofs.lemmas.Option.{same_Some}
-use Rattle.std.specs.List.{filter_map, slice_set, range_with_len}
-use Rattle.std.specs.Prelude.{codes}
-use Rattle.std.proofs.Common.{cond}
 use Rattle.link_laws.specs.Composition.{GeneratedModules, generated_sections, at_root, item_instantiates}
 use Rattle.link_laws.specs.Linking.{module_meanings}
 use Rattle.link_laws.proofs.Zips.{all_some-each}
-use Rattle.link_laws.proofs.Stores.{IsOpaqueOf, ShimsAt, IsModuleInstance, IsInlineInstance, IsFilledWith, AreFilled, AreShims, IsServedAs, IsFilledWith-kept, IsNamedEntry, ExportsShims, MayHaveShims, ShimsKept, shims_same, MayHaveShims-kept, main_module, IsPlanned, IsPlannedUser, NumberedFrom, Agrees, Keeps, things_kept, IsPlannedUser-kept, IsLiftedExport-kept}
+use Rattle.link_laws.proofs.Stores.{IsOpaqueOf, ShimsAt, IsModuleInstance, IsInlineInstance, IsFilledWith, AreFilled, AreShims, IsServedAs, IsNamedEntry, ExportsShims, MayHaveShims, main_module, IsPlanned, IsPlannedUser, NumberedFrom, Agrees}
 use Rattle.link_laws.proofs.Given.{thing_there, item_there, served_opaque, not_shims, of_shims, module_there, IsOffered, address_there, arguments_there, given_there}
 use Rattle.link_laws.proofs.Plain.{only, nothing_in, IsFunctionImport, function_imports, only_main, listed_main}
 use Rattle.link_laws.proofs.UserExports.{Exports, Alike, all_exports, all_alike, same_exports, each_export}
+use Rattle.link_laws.proofs.Kept.{IsFilledWith-kept, ShimsKept, shims_same, MayHaveShims-kept, Keeps, things_kept, IsPlannedUser-kept, AreKeyExports-kept}
 
 -- ---- generated modules
 
@@ -165,6 +156,7 @@ module _ {w : ComponentWorld} {earlier : List Def} {c : Scope} {s : Store} (a : 
         core_instances = keeps_grown s.core_instances (m1.store.core_instances ++ own ∷ []) (own ∷ []) (ap (λ (m : Machine). m.store.core_instances ++ own ∷ []) more.same);
         functions = keeps_same (ap (λ (m : Machine). m.store.functions) more.same);
         types = keeps_same (ap (λ (m : Machine). m.store.types) more.same);
+        components = keeps_same (ap (λ (m : Machine). m.store.components) more.same);
         instances = keeps_same (ap (λ (m : Machine). m.store.instances) more.same);
         users = keeps_grown s.module_instances (m1.store.module_instances ++ instance ∷ []) (instance ∷ []) (ap (λ l. l ++ instance ∷ []) users);
       } in
@@ -224,7 +216,7 @@ module _ {w : ComponentWorld} {earlier : List Def} {c : Scope} {s : Store} (a : 
             planned
             there
             (sym (append-nil (map (λ (e : Export). e.name) c.exports)))
-            (AllByRecursion-weaker (IsLiftedExport-kept w k) c.exports a.lifted)
+            (AreKeyExports-kept w k w.main_exports c.exports a.lifted)
             a.imports,
       ) in
       subst (λ n. Steps w gen earlier c s g (defs.Item (items.CoreInstantiate n arguments))) (sym of_main.0) steps
@@ -252,6 +244,7 @@ module _ {w : ComponentWorld} {earlier : List Def} {c : Scope} {s : Store} (a : 
         core_instances = keeps_more s.core_instances (own ∷ []);
         functions = keeps_same refl;
         types = keeps_same refl;
+        components = keeps_same refl;
         instances = keeps_same refl;
         users = keeps_more s.module_instances (instance ∷ []);
       } in
@@ -290,7 +283,7 @@ module _ {w : ComponentWorld} {earlier : List Def} {c : Scope} {s : Store} (a : 
             (λ is_main. absurd (not_shims w (sym is_main))))
             are
             (sym (append-nil (map (λ (e : Export). e.name) c.exports)))
-            (AllByRecursion-weaker (IsLiftedExport-kept w k) c.exports a.lifted)
+            (AreKeyExports-kept w k w.main_exports c.exports a.lifted)
             a.imports,
       )
 
@@ -393,6 +386,7 @@ module _ {w : ComponentWorld} {earlier : List Def} {c : Scope} {s : Store} (a : 
         core_instances = keeps_more s.core_instances ([] ∷ []);
         functions = keeps_same refl;
         types = keeps_same refl;
+        components = keeps_same refl;
         instances = keeps_same refl;
         users = keeps_more s.module_instances (instance ∷ []);
       }
@@ -452,7 +446,7 @@ module _ {w : ComponentWorld} {earlier : List Def} {c : Scope} {s : Store} (a : 
             (λ is_main. let no : suc (shims_number w) ≡ 0 = is_main in absurd (omega (arith, no))))
             (subst (MayHaveShims w s' (numbers ++ fixup_number w ∷ [])) (sym found.1) are)
             (sym (append-nil (map (λ (e : Export). e.name) c.exports)))
-            (AllByRecursion-weaker (IsLiftedExport-kept w k) c.exports a.lifted)
+            (AreKeyExports-kept w k w.main_exports c.exports a.lifted)
             a.imports,
       )
 

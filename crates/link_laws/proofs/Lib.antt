@@ -1,15 +1,18 @@
 mod Zips
 mod Stores
-mod Plain
+mod Kept
+pub mod Plain
 mod Given
 mod UserExports
 pub mod Steps
 pub mod InstanceSteps
+mod NestedSteps
 pub mod Marks
 mod ImportedTypes
 mod Served
 mod NamedItem
 pub mod Runs
+mod WorkedApart
 mod Worked
 mod Crossed
 mod WorkedShims
@@ -31,3 +34,5 @@ mod WorkedSharedResource
 mod WorkedTexts
 mod WorkedTextsLinked
 mod OtherTextOptions
+mod WorkedNested
+mod CrossedNested

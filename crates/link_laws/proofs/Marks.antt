@@ -2,17 +2,24 @@
 use Rattle.std.proofs.Common.{◌≡◌, ◌∙◌, ℕ, List, [], ◌∷◌, ◌++◌, map, refl, ap, ap₂, append-nil, Option, Some, None}
 use Rattle.std.proofs.lemmas.Grind.{flat_map-append}
 use Rattle.std.specs.List.{flat_map, filter_map}
-use Rattle.comp_bytes.specs.ScopeNames.{Names, member_export, def_export}
+use Rattle.comp_bytes.specs.ScopeNames.{Names, member_export, def_export, item_import, item_export, item_names, inner_names}
 use Rattle.comp_bytes.specs.declared.def.Item.{Item}
 use Rattle.comp_bytes.specs.declared.def.Item.TheVariants as items
 use Rattle.comp_bytes.specs.declared.def.Def.{Def}
 use Rattle.comp_bytes.specs.declared.def.Def.TheVariants as defs
-use Rattle.wit_data.specs.Keys.{name_of_key}
 use Rattle.comp_worlds.specs.declared.world.ComponentWorld.{ComponentWorld}
-use Rattle.comp_links.specs.Naming.{Naming}
-use Rattle.comp_links.specs.Lists.{ImportEntry, ImportedInterface, WorldType, RootFunction, Stated, root_function, root_type, import_entries, names_of_interface, stated_import, stated_imports, names_in, instance_type_names, AreNames}
-use Rattle.comp_terms.specs.Rules.{Landmark, Imported, ModuleIs, InstanceOf, Exported, CustomNamed, InstanceTypeOf, landmark, import_marked, imports_marked, modules_marked, exports_marked, IsBuilt}
+use Rattle.comp_worlds.specs.WorldContents.{exported_item}
+use Rattle.comp_links.specs.Naming.{Naming, name_of}
+use Rattle.comp_links.specs.Lists.{ImportEntry, ImportedInterface, WorldType, RootFunction, Stated, root_function, root_type, import_entries, names_of_interface, stated_import, stated_imports, names_in, instance_type_names, AreNames, stated_export, stated_exports, functions_of_interface, nested_lists, nested_names}
+use Rattle.comp_links.specs.Targets.{Main}
+use Rattle.comp_terms.specs.Rules.{Landmark, Imported, ModuleIs, InstanceOf, Exported, CustomNamed, InstanceTypeOf, landmark, import_marked, imports_marked, modules_marked, exports_marked, IsBuilt, NestedOf, nested_marked, export_marked, RightAfter}
 use Rattle.comp_terms.specs.Generated.{shims_number, fixup_number, GeneratedBytes}
+use Rattle.wit_data.specs.declared.worlds.WorldKey.{WorldKey}
+use Rattle.wit_data.specs.declared.worlds.WorldItem.{WorldItem}
+use Rattle.wit_data.specs.declared.worlds.WorldItem.TheVariants as world_items
+use Rattle.nested_terms.specs.Naming.{import_names}
+use Rattle.nested_terms.specs.Nested.{NestedScope, empty_scope, with_item, IsItemRight, AreItemsRight}
+use Rattle.comp_trees.specs.DefinedTrees.{TypeTree}
 use Rattle.link_laws.specs.Composition.{at_root, item_module, item_instantiates, item_imports, item_exports, item_customs}
 use Rattle.link_laws.proofs.Zips.{flat_map-marked}
 
@@ -49,6 +56,15 @@ abbrev type_mark : Landmark → List Names
 type_mark (InstanceTypeOf names) = names ∷ []
 type_mark _ = []
 
+-- the names that a nested component imports, and that it exports
+abbrev pub nested_lists_of : Def → List Names
+nested_lists_of (defs.Item i) = []
+nested_lists_of (defs.Component inner) = flat_map item_import inner ∷ flat_map item_export inner ∷ []
+
+abbrev nested_mark : Landmark → List Names
+nested_mark (NestedOf imports exports) = imports ∷ exports ∷ []
+nested_mark _ = []
+
 import_is : (d : Def) → at_root item_imports d ≡ flat_map import_mark (filter_map landmark (d ∷ []))
 import_is (defs.Item (items.CoreModule bytes)) = refl
 import_is d = refl
@@ -77,14 +93,9 @@ type_is : (d : Def) → at_root item_type_names d ≡ flat_map type_mark (filter
 type_is (defs.Item (items.CoreModule bytes)) = refl
 type_is d = refl
 
-module _ {A : Type 0} (f : Landmark → List A) where
-  none_of : {X : Type 0} (mark : X → Landmark) → ((x : X) → f (mark x) ≡ []) → (xs : List X) → flat_map f (map mark xs) ≡ []
-  none_of mark e [] = refl
-  none_of mark e (x ∷ xs) = rw (e x, none_of mark e xs) refl
-
-  all_of : {X : Type 0} (mark : X → Landmark) (g : X → A) → ((x : X) → f (mark x) ≡ g x ∷ []) → (xs : List X) → flat_map f (map mark xs) ≡ map g xs
-  all_of mark g e [] = refl
-  all_of mark g e (x ∷ xs) = rw (e x, all_of mark g e xs) refl
+nested_is : (d : Def) → nested_lists_of d ≡ flat_map nested_mark (filter_map landmark (d ∷ []))
+nested_is (defs.Item (items.CoreModule bytes)) = refl
+nested_is d = refl
 
 -- the section of names has nothing of what others have
 names_nothing : {A : Type 0} (f : Def → List A) → ((name contents : List ℕ) → f (defs.Item (items.Custom name contents)) ≡ []) → (ds : List Def) → AreNames ds → flat_map f ds ≡ []
@@ -120,6 +131,56 @@ type_of n w (ImportedInterface key id) = refl
 type_of n w (WorldType name id) = refl
 type_of n w (RootFunction name) = refl
 
+-- the landmarks of the exports, seen through a function
+of_keys : {A : Type 0} (n : Naming) (w : ComponentWorld) (f : Landmark → List A) (g : WorldKey → List A) → ((key : WorldKey) → flat_map f (export_marked n w key) ≡ g key) → (keys : List WorldKey) →
+    flat_map f (flat_map (export_marked n w) keys) ≡ flat_map g keys
+of_keys n w f g same [] = refl
+of_keys n w f g same (key ∷ keys) =
+    flat_map-append f (export_marked n w key) (flat_map (export_marked n w) keys) ∙ ap₂ (λ xs ys. xs ++ ys) (same key) (of_keys n w f g same keys)
+
+-- what is read of one: of its nested component, where it has one, and of the export
+of_key : {A : Type 0} (n : Naming) (w : ComponentWorld) (f : Landmark → List A) (nested exported : List A) (key : WorldKey) → flat_map f (nested_marked w (exported_item w key)) ≡ nested →
+    f (Exported (stated_export n w (record { of = Main; key = key }))) ≡ exported → flat_map f (export_marked n w key) ≡ nested ++ exported
+of_key n w f nested exported key first second =
+    flat_map-append f (nested_marked w (exported_item w key)) (Exported (stated_export n w (record { of = Main; key = key })) ∷ [])
+    ∙ ap₂ (λ xs ys. xs ++ ys) first (ap (λ l. l ++ []) second ∙ append-nil exported)
+
+nothing_nested : {A : Type 0} (w : ComponentWorld) (f : Landmark → List A) → ((imports exports : Names) → f (NestedOf imports exports) ≡ []) → (o : Option WorldItem) → flat_map f (nested_marked w o) ≡ []
+nothing_nested w f none (Some (world_items.Interface id)) = rw (none (import_names (functions_of_interface w id)) (map (λ g. g.name) (functions_of_interface w id))) refl
+nothing_nested w f none o = refl
+
+nested_of : (w : ComponentWorld) (o : Option WorldItem) → flat_map nested_mark (nested_marked w o) ≡ nested_lists w o
+nested_of w (Some (world_items.Interface id)) = refl
+nested_of w o = refl
+
+none_of_keys : {A : Type 0} (g : WorldKey → List A) → ((key : WorldKey) → g key ≡ []) → (keys : List WorldKey) → flat_map g keys ≡ []
+none_of_keys g none [] = refl
+none_of_keys g none (key ∷ keys) = ap₂ (λ xs ys. xs ++ ys) (none key) (none_of_keys g none keys)
+
+one_of_keys : {A : Type 0} (g : WorldKey → A) (keys : List WorldKey) → flat_map (λ key. g key ∷ []) keys ≡ map g keys
+one_of_keys g [] = refl
+one_of_keys g (key ∷ keys) = ap (λ l. g key ∷ l) (one_of_keys g keys)
+
+-- what reads nothing of nested components and exports
+exports_nothing : {A : Type 0} (n : Naming) (w : ComponentWorld) (f : Landmark → List A) → ((imports exports : Names) → f (NestedOf imports exports) ≡ []) → ((s : Stated) → f (Exported s) ≡ []) → flat_map f (exports_marked n w) ≡ []
+exports_nothing n w f nested exported =
+    of_keys n w f (λ key. flat_map f (export_marked n w key)) (λ key. refl) w.main_exports
+    ∙ none_of_keys (λ key. flat_map f (export_marked n w key))
+    (λ key. of_key n w f [] [] key (nothing_nested w f nested (exported_item w key)) (exported (stated_export n w (record { of = Main; key = key })))) w.main_exports
+
+-- what reads one thing of each export, and nothing of nested components
+exports_each : {A : Type 0} (n : Naming) (w : ComponentWorld) (f : Landmark → List A) (g : Stated → A) → ((imports exports : Names) → f (NestedOf imports exports) ≡ []) → ((s : Stated) → f (Exported s) ≡ g s ∷ []) →
+    flat_map f (exports_marked n w) ≡ map (λ key. g (stated_export n w (record { of = Main; key = key }))) w.main_exports
+exports_each n w f g nested exported =
+    of_keys n w f (λ key. g (stated_export n w (record { of = Main; key = key })) ∷ [])
+    (λ key. of_key n w f [] (g (stated_export n w (record { of = Main; key = key })) ∷ []) key (nothing_nested w f nested (exported_item w key)) (exported (stated_export n w (record { of = Main; key = key }))))
+    w.main_exports
+    ∙ one_of_keys (λ key. g (stated_export n w (record { of = Main; key = key }))) w.main_exports
+
+mapped_twice : {X Y Z : Type 0} (f : Y → Z) (g : X → Y) (xs : List X) → map (λ x. f (g x)) xs ≡ map f (map g xs)
+mapped_twice f g [] = refl
+mapped_twice f g (x ∷ xs) = ap (λ l. f (g x) ∷ l) (mapped_twice f g xs)
+
 -- the generated modules, by their bytes; and the modules in the order of their instances
 abbrev pub bytes_listed : Option GeneratedBytes → List (List ℕ)
 bytes_listed None = []
@@ -128,6 +189,32 @@ bytes_listed (Some b) = b.shims ∷ b.fixup ∷ []
 abbrev pub numbers_listed : ComponentWorld → Option GeneratedBytes → List ℕ
 numbers_listed w None = 0 ∷ []
 numbers_listed w (Some b) = shims_number w ∷ 0 ∷ fixup_number w ∷ []
+
+-- ---- the names of nested components
+
+-- the lists of names of a nested component
+abbrev pub component_names : Def → List Names
+component_names (defs.Item i) = []
+component_names (defs.Component inner) = inner_names inner
+
+-- a right one has none but those of its imports and its exports
+no_names : (given : List ℕ → TypeTree) (scope : NestedScope) (i : Item) → IsItemRight given scope i → item_names i ≡ []
+no_names given scope (items.Type t) h = refl
+no_names given scope (items.Import name description) h = refl
+no_names given scope (items.Export name sort index description) h = refl
+no_names given scope _ h = absurd h
+
+no_inner_names : (given : List ℕ → TypeTree) (scope : NestedScope) (is : List Item) → AreItemsRight given scope is → flat_map item_names is ≡ []
+no_inner_names given scope [] h = refl
+no_inner_names given scope (i ∷ is) h = ap₂ (λ xs ys. xs ++ ys) (no_names given scope i h.0) (no_inner_names given (with_item given scope i) is h.1)
+
+component_names_are : (w : ComponentWorld) (earlier ds : List Def) → RightAfter w earlier ds → flat_map component_names ds ≡ flat_map nested_lists_of ds
+component_names_are w earlier [] h = refl
+component_names_are w earlier (defs.Item i ∷ ds) h = component_names_are w (earlier ++ defs.Item i ∷ []) ds h.1
+component_names_are w earlier (defs.Component inner ∷ ds) h =
+    ap₂ (λ xs ys. xs ++ ys) (ap (λ l. flat_map item_import inner ∷ flat_map item_export inner ∷ l) (no_inner_names h.0.given empty_scope inner h.0.right)) (component_names_are w (earlier ++ defs.Component inner ∷ []) ds h.1)
+
+-- ---- what the landmarks say of a list
 
 module _ (n : Naming) (w : ComponentWorld) (ds : List Def) (built : IsBuilt n w ds) where
   -- what the landmarks of the imports say
@@ -142,15 +229,15 @@ module _ (n : Naming) (w : ComponentWorld) (ds : List Def) (built : IsBuilt n w 
 
   -- what is read of all definitions but the section of names
   front_marks : {A : Type 0} (f : Def → List A) (g : Landmark → List A) → ((d : Def) → f d ≡ flat_map g (filter_map landmark (d ∷ []))) →
-      flat_map f built.front ≡ flat_map g (imports_marked n w) ++ (flat_map g (modules_marked w built.generated) ++ flat_map g (exports_marked w))
+      flat_map f built.front ≡ flat_map g (imports_marked n w) ++ (flat_map g (modules_marked w built.generated) ++ flat_map g (exports_marked n w))
   front_marks f g same =
       flat_map-marked f landmark g same built.front
       ∙ (ap (flat_map g) built.marked
-      ∙ (flat_map-append g (imports_marked n w) (modules_marked w built.generated ++ exports_marked w)
-      ∙ ap (λ l. flat_map g (imports_marked n w) ++ l) (flat_map-append g (modules_marked w built.generated) (exports_marked w))))
+      ∙ (flat_map-append g (imports_marked n w) (modules_marked w built.generated ++ exports_marked n w)
+      ∙ ap (λ l. flat_map g (imports_marked n w) ++ l) (flat_map-append g (modules_marked w built.generated) (exports_marked n w))))
 
   read_marks : {A : Type 0} (f : Def → List A) (g : Landmark → List A) → ((d : Def) → f d ≡ flat_map g (filter_map landmark (d ∷ []))) → ((name contents : List ℕ) → f (defs.Item (items.Custom name contents)) ≡ []) →
-      flat_map f ds ≡ flat_map g (imports_marked n w) ++ (flat_map g (modules_marked w built.generated) ++ flat_map g (exports_marked w))
+      flat_map f ds ≡ flat_map g (imports_marked n w) ++ (flat_map g (modules_marked w built.generated) ++ flat_map g (exports_marked n w))
   read_marks f g same none =
       ap (flat_map f) built.whole
       ∙ (flat_map-append f built.front built.names
@@ -167,13 +254,12 @@ module _ (n : Naming) (w : ComponentWorld) (ds : List Def) (built : IsBuilt n w 
   pub root_imports : flat_map (at_root item_imports) ds ≡ stated_imports n w
   root_imports =
       read_marks (at_root item_imports) import_mark import_is (λ n c. refl)
-      ∙ rw (imports_said, none_of_modules import_mark (λ b. refl) (λ k. refl), none_of import_mark (λ key. Exported (root_function (name_of_key key))) (λ key. refl) w.main_exports)
-      (append-nil (stated_imports n w))
+      ∙ rw (imports_said, none_of_modules import_mark (λ b. refl) (λ k. refl), exports_nothing n w import_mark (λ i e. refl) (λ s. refl)) (append-nil (stated_imports n w))
 
   pub root_modules : flat_map (at_root item_module) ds ≡ w.main.bytes ∷ bytes_listed built.generated
   root_modules =
       read_marks (at_root item_module) module_mark module_is (λ n c. refl)
-      ∙ rw (said_by module_mark (λ s. refl) (λ names. refl), none_of module_mark (λ key. Exported (root_function (name_of_key key))) (λ key. refl) w.main_exports)
+      ∙ rw (said_by module_mark (λ s. refl) (λ names. refl), exports_nothing n w module_mark (λ i e. refl) (λ s. refl))
       (append-nil (flat_map module_mark (modules_marked w built.generated)) ∙ by built.generated)
     where
       by : (o : Option GeneratedBytes) → flat_map module_mark (modules_marked w o) ≡ w.main.bytes ∷ bytes_listed o
@@ -183,29 +269,43 @@ module _ (n : Naming) (w : ComponentWorld) (ds : List Def) (built : IsBuilt n w 
   pub root_instances : flat_map (at_root item_instantiates) ds ≡ numbers_listed w built.generated
   root_instances =
       read_marks (at_root item_instantiates) instance_mark instance_is (λ n c. refl)
-      ∙ rw (said_by instance_mark (λ s. refl) (λ names. refl), none_of instance_mark (λ key. Exported (root_function (name_of_key key))) (λ key. refl) w.main_exports)
+      ∙ rw (said_by instance_mark (λ s. refl) (λ names. refl), exports_nothing n w instance_mark (λ i e. refl) (λ s. refl))
       (append-nil (flat_map instance_mark (modules_marked w built.generated)) ∙ by built.generated)
     where
       by : (o : Option GeneratedBytes) → flat_map instance_mark (modules_marked w o) ≡ numbers_listed w o
       by None = refl
       by (Some b) = refl
 
-  pub root_exports : flat_map (at_root item_exports) ds ≡ map (λ key. root_function (name_of_key key)) w.main_exports
+  pub root_exports : flat_map (at_root item_exports) ds ≡ stated_exports n w
   root_exports =
       read_marks (at_root item_exports) export_mark export_is (λ n c. refl)
-      ∙ rw (said_by export_mark (λ s. refl) (λ names. refl), none_of_modules export_mark (λ b. refl) (λ k. refl), all_of export_mark (λ key. Exported (root_function (name_of_key key))) (λ key. root_function (name_of_key key)) (λ key. refl) w.main_exports) refl
+      ∙ rw (said_by export_mark (λ s. refl) (λ names. refl), none_of_modules export_mark (λ b. refl) (λ k. refl), exports_each n w export_mark (λ s. s) (λ i e. refl) (λ s. refl))
+      (mapped_twice (stated_export n w) (λ key. record { of = Main; key = key }) w.main_exports)
 
-  pub root_export_names : flat_map def_export ds ≡ map name_of_key w.main_exports
+  pub root_export_names : flat_map def_export ds ≡ map (λ key. (name_of n w.resolve key).name) w.main_exports
   root_export_names =
       read_marks def_export name_mark name_is (λ n c. refl)
-      ∙ rw (said_by name_mark (λ s. refl) (λ names. refl), none_of_modules name_mark (λ b. refl) (λ k. refl), all_of name_mark (λ key. Exported (root_function (name_of_key key))) name_of_key (λ key. refl) w.main_exports) refl
+      ∙ rw (said_by name_mark (λ s. refl) (λ names. refl), none_of_modules name_mark (λ b. refl) (λ k. refl), exports_each n w name_mark (λ (s : Stated). s.name.name) (λ i e. refl) (λ s. refl)) refl
 
   pub root_type_names : flat_map (at_root item_type_names) ds ≡ instance_type_names w
   root_type_names =
       read_marks (at_root item_type_names) type_mark type_is (λ n c. refl)
-      ∙ rw (types_said, none_of_modules type_mark (λ b. refl) (λ k. refl), none_of type_mark (λ key. Exported (root_function (name_of_key key))) (λ key. refl) w.main_exports) (append-nil (instance_type_names w))
+      ∙ rw (types_said, none_of_modules type_mark (λ b. refl) (λ k. refl), exports_nothing n w type_mark (λ i e. refl) (λ s. refl)) (append-nil (instance_type_names w))
+
+  -- the nested components import and export what the world says
+  pub root_nested_names : flat_map nested_lists_of ds ≡ nested_names w
+  root_nested_names =
+      read_marks nested_lists_of nested_mark nested_is (λ n c. refl)
+      ∙ rw (said_by nested_mark (λ s. refl) (λ names. refl), none_of_modules nested_mark (λ b. refl) (λ k. refl))
+      (of_keys n w nested_mark (λ key. nested_lists w (exported_item w key))
+      (λ key. of_key n w nested_mark (nested_lists w (exported_item w key)) [] key (nested_of w (exported_item w key)) refl ∙ append-nil (nested_lists w (exported_item w key)))
+      w.main_exports)
+
+  -- so these are all the names in nested components
+  pub root_component_names : flat_map component_names ds ≡ nested_names w
+  root_component_names = component_names_are w [] ds built.right ∙ root_nested_names
 
   pub no_customs : flat_map (at_root item_customs) built.front ≡ []
   no_customs =
       front_marks (at_root item_customs) custom_mark custom_is
-      ∙ rw (said_by custom_mark (λ s. refl) (λ names. refl), none_of_modules custom_mark (λ b. refl) (λ k. refl), none_of custom_mark (λ key. Exported (root_function (name_of_key key))) (λ key. refl) w.main_exports) refl
+      ∙ rw (said_by custom_mark (λ s. refl) (λ names. refl), none_of_modules custom_mark (λ b. refl) (λ k. refl), exports_nothing n w custom_mark (λ i e. refl) (λ s. refl)) refl

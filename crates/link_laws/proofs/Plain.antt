@@ -1,15 +1,14 @@
 -- The functions of a world, and the core types of what main imports and exports.
-use Rattle.std.proofs.Common.{◌≡◌, ◌∙◌, ℕ, zero, suc, Bool, true, false, ◌&&◌, List, [], ◌∷◌, map, refl, sym, ap, Option, Some, None, cond, inl, inr, ◌⊎◌, eq-eqb, arith}
-use Rattle.std.proofs.lemmas.List.Elements.{Contains-append_cases}
+use Rattle.std.proofs.Common.{◌≡◌, ◌∙◌, ℕ, zero, suc, Bool, true, false, ◌&&◌, List, [], ◌∷◌, map, refl, sym, ap, Some, None, eq-eqb, arith, true≢false}
 use Rattle.std.proofs.lemmas.Option.{none-some, same_Some}
 use Rattle.std.proofs.lemmas.Slice.Eq.{bytes_eq-Decides}
-use Rattle.std.specs.Prelude.{Contains}
+use Rattle.std.proofs.Math.Dec.{eqb-zero-suc, eqb-suc-zero}
+use Rattle.std.proofs.lemmas.Map.Views.{Contains-from_lookup}
+use Rattle.std.specs.Prelude.{Contains, nat_eq}
 use Rattle.std.specs.List.{slice_get, AllByRecursion}
-use Rattle.std.specs.Map.{lookup}
-use Rattle.std.specs.Option.{option_and_then}
 use Rattle.std.specs.Str.{bytes_eq}
 use Rattle.comp_lists.specs.Found.{found}
-use Rattle.comp_lists.proofs.Lists.{AllByRecursion-weaker}
+use Rattle.comp_lists.proofs.Lists.{AllByRecursion-weaker, AllByRecursion-contains}
 use Rattle.wit_data.specs.Keys.{is_same_key}
 use Rattle.core_types.specs.declared.types.FuncType.{FuncType}
 use Rattle.core_types.specs.declared.types.ValType.{ValType}
@@ -20,7 +19,6 @@ use Rattle.wit_data.specs.declared.functions.AbiVariant.TheVariants.{GuestImport
 use Rattle.wit_data.specs.declared.functions.Function.{Function}
 use Rattle.wit_data.specs.declared.signatures.WasmSignature.{WasmSignature}
 use Rattle.wit_data.specs.Signatures.{signature}
-use Rattle.wit_data.specs.declared.worlds.WorldItem.{WorldItem}
 use Rattle.wit_data.specs.declared.worlds.WorldItem.TheVariants as items
 use Rattle.wit_data.specs.declared.worlds.WorldKey.{WorldKey}
 use Rattle.wit_data.specs.declared.worlds.WorldKey.TheVariants as keys
@@ -36,10 +34,10 @@ use Rattle.comp_roles.specs.declared.offered.ExternType.{ExternType}
 use Rattle.comp_roles.specs.declared.offered.ExternType.TheVariants as externs
 use Rattle.comp_roles.specs.declared.offered.ImportType.{ImportType}
 use Rattle.comp_roles.specs.Lookups.{first_export, memory_of_import, memory_of_fields, imported_memory, is_initialize, is_task_hook}
-use Rattle.world_values.specs.Items.{function_in, functions_of, root_function_at}
+use Rattle.world_values.specs.Items.{functions_of, root_function_at}
 use Rattle.comp_worlds.proofs.Roles.{role_right}
 use Rattle.comp_worlds.specs.Typed.{drop_type, type_of_import, FitsImport}
-use Rattle.comp_worlds.specs.WorldContents.{items_of}
+use Rattle.comp_worlds.specs.WorldContents.{items_of, exported_item}
 use Rattle.comp_worlds.specs.Worlds.{IsWorld, IsExportItem, IsImportRole, IsImportGroup, IsExportRole}
 use Rattle.comp_worlds.specs.declared.world.ComponentWorld.{ComponentWorld}
 use Rattle.comp_worlds.specs.declared.world.WorldAdapter.{WorldAdapter}
@@ -53,9 +51,6 @@ use Rattle.comp_trees.proofs.Signing.{signatures_of_trees}
 use Rattle.link_laws.proofs.Zips.{mapped_some}
 use Rattle.link_laws.proofs.Stores.{drop_core, main_module}
 
-abbrev Entries : Type 0
-Entries = List (WorldKey × WorldItem)
-
 pub only : {X : Type 0} (x y : X) → Contains (x ∷ []) y → x ≡ y
 only x y (zero, l, e) = e
 only x y (suc k, l, e) = absurd (omega (arith, l))
@@ -63,41 +58,33 @@ only x y (suc k, l, e) = absurd (omega (arith, l))
 pub nothing_in : {X : Type 0} {P : Type 0} (x : X) → Contains [] x → P
 nothing_in x m = let l = m.1 in absurd (omega (arith, l))
 
--- an item that is found under a name: a function of this name
-pub record IsFoundFunction (es : Entries) (text : List ℕ) : Type 0 where
-  pub function : Function
-  pub present : lookup (is_same_key (keys.Name text)) es ≡ Some (items.Function function)
-  pub same : text ≡ function.name
+-- ---- what the world exports
 
--- an entry of this name, or a later one, is found
-entry_found : (text t : List ℕ) (f : Function) (es : Entries) → t ≡ f.name → (t ≡ text) ⊎ IsFoundFunction es text → IsFoundFunction ((keys.Name t, items.Function f) ∷ es) text
-entry_found text t f es is h = by (bytes_eq text t) refl h
+none_both : (b c : Bool) → c ≡ false → (b && c) ≡ false
+none_both true c e = e
+none_both false c e = refl
+
+pub key_same : (a b : WorldKey) → is_same_key a b ≡ true → a ≡ b
+key_same (keys.Name x) (keys.Name y) e = by (bytes_eq x y) refl e
   where
-    found_with : Bool → Option WorldItem
-    found_with b = cond (b && true) (Some (items.Function f)) (lookup (is_same_key (keys.Name text)) es)
-
-    by : (b : Bool) → bytes_eq text t ≡ b → (t ≡ text) ⊎ IsFoundFunction es text → IsFoundFunction ((keys.Name t, items.Function f) ∷ es) text
-    by true same k = record { function = f; present = ap found_with same; same = (bytes_eq-Decides text t).0 same ∙ is }
-    by false same (inl k) = let yes : bytes_eq text t ≡ true = (bytes_eq-Decides text t).1 (sym k) in let no = same in cc
-    by false same (inr k) = record { function = k.function; present = ap found_with same ∙ k.present; same = k.same }
-
--- the item of a key that the world exports
-pub key_found : (text : List ℕ) (es : Entries) → AllByRecursion IsExportItem es → Contains (map (λ e. e.0) es) (keys.Name text) → IsFoundFunction es text
-key_found text [] is h = nothing_in (keys.Name text) h
-key_found text ((keys.Name t, items.Function f) ∷ es) is h =
-    entry_found text t f es is.0.0 (by (λ k. key_found text es is.1 k) (Contains-append_cases (keys.Name t ∷ []) (map (λ e. e.0) es) (keys.Name text) h))
+    by : (b : Bool) → bytes_eq x y ≡ b → (b && true) ≡ true → keys.Name x ≡ keys.Name y
+    by true is e = ap keys.Name ((bytes_eq-Decides x y).0 is)
+    by false is e = absurd (true≢false (sym e))
+key_same (keys.Interface i) (keys.Interface j) e = by (nat_eq (suc i.index) (suc j.index)) refl e
   where
-    name_in : WorldKey → List ℕ
-    name_in (keys.Name n) = n
-    name_in (keys.Interface id) = []
+    by : (b : Bool) → nat_eq (suc i.index) (suc j.index) ≡ b → b ≡ true → keys.Interface i ≡ keys.Interface j
+    by true is e = let same : i.index ≡ j.index = grind (arith, is) in ap (λ (n : ℕ). keys.Interface (record { index = n })) same
+    by false is e = absurd (true≢false (sym e))
+key_same (keys.Name x) (keys.Interface j) e = absurd (true≢false (sym e ∙ none_both (bytes_eq x []) (nat_eq 0 (suc j.index)) (eqb-zero-suc j.index)))
+key_same (keys.Interface i) (keys.Name y) e = absurd (true≢false (sym e ∙ none_both (bytes_eq [] y) (nat_eq (suc i.index) 0) (eqb-suc-zero i.index)))
 
-    by : (Contains (map (λ e. e.0) es) (keys.Name text) → IsFoundFunction es text) → Contains (keys.Name t ∷ []) (keys.Name text) ⊎ Contains (map (λ e. e.0) es) (keys.Name text) → (t ≡ text) ⊎ IsFoundFunction es text
-    by rest (inl k) = inl (ap name_in (only (keys.Name t) (keys.Name text) k))
-    by rest (inr k) = inr (rest k)
-key_found text (e ∷ es) is h = absurd is.0
-
-pub root_found : {es : Entries} {text : List ℕ} (h : IsFoundFunction es text) → root_function_at es (keys.Name text) ≡ Some h.function
-root_found h = ap (option_and_then function_in) h.present
+-- a function is exported under its name
+pub function_key : (w : ComponentWorld) → IsWorld w → (key : WorldKey) (f : Function) → exported_item w key ≡ Some (items.Function f) → key ≡ keys.Name f.name
+function_key w ok key f e = by key (AllByRecursion-contains (IsExportItem w.resolve) (items_of w).exports (key, items.Function f) ok.exports (Contains-from_lookup key_same key (items.Function f) (items_of w).exports e))
+  where
+    by : (key : WorldKey) → IsExportItem w.resolve (key, items.Function f) → key ≡ keys.Name f.name
+    by (keys.Name text) h = ap keys.Name h.0
+    by (keys.Interface id) h = absurd h
 
 -- ---- core types
 

@@ -25,12 +25,11 @@ use Rattle.comp_bytes.specs.declared.canon.Intrinsic.TheVariants as intrinsics
 use Rattle.comp_bytes.specs.declared.def.Item.TheVariants as items
 use Rattle.comp_bytes.specs.declared.def.Def.{Def}
 use Rattle.comp_bytes.specs.declared.def.Def.TheVariants as defs
-use Rattle.wit_data.specs.Keys.{name_of_key}
 use Rattle.comp_worlds.specs.Worlds.{IsWorld}
 use Rattle.comp_worlds.specs.declared.world.ComponentWorld.{ComponentWorld}
 use Rattle.comp_links.specs.Naming.{Naming}
 use Rattle.comp_links.specs.Modules.{WorldModule, user_modules}
-use Rattle.comp_links.specs.Lists.{resource_of}
+use Rattle.comp_links.specs.Lists.{resource_of, AreExportsApart}
 use Rattle.comp_trees.specs.Inventories.{Inventory}
 use Rattle.comp_trees.proofs.Inventories.{inventory-empty}
 use Rattle.core_types.specs.declared.types.ValType.{ValType}
@@ -43,15 +42,15 @@ use Rattle.comp_terms.specs.Rules.{IsRight, RightAfter, IsBuilt}
 use Rattle.link_laws.specs.Meeting.{task_hook}
 use Rattle.link_laws.specs.Composition.{GeneratedModules, generated_sections, IsComposed, numbers_from, instance_order, at_root, item_instantiates}
 use Rattle.link_laws.specs.Linking.{module_meanings, outcome, EndsAt, StartCall, start_calls, initialization, questions, LetsRun, IsLinked, imported_among, TypesServed, IsShim, TrapsAtOnce, BeforeFixup, Links}
-use Rattle.link_laws.proofs.Zips.{each_listed}
 use Rattle.link_laws.proofs.Stores.{ShimsAt, ExportsShims, MayHaveShims, IsTypeEntry, IsFunctionEntry, IsInstanceThing, Agrees}
 use Rattle.link_laws.proofs.Given.{not_shims, scope_there}
 use Rattle.link_laws.proofs.Plain.{only, nothing_in, only_main, no_initialize}
 use Rattle.link_laws.proofs.InstanceSteps.{IsGenerated, generated_for, step_instantiate}
-use Rattle.link_laws.proofs.Steps.{no_modules, machine, IsNow, IsGood, users_among, users_in, asks, events_of, seen_by, Steps, step_type, step_instance_type, step_import, step_import_type, step_import_resource, step_import_instance, step_alias_function, step_alias_type, step_lower, step_drop, step_lift, step_inline_instance, step_alias, step_export, step_module, step_custom}
+use Rattle.link_laws.proofs.Steps.{no_modules, machine, IsNow, IsGood, users_among, users_in, asks, events_of, seen_by, Steps, step_type, step_instance_type, step_import, step_import_type, step_import_resource, step_import_instance, step_alias_function, step_alias_type, step_lower, step_drop, step_lift, step_inline_instance, step_alias, step_module, step_custom}
 use Rattle.link_laws.proofs.Marks.{bytes_listed, numbers_listed, root_imports, root_modules, root_instances, root_exports, root_export_names, no_customs}
 use Rattle.link_laws.proofs.ImportedTypes.{types_served}
-use Rattle.link_laws.proofs.Served.{FilledAtEnd, users_served, stated_all, each_provided}
+use Rattle.link_laws.proofs.Served.{FilledAtEnd, users_served, each_provided}
+use Rattle.link_laws.proofs.NestedSteps.{step_component, step_nested, step_export_function, step_export_instance}
 
 -- a generated module is instantiated only where it is one of these
 abbrev pub MayMake : ComponentWorld → GeneratedModules → ℕ → Type 0
@@ -74,8 +73,11 @@ module _ {w : ComponentWorld} {earlier : List Def} {c : Scope} {s : Store} (a : 
   step ok (defs.Item (items.Import name (descriptions.TypeEqual index))) may h = step_import_type a g gen name index h.0
   step ok (defs.Item (items.Import name descriptions.SubResource)) may h = step_import_resource a g gen name
   step ok (defs.Item (items.Import name (descriptions.Instance index))) may h = step_import_instance a g gen name index h.outer h.members h.is h.right
-  step ok (defs.Item (items.Export name sorts.Func index None)) may h = step_export a g gen ok name index h
+  step ok (defs.Item (items.Instantiate component arguments)) may h = step_nested a g gen component arguments h
+  step ok (defs.Item (items.Export name sorts.Func index None)) may h = step_export_function a g gen ok name index h
+  step ok (defs.Item (items.Export name sorts.Instance index None)) may h = step_export_instance a g gen ok name index h
   step ok (defs.Item (items.Custom name contents)) may h = step_custom a g gen name contents
+  step ok (defs.Component inner) may h = step_component a g gen inner
   step ok _ may h = absurd h
 
 -- the calls of the outside that a list makes, in order, by their result types
@@ -153,7 +155,7 @@ composed n w ds ok built = record {
   modules = root_modules n w ds built ∙ sym (ap (λ us. map (λ (u : WorldModule). u.found.bytes) us ++ bytes_listed built.generated) (only_main w ok));
   encoded = bytes_encode w built.generated built.are_generated;
   imports = root_imports n w ds built;
-  exports = root_exports n w ds built ∙ stated_all n w ok w.main_exports ok.main.required;
+  exports = root_exports n w ds built;
   instances = root_instances n w ds built ∙ order_is w ok built.generated built.are_generated;
   customs = record { front = built.front; names = built.names; whole = built.whole; none_before = no_customs n w ds built; named = built.named };
 }
@@ -173,14 +175,14 @@ filled_at_end w m None (Some at) numbers same h ok = absurd (not_shims w (only 0
 filled_at_end w m (Some b) (Some at) numbers same h ok = (h.made, h.filled (subst (λ l. Contains l (fixup_number w)) (sym same) (2, omega arith, refl)), h.room)
 
 -- the end of a run is linked
-linked_at_end : (n : Naming) (w : ComponentWorld) (ds : List Def) (m : Machine) → IsWorld w → (built : IsBuilt n w ds) → Agrees w ds m.scope m.store → m.now.events ≡ Instantiated 0 ∷ [] → IsLinked n w (modules_of w built.generated built.are_generated) m
-linked_at_end n w ds m ok built a events =
+linked_at_end : (n : Naming) (w : ComponentWorld) (ds : List Def) (m : Machine) → IsWorld w → AreExportsApart n w → (built : IsBuilt n w ds) → Agrees w ds m.scope m.store → m.now.events ≡ Instantiated 0 ∷ [] → IsLinked n w (modules_of w built.generated built.are_generated) m
+linked_at_end n w ds m ok apart built a events =
     record {
       origins = resource_of w;
       start_events = [];
       instances = a.instantiated ∙ (root_instances n w ds built ∙ order_is w ok built.generated built.are_generated);
       imports = users_served w ok m a.shims (filled_at_end w m built.generated a.shims (flat_map (at_root item_instantiates) ds) (root_instances n w ds built) a.with_shims ok) a.served;
-      exports = each_provided n w ok m (a.exports ∙ root_export_names n w ds built) a.lifted w.main_exports ok.main.required (each_listed name_of_key w.main_exports);
+      exports = each_provided n w ok apart m (a.exports ∙ root_export_names n w ds built) a.lifted;
       events = events ∙ sym (ap (λ (us : List WorldModule). map (λ n. Instantiated n) (numbers_from 0 (length us)) ++ []) (only_main w ok));
       started = rw (no_calls w ok) tt;
     }
@@ -257,12 +259,12 @@ no_fixup_before : (w : ComponentWorld) (o : Option GeneratedBytes) (h : MayBeGen
 no_fixup_before w None h ds fixed before contains = let none : IsTrue false = fixed in cc
 no_fixup_before w (Some b) h ds fixed before contains = AllByRecursion-contains (λ n. n ≢ fixup_number w) (flat_map (at_root item_instantiates) ds) (fixup_number w) before contains refl
 
--- what was built links, whatever the outside returns
-pub links : (n : Naming) (w : ComponentWorld) (ds : List Def) → IsWorld w → (built : IsBuilt n w ds) → Links n w (modules_of w built.generated built.are_generated) ds
-links n w ds ok built = record {
+-- what was built links, whatever the outside returns, where the exported interfaces have names of their own
+pub links : (n : Naming) (w : ComponentWorld) (ds : List Def) → IsWorld w → AreExportsApart n w → (built : IsBuilt n w ds) → Links n w (modules_of w built.generated built.are_generated) ds
+links n w ds ok apart built = record {
   never_stuck = λ answers. not_stuck all.0 all.1 all.2 one (questions w) answers (outcome w gen ds answers) (good answers);
   ends = λ answers. is_done all.0 all.1 all.2 one (questions w) answers (outcome w gen ds answers) (good answers);
-  linked = λ answers m done. let is = at_end answers m done in linked_at_end n w ds m ok built is.0 is.1;
+  linked = λ answers m done. let is = at_end answers m done in linked_at_end n w ds m ok apart built is.0 is.1;
   types = λ answers m done. types_at_end n w ds m built (at_end answers m done).0;
   traps_before = record { each = traps };
   served_throughout = record {

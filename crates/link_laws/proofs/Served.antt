@@ -1,13 +1,15 @@
 -- What was planned for the imports and exports of main meets the link table.
-use Rattle.std.proofs.Common.{◌≡◌, ◌∙◌, inl, inr, ◌+◌, ◌<◌, ◌^◌, arith, length, IsTrue, ℕ, Bool, false, zero, suc, true, List, [], ◌∷◌, map, filter, refl, sym, ap, subst, Option, Some, None, IsSome, is_some, if◌then◌else◌}
+use Rattle.std.proofs.Common.{◌≡◌, ◌∙◌, inl, inr, ◌+◌, ◌<◌, ◌^◌, arith, length, IsTrue, ℕ, Bool, false, zero, suc, true, List, [], ◌∷◌, map, refl, sym, ap, subst, Option, Some, None, is_some, if◌then◌else◌}
 use Rattle.std.proofs.lemmas.Option.{none-some, same_Some, slice_get_within, slice_get-map}
+use Rattle.std.proofs.lemmas.Slice.Eq.{bytes_eq-Decides}
 use Rattle.std.specs.Str.{bytes_eq}
-use Rattle.std.specs.List.{slice_get, flat_map, list_any, AllZip, AllByRecursion}
+use Rattle.std.specs.List.{slice_get, flat_map, AllZip, AllByRecursion}
 use Rattle.std.specs.Option.{option_map, option_and_then}
-use Rattle.comp_lists.proofs.Lists.{AllZip-at, AllZip-weaker, AllByRecursion-weaker}
-use Rattle.comp_bytes.specs.declared.space.Sort.TheVariants as sorts
+use Rattle.comp_lists.proofs.Lists.{AllZip-at, AllZip-weaker}
 use Rattle.comp_bytes.specs.declared.space.Space.TheVariants as spaces
 use Rattle.comp_bytes.specs.declared.canon.Intrinsic.TheVariants as intrinsics
+use Rattle.comp_bytes.specs.Spaces.{is_space}
+use Rattle.comp_bytes.specs.declared.space.Space.{Space}
 use Rattle.core_types.specs.declared.types.FuncType.{FuncType}
 use Rattle.core_runs.specs.declared.bracket.Bracketed.{Bracketed}
 use Rattle.core_runs.specs.declared.bracket.Bracketed.TheVariants as brackets
@@ -18,17 +20,18 @@ use Rattle.core_runs.specs.Store.{Store as CodeStore, Func, Opaque, Now, Outcome
 use Rattle.core_runs.specs.Store as core
 use Rattle.core_runs.specs.Execution.{and_then, asked, exec, acts}
 use Rattle.core_runs.specs.Expected.{expected}
-use Rattle.wit_data.specs.Keys.{name_of_key}
 use Rattle.wit_data.specs.declared.functions.Function.{Function as WitFunction}
 use Rattle.wit_data.specs.declared.ids.TypeId.{TypeId}
 use Rattle.wit_data.specs.declared.worlds.WorldKey.{WorldKey}
 use Rattle.wit_data.specs.declared.worlds.WorldKey.TheVariants as keys
+use Rattle.wit_data.specs.declared.ids.InterfaceId.{InterfaceId}
+use Rattle.wit_data.specs.declared.worlds.WorldItem.{WorldItem}
+use Rattle.wit_data.specs.declared.worlds.WorldItem.TheVariants as world_items
 use Rattle.comp_roles.specs.declared.imports.Import.{Import}
 use Rattle.comp_roles.specs.declared.offered.ImportType.{ImportType}
 use Rattle.comp_roles.specs.Lookups.{first_memory}
-use Rattle.world_values.specs.Items.{root_function_at}
-use Rattle.comp_worlds.specs.WorldContents.{items_of, core_name_of}
-use Rattle.comp_worlds.specs.Worlds.{IsWorld, IsRequired}
+use Rattle.world_values.specs.Items.{functions_in}
+use Rattle.comp_worlds.specs.Worlds.{IsWorld}
 use Rattle.comp_worlds.specs.declared.world.ComponentWorld.{ComponentWorld}
 use Rattle.comp_trees.specs.Trees.{FunctionTree}
 use Rattle.comp_trees.specs.DefinedTrees.{OfOthers}
@@ -42,17 +45,19 @@ use Rattle.shim_runs.proofs.Acting.{filled_shims_forward}
 use Rattle.shim_runs.proofs.Placed.{shim_at}
 use Rattle.comp_links.specs.Modules.{WorldModule, user_modules}
 use Rattle.comp_links.specs.Naming.{Naming, plain_name, name_of}
-use Rattle.comp_links.specs.Lists.{component_types, resource_of, root_function, stated_export, functions_required, functions_in}
-use Rattle.comp_terms.specs.Planned.{type_of_function}
+use Rattle.comp_links.specs.Lists.{component_types, resource_of, functions_required, required_functions, AreExportsApart}
 use Rattle.comp_runs.specs.Signatures.{core_signature}
-use Rattle.comp_runs.specs.Store.{Thing, Export, HeldOption, HeldEncoding, HeldMemory, HeldRealloc, HeldPostReturn, HeldAsync, HeldCallback, CoreItem, Lowering, IntrinsicOf, ExportedBy, Imported, Lifting, item_tree, ModuleInstance, Store}
-use Rattle.comp_runs.specs.Machine.{Machine, export_named, export_in, export_of}
+use Rattle.comp_runs.specs.Store.{Thing, Export, HeldOption, HeldEncoding, HeldMemory, HeldRealloc, HeldPostReturn, HeldAsync, HeldCallback, CoreItem, Lowering, IntrinsicOf, ExportedBy, Imported, item_tree, ModuleInstance, Store}
+use Rattle.comp_runs.specs.Machine.{Machine, export_in, export_of}
+use Rattle.nested_laws.proofs.Kept.{is_function}
+use Rattle.nested_laws.proofs.Exports.{front, other_space}
 use Rattle.link_laws.specs.Meeting.{CoreMeets, CoreExportMeets, task_hook, hooks_round, MemoryMeets, IsMainMemory, MeetsOption, ItemIsExport, ItemIsLowering, ItemIsDrop, Meets, MeetsIn, entry_kind}
-use Rattle.link_laws.specs.Linking.{IsServed, AreServed, UsersServed, IsProvided, exports_at, function_in}
-use Rattle.link_laws.proofs.Zips.{filter-all, found-each, found-listed, AllByRecursion-join}
-use Rattle.link_laws.proofs.Stores.{IsOpaqueOf, ShimsAt, drop_core, IsLoweredFor, IsDropOf, IsServedAs, IsShimGivenAt, Serves, IsFilledWith, AreFilled, main_module, IsPlanned, IsPlannedUser, IsMainExport, IsFirstMemory, IsOptionFunction, IsOptionHeld, IsLiftedExport}
+use Rattle.link_laws.specs.Linking.{IsServed, AreServed, UsersServed, IsProvided, exports_at}
+use Rattle.link_laws.proofs.Zips.{AllByRecursion-join, each_at}
+use Rattle.link_laws.proofs.Stores.{IsOpaqueOf, ShimsAt, drop_core, IsLoweredFor, IsDropOf, IsServedAs, IsShimGivenAt, Serves, IsFilledWith, AreFilled, main_module, IsPlanned, IsPlannedUser, IsMainExport, IsFirstMemory, IsOptionFunction, IsOptionHeld, main_key, main_function, IsRequiredAt, IsFunctionExport, IsAmong, IsInterfaceExport, IsItemExport, IsKeyExport, AreKeyExports}
 use Rattle.link_laws.proofs.Given.{by_parts, served_opaque}
-use Rattle.link_laws.proofs.Plain.{listed_main, IsFoundFunction, key_found, root_found, no_hook, no_memory_imported}
+use Rattle.link_laws.proofs.Plain.{listed_main, no_hook, no_memory_imported, function_key}
+use Rattle.comp_worlds.specs.WorldContents.{exported_item}
 
 -- ---- opaque functions
 
@@ -241,85 +246,179 @@ module _ (w : ComponentWorld) (ok : IsWorld w) (m : Machine) where
 
 -- ---- exports
 
--- a key that has a core export is a name, and the world exports a function under it
-pub record IsFunctionKey (w : ComponentWorld) (key : WorldKey) : Type 0 where
-  pub text : List ℕ
-  pub core : List ℕ
-  pub is : key ≡ keys.Name text
-  pub role : core_name_of w (keys.Name text) ≡ Some core
-  pub found : IsFoundFunction (items_of w).exports text
-
-pub function_key : (w : ComponentWorld) → IsWorld w → (key : WorldKey) → IsRequired w w.main key → IsFunctionKey w key
-function_key w ok (keys.Name text) h = by (core_name_of w (keys.Name text)) refl h.present
-  where
-    by : (o : Option (List ℕ)) → core_name_of w (keys.Name text) ≡ o → IsSome o → IsFunctionKey w (keys.Name text)
-    by None e s = cc
-    by (Some core) e s = record { text = text; core = core; is = refl; role = e; found = key_found text (items_of w).exports ok.exports h.exported }
-function_key w ok (keys.Interface id) h = let no = h.present in cc
-
--- what is stated of a required key is a root function
-own_name : (n : Naming) (w : ComponentWorld) (text : List ℕ) → name_of n w.resolve (keys.Name text) ≡ plain_name text
+-- what is stated of the name of a root function
+own_name : (n : Naming) (w : ComponentWorld) (text : List ℕ) → (name_of n w.resolve (keys.Name text)).name ≡ text
 own_name n w text = by n.canonical
   where
-    by : (b : Bool) → (if b then plain_name text else plain_name text) ≡ plain_name text
+    by : (b : Bool) → (if b then plain_name text else plain_name text).name ≡ text
     by true = refl
     by false = refl
 
-stated_function : (n : Naming) (w : ComponentWorld) (key : WorldKey) → IsFunctionKey w key → stated_export n w (record { of = Main; key = key }) ≡ root_function (name_of_key key)
-stated_function n w key h = rw (h.is, h.found.present) (ap (λ x. record { name = x; sort = sorts.Func }) (own_name n w h.text))
+-- an export of the component, with the name of its key
+pub record IsNamedExport (n : Naming) (w : ComponentWorld) (s : Store) (key : WorldKey) (e : Export) : Type 0 where
+  pub named : e.name ≡ (name_of n w.resolve key).name
+  pub is : IsKeyExport w s key e
 
-pub stated_all : (n : Naming) (w : ComponentWorld) → IsWorld w → (required : List WorldKey) → AllByRecursion (IsRequired w w.main) required →
-    map (λ key. root_function (name_of_key key)) required ≡ map (stated_export n w) (map (λ key. record { of = Main; key = key }) required)
-stated_all n w ok [] h = refl
-stated_all n w ok (key ∷ required) h = rw (stated_function n w key (function_key w ok key h.0), stated_all n w ok required h.1) refl
+abbrev first_in : List (List ℕ) → List ℕ
+first_in [] = []
+first_in (x ∷ xs) = x
 
-module _ (n : Naming) (w : ComponentWorld) (ok : IsWorld w) (m : Machine) (names : map (λ (e : Export). e.name) m.scope.exports ≡ map name_of_key w.main_exports) (lifted : AllByRecursion (IsLiftedExport w m.store) m.scope.exports) where
-  functions_all : filter (export_in spaces.Func) m.scope.exports ≡ m.scope.exports
-  functions_all = filter-all (export_in spaces.Func) m.scope.exports (AllByRecursion-weaker (λ (e : Export) h. rw h.space refl) m.scope.exports lifted)
+abbrev after_first : List (List ℕ) → List (List ℕ)
+after_first [] = []
+after_first (x ∷ xs) = xs
 
-  -- the export of a root function
-  provided : (text core : List ℕ) → core_name_of w (keys.Name text) ≡ Some core → (at : IsFoundFunction (items_of w).exports text) → list_any (bytes_eq text) (map name_of_key w.main_exports) ≡ true →
-      IsProvided n w m (resource_of w) (record { of = Main; key = keys.Name text; function = at.function.name })
-  provided text core role at h =
-      let listed : list_any (bytes_eq text) (map (λ (e : Export). e.name) m.scope.exports) ≡ true = subst (λ l. list_any (bytes_eq text) l ≡ true) (sym names) h in
-      let x : (e : Export) × (export_named text m.scope.exports ≡ Some e) = found-listed (λ (e : Export). e.name) text m.scope.exports listed in
-      let is : (x.0.name ≡ text) × IsLiftedExport w m.store x.0 = found-each (λ (e : Export). e.name) (IsLiftedExport w m.store) text m.scope.exports x.0 lifted x.1 in
-      let whole : x.0 ≡ record { space = spaces.Func; name = text; address = x.0.address } = by_parts x.0 spaces.Func text is.1.space is.0 in
-      let at_root : export_of spaces.Func text m.scope.exports ≡ Some (record { space = spaces.Func; name = text; address = x.0.address }) =
-      ap (export_named text) functions_all ∙ (x.1 ∙ ap (λ (e : Export). Some e) whole) in
-      let own : root_function_at (items_of w).exports (keys.Name text) ≡ Some is.1.wit = subst (λ t. root_function_at (items_of w).exports (keys.Name t) ≡ Some is.1.wit) is.0 is.1.exported in
-      let same_function : is.1.wit ≡ at.function = same_Some is.1.wit at.function (sym own ∙ root_found at) in
-      let entry : (type : FuncType) × (item : CoreItem) × IsOpaqueOf m.store is.1.is.core type item × ItemIsExport w m (record { of = Main; name = is.1.name }) item = main_export w ok m is.1.is.core (record { of = Main; name = is.1.name }) refl is.1.is.of in
-      let lifted_with : List TargetOption = lift_options w Main (keys.Name text) in
-      let options : AllZip (IsOptionHeld w m.store) is.1.is.held lifted_with = subst (λ t. AllZip (IsOptionHeld w m.store) is.1.is.held (lift_options w Main (keys.Name t))) is.0 is.1.is.with_options in
+named_exports : (n : Naming) (w : ComponentWorld) (s : Store) (keys : List WorldKey) (es : List Export) → map (λ (e : Export). e.name) es ≡ map (λ key. (name_of n w.resolve key).name) keys → AreKeyExports w s keys es →
+    AllZip (IsNamedExport n w s) keys es
+named_exports n w s [] [] names h = tt
+named_exports n w s (key ∷ keys) [] names h = cc
+named_exports n w s [] (e ∷ es) names h = absurd h
+named_exports n w s (key ∷ keys) (e ∷ es) names h = (record { named = ap first_in names; is = h.0 }, named_exports n w s keys es (ap after_first names) h.1)
+
+-- what is found under the name of a key, in a space
+pub record FindsNamed (n : Naming) (w : ComponentWorld) (s : Store) (space : Space) (name : List ℕ) (es : List Export) : Type 0 where
+  pub key : WorldKey
+  pub export : Export
+  pub found : export_of space name es ≡ Some export
+  pub in_space : export.space ≡ space
+  pub named : export.name ≡ name
+  pub is : IsNamedExport n w s key export
+
+module _ (n : Naming) (w : ComponentWorld) (s : Store) (space : Space) (own : is_space space (Some space) ≡ true) (known : (other : Space) → is_space space (Some other) ≡ true → other ≡ space) (name : List ℕ) where
+  later : (e : Export) (es : List Export) → export_of space name (e ∷ es) ≡ export_of space name es → FindsNamed n w s space name es → FindsNamed n w s space name (e ∷ es)
+  later e es same h = record { key = h.key; export = h.export; found = same ∙ h.found; in_space = h.in_space; named = h.named; is = h.is }
+
+  -- where the export of a key is in this space and has this name, the first that is found is that of a key with this name
+  finds_named : (keys : List WorldKey) (es : List Export) → AllZip (IsNamedExport n w s) keys es → (i : ℕ) (key : WorldKey) → slice_get keys i ≡ Some key → (name_of n w.resolve key).name ≡ name →
+      ((e : Export) → IsKeyExport w s key e → e.space ≡ space) → FindsNamed n w s space name es
+  finds_named [] es h i key at named in_space = absurd (none-some key at)
+  finds_named (k ∷ keys) [] h i key at named in_space = absurd h
+  finds_named (k ∷ keys) (e ∷ es) h zero key at named in_space =
+      let own_key : k ≡ key = same_Some k key at in
+      let is : IsNamedExport n w s key e = subst (λ (x : WorldKey). IsNamedExport n w s x e) own_key h.0 in
+      let space_is : e.space ≡ space = in_space e is.is in
+      let name_is : e.name ≡ name = is.named ∙ named in
       record {
-        address = x.0.address;
-        target = Lifted (record { of = Main; name = is.1.name }) lifted_with;
-        wit = at.function;
-        provided = ap (λ o. option_and_then (export_of spaces.Func at.function.name) (exports_at w m (name_of n w.resolve (keys.Name text)).name o)) at.present
-            ∙ subst (λ n. export_of spaces.Func n m.scope.exports ≡ Some (record { space = spaces.Func; name = n; address = x.0.address })) at.same at_root;
-        said = ap (option_map (λ n. Lifted (record { of = Main; name = n }) lifted_with)) (ap (λ t. core_name_of w (keys.Name t)) (sym is.0) ∙ is.1.role);
-        type_of = ap (function_in w at.function.name) at.present;
+        key = key;
+        export = e;
+        found = front space name e es true (ap (λ (x : Space). is_space space (Some x)) space_is ∙ own) (ap (bytes_eq name) name_is ∙ (bytes_eq-Decides name name).1 refl);
+        in_space = space_is;
+        named = name_is;
+        is = is;
+      }
+  finds_named (k ∷ keys) (e ∷ es) h (suc i) key at named in_space = by (export_in space e) refl (bytes_eq name e.name) refl (finds_named keys es h.1 i key at named in_space)
+    where
+      by : (inside : Bool) → export_in space e ≡ inside → (same : Bool) → bytes_eq name e.name ≡ same → FindsNamed n w s space name es → FindsNamed n w s space name (e ∷ es)
+      by true p true q rest = record { key = k; export = e; found = front space name e es true p q; in_space = known e.space p; named = sym ((bytes_eq-Decides name e.name).0 q); is = h.0 }
+      by true p false q rest = later e es (front space name e es false p q) rest
+      by false p same q rest = later e es (other_space space name e es p) rest
+
+is_instance : (space : Space) → is_space spaces.Instance (Some space) ≡ true → space ≡ spaces.Instance
+is_instance spaces.Instance e = refl
+is_instance _ e = cc
+
+module _ (n : Naming) (w : ComponentWorld) (ok : IsWorld w) (apart : AreExportsApart n w) (m : Machine) (exported : AllZip (IsNamedExport n w m.store) w.main_exports m.scope.exports) where
+  -- the lift of a required function that is found meets the link table
+  lift_met : (key : WorldKey) (name : List ℕ) (address : ℕ) → IsRequiredAt w m.store (main_function key name) address →
+      option_and_then (export_of spaces.Func name) (exports_at w m (name_of n w.resolve key).name (exported_item w key)) ≡ Some (record { space = spaces.Func; name = name; address = address }) →
+      IsProvided n w m (resource_of w) (main_function key name)
+  lift_met key name address h found =
+      let lifted_with : List TargetOption = lift_options w (main_function key name) in
+      let export_ref : ExportRef = record { of = Main; name = h.name } in
+      let entry : (type : FuncType) × (item : CoreItem) × IsOpaqueOf m.store h.is.core type item × ItemIsExport w m export_ref item = main_export w ok m h.is.core export_ref refl h.is.of in
+      record {
+        address = address;
+        target = Lifted export_ref lifted_with;
+        wit = h.wit;
+        provided = found;
+        said = ap (option_map (λ core. Lifted (record { of = Main; name = core }) lifted_with)) h.role;
+        type_of = h.exported;
         meets = record {
-          core = is.1.is.core;
-          held = is.1.is.held;
-          is = is.1.is.is ∙ ap (λ (f : WitFunction). Some (Lifting is.1.is.core is.1.is.held (type_of_function w f))) same_function;
-          enters = opaque_meets w ok m (Some (entry_kind lifted_with)) is.1.is.core entry.0 entry.1 (ItemIsExport w m (record { of = Main; name = is.1.name })) entry.2 entry.3;
-          same = AllZip-weaker (option_meets w ok m) is.1.is.held lifted_with options;
+          core = h.is.core;
+          held = h.is.held;
+          is = h.is.is;
+          enters = opaque_meets w ok m (Some (entry_kind lifted_with)) h.is.core entry.0 entry.1 (ItemIsExport w m export_ref) entry.2 entry.3;
+          same = AllZip-weaker (option_meets w ok m) h.is.held lifted_with h.is.with_options;
         };
       }
 
-  -- the functions of a required key
-  key_provided : (key : WorldKey) → IsFunctionKey w key → list_any (bytes_eq (name_of_key key)) (map name_of_key w.main_exports) ≡ true →
-      AllByRecursion (IsProvided n w m (resource_of w)) (functions_required w (record { of = Main; key = key }))
-  key_provided key k h =
-      subst (λ key. AllByRecursion (IsProvided n w m (resource_of w)) (functions_required w (record { of = Main; key = key }))) (sym k.is)
-      (subst (λ o. AllByRecursion (IsProvided n w m (resource_of w)) (map (λ name. record { of = Main; key = keys.Name k.text; function = name }) (functions_in w.resolve o))) (sym k.found.present)
-      (provided k.text k.core k.role k.found (subst (λ key. list_any (bytes_eq (name_of_key key)) (map name_of_key w.main_exports) ≡ true) k.is h), tt))
+  -- ---- a function at the root
 
-  pub each_provided : (required : List WorldKey) → AllByRecursion (IsRequired w w.main) required → AllByRecursion (λ key. list_any (bytes_eq (name_of_key key)) (map name_of_key w.main_exports) ≡ true) required →
-      AllByRecursion (IsProvided n w m (resource_of w)) (flat_map (functions_required w) (map (λ key. record { of = Main; key = key }) required))
-  each_provided [] r h = tt
-  each_provided (key ∷ required) r h =
-      AllByRecursion-join (IsProvided n w m (resource_of w)) (functions_required w (record { of = Main; key = key })) (flat_map (functions_required w) (map (λ key. record { of = Main; key = key }) required))
-      (key_provided key (function_key w ok key r.0) h.0) (each_provided required r.1 h.1)
+  function_space : (key : WorldKey) (f : WitFunction) → exported_item w key ≡ Some (world_items.Function f) → (e : Export) → IsKeyExport w m.store key e → e.space ≡ spaces.Func
+  function_space key f item e is = let x : IsFunctionExport w m.store (main_function key f.name) e = subst (IsItemExport w m.store key e) item is in x.space
+
+  -- a function that is exported under the name of one is that one
+  own_function : (f : WitFunction) (key : WorldKey) (e : Export) → e.space ≡ spaces.Func → (name_of n w.resolve key).name ≡ f.name → IsKeyExport w m.store key e → IsRequiredAt w m.store (main_function (keys.Name f.name) f.name) e.address
+  own_function f key e space named is = by (exported_item w key) refl is
+    where
+      by : (o : Option WorldItem) → exported_item w key ≡ o → IsItemExport w m.store key e o → IsRequiredAt w m.store (main_function (keys.Name f.name) f.name) e.address
+      by (Some (world_items.Function g)) item h =
+          let key_is : key ≡ keys.Name g.name = function_key w ok key g item in
+          let same : g.name ≡ f.name = sym (own_name n w g.name) ∙ (ap (λ (k : WorldKey). (name_of n w.resolve k).name) (sym key_is) ∙ named) in
+          subst (λ text. IsRequiredAt w m.store (main_function (keys.Name text) text) e.address) same (subst (λ (k : WorldKey). IsRequiredAt w m.store (main_function k g.name) e.address) key_is h.is)
+      by (Some (world_items.Interface id)) item h = let no : spaces.Func ≡ spaces.Instance = sym space ∙ h.space in cc
+      by o item h = absurd h
+
+  function_provided : (key : WorldKey) (i : ℕ) → slice_get w.main_exports i ≡ Some key → (f : WitFunction) → exported_item w key ≡ Some (world_items.Function f) → IsProvided n w m (resource_of w) (main_function key f.name)
+  function_provided key i at f item =
+      let key_is : key ≡ keys.Name f.name = function_key w ok key f item in
+      let name_is : (name_of n w.resolve key).name ≡ f.name = ap (λ (k : WorldKey). (name_of n w.resolve k).name) key_is ∙ own_name n w f.name in
+      let x : FindsNamed n w m.store spaces.Func f.name m.scope.exports = finds_named n w m.store spaces.Func refl is_function f.name w.main_exports m.scope.exports exported i key at name_is (function_space key f item) in
+      let is : IsRequiredAt w m.store (main_function (keys.Name f.name) f.name) x.export.address = own_function f x.key x.export x.in_space (sym x.is.named ∙ x.named) x.is.is in
+      lift_met key f.name x.export.address (subst (λ (k : WorldKey). IsRequiredAt w m.store (main_function k f.name) x.export.address) (sym key_is) is)
+      (ap (λ o. option_and_then (export_of spaces.Func f.name) (exports_at w m (name_of n w.resolve key).name o)) item
+      ∙ (x.found ∙ ap (λ (e : Export). Some e) (by_parts x.export spaces.Func f.name x.in_space x.named)))
+
+  -- ---- an instance in the place of an interface
+
+  interface_space : (key : WorldKey) (id : InterfaceId) → exported_item w key ≡ Some (world_items.Interface id) → (e : Export) → IsKeyExport w m.store key e → e.space ≡ spaces.Instance
+  interface_space key id item e is = let x : IsInterfaceExport w m.store (functions_required w (main_key key)) e = subst (IsItemExport w m.store key e) item is in x.space
+
+  -- an instance that is exported under the name of an interface is exported for it
+  own_interface : (key : WorldKey) (id : InterfaceId) → exported_item w key ≡ Some (world_items.Interface id) → (other : WorldKey) (e : Export) → e.space ≡ spaces.Instance → (name_of n w.resolve other).name ≡ (name_of n w.resolve key).name →
+      IsKeyExport w m.store other e → IsInterfaceExport w m.store (functions_required w (main_key key)) e
+  own_interface key id item other e space named is = by (exported_item w other) refl is
+    where
+      by : (o : Option WorldItem) → exported_item w other ≡ o → IsItemExport w m.store other e o → IsInterfaceExport w m.store (functions_required w (main_key key)) e
+      by (Some (world_items.Function g)) own h = let no : spaces.Instance ≡ spaces.Func = sym space ∙ h.space in cc
+      by (Some (world_items.Interface of)) own h = subst (λ (k : WorldKey). IsInterfaceExport w m.store (functions_required w (main_key k)) e) (apart other key (of, own) (id, item) named) h
+      by o own h = absurd h
+
+  among_provided : (key : WorldKey) (exports : List Export) → exports_at w m (name_of n w.resolve key).name (exported_item w key) ≡ Some exports → (names : List (List ℕ)) →
+      AllByRecursion (IsAmong w m.store exports) (map (main_function key) names) → AllByRecursion (IsProvided n w m (resource_of w)) (map (main_function key) names)
+  among_provided key exports at [] h = tt
+  among_provided key exports at (name ∷ names) h = (lift_met key name h.0.address h.0.is (ap (option_and_then (export_of spaces.Func name)) at ∙ h.0.found), among_provided key exports at names h.1)
+
+  interface_provided : (key : WorldKey) (i : ℕ) → slice_get w.main_exports i ≡ Some key → (id : InterfaceId) → exported_item w key ≡ Some (world_items.Interface id) →
+      AllByRecursion (IsProvided n w m (resource_of w)) (functions_required w (main_key key))
+  interface_provided key i at id item =
+      let name : List ℕ = (name_of n w.resolve key).name in
+      let x : FindsNamed n w m.store spaces.Instance name m.scope.exports = finds_named n w m.store spaces.Instance refl is_instance name w.main_exports m.scope.exports exported i key at refl (interface_space key id item) in
+      let e : IsInterfaceExport w m.store (functions_required w (main_key key)) x.export = own_interface key id item x.key x.export x.in_space (sym x.is.named ∙ x.named) x.is.is in
+      among_provided key e.exports
+      (ap (exports_at w m name) item ∙ (ap (option_and_then (λ (e : Export). slice_get m.store.instances e.address)) x.found ∙ e.present))
+      (functions_in w.resolve (exported_item w key)) e.each
+
+  -- ---- all of them
+
+  key_provided : (key : WorldKey) (i : ℕ) → slice_get w.main_exports i ≡ Some key → AllByRecursion (IsProvided n w m (resource_of w)) (functions_required w (main_key key))
+  key_provided key i at = by (exported_item w key) refl
+    where
+      AllOf : Option WorldItem → Type 0
+      AllOf o = AllByRecursion (IsProvided n w m (resource_of w)) (map (main_function key) (functions_in w.resolve o))
+
+      by : (o : Option WorldItem) → exported_item w key ≡ o → AllByRecursion (IsProvided n w m (resource_of w)) (functions_required w (main_key key))
+      by (Some (world_items.Function f)) item = subst AllOf (sym item) (function_provided key i at f item, tt)
+      by (Some (world_items.Interface id)) item = interface_provided key i at id item
+      by o item = subst AllOf (sym item) tt
+
+  abbrev IsListed : WorldKey → Type 0
+  IsListed key = (i : ℕ) × (slice_get w.main_exports i ≡ Some key)
+
+  keys_provided : (keys : List WorldKey) → AllByRecursion IsListed keys → AllByRecursion (IsProvided n w m (resource_of w)) (flat_map (functions_required w) (map main_key keys))
+  keys_provided [] h = tt
+  keys_provided (key ∷ keys) h =
+      AllByRecursion-join (IsProvided n w m (resource_of w)) (functions_required w (main_key key)) (flat_map (functions_required w) (map main_key keys)) (key_provided key h.0.0 h.0.1) (keys_provided keys h.1)
+
+pub each_provided : (n : Naming) (w : ComponentWorld) → IsWorld w → AreExportsApart n w → (m : Machine) → map (λ (e : Export). e.name) m.scope.exports ≡ map (λ key. (name_of n w.resolve key).name) w.main_exports →
+    AreKeyExports w m.store w.main_exports m.scope.exports → AllByRecursion (IsProvided n w m (resource_of w)) (required_functions w)
+each_provided n w ok apart m names exported = keys_provided n w ok apart m (named_exports n w m.store w.main_exports m.scope.exports names exported) w.main_exports (each_at w.main_exports)

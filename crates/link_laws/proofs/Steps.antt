@@ -1,6 +1,6 @@
 -- A definition that keeps its rule runs, and the store agrees with the longer list.
 use Rattle.std.proofs.Common.{arith, ◌≤◌, ◌+◌, ◌^◌, ◌⊎◌, inl, inr, ◌==◌, ◌≡◌, ◌∙◌, ℕ, zero, suc, ◌<◌, Bool, true, false, List, [], ◌∷◌, ◌++◌, length, map, filter, get_or, refl, sym, ap, ap₂, subst, append-nil, add-one, length-append, Option, Some, None, is_some, IsTrue, if◌then◌else◌}
-use Rattle.std.proofs.lemmas.List.{map-append, length-map}
+use Rattle.std.proofs.lemmas.List.{length-map}
 use Rattle.std.proofs.lemmas.List.Elements.{filter-append, Contains-append_cases}
 use Rattle.std.proofs.lemmas.Grind.{flat_map-append}
 use Rattle.std.proofs.lemmas.Option.{none-some, get_or_from_slice_get}
@@ -9,7 +9,7 @@ use Rattle.std.specs.Fmt.{decimal}
 use Rattle.std.specs.List.{slice_get, flat_map, list_any, AllZip, AllByRecursion}
 use Rattle.std.specs.Option.{option_map, option_and_then}
 use Rattle.comp_lists.specs.Found.{found}
-use Rattle.comp_lists.proofs.Lists.{slice_get-end, AllZip-weaker, AllZip-end, AllByRecursion-weaker, AllByRecursion-push}
+use Rattle.comp_lists.proofs.Lists.{slice_get-end, AllZip-weaker, AllZip-end, AllByRecursion-weaker}
 use Rattle.comp_bytes.proofs.ItemIndices.{IsAt-append}
 use Rattle.comp_bytes.specs.Spaces.{kind_space, space_of, items_in}
 use Rattle.comp_bytes.specs.ScopeNames.{def_export}
@@ -20,7 +20,6 @@ use Rattle.standard_kinds.specs.declared.kinds.ExportKind.TheVariants as kinds
 use Rattle.standard_kinds.specs.declared.kinds.StringEncoding.TheVariants as encodings
 use Rattle.comp_bytes.specs.declared.canon.CanonicalOption.{CanonicalOption}
 use Rattle.comp_bytes.specs.declared.canon.CanonicalOption.TheVariants as options
-use Rattle.comp_bytes.specs.declared.space.Sort.TheVariants as sorts
 use Rattle.comp_bytes.specs.declared.space.ComponentExportKind.TheVariants as exports
 use Rattle.comp_bytes.specs.declared.types.ExternName.{ExternName}
 use Rattle.comp_bytes.specs.declared.types.TypeDef.{TypeDef}
@@ -34,17 +33,11 @@ use Rattle.comp_bytes.specs.declared.def.CoreInlineExport.{CoreInlineExport}
 use Rattle.comp_bytes.specs.declared.def.Item.TheVariants as items
 use Rattle.comp_bytes.specs.declared.def.Def.{Def}
 use Rattle.comp_bytes.specs.declared.def.Def.TheVariants as defs
-use Rattle.wit_data.specs.Keys.{name_of_key}
-use Rattle.wit_data.specs.declared.worlds.WorldKey.{WorldKey}
-use Rattle.wit_data.specs.declared.worlds.WorldKey.TheVariants as keys
-use Rattle.wit_data.specs.declared.functions.Function.{Function as WitFunction}
-use Rattle.world_values.specs.Items.{root_function_at}
-use Rattle.comp_worlds.specs.WorldContents.{items_of, core_name_of}
 use Rattle.comp_worlds.specs.Worlds.{IsWorld}
 use Rattle.comp_trees.specs.Trees.{Origin, ImportedAt, DefinedAt, ResourceAt, FunctionTree, is_known}
 use Rattle.comp_trees.specs.DefinedTrees.{TypeTree, OfValues, OfFunctions, OfOthers, function_tree, defined_tree}
 use Rattle.comp_trees.specs.DefinedScopes.{type_tree}
-use Rattle.comp_trees.specs.Inventories.{Inventory, OfInstances, FunctionEntry, InstanceEntry, ImportedInstance, OtherInstance, entry_tree, no_type, no_function, type_of_instance, function_of_instance, instance_imported, types_made, functions_made, instances_made, imports_made, surroundings_of, inventory, scope_of}
+use Rattle.comp_trees.specs.Inventories.{Inventory, OfInstances, InstanceEntry, ImportedInstance, OtherInstance, entry_tree, no_type, type_of_instance, function_of_instance, instance_imported, types_made, functions_made, instances_made, imports_made, surroundings_of, inventory, scope_of}
 use Rattle.comp_trees.specs.Members.{AreMembersRight}
 use Rattle.comp_terms.specs.Generated.{shims_number, fixup_number}
 use Rattle.comp_terms.specs.Terms.{IsInstanceOf, imports_in}
@@ -63,14 +56,11 @@ use Rattle.core_types.specs.declared.types.ValType.TheVariants.{I32}
 use Rattle.core_runs.specs.Store.{Opaque, Answer, Gives, Traps, Event, Instantiated, Now, Cell, Foreign}
 use Rattle.core_runs.specs.Execution.{answered, seen, renewed}
 use Rattle.comp_runs.specs.Store.{Thing, Export, HeldOption, HeldEncoding, HeldMemory, HeldRealloc, HeldPostReturn, HeldAsync, HeldCallback, CoreItem, Lowering, IntrinsicOf, Function, Imported, Lifting, TypeItem, TreeOf, ImportedResource, InstanceTypeOf, ModuleInstance, Store}
-use Rattle.comp_links.specs.Targets.{Main, TargetOption, Lifted}
-use Rattle.comp_links.specs.Links.{lift_options}
 use Rattle.comp_links.specs.Modules.{WorldModule}
 use Rattle.comp_roles.specs.declared.offered.ExternType.{ExternType}
 use Rattle.comp_roles.specs.declared.offered.ExternType.TheVariants as externs
 use Rattle.comp_roles.specs.declared.offered.ImportType.{ImportType}
-use Rattle.comp_terms.specs.Planned.{type_of_function, IsLiftFor}
-use Rattle.comp_terms.specs.Rules.{AliasesUser, AliasesShim, ExportsRequired, IsEntry, AreEntries, AliasesImported, HasFunctionType, HasResource, HasImportedFunction, IsOptionRight, IsLowerOptionRight, IsTypeRight}
+use Rattle.comp_terms.specs.Rules.{AliasesUser, AliasesShim, IsEntry, AreEntries, AliasesImported, HasFunctionType, HasResource, HasImportedFunction, IsOptionRight, IsLowerOptionRight, IsTypeRight}
 use Rattle.comp_runs.specs.Machine.{Scope, Machine, Outcome, Done, Trapped, Open, Stuck, with_some, address_at, is_of, export_named, all_some, resumed, with_opaque}
 use Rattle.comp_runs.specs.Instances.{matching, argument_for, type_kind, given_to, type_scope, known_function, type_item}
 use Rattle.comp_runs.specs.Signatures.{is_async, core_signature}
@@ -82,10 +72,11 @@ use Rattle.instance_laws.proofs.Members.{each_joined}
 use Rattle.instance_laws.proofs.Importing.{instance_type_made, import_runs, aliases_function, aliases_type}
 use Rattle.link_laws.specs.Composition.{GeneratedModules, at_root, item_instantiates}
 use Rattle.link_laws.specs.Linking.{module_meanings, LetsRun}
-use Rattle.link_laws.proofs.Zips.{all_some-self, mapped_some}
-use Rattle.link_laws.proofs.Stores.{IsOpaqueOf, IsUserItem, IsUserExport, IsUserInstance, ShimsAt, IsModuleInstance, IsNamedEntry, ExportsShims, MayHaveShims, ShimsKept, shims_same, MayHaveShims-kept, keeps_all, IsTypeAt, drop_core, Means, makes, IsTypeEntry, entry_of, IsFunctionEntry, IsInstanceThing, main_module, IsPlannedUser, IsLiftedFrom, IsLiftedExport, IsAliasedItem, IsHeldOption, IsHeldOption-kept, NumberedFrom, Agrees, Keeps, address_at-append, things_kept, keeps_store, keeps_type, keeps_function, keeps_opaque, keeps_core_instance, keeps_module, Means-kept, IsTypeEntry-kept, IsFunctionEntry-kept, IsInstanceThing-kept, IsPlannedUser-kept, IsLiftedExport-kept}
-use Rattle.link_laws.proofs.Given.{of_shims, module_there, address_there, all_held, scope_there, entry_there, held_there, type_there, instance_type_there, instance_there, function_at, imported_there, user_there, space_of_kind, offered_there, lift_there}
+use Rattle.link_laws.proofs.Zips.{all_some-self}
+use Rattle.link_laws.proofs.Stores.{IsOpaqueOf, IsUserItem, IsUserExport, IsUserInstance, ShimsAt, IsModuleInstance, IsNamedEntry, ExportsShims, MayHaveShims, IsTypeAt, drop_core, Means, makes, IsTypeEntry, entry_of, IsFunctionEntry, IsInstanceThing, main_module, IsPlannedUser, IsAliasedItem, IsHeldOption, NumberedFrom, Agrees, AreKeyExports}
+use Rattle.link_laws.proofs.Given.{of_shims, module_there, address_there, all_held, scope_there, entry_there, held_there, type_there, instance_type_there, instance_there, imported_there, user_there, space_of_kind, offered_there}
 use Rattle.link_laws.proofs.Plain.{only, IsFunctionImport, listed_main}
+use Rattle.link_laws.proofs.Kept.{ShimsKept, shims_same, MayHaveShims-kept, keeps_all, IsHeldOption-kept, Keeps, address_at-append, things_kept, keeps_store, keeps_type, keeps_function, keeps_opaque, keeps_core_instance, keeps_module, Means-kept, IsTypeEntry-kept, IsFunctionEntry-kept, IsInstanceThing-kept, IsPlannedUser-kept, AreKeyExports-kept}
 
 -- a list without generated modules
 abbrev pub no_modules : GeneratedModules
@@ -236,21 +227,6 @@ type_made scope (types.Defined t) h m e =
     ∙ ap (λ b. if b then Some (TreeOf (OfValues (defined_tree scope t))) else None) h
 type_made scope (types.Resource destructor) h m e = absurd h
 
--- the core export of a key is that of its name
-role_by_name : (w : ComponentWorld) (key : WorldKey) (name : List ℕ) → core_name_of w key ≡ Some name → core_name_of w (keys.Name (name_of_key key)) ≡ Some name
-role_by_name w (keys.Name text) name h = h
-role_by_name w (keys.Interface id) name h = cc
-
-exported_by_name : (w : ComponentWorld) (key : WorldKey) (name : List ℕ) (wit : WitFunction) → core_name_of w key ≡ Some name → root_function_at (items_of w).exports key ≡ Some wit →
-    root_function_at (items_of w).exports (keys.Name (name_of_key key)) ≡ Some wit
-exported_by_name w (keys.Name text) name wit e h = h
-exported_by_name w (keys.Interface id) name wit e h = absurd (none-some name e)
-
--- the options of a key are those of its name
-options_by_name : (w : ComponentWorld) (key : WorldKey) (name : List ℕ) → core_name_of w key ≡ Some name → lift_options w Main key ≡ lift_options w Main (keys.Name (name_of_key key))
-options_by_name w (keys.Name text) name h = refl
-options_by_name w (keys.Interface id) name h = absurd (none-some name h)
-
 -- what an option names doesn't depend on what a run changes
 held_same : (c : Scope) (s : Store) (now : Now) (o : CanonicalOption) → held (machine c s now) o ≡ held (machine c s no_answers) o
 held_same c s now options.Utf8 = refl
@@ -330,7 +306,7 @@ record FindsExport (w : ComponentWorld) (ds : List Def) (c : Scope) (s : Store) 
 
 module _ {w : ComponentWorld} {earlier : List Def} {c : Scope} {s : Store} (a : Agrees w earlier c s) (g : ℕ) (gen : GeneratedModules) where
   -- the types, functions and instances that this definition makes are those of this item
-  abbrev Makes : Def → Store → Thing → Type 0
+  abbrev pub Makes : Def → Store → Thing → Type 0
   Makes d s' t =
       AllZip (IsTypeEntry s') (types_made (inventory earlier) d) (filter (is_of spaces.Type) (t ∷ []))
       × AllZip (IsFunctionEntry s') (functions_made (inventory earlier) d) (filter (is_of spaces.Func) (t ∷ []))
@@ -340,13 +316,13 @@ module _ {w : ComponentWorld} {earlier : List Def} {c : Scope} {s : Store} (a : 
   pub agrees_with : (d : Def) (c' : Scope) (s' : Store) (t : Thing) (shims : Option ShimsAt) → ShimsKept a.shims shims → c'.items ≡ c.items ++ t ∷ [] → Keeps c.items c'.items s s' →
       Means w shims (earlier ++ d ∷ []) c'.items s' d t → Makes d s' t → NumberedFrom 0 (filter (is_of spaces.CoreModule) c'.items) (length s'.core_modules) →
       map (λ (u : ModuleInstance). u.module_number) s'.module_instances ≡ map (λ (u : ModuleInstance). u.module_number) s.module_instances ++ at_root item_instantiates d →
-      AllByRecursion (IsPlannedUser w shims s') s'.module_instances → MayHaveShims w s' (flat_map (at_root item_instantiates) earlier ++ at_root item_instantiates d) shims → map (λ (e : Export). e.name) c'.exports ≡ map (λ (e : Export). e.name) c.exports ++ def_export d → AllByRecursion (IsLiftedExport w s') c'.exports →
+      AllByRecursion (IsPlannedUser w shims s') s'.module_instances → MayHaveShims w s' (flat_map (at_root item_instantiates) earlier ++ at_root item_instantiates d) shims → map (λ (e : Export). e.name) c'.exports ≡ map (λ (e : Export). e.name) c.exports ++ def_export d → AreKeyExports w s' w.main_exports c'.exports →
       c'.imports ≡ imports_made (inventory earlier) d → Agrees w (earlier ++ d ∷ []) c' s'
   agrees_with d c' s' t shims same grew keeps means made modules instantiated served with_shims exports lifted imports =
       let before : List Def = filter makes earlier in
       let old : Inventory = inventory earlier in
       let Meaning : Def → Thing → Type 0 = Means w shims (earlier ++ d ∷ []) c'.items s' in
-      let kept : AllZip Meaning before c.items = AllZip-weaker (Means-kept w a.shims shims same earlier (earlier ++ d ∷ []) (λ index number i. instance_kept earlier d i) keeps) before c.items a.means in
+      let kept : AllZip Meaning before c.items = AllZip-weaker (Means-kept w a.shims shims same earlier (earlier ++ d ∷ []) (λ space index e i. IsAt-append (d ∷ []) i) keeps) before c.items a.means in
       let pushed : AllZip Meaning (before ++ d ∷ []) (c.items ++ t ∷ []) = AllZip-end Meaning before c.items d t kept means in
       let of : (space : Space) → filter (is_of space) c'.items ≡ filter (is_of space) c.items ++ filter (is_of space) (t ∷ []) = λ space. ap (filter (is_of space)) grew ∙ filter-append (is_of space) c.items (t ∷ []) in
       let more_types : AllZip (IsTypeEntry s') (old.types ++ types_made old d) (filter (is_of spaces.Type) c.items ++ filter (is_of spaces.Type) (t ∷ [])) =
@@ -374,7 +350,7 @@ module _ {w : ComponentWorld} {earlier : List Def} {c : Scope} {s : Store} (a : 
       }
 
   -- the shims after a definition that makes no instance
-  shims_beside : {b : List Thing} {s' : Store} → Keeps c.items b s s' → (more : List ℕ) → more ≡ [] → s'.module_instances ≡ s.module_instances → s'.code.tables ≡ s.code.tables →
+  pub shims_beside : {b : List Thing} {s' : Store} → Keeps c.items b s s' → (more : List ℕ) → more ≡ [] → s'.module_instances ≡ s.module_instances → s'.code.tables ≡ s.code.tables →
       MayHaveShims w s' (flat_map (at_root item_instantiates) earlier ++ more) a.shims
   shims_beside {b} {s'} keeps more none users tables =
       MayHaveShims-kept keeps w (flat_map (at_root item_instantiates) earlier) more a.shims (keeps_same tables) (λ yes. among more none yes) (λ yes. among more none yes)
@@ -388,7 +364,7 @@ module _ {w : ComponentWorld} {earlier : List Def} {c : Scope} {s : Store} (a : 
 
   -- The step of a definition that calls nothing outside, and is no module and no export: it makes this item, and there have
   -- been this many imports after it.
-  quiet_step : (d : Def) (count : ℕ) (s' : Store) (t : Thing) → ((rest : List Def) (now : Now) → run (module_meanings w gen) (d ∷ rest) (machine c s now) ≡ run (module_meanings w gen) rest (machine (with_thing c t count) s' now)) →
+  pub quiet_step : (d : Def) (count : ℕ) (s' : Store) (t : Thing) → ((rest : List Def) (now : Now) → run (module_meanings w gen) (d ∷ rest) (machine c s now) ≡ run (module_meanings w gen) rest (machine (with_thing c t count) s' now)) →
       Keeps c.items (c.items ++ t ∷ []) s s' → Means w a.shims (earlier ++ d ∷ []) (c.items ++ t ∷ []) s' d t → Makes d s' t → is_of spaces.CoreModule t ≡ false → s'.core_modules ≡ s.core_modules → s'.module_instances ≡ s.module_instances →
       s'.code.tables ≡ s.code.tables → at_root item_instantiates d ≡ [] → def_export d ≡ [] → count ≡ imports_made (inventory earlier) d → Steps w gen earlier c s g d
   quiet_step d count s' t same keeps means made other modules users tables none no_export imports = (
@@ -402,7 +378,7 @@ module _ {w : ComponentWorld} {earlier : List Def} {c : Scope} {s : Store} (a : 
         (subst (AllByRecursion (IsPlannedUser w a.shims s')) (sym users) (AllByRecursion-weaker (IsPlannedUser-kept w keeps a.shims a.shims (shims_same a.shims)) s.module_instances a.served))
         (shims_beside keeps (at_root item_instantiates d) none users tables)
         (rw no_export (sym (append-nil (map (λ (e : Export). e.name) c.exports))))
-        (AllByRecursion-weaker (IsLiftedExport-kept w keeps) c.exports a.lifted)
+        (AreKeyExports-kept w keeps w.main_exports c.exports a.lifted)
         imports,
   )
 
@@ -478,6 +454,7 @@ module _ {w : ComponentWorld} {earlier : List Def} {c : Scope} {s : Store} (a : 
         core_instances = keeps_same refl;
         functions = keeps_grown s.functions r.functions r.more_functions r.functions_grew;
         types = keeps_grown s.types r.types r.more_types r.types_grew;
+        components = keeps_same refl;
         instances = keeps_more s.instances (r.exports ∷ []);
         users = keeps_same refl;
       } in
@@ -691,44 +668,6 @@ module _ {w : ComponentWorld} {earlier : List Def} {c : Scope} {s : Store} (a : 
   step_alias ok kinds.Global instance name (inl h) = absurd h.of_kind
   step_alias ok kinds.Global instance name (inr h) = let no = h.function in cc
 
-  pub step_export : IsWorld w → (name : ExternName) (index : ℕ) → ExportsRequired w earlier name index → Steps w gen earlier c s g (defs.Item (items.Export name sorts.Func index None))
-  step_export ok name index h =
-      let d : Def = defs.Item (items.Export name sorts.Func index None) in
-      let lifted_with : List TargetOption = lift_options w Main h.key in
-      let core : (core : List ℕ) × (core_name_of w h.key ≡ Some core) × (Lifted (record { of = Main; name = core }) lifted_with ≡ h.target) =
-      mapped_some (λ core. Lifted (record { of = Main; name = core }) lifted_with) (core_name_of w h.key) h.target h.said in
-      let type : FunctionTree = type_of_function w h.wit in
-      let lifting : IsLiftFor w earlier index (Lifted (record { of = Main; name = core.0 }) lifted_with) type = subst (λ target. IsLiftFor w earlier index target type) (sym core.2) h.lifted in
-      let f : (x : ℕ) × (address_at spaces.Func index c.items ≡ Some x) × IsLiftedFrom w s x core.0 lifted_with type = lift_there a ok core.0 lifted_with type lifting in
-      let t : Thing = record { space = spaces.Func; address = f.0 } in
-      let x : Export = record { space = spaces.Func; name = name.name; address = f.0 } in
-      let c' : Scope = record c { items = c.items ++ t ∷ []; exports = c.exports ++ x ∷ [] } in
-      let k : Keeps c.items (c.items ++ t ∷ []) s s = keeps_store c.items t s in
-      let own : (e : FunctionEntry) × IsFunctionEntry s e t × (get_or (inventory earlier).functions index no_function ≡ e) = function_at a index f.0 f.1 in
-      let text : name.name ≡ name_of_key h.key = ap (λ (n : ExternName). n.name) h.named in (
-        c',
-        s,
-        g,
-        quiet w gen d c s g c' s refl (λ rest now. rw f.1 refl),
-        agrees_with d c' s t a.shims (shims_same a.shims) refl k
-            (record { space = refl; is = tt })
-            (tt, (record { function = own.1.function; present = own.1.present; same = own.1.same ∙ sym own.2 }, tt), tt)
-            (rw (filter-push (is_of spaces.CoreModule) false c.items t refl) a.modules)
-            (sym (append-nil (map (λ (u : ModuleInstance). u.module_number) s.module_instances)))
-            (AllByRecursion-weaker (IsPlannedUser-kept w k a.shims a.shims (shims_same a.shims)) s.module_instances a.served)
-            (shims_beside k [] refl refl refl)
-            (map-append (λ (e : Export). e.name) c.exports (x ∷ []))
-            (AllByRecursion-push (IsLiftedExport w s) c.exports x a.lifted (record {
-              name = core.0;
-              wit = h.wit;
-              space = refl;
-              role = ap (λ t. core_name_of w (keys.Name t)) text ∙ role_by_name w h.key core.0 core.1;
-              exported = ap (λ t. root_function_at (items_of w).exports (keys.Name t)) text ∙ exported_by_name w h.key core.0 h.wit core.1 h.exported;
-              is = subst (λ os. IsLiftedFrom w s f.0 core.0 os type) (options_by_name w h.key core.0 core.1 ∙ ap (λ t. lift_options w Main (keys.Name t)) (sym text)) f.2;
-            }))
-            a.imports,
-      )
-
   pub step_module : (bytes : List ℕ) → Steps w gen earlier c s g (defs.Item (items.CoreModule bytes))
   step_module bytes =
       let d : Def = defs.Item (items.CoreModule bytes) in
@@ -745,7 +684,7 @@ module _ {w : ComponentWorld} {earlier : List Def} {c : Scope} {s : Store} (a : 
             (AllByRecursion-weaker (IsPlannedUser-kept w k a.shims a.shims (shims_same a.shims)) s.module_instances a.served)
             (shims_beside k [] refl refl refl)
             (sym (append-nil (map (λ (e : Export). e.name) c.exports)))
-            (AllByRecursion-weaker (IsLiftedExport-kept w k) c.exports a.lifted)
+            (AreKeyExports-kept w k w.main_exports c.exports a.lifted)
             a.imports,
       )
 
@@ -761,7 +700,7 @@ module _ {w : ComponentWorld} {earlier : List Def} {c : Scope} {s : Store} (a : 
         record {
           shims = a.shims;
           means = subst (λ ds. AllZip (Means w a.shims (earlier ++ d ∷ []) c.items s) ds c.items) (sym same)
-              (AllZip-weaker (Means-kept w a.shims a.shims (shims_same a.shims) earlier (earlier ++ d ∷ []) (λ index number i. instance_kept earlier d i) (keeps_all c.items s)) (filter makes earlier) c.items a.means);
+              (AllZip-weaker (Means-kept w a.shims a.shims (shims_same a.shims) earlier (earlier ++ d ∷ []) (λ space index e i. IsAt-append (d ∷ []) i) (keeps_all c.items s)) (filter makes earlier) c.items a.means);
           types = subst (λ (v : Inventory). AllZip (IsTypeEntry s) v.types (filter (is_of spaces.Type) c.items)) (sym (inventory-push earlier d))
               (subst (λ es. AllZip (IsTypeEntry s) es (filter (is_of spaces.Type) c.items)) (sym (append-nil old.types)) a.types);
           functions = subst (λ (v : Inventory). AllZip (IsFunctionEntry s) v.functions (filter (is_of spaces.Func) c.items)) (sym (inventory-push earlier d))

@@ -1,11 +1,8 @@
 -- What the items of a run are, next to the definitions that made them.
-use Rattle.std.proofs.Common.{None, ◌≡◌, ◌<◌, ◌^◌, ◌+◌, ◌⊎◌, inl, inr, ℕ, suc, Option, Bool, List, [], ◌∷◌, ◌++◌, length, map, filter, refl, sym, subst, ap, Some, is_some}
-use Rattle.std.proofs.lemmas.List.Elements.{filter-append}
+use Rattle.std.proofs.Common.{None, ◌≡◌, ◌<◌, ◌^◌, ◌+◌, ◌⊎◌, ℕ, suc, Option, Bool, List, [], ◌∷◌, length, map, filter, Some, is_some}
 use Rattle.std.specs.Prelude.{Contains}
 use Rattle.std.specs.List.{slice_get, flat_map, AllZip, AllByRecursion}
-use Rattle.comp_lists.proofs.Lists.{slice_get-append, AllZip-weaker}
-use Rattle.comp_bytes.specs.Spaces.{kind_space, space_of}
-use Rattle.comp_bytes.specs.declared.space.Space.{Space}
+use Rattle.comp_bytes.specs.Spaces.{kind_space, space_of, sort_space}
 use Rattle.comp_bytes.specs.declared.space.Space.TheVariants as spaces
 use Rattle.standard_kinds.specs.declared.kinds.ExportKind.{ExportKind}
 use Rattle.standard_kinds.specs.declared.kinds.StringEncoding.TheVariants as encodings
@@ -22,25 +19,24 @@ use Rattle.comp_bytes.specs.declared.def.Item.TheVariants as items
 use Rattle.comp_bytes.specs.declared.def.Def.{Def}
 use Rattle.comp_bytes.specs.declared.def.Def.TheVariants as defs
 use Rattle.comp_bytes.specs.ScopeNames.{def_export}
+use Rattle.comp_bytes.specs.ItemIndices.{IsAt}
+use Rattle.comp_bytes.specs.declared.def.Argument.{Argument}
 use Rattle.core_types.specs.declared.types.FuncType.{FuncType}
 use Rattle.core_types.specs.declared.types.ValType.TheVariants.{I32}
 use Rattle.comp_trees.specs.Trees.{Origin, Resource, ResourceAt, FunctionTree}
-use Rattle.comp_trees.specs.DefinedTrees.{OfValues, OfFunctions}
+use Rattle.comp_trees.specs.DefinedTrees.{OfValues, OfFunctions, TypeTree}
 use Rattle.comp_trees.specs.Inventories.{TypeEntry, Denoting, OfInstances, FunctionEntry, InstanceEntry, entry_tree, inventory}
 use Rattle.comp_roles.specs.CoreTypes.{function_type}
 use Rattle.comp_roles.specs.declared.offered.ExternType.{ExternType}
 use Rattle.comp_roles.specs.declared.offered.ExternType.TheVariants as externs
 use Rattle.comp_roles.specs.declared.imports.Import.{Import}
 use Rattle.comp_roles.specs.declared.offered.ImportType.{ImportType}
-use Rattle.wit_data.specs.declared.functions.Function.{Function as WitFunction}
-use Rattle.wit_data.specs.declared.worlds.WorldKey.TheVariants as keys
-use Rattle.world_values.specs.Items.{root_function_at}
-use Rattle.comp_worlds.specs.WorldContents.{items_of, core_name_of}
+use Rattle.comp_worlds.specs.WorldContents.{core_name_of, exported_item, function_exported}
 use Rattle.comp_worlds.specs.declared.world.ComponentWorld.{ComponentWorld}
 use Rattle.comp_links.specs.Targets.{Main, ExportRef, WorldFunction, TargetOption, Target, Lowered, Dropped}
 use Rattle.comp_links.specs.Targets as targets
 use Rattle.comp_links.specs.Modules.{WorldModule}
-use Rattle.comp_links.specs.Lists.{IsOriginOf, resource_of}
+use Rattle.comp_links.specs.Lists.{IsOriginOf, resource_of, RequiredKey, RequiredFunction, functions_required}
 use Rattle.comp_links.specs.Links.{lift_options, link_of, link_at}
 use Rattle.shim_plan.specs.declared.shims.Shim.{Shim}
 use Rattle.world_shims.specs.WorldShims.{shims_of}
@@ -51,18 +47,19 @@ use Rattle.comp_terms.specs.Planned.{IsTypeOf, type_of_function}
 use Rattle.comp_terms.specs.Rules.{IsOfKind}
 use Rattle.core_runs.specs.Store.{Opaque}
 use Rattle.core_runs.specs.Instances.{empty_table}
-use Rattle.comp_runs.specs.Store.{Thing, Export, HeldOption, HeldEncoding, HeldMemory, HeldRealloc, HeldPostReturn, HeldAsync, HeldCallback, CoreItem, Lowering, IntrinsicOf, ExportedBy, Function, Imported, Lifting, TypeItem, TreeOf, item_tree, ModuleInstance, Store}
+use Rattle.comp_runs.specs.Store.{Thing, Export, HeldOption, HeldEncoding, HeldMemory, HeldRealloc, HeldPostReturn, HeldAsync, HeldCallback, CoreItem, Lowering, IntrinsicOf, ExportedBy, Function, Imported, Lifting, TypeItem, TreeOf, item_tree, ModuleInstance, Store, ComponentItem}
 use Rattle.comp_runs.specs.Instances.{type_space}
-use Rattle.comp_runs.specs.Machine.{Scope, address_at, is_of, export_named, export_of, with_opaque}
+use Rattle.comp_runs.specs.Machine.{Scope, address_at, is_of, export_named, export_of}
 use Rattle.comp_runs.specs.Signatures.{core_signature}
 use Rattle.instance_laws.specs.Instantiated.{IsHeldAs}
 use Rattle.instance_laws.specs.InstanceEntries.{IsInstanceType, IsInstanceEntry}
-use Rattle.instance_laws.proofs.Held.{KeepsEntries, keeps_same, keeps_more, IsHeldAs-kept}
-use Rattle.instance_laws.proofs.Importing.{IsInstanceType-kept, IsInstanceEntry-kept}
-use Rattle.std.proofs.lemmas.List.Elements.{Contains-append_left}
-use Rattle.shim_runs.proofs.Placed.{shims_kept}
+use Rattle.nested_terms.specs.Nested.{empty_scope, exports_after}
+use Rattle.nested_laws.specs.NestedRuns.{AreNestedExports}
 use Rattle.link_laws.specs.Composition.{at_root, item_instantiates}
-use Rattle.link_laws.proofs.Zips.{mapped_some}
+use Rattle.wit_data.specs.declared.functions.Function.{Function as WitFunction}
+use Rattle.wit_data.specs.declared.worlds.WorldKey.{WorldKey}
+use Rattle.wit_data.specs.declared.worlds.WorldItem.{WorldItem}
+use Rattle.wit_data.specs.declared.worlds.WorldItem.TheVariants as world_items
 
 -- the core function at this address is opaque, of this core type, and is this item
 pub record IsOpaqueOf (s : Store) (address : ℕ) (type : FuncType) (item : CoreItem) : Type 0 where
@@ -198,6 +195,29 @@ pub record IsAliasedItem (w : ComponentWorld) (ds : List Def) (things : List Thi
   pub found : export_named name exports ≡ Some export
   pub is : export.address ≡ address
 
+-- a nested component with these definitions
+pub record IsComponentHeld (s : Store) (definitions : List Item) (address : ℕ) : Type 0 where
+  pub component : ComponentItem
+  pub present : slice_get s.components address ≡ Some component
+  pub same : component.definitions ≡ definitions
+
+-- an argument of a nested component, with the address of what it names
+pub record IsArgumentHeld (things : List Thing) (a : Argument) (x : Export) : Type 0 where
+  pub named : x.name ≡ a.name
+  pub space : x.space ≡ sort_space a.sort
+  pub at : address_at (sort_space a.sort) a.index things ≡ Some x.address
+
+-- an instance of the nested component at this index, with these arguments: it exports what the component's definitions say
+pub record IsNestedInstance (ds : List Def) (things : List Thing) (s : Store) (component : ℕ) (written : List Argument) (address : ℕ) : Type 0 where
+  pub definitions : List Item
+  pub given : List ℕ → TypeTree
+  pub arguments : List Export
+  pub exports : List Export
+  pub made : IsAt ds spaces.Component component (defs.Component definitions)
+  pub held : AllZip (IsArgumentHeld things) written arguments
+  pub present : slice_get s.instances address ≡ Some exports
+  pub each : AreNestedExports s.types arguments (exports_after given empty_scope definitions) exports
+
 -- What is at the address of a definition's item. What types and functions are, the inventory of the list says.
 module _ (w : ComponentWorld) (shims : Option ShimsAt) (ds : List Def) (things : List Thing) (s : Store) where
   abbrev pub ItemIs : Item → ℕ → Type 0
@@ -207,11 +227,12 @@ module _ (w : ComponentWorld) (shims : Option ShimsAt) (ds : List Def) (things :
   ItemIs (items.Lift core options kind) a = IsLiftedItem things s core options kind a
   ItemIs (items.Lower function options) a = IsLoweredItem things s function options a
   ItemIs (items.Intrinsic (intrinsics.ResourceDrop type)) a = IsDropItem things s type a
+  ItemIs (items.Instantiate component arguments) a = IsNestedInstance ds things s component arguments a
   ItemIs _ a = Unit {0}
 
   abbrev pub DefIs : Def → ℕ → Type 0
   DefIs (defs.Item i) a = ItemIs i a
-  DefIs (defs.Component inner) a = Unit {0}
+  DefIs (defs.Component inner) a = IsComponentHeld s inner a
 
   -- the item of a definition
   pub record Means (d : Def) (t : Thing) : Type 0 where
@@ -401,14 +422,55 @@ pub record IsCoreExportAt (things : List Thing) (s : Store) (index : ℕ) (e : C
   pub is : export.address ≡ address
   pub item : IsUserItem s user export type
 
--- the export is a lift of the core export that has its role, with the type of the world's function
-pub record IsLiftedExport (w : ComponentWorld) (s : Store) (e : Export) : Type 0 where
+-- ---- what the component exports
+
+-- what is required of main: the item at a key, and a function of it
+abbrev pub main_key : WorldKey → RequiredKey
+main_key key = record { of = Main; key = key }
+
+abbrev pub main_function : WorldKey → List ℕ → RequiredFunction
+main_function key name = record { of = Main; key = key; function = name }
+
+-- the function is the lift of what implements a required function, with the type of the world's function
+pub record IsRequiredAt (w : ComponentWorld) (s : Store) (r : RequiredFunction) (address : ℕ) : Type 0 where
   pub name : List ℕ
   pub wit : WitFunction
+  pub role : core_name_of w r.key r.function ≡ Some name
+  pub exported : function_exported w r.key r.function ≡ Some wit
+  pub is : IsLiftedFrom w s address name (lift_options w r) (type_of_function w wit)
+
+-- the export is one; or is an instance that exports one for each of these functions, under its name
+pub record IsFunctionExport (w : ComponentWorld) (s : Store) (r : RequiredFunction) (e : Export) : Type 0 where
   pub space : e.space ≡ spaces.Func
-  pub role : core_name_of w (keys.Name e.name) ≡ Some name
-  pub exported : root_function_at (items_of w).exports (keys.Name e.name) ≡ Some wit
-  pub is : IsLiftedFrom w s e.address name (lift_options w Main (keys.Name e.name)) (type_of_function w wit)
+  pub is : IsRequiredAt w s r e.address
+
+pub record IsAmong (w : ComponentWorld) (s : Store) (exports : List Export) (r : RequiredFunction) : Type 0 where
+  pub address : ℕ
+  pub found : export_of spaces.Func r.function exports ≡ Some (record { space = spaces.Func; name = r.function; address = address })
+  pub is : IsRequiredAt w s r address
+
+pub record IsInterfaceExport (w : ComponentWorld) (s : Store) (required : List RequiredFunction) (e : Export) : Type 0 where
+  pub space : e.space ≡ spaces.Instance
+  pub exports : List Export
+  pub present : slice_get s.instances e.address ≡ Some exports
+  pub each : AllByRecursion (IsAmong w s exports) required
+
+-- the export is what the world exports at a key
+abbrev pub IsItemExport : ComponentWorld → Store → WorldKey → Export → Option WorldItem → Type 0
+IsItemExport w s key e (Some (world_items.Function f)) = IsFunctionExport w s (main_function key f.name) e
+IsItemExport w s key e (Some (world_items.Interface id)) = IsInterfaceExport w s (functions_required w (main_key key)) e
+IsItemExport w s key e item = ⊥
+
+abbrev pub IsKeyExport : ComponentWorld → Store → WorldKey → Export → Type 0
+IsKeyExport w s key e = IsItemExport w s key e (exported_item w key)
+
+-- each is what the world exports at the key of the same place
+abbrev pub AreKeyExports : ComponentWorld → Store → List WorldKey → List Export → Type 0
+AreKeyExports w s keys [] = Unit {0}
+AreKeyExports w s [] (e ∷ es) = ⊥
+AreKeyExports w s (key ∷ keys) (e ∷ es) = IsKeyExport w s key e × AreKeyExports w s keys es
+
+-- ---- the run so far
 
 -- the items of this kind have consecutive addresses from this number on
 abbrev pub NumberedFrom : ℕ → List Thing → ℕ → Type 0
@@ -427,318 +489,5 @@ pub record Agrees (w : ComponentWorld) (earlier : List Def) (c : Scope) (s : Sto
   pub served : AllByRecursion (IsPlannedUser w shims s) s.module_instances
   pub with_shims : MayHaveShims w s (flat_map (at_root item_instantiates) earlier) shims
   pub exports : map (λ (e : Export). e.name) c.exports ≡ flat_map def_export earlier
-  pub lifted : AllByRecursion (IsLiftedExport w s) c.exports
+  pub lifted : AreKeyExports w s w.main_exports c.exports
   pub imports : c.imports ≡ imports_in earlier
-
--- every entry of the old scope and store is unchanged in the new ones
-pub record Keeps (a b : List Thing) (s t : Store) : Type 0 where
-  pub things : (space : Space) (i x : ℕ) → address_at space i a ≡ Some x → address_at space i b ≡ Some x
-  pub code : KeepsEntries s.code.functions t.code.functions
-  pub known : KeepsEntries s.known t.known
-  pub core_instances : KeepsEntries s.core_instances t.core_instances
-  pub functions : KeepsEntries s.functions t.functions
-  pub types : KeepsEntries s.types t.types
-  pub instances : KeepsEntries s.instances t.instances
-  pub users : KeepsEntries s.module_instances t.module_instances
-
--- the items of a scope that grew
-pub address_at-append : (a more : List Thing) (space : Space) (i x : ℕ) → address_at space i a ≡ Some x → address_at space i (a ++ more) ≡ Some x
-address_at-append a more space i x e =
-    let m : (t : Thing) × (slice_get (filter (is_of space) a) i ≡ Some t) × (t.address ≡ x) = mapped_some (λ (t : Thing). t.address) (slice_get (filter (is_of space) a) i) x e in
-    rw (filter-append (is_of space) a more, slice_get-append (filter (is_of space) a) (filter (is_of space) more) i m.0 m.1) (ap (λ (n : ℕ). Some n) m.2)
-
--- all stays as it is
-pub keeps_all : (items : List Thing) (s : Store) → Keeps items items s s
-keeps_all items s = record {
-  things = λ space i x e. e;
-  code = keeps_same refl;
-  known = keeps_same refl;
-  core_instances = keeps_same refl;
-  functions = keeps_same refl;
-  types = keeps_same refl;
-  instances = keeps_same refl;
-  users = keeps_same refl;
-}
-
--- ---- a scope with one item more, and a store with at most one entry more
-
-module _ (items : List Thing) (t : Thing) (s : Store) where
-  pub things_kept : (space : Space) (i x : ℕ) → address_at space i items ≡ Some x → address_at space i (items ++ t ∷ []) ≡ Some x
-  things_kept space i x e = address_at-append items (t ∷ []) space i x e
-
-  pub keeps_store : Keeps items (items ++ t ∷ []) s s
-  keeps_store = record {
-    things = things_kept;
-    code = keeps_same refl;
-    known = keeps_same refl;
-    core_instances = keeps_same refl;
-    functions = keeps_same refl;
-    types = keeps_same refl;
-    instances = keeps_same refl;
-    users = keeps_same refl;
-  }
-
-  pub keeps_type : (item : TypeItem) → Keeps items (items ++ t ∷ []) s (record s { types = s.types ++ item ∷ [] })
-  keeps_type item = record {
-    things = things_kept;
-    code = keeps_same refl;
-    known = keeps_same refl;
-    core_instances = keeps_same refl;
-    functions = keeps_same refl;
-    types = keeps_more s.types (item ∷ []);
-    instances = keeps_same refl;
-    users = keeps_same refl;
-  }
-
-  pub keeps_function : (f : Function) → Keeps items (items ++ t ∷ []) s (record s { functions = s.functions ++ f ∷ [] })
-  keeps_function f = record {
-    things = things_kept;
-    code = keeps_same refl;
-    known = keeps_same refl;
-    core_instances = keeps_same refl;
-    functions = keeps_more s.functions (f ∷ []);
-    types = keeps_same refl;
-    instances = keeps_same refl;
-    users = keeps_same refl;
-  }
-
-  pub keeps_opaque : (item : CoreItem) (type : FuncType) → Keeps items (items ++ t ∷ []) s (with_opaque item type s)
-  keeps_opaque item type = record {
-    things = things_kept;
-    code = keeps_more s.code.functions (Opaque (length s.known) type ∷ []);
-    known = keeps_more s.known (item ∷ []);
-    core_instances = keeps_same refl;
-    functions = keeps_same refl;
-    types = keeps_same refl;
-    instances = keeps_same refl;
-    users = keeps_same refl;
-  }
-
-  pub keeps_core_instance : (es : List Export) → Keeps items (items ++ t ∷ []) s (record s { core_instances = s.core_instances ++ es ∷ [] })
-  keeps_core_instance es = record {
-    things = things_kept;
-    code = keeps_same refl;
-    known = keeps_same refl;
-    core_instances = keeps_more s.core_instances (es ∷ []);
-    functions = keeps_same refl;
-    types = keeps_same refl;
-    instances = keeps_same refl;
-    users = keeps_same refl;
-  }
-
-  pub keeps_module : (bytes : List ℕ) → Keeps items (items ++ t ∷ []) s (record s { core_modules = s.core_modules ++ bytes ∷ [] })
-  keeps_module bytes = record {
-    things = things_kept;
-    code = keeps_same refl;
-    known = keeps_same refl;
-    core_instances = keeps_same refl;
-    functions = keeps_same refl;
-    types = keeps_same refl;
-    instances = keeps_same refl;
-    users = keeps_same refl;
-  }
-
--- ---- what is kept
-
--- the shims are where they were, or there were none
-abbrev pub ShimsKept : Option ShimsAt → Option ShimsAt → Type 0
-ShimsKept None new = Unit {0}
-ShimsKept (Some at) new = new ≡ Some at
-
-pub shims_same : (shims : Option ShimsAt) → ShimsKept shims shims
-shims_same None = tt
-shims_same (Some at) = refl
-
-IsShimGiven-kept : (w : ComponentWorld) (old new : Option ShimsAt) → ShimsKept old new → (address : ℕ) (role : Import) → IsShimGiven w old address role → IsShimGiven w new address role
-IsShimGiven-kept w None new same address role h = absurd h
-IsShimGiven-kept w (Some at) new same address role h = subst (λ o. IsShimGiven w o address role) (sym same) h
-
-shim_exports-kept : (w : ComponentWorld) (old new : Option ShimsAt) → ShimsKept old new → (number : ℕ) (exports : List Export) → AreShimExports w old number exports → AreShimExports w new number exports
-shim_exports-kept w None new same number exports h = absurd h
-shim_exports-kept w (Some at) new same number exports h = subst (λ o. AreShimExports w o number exports) (sym same) h
-
-module _ {a b : List Thing} {s t : Store} (k : Keeps a b s t) where
-  pub IsInstance-kept : {user number : ℕ} → IsInstance s user number → IsInstance t user number
-  IsInstance-kept {user} h = record { instance = h.instance; present = k.users.at user h.instance h.present; of = h.of }
-
-  pub IsOpaque-kept : {address : ℕ} {type : FuncType} {item : CoreItem} → IsOpaqueOf s address type item → IsOpaqueOf t address type item
-  IsOpaque-kept {address} {type} {item} h =
-      record { what = h.what; present = k.code.at address (Opaque h.what type) h.present; known = k.known.at h.what item h.known }
-
-  IsEntryItem-kept : (e : TypeEntry) (item : TypeItem) → IsEntryItem s.types e item → IsEntryItem t.types e item
-  IsEntryItem-kept (Denoting tree) item h = tt
-  IsEntryItem-kept (OfInstances outer members) item h = IsInstanceType-kept k.types outer members item h
-
-  pub IsTypeEntry-kept : (e : TypeEntry) (x : Thing) → IsTypeEntry s e x → IsTypeEntry t e x
-  IsTypeEntry-kept e x h = record { item = h.item; present = k.types.at x.address h.item h.present; denotes = h.denotes; is = IsEntryItem-kept e h.item h.is }
-
-  pub IsInstanceThing-kept : (e : InstanceEntry) (x : Thing) → IsInstanceThing s e x → IsInstanceThing t e x
-  IsInstanceThing-kept e x h = record { exports = h.exports; present = k.instances.at x.address h.exports h.present; is = IsInstanceEntry-kept k.types k.functions e h.exports h.is }
-
-  pub IsFunctionEntry-kept : (e : FunctionEntry) (x : Thing) → IsFunctionEntry s e x → IsFunctionEntry t e x
-  IsFunctionEntry-kept e x h = record { function = h.function; present = k.functions.at x.address h.function h.present; same = h.same }
-
-  IsTypeAt-kept : (kind : ℕ) (type : FunctionTree) → IsTypeAt a s kind type → IsTypeAt b t kind type
-  IsTypeAt-kept kind type h = record { address = h.address; at = k.things spaces.Type kind h.address h.at; is = k.types.at h.address (TreeOf (OfFunctions type)) h.is }
-
-  item_of_user-kept : (user : ℕ) (e : Export) (type : ExternType) → IsUserItem s user e type → IsUserItem t user e type
-  item_of_user-kept user e (externs.Func type) h = IsOpaque-kept h
-  item_of_user-kept user e type h = tt
-
-  exports-kept : (user : ℕ) (e : Export) (found : List ℕ × ExternType) → IsUserExport s user e found → IsUserExport t user e found
-  exports-kept user e found h = record { named = h.named; space = h.space; is = item_of_user-kept user e found.1 h.is }
-
-  entry-kept : (e : CoreInlineExport) (x : Export) → IsNamedEntry a e x → IsNamedEntry b e x
-  entry-kept e x h = record { named = h.named; space = h.space; at = k.things (kind_space e.kind) e.index x.address h.at }
-
-  IsLoweringOf-kept : (address : ℕ) (origin : Origin) (type : FunctionTree) (held : List HeldOption) → IsLoweringOf s address origin type held → IsLoweringOf t address origin type held
-  IsLoweringOf-kept address origin type held h = record { of = h.of; is = IsOpaque-kept h.is; imported = k.functions.at h.of (Imported origin type) h.imported }
-
-  pub IsMainExport-kept : {address : ℕ} {name : List ℕ} → IsMainExport s address name → IsMainExport t address name
-  IsMainExport-kept {address} {name} h = record { user = h.user; type = h.type; is = IsOpaque-kept h.is; of = IsInstance-kept h.of }
-
-  IsFirstMemory-kept : (w : ComponentWorld) (address : ℕ) → IsFirstMemory w s address → IsFirstMemory w t address
-  IsFirstMemory-kept w address h = record { name = h.name; type = h.type; first = h.first; is = record { user = h.is.user; instance = h.is.instance; present = k.users.at h.is.user h.is.instance h.is.present; of = h.is.of; exported = h.is.exported } }
-
-  IsOptionFunction-kept : {address : ℕ} {export_ref : ExportRef} → IsOptionFunction s address export_ref → IsOptionFunction t address export_ref
-  IsOptionFunction-kept h = record { of = h.of; is = IsMainExport-kept h.is }
-
-  IsOptionHeld-kept : (w : ComponentWorld) (held : HeldOption) (o : TargetOption) → IsOptionHeld w s held o → IsOptionHeld w t held o
-  IsOptionHeld-kept w (HeldMemory a) targets.Memory h = IsFirstMemory-kept w a h
-  IsOptionHeld-kept w (HeldRealloc a) (targets.Realloc export_ref) h = IsOptionFunction-kept h
-  IsOptionHeld-kept w (HeldPostReturn a) (targets.PostReturn export_ref) h = IsOptionFunction-kept h
-  IsOptionHeld-kept w (HeldCallback a) (targets.Callback export_ref) h = IsOptionFunction-kept h
-  IsOptionHeld-kept w held o h = h
-
-  pub IsServedAs-kept : (w : ComponentWorld) (address : ℕ) (target : Target) → IsServedAs w s address target → IsServedAs w t address target
-  IsServedAs-kept w address (Lowered function options) h = record {
-    origin = h.origin;
-    type = h.type;
-    held = h.held;
-    from = h.from;
-    typed = h.typed;
-    lowered = IsLoweringOf-kept address h.origin h.type h.held h.lowered;
-    with_options = AllZip-weaker (IsOptionHeld-kept w) h.held options h.with_options;
-  }
-  IsServedAs-kept w address (Dropped id) h = record { of = h.of; is = IsOpaque-kept h.is; held = IsHeldAs-kept k.types (OfValues (ResourceAt (resource_of w id))) h.of h.held }
-  IsServedAs-kept w address target h = absurd h
-
-  Serves-kept : (w : ComponentWorld) (old new : Option ShimsAt) → ShimsKept old new → (address : ℕ) (role : Import) → Serves w old s address role → Serves w new t address role
-  Serves-kept w old new same address role (inl h) = inl (IsServedAs-kept w address (link_of w Main role) h)
-  Serves-kept w old new same address role (inr h) = inr (IsShimGiven-kept w old new same address role h)
-
-  pub IsPlanned-kept : (w : ComponentWorld) (old new : Option ShimsAt) → ShimsKept old new → (x : Thing) (i : ImportType) → IsPlanned w old s x i → IsPlanned w new t x i
-  IsPlanned-kept w old new same x i h = record { role = h.role; said = h.said; space = h.space; serves = Serves-kept w old new same x.address h.role h.serves }
-
-  pub IsFilledWith-kept : (w : ComponentWorld) (shim : Shim) (function : ℕ) → IsFilledWith w s shim function → IsFilledWith w t shim function
-  IsFilledWith-kept w shim function h = record { role = h.role; stands_for = h.stands_for; serves = IsServedAs-kept w function (link_of w Main h.role) h.serves }
-
-  -- the shims, where the tables are kept too, and no instance is new but those of modules of other numbers
-  pub AreShims-kept : (w : ComponentWorld) (numbers more : List ℕ) (at : ShimsAt) → KeepsEntries s.code.tables t.code.tables → (Contains (numbers ++ more) (fixup_number w) → Contains numbers (fixup_number w)) →
-      AllByRecursion (ExportsShims w at) t.module_instances → AreShims w s numbers at → AreShims w t (numbers ++ more) at
-  AreShims-kept w numbers more at tables no_fixup exported h = record {
-    there = Contains-append_left numbers more (shims_number w) h.there;
-    room = h.room;
-    made = shims_kept s.code t.code k.code.at at.table 0 at.address (shims_of w) h.made;
-    exported = exported;
-    unfilled = λ no. tables.at at.table (empty_table (length (shims_of w))) (h.unfilled (λ yes. no (Contains-append_left numbers more (fixup_number w) yes)));
-    filled = λ yes.
-        let f : AreFilled w s at.table = h.filled (no_fixup yes) in
-        record { functions = f.functions; slots = tables.at at.table (map (λ f. Some f) f.functions) f.slots; each = AllZip-weaker (IsFilledWith-kept w) (shims_of w) f.functions f.each };
-  }
-
-  pub MayHaveShims-kept : (w : ComponentWorld) (numbers more : List ℕ) (shims : Option ShimsAt) → KeepsEntries s.code.tables t.code.tables →
-      (Contains (numbers ++ more) (shims_number w) → Contains numbers (shims_number w)) → (Contains (numbers ++ more) (fixup_number w) → Contains numbers (fixup_number w)) →
-      ((at : ShimsAt) → AllByRecursion (ExportsShims w at) s.module_instances → AllByRecursion (ExportsShims w at) t.module_instances) → MayHaveShims w s numbers shims → MayHaveShims w t (numbers ++ more) shims
-  MayHaveShims-kept w numbers more None tables no_shims no_fixup exported h = λ yes. h (no_shims yes)
-  MayHaveShims-kept w numbers more (Some at) tables no_shims no_fixup exported h = AreShims-kept w numbers more at tables no_fixup (exported at h.exported) h
-
-  pub IsLiftedFrom-kept : {w : ComponentWorld} {address : ℕ} {name : List ℕ} {options : List TargetOption} {type : FunctionTree} → IsLiftedFrom w s address name options type → IsLiftedFrom w t address name options type
-  IsLiftedFrom-kept {w} {address} {name} {options} {type} h = record {
-    core = h.core;
-    held = h.held;
-    is = k.functions.at address (Lifting h.core h.held type) h.is;
-    of = IsMainExport-kept h.of;
-    with_options = AllZip-weaker (IsOptionHeld-kept w) h.held options h.with_options;
-  }
-
-  pub IsHeldOption-kept : (o : CanonicalOption) (held : HeldOption) → IsHeldOption a o held → IsHeldOption b o held
-  IsHeldOption-kept (options.Memory index) (HeldMemory x) h = k.things spaces.CoreMemory index x h
-  IsHeldOption-kept (options.Realloc index) (HeldRealloc x) h = k.things spaces.CoreFunc index x h
-  IsHeldOption-kept (options.PostReturn index) (HeldPostReturn x) h = k.things spaces.CoreFunc index x h
-  IsHeldOption-kept (options.Callback index) (HeldCallback x) h = k.things spaces.CoreFunc index x h
-  IsHeldOption-kept o held h = h
-
-module _ (w : ComponentWorld) (old new : Option ShimsAt) (shims : ShimsKept old new) (ds es : List Def) (defined : (index number : ℕ) → IsInstanceOf ds index number → IsInstanceOf es index number) {a b : List Thing} {s t : Store} (k : Keeps a b s t) where
-  module_exports-kept : (user number : ℕ) (exports : List Export) → AreModuleExports w old s user number exports → AreModuleExports w new t user number exports
-  module_exports-kept user number exports (inl h) = inl (h.0, AllZip-weaker (exports-kept k user) exports w.main.offered h.1)
-  module_exports-kept user number exports (inr (inl h)) = inr (inl (shim_exports-kept w old new shims number exports h))
-  module_exports-kept user number exports (inr (inr h)) = inr (inr h)
-
-  instance-kept : (number address : ℕ) → IsModuleInstance w old s number address → IsModuleInstance w new t number address
-  instance-kept number address h = record {
-    exports = h.exports;
-    user = h.user;
-    present = k.core_instances.at address h.exports h.present;
-    is = record { instance = h.is.instance; present = k.users.at h.user h.is.instance h.is.present; of = h.is.of };
-    same = h.same;
-    each = module_exports-kept h.user number h.exports h.each;
-  }
-
-  item-kept : (i : Item) (x : ℕ) → ItemIs w old ds a s i x → ItemIs w new es b t i x
-  item-kept (items.CoreInstantiate number arguments) x h = instance-kept number x h
-  item-kept (items.CoreExports entries) x h = record { exports = h.exports; present = k.core_instances.at x h.exports h.present; each = AllZip-weaker (entry-kept k) entries h.exports h.each }
-  item-kept (items.Alias (aliases.CoreExport kind instance name)) x h = record {
-    number = h.number;
-    of = defined instance h.number h.of;
-    names = h.names;
-    from = h.from;
-    exports = h.exports;
-    export = h.export;
-    at = k.things spaces.CoreInstance instance h.from h.at;
-    present = k.core_instances.at h.from h.exports h.present;
-    found = h.found;
-    is = h.is;
-  }
-  item-kept (items.Lift core options kind) x h = record {
-    of = h.of;
-    held = h.held;
-    type = h.type;
-    at = k.things spaces.CoreFunc core h.of h.at;
-    with_options = AllZip-weaker (IsHeldOption-kept k) options h.held h.with_options;
-    typed = IsTypeAt-kept k kind h.type h.typed;
-    is = k.functions.at x (Lifting h.of h.held h.type) h.is;
-  }
-  item-kept (items.Lower function options) x h = record {
-    of = h.of;
-    origin = h.origin;
-    held = h.held;
-    type = h.type;
-    at = k.things spaces.Func function h.of h.at;
-    imported = k.functions.at h.of (Imported h.origin h.type) h.imported;
-    with_options = AllZip-weaker (IsHeldOption-kept k) options h.held h.with_options;
-    is = IsOpaque-kept k h.is;
-  }
-  item-kept (items.Intrinsic (intrinsics.ResourceDrop type)) x h = record { of = h.of; at = k.things spaces.Type type h.of h.at; is = IsOpaque-kept k h.is }
-  item-kept _ x h = tt
-
-  def-kept : (d : Def) (x : ℕ) → DefIs w old ds a s d x → DefIs w new es b t d x
-  def-kept (defs.Item i) x h = item-kept i x h
-  def-kept (defs.Component inner) x h = tt
-
-  pub Means-kept : (d : Def) (x : Thing) → Means w old ds a s d x → Means w new es b t d x
-  Means-kept d x h = record { space = h.space; is = def-kept d x.address h.is }
-
-module _ (w : ComponentWorld) {a b : List Thing} {s t : Store} (k : Keeps a b s t) where
-  pub IsPlannedUser-kept : (old new : Option ShimsAt) → ShimsKept old new → (u : ModuleInstance) → IsPlannedUser w old s u → IsPlannedUser w new t u
-  IsPlannedUser-kept old new same u h is_main = AllZip-weaker (IsPlanned-kept k w old new same) u.given w.main.imported (h is_main)
-
-  pub IsLiftedExport-kept : (e : Export) → IsLiftedExport w s e → IsLiftedExport w t e
-  IsLiftedExport-kept e h = record {
-    name = h.name;
-    wit = h.wit;
-    space = h.space;
-    role = h.role;
-    exported = h.exported;
-    is = IsLiftedFrom-kept k h.is;
-  }

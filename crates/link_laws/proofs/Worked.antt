@@ -2,7 +2,7 @@
 use Rattle.comp_links.specs.Naming.{own_names}
 use Rattle.std.proofs.Common.{inl, ◌≡◌, ℕ, zero, suc, List, [], ◌∷◌, refl, true, false, Option, Some, None, map, take, arith}
 use Rattle.std.specs.Option.{option_map}
-use Rattle.std.specs.List.{slice_get, flat_map}
+use Rattle.std.specs.List.{slice_get, flat_map, IsDistinct}
 use Rattle.std.specs.Str.{bytes_eq}
 use Rattle.comp_bytes.proofs.Worked.{plain, f, g, root, core, one_import_one_export}
 use Rattle.standard_kinds.specs.declared.kinds.ExportKind.TheVariants as kinds
@@ -28,6 +28,7 @@ use Rattle.wit_data.specs.declared.worlds.WorldKey.{WorldKey}
 use Rattle.wit_data.specs.declared.worlds.WorldKey.TheVariants as keys
 use Rattle.wit_data.specs.declared.worlds.WorldItem.{WorldItem}
 use Rattle.wit_data.specs.declared.worlds.WorldItem.TheVariants as world_items
+use Rattle.wit_data.specs.declared.functions.Function.{Function as WitFunction}
 use Rattle.comp_roles.specs.declared.metadata.FunctionKey.{FunctionKey}
 use Rattle.comp_roles.specs.declared.imports.Import.{Import}
 use Rattle.comp_roles.specs.declared.imports.Import.TheVariants as imports
@@ -55,7 +56,6 @@ use Rattle.comp_terms.specs.Terms.{IsFunctionType, IsImportedFunction, IsLowerin
 use Rattle.comp_terms.specs.Terms as terms
 use Rattle.comp_terms.specs.Planned.{IsTypeOf, IsLiftFor, IsArgumentFor}
 use Rattle.comp_links.specs.Targets.{Main, OfRoot, Lifted as LiftedFrom}
-use Rattle.std.specs.List.{IsDistinct}
 use Rattle.comp_terms.specs.Rules.{IsBuilt}
 use Rattle.comp_runs.specs.Machine.{Machine, Outcome, Done, Trapped, Open, Stuck, new_core_function, resumed}
 use Rattle.comp_runs.specs.Instances.{ExportTypes, new_user}
@@ -411,6 +411,9 @@ pub one_apart : (name : List ℕ) → IsDistinct bytes_eq (name ∷ [])
 unfolding IsDistinct
 one_apart name = (tt, tt)
 
+abbrev wit_g : WitFunction
+wit_g = record { name = g; kind = Freestanding; params = []; result = None }
+
 pub keeps_the_rules : IsBuilt own_names one_each one_import_one_export
 keeps_the_rules = record {
   generated = None;
@@ -434,7 +437,7 @@ keeps_the_rules = record {
                 inl (record { number = 0; of = main_module one_each; type = externs.Func plain_core; is = main_made 6 refl; listed = refl; offered = refl; of_kind = tt }),
                 (
                   (omega arith, tt, record { type = plain_tree; is = function_typed_later }),
-                  (record { key = keys.Name g; target = LiftedFrom (record { of = Main; name = g }) []; wit = record { name = g; kind = Freestanding; params = []; result = None }; named = refl; said = refl; exported = refl; lifted = g_lifted }, tt),
+                  (record { key = keys.Name g; function = wit_g; next = refl; item = refl; lifted = record { target = LiftedFrom (record { of = Main; name = g }) []; wit = wit_g; said = refl; exported = refl; is = g_lifted } }, tt),
                 ),
               ),
             ),

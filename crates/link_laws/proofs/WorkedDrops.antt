@@ -52,6 +52,7 @@ use Rattle.link_laws.proofs.Steps.{no_modules}
 use Rattle.link_laws.proofs.Runs.{links}
 use Rattle.link_laws.proofs.Worked.{root_import, Ended, ended, core_function, made, machine_of, one_apart}
 use Rattle.link_laws.proofs.NamedItem.{own_item}
+use Rattle.link_laws.proofs.WorkedApart.{no_keys_apart, functions_apart}
 
 -- ---- the world
 
@@ -136,7 +137,10 @@ is_world = record {
   exports = tt;
   import_keys_apart = keys_apart;
   import_names_apart = none_apart;
+  export_keys_apart = no_keys_apart;
   export_names_apart = none_apart;
+  exports_named = tt;
+  exported_interfaces_apart = none_apart;
   main = record {
     core = refl;
     modules_apart = one_apart root;
@@ -256,7 +260,7 @@ keeps_the_rules = record {
 
 pub drops_link : Links own_names world no_modules (list_of 0 1)
 unfolding keeps_the_rules
-drops_link = links own_names world (list_of 0 1) is_world keeps_the_rules
+drops_link = links own_names world (list_of 0 1) is_world (functions_apart own_names world tt) keeps_the_rules
 
 pub drops_are_linked : IsLinked own_names world no_modules (machine_of (outcome world no_modules (list_of 0 1) made))
 drops_are_linked = drops_link.linked made (machine_of (outcome world no_modules (list_of 0 1) made)) refl

@@ -49,13 +49,15 @@ use Rattle.comp_links.specs.Targets as targets
 use Rattle.comp_terms.specs.Terms.{CoreExport, TermOption, IsInstanceOf, IsExported, IsFunctionType}
 use Rattle.comp_terms.specs.Terms as terms
 use Rattle.comp_terms.specs.Planned.{type_of_function, IsExportFor, IsLiftFor}
-use Rattle.comp_terms.specs.Rules.{IsBuilt, ExportsRequired}
+use Rattle.comp_terms.specs.Rules.{IsBuilt}
+use Rattle.comp_terms.specs.Exports.{ExportsFunction}
 use Rattle.link_laws.specs.Linking.{outcome, IsLinked, Links}
 use Rattle.link_laws.proofs.Stores.{main_module}
 use Rattle.link_laws.proofs.Steps.{no_modules}
 use Rattle.link_laws.proofs.Runs.{links}
 use Rattle.link_laws.proofs.Worked.{made, machine_of, one_apart}
 use Rattle.link_laws.proofs.WorkedDrops.{none_apart}
+use Rattle.link_laws.proofs.WorkedApart.{one_key_apart, functions_apart}
 
 -- ---- the world
 
@@ -126,7 +128,10 @@ is_world = record {
   exports = ((refl, tt), tt);
   import_keys_apart = keys_apart;
   import_names_apart = none_apart;
+  export_keys_apart = one_key_apart (keys.Name g);
   export_names_apart = one_apart g;
+  exports_named = (tt, tt);
+  exported_interfaces_apart = none_apart;
   main = record {
     core = refl;
     modules_apart = none_apart;
@@ -134,7 +139,7 @@ is_world = record {
     imported = tt;
     export_roles = (((0, omega arith, refl), refl, refl), (tt, (tt, ((0, omega arith, refl), tt))));
     exported = (record { type = externs.Func g_core; offered = refl; fits = refl }, (record { type = externs.Func r_core; offered = refl; fits = refl }, (record { type = externs.Memory memory_type; offered = refl; fits = refl }, (record { type = externs.Func p_core; offered = refl; fits = refl }, tt))));
-    required = (record { exported = (0, omega arith, refl); present = refl }, tt);
+    required = (record { exported = (0, omega arith, refl); present = (refl, tt) }, tt);
   };
   adapters = tt;
   alone = refl;
@@ -235,16 +240,20 @@ g_lifted = record {
   );
 }
 
-g_required : ExportsRequired world (ds 8) (plain g) 0
+g_required : ExportsFunction world (ds 8) 0
 unfolding values_from
 g_required = record {
   key = keys.Name g;
-  target = Lifted (record { of = Main; name = g }) named_options;
-  wit = wit_g;
-  named = refl;
-  said = refl;
-  exported = refl;
-  lifted = subst (IsLiftFor world (ds 8) 0 (Lifted (record { of = Main; name = g }) named_options)) g_as_said g_lifted;
+  function = wit_g;
+  next = refl;
+  item = refl;
+  lifted = record {
+    target = Lifted (record { of = Main; name = g }) named_options;
+    wit = wit_g;
+    said = refl;
+    exported = refl;
+    is = subst (IsLiftFor world (ds 8) 0 (Lifted (record { of = Main; name = g }) named_options)) g_as_said g_lifted;
+  };
 }
 
 keeps_the_rules : IsBuilt own_names world (lifting right_options)
@@ -285,7 +294,7 @@ keeps_the_rules = record {
 
 pub list_links : Links own_names world no_modules (lifting right_options)
 unfolding keeps_the_rules
-list_links = links own_names world (lifting right_options) is_world keeps_the_rules
+list_links = links own_names world (lifting right_options) is_world (functions_apart own_names world (refl, tt)) keeps_the_rules
 
 pub list_is_linked : IsLinked own_names world no_modules (machine_of (outcome world no_modules (lifting right_options) made))
 list_is_linked = list_links.linked made (machine_of (outcome world no_modules (lifting right_options) made)) refl

@@ -46,6 +46,7 @@ use Rattle.link_laws.proofs.Steps.{no_modules}
 use Rattle.link_laws.proofs.Runs.{links}
 use Rattle.link_laws.proofs.Worked.{Ended, ended, core_function, made, machine_of, one_apart}
 use Rattle.link_laws.proofs.WorkedDrops.{none_apart}
+use Rattle.link_laws.proofs.WorkedApart.{no_keys_apart, functions_apart}
 
 -- ---- the world is one
 
@@ -61,7 +62,10 @@ is_world = record {
   exports = tt;
   import_keys_apart = keys_apart;
   import_names_apart = none_apart;
+  export_keys_apart = no_keys_apart;
   export_names_apart = none_apart;
+  exports_named = tt;
+  exported_interfaces_apart = none_apart;
   main = record {
     core = refl;
     modules_apart = one_apart from_u;
@@ -232,7 +236,7 @@ keeps_the_rules = record {
 
 pub list_links : Links own_names world no_modules (list_of [] 1)
 unfolding keeps_the_rules
-list_links = links own_names world (list_of [] 1) is_world keeps_the_rules
+list_links = links own_names world (list_of [] 1) is_world (functions_apart own_names world tt) keeps_the_rules
 
 pub list_is_linked : IsLinked own_names world no_modules (machine_of (outcome world no_modules (list_of [] 1) made))
 list_is_linked = list_links.linked made (machine_of (outcome world no_modules (list_of [] 1) made)) refl

@@ -68,6 +68,7 @@ use Rattle.link_laws.proofs.Runs.{links}
 use Rattle.link_laws.proofs.Worked.{Ended, ended, core_function, made, machine_of, one_apart}
 use Rattle.link_laws.proofs.WorkedDrops.{r, drop_r, none_apart, not_true}
 use Rattle.link_laws.proofs.NamedItem.{own_item}
+use Rattle.link_laws.proofs.WorkedApart.{no_keys_apart, functions_apart}
 
 -- ---- the world
 
@@ -133,7 +134,10 @@ is_world = record {
   exports = tt;
   import_keys_apart = keys_apart;
   import_names_apart = none_apart;
+  export_keys_apart = no_keys_apart;
   export_names_apart = none_apart;
+  exports_named = tt;
+  exported_interfaces_apart = none_apart;
   main = record {
     core = refl;
     modules_apart = modules_apart;
@@ -296,7 +300,7 @@ keeps_the_rules = record {
 
 pub shared_links : Links own_names world no_modules (list_of shared)
 unfolding keeps_the_rules
-shared_links = links own_names world (list_of shared) is_world keeps_the_rules
+shared_links = links own_names world (list_of shared) is_world (functions_apart own_names world tt) keeps_the_rules
 
 pub shared_is_linked : IsLinked own_names world no_modules (machine_of (outcome world no_modules (list_of shared) made))
 shared_is_linked = shared_links.linked made (machine_of (outcome world no_modules (list_of shared) made)) refl

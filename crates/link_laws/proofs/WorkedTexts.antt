@@ -58,6 +58,7 @@ use Rattle.world_shims.specs.WorldShims.{shims_of, sections_of_shims, sections_o
 use Rattle.link_laws.specs.Composition.{GeneratedModules}
 use Rattle.link_laws.proofs.Worked.{one_apart}
 use Rattle.link_laws.proofs.WorkedDrops.{none_apart}
+use Rattle.link_laws.proofs.WorkedApart.{no_keys_apart}
 
 -- ---- the world
 
@@ -117,7 +118,10 @@ is_world = record {
   exports = tt;
   import_keys_apart = keys_apart;
   import_names_apart = one_apart f;
+  export_keys_apart = no_keys_apart;
   export_names_apart = none_apart;
+  exports_named = tt;
+  exported_interfaces_apart = none_apart;
   main = record {
     core = refl;
     modules_apart = one_apart root;

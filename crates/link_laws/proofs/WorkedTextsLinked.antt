@@ -42,6 +42,7 @@ use Rattle.link_laws.proofs.Stores.{main_module}
 use Rattle.link_laws.proofs.Runs.{composed, links}
 use Rattle.link_laws.proofs.Worked.{made, machine_of, one_apart, root_import}
 use Rattle.link_laws.proofs.WorkedTexts.{s, memory, wit_f, memory_type, role_f, world, is_world, named_options, table_names_them, only_shim, one_shim, bytes, generated, are_generated, text_type, lowering, right_options}
+use Rattle.link_laws.proofs.WorkedApart.{functions_apart}
 
 -- ---- it keeps the rules
 
@@ -196,7 +197,7 @@ texts_are_composed = composed own_names world (lowering right_options) is_world 
 
 pub texts_link : Links own_names world generated (lowering right_options)
 unfolding keeps_the_rules are_generated values_from digits
-texts_link = links own_names world (lowering right_options) is_world keeps_the_rules
+texts_link = links own_names world (lowering right_options) is_world (functions_apart own_names world tt) keeps_the_rules
 
 abbrev ended : Machine
 ended = machine_of (outcome world generated (lowering right_options) made)

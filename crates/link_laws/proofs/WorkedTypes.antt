@@ -47,6 +47,8 @@ use Rattle.comp_runs.specs.Store.{Lowering, ExportedBy, Imported, Lifting}
 use Rattle.link_laws.specs.Linking.{outcome}
 use Rattle.link_laws.proofs.Steps.{no_modules}
 use Rattle.link_laws.proofs.Worked.{Ended, ended, root_import, core_function, core_export, made, a, one_apart}
+use Rattle.link_laws.proofs.WorkedApart.{one_key_apart}
+use Rattle.link_laws.proofs.WorkedDrops.{none_apart}
 
 -- ---- the world
 
@@ -125,7 +127,10 @@ is_world = record {
   exports = ((refl, tt), tt);
   import_keys_apart = keys_apart;
   import_names_apart = one_apart f;
+  export_keys_apart = one_key_apart (keys.Name g);
   export_names_apart = one_apart g;
+  exports_named = (tt, tt);
+  exported_interfaces_apart = none_apart;
   main = record {
     core = refl;
     modules_apart = one_apart root;
@@ -133,7 +138,7 @@ is_world = record {
     imported = (record { role = imports.WorldFunc (keys.Name f) f GuestImport; has_role = refl; fits = refl }, tt);
     export_roles = (((0, omega arith, refl), refl, refl), tt);
     exported = (record { type = externs.Func g_core; offered = refl; fits = refl }, tt);
-    required = (record { exported = (0, omega arith, refl); present = refl }, tt);
+    required = (record { exported = (0, omega arith, refl); present = (refl, tt) }, tt);
   };
   adapters = tt;
   alone = refl;

@@ -6,7 +6,7 @@ use Rattle.std.proofs.lemmas.Option.{same_Some}
 use Rattle.std.specs.List.{slice_get}
 use Rattle.standard_kinds.specs.declared.kinds.ExportKind.TheVariants as kinds
 use Rattle.standard_kinds.specs.declared.kinds.Primitive.TheVariants as primitives
-use Rattle.comp_bytes.proofs.Worked.{plain, f, g, root}
+use Rattle.comp_bytes.proofs.Worked.{f, g, root}
 use Rattle.comp_bytes.specs.ItemIndices.{in_space}
 use Rattle.comp_bytes.specs.declared.space.Space.TheVariants as spaces
 use Rattle.comp_bytes.specs.declared.types.ComponentValType.TheVariants as values
@@ -32,7 +32,8 @@ use Rattle.comp_trees.specs.WitTrees.{wit_function_tree}
 use Rattle.comp_terms.specs.Terms.{IsFunctionType, IsImportedFunction, IsLowering, IsInstanceOf}
 use Rattle.comp_terms.specs.Terms as terms
 use Rattle.comp_terms.specs.Planned.{type_of_function, IsTypeOf, IsLiftFor, IsArgumentFor}
-use Rattle.comp_terms.specs.Rules.{IsBuilt}
+use Rattle.comp_terms.specs.Rules.{IsBuilt, IsDescriptionRight}
+use Rattle.comp_terms.specs.Exports.{ExportsFunction}
 use Rattle.link_laws.specs.Composition.{IsComposed}
 use Rattle.link_laws.specs.Linking.{outcome, LiftMeets, IsProvided, IsLinked, Links}
 use Rattle.link_laws.proofs.Stores.{main_module}
@@ -40,8 +41,8 @@ use Rattle.link_laws.proofs.Steps.{no_modules}
 use Rattle.link_laws.proofs.Runs.{composed, links}
 use Rattle.link_laws.proofs.Worked.{root_import, made, machine_of, a, one_apart}
 use Rattle.comp_bytes.specs.declared.types.Description.TheVariants as descriptions
-use Rattle.comp_terms.specs.Rules.{IsDescriptionRight, ExportsRequired}
 use Rattle.link_laws.proofs.WorkedTypes.{p, wit_f, wit_g, g_core, world, is_world, typed_list, misnamed, f_tree, g_tree}
+use Rattle.link_laws.proofs.WorkedApart.{functions_apart}
 
 -- ---- it keeps the rules
 
@@ -122,16 +123,20 @@ g_lifted = record {
   asked = (record { of = record { world_module = main_module world; listed = refl; same = refl }; named = refl }, tt);
 }
 
-g_required : ExportsRequired world (ds 12) (plain g) 1
+g_required : ExportsFunction world (ds 12) 1
 unfolding values_from
 g_required = record {
   key = keys.Name g;
-  target = LiftedFrom (record { of = Main; name = g }) [];
-  wit = wit_g;
-  named = refl;
-  said = refl;
-  exported = refl;
-  lifted = subst (IsLiftFor world (ds 12) 1 (LiftedFrom (record { of = Main; name = g }) [])) g_as_said g_lifted;
+  function = wit_g;
+  next = refl;
+  item = refl;
+  lifted = record {
+    target = LiftedFrom (record { of = Main; name = g }) [];
+    wit = wit_g;
+    said = refl;
+    exported = refl;
+    is = subst (IsLiftFor world (ds 12) 1 (LiftedFrom (record { of = Main; name = g }) [])) g_as_said g_lifted;
+  };
 }
 
 keeps_the_rules : IsBuilt own_names world (typed_list 4)
@@ -153,7 +158,7 @@ typed_list_is_composed = composed own_names world (typed_list 4) is_world keeps_
 
 pub typed_list_links : Links own_names world no_modules (typed_list 4)
 unfolding keeps_the_rules
-typed_list_links = links own_names world (typed_list 4) is_world keeps_the_rules
+typed_list_links = links own_names world (typed_list 4) is_world (functions_apart own_names world (refl, tt)) keeps_the_rules
 
 pub typed_list_is_linked : IsLinked own_names world no_modules (machine_of (outcome world no_modules (typed_list 4) made))
 typed_list_is_linked = typed_list_links.linked made (machine_of (outcome world no_modules (typed_list 4) made)) refl

@@ -1,13 +1,14 @@
 -- Lists that are related elementwise, and look-ups in them.
-use Rattle.std.proofs.Common.{◌≡◌, ◌∙◌, ℕ, zero, suc, Bool, true, false, true≢false, List, [], ◌∷◌, ◌++◌, map, filter, refl, sym, ap, subst, Option, Some, None, cond, if◌then◌else◌, ◌||◌, append_assoc}
+use Rattle.std.proofs.Common.{◌≡◌, ◌∙◌, ℕ, zero, suc, Bool, true, false, true≢false, List, [], ◌∷◌, ◌++◌, map, filter, refl, sym, ap, subst, Option, Some, None, cond, if◌then◌else◌, append_assoc}
 use Rattle.std.proofs.lemmas.Option.{same_Some, none-some}
 use Rattle.std.proofs.lemmas.Bool.{false_from_ne_true}
 use Rattle.std.proofs.lemmas.Slice.Eq.{bytes_eq-Decides}
 use Rattle.std.proofs.lemmas.Map.Keys.{IsDistinct-head, IsDistinct-tail}
 use Rattle.std.specs.Str.{bytes_eq}
-use Rattle.std.specs.List.{slice_get, flat_map, filter_map, cons_option, list_any, AllZip, AllByRecursion, IsDistinct}
+use Rattle.std.specs.List.{slice_get, flat_map, filter_map, cons_option, AllZip, AllByRecursion, IsDistinct}
 use Rattle.std.specs.Option.{option_map}
 use Rattle.comp_lists.specs.Found.{found}
+use Rattle.comp_lists.proofs.Lists.{AllByRecursion-weaker}
 use Rattle.comp_runs.specs.Machine.{all_some}
 
 -- tests that agree on both lists keep the relation
@@ -34,11 +35,6 @@ filter-both p q within (x ∷ xs) = by (filter-both p q within xs) (p x) refl (q
     by rest false e true f = rw e rest
     by rest true e false f = absurd (true≢false (sym (within x e) ∙ f))
     by rest false e false f = rest
-
--- a test that all pass
-pub filter-all : {A : Type 0} (p : A → Bool) (xs : List A) → AllByRecursion (λ x. p x ≡ true) xs → filter p xs ≡ xs
-filter-all p [] h = refl
-filter-all p (x ∷ xs) h = rw h.0 (ap (λ l. x ∷ l) (filter-all p xs h.1))
 
 pub mapped_some : {A B : Type 0} (f : A → B) (o : Option A) (y : B) → option_map f o ≡ Some y → (x : A) × (o ≡ Some x) × (f x ≡ y)
 mapped_some f None y e = absurd (none-some y e)
@@ -117,27 +113,10 @@ module _ {E : Type 0} (name_of : E → List ℕ) where
       by rest true t g = let same : x ≡ e = same_Some x e g in (sym (ap name_of same) ∙ sym ((bytes_eq-Decides name (name_of x)).0 t), subst P same h.0)
       by rest false t g = rest g
 
-  -- a name that an entry has is found
-  pub found-listed : (name : List ℕ) (es : List E) → list_any (bytes_eq name) (map name_of es) ≡ true → (e : E) × (found name (map (λ e. (name_of e, e)) es) ≡ Some e)
-  found-listed name [] h = cc
-  found-listed name (x ∷ es) h = by (λ k. found-listed name es k) (bytes_eq name (name_of x)) h
-    where
-      by : (list_any (bytes_eq name) (map name_of es) ≡ true → (e : E) × (found name (map (λ e. (name_of e, e)) es) ≡ Some e)) → (b : Bool) → (b || list_any (bytes_eq name) (map name_of es)) ≡ true → (e : E) × (cond b (Some x) (found name (map (λ e. (name_of e, e)) es)) ≡ Some e)
-      by rest true h = (x, refl)
-      by rest false h = rest h
-
--- each of some texts is among them
-pub each_listed : {X : Type 0} (text : X → List ℕ) (xs : List X) → AllByRecursion (λ x. list_any (bytes_eq (text x)) (map text xs) ≡ true) xs
-each_listed text [] = tt
-each_listed {X} text (x ∷ xs) = (rw ((bytes_eq-Decides (text x) (text x)).1 refl) refl, later xs (each_listed text xs))
-  where
-    or_true : (b c : Bool) → c ≡ true → (b || c) ≡ true
-    or_true true c e = refl
-    or_true false c e = e
-
-    later : (ys : List X) → AllByRecursion (λ y. list_any (bytes_eq (text y)) (map text xs) ≡ true) ys → AllByRecursion (λ y. list_any (bytes_eq (text y)) (map text (x ∷ xs)) ≡ true) ys
-    later [] h = tt
-    later (y ∷ ys) h = (or_true (bytes_eq (text y) (text x)) (list_any (bytes_eq (text y)) (map text xs)) h.0, later ys h.1)
+-- each element has an index
+pub each_at : {X : Type 0} (xs : List X) → AllByRecursion (λ x. (i : ℕ) × (slice_get xs i ≡ Some x)) xs
+each_at [] = tt
+each_at (x ∷ xs) = ((0, refl), AllByRecursion-weaker (λ y h. (suc h.0, h.1)) xs (each_at xs))
 
 -- the first list has an element where the second has one
 pub AllZip-back : {A B : Type 0} (R : A → B → Type 0) (xs : List A) (ys : List B) (i : ℕ) (y : B) → AllZip R xs ys → slice_get ys i ≡ Some y → (x : A) × (slice_get xs i ≡ Some x) × R x y

@@ -3,7 +3,6 @@
 use Rattle.std.specs.Prelude.{◌≡◌, ◌≢◌, ◌≤◌, ◌+◌, ◌++◌, ◌&&◌, ℕ, nat_le, Bool, List, [], ◌∷◌, Option, Some, None, length, map, filter, slice_get, is_some, IsTrue, Contains}
 use Rattle.std.specs.List.{AllByRecursion, AllZip, flat_map, list_all}
 use Rattle.std.specs.Option.{option_and_then}
-use Rattle.comp_lists.specs.Found.{found}
 use Rattle.comp_bytes.specs.declared.space.Space.TheVariants as spaces
 use Rattle.comp_bytes.specs.Spaces.{is_space, space_of}
 use Rattle.comp_bytes.specs.declared.def.Item.TheVariants as items
@@ -25,7 +24,7 @@ use Rattle.wit_data.specs.declared.worlds.WorldItem.{WorldItem}
 use Rattle.wit_data.specs.declared.worlds.WorldItem.TheVariants as world_items
 use Rattle.comp_roles.specs.Lookups.{first_export, is_initialize}
 use Rattle.comp_roles.specs.declared.offered.ImportType.{ImportType}
-use Rattle.world_values.specs.Items.{functions_of}
+use Rattle.comp_worlds.specs.WorldContents.{exported_item, function_exported}
 use Rattle.comp_worlds.specs.declared.world.ComponentWorld.{ComponentWorld}
 use Rattle.comp_trees.specs.Trees.{Resource}
 use Rattle.comp_trees.specs.DefinedTrees.{TypeTree}
@@ -33,7 +32,7 @@ use Rattle.comp_trees.specs.WitTrees.{wit_function_tree}
 use Rattle.comp_links.specs.Targets.{Main, ExportRef, Target, Lifted}
 use Rattle.comp_links.specs.Naming.{Naming, name_of}
 use Rattle.comp_links.specs.Modules.{WorldModule, user_modules}
-use Rattle.comp_links.specs.Lists.{RequiredFunction, required_functions, exported_item, component_types, resource_of, stated_types}
+use Rattle.comp_links.specs.Lists.{RequiredFunction, required_functions, component_types, resource_of, stated_types}
 use Rattle.comp_links.specs.Links.{link_at, lift_of}
 use Rattle.comp_runs.specs.Store.{Thing, Export, CoreItem, ModuleInstance}
 use Rattle.comp_runs.specs.Machine.{Machine, Outcome, Done, Trapped, Open, Stuck, export_of}
@@ -115,12 +114,6 @@ abbrev pub exports_at : ComponentWorld → Machine → List ℕ → Option World
 exports_at w m name (Some (world_items.Function f)) = Some m.scope.exports
 exports_at w m name item = option_and_then (λ (e : Export). slice_get m.store.instances e.address) (export_of spaces.Instance name m.scope.exports)
 
--- a function of an item, with its type in the world
-abbrev pub function_in : ComponentWorld → List ℕ → Option WorldItem → Option WitFunction
-function_in w name (Some (world_items.Function f)) = Some f
-function_in w name (Some (world_items.Interface id)) = found name (functions_of w.resolve id)
-function_in w name item = None
-
 -- the function at this address is a lift of this function of the world as the target says
 abbrev pub LiftMeets : ComponentWorld → Machine → (TypeId → Resource) → ℕ → WitFunction → Target → Type 0
 LiftMeets w m origins address wit (Lifted entry options) = IsLift w m address (wit_function_tree origins w.resolve.types wit) entry options
@@ -133,7 +126,7 @@ pub record IsProvided (n : Naming) (w : ComponentWorld) (m : Machine) (origins :
   pub wit : WitFunction
   pub provided : option_and_then (export_of spaces.Func r.function) (exports_at w m (name_of n w.resolve r.key).name (exported_item w r.key)) ≡ Some (record { space = spaces.Func; name = r.function; address = address })
   pub said : lift_of w r ≡ Some target
-  pub type_of : function_in w r.function (exported_item w r.key) ≡ Some wit
+  pub type_of : function_exported w r.key r.function ≡ Some wit
   pub meets : LiftMeets w m origins address wit target
 
 -- ---- the end of a run

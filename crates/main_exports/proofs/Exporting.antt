@@ -1,202 +1,317 @@
--- The required exports: what is lifted for each, and that each is exported.
-use Rattle.std.proofs.Common.{◌+◌, ◌≡◌, ◌∙◌, ℕ, zero, suc, ◌<◌, List, [], ◌∷◌, ◌++◌, refl, sym, ap, subst, length, take, get_or, map, Some, None, Option, Bool, true, false, ◌&&◌, cond, IsSome, Contains, arith, true≢false, ◌⊎◌, inl, inr}
-use Rattle.std.proofs.lemmas.List.{map_more, take_more, take_all}
-use Rattle.std.specs.List.{AllByRecursion, AllZip}
-use Rattle.comp_lists.proofs.Lists.{AllByRecursion-push, AllByRecursion-at}
-use Rattle.comp_builder.specs.Built.{Built}
-use Rattle.comp_bytes.proofs.ItemIndices.{in_range}
-use Rattle.comp_bytes.specs.declared.canon.CanonicalOption.{CanonicalOption}
-use Rattle.standard_kinds.specs.declared.kinds.ExportKind.TheVariants as kinds
-use Rattle.comp_bytes.specs.declared.space.Sort.TheVariants as sorts
+-- What each export adds, and what is known of a required export.
+use Rattle.std.proofs.Common.{◌≡◌, ◌∙◌, ◌+◌, ◌<◌, arith, ℕ, suc, Bool, true, false, true≢false, List, [], ◌∷◌, ◌++◌, refl, ap, ap₂, sym, subst, Contains, Some, None, Option, IsSome, append-nil, cond, take, rules, ◌⊎◌, inl, inr, Bor}
+use Rattle.std.specs.Prelude.{length, map, get_or}
+use Rattle.std.specs.Option.{option_copied}
+use Rattle.std.specs.Cmp.{IsEquivalence}
+use Rattle.std.specs.Cmp.Rules.{comparing}
+use Rattle.std.specs.List.{AllByRecursion, IsDistinct, filter_map, flat_map, slice_get}
+use Rattle.std.specs.Map.{keys_of, lookup}
+use Rattle.std.specs.Str.{bytes_eq}
+use Rattle.std.proofs.lemmas.Grind.{flat_map-append}
+use Rattle.std.proofs.lemmas.List.{length-append, length-take-le, take_more, take_all}
+use Rattle.std.proofs.lemmas.Map.Views.{lookup-from_Contains}
+use Rattle.std.proofs.lemmas.List.Elements.{filter_map-append}
+use Rattle.std.proofs.lemmas.Option.{none-some, same_Some, slice_get-get_or}
+use Rattle.comp_lists.proofs.Lists.{AllByRecursion-at, AllByRecursion-contains, AllByRecursion-weaker, Contains-map}
+use Rattle.type_scopes.specs.Needs.{function_passes, is_unnamed}
+use Rattle.comp_bytes.specs.ScopeNames.{def_export}
 use Rattle.comp_bytes.specs.declared.def.Def.{Def}
 use Rattle.comp_bytes.specs.declared.def.Def.TheVariants as defs
 use Rattle.comp_bytes.specs.declared.def.Item.TheVariants as items
-use Rattle.wit_data.specs.Keys.{name_of_key}
+use Rattle.comp_bytes.specs.declared.space.Sort.{Sort}
+use Rattle.comp_bytes.specs.declared.types.ExternName.{ExternName}
 use Rattle.wit_data.specs.Keys.{is_same_key}
+use Rattle.wit_data.specs.Sound.{HasEntry, HasFunction, HasInterface, HasKey, HasWorld}
+use Rattle.wit_data.proofs.Values.{all_at}
+use Rattle.wit_data.specs.declared.functions.Function.{Function}
+use Rattle.wit_data.specs.declared.ids.InterfaceId.{InterfaceId}
+use Rattle.wit_data.specs.declared.ids.TypeId.{TypeId}
 use Rattle.wit_data.specs.declared.worlds.WorldItem.{WorldItem}
 use Rattle.wit_data.specs.declared.worlds.WorldItem.TheVariants as world_items
-use Rattle.std.specs.Map.{lookup}
-use Rattle.std.proofs.lemmas.Slice.Eq.{bytes_eq-Decides}
-use Rattle.comp_worlds.specs.Encodable.{IsEncodable}
-use Rattle.comp_worlds.specs.WorldContents.{items_of, root_function, exported_functions, core_name_of, core_imports}
-use Rattle.comp_worlds.specs.Worlds.{IsRequired, IsExportRole, IsExportItem}
 use Rattle.wit_data.specs.declared.worlds.WorldKey.{WorldKey}
-use Rattle.comp_worlds.specs.declared.world.ComponentWorld.{ComponentWorld}
-use Rattle.core_options.specs.declared.fault.StateFault.{StateFault}
-use Rattle.core_options.specs.Causes.{IsCause, IsCauseAmong}
-use Rattle.comp_items.specs.Items.{Extends}
-use Rattle.comp_items.proofs.Extending.{extends_none, extends_then}
-use Rattle.main_exports.specs.Exports.{IsRequiredLift}
-use Rattle.interface_needs.specs.RootNeeds.{IsExportedFunction}
-use Rattle.interface_needs.proofs.Lists.{all_of_each}
-use Rattle.interface_needs.proofs.Lists.{contains_one, contains_none, contains_cons}
-use Rattle.comp_trees.specs.Trees.{FunctionTree}
-use Rattle.comp_terms.specs.Planned.{type_of_function}
-use Rattle.std.specs.Option.{option_map, option_and_then}
-use Rattle.comp_links.specs.Targets.{Main, Lifted}
-use Rattle.comp_links.specs.Links.{lift_options}
-use Rattle.core_options.specs.MainOptions.{of_main, NameOptions, HasLiftOptions}
-use Rattle.core_options.proofs.Offered.{main_module}
-use Rattle.core_options.proofs.OptionTerms.{options_right}
-use Rattle.comp_links.specs.Naming.{plain_name}
-use Rattle.std.proofs.lemmas.Option.{none-some, same_Some}
-use Rattle.std.specs.Str.{bytes_eq}
-use Rattle.std.specs.List.{flat_map}
-use Rattle.comp_lists.specs.Found.{found}
-use Rattle.world_values.specs.Items.{no_items, function_in, root_function_at, root_export}
-use Rattle.wit_data.specs.Sound.{HasFunction, HasEntry, HasWorld}
-use Rattle.wit_data.specs.declared.resolve.Resolve.{Resolve}
-use Rattle.wit_data.specs.declared.worlds.World.{World}
-use Rattle.wit_data.specs.declared.functions.Function.{Function}
 use Rattle.wit_data.specs.declared.worlds.WorldKey.TheVariants as keys
-use Rattle.comp_roles.specs.declared.exports.Export.{Export as WorldExport}
-use Rattle.comp_roles.specs.declared.exports.Export.TheVariants as exports
-use Rattle.comp_terms.specs.Terms.{CoreExport, TermOption, IsFunctionType, IsExported, IsOption, IsLifting}
-use Rattle.comp_links.specs.Roles.{export_encoding}
-use Rattle.comp_terms.specs.Rules.{Grows, named_export}
-use Rattle.core_options.proofs.Refusals.{among_more}
+use Rattle.world_values.specs.Items.{no_items, functions_of, functions_in, function_of_item}
+use Rattle.comp_worlds.specs.Encodable.{IsEncodable}
+use Rattle.comp_worlds.specs.WorldContents.{items_of, exported_item, function_exported, core_name_of, core_imports}
+use Rattle.comp_worlds.specs.Worlds.{IsExportItem, IsNamedFunction, IsRequired}
+use Rattle.comp_worlds.specs.declared.world.ComponentWorld.{ComponentWorld}
+use Rattle.comp_links.specs.Lists.{functions_required, required_functions, sort_of}
+use Rattle.comp_links.specs.Naming.{Naming, name_of}
+use Rattle.comp_links.specs.Targets.{Main}
+use Rattle.comp_terms.specs.Exports.{exports_in}
+use Rattle.comp_terms.specs.Rules.{Landmark, NestedOf, Exported, landmark, landmarks, Grows, IsExportRight, nested_marked, export_marked, exports_marked}
+use Rattle.interface_needs.proofs.Lists.{all_both, all_of_each, contains_cons, contains_first, contains_flat, contains_later, contains_none}
+use Rattle.interface_needs.proofs.RootItems.{exported_there, exported_sound, exported_unnamed}
 use Rattle.root_imports.specs.Growing.{Grows-none, Grows-by, Grows-then}
+use Rattle.core_options.specs.Causes.{IsCause, IsCauseAmong, IsEncodedExport}
+use Rattle.core_options.specs.MainOptions.{HasLiftOptions}
+use Rattle.core_options.specs.declared.fault.StateFault.{StateFault}
+use Rattle.core_options.proofs.Refusals.{among_more}
+use Rattle.main_exports.specs.Exports.{Root, RootKept, main_function, at_key, functions_at, functions_of_key, IsMainFunction, AreMainFunctions}
+use Rattle.main_exports.proofs.Growth.{kept_then}
 
--- ---- what each call adds
+-- ---- how many exports there are
 
-pub record AddsLift (w : ComponentWorld) (old new : List Def) (index : ℕ) (key : WorldKey) : Type 0 where
-  pub grows : Grows w old new []
-  pub lifted : IsRequiredLift w new index key
+abbrev pub exported_marks : List Landmark → ℕ
+exported_marks [] = 0
+exported_marks (Exported s ∷ ms) = suc (exported_marks ms)
+exported_marks (m ∷ ms) = exported_marks ms
 
-pub adds_lift : (w : ComponentWorld) (old new : List Def) (core kind index : ℕ) (options : List CanonicalOption) (name : List ℕ) (key : WorldKey) (wit : Function) → NameOptions w old options (lift_options w Main key) →
-    IsExported old core (of_main kinds.Func name) → IsFunctionType old kind (type_of_function w wit) → core_name_of w key ≡ Some name → root_function_at (items_of w).exports key ≡ Some wit → IsSome (export_encoding w key) →
-    new ≡ old ++ defs.Item (items.Lift core options kind) ∷ [] →
-    ((entry : CoreExport) (written : List TermOption) (type : FunctionTree) → entry.kind ≡ kinds.Func → IsExported old core entry → AllZip (IsOption old) options written → IsFunctionType old kind type → IsLifting new index entry written type) →
-    AddsLift w old new index key
-adds_lift w old new core kind index options name key wit fit alias typed role exported encoded appended lifts = record {
-  grows = Grows-by (defs.Item (items.Lift core options kind)) appended (in_range alias.made, options_right w old options fit.terms fit.are, record { type = type_of_function w wit; is = typed });
-  lifted = record {
-    target = Lifted (record { of = Main; name = name }) (lift_options w Main key);
-    wit = wit;
-    said = ap (option_map (λ n. Lifted (record { of = Main; name = n }) (lift_options w Main key))) role;
-    exported = exported;
-    is = record {
-      entry = of_main kinds.Func name;
-      options = fit.terms;
-      is = lifts (of_main kinds.Func name) fit.terms (type_of_function w wit) refl alias fit.are typed;
-      asked = (record { of = record { world_module = main_module w; listed = refl; same = refl }; named = refl }, fit.asked);
-    };
-    encoded = encoded;
-  };
-}
+suc_plus : (a b : ℕ) → suc (a + b) ≡ suc a + b
+suc_plus a b = omega arith
 
-pub adds_export : (w : ComponentWorld) (old new : List Def) (index : ℕ) (name : List ℕ) (key : WorldKey) → name ≡ name_of_key key → IsRequiredLift w old index key →
-    new ≡ old ++ defs.Item (items.Export (plain_name name) sorts.Func index None) ∷ [] → Grows w old new (named_export (name_of_key key) ∷ [])
-adds_export w old new index name key same lifted appended =
-    subst (λ n. Grows w old new (named_export n ∷ [])) same
-    (Grows-by (defs.Item (items.Export (plain_name name) sorts.Func index None)) appended (record { key = key; target = lifted.target; wit = lifted.wit; named = ap plain_name same; said = lifted.said; exported = lifted.exported; lifted = lifted.is }))
+pub marks_append : (a b : List Landmark) → exported_marks (a ++ b) ≡ exported_marks a + exported_marks b
+marks_append [] b = omega arith
+marks_append (Exported s ∷ ms) b = ap suc (marks_append ms b) ∙ suc_plus (exported_marks ms) (exported_marks b)
+marks_append (m ∷ ms) b = marks_append ms b
 
--- the keys that were exported so far
-pub record ExportsSoFar (w : ComponentWorld) (old new : Built) (done : List WorldKey) : Type 0 where
-  pub extends : Extends old new
-  pub grows : Grows w old.defs new.defs (map (λ key. named_export (name_of_key key)) done)
-  pub encoded : AllByRecursion (λ key. IsSome (export_encoding w key)) done
-  pub has : AllByRecursion (HasLiftOptions w) done
+def_counted : (d : Def) → length (def_export d) ≡ exported_marks (filter_map landmark (d ∷ []))
+def_counted (defs.Item (items.CoreModule bytes)) = refl
+def_counted d = refl
 
-pub exports_start : (w : ComponentWorld) (old : Built) → ExportsSoFar w old old []
-exports_start w old = record { extends = extends_none old; grows = Grows-none w old.defs; encoded = tt; has = tt }
+counted : (ds : List Def) → exports_in ds ≡ exported_marks (landmarks ds)
+counted [] = refl
+counted (d ∷ ds) =
+    length-append (def_export d) (flat_map def_export ds)
+    ∙ (ap₂ (λ a b. a + b) (def_counted d) (counted ds)
+    ∙ (sym (marks_append (filter_map landmark (d ∷ [])) (landmarks ds)) ∙ ap exported_marks (sym (filter_map-append landmark (d ∷ []) ds))))
 
-pub exports_step : (w : ComponentWorld) (old mid new : Built) (keys : List WorldKey) (i : ℕ) (key : WorldKey) → ExportsSoFar w old mid (take i keys) → i < length keys → key ≡ get_or keys i key →
-    Extends mid new → Grows w mid.defs new.defs (named_export (name_of_key key) ∷ []) → IsSome (export_encoding w key) → HasLiftOptions w key → ExportsSoFar w old new (take (i + 1) keys)
-exports_step w old mid new keys i key h l is extends grows encoded has =
-    let more : take (i + 1) keys ≡ take i keys ++ key ∷ [] = take_more keys i key l ∙ ap (λ k. take i keys ++ k ∷ []) (sym is) in
-    let marks : map (λ k. named_export (name_of_key k)) (take (i + 1) keys) ≡ map (λ k. named_export (name_of_key k)) (take i keys) ++ named_export (name_of_key key) ∷ [] =
-    map_more (λ k. named_export (name_of_key k)) keys i key l ∙ ap (λ k. map (λ j. named_export (name_of_key j)) (take i keys) ++ named_export (name_of_key k) ∷ []) (sym is) in
+pub exports_grow : {w : ComponentWorld} {old new : List Def} {marks : List Landmark} → Grows w old new marks → exports_in new ≡ exports_in old + exported_marks marks
+exports_grow {w} {old} {new} {marks} g =
+    ap exports_in g.extended
+    ∙ (ap (λ (l : List (List ℕ)). length l) (flat_map-append def_export old g.more)
+    ∙ (length-append (flat_map def_export old) (flat_map def_export g.more) ∙ ap (λ n. exports_in old + n) (counted g.more ∙ ap exported_marks g.marked)))
+
+-- what has no landmark exports nothing
+pub exports_same : {w : ComponentWorld} {old new : List Def} → Grows w old new [] → exports_in new ≡ exports_in old
+exports_same {w} {old} g = exports_grow g ∙ omega arith
+
+pub exports_nested : {w : ComponentWorld} {old new : List Def} {imports exports : List (List ℕ)} → Grows w old new (NestedOf imports exports ∷ []) → exports_in new ≡ exports_in old
+exports_nested {w} {old} g = exports_grow g ∙ omega arith
+
+one_marked : (n : Naming) (w : ComponentWorld) (key : WorldKey) → exported_marks (export_marked n w key) ≡ 1
+one_marked n w key = by (exported_item w key)
+  where
+    by : (o : Option WorldItem) → exported_marks (nested_marked w o ++ Exported (record { name = name_of n w.resolve key; sort = sort_of o }) ∷ []) ≡ 1
+    by (Some (world_items.Interface id)) = refl
+    by (Some (world_items.Function f)) = refl
+    by (Some (world_items.NamedType id)) = refl
+    by None = refl
+
+all_marked : (n : Naming) (w : ComponentWorld) (ks : List WorldKey) → exported_marks (flat_map (export_marked n w) ks) ≡ length ks
+all_marked n w [] = refl
+all_marked n w (k ∷ ks) = marks_append (export_marked n w k) (flat_map (export_marked n w) ks) ∙ (ap₂ (λ a b. a + b) (one_marked n w k) (all_marked n w ks) ∙ omega arith)
+
+-- ---- one export
+
+pub adds_export : (w : ComponentWorld) (old new : List Def) (name : ExternName) (sort : Sort) (index : ℕ) → IsExportRight w old sort index None → new ≡ old ++ defs.Item (items.Export name sort index None) ∷ [] →
+    Grows w old new (Exported (record { name = name; sort = sort }) ∷ [])
+adds_export w old new name sort index right appended = Grows-by (defs.Item (items.Export name sort index None)) appended right
+
+-- its landmarks are those of the key
+pub marked_as : (n : Naming) (w : ComponentWorld) (key : WorldKey) (item : WorldItem) → exported_item w key ≡ Some item →
+    nested_marked w (Some item) ++ Exported (record { name = name_of n w.resolve key; sort = sort_of (Some item) }) ∷ [] ≡ export_marked n w key
+marked_as n w key item is = ap (λ o. nested_marked w o ++ Exported (record { name = name_of n w.resolve key; sort = sort_of o }) ∷ []) (sym is)
+
+-- ---- what is known of a required export
+
+there_among : (es : List (WorldKey × WorldItem)) (key : WorldKey) (item : WorldItem) → lookup (is_same_key key) es ≡ Some item → (k : WorldKey) × Contains es (k, item)
+there_among [] key item h = absurd (none-some item h)
+there_among (e ∷ es) key item h = by (is_same_key key e.0) h (λ k. there_among es key item k)
+  where
+    by : (b : Bool) → cond b (Some e.1) (lookup (is_same_key key) es) ≡ Some item → (lookup (is_same_key key) es ≡ Some item → (k : WorldKey) × Contains es (k, item)) → (k : WorldKey) × Contains (e ∷ es) (k, item)
+    by true same rest = (e.0, subst (λ i. Contains (e ∷ es) (e.0, i)) (same_Some e.1 item same) (contains_first e es))
+    by false same rest = let r = rest same in (r.0, contains_later e es (r.0, item) r.1)
+
+pub item_there : (w : ComponentWorld) (key : WorldKey) (item : WorldItem) → exported_item w key ≡ Some item → (k : WorldKey) × Contains (items_of w).exports (k, item)
+item_there w key item is = there_among (items_of w).exports key item is
+
+entry_sound : (w : ComponentWorld) → IsEncodable w → (e : WorldKey × WorldItem) → Contains (items_of w).exports e → HasEntry w.resolve e
+entry_sound w ok e c =
+    let world : HasWorld w.resolve (items_of w) = all_at (HasWorld w.resolve) w.resolve.worlds w.world.index no_items ok.sound.worlds ok.valid.present in
+    AllByRecursion-contains (HasEntry w.resolve) (items_of w).exports e world.exports c
+
+bytes_laws : IsEquivalence bytes_eq
+bytes_laws = search (comparing, rules)
+
+same_keys : IsEquivalence is_same_key
+same_keys = search (comparing, rules) depth 12
+
+pub interface_there : (w : ComponentWorld) → IsEncodable w → (key : WorldKey) (id : InterfaceId) → exported_item w key ≡ Some (world_items.Interface id) → HasInterface w.resolve id
+interface_there w ok key id is = let there = item_there w key (world_items.Interface id) is in (entry_sound w ok (there.0, world_items.Interface id) there.1).1
+
+-- an item is exported at each key of the exports
+item_at : (es : List (WorldKey × WorldItem)) (key : WorldKey) → Contains (map (λ e. e.0) es) key → IsSome (lookup (is_same_key key) es)
+item_at [] key c = contains_none key c
+item_at (e ∷ es) key c = by (is_same_key key e.0) refl (contains_cons e.0 (map (λ e. e.0) es) key c) (λ d. item_at es key d)
+  where
+    by : (b : Bool) → is_same_key key e.0 ≡ b → (e.0 ≡ key) ⊎ Contains (map (λ e. e.0) es) key → (Contains (map (λ e. e.0) es) key → IsSome (lookup (is_same_key key) es)) → IsSome (cond b (Some e.1) (lookup (is_same_key key) es))
+    by true same c rest = refl
+    by false other (inr c) rest = rest c
+    by false other (inl is) rest = absurd (true≢false (sym (same_keys.refl key) ∙ (ap (λ k. is_same_key key k) (sym is) ∙ other)))
+
+pub required_item : (w : ComponentWorld) (key : WorldKey) → IsRequired w w.main key → IsSome (exported_item w key)
+required_item w key h = item_at (items_of w).exports key h.exported
+
+contained_key : (es : List (WorldKey × WorldItem)) (key : WorldKey) → Contains (map (λ e. e.0) es) key → (e : WorldKey × WorldItem) × ((e.0 ≡ key) × Contains es e)
+contained_key [] key c = contains_none key c
+contained_key (e ∷ es) key c = by (contains_cons e.0 (map (λ e. e.0) es) key c) (λ d. contained_key es key d)
+  where
+    by : (e.0 ≡ key) ⊎ Contains (map (λ e. e.0) es) key → (Contains (map (λ e. e.0) es) key → (f : WorldKey × WorldItem) × ((f.0 ≡ key) × Contains es f)) → (f : WorldKey × WorldItem) × ((f.0 ≡ key) × Contains (e ∷ es) f)
+    by (inl is) rest = (e, (is, contains_first e es))
+    by (inr later) rest = let r = rest later in (r.0, (r.1.0, contains_later e es r.0 r.1.1))
+
+pub key_sound : (w : ComponentWorld) → IsEncodable w → (key : WorldKey) → IsRequired w w.main key → HasKey w.resolve key
+key_sound w ok key h =
+    let e = contained_key (items_of w).exports key h.exported in
+    subst (HasKey w.resolve) e.1.0 (entry_sound w ok e.0 e.1.1).0
+
+-- the function that a required key exports
+pub function_required : (w : ComponentWorld) → IsEncodable w → (key : WorldKey) (f : Function) → exported_item w key ≡ Some (world_items.Function f) → IsRequired w w.main key → IsMainFunction w (at_key key f.name) f
+function_required w ok key f is h =
+    let there = item_there w key (world_items.Function f) is in
     record {
-      extends = extends_then old mid new h.extends extends;
-      grows = subst (λ m. Grows w old.defs new.defs m) (sym marks) (Grows-then h.grows grows);
-      encoded = subst (λ ks. AllByRecursion (λ k. IsSome (export_encoding w k)) ks) (sym more) (AllByRecursion-push (λ k. IsSome (export_encoding w k)) (take i keys) key h.encoded encoded);
-      has = subst (λ ks. AllByRecursion (HasLiftOptions w) ks) (sym more) (AllByRecursion-push (HasLiftOptions w) (take i keys) key h.has has);
+      exported = ap (λ o. function_of_item w.resolve f.name o) is;
+      present = (subst (λ o. AllByRecursion (λ name. IsSome (core_name_of w key name)) (functions_in w.resolve o)) is h.present).0;
+      sound = (entry_sound w ok (there.0, world_items.Function f) there.1).1;
     }
 
--- all keys were exported
-pub exports_done : (w : ComponentWorld) (old new : Built) (keys : List WorldKey) (i : ℕ) → length keys ≡ i → ExportsSoFar w old new (take i keys) → ExportsSoFar w old new keys
-exports_done w old new keys i e h = subst (λ ks. ExportsSoFar w old new ks) (take_all i keys (omega (arith, e))) h
+pub function_alone : (w : ComponentWorld) (key : WorldKey) (f : Function) → exported_item w key ≡ Some (world_items.Function f) → functions_of_key w key ≡ main_function (at_key key f.name) ∷ []
+function_alone w key f is = ap (λ o. map (λ name. record { of = Main; key = key; function = name }) (functions_in w.resolve o)) is
 
--- a required key has a core export in main
-pub key_has_core_name : (w : ComponentWorld) (keys : List WorldKey) → IsEncodable w → keys ≡ w.main_exports → (i : ℕ) (key : WorldKey) → i < length keys → key ≡ get_or keys i key → IsSome (core_name_of w key)
-key_has_core_name w keys valid same i key l is =
-    let all : AllByRecursion (IsRequired w w.main) keys = subst (λ ks. AllByRecursion (IsRequired w w.main) ks) (sym same) valid.valid.main.required in
-    let one : IsRequired w w.main key = AllByRecursion-at (IsRequired w w.main) keys i key all l (sym is) in one.present
+-- ---- the functions of a required interface
+
+module _ (w : ComponentWorld) (ok : IsEncodable w) (key : WorldKey) (id : InterfaceId) (is : exported_item w key ≡ Some (world_items.Interface id)) where
+  abbrev entries : List (List ℕ × Function)
+  entries = functions_of w.resolve id
+
+  there : (k : WorldKey) × Contains (items_of w).exports (k, world_items.Interface id)
+  there = item_there w key (world_items.Interface id) is
+
+  -- each has its name
+  pub entries_named : AllByRecursion IsNamedFunction entries
+  entries_named = by there.0 (AllByRecursion-contains (IsExportItem w.resolve) (items_of w).exports (there.0, world_items.Interface id) ok.valid.exports there.1)
+    where
+      by : (k : WorldKey) → IsExportItem w.resolve (k, world_items.Interface id) → AllByRecursion IsNamedFunction entries
+      by (keys.Name text) h = h
+      by (keys.Interface other) h = h
+
+  pub own_names : AllByRecursion (λ (e : List ℕ × Function). e.0 ≡ e.1.name) entries
+  own_names = AllByRecursion-weaker (λ (e : List ℕ × Function) h. h.0) entries entries_named
+
+  entry_found : IsDistinct bytes_eq (keys_of entries) → (e : List ℕ × Function) → Contains entries e → function_exported w key e.0 ≡ Some e.1
+  entry_found apart e c = ap (λ o. function_of_item w.resolve e.0 o) is ∙ lookup-from_Contains bytes_laws e.0 e.1 entries apart c
+
+  one_sound : IsDistinct bytes_eq (keys_of entries) → (e : List ℕ × Function) → Contains entries e → HasFunction w.resolve e.1
+  one_sound apart e c = exported_sound w ok e.1 (exported_there w (record { key = key; name = e.0; exported = entry_found apart e c }))
+
+  pub entries_sound : IsDistinct bytes_eq (keys_of entries) → AllByRecursion (λ (e : List ℕ × Function). HasFunction w.resolve e.1) entries
+  entries_sound apart = all_of_each (λ (e : List ℕ × Function). HasFunction w.resolve e.1) entries (λ e c. one_sound apart e c)
+
+  pub entries_unnamed : AllByRecursion (λ f. function_passes (is_unnamed w.resolve.types) w.resolve.types f ≡ true) (map (λ (e : List ℕ × Function). e.1) entries)
+  entries_unnamed = mapped entries (all_of_each (λ (e : List ℕ × Function). function_passes (is_unnamed w.resolve.types) w.resolve.types e.1 ≡ true) entries (λ e c. exported_unnamed w ok e.1 there.0 id e.0 there.1 c))
+    where
+      mapped : (es : List (List ℕ × Function)) → AllByRecursion (λ (e : List ℕ × Function). function_passes (is_unnamed w.resolve.types) w.resolve.types e.1 ≡ true) es → AllByRecursion (λ f. function_passes (is_unnamed w.resolve.types) w.resolve.types f ≡ true) (map (λ (e : List ℕ × Function). e.1) es)
+      mapped [] h = tt
+      mapped (e ∷ es) h = (h.0, mapped es h.1)
+
+  pub interface_functions : functions_of_key w key ≡ functions_at key entries
+  interface_functions = ap (λ o. map (λ name. record { of = Main; key = key; function = name }) (functions_in w.resolve o)) is ∙ twice entries
+    where
+      twice : (es : List (List ℕ × Function)) → map (λ name. record { of = Main; key = key; function = name }) (map (λ (e : List ℕ × Function). e.0) es) ≡ functions_at key es
+      twice [] = refl
+      twice (e ∷ es) = ap (λ l. main_function (at_key key e.0) ∷ l) (twice es)
+
+  pub entries_required : IsRequired w w.main key → IsDistinct bytes_eq (keys_of entries) → AreMainFunctions w key entries
+  entries_required h apart =
+      let present : AllByRecursion (λ name. IsSome (core_name_of w key name)) (map (λ (e : List ℕ × Function). e.0) entries) = subst (λ o. AllByRecursion (λ name. IsSome (core_name_of w key name)) (functions_in w.resolve o)) is h.present in
+      all_of_each (λ e. IsMainFunction w (at_key key e.0) e.1) entries
+      (λ e c. record {
+        exported = entry_found apart e c;
+        present = AllByRecursion-contains (λ name. IsSome (core_name_of w key name)) (map (λ (e : List ℕ × Function). e.0) entries) e.0 present (Contains-map (λ (e : List ℕ × Function). e.0) entries e c);
+        sound = one_sound apart e c;
+      })
+
+-- ---- all exports
+
+-- the keys that were exported so far
+pub record ExportsSoFar (n : Naming) (w : ComponentWorld) (old new : Root) (done : List WorldKey) : Type 0 where
+  pub kept : RootKept w old new
+  pub grows : Grows w old.items.defs new.items.defs (flat_map (export_marked n w) done)
+  pub encoded : AllByRecursion (IsEncodedExport w) (flat_map (functions_of_key w) done)
+  pub has : AllByRecursion (HasLiftOptions w) (flat_map (functions_of_key w) done)
+
+pub exports_start : (n : Naming) (w : ComponentWorld) (root : Root) → RootKept w root root → ExportsSoFar n w root root []
+exports_start n w root kept = record { kept = kept; grows = Grows-none w root.items.defs; encoded = tt; has = tt }
+
+flat_more : {A B : Type 0} (f : A → List B) (xs : List A) (i : ℕ) (x : A) → i < length xs → x ≡ get_or xs i x → flat_map f (take (i + 1) xs) ≡ flat_map f (take i xs) ++ f x
+flat_more f xs i x l is =
+    ap (flat_map f) (take_more xs i x l ∙ ap (λ k. take i xs ++ k ∷ []) (sym is)) ∙ (flat_map-append f (take i xs) (x ∷ []) ∙ ap (λ l. flat_map f (take i xs) ++ l) (append-nil (f x)))
+
+pub exports_step : (n : Naming) (w : ComponentWorld) (old mid new : Root) (ks : List WorldKey) (i : ℕ) (key : WorldKey) → ExportsSoFar n w old mid (take i ks) → i < length ks → key ≡ get_or ks i key → RootKept w mid new →
+    Grows w mid.items.defs new.items.defs (export_marked n w key) → AllByRecursion (IsEncodedExport w) (functions_of_key w key) → AllByRecursion (HasLiftOptions w) (functions_of_key w key) → ExportsSoFar n w old new (take (i + 1) ks)
+exports_step n w old mid new ks i key h l is kept grows encoded has = record {
+  kept = kept_then w old mid new h.kept kept;
+  grows = subst (λ m. Grows w old.items.defs new.items.defs m) (sym (flat_more (export_marked n w) ks i key l is)) (Grows-then h.grows grows);
+  encoded = subst (AllByRecursion (IsEncodedExport w)) (sym (flat_more (functions_of_key w) ks i key l is)) (all_both (IsEncodedExport w) (flat_map (functions_of_key w) (take i ks)) (functions_of_key w key) h.encoded encoded);
+  has = subst (AllByRecursion (HasLiftOptions w)) (sym (flat_more (functions_of_key w) ks i key l is)) (all_both (HasLiftOptions w) (flat_map (functions_of_key w) (take i ks)) (functions_of_key w key) h.has has);
+}
+
+-- so many were exported
+pub exports_counted : (n : Naming) (w : ComponentWorld) (old new : Root) (ks : List WorldKey) (i : ℕ) → exports_in old.items.defs ≡ 0 → i < length ks → ExportsSoFar n w old new (take i ks) → exports_in new.items.defs ≡ i
+exports_counted n w old new ks i none l h =
+    let many : exported_marks (flat_map (export_marked n w) (take i ks)) ≡ i = all_marked n w (take i ks) ∙ length-take-le i ks (omega (arith, l)) in
+    let grown = exports_grow h.grows in
+    omega (arith, grown, none, many)
+
+-- the next one is exported at this key
+pub next_exported : (n : Naming) (w : ComponentWorld) (old new : Root) (ks : List WorldKey) (i : ℕ) (key : WorldKey) → ks ≡ w.main_exports → exports_in old.items.defs ≡ 0 → i < length ks → key ≡ get_or ks i key → ExportsSoFar n w old new (take i ks) →
+    slice_get w.main_exports (exports_in new.items.defs) ≡ Some key
+next_exported n w old new ks i key same none l is h = ap₂ slice_get (sym same) (exports_counted n w old new ks i none l h) ∙ (slice_get-get_or ks i key l ∙ ap Some (sym is))
+
+-- all keys were exported
+required_are : (w : ComponentWorld) (ks : List WorldKey) → flat_map (functions_required w) (map (λ key. record { of = Main; key = key }) ks) ≡ flat_map (functions_of_key w) ks
+required_are w [] = refl
+required_are w (k ∷ ks) = ap (λ l. functions_of_key w k ++ l) (required_are w ks)
+
+pub record ExportsDone (n : Naming) (w : ComponentWorld) (old new : Root) : Type 0 where
+  pub kept : RootKept w old new
+  pub grows : Grows w old.items.defs new.items.defs (exports_marked n w)
+  pub encoded : AllByRecursion (IsEncodedExport w) (required_functions w)
+  pub has : AllByRecursion (HasLiftOptions w) (required_functions w)
+
+pub exports_done : (n : Naming) (w : ComponentWorld) (old new : Root) (i : ℕ) → length w.main_exports ≡ i → ExportsSoFar n w old new (take i w.main_exports) → ExportsDone n w old new
+exports_done n w old new i e h =
+    let all : take i w.main_exports ≡ w.main_exports = take_all i w.main_exports (omega (arith, e)) in
+    let functions : flat_map (functions_of_key w) (take i w.main_exports) ≡ required_functions w = ap (flat_map (functions_of_key w)) all ∙ sym (required_are w w.main_exports) in
+    record {
+      kept = h.kept;
+      grows = subst (λ ks. Grows w old.items.defs new.items.defs (flat_map (export_marked n w) ks)) all h.grows;
+      encoded = subst (AllByRecursion (IsEncodedExport w)) functions h.encoded;
+      has = subst (AllByRecursion (HasLiftOptions w)) functions h.has;
+    }
+
+-- the next key is required
+pub key_required : (w : ComponentWorld) → IsEncodable w → (i : ℕ) (key : WorldKey) → i < length w.main_exports → key ≡ get_or w.main_exports i key → IsRequired w w.main key
+key_required w ok i key l is = AllByRecursion-at (IsRequired w w.main) w.main_exports i key ok.valid.main.required l (sym is)
 
 -- a refusal of a required export is one of the world's
-pub export_refused : (w : ComponentWorld) (keys : List WorldKey) → keys ≡ w.main_exports → (i : ℕ) (key : WorldKey) → i < length keys → key ≡ get_or keys i key →
-    (e : StateFault) → IsCauseAmong w [] (key ∷ []) e → IsCause w e
-export_refused w keys same i key l is e h =
-    among_more w [] (core_imports w) (key ∷ []) w.main_exports (λ x c. contains_none x c)
-    (λ k c. subst (λ x. Contains w.main_exports x) (contains_one key k c) (subst (λ ks. Contains ks key) same (i, l, sym is))) e h
+pub export_refused : (w : ComponentWorld) (i : ℕ) (key : WorldKey) → i < length w.main_exports → key ≡ get_or w.main_exports i key → (e : StateFault) → IsCauseAmong w [] (functions_of_key w key) e → IsCause w e
+export_refused w i key l is e h =
+    among_more w [] (core_imports w) (functions_of_key w key) (required_functions w) (λ x c. contains_none x c)
+    (λ r c. subst (λ fs. Contains fs r) (sym (required_are w w.main_exports)) (contains_flat (functions_of_key w) w.main_exports key r (i, l, sym is) c)) e h
 
--- ---- the function of a required export
+-- a look-up that finds something, as its caller sees it
+pub copied_there : {X : Type 0} (o : Option (Bor X)) → IsSome (option_copied o) → IsSome o
+copied_there None h = h
+copied_there (Some b) h = refl
 
--- a function that core exports implement is one that the world exports
-name_exported : (w : ComponentWorld) (text name : List ℕ) (es : List (List ℕ × WorldExport)) → AllByRecursion (λ e. IsExportRole w e.1) es → found text (flat_map root_export es) ≡ Some name → Contains (exported_functions w) text
-name_exported w text name [] r h = absurd (none-some name h)
-name_exported w text name ((n, exports.WorldFunc (keys.Name t) function abi) ∷ es) r h = by (bytes_eq text t) refl h (name_exported w text name es r.1)
+-- no type is exported
+pub never_type : (w : ComponentWorld) → IsEncodable w → (key : WorldKey) (id : TypeId) → exported_item w key ≡ Some (world_items.NamedType id) → ⊥
+never_type w ok key id is =
+    let there = item_there w key (world_items.NamedType id) is in
+    by there.0 (AllByRecursion-contains (IsExportItem w.resolve) (items_of w).exports (there.0, world_items.NamedType id) ok.valid.exports there.1)
   where
-    by : (b : Bool) → bytes_eq text t ≡ b → cond b (Some n) (found text (flat_map root_export es)) ≡ Some name → (found text (flat_map root_export es) ≡ Some name → Contains (exported_functions w) text) → Contains (exported_functions w) text
-    by true same e rest = subst (λ x. Contains (exported_functions w) x) (sym ((bytes_eq-Decides text t).0 same)) r.0.0
-    by false same e rest = rest e
-name_exported w text name ((n, role) ∷ es) r h = name_exported w text name es r.1 h
-
--- among exports that are all functions, a name is found as a function
-pub record FindsFunction (es : List (WorldKey × WorldItem)) (key : WorldKey) : Type 0 where
-  pub function : Function
-  pub is : lookup (is_same_key key) es ≡ Some (world_items.Function function)
-
-function_at : (es : List (WorldKey × WorldItem)) (text : List ℕ) → AllByRecursion IsExportItem es → Contains (flat_map root_function es) text → FindsFunction es (keys.Name text)
-function_at [] text h c = contains_none text c
-function_at ((keys.Name t, world_items.Function f) ∷ es) text h c = by (bytes_eq text t) refl (contains_cons t (flat_map root_function es) text c) (λ k. function_at es text h.1 k)
-  where
-    by : (b : Bool) → bytes_eq text t ≡ b → (t ≡ text) ⊎ Contains (flat_map root_function es) text → (Contains (flat_map root_function es) text → FindsFunction es (keys.Name text)) → FindsFunction ((keys.Name t, world_items.Function f) ∷ es) (keys.Name text)
-    by true same k rest = record { function = f; is = ap (λ b. cond (b && true) (Some (world_items.Function f)) (lookup (is_same_key (keys.Name text)) es)) same }
-    by false same (inl k) rest = let yes = (bytes_eq-Decides text t).1 (sym k) in let no = sym yes ∙ same in absurd (true≢false no)
-    by false same (inr k) rest = let r = rest k in record { function = r.function; is = ap (λ b. cond (b && true) (Some (world_items.Function f)) (lookup (is_same_key (keys.Name text)) es)) same ∙ r.is }
-function_at (e ∷ es) text h c = absurd h.0
-
-pub key_function : (w : ComponentWorld) → IsEncodable w → (key : WorldKey) → IsSome (core_name_of w key) → FindsFunction (items_of w).exports key
-key_function w ok (keys.Name text) some = by (found text (flat_map root_export w.main.exports.exports)) refl some
-  where
-    by : (o : Option (List ℕ)) → found text (flat_map root_export w.main.exports.exports) ≡ o → IsSome o → FindsFunction (items_of w).exports (keys.Name text)
-    by (Some name) e h = function_at (items_of w).exports text ok.valid.exports (name_exported w text name w.main.exports.exports ok.valid.main.export_roles e)
-    by None e h = absurd (true≢false (sym h))
-key_function w ok (keys.Interface id) some = absurd (true≢false (sym some))
-
--- the world's function at a key
-pub function_there : (w : ComponentWorld) → IsEncodable w → (key : WorldKey) → IsSome (core_name_of w key) → IsSome (root_function_at (items_of w).exports key)
-function_there w ok key some = let f = key_function w ok key some in subst (λ o. IsSome o) (sym (ap (option_and_then function_in) f.is)) refl
-
-item_there : (es : List (WorldKey × WorldItem)) (P : WorldKey × WorldItem → Type 0) (key : WorldKey) (item : WorldItem) → AllByRecursion P es → lookup (is_same_key key) es ≡ Some item → (k : WorldKey) × P (k, item)
-item_there [] P key item h e = absurd (none-some item e)
-item_there (x ∷ xs) P key item h e = by (is_same_key key x.0) e (item_there xs P key item h.1)
-  where
-    by : (b : Bool) → cond b (Some x.1) (lookup (is_same_key key) xs) ≡ Some item → (lookup (is_same_key key) xs ≡ Some item → (k : WorldKey) × P (k, item)) → (k : WorldKey) × P (k, item)
-    by true same rest = (x.0, subst (λ i. P (x.0, i)) (same_Some x.1 item same) h.0)
-    by false same rest = rest same
-
-world_at : (r : Resolve) (ws : List World) (n : ℕ) → n < length ws → AllByRecursion (HasWorld r) ws → HasWorld r (get_or ws n no_items)
-world_at r [] n l h = absurd (omega (arith, l))
-world_at r (x ∷ xs) zero l h = h.0
-world_at r (x ∷ xs) (suc n) l h = world_at r xs n (omega (arith, l)) h.1
-
--- its types are in the resolve
-pub function_sound : (w : ComponentWorld) → IsEncodable w → (key : WorldKey) → IsSome (core_name_of w key) → (f : Function) → root_function_at (items_of w).exports key ≡ Some f → HasFunction w.resolve f
-function_sound w ok key some f e =
-    let k = key_function w ok key some in
-    let same : k.function ≡ f = same_Some k.function f (sym (ap (option_and_then function_in) k.is) ∙ e) in
-    let exports = (world_at w.resolve w.resolve.worlds w.world.index ok.valid.present ok.sound.worlds).exports in
-    let there = item_there (items_of w).exports (HasEntry w.resolve) key (world_items.Function k.function) exports k.is in
-    subst (λ x. HasFunction w.resolve x) same there.1.1
-
--- it is one of the world's exports
-pub function_exported : (w : ComponentWorld) → IsEncodable w → (key : WorldKey) → IsSome (core_name_of w key) → (f : Function) → root_function_at (items_of w).exports key ≡ Some f → IsExportedFunction w f
-function_exported w ok key some f e =
-    let k = key_function w ok key some in
-    let same : k.function ≡ f = same_Some k.function f (sym (ap (option_and_then function_in) k.is) ∙ e) in
-    let es = (items_of w).exports in
-    let there = item_there es (Contains es) key (world_items.Function k.function) (all_of_each (Contains es) es (λ x c. c)) k.is in
-    record { key = there.0; there = subst (λ x. Contains es (there.0, world_items.Function x)) same there.1 }
+    by : (k : WorldKey) → IsExportItem w.resolve (k, world_items.NamedType id) → ⊥
+    by (keys.Name text) h = h
+    by (keys.Interface other) h = h

@@ -1,4 +1,8 @@
-pub mod Exporting
 pub mod Growth
-pub mod Indexing
 pub mod NeededOptions
+pub mod Tabled
+pub mod Lifting
+pub mod Arguments
+pub mod Nested
+pub mod Exporting
+pub mod Instances

@@ -1,43 +1,137 @@
 -- What is taken as given where the required exports are lifted, and what is lifted for each. (The rules are this project's own.)
-use Rattle.std.specs.Prelude.{◌≡◌, ℕ, List, Option, Some, IsSome}
-use Rattle.comp_lists.specs.Found.{found}
+use Rattle.std.specs.Prelude.{◌≡◌, ℕ, List, [], ◌∷◌, map, Some, IsSome, slice_get, None}
+use Rattle.std.specs.List.{AllByRecursion, IsDistinct, flat_map}
+use Rattle.std.specs.Option.{option_copied}
+use Rattle.std.specs.Str.{bytes_eq}
+use Rattle.comp_bytes.specs.ItemIndices.{IsAt}
+use Rattle.comp_bytes.specs.ScopeNames.{item_import, item_export}
+use Rattle.comp_bytes.specs.declared.def.Argument.{Argument}
 use Rattle.comp_bytes.specs.declared.def.Def.{Def}
-use Rattle.wit_data.specs.Keys.{name_of_key}
+use Rattle.comp_bytes.specs.declared.def.Def.TheVariants as defs
+use Rattle.comp_bytes.specs.declared.def.Item.{Item}
+use Rattle.comp_bytes.specs.declared.def.Item.TheVariants as items
+use Rattle.comp_bytes.specs.declared.space.Space.TheVariants as spaces
+use Rattle.comp_bytes.specs.declared.space.Sort.TheVariants as sorts
+use Rattle.standard_kinds.specs.declared.kinds.ExportKind.TheVariants as kinds
+use Rattle.wit_data.specs.Sound.{HasFunction}
 use Rattle.wit_data.specs.declared.functions.Function.{Function as WitFunction}
-use Rattle.wit_data.specs.declared.ids.InterfaceId.{InterfaceId}
-use Rattle.wit_data.specs.declared.ids.TypeId.{TypeId}
 use Rattle.wit_data.specs.declared.worlds.WorldKey.{WorldKey}
-use Rattle.wit_data.specs.declared.worlds.WorldKey.TheVariants as keys
-use Rattle.wit_types.specs.declared.maps.TypeEncodingMaps.{TypeEncodingMaps}
-use Rattle.world_values.specs.Items.{root_function_at}
+use Rattle.comp_trees.specs.DefinedTrees.{TypeTree, OfFunctions}
+use Rattle.nested_terms.specs.Naming.{AreNames}
+use Rattle.nested_terms.specs.Nested.{empty_scope, imports_after, exports_after, AreItemsRight}
+use Rattle.nested_components.specs.Functions.{no_types, functions_of as functions_among, nested_functions, imported, exported}
+use Rattle.comp_trees.specs.Inventories.{inventory}
+use Rattle.comp_roles.specs.declared.metadata.FunctionKey.{FunctionKey}
 use Rattle.comp_worlds.specs.Encodable.{IsEncodable}
-use Rattle.comp_worlds.specs.WorldContents.{core_name_of, items_of}
+use Rattle.comp_worlds.specs.WorldContents.{core_name_of, function_exported}
 use Rattle.comp_worlds.specs.declared.world.ComponentWorld.{ComponentWorld}
-use Rattle.comp_links.specs.Links.{lift_of}
-use Rattle.comp_links.specs.Roles.{export_encoding}
-use Rattle.comp_links.specs.Targets.{Main, Target}
-use Rattle.comp_terms.specs.Planned.{type_of_function, IsLiftFor}
-use Rattle.comp_terms.specs.Terms.{IsInstanceOf}
+use Rattle.comp_links.specs.Links.{lift_realloc}
+use Rattle.comp_links.specs.Lists.{RequiredFunction, functions_required, resource_of}
+use Rattle.comp_links.specs.Targets.{Main}
+use Rattle.comp_terms.specs.Exports.{IsArgumentRight, IsImportGiven, IsRequiredLift}
+use Rattle.comp_terms.specs.Rules.{Landmark, NestedOf}
+use Rattle.comp_terms.specs.Planned.{type_of_function}
+use Rattle.comp_terms.specs.Terms.{IsExported}
+use Rattle.comp_items.specs.Items.{Extends}
 use Rattle.root_imports.specs.RootScopes.{AreTablesRight, ArePassed}
-use Rattle.main_exports.specs.declared.exports.MainExports.{MainExports}
+use Rattle.root_imports.specs.declared.root_scope.RootScope.{RootScope}
+use Rattle.core_options.specs.MainOptions.{of_main, AreOptionSources}
+use Rattle.main_exports.specs.Tables.{AreTablesOf}
+use Rattle.main_exports.specs.declared.sources.MainExports.{MainExports}
 
--- each name of a root function has the name of the core export that implements it
-pub record FindsCoreNames (w : ComponentWorld) (core_names : List (List ℕ × List ℕ)) : Type 0 where
-  pub each : (text : List ℕ) → found text core_names ≡ core_name_of w (keys.Name text)
+abbrev pub Root : Type 0
+Root = RootScope ComponentWorld
 
--- what root functions are lifted from is there, and the tables of types are right
-pub record AreExports (w : ComponentWorld) (e : MainExports) (last : Option TypeId) (ds : List Def) (maps : TypeEncodingMaps) (instances : List (InterfaceId × ℕ)) : Type 0 where
+-- what functions are lifted from is there, and the tables of types are right
+pub record AreExports (w : ComponentWorld) (e : MainExports) (root : Root) : Type 0 where
   pub valid : IsEncodable w
-  pub named : FindsCoreNames w e.core_names.now
-  pub made : IsInstanceOf ds e.instance 0
-  pub tables : AreTablesRight w last instances ds maps
-  pub passed : ArePassed w last
+  pub tabled : AreTablesOf w.main.exports.exports e.tables
+  pub sources : AreOptionSources w root.items.defs e.sources
+  pub realloc : option_copied e.sources.realloc ≡ lift_realloc w
+  pub tables : AreTablesRight w root.last_type root.instances root.items.defs root.maps
+  pub passed : ArePassed w root.last_type
 
--- the function is the lift that the link table names for the required function of this key, with its type
-pub record IsRequiredLift (w : ComponentWorld) (ds : List Def) (index : ℕ) (key : WorldKey) : Type 0 where
-  pub target : Target
-  pub wit : WitFunction
-  pub said : lift_of w (record { of = Main; key = key; function = name_of_key key }) ≡ Some target
-  pub exported : root_function_at (items_of w).exports key ≡ Some wit
-  pub is : IsLiftFor w ds index target (type_of_function w wit)
-  pub encoded : IsSome (export_encoding w key)
+-- the root after a step: the tables are right, and the component has only grown at its end
+pub record RootKept (w : ComponentWorld) (old new : Root) : Type 0 where
+  pub world : new.world ≡ old.world
+  pub next : new.last_type ≡ old.last_type
+  pub instances : new.instances ≡ old.instances
+  pub extends : Extends old.items new.items
+  pub tables : AreTablesRight w old.last_type new.instances new.items.defs new.maps
+
+-- a function that main has to export
+abbrev pub main_function : FunctionKey → RequiredFunction
+main_function f = record { of = Main; key = f.key; function = f.function }
+
+-- the function of a name at a key is this one, main has a core export that implements it, and its types are in the resolve
+pub record IsMainFunction (w : ComponentWorld) (f : FunctionKey) (function : WitFunction) : Type 0 where
+  pub exported : function_exported w f.key f.function ≡ Some function
+  pub present : IsSome (core_name_of w f.key f.function)
+  pub sound : HasFunction w.resolve function
+
+-- the core function of this index is the core export that implements a function
+pub record IsEntryOf (w : ComponentWorld) (ds : List Def) (f : FunctionKey) (index : ℕ) : Type 0 where
+  pub name : List ℕ
+  pub said : core_name_of w f.key f.function ≡ Some name
+  pub alias : IsExported ds index (of_main kinds.Func name)
+
+-- the function of this index is the lift that the link table names, and it has the type of the function
+pub record IsTypedLift (w : ComponentWorld) (ds : List Def) (f : FunctionKey) (function : WitFunction) (index : ℕ) : Type 0 where
+  pub lifted : IsRequiredLift w ds (main_function f) index
+  pub entry : slice_get (inventory ds).functions index ≡ Some (record { origin = None; type = OfFunctions (type_of_function w function) })
+
+-- ---- interfaces
+
+abbrev pub at_key : WorldKey → List ℕ → FunctionKey
+at_key key name = record { key = key; function = name }
+
+-- the functions of an interface at a key that main has to export
+abbrev pub functions_at : WorldKey → List (List ℕ × WitFunction) → List RequiredFunction
+functions_at key entries = map (λ e. main_function (at_key key e.0)) entries
+
+-- each of these functions is one
+abbrev pub AreMainFunctions : ComponentWorld → WorldKey → List (List ℕ × WitFunction) → Type 0
+AreMainFunctions w key entries = AllByRecursion (λ e. IsMainFunction w (at_key key e.0) e.1) entries
+
+-- the argument is the lift of a function, under the name of its import
+pub record IsLiftArgument (w : ComponentWorld) (ds : List Def) (key : WorldKey) (e : List ℕ × WitFunction) (name : List ℕ) (a : Argument) : Type 0 where
+  pub named : a.name ≡ name
+  pub sort : a.sort ≡ sorts.Func
+  pub lifted : IsTypedLift w ds (at_key key e.0) e.1 a.index
+
+-- the arguments are the lifts of these functions, under these names, in their order
+abbrev pub AreLiftArguments : ComponentWorld → List Def → WorldKey → List (List ℕ × WitFunction) → List (List ℕ) → List Argument → Type 0
+AreLiftArguments w ds key [] [] [] = Unit {0}
+AreLiftArguments w ds key (e ∷ entries) (name ∷ names) (a ∷ arguments) = IsLiftArgument w ds key e name a × AreLiftArguments w ds key entries names arguments
+AreLiftArguments w ds key entries names arguments = ⊥
+
+-- the functions that main has to export at a key
+abbrev pub functions_of_key : ComponentWorld → WorldKey → List RequiredFunction
+functions_of_key w key = functions_required w (record { of = Main; key = key })
+
+-- ---- instances of nested components
+
+-- the landmark of a nested component
+abbrev pub nested_mark : List Item → Landmark
+nested_mark definitions = NestedOf (flat_map item_import definitions) (flat_map item_export definitions)
+
+-- the arguments are earlier functions and types under distinct names, one for each import of the component
+pub record AreArgumentsFor (ds : List Def) (definitions : List Item) (arguments : List Argument) : Type 0 where
+  pub given : List ℕ → TypeTree
+  pub scoped : AllByRecursion (IsArgumentRight ds) arguments
+  pub apart : IsDistinct bytes_eq (map (λ a. a.name) arguments)
+  pub right : AreItemsRight given empty_scope definitions
+  pub each : AllByRecursion (IsImportGiven ds arguments) (imports_after given empty_scope definitions)
+
+-- the instance of this index is one of a nested component with these definitions, and was given these arguments
+pub record IsInstantiated (ds : List Def) (definitions : List Item) (arguments : List Argument) (index : ℕ) : Type 0 where
+  pub component : ℕ
+  pub instance : IsAt ds spaces.Instance index (defs.Item (items.Instantiate component arguments))
+  pub made : IsAt ds spaces.Component component (defs.Component definitions)
+
+-- the names of the imports and the items of the nested component of these functions
+pub record IsNestedOf (w : ComponentWorld) (entries : List (List ℕ × WitFunction)) (names : List (List ℕ)) (definitions : List Item) : Type 0 where
+  pub named : AreNames (functions_among entries) names
+  pub right : AreItemsRight no_types empty_scope definitions
+  pub imports : imports_after no_types empty_scope definitions ≡ map imported (nested_functions (resource_of w) w.resolve.types (functions_among entries) names)
+  pub exports : exports_after no_types empty_scope definitions ≡ exported (functions_among entries) (nested_functions (resource_of w) w.resolve.types (functions_among entries) names)

@@ -1,187 +1,265 @@
-//! The required exports: each is lifted from the core export with its role, with the options that it needs, and exported.
+//! The required exports: a function is exported as its lift, an interface as an instance of a nested component, which gives the
+//! lifts of the interface's functions their types.
+//!
+//! Component model, explainer: component definitions, instance definitions, export definitions.
 #![tactic(auto, using(crate::proofs::Growth::growing))]
 
-ghost use Rattle.std.specs.Prelude.{◌≡◌, [], ◌∷◌, List, IfOk, IfErr, OnOk, IsSome, Some};
-ghost use Rattle.std.specs.List.{AllByRecursion};
-ghost use Rattle.interface_needs.specs.RootNeeds.{IsExportedFunction};
-ghost use Rattle.root_imports.specs.RootScopes.{AreTablesRight};
+ghost use Rattle.std.specs.Prelude.{◌≡◌, [], ◌∷◌, IfOk, IfErr, OnOk, Some, None, slice_get};
+ghost use Rattle.std.specs.List.{AllByRecursion, IsDistinct};
+ghost use Rattle.std.specs.Map.{keys_of};
+ghost use Rattle.std.specs.Str.{bytes_eq};
+ghost use Rattle.std.specs.Option.{option_copied};
+ghost use Rattle.comp_imports.specs.Names.{naming_of};
 ghost use Rattle.comp_items.specs.Items.{Extends};
-ghost use Rattle.comp_links.specs.Roles.{export_encoding};
-ghost use Rattle.core_options.specs.Causes.{IsCause, IsCauseAmong};
-ghost use Rattle.core_options.specs.MainOptions.{HasLiftOptions};
-ghost use Rattle.main_exports.specs.Exports.{AreExports, FindsCoreNames, IsRequiredLift};
-ghost use Rattle.comp_terms.specs.Rules.{Grows, named_export, exports_marked};
+ghost use Rattle.comp_links.specs.Links.{lift_realloc};
+ghost use Rattle.comp_links.specs.Lists.{required_functions, resource_of};
+ghost use Rattle.comp_links.specs.Naming.{name_of};
+ghost use Rattle.comp_terms.specs.Exports.{IsNestedRight, exports_in};
+ghost use Rattle.comp_terms.specs.Rules.{Exported, Grows, IsExportRight, export_marked, exports_marked};
+ghost use Rattle.comp_terms.specs.Terms.{IsInstanceOf};
 ghost use Rattle.comp_worlds.specs.Encodable.{IsEncodable};
-ghost use Rattle.comp_worlds.specs.WorldContents.{items_of, core_name_of};
-ghost use Rattle.wit_data.specs.Keys.{name_of_key};
-ghost use Rattle.wit_data.specs.Sound.{HasFunction};
-ghost use Rattle.std.specs.Option.{option_and_then, option_copied};
-ghost use Rattle.world_values.specs.Items.{function_in, root_function_at};
+ghost use Rattle.comp_worlds.specs.WorldContents.{exported_item};
+ghost use Rattle.comp_worlds.specs.Worlds.{IsRequired};
+ghost use Rattle.core_options.specs.Causes.{IsCause, IsCauseAmong, IsEncodedExport};
+ghost use Rattle.core_options.specs.MainOptions.{HasLiftOptions};
+ghost use Rattle.comp_trees.specs.Trees.{Resource};
+ghost use Rattle.main_exports.specs.Exports.{AreExports, RootKept, functions_of_key, nested_mark, AreArgumentsFor, IsInstantiated, IsNestedOf};
+ghost use Rattle.nested_components.specs.Functions.{functions_of as functions_among, AreUnnamed};
+ghost use Rattle.root_imports.specs.RootScopes.{AreTablesRight, ArePassed};
+ghost use Rattle.wit_data.specs.declared.worlds.WorldItem.TheVariants as items;
+ghost use Rattle.wit_data.specs.Sound.{IsSound, HasFunction, HasInterface, HasKey};
+ghost use Rattle.wit_data.specs.declared.ids.TypeId.{TypeId};
+ghost use Rattle.world_values.specs.Items.{functions_of};
 
-use comp_bytes::{ExternName, Sort};
-use comp_lists::{Keyed, Text};
+use crate::sources::MainExports;
+use crate::tables::{ExportTables, function_key};
+use comp_bytes::{Argument, Item, Sort};
+use comp_imports::ImportNames;
+use comp_lists::{Keyed, Seq, Text};
 use comp_worlds::ComponentWorld;
-use core_options::{StateFault, encoding_of};
+use core_options::{OptionSources, StateFault, memory_name};
+use nested_components::{NestedComponent, nested_component};
 use root_imports::RootScope;
-use standard_kinds::StringEncoding;
-use std::alloc::Global;
-use wit_data::{Function, WorldItem, WorldKey};
+use std::alloc::{AllocError, Global};
+use wit_data::{Function, InterfaceId, WorldItem, WorldKey};
 
-/// The name of a root function.
-pub(crate) fn function_name<'k>(world: &ComponentWorld, key: &'k WorldKey) -> &'k Text
-    requires { IsSome (core_name_of world.now key.now) }
-    ensures { result.now ≡ name_of_key key.now }
+/// The realloc of calls of exports, if main exports one: one for all of them, whatever their keys.
+fn lift_realloc(world: &ComponentWorld) -> Option<&str>
+    ensures { option_copied result ≡ lift_realloc world.now }
 {
-    let _ = world;
-    match key {
-        WorldKey::Name(function) => function,
-        WorldKey::Interface(_) => unreachable!(),
-    }
+    let any = WorldKey::Interface(InterfaceId { index: 0 });
+    world.main.exports.export_realloc_for(&any, "")
 }
 
-/// The function that an item is.
-fn as_function<'w>(item: Option<&'w WorldItem>) -> &'w Function
-    requires { IsSome (option_and_then function_in (option_copied item)) }
-    ensures { option_and_then function_in (option_copied item.entry) ≡ Some result.now }
-{
-    match item.unwrap() {
-        WorldItem::Function(function) => function,
-        WorldItem::Interface(_) => unreachable!(),
-        WorldItem::NamedType(_) => unreachable!(),
-    }
+/// The debug name of what is generated for an interface.
+fn debug_name(alloc: Global, interface: &Text, what: &str) -> Result<Text, AllocError> {
+    let mut name = String::from_str(alloc, interface.as_str())?;
+    name.push_str(what)?;
+    Ok(Text::from_string(name))
 }
 
-/// The function that the world exports at a key.
-fn exported_function<'w>(world: &'w ComponentWorld, key: &WorldKey) -> &'w Function
-    requires valid { IsEncodable world.now }
-    requires present { IsSome (core_name_of world.now key.now) }
-    ensures found { root_function_at (items_of world.now).exports key.now ≡ Some result.now }
-    ensures exported { IsExportedFunction world.now result.now }
-    ensures sound { HasFunction world.now.resolve result.now }
+/// The functions of an interface, and that their names are distinct, which an iterator over them says.
+fn functions_of(world: &ComponentWorld, id: InterfaceId) -> &Keyed<Text, Function>
+    requires present { HasInterface world.now.resolve id }
+    ensures functions { result.now ≡ functions_of world.now.resolve id }
+    ensures apart { IsDistinct bytes_eq (keys_of result.now) }
 {
-    as_function(world.items().exports.get(key))
+    let functions = &world.resolve.interfaces.as_slice()[id.index].functions;
+    let _ = functions.iter();
+    functions
 }
 
-/// The string encoding with which a root function is lifted. `E9` where it has none.
-pub(crate) fn lift_encoding(
+/// The nested component of an exported interface that has these functions.
+fn interface_component(
     alloc: Global,
     world: &ComponentWorld,
-    key: &WorldKey,
-) -> Result<StringEncoding, StateFault>
-    requires { IsSome (core_name_of world.now key.now) }
-    ensures ok { IfOk result (λ encoding. export_encoding world.now key.now ≡ Some encoding) }
-    ensures cause { IfErr result (IsCauseAmong world.now [] (key.now ∷ [])) }
+    functions: &Keyed<Text, Function>,
+) -> Result<NestedComponent, StateFault>
+    ghost origin: { TypeId → Resource }
+    requires origin { origin ≡ resource_of world.now }
+    requires sound { IsSound world.now.resolve }
+    requires present { AllByRecursion (λ e. HasFunction world.now.resolve e.1) functions.now }
+    requires unnamed { AreUnnamed world.now.resolve.types (functions_among functions.now) }
+    ensures nested { IfOk result (λ c. IsNestedOf world.now functions.now c.names c.items) }
+    ensures cause { IfErr result (IsCauseAmong world.now [] []) }
 {
-    let function = function_name(world, key);
-    let encodings = &world.main.metadata.export_encodings;
-    match encoding_of(alloc, encodings, key, function)? {
-        Some(encoding) => Ok(encoding),
-        None => {
-            let place = function.clone(alloc)?;
-            Err(StateFault::NoEncoding { place })
-        }
-    }
-}
-
-/// What root functions are lifted from.
-#[derive(Clone, Copy)]
-pub struct MainExports<'a> {
-    /// The names of main's exports, by the root functions that they implement.
-    pub core_names: &'a Keyed<Text, Text>,
-    /// Main's instance.
-    pub instance: u32,
+    let nested = nested_component(alloc, &world.resolve, functions)?;
+    Ok(nested)
 }
 
 impl MainExports<'_> {
-    /// The name of the core export that implements a root function.
-    fn core_name(&self, world: &ComponentWorld, key: &WorldKey) -> &Text
-        requires named { FindsCoreNames world.now self.now.core_names.now }
-        requires present { IsSome (core_name_of world.now key.now) }
-        ensures { core_name_of world.now key.now ≡ Some result.now }
-    {
-        let _ = world;
-        match key {
-            WorldKey::Name(function) => self.core_names.get(function).unwrap(),
-            WorldKey::Interface(_) => unreachable!(),
-        }
-    }
-
-    /// Lifts a required function from the core export that implements it.
-    ///
-    /// `E7` where its type needs a memory and main exports none, `E8` where it needs a realloc and main exports none for it, `E9`
-    /// where it has no string encoding, and `E16` where a space would have more than 2^32 - 1 items.
-    pub fn lift(
-        &self,
-        root: &mut RootScope<'_, ComponentWorld>,
-        key: &WorldKey,
-    ) -> Result<u32, StateFault>
-        requires exports { AreExports root.old.world.now self.now root.old.last_type root.old.items.defs root.old.maps root.old.instances }
-        requires present { IsSome (core_name_of root.old.world.now key.now) }
-        ensures world { root.new.world ≡ root.old.world }
-        ensures extends { Extends root.old.items root.new.items }
-        ensures next { root.new.last_type ≡ root.old.last_type }
-        ensures instances { root.new.instances ≡ root.old.instances }
-        ensures tables { AreTablesRight root.old.world.now root.old.last_type root.new.instances root.new.items.defs root.new.maps }
-        ensures grows { OnOk result (Grows root.old.world.now root.old.items.defs root.new.items.defs []) }
-        ensures lifted { IfOk result (λ index. IsRequiredLift root.old.world.now root.new.items.defs index key.now) }
-        ensures has { OnOk result (HasLiftOptions root.old.world.now key.now) }
-        ensures cause { IfErr result (IsCauseAmong root.old.world.now [] (key.now ∷ [])) }
-    {
-        let world = root.world;
-        let function = exported_function(world, key);
-        let ty = root.function_type(function)?;
-        let core_name = self.core_name(world, key).as_str();
-        let core = root.items.core_function(self.instance, core_name)?;
-        let options = self.lift_options(root, key, function)?;
-        let name = function_name(world, key).as_str();
-        let index = root.items.lift_function(Some(name), core, ty, options)?;
-        Ok(index)
-    }
-
-    /// Lifts a required function, and exports it under its name.
+    /// Exports an item under the name of its key.
     fn export(
         &self,
         root: &mut RootScope<'_, ComponentWorld>,
         key: &WorldKey,
+        sort: Sort,
+        index: u32,
     ) -> Result<(), StateFault>
-        requires exports { AreExports root.old.world.now self.now root.old.last_type root.old.items.defs root.old.maps root.old.instances }
-        requires present { IsSome (core_name_of root.old.world.now key.now) }
-        ensures world { root.new.world ≡ root.old.world }
+        requires sound { IsSound root.old.world.now.resolve }
+        requires present { HasKey root.old.world.now.resolve key.now }
+        requires right { IsExportRight root.old.world.now root.old.items.defs sort index None }
+        ensures same { root.new ≡ record root.old { items = root.new.items } }
         ensures extends { Extends root.old.items root.new.items }
-        ensures next { root.new.last_type ≡ root.old.last_type }
-        ensures instances { root.new.instances ≡ root.old.instances }
-        ensures tables { AreTablesRight root.old.world.now root.old.last_type root.new.instances root.new.items.defs root.new.maps }
-        ensures grows { OnOk result (Grows root.old.world.now root.old.items.defs root.new.items.defs (named_export (name_of_key key.now) ∷ [])) }
-        ensures encoded { OnOk result (IsSome (export_encoding root.old.world.now key.now)) }
-        ensures has { OnOk result (HasLiftOptions root.old.world.now key.now) }
-        ensures cause { IfErr result (IsCauseAmong root.old.world.now [] (key.now ∷ [])) }
+        ensures grows { OnOk result (Grows root.old.world.now root.old.items.defs root.new.items.defs (Exported (record { name = name_of (naming_of self.now.names) root.old.world.now.resolve key.now; sort = sort }) ∷ [])) }
+        ensures cause { IfErr result (IsCauseAmong root.old.world.now [] []) }
     {
-        let name = ExternName {
-            name: function_name(root.world, key).clone(root.items.allocator())?,
-            version_suffix: None,
-        };
-        let lifted = self.lift(root, key)?;
-        root.items.export(name, Sort::Func, lifted)?;
+        let world = root.world;
+        let alloc = root.items.allocator();
+        let name = self.names.key_name(alloc, &world.resolve, key)?;
+        root.items.export(name, sort, index)?;
         Ok(())
     }
 
-    /// Lifts and exports the required exports of main, in order. Refused as the lift of one of them is.
-    pub fn export_all(&self, root: &mut RootScope<'_, ComponentWorld>) -> Result<(), StateFault>
-        requires { AreExports root.old.world.now self.now root.old.last_type root.old.items.defs root.old.maps root.old.instances }
-        ensures world { root.new.world ≡ root.old.world }
+    /// Lifts a function that is required at the root, and exports it.
+    fn export_function(
+        &self,
+        root: &mut RootScope<'_, ComponentWorld>,
+        key: &WorldKey,
+        function: &Function,
+    ) -> Result<(), StateFault>
+        requires exports { AreExports root.old.world.now self.now root.old }
+        requires next { slice_get root.old.world.now.main_exports (exports_in root.old.items.defs) ≡ Some key.now }
+        requires item { exported_item root.old.world.now key.now ≡ Some (items.Function function.now) }
+        requires required { IsRequired root.old.world.now root.old.world.now.main key.now }
+        ensures kept { RootKept root.old.world.now root.old root.new }
+        ensures grows { OnOk result (Grows root.old.world.now root.old.items.defs root.new.items.defs (export_marked (naming_of self.now.names) root.old.world.now key.now)) }
+        ensures has { OnOk result (AllByRecursion (HasLiftOptions root.old.world.now) (functions_of_key root.old.world.now key.now)) }
+        ensures encoded { OnOk result (AllByRecursion (IsEncodedExport root.old.world.now) (functions_of_key root.old.world.now key.now)) }
+        ensures cause { IfErr result (IsCauseAmong root.old.world.now [] (functions_of_key root.old.world.now key.now)) }
+    {
+        let required = function_key(root.items.allocator(), key, &function.name)?;
+        let lifted = self.lift(root, &required, function)?;
+        self.export(root, key, Sort::Func, lifted)?;
+        Ok(())
+    }
+
+    /// Adds the nested component of the interface of a key, and its instance, which is given these arguments. Debug names are made
+    /// from the name under which the interface is exported.
+    fn nested_instance(
+        &self,
+        root: &mut RootScope<'_, ComponentWorld>,
+        key: &WorldKey,
+        definitions: Seq<Item>,
+        arguments: Seq<Argument>,
+    ) -> Result<u32, StateFault>
+        requires sound { IsSound root.old.world.now.resolve }
+        requires present { HasKey root.old.world.now.resolve key.now }
+        requires nested { IsNestedRight definitions }
+        requires right { AreArgumentsFor root.old.items.defs definitions arguments }
+        ensures same { root.new ≡ record root.old { items = root.new.items } }
         ensures extends { Extends root.old.items root.new.items }
-        ensures next { root.new.last_type ≡ root.old.last_type }
-        ensures instances { root.new.instances ≡ root.old.instances }
-        ensures tables { AreTablesRight root.old.world.now root.old.last_type root.new.instances root.new.items.defs root.new.maps }
-        ensures grows { OnOk result (Grows root.old.world.now root.old.items.defs root.new.items.defs (exports_marked root.old.world.now)) }
-        ensures encoded { OnOk result (AllByRecursion (λ key. IsSome (export_encoding root.old.world.now key)) root.old.world.now.main_exports) }
-        ensures has { OnOk result (AllByRecursion (HasLiftOptions root.old.world.now) root.old.world.now.main_exports) }
+        ensures grows { OnOk result (Grows root.old.world.now root.old.items.defs root.new.items.defs (nested_mark definitions ∷ [])) }
+        ensures made { IfOk result (λ index. IsInstantiated root.new.items.defs definitions arguments index) }
+        ensures cause { IfErr result (IsCauseAmong root.old.world.now [] []) }
+    {
+        let world = root.world;
+        let alloc = root.items.allocator();
+        let name = self.names.key_name(alloc, &world.resolve, key)?;
+        let component_name = debug_name(alloc, &name.name, "-shim-component")?;
+        let instance_name = debug_name(alloc, &name.name, "-shim-instance")?;
+        let debug = Some(component_name.as_str());
+        let component = root.items.nested_component(debug, definitions)?;
+        let debug = Some(instance_name.as_str());
+        let index = root.items.nested_instance(debug, component, arguments)?;
+        Ok(index)
+    }
+
+    /// Lifts the functions of an interface, and exports an instance of the interface's nested component, which is given the lifts.
+    fn export_interface(
+        &self,
+        root: &mut RootScope<'_, ComponentWorld>,
+        key: &WorldKey,
+        id: InterfaceId,
+    ) -> Result<(), StateFault>
+        requires exports { AreExports root.old.world.now self.now root.old }
+        requires next { slice_get root.old.world.now.main_exports (exports_in root.old.items.defs) ≡ Some key.now }
+        requires item { exported_item root.old.world.now key.now ≡ Some (items.Interface id) }
+        requires required { IsRequired root.old.world.now root.old.world.now.main key.now }
+        ensures kept { RootKept root.old.world.now root.old root.new }
+        ensures grows { OnOk result (Grows root.old.world.now root.old.items.defs root.new.items.defs (export_marked (naming_of self.now.names) root.old.world.now key.now)) }
+        ensures has { OnOk result (AllByRecursion (HasLiftOptions root.old.world.now) (functions_of_key root.old.world.now key.now)) }
+        ensures encoded { OnOk result (AllByRecursion (IsEncodedExport root.old.world.now) (functions_of_key root.old.world.now key.now)) }
+        ensures cause { IfErr result (IsCauseAmong root.old.world.now [] (functions_of_key root.old.world.now key.now)) }
+    {
+        let world = root.world;
+        let functions = functions_of(world, id);
+        let nested = interface_component(root.items.allocator(), world, functions)?;
+        let names = nested.names.as_slice();
+        let arguments = self.lift_arguments(root, key, functions, names)?;
+        let instance = self.nested_instance(root, key, nested.into_items(), arguments)?;
+        self.export(root, key, Sort::Instance, instance)?;
+        Ok(())
+    }
+
+    /// Lifts what is required at a key, and exports it.
+    fn export_item(
+        &self,
+        root: &mut RootScope<'_, ComponentWorld>,
+        key: &WorldKey,
+    ) -> Result<(), StateFault>
+        requires exports { AreExports root.old.world.now self.now root.old }
+        requires next { slice_get root.old.world.now.main_exports (exports_in root.old.items.defs) ≡ Some key.now }
+        requires required { IsRequired root.old.world.now root.old.world.now.main key.now }
+        ensures kept { RootKept root.old.world.now root.old root.new }
+        ensures grows { OnOk result (Grows root.old.world.now root.old.items.defs root.new.items.defs (export_marked (naming_of self.now.names) root.old.world.now key.now)) }
+        ensures has { OnOk result (AllByRecursion (HasLiftOptions root.old.world.now) (functions_of_key root.old.world.now key.now)) }
+        ensures encoded { OnOk result (AllByRecursion (IsEncodedExport root.old.world.now) (functions_of_key root.old.world.now key.now)) }
+        ensures cause { IfErr result (IsCauseAmong root.old.world.now [] (functions_of_key root.old.world.now key.now)) }
+    {
+        match root.world.items().exports.get(key).unwrap() {
+            WorldItem::Function(function) => self.export_function(root, key, function),
+            WorldItem::Interface(id) => self.export_interface(root, key, *id),
+            WorldItem::NamedType(_) => unreachable!(),
+        }
+    }
+
+    /// Lifts and exports what is required of main, in order.
+    fn export_items(&self, root: &mut RootScope<'_, ComponentWorld>) -> Result<(), StateFault>
+        requires exports { AreExports root.old.world.now self.now root.old }
+        requires none { exports_in root.old.items.defs ≡ 0 }
+        ensures kept { RootKept root.old.world.now root.old root.new }
+        ensures grows { OnOk result (Grows root.old.world.now root.old.items.defs root.new.items.defs (exports_marked (naming_of self.now.names) root.old.world.now)) }
+        ensures encoded { OnOk result (AllByRecursion (IsEncodedExport root.old.world.now) (required_functions root.old.world.now)) }
+        ensures has { OnOk result (AllByRecursion (HasLiftOptions root.old.world.now) (required_functions root.old.world.now)) }
         ensures cause { IfErr result (IsCause root.old.world.now) }
     {
         let world = root.world;
         for key in world.main_exports.as_slice() {
-            self.export(root, key)?;
+            self.export_item(root, key)?;
         }
         Ok(())
     }
+}
+
+/// Lifts and exports what is required of main, in order. `instance` is main's, and `names` makes the names of interfaces. Refused as
+/// the lift of one of the functions is.
+pub fn export_all(
+    root: &mut RootScope<'_, ComponentWorld>,
+    instance: u32,
+    names: &ImportNames<'_>,
+) -> Result<(), StateFault>
+    requires valid { IsEncodable root.old.world.now }
+    requires made { IsInstanceOf root.old.items.defs instance 0 }
+    requires tables { AreTablesRight root.old.world.now root.old.last_type root.old.instances root.old.items.defs root.old.maps }
+    requires passed { ArePassed root.old.world.now root.old.last_type }
+    requires none { exports_in root.old.items.defs ≡ 0 }
+    ensures kept { RootKept root.old.world.now root.old root.new }
+    ensures grows { OnOk result (Grows root.old.world.now root.old.items.defs root.new.items.defs (exports_marked (naming_of names.now) root.old.world.now)) }
+    ensures encoded { OnOk result (AllByRecursion (IsEncodedExport root.old.world.now) (required_functions root.old.world.now)) }
+    ensures has { OnOk result (AllByRecursion (HasLiftOptions root.old.world.now) (required_functions root.old.world.now)) }
+    ensures cause { IfErr result (IsCause root.old.world.now) }
+{
+    let world = root.world;
+    let tables = ExportTables::of(root.items.allocator(), &world.main.exports.exports)?;
+    let main = MainExports {
+        tables,
+        sources: OptionSources {
+            instance,
+            memory: memory_name(world),
+            realloc: lift_realloc(world),
+        },
+        names: *names,
+    };
+    main.export_items(root)
 }

@@ -49,7 +49,8 @@ sources-kept {w} {s} {last} {old} {new} {maps} {instances} g h = record {
   valid = h.valid;
   imports = FindsImports-kept (longer g) h.imports;
   used = h.used;
-  made = instance-kept (longer g) h.made;
+  options = record { made = instance-kept (longer g) h.options.made; memory = h.options.memory; offered = h.options.offered };
+  realloc = h.realloc;
   tables = tables_kept w last instances old new maps g h.tables;
   passed = h.passed;
 }

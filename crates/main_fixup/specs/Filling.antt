@@ -1,7 +1,7 @@
 -- What the lowerings behind shims need, and what they are (Canonical ABI: `canon lower`; component model, explainer: core
 -- instances).
 use Rattle.std.specs.Prelude.{◌≡◌, ℕ, List, Option, Some, None, true, map, Contains, IsTrue, IsSome}
-use Rattle.std.specs.Option.{option_map}
+use Rattle.std.specs.Option.{option_copied, option_map}
 use Rattle.standard_kinds.specs.declared.kinds.StringEncoding.{StringEncoding}
 use Rattle.comp_bytes.specs.declared.def.Def.{Def}
 use Rattle.comp_bytes.specs.declared.space.Space.TheVariants as spaces
@@ -13,6 +13,7 @@ use Rattle.comp_trees.specs.Trees.{Origin, FunctionTree}
 use Rattle.world_values.specs.Items.{functions_of}
 use Rattle.comp_options.specs.Options.{needs}
 use Rattle.comp_roles.specs.CoreImports.{CoreImport}
+use Rattle.comp_roles.specs.Reallocs.{is_import_realloc, realloc_for}
 use Rattle.comp_roles.specs.declared.imports.Import.{Import}
 use Rattle.comp_worlds.specs.Encodable.{IsEncodable}
 use Rattle.comp_worlds.specs.WorldContents.{items_of}
@@ -24,11 +25,11 @@ use Rattle.comp_links.specs.Targets.{Main, WorldFunction, OfRoot, OfInterface, L
 use Rattle.shim_plan.specs.declared.shims.Shim.{Shim}
 use Rattle.comp_terms.specs.Generated.{interface_imported, IsShimOf}
 use Rattle.comp_terms.specs.Planned.{IsTypeOf, IsItemFor}
-use Rattle.comp_terms.specs.Terms.{IsImportedFunction, IsInstanceOf}
+use Rattle.comp_terms.specs.Terms.{IsImportedFunction}
 use Rattle.wit_types.specs.declared.maps.TypeEncodingMaps.{TypeEncodingMaps}
 use Rattle.root_imports.specs.RootScopes.{AreTablesRight, ArePassed}
 use Rattle.root_imports.specs.Imports.{FindsImports, FindsUsed}
-use Rattle.core_options.specs.MainOptions.{memory_name}
+use Rattle.core_options.specs.MainOptions.{memory_name, AreOptionSources}
 use Rattle.shim_targets.specs.ShimTargets.{StandsFor}
 use Rattle.main_fixup.specs.declared.sources.FillSources.{FillSources}
 
@@ -37,7 +38,8 @@ pub record AreFillSources (w : ComponentWorld) (s : FillSources) (last : Option 
   pub valid : IsEncodable w
   pub imports : FindsImports w ds s.functions.now
   pub used : FindsUsed w s.functions.now
-  pub made : IsInstanceOf ds s.instance 0
+  pub options : AreOptionSources w ds s.options
+  pub realloc : option_copied s.options.realloc ≡ realloc_for is_import_realloc w.main.exports.exports
   pub tables : AreTablesRight w last instances ds maps
   pub passed : ArePassed w last
 

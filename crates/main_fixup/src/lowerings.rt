@@ -2,34 +2,37 @@
 #![tactic(auto, using(comp_items::proofs::Extending::extends_none, comp_items::proofs::Extending::extends_same, comp_items::proofs::Extending::extends_then))]
 
 ghost use Rattle.std.specs.Prelude.{◌≡◌, [], IfOk, IfErr, OnOk};
+ghost use Rattle.std.specs.Option.{option_copied};
 ghost use Rattle.comp_items.specs.Items.{Extends};
 ghost use Rattle.comp_terms.specs.Rules.{Grows};
-ghost use Rattle.comp_terms.specs.Terms.{IsInstanceOf};
 ghost use Rattle.comp_worlds.specs.Encodable.{IsEncodable};
 ghost use Rattle.comp_worlds.specs.WorldContents.{core_imports};
+ghost use Rattle.comp_roles.specs.Reallocs.{is_import_realloc, realloc_for};
 ghost use Rattle.core_options.specs.Causes.{IsCauseAmong};
+ghost use Rattle.core_options.specs.MainOptions.{AreOptionSources};
 ghost use Rattle.main_fixup.specs.Filling.{AreFillSources, HasShimOptions, IsMainShim, IsBehind, IsLoweringFor};
 
 use crate::functions::imported_function;
 use crate::sources::FillSources;
 use comp_worlds::ComponentWorld;
-use core_options::{StateFault, options_of_main};
+use core_options::{OptionSources, StateFault, options_of_main};
 use root_imports::RootScope;
 use shim_plan::{Shim, ShimKind};
 use standard_kinds::StringEncoding;
 
-/// Lowers the function that a shim stands for, with the shim's options and a string encoding. `instance` is main's.
+/// Lowers the function that a shim stands for, with the shim's options and a string encoding.
 ///
 /// `E7` where the options need a memory and main exports none, `E8` where they need a realloc and main exports none for imports.
 fn lower_function(
     root: &mut RootScope<'_, ComponentWorld>,
-    instance: u32,
+    sources: &OptionSources<'_>,
     shim: &Shim,
     encoding: StringEncoding,
     function: u32,
 ) -> Result<u32, StateFault>
     requires valid { IsEncodable root.old.world.now }
-    requires made { IsInstanceOf root.old.items.defs instance 0 }
+    requires sources { AreOptionSources root.old.world.now root.old.items.defs sources.now }
+    requires realloc { option_copied sources.now.realloc ≡ realloc_for is_import_realloc root.old.world.now.main.exports.exports }
     requires behind { IsBehind root.old.world.now root.old.items.defs shim.now encoding function }
     ensures same { root.new ≡ record root.old { items = root.new.items } }
     ensures extends { Extends root.old.items root.new.items }
@@ -38,17 +41,8 @@ fn lower_function(
     ensures offered { OnOk result (HasShimOptions root.old.world.now shim.now) }
     ensures cause { IfErr result (IsCauseAmong root.old.world.now (core_imports root.old.world.now) []) }
 {
-    let world = root.world;
     let name = shim.debug_name.as_str();
-    let realloc = world.main.exports.import_realloc_for(None, name);
-    let options = options_of_main(
-        root,
-        instance,
-        &shim.debug_name,
-        shim.options,
-        encoding,
-        realloc,
-    )?;
+    let options = options_of_main(root, sources, &shim.debug_name, shim.options, encoding)?;
     let index = root.items.lower_function(Some(name), function, options)?;
     Ok(index)
 }
@@ -78,7 +72,7 @@ pub(crate) fn lower_shim(
             encoding,
         } => {
             let index = imported_function(root, sources, interface, &function.name)?;
-            let lowered = lower_function(root, sources.instance, shim, *encoding, index)?;
+            let lowered = lower_function(root, &sources.options, shim, *encoding, index)?;
             Ok(lowered)
         }
         _ => unreachable!(),

@@ -1,12 +1,13 @@
 //! What the lowerings of a fixup are made from.
 
 use comp_lists::{Keyed, Text};
+use core_options::OptionSources;
 
 /// What the fixup's lowerings need, beside what the root has.
 #[derive(Clone, Copy)]
 pub struct FillSources<'a> {
     /// The root functions that were imported, by their names.
     pub functions: &'a Keyed<Text, u32>,
-    /// Main's instance.
-    pub instance: u32,
+    /// Main's instance, and its exports that options name, with the realloc of calls of imports.
+    pub options: OptionSources<'a>,
 }

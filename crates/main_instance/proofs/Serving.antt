@@ -28,6 +28,7 @@ use Rattle.comp_items.specs.Items.{Extends}
 use Rattle.comp_items.proofs.Extending.{extends_none, extends_then}
 use Rattle.core_options.specs.Causes.{IsCauseAmong, IsCause}
 use Rattle.core_options.specs.declared.fault.StateFault.{StateFault}
+use Rattle.comp_links.specs.Lists.{required_functions}
 use Rattle.comp_links.specs.Targets.{Main}
 use Rattle.comp_terms.specs.Planned.{IsEntryFor, IsArgumentFor}
 use Rattle.comp_links.specs.Roles.{IsEncodedImport, interface_function, is_named, is_used, is_used_of}
@@ -214,7 +215,7 @@ field_refused w name done rest all f split e h =
 pub group_refused : (w : ComponentWorld) (done rest : List (List ℕ × ImportInstance)) (g : List ℕ × ImportInstance) → done ++ g ∷ rest ≡ w.main.imports.modules →
     (e : StateFault) → IsCauseAmong w (imports_from g) [] e → IsCause w e
 group_refused w done rest g split e h =
-    among_more w (imports_from g) (flat_map imports_from w.main.imports.modules) [] w.main_exports
+    among_more w (imports_from g) (flat_map imports_from w.main.imports.modules) [] (required_functions w)
     (λ i c. subst (λ gs. Contains (flat_map imports_from gs) i) split
     (rw (flat_map-append imports_from done (g ∷ rest))
     (Contains-append_right (flat_map imports_from done) (imports_from g ++ flat_map imports_from rest) i (Contains-append_left (imports_from g) (flat_map imports_from rest) i c))))

@@ -13,6 +13,7 @@ use Rattle.std.proofs.lemmas.List.Sums.{sum_by-cons}
 use Rattle.std.proofs.lemmas.Map.Made.{is_some-lookup}
 use Rattle.std.proofs.lemmas.Slice.Eq.{bytes_eq-Decides}
 use Rattle.nested_terms.specs.Naming.{numbered, is_taken}
+use Rattle.nested_terms.proofs.Numbering.{numbered_more, at_least}
 
 -- the names that were tried so far are taken
 pub record IsTried (taken : List (List ℕ)) (name free : List ℕ) (count : ℕ) : Type 0 where
@@ -22,34 +23,6 @@ pub record IsTried (taken : List (List ℕ)) (name free : List ℕ) (count : ℕ
 -- how long a name may be that is taken
 abbrev pub room : List (List ℕ) → ℕ
 room taken = sum_by (λ (name : List ℕ). length name) taken
-
-range_push : (a n : ℕ) → range_with_len a (suc n) ≡ range_with_len a n ++ (a + n) ∷ []
-range_push a zero = ap (λ b. b ∷ []) (omega arith)
-range_push a (suc n) = ap (λ xs. a ∷ xs) (range_push (a + 1) n ∙ ap (λ b. range_with_len (a + 1) n ++ b ∷ []) (omega arith))
-
-numbered_more : (count : ℕ) (name : List ℕ) → numbered (count + 1) name ≡ numbered count name ++ decimal count
-numbered_more count name =
-    let front = flat_map decimal (range_with_len 0 count) in
-    let e : count + 1 ≡ suc count = omega arith in
-    ap (λ n. name ++ flat_map decimal (range_with_len 0 n)) e
-    ∙ (ap (λ xs. name ++ flat_map decimal xs) (range_push 0 count ∙ ap (λ b. range_with_len 0 count ++ b ∷ []) (omega arith))
-    ∙ (ap (λ bs. name ++ bs) (flat_map-append decimal (range_with_len 0 count) (count ∷ []) ∙ ap (λ bs. front ++ bs) (append-nil (decimal count)))
-    ∙ sym (append_assoc name front (decimal count))))
-
-longer_by_one : (count : ℕ) (name : List ℕ) → count < 2 ^ 64 → length (numbered count name) < length (numbered (count + 1) name)
-longer_by_one count name h =
-    let more = ap (λ (xs : List ℕ). length xs) (numbered_more count name) ∙ length-append (numbered count name) (decimal count) in
-    let some = decimal_nonempty count h in
-    omega (arith, more, some)
-
-at_least : (count : ℕ) (name : List ℕ) → count ≤ 2 ^ 64 → count ≤ length (numbered count name)
-at_least zero name h = omega arith
-at_least (suc n) name h =
-    let l = longer_by_one n name (omega (arith, h)) in
-    let before = at_least n name (omega (arith, h)) in
-    let one : n + 1 ≡ suc n = omega arith in
-    let same : length (numbered (n + 1) name) ≡ length (numbered (suc n) name) = ap (λ k. length (numbered k name)) one in
-    omega (arith, l, before, same)
 
 -- what is taken is no longer than all that is taken
 within_room : (taken : List (List ℕ)) (name : List ℕ) → is_taken taken name ≡ true → length name ≤ room taken

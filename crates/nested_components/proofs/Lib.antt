@@ -7,3 +7,4 @@ pub mod AllFunctions
 pub mod Unnamed
 pub mod Whole
 mod WorkedFunctions
+pub mod Apart

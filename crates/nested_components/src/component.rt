@@ -33,6 +33,16 @@ impl Drop for NestedComponent {
     }
 }
 
+impl NestedComponent {
+    /// The items.
+    pub fn into_items(self) -> Seq<Item>
+        ensures { result ≡ self.items }
+    {
+        let NestedComponent { items, names: _ } = self;
+        items
+    }
+}
+
 /// The nested component of an interface that has these functions, which are made of types without names. It imports each of
 /// them, and exports it under the name that it has in the interface.
 ///

@@ -9,24 +9,24 @@ use Rattle.comp_bytes.specs.Spaces.{is_space}
 use Rattle.comp_bytes.specs.declared.space.Space.{Space}
 use Rattle.comp_bytes.specs.declared.space.Space.TheVariants as spaces
 use Rattle.comp_trees.specs.DefinedTrees.{TypeTree}
-use Rattle.nested_terms.specs.Nested.{NestedFunction, NestedExport, ExportedFunction, ExportedType}
+use Rattle.nested_terms.specs.Nested.{NestedFunction, NestedExport, ExportedFunction, ExportedType, function_named, type_named}
 use Rattle.comp_runs.specs.Store.{Export, TypeItem}
 use Rattle.comp_runs.specs.Machine.{export_in, export_of}
 use Rattle.instance_laws.specs.Instantiated.{IsHeldAs}
-use Rattle.nested_laws.specs.NestedRuns.{IsArgument, AreNestedExports, function_named, type_named, is_function_named, FindsArgument, FindsNestedType}
+use Rattle.nested_laws.specs.NestedRuns.{IsArgument, AreNestedExports, is_function_named, FindsArgument, FindsNestedType}
 
 -- ---- an export at the front
 
 in_space : (space other : Space) (e : Export) (b : Bool) → e.space ≡ other → is_space space (Some other) ≡ b → export_in space e ≡ b
 in_space space other e b same h = ap (λ (x : Space). is_space space (Some x)) same ∙ h
 
-front : (space : Space) (name : List ℕ) (e : Export) (es : List Export) (b : Bool) → export_in space e ≡ true → bytes_eq name e.name ≡ b →
+pub front : (space : Space) (name : List ℕ) (e : Export) (es : List Export) (b : Bool) → export_in space e ≡ true → bytes_eq name e.name ≡ b →
     export_of space name (e ∷ es) ≡ cond b (Some e) (export_of space name es)
 front space name e es b p q =
     ap (λ b. found name (map (λ (e : Export). (e.name, e)) (if b then e ∷ filter (export_in space) es else filter (export_in space) es))) p
     ∙ ap (λ b. cond b (Some e) (export_of space name es)) q
 
-other_space : (space : Space) (name : List ℕ) (e : Export) (es : List Export) → export_in space e ≡ false → export_of space name (e ∷ es) ≡ export_of space name es
+pub other_space : (space : Space) (name : List ℕ) (e : Export) (es : List Export) → export_in space e ≡ false → export_of space name (e ∷ es) ≡ export_of space name es
 other_space space name e es p = ap (λ b. found name (map (λ (e : Export). (e.name, e)) (if b then e ∷ filter (export_in space) es else filter (export_in space) es))) p
 
 module _ (types : List TypeItem) (arguments : List Export) (name : List ℕ) where

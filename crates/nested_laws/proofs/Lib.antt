@@ -2,4 +2,5 @@ pub mod Kept
 pub mod Items
 pub mod Instance
 pub mod Exports
+pub mod Arguments
 mod WorkedNestedRun

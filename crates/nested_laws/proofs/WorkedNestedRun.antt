@@ -13,11 +13,11 @@ use Rattle.core_runs.specs.Store.{Now, Store as CodeStore}
 use Rattle.comp_trees.specs.Trees.{Tree, Origin, ImportedAt, ResourceAt, OwnOf, FunctionTree}
 use Rattle.comp_trees.specs.DefinedTrees.{TypeTree, OfValues, OfFunctions, OfOthers}
 use Rattle.comp_trees.specs.Members.{IsOfFunctions}
-use Rattle.nested_terms.specs.Nested.{NestedFunction, ExportedFunction, empty_scope, exports_after, AreItemsRight}
+use Rattle.nested_terms.specs.Nested.{NestedFunction, ExportedFunction, empty_scope, function_named, exports_after, AreItemsRight}
 use Rattle.comp_runs.specs.Store.{Store, Export, Function, Imported, TreeOf, ImportedResource, ComponentItem}
 use Rattle.comp_runs.specs.Machine.{Machine, Done, Stuck}
 use Rattle.comp_runs.specs.Running.{instantiate_component}
-use Rattle.nested_laws.specs.NestedRuns.{function_named, FindsArgument, RunsNested}
+use Rattle.nested_laws.specs.NestedRuns.{FindsArgument, RunsNested}
 use Rattle.nested_laws.proofs.Instance.{nested_runs}
 use Rattle.nested_laws.proofs.Exports.{function_first, finds_argument}
 

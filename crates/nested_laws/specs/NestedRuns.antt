@@ -1,7 +1,7 @@
 -- What a nested component is given for its imports, and what a run has after its items: what the type indices denote, which
 -- argument each function is, and what the instance exports (component model, explainer: component definitions, instance
 -- definitions).
-use Rattle.std.specs.Prelude.{ℕ, ◌≡◌, Bool, false, List, [], ◌∷◌, ◌++◌, Option, Some, None, filter, if◌then◌else◌}
+use Rattle.std.specs.Prelude.{ℕ, ◌≡◌, Bool, false, List, ◌++◌, Some, filter}
 use Rattle.std.specs.List.{AllZip, AllByRecursion}
 use Rattle.std.specs.Str.{bytes_eq}
 use Rattle.comp_bytes.specs.declared.space.Space.TheVariants as spaces
@@ -118,17 +118,6 @@ pub record RunsNested (modules : List ModuleMeaning) (given : List ℕ → TypeT
   pub runs : (now : Now) (next : Next) → instantiate_component modules component arguments (with_now m now) next ≡ next (with_nested (with_now m now) types exports)
 
 -- ---- the exports by their names
-
--- the first function, and the first type, of this name
-abbrev pub function_named : List ℕ → List NestedExport → Option NestedFunction
-function_named name [] = None
-function_named name (ExportedFunction n function ∷ xs) = if bytes_eq name n then Some function else function_named name xs
-function_named name (ExportedType n tree ∷ xs) = function_named name xs
-
-abbrev pub type_named : List ℕ → List NestedExport → Option TypeTree
-type_named name [] = None
-type_named name (ExportedFunction n function ∷ xs) = type_named name xs
-type_named name (ExportedType n tree ∷ xs) = if bytes_eq name n then Some tree else type_named name xs
 
 -- whether a function of this name is exported
 abbrev pub is_function_named : List ℕ → NestedExport → Bool

@@ -4,6 +4,6 @@
 //! This crate holds lemmas alone, for the crates above to cite, and they know nothing of a world. In reading order:
 //! `specs/NestedRuns.antt` (what a nested component is given, and what a run has after its items), `proofs/Kept.antt` (what
 //! holds while the store grows), `proofs/Items.antt` (one item runs), `proofs/Instance.antt` (the items run one after the other,
-//! and an instance is made), `proofs/Exports.antt` (the exports of the instance by their names), `proofs/WorkedNestedRun.antt`
-//! (rows).
+//! and an instance is made), `proofs/Exports.antt` (the exports of the instance by their names), `proofs/Arguments.antt` (they are
+//! the same arguments, whatever types are given), `proofs/WorkedNestedRun.antt` (rows).
 #![tactic(auto)]

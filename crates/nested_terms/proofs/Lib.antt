@@ -1,2 +1,3 @@
+pub mod Numbering
 mod WorkedNames
 mod WorkedNested

@@ -31,8 +31,8 @@ two_fewer (suc (suc n)) l = absurd (omega (arith, l))
 numbered_twice : AreNames methods (one ∷ codes "import-method-a-b-c-d0" ∷ codes "import-method-a-b-c-d01" ∷ [])
 unfolding digits
 numbered_twice = (
-  record { count = 0; same = refl; is_free = refl; fewer = none_fewer },
-  (record { count = 1; same = refl; is_free = refl; fewer = one_fewer }, (record { count = 2; same = refl; is_free = refl; fewer = two_fewer }, tt)),
+  record { count = 0; few = omega arith; same = refl; is_free = refl; fewer = none_fewer },
+  (record { count = 1; few = omega arith; same = refl; is_free = refl; fewer = one_fewer }, (record { count = 2; few = omega arith; same = refl; is_free = refl; fewer = two_fewer }, tt)),
 )
 
 abbrev free : List ℕ → Function

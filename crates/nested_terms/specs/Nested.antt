@@ -1,6 +1,7 @@
 -- What the items of a nested component are, and which may stand in one (component model, explainer: component definitions,
 -- index spaces, import and export definitions). Here a nested component only imports types and functions, and exports them.
-use Rattle.std.specs.Prelude.{ℕ, ◌≡◌, ◌<◌, true, List, [], ◌∷◌, ◌++◌, length, get_or, Some, None}
+use Rattle.std.specs.Prelude.{ℕ, ◌≡◌, ◌<◌, true, List, [], ◌∷◌, ◌++◌, length, get_or, Option, Some, None, if◌then◌else◌}
+use Rattle.std.specs.Str.{bytes_eq}
 use Rattle.comp_bytes.specs.declared.space.Sort.TheVariants as sorts
 use Rattle.comp_bytes.specs.declared.types.Description.TheVariants as descriptions
 use Rattle.comp_bytes.specs.declared.types.TypeDef.TheVariants as types
@@ -36,6 +37,21 @@ pub data NestedImport : Type 0 where
 pub data NestedExport : Type 0 where
   ExportedFunction : (name : List ℕ) (function : NestedFunction) → NestedExport
   ExportedType : (name : List ℕ) (tree : TypeTree) → NestedExport
+
+-- ---- the exports by their names
+
+-- the first function, and the first type, of this name
+abbrev pub function_named : List ℕ → List NestedExport → Option NestedFunction
+function_named name [] = None
+function_named name (ExportedFunction n function ∷ xs) = if bytes_eq name n then Some function else function_named name xs
+function_named name (ExportedType n tree ∷ xs) = function_named name xs
+
+abbrev pub type_named : List ℕ → List NestedExport → Option TypeTree
+type_named name [] = None
+type_named name (ExportedFunction n function ∷ xs) = type_named name xs
+type_named name (ExportedType n tree ∷ xs) = if bytes_eq name n then Some tree else type_named name xs
+
+-- ---- what items make
 
 -- a resource
 pub record IsOfResource (tree : TypeTree) : Type 0 where

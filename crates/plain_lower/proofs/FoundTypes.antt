@@ -1,6 +1,7 @@
 -- The type of an import or an export that fits its role, and the type that the role requires, are one.
 use Rattle.std.proofs.Common.{ℕ, nat_eq, ap₂, arith, ◌≡◌, ◌∙◌, ◌<◌, Bool, true, false, ◌&&◌, List, [], ◌∷◌, Option, Some, None, length, map, refl, sym, ap, true≢false}
 use Rattle.std.specs.Prelude.{get_or, option_map, slice_get}
+use Rattle.std.specs.Map.{lookup}
 use Rattle.std.specs.Option.{option_and_then, option_map_or, option_eq}
 use Rattle.std.proofs.lemmas.Option.{none-some, slice_get-get_or}
 use Rattle.std.proofs.lemmas.Bool.Decides.{nat_tests}
@@ -19,6 +20,7 @@ use Rattle.core_types.specs.declared.types.FuncType.{FuncType}
 use Rattle.core_types.specs.declared.types.MemoryType.{MemoryType}
 use Rattle.core_types.specs.declared.types.ValType.{ValType}
 use Rattle.core_types.specs.contracts.types.MemoryTypePartialEq.TheImpl as same_memory
+use Rattle.wit_data.specs.Keys.{is_same_key}
 use Rattle.wit_data.specs.Signatures.{signature}
 use Rattle.wit_data.specs.declared.functions.AbiVariant.{AbiVariant}
 use Rattle.wit_data.specs.declared.functions.AbiVariant.TheVariants.{GuestExport}
@@ -28,7 +30,10 @@ use Rattle.wit_data.specs.declared.signatures.WasmSignature.{WasmSignature}
 use Rattle.wit_data.specs.declared.signatures.WasmType.{WasmType}
 use Rattle.wit_data.specs.declared.signatures.WasmType.TheVariants as numbers
 use Rattle.wit_data.specs.declared.worlds.World.{World}
-use Rattle.world_values.specs.Items.{no_items, functions_of, root_function_at}
+use Rattle.wit_data.specs.declared.worlds.WorldItem.{WorldItem}
+use Rattle.wit_data.specs.declared.worlds.WorldItem.TheVariants as world_items
+use Rattle.world_values.specs.Items.{no_items, functions_of, root_function_at, function_of_item}
+use Rattle.world_values.specs.Mentions.{interface_in}
 use Rattle.comp_roles.specs.CoreTypes.{value_type as value_of, core_type, called_type}
 use Rattle.comp_roles.specs.declared.exports.Export.{Export}
 use Rattle.comp_roles.specs.declared.exports.Export.TheVariants as exports
@@ -38,7 +43,7 @@ use Rattle.comp_roles.specs.declared.offered.ExternType.{ExternType}
 use Rattle.comp_roles.specs.declared.offered.ExternType.TheVariants as externs
 use Rattle.comp_worlds.specs.Typed.{post_return_type, type_of_import, type_of_export}
 use Rattle.record_core_types.specs.Asked.{function, number, called, post_return}
-use Rattle.record_core_types.specs.Fitting.{are_same, is_same, is_asked, is_function, is_memory, fits_import, fits_export}
+use Rattle.record_core_types.specs.Fitting.{are_same, is_same, is_asked, function_type, is_function, is_memory, fits_import, fits_export}
 use Rattle.record_core_types.specs.Offered.{value_type, value_types, func_type, memory_type, extern_type, item_type}
 use Rattle.plain_lower.specs.Guarantees.{world_id}
 
@@ -153,6 +158,20 @@ module _ (r : Resolve) (present : 0 < length r.worlds) (core : CoreModule) where
   import_typed (imports.ImportedResourceDrop key interface id) e ty fits is = entity_of core e dropping fits ∙ is
   import_typed role e ty fits is = absurd (none-some ty is)
 
+  -- an entity is of no type that is not required
+  not_asked : (o : Option CoreFunc) → option_map_or (λ f. is_asked f None) o false ≡ true → ⊥
+  not_asked None h = true≢false (sym h)
+  not_asked (Some f) h = true≢false (sym h)
+
+  -- the post-return of a function of what the world exports at a key
+  interface_post_return : (e : EntityType) (name : List ℕ) (ty : ExternType) (o : Option WorldItem)
+      → is_function core e (option_map (post_return r) (option_and_then (λ id. found name (functions_of r id)) (option_and_then interface_in o))) ≡ true
+      → option_map (post_return_type r) (function_of_item r name o) ≡ Some ty → extern_type core e ≡ Some ty
+  interface_post_return e name ty (Some (world_items.Interface id)) asked is = post_return_typed core r e (found name (functions_of r id)) ty asked is
+  interface_post_return e name ty (Some (world_items.Function f)) asked is = absurd (not_asked (function_type core e) asked)
+  interface_post_return e name ty (Some (world_items.NamedType id)) asked is = absurd (none-some ty is)
+  interface_post_return e name ty None asked is = absurd (none-some ty is)
+
   -- and so has an export
   pub export_typed : (role : Export) (item : ExportedItem) (ty : ExternType) → fits_export r world_id core role item ≡ true → type_of_export r the_items role ≡ Some ty → item_type core item ≡ Some ty
   export_typed (exports.WorldFunc key name abi) (items.Entity e) ty fits is =
@@ -160,6 +179,13 @@ module _ (r : Resolve) (present : 0 < length r.worlds) (core : CoreModule) where
       ap (λ (o : Option World). is_function core e (option_map (called r abi) (option_and_then (λ w. root_function_at w.exports key) o))) (sym the_world) ∙ fits in
       entity_typed core r abi e (root_function_at the_items.exports key) ty asked is
   export_typed (exports.WorldFunc key name abi) items.Tag ty fits is = absurd (true≢false (sym fits))
+  export_typed (exports.InterfaceFunc key id name abi) (items.Entity e) ty fits is = entity_typed core r abi e (found name (functions_of r id)) ty fits is
+  export_typed (exports.InterfaceFunc key id name abi) items.Tag ty fits is = absurd (true≢false (sym fits))
+  export_typed (exports.InterfaceFuncPostReturn key name) (items.Entity e) ty fits is =
+      let asked : is_function core e (option_map (post_return r) (option_and_then (λ id. found name (functions_of r id)) (option_and_then interface_in (lookup (is_same_key key) the_items.exports)))) ≡ true =
+      ap (λ (o : Option World). is_function core e (option_map (post_return r) (option_and_then (λ id. found name (functions_of r id)) (option_and_then (λ w. option_and_then interface_in (lookup (is_same_key key) w.exports)) o)))) (sym the_world) ∙ fits in
+      interface_post_return e name ty (lookup (is_same_key key) the_items.exports) asked is
+  export_typed (exports.InterfaceFuncPostReturn key name) items.Tag ty fits is = absurd (true≢false (sym fits))
   export_typed (exports.WorldFuncPostReturn key) (items.Entity e) ty fits is =
       let asked : is_function core e (option_map (post_return r) (root_function_at the_items.exports key)) ≡ true =
       ap (λ (o : Option World). is_function core e (option_map (post_return r) (option_and_then (λ w. root_function_at w.exports key) o))) (sym the_world) ∙ fits in

@@ -21,6 +21,7 @@ use Rattle.wit_data.specs.declared.ids.WorldId.{WorldId}
 use Rattle.wit_data.specs.declared.resolve.Resolve.{Resolve}
 use Rattle.wit_data.specs.declared.signatures.WasmType.{WasmType}
 use Rattle.wit_data.specs.declared.signatures.WasmType.TheVariants as numbers
+use Rattle.wit_data.specs.declared.worlds.WorldItem.{WorldItem}
 use Rattle.wit_data.specs.declared.worlds.WorldKey.{WorldKey}
 use Rattle.world_values.specs.Items.{functions_of, root_function_at}
 use Rattle.world_values.specs.Mentions.{interface_in}
@@ -37,6 +38,10 @@ imported_function r id key = option_and_then (λ w. root_function_at w.imports k
 
 abbrev pub exported_function : Resolve → WorldId → WorldKey → Option Function
 exported_function r id key = option_and_then (λ w. root_function_at w.exports key) (slice_get r.worlds id.index)
+
+-- what the world exports at a key
+abbrev pub exported_item : Resolve → WorldId → WorldKey → Option WorldItem
+exported_item r id key = option_and_then (λ w. lookup (is_same_key key) w.exports) (slice_get r.worlds id.index)
 
 -- the function of an interface by its name
 abbrev pub function_of : Resolve → InterfaceId → List ℕ → Option Function

@@ -1,29 +1,25 @@
--- A required export is one of the world; where it is a root function, it is the role of some core export.
+-- A required export is one of the world, and some core export implements each function there.
 use Rattle.std.proofs.Common.{◌≡◌, ◌∙◌, ap, sym, subst, refl, ℕ, suc, nat_eq, Bool, true, false, cond, ◌&&◌, List, [], ◌∷◌, ◌++◌, map, get_or, Option, Some, None, Ok, is_some, IsSome, Contains, true≢false, if◌then◌else◌, arith}
 use Rattle.std.proofs.Math.Dec.{eqb-zero-suc, eqb-suc-zero}
 use Rattle.std.specs.Prelude.{slice_get, ok_or, ⊤}
-use Rattle.std.specs.List.{AllByRecursion, flat_map}
+use Rattle.std.specs.List.{AllByRecursion}
 use Rattle.std.specs.Map.{lookup}
 use Rattle.std.specs.Option.{option_and_then, option_map_or}
 use Rattle.std.specs.Str.{bytes_eq}
 use Rattle.std.proofs.lemmas.Map.Views.{Contains-keys_from_lookup}
 use Rattle.std.proofs.lemmas.Slice.Eq.{bytes_eq-Decides}
-use Rattle.comp_lists.specs.Found.{found}
 use Rattle.comp_lists.proofs.Lists.{AllByRecursion-push}
 use Rattle.wit_data.specs.Keys.{is_same_key}
 use Rattle.wit_data.specs.declared.functions.AbiVariant.{AbiVariant}
-use Rattle.wit_data.specs.declared.functions.Function.{Function}
 use Rattle.wit_data.specs.declared.ids.InterfaceId.{InterfaceId}
-use Rattle.wit_data.specs.declared.resolve.Resolve.{Resolve}
 use Rattle.wit_data.specs.declared.worlds.World.{World}
 use Rattle.wit_data.specs.declared.worlds.WorldItem.{WorldItem}
-use Rattle.wit_data.specs.declared.worlds.WorldItem.TheVariants as items
 use Rattle.wit_data.specs.declared.worlds.WorldKey.{WorldKey}
 use Rattle.wit_data.specs.declared.worlds.WorldKey.TheVariants as keys
-use Rattle.comp_roles.specs.Functions.{is_same_function}
-use Rattle.comp_roles.specs.declared.exports.Export.TheVariants as exports
+use Rattle.comp_roles.specs.Functions.{is_same_function, of_function}
 use Rattle.comp_roles.specs.declared.metadata.FunctionKey.{FunctionKey}
-use Rattle.world_values.specs.Items.{no_items, function_in, root_export}
+use Rattle.world_values.specs.CoreExports.{function_key, lifted_function, implementations}
+use Rattle.world_values.specs.Items.{no_items}
 use Rattle.world_values.specs.declared.gathered.ExportKey.{ExportKey}
 use Rattle.world_values.specs.declared.gathered.ExportKey.TheVariants as export_keys
 use Rattle.record_values.specs.declared.names.InterfaceName.TheVariants as names
@@ -31,15 +27,12 @@ use Rattle.record_resolve.specs.declared.resolving.Resolved.{Resolved}
 use Rattle.record_role_targets.specs.declared.sides.Side.TheVariants as sides
 use Rattle.record_role_targets.specs.Sides.{items_of, item_at, interface_of}
 use Rattle.record_role_targets.specs.Keys.{existing, resolved_export_key}
-use Rattle.record_core_types.specs.Asked.{exported_function}
 use Rattle.record_core_types.specs.Guarantees.{IsKept}
 use Rattle.record_faults.specs.Faults.{◌>>=◌}
 use Rattle.record_faults.proofs.Chains.{bind_ok, got, passed}
-use Rattle.record_exports.specs.Functions.{Exports, Known, known, function_key, lifted_functions, abi_at}
+use Rattle.record_exports.specs.Functions.{Exports, Known, known, lifted_functions, abi_at, has_callback}
 use Rattle.record_exports.specs.Meaning.{world_id}
-use Rattle.record_exports.specs.Requiring.{missing, key_text, names_in, functions_at, suffices, is_there, function_there, all_there, required_key, required_after, required_of}
-use Rattle.record_exports.specs.Guarantees.{IsWithin}
-use Rattle.record_exports.proofs.Lifting.{root_item}
+use Rattle.record_exports.specs.Requiring.{missing, key_text, functions_at, suffices, is_there, function_there, all_there, required_key, required_after, required_of}
 
 -- ---- the world has the key
 
@@ -85,59 +78,36 @@ key_there r key h =
     subst (λ (es : List (WorldKey × WorldItem)). Contains (map (λ e. e.0) es) key) (world_items r.resolve.worlds)
     (Contains-keys_from_lookup key_same key (items_of sides.Exported r) h)
 
--- ---- some export is the root function
+-- ---- some export implements each function
 
 sufficient : (abi : Option AbiVariant) (called_back : Bool) → suffices abi called_back ≡ true → is_some abi ≡ true
 sufficient None called_back e = absurd (true≢false (sym e))
 sufficient (Some abi) called_back e = refl
 
--- the first of several functions that exist is an export
-first_there : (k : Known) (key : WorldKey) (name : List ℕ) → all_there k key (name ∷ []) ≡ Ok tt → is_some (k.abi (function_key key name)) ≡ true
-first_there k key name e =
-    let a = bind_ok (function_there k key name) (λ (_ : ⊤). all_there k key []) tt e in
-    let p = passed (is_there k (function_key key name)) tt a.0 (missing name) a.1 in
-    sufficient (k.abi (function_key key name)) (k.called_back (function_key key name)) p.0
-
-module _ (r : Resolve) (text name : List ℕ) (f : Function) (is : exported_function r world_id (keys.Name text) ≡ Some f) where
-  skipped : (key : WorldKey) (other : List ℕ) (abi : AbiVariant) (rest : List (FunctionKey × AbiVariant)) → is_same_key (keys.Name text) key ≡ false
-      → IsSome (lookup (is_same_function (function_key (keys.Name text) name)) ((function_key key other, abi) ∷ rest)) → IsSome (lookup (is_same_function (function_key (keys.Name text) name)) rest)
-  skipped key other abi rest apart h = by (is_same_key (keys.Name text) key) apart h
+module _ (test : FunctionKey → Bool) where
+  -- a function is found with the form in which it is called exactly where it is found with the name of an export
+  same_found : (name : List ℕ) (fs : List (FunctionKey × AbiVariant)) (abis : List (FunctionKey × AbiVariant)) (fields : List (FunctionKey × List ℕ)) → is_some (lookup test abis) ≡ is_some (lookup test fields)
+      → is_some (lookup test (fs ++ abis)) ≡ is_some (lookup test (map (λ f. (f.0, name)) fs ++ fields))
+  same_found name [] abis fields same = same
+  same_found name (f ∷ fs) abis fields same = by (test f.0) (same_found name fs abis fields same)
     where
-      by : (b : Bool) → b ≡ false → IsSome (cond (b && bytes_eq name other) (Some abi) (lookup (is_same_function (function_key (keys.Name text) name)) rest))
-          → IsSome (lookup (is_same_function (function_key (keys.Name text) name)) rest)
-      by true apart h = absurd (true≢false apart)
-      by false apart h = h
+      by : (b : Bool) → is_some (lookup test (fs ++ abis)) ≡ is_some (lookup test (map (λ f. (f.0, name)) fs ++ fields))
+          → is_some (cond b (Some f.1) (lookup test (fs ++ abis))) ≡ is_some (cond b (Some name) (lookup test (map (λ f. (f.0, name)) fs ++ fields)))
+      by true rest = refl
+      by false rest = rest
 
-  name_apart : (id : InterfaceId) → is_same_key (keys.Name text) (keys.Interface id) ≡ false
-  name_apart id = none_both (bytes_eq text []) (nat_eq 0 (suc id.index)) (eqb-zero-suc id.index)
+  implemented : (all : Exports) → is_some (lookup test (lifted_functions all)) ≡ is_some (lookup test (implementations all))
+  implemented [] = refl
+  implemented ((name, role) ∷ all) = same_found name (lifted_function role) (lifted_functions all) (implementations all) (implemented all)
 
-  key_apart : (other : List ℕ) → bytes_eq text other ≡ false → is_same_key (keys.Name text) (keys.Name other) ≡ false
-  key_apart other e = ap (λ (b : Bool). b && true) e
-
-  root_there : (all : Exports) → AllByRecursion (λ e. IsWithin r world_id e.1) all → IsSome (abi_at all (function_key (keys.Name text) name)) → IsSome (found text (flat_map root_export all))
-  root_there [] h there = there
-  root_there ((field, exports.WorldFunc (keys.Name other) function abi) ∷ es) h there = by (bytes_eq text other) refl (λ later. root_there es h.1 later)
-    where
-      by : (b : Bool) → bytes_eq text other ≡ b → (IsSome (abi_at es (function_key (keys.Name text) name)) → IsSome (found text (flat_map root_export es)))
-          → IsSome (cond b (Some field) (found text (flat_map root_export es)))
-      by true e more = refl
-      by false e more = more (skipped (keys.Name other) function abi (lifted_functions es) (key_apart other e) there)
-  root_there ((field, exports.WorldFunc (keys.Interface id) function abi) ∷ es) h there = root_there es h.1 (skipped (keys.Interface id) function abi (lifted_functions es) (name_apart id) there)
-  root_there ((field, exports.InterfaceFunc (keys.Name other) id function abi) ∷ es) h there = by (bytes_eq text other) refl (λ later. root_there es h.1 later)
-    where
-      by : (b : Bool) → bytes_eq text other ≡ b → (IsSome (abi_at es (function_key (keys.Name text) name)) → IsSome (found text (flat_map root_export es))) → IsSome (found text (flat_map root_export es))
-      by true e more =
-          let same : text ≡ other = (bytes_eq-Decides text other).0 e in
-          let clash : Some f ≡ None = sym is ∙ (ap (λ (t : List ℕ). exported_function r world_id (keys.Name t)) same ∙ h.0) in absurd cc
-      by false e more = more (skipped (keys.Name other) function abi (lifted_functions es) (key_apart other e) there)
-  root_there ((field, exports.InterfaceFunc (keys.Interface i) id function abi) ∷ es) h there = root_there es h.1 (skipped (keys.Interface i) function abi (lifted_functions es) (name_apart i) there)
-  root_there ((field, role) ∷ es) h there = root_there es h.1 there
-
-names_of_function : (r : Resolved) (o : Option WorldItem) (f : Function) → option_and_then function_in o ≡ Some f → names_in r o ≡ f.name ∷ []
-names_of_function r None f e = absurd cc
-names_of_function r (Some (items.Function g)) f e = let same : g ≡ f = cc (e) in ap (λ (x : Function). x.name ∷ []) same
-names_of_function r (Some (items.Interface id)) f e = absurd cc
-names_of_function r (Some (items.NamedType t)) f e = absurd cc
+-- the functions that are there have core exports
+all_implemented : (all : Exports) (key : WorldKey) (names : List (List ℕ)) → all_there (known all) key names ≡ Ok tt → AllByRecursion (λ name. IsSome (of_function key name (implementations all))) names
+all_implemented all key [] e = tt
+all_implemented all key (name ∷ names) e =
+    let a = bind_ok (function_there (known all) key name) (λ (_ : ⊤). all_there (known all) key names) tt e in
+    let p = passed (is_there (known all) (function_key key name)) tt a.0 (missing name) a.1 in
+    let there = sufficient (abi_at all (function_key key name)) (has_callback all (function_key key name)) p.0 in
+    (sym (implemented (is_same_function (function_key key name)) all) ∙ there, all_implemented all key names a.2)
 
 -- ---- keys that were returned
 
@@ -155,28 +125,17 @@ key_required r k needed key e =
     let there : all_there k a.0 (functions_at r a.0) ≡ Ok tt = b.1 in
     record { target = got (resolved_export_key r needed) (missing (key_text needed)) a.0 a.1 ∙ ap Some same; there = subst (λ (x : WorldKey). all_there k x (functions_at r x) ≡ Ok tt) same there }
 
-key_kept : (r : Resolved) (all : Exports) (needed : ExportKey) (key : WorldKey) → AllByRecursion (λ e. IsWithin r.resolve world_id e.1) all → required_key r (known all) needed ≡ Ok key → IsKept r.resolve world_id all key
-key_kept r all needed key within e =
+key_kept : (r : Resolved) (all : Exports) (needed : ExportKey) (key : WorldKey) → required_key r (known all) needed ≡ Ok key → IsKept r.resolve world_id all key
+key_kept r all needed key e =
     let q = key_required r (known all) needed key e in
-    record {
-      exported = key_there r key (target_exists r needed key q.target);
-      present = λ text f named is.
-          let here : exported_function r.resolve world_id (keys.Name text) ≡ Some f = ap (exported_function r.resolve world_id) (sym named) ∙ is in
-          let one : functions_at r key ≡ f.name ∷ [] = names_of_function r (item_at sides.Exported r key) f (sym (root_item r key) ∙ is) in
-          let there : all_there (known all) key (f.name ∷ []) ≡ Ok tt = ap (all_there (known all) key) (sym one) ∙ q.there in
-          let first : IsSome (abi_at all (function_key key f.name)) = first_there (known all) key f.name there in
-          root_there r.resolve text f.name f here all within (subst (λ (x : WorldKey). IsSome (abi_at all (function_key x f.name))) named first);
-    }
+    record { exported = key_there r key (target_exists r needed key q.target); present = all_implemented all key (functions_at r key) q.there }
 
-keys_kept : (r : Resolved) (all : Exports) (done ks : List WorldKey) (ws : List ExportKey) → AllByRecursion (λ e. IsWithin r.resolve world_id e.1) all → AllByRecursion (IsKept r.resolve world_id all) done
-    → required_after r (known all) done ws ≡ Ok ks → AllByRecursion (IsKept r.resolve world_id all) ks
-keys_kept r all done ks [] within h e = let same : done ≡ ks = cc (e) in subst (λ (x : List WorldKey). AllByRecursion (IsKept r.resolve world_id all) x) same h
-keys_kept r all done ks (w ∷ ws) within h e =
+keys_kept : (r : Resolved) (all : Exports) (done ks : List WorldKey) (ws : List ExportKey) → AllByRecursion (IsKept r.resolve world_id all) done → required_after r (known all) done ws ≡ Ok ks
+    → AllByRecursion (IsKept r.resolve world_id all) ks
+keys_kept r all done ks [] h e = let same : done ≡ ks = cc (e) in subst (λ (x : List WorldKey). AllByRecursion (IsKept r.resolve world_id all) x) same h
+keys_kept r all done ks (w ∷ ws) h e =
     let a = bind_ok (required_key r (known all) w) (λ key. required_after r (known all) (done ++ key ∷ []) ws) ks e in
-    keys_kept r all (done ++ a.0 ∷ []) ks ws within (AllByRecursion-push (IsKept r.resolve world_id all) done a.0 h (key_kept r all w a.0 within a.1)) a.2
+    keys_kept r all (done ++ a.0 ∷ []) ks ws (AllByRecursion-push (IsKept r.resolve world_id all) done a.0 h (key_kept r all w a.0 a.1)) a.2
 
-pub all_kept : (resolve : Resolve) (r : Resolved) (all : Exports) (ws : List ExportKey) (ks : List WorldKey) → required_of r all ws ≡ Ok ks → resolve ≡ r.resolve
-    → AllByRecursion (λ e. IsWithin resolve world_id e.1) all → AllByRecursion (IsKept resolve world_id all) ks
-all_kept resolve r all ws ks e same within =
-    subst (λ (x : Resolve). AllByRecursion (IsKept x world_id all) ks) (sym same)
-    (keys_kept r all [] ks ws (subst (λ (x : Resolve). AllByRecursion (λ e. IsWithin x world_id e.1) all) same within) tt e)
+pub all_kept : (r : Resolved) (all : Exports) (ws : List ExportKey) (ks : List WorldKey) → required_of r all ws ≡ Ok ks → AllByRecursion (IsKept r.resolve world_id all) ks
+all_kept r all ws ks e = keys_kept r all [] ks ws tt e

@@ -1,4 +1,3 @@
-mod Entering
 mod Knowing
 mod Lifting
 mod Refusing

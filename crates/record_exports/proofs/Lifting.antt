@@ -1,13 +1,13 @@
--- A root function of an export's role is one of the world, under the name that the role has for it.
-use Rattle.std.proofs.Common.{true≢false, ◌≡◌, ◌∙◌, ap, sym, subst, refl, ℕ, Bool, true, false, List, [], ◌∷◌, ◌++◌, Option, Some, None, Ok, is_some, if◌then◌else◌}
-use Rattle.std.specs.Prelude.{slice_get, option_map, ok_or, IfSome, ⊤}
+-- The function of an export's role is one that the world exports, at its root under its own name or in an interface.
+use Rattle.std.proofs.Common.{◌≡◌, ◌∙◌, ap, sym, subst, refl, ℕ, Bool, true, false, List, [], ◌∷◌, ◌++◌, Option, Some, None, Ok, is_some, if◌then◌else◌}
+use Rattle.std.specs.Prelude.{slice_get, option_map, ok_or, IfSome, IsSome, ⊤}
 use Rattle.std.specs.List.{AllByRecursion}
 use Rattle.std.specs.Map.{lookup}
 use Rattle.std.specs.Option.{option_and_then, option_map_or}
 use Rattle.std.specs.Str.{bytes_eq}
 use Rattle.comp_lists.specs.Found.{found}
 use Rattle.comp_lists.specs.Tables.{with_first}
-use Rattle.comp_lists.proofs.Lists.{AllByRecursion-push, AllByRecursion-weaker}
+use Rattle.comp_lists.proofs.Lists.{AllByRecursion-push}
 use Rattle.core_sections.specs.declared.core_module.CoreModule.{CoreModule}
 use Rattle.core_sections.specs.declared.entries.ExportedItem.{ExportedItem}
 use Rattle.wit_data.specs.Keys.{is_same_key}
@@ -15,14 +15,13 @@ use Rattle.wit_data.specs.declared.functions.AbiVariant.{AbiVariant}
 use Rattle.wit_data.specs.declared.functions.Function.{Function}
 use Rattle.wit_data.specs.declared.ids.InterfaceId.{InterfaceId}
 use Rattle.wit_data.specs.declared.worlds.World.{World}
-use Rattle.wit_data.specs.declared.worlds.WorldItem.{WorldItem}
-use Rattle.wit_data.specs.declared.worlds.WorldItem.TheVariants as items
 use Rattle.wit_data.specs.declared.worlds.WorldKey.{WorldKey}
 use Rattle.wit_data.specs.declared.worlds.WorldKey.TheVariants as keys
 use Rattle.comp_roles.specs.declared.exports.Export.{Export}
 use Rattle.comp_roles.specs.declared.exports.Export.TheVariants as exports
 use Rattle.comp_roles.specs.declared.offered.ExternType.{ExternType}
 use Rattle.world_values.specs.Items.{function_in, root_function_at}
+use Rattle.world_values.specs.Mentions.{interface_in}
 use Rattle.record_values.specs.declared.names.Owner.{Owner}
 use Rattle.record_values.specs.declared.names.Owner.TheVariants as owners
 use Rattle.record_values.specs.declared.roles.ExportRole.{ExportRole}
@@ -32,12 +31,12 @@ use Rattle.record_values.specs.declared.roles.PlainExport.TheVariants as plain
 use Rattle.record_resolve.specs.declared.resolving.Resolved.{Resolved}
 use Rattle.record_role_targets.specs.declared.sides.Side.TheVariants as sides
 use Rattle.record_role_targets.specs.Sides.{item_at, interface_of}
-use Rattle.record_role_targets.specs.Keys.{is_interface, interface_key}
+use Rattle.record_role_targets.specs.Keys.{interface_key}
 use Rattle.record_role_targets.specs.Positions.{at_root, in_interface, function_at, function_position, resource_of}
 use Rattle.record_role_targets.specs.Imports.{memory_type}
-use Rattle.record_role_targets.specs.Exports.{lifted, post_return_there, post_return, callback_there, callback, plain_export, resolved_export}
+use Rattle.record_role_targets.specs.Exports.{lifted_there, lifted, post_return_there, post_return, callback_there, callback, plain_export, resolved_export}
 use Rattle.record_role_targets.proofs.Existence.{at_key}
-use Rattle.record_core_types.specs.Asked.{exported_function}
+use Rattle.record_core_types.specs.Asked.{exported_function, function_of, exported_interface}
 use Rattle.record_core_types.specs.Fitting.{fits_export}
 use Rattle.record_core_types.specs.Offered.{item_type}
 use Rattle.record_core_types.specs.Guarantees.{IsLifted}
@@ -46,7 +45,6 @@ use Rattle.record_faults.proofs.Chains.{bind_ok, got, passed}
 use Rattle.record_exports.specs.Functions.{Exports}
 use Rattle.record_exports.specs.Meaning.{world_id, unfit, fitting, export_of}
 use Rattle.record_exports.specs.Exporting.{Roles, with_role, exports_after, exports_of}
-use Rattle.record_exports.specs.Guarantees.{IsWithin, AreInWorld}
 use Rattle.record_exports.specs.Taking.{all_taken}
 
 -- ---- what one role resolves to
@@ -59,105 +57,94 @@ same_item (Some w) key = refl
 pub root_item : (r : Resolved) (key : WorldKey) → exported_function r.resolve world_id key ≡ option_and_then function_in (item_at sides.Exported r key)
 root_item r key = same_item (slice_get r.resolve.worlds 0) key
 
--- an export that is lifted is at the root under its name, or within its interface
-abbrev IsInWorld : Resolved → Export → Type 0
-IsInWorld r e = IsLifted r.resolve world_id e × IsWithin r.resolve world_id e
-
-mapped : {A B : Type 0} (g : A → B) (P : B → Type 0) → ((x : A) → P (g x)) → (o : Option A) → IfSome (option_map g o) P
-mapped g P each None = tt
-mapped g P each (Some x) = each x
-
-root_in_world : (r : Resolved) (name : List ℕ) (abi : AbiVariant) → IfSome (option_map (lifted name abi) (function_position sides.Exported r owners.World name)) (IsInWorld r)
-root_in_world r name abi = by (function_at sides.Exported r (at_root name) name) (root_item r (keys.Name name))
-  where
-    by : (o : Option Function) → exported_function r.resolve world_id (keys.Name name) ≡ o → IfSome (option_map (lifted name abi) (option_map (λ f. at_root name) o)) (IsInWorld r)
-    by None e = tt
-    by (Some f) e = ((refl, ap is_some e), tt)
-
--- a post-return at the root, and within an interface
-post_return_at_root : (r : Resolved) (name : List ℕ) → IfSome (option_map (post_return name) (function_position sides.Exported r owners.World name)) (IsInWorld r)
-post_return_at_root r name = by (function_at sides.Exported r (at_root name) name) (root_item r (keys.Name name))
-  where
-    by : (o : Option Function) → exported_function r.resolve world_id (keys.Name name) ≡ o → IfSome (option_map (post_return name) (option_map (λ f. at_root name) o)) (IsInWorld r)
-    by None e = tt
-    by (Some f) e = (ap is_some e, tt)
-
-post_return_within : (r : Resolved) (name : List ℕ) (o : Option InterfaceId)
-    → IfSome (option_map (post_return name) (option_and_then (λ p. option_map (λ f. p) (function_at sides.Exported r p name)) (option_and_then (λ id. option_map (in_interface id) (interface_key sides.Exported r id)) o))) (IsInWorld r)
-post_return_within r name None = tt
-post_return_within r name (Some id) = by_key (interface_key sides.Exported r id)
-  where
-    by_function : (key : WorldKey) (o : Option Function) → IfSome (option_map (post_return name) (option_map (λ f. in_interface id key) o)) (IsInWorld r)
-    by_function key None = tt
-    by_function key (Some f) = (tt, tt)
-
-    by_key : (key : Option WorldKey) → IfSome (option_map (post_return name) (option_and_then (λ p. option_map (λ f. p) (function_at sides.Exported r p name)) (option_map (in_interface id) key))) (IsInWorld r)
-    by_key None = tt
-    by_key (Some key) = by_function key (function_at sides.Exported r (in_interface id key) name)
-
-post_return_in_world : (r : Resolved) (owner : Owner) (name : List ℕ) → IfSome (option_map (post_return name) (function_position sides.Exported r owner name)) (IsInWorld r)
-post_return_in_world r owners.World name = post_return_at_root r name
-post_return_in_world r (owners.Interface i) name = post_return_within r name (interface_of sides.Exported r i)
-
-callback_in_world : (r : Resolved) (name : List ℕ) (key : WorldKey) (interface : Option InterfaceId) → IsInWorld r (callback_there key interface name)
-callback_in_world r name key None = (tt, tt)
-callback_in_world r name key (Some id) = (tt, tt)
-
-plain_in_world : (r : Resolved) (p : PlainExport) (ty : Option ExternType) → IfSome (plain_export p ty) (IsInWorld r)
-plain_in_world r plain.Memory ty = mapped exports.Memory (IsInWorld r) (λ m. (tt, tt)) (memory_type ty)
-plain_in_world r plain.Realloc ty = (tt, tt)
-plain_in_world r plain.ImportRealloc ty = (tt, tt)
-plain_in_world r plain.ExportRealloc ty = (tt, tt)
-plain_in_world r plain.AdapterRealloc ty = (tt, tt)
-plain_in_world r plain.Initialize ty = (tt, tt)
-plain_in_world r plain.TaskHook ty = (tt, tt)
-
--- where the world has an interface at a key, it has no function there
-no_function : (id : InterfaceId) (item : WorldItem) → is_interface id item ≡ true → function_in item ≡ None
-no_function id (items.Interface other) e = refl
-no_function id (items.Function f) e = absurd (true≢false (sym e))
-no_function id (items.NamedType t) e = refl
-
-none_there : (id : InterfaceId) (o : Option WorldItem) → option_map_or (is_interface id) o false ≡ true → option_and_then function_in o ≡ None
-none_there id None e = refl
-none_there id (Some item) e = no_function id item e
+-- and the interface at a key
+same_interface : (o : Option World) (key : WorldKey) → option_and_then (λ w. option_and_then interface_in (lookup (is_same_key key) w.exports)) o ≡ option_and_then interface_in (lookup (is_same_key key) (option_map_or (λ w. w.exports) o []))
+same_interface None key = refl
+same_interface (Some w) key = refl
 
 module _ (r : Resolved) where
-  key_in_world_at : (id : InterfaceId) (name : List ℕ) (abi : AbiVariant) (key : WorldKey) → option_map_or (is_interface id) (item_at sides.Exported r key) false ≡ true → IsInWorld r (exports.InterfaceFunc key id name abi)
-  key_in_world_at id name abi (keys.Name text) e = (tt, root_item r (keys.Name text) ∙ none_there id (item_at sides.Exported r (keys.Name text)) e)
-  key_in_world_at id name abi (keys.Interface i) e = (tt, tt)
+  abbrev Lifted : Export → Type 0
+  Lifted export = IsLifted r.resolve world_id export
 
-  key_in_world : (id : InterfaceId) (name : List ℕ) (abi : AbiVariant) (key : WorldKey) → interface_key sides.Exported r id ≡ Some key → IsInWorld r (exports.InterfaceFunc key id name abi)
-  key_in_world id name abi key e = let there = at_key r sides.Exported id key e in key_in_world_at id name abi key there.is
+  mapped : {A : Type 0} (g : A → Export) → ((x : A) → Lifted (g x)) → (o : Option A) → IfSome (option_map g o) Lifted
+  mapped g each None = tt
+  mapped g each (Some x) = each x
 
-  within_in_world : (name : List ℕ) (abi : AbiVariant) (id : InterfaceId) (key : Option WorldKey) → interface_key sides.Exported r id ≡ key
-      → IfSome (option_map (lifted name abi) (option_and_then (λ p. option_map (λ f. p) (function_at sides.Exported r p name)) (option_map (in_interface id) key))) (IsInWorld r)
-  within_in_world name abi id None is = tt
-  within_in_world name abi id (Some key) is = by (function_at sides.Exported r (in_interface id key) name)
+  -- ---- functions at the root
+
+  root_lifted : (name : List ℕ) (abi : AbiVariant) → IfSome (option_map (lifted name abi) (function_position sides.Exported r owners.World name)) Lifted
+  root_lifted name abi = by (function_at sides.Exported r (at_root name) name) (root_item r (keys.Name name))
     where
-      by : (o : Option Function) → IfSome (option_map (lifted name abi) (option_map (λ f. in_interface id key) o)) (IsInWorld r)
-      by None = tt
-      by (Some f) = key_in_world id name abi key is
+      by : (o : Option Function) → exported_function r.resolve world_id (keys.Name name) ≡ o → IfSome (option_map (lifted name abi) (option_map (λ f. at_root name) o)) Lifted
+      by None e = tt
+      by (Some f) e = (refl, ap is_some e)
 
-  interface_in_world : (name : List ℕ) (abi : AbiVariant) (o : Option InterfaceId)
-      → IfSome (option_map (lifted name abi) (option_and_then (λ p. option_map (λ f. p) (function_at sides.Exported r p name)) (option_and_then (λ id. option_map (in_interface id) (interface_key sides.Exported r id)) o))) (IsInWorld r)
-  interface_in_world name abi None = tt
-  interface_in_world name abi (Some id) = within_in_world name abi id (interface_key sides.Exported r id) refl
+  post_return_at_root : (name : List ℕ) → IfSome (option_map (post_return name) (function_position sides.Exported r owners.World name)) Lifted
+  post_return_at_root name = by (function_at sides.Exported r (at_root name) name) (root_item r (keys.Name name))
+    where
+      by : (o : Option Function) → exported_function r.resolve world_id (keys.Name name) ≡ o → IfSome (option_map (post_return name) (option_map (λ f. at_root name) o)) Lifted
+      by None e = tt
+      by (Some f) e = ap is_some e
 
-  function_in_world : (owner : Owner) (name : List ℕ) (abi : AbiVariant) → IfSome (option_map (lifted name abi) (function_position sides.Exported r owner name)) (IsInWorld r)
-  function_in_world owners.World name abi = root_in_world r name abi
-  function_in_world (owners.Interface i) name abi = interface_in_world name abi (interface_of sides.Exported r i)
+  -- ---- functions of interfaces
 
-  role_in_world : (role : ExportRole) (ty : Option ExternType) → IfSome (resolved_export r role ty) (IsInWorld r)
-  role_in_world (roles.Function owner name abi) ty = function_in_world owner name abi
-  role_in_world (roles.PostReturn owner name) ty = post_return_in_world r owner name
-  role_in_world (roles.Callback owner name) ty = mapped (callback name) (IsInWorld r) (λ p. callback_in_world r name p.key p.interface) (function_position sides.Exported r owner name)
-  role_in_world (roles.Destructor t) ty = mapped (λ d. exports.ResourceDtor d.id) (IsInWorld r) (λ d. (tt, tt)) (resource_of sides.Exported r t)
-  role_in_world (roles.Plain p) ty = plain_in_world r p ty
+  -- an interface has the key under which it is found, and the function
+  record HasThere (id : InterfaceId) (key : WorldKey) (name : List ℕ) : Type 0 where
+    exported : exported_interface r.resolve world_id key ≡ Some id
+    has : IsSome (function_of r.resolve id name)
 
-  -- the properties of a role that resolves to this
-  some_in_world : (role : ExportRole) (ty : Option ExternType) (export : Export) → resolved_export r role ty ≡ Some export → IsInWorld r export
-  some_in_world role ty export e = subst (λ o. IfSome o (IsInWorld r)) e (role_in_world role ty)
+  -- what holds of each function of an interface holds of the one at a position, if there is one
+  at_position : (make : WorldKey → Option InterfaceId → Export) (name : List ℕ) (id : InterfaceId) (key : Option WorldKey) → interface_key sides.Exported r id ≡ key
+      → ((k : WorldKey) → HasThere id k name → Lifted (make k (Some id)))
+      → IfSome (option_map (λ p. make p.key p.interface) (option_and_then (λ p. option_map (λ f. p) (function_at sides.Exported r p name)) (option_map (in_interface id) key))) Lifted
+  at_position make name id None is each = tt
+  at_position make name id (Some key) is each = by (function_at sides.Exported r (in_interface id key) name) refl
+    where
+      exported_there : exported_interface r.resolve world_id key ≡ Some id
+      exported_there = let there = at_key r sides.Exported id key is in same_interface (slice_get r.resolve.worlds 0) key ∙ there.is
+
+      by : (o : Option Function) → function_of r.resolve id name ≡ o → IfSome (option_map (λ p. make p.key p.interface) (option_map (λ f. in_interface id key) o)) Lifted
+      by None e = tt
+      by (Some f) e = each key (record { exported = exported_there; has = ap is_some e })
+
+  in_interfaces : (make : WorldKey → Option InterfaceId → Export) (name : List ℕ) → ((id : InterfaceId) (k : WorldKey) → HasThere id k name → Lifted (make k (Some id))) → (o : Option InterfaceId)
+      → IfSome (option_map (λ p. make p.key p.interface) (option_and_then (λ p. option_map (λ f. p) (function_at sides.Exported r p name)) (option_and_then (λ id. option_map (in_interface id) (interface_key sides.Exported r id)) o))) Lifted
+  in_interfaces make name each None = tt
+  in_interfaces make name each (Some id) = at_position make name id (interface_key sides.Exported r id) refl (each id)
+
+  -- ---- roles
+
+  function_lifted : (owner : Owner) (name : List ℕ) (abi : AbiVariant) → IfSome (option_map (lifted name abi) (function_position sides.Exported r owner name)) Lifted
+  function_lifted owners.World name abi = root_lifted name abi
+  function_lifted (owners.Interface i) name abi = in_interfaces (λ key interface. lifted_there key interface name abi) name (λ id k there. (there.exported, there.has)) (interface_of sides.Exported r i)
+
+  post_return_lifted : (owner : Owner) (name : List ℕ) → IfSome (option_map (post_return name) (function_position sides.Exported r owner name)) Lifted
+  post_return_lifted owners.World name = post_return_at_root name
+  post_return_lifted (owners.Interface i) name = in_interfaces (λ key interface. post_return_there key interface name) name (λ id k there. (id, there.exported, there.has)) (interface_of sides.Exported r i)
+
+  callback_lifted : (name : List ℕ) (key : WorldKey) (interface : Option InterfaceId) → Lifted (callback_there key interface name)
+  callback_lifted name key None = tt
+  callback_lifted name key (Some id) = tt
+
+  plain_lifted : (p : PlainExport) (ty : Option ExternType) → IfSome (plain_export p ty) Lifted
+  plain_lifted plain.Memory ty = mapped exports.Memory (λ m. tt) (memory_type ty)
+  plain_lifted plain.Realloc ty = tt
+  plain_lifted plain.ImportRealloc ty = tt
+  plain_lifted plain.ExportRealloc ty = tt
+  plain_lifted plain.AdapterRealloc ty = tt
+  plain_lifted plain.Initialize ty = tt
+  plain_lifted plain.TaskHook ty = tt
+
+  role_lifted : (role : ExportRole) (ty : Option ExternType) → IfSome (resolved_export r role ty) Lifted
+  role_lifted (roles.Function owner name abi) ty = function_lifted owner name abi
+  role_lifted (roles.PostReturn owner name) ty = post_return_lifted owner name
+  role_lifted (roles.Callback owner name) ty = mapped (callback name) (λ p. callback_lifted name p.key p.interface) (function_position sides.Exported r owner name)
+  role_lifted (roles.Destructor t) ty = mapped (λ d. exports.ResourceDtor d.id) (λ d. tt) (resource_of sides.Exported r t)
+  role_lifted (roles.Plain p) ty = plain_lifted p ty
+
+  -- the property of a role that resolves to this
+  some_lifted : (role : ExportRole) (ty : Option ExternType) (export : Export) → resolved_export r role ty ≡ Some export → Lifted export
+  some_lifted role ty export e = subst (λ o. IfSome o Lifted) e (role_lifted role ty)
 
 -- ---- what all roles resolve to
 
@@ -210,10 +197,5 @@ steps r rs core all e =
     let unit : all_taken a.0 ≡ Ok tt = b.1 in
     record { read = a.1 ∙ ap (λ (x : Exports). Ok x) same; taken = ap (λ (x : Exports). all_taken x) (sym same) ∙ unit }
 
-pub all_in_world : (r : Resolved) (rs : Roles) (core : CoreModule) (all : Exports) → exports_after r rs core [] core.exports ≡ Ok all → AreInWorld r all
-all_in_world r rs core all e =
-    let both = all_more r core (IsInWorld r) (some_in_world r) rs [] all core.exports tt e in
-    record {
-      lifted = AllByRecursion-weaker (λ x h. h.0) all both;
-      within = AllByRecursion-weaker (λ x h. h.1) all both;
-    }
+pub all_lifted : (r : Resolved) (rs : Roles) (core : CoreModule) (all : Exports) → exports_after r rs core [] core.exports ≡ Ok all → AllByRecursion (λ e. IsLifted r.resolve world_id e.1) all
+all_lifted r rs core all e = all_more r core (λ export. IsLifted r.resolve world_id export) (some_lifted r) rs [] all core.exports tt e

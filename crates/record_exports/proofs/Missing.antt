@@ -15,7 +15,8 @@ use Rattle.record_faults.specs.declared.fault.Refusal.{Refusal}
 use Rattle.record_faults.specs.declared.fault.Refusal.TheVariants as refusals
 use Rattle.record_faults.specs.Faults.{◌>>=◌}
 use Rattle.record_faults.proofs.Chains.{refused, same_refusal, bind_ok, bind_err, missed, got, failed, passed}
-use Rattle.record_exports.specs.Functions.{Exports, known, function_key, abi_at, has_callback}
+use Rattle.world_values.specs.CoreExports.{function_key}
+use Rattle.record_exports.specs.Functions.{Exports, known, abi_at, has_callback}
 use Rattle.record_exports.specs.Requiring.{missing, key_text, functions_at, suffices, is_there, function_there, all_there, required_key, required_after, required_of}
 use Rattle.record_exports.specs.Causes.{IsRequired, RequiredCause, not_there, no_export, no_callback}
 use Rattle.record_exports.proofs.Keeping.{Required, key_required}

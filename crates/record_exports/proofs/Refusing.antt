@@ -25,7 +25,8 @@ use Rattle.record_faults.specs.declared.fault.Refusal.{Refusal}
 use Rattle.record_faults.specs.declared.fault.Refusal.TheVariants as refusals
 use Rattle.record_faults.specs.Faults.{◌>>=◌}
 use Rattle.record_faults.proofs.Chains.{refused, same_refusal, bind_ok, bind_err, missed, got, failed}
-use Rattle.record_exports.specs.Functions.{Exports, known, post_return_function, callback_function, abi_at}
+use Rattle.world_values.specs.CoreExports.{post_return_function, callback_function}
+use Rattle.record_exports.specs.Functions.{Exports, known, abi_at}
 use Rattle.record_exports.specs.Meaning.{world_id, unfit as unfit_name, fitting, export_of}
 use Rattle.record_exports.specs.Exporting.{Roles, with_role, exports_after, exports_of}
 use Rattle.record_exports.specs.Taking.{takes_post_return, takes_callback, is_taken, taken, all_taken}

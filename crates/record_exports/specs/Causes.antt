@@ -17,7 +17,8 @@ use Rattle.record_core_types.specs.Fitting.{fits_export}
 use Rattle.record_core_types.specs.Offered.{item_type}
 use Rattle.record_faults.specs.declared.fault.Refusal.{Refusal}
 use Rattle.record_faults.specs.declared.fault.Refusal.TheVariants as refusals
-use Rattle.record_exports.specs.Functions.{Exports, function_key, post_return_function, callback_function, abi_at, has_callback}
+use Rattle.world_values.specs.CoreExports.{function_key, post_return_function, callback_function}
+use Rattle.record_exports.specs.Functions.{Exports, abi_at, has_callback}
 use Rattle.record_exports.specs.Meaning.{world_id}
 use Rattle.record_exports.specs.Exporting.{Roles, exports_after}
 use Rattle.record_exports.specs.Requiring.{key_text, functions_at}

@@ -1,48 +1,17 @@
--- The functions of core exports, by the key of the world's export that has them and their name there (Canonical ABI: `canon
--- lift`, with its options `post-return` and `callback`).
+-- What is known of functions from core exports: how each is called, and whether it has a callback (Canonical ABI: `canon lift`).
 use Rattle.std.specs.Prelude.{◌≡◌, ℕ, Bool, List, [], ◌∷◌, Option, Some, None, is_some}
 use Rattle.std.specs.List.{flat_map}
 use Rattle.std.specs.Map.{lookup}
 use Rattle.wit_data.specs.declared.functions.AbiVariant.{AbiVariant}
-use Rattle.wit_data.specs.declared.worlds.WorldKey.{WorldKey}
-use Rattle.wit_data.specs.declared.worlds.WorldKey.TheVariants as keys
 use Rattle.comp_roles.specs.Functions.{is_same_function}
 use Rattle.comp_roles.specs.declared.exports.Export.{Export}
-use Rattle.comp_roles.specs.declared.exports.Export.TheVariants as exports
 use Rattle.comp_roles.specs.declared.metadata.FunctionKey.{FunctionKey}
+use Rattle.world_values.specs.CoreExports.{lifted_function, callback_function}
 use Rattle.record_exports.specs.declared.functions.Functions.{Functions}
 
 -- core exports by name
 abbrev pub Exports : Type 0
 Exports = List (List ℕ × Export)
-
-abbrev pub function_key : WorldKey → List ℕ → FunctionKey
-function_key key name = record { key = key; function = name }
-
--- ---- the function of one export
-
--- the function that an export lifts, with the form in which it is called
-abbrev pub lifted_function : Export → List (FunctionKey × AbiVariant)
-lifted_function (exports.WorldFunc key name abi) = (function_key key name, abi) ∷ []
-lifted_function (exports.InterfaceFunc key id name abi) = (function_key key name, abi) ∷ []
-lifted_function role = []
-
--- the function of the world itself at a key: its name is the key's
-abbrev pub at_root : WorldKey → Option FunctionKey
-at_root (keys.Name text) = Some (function_key (keys.Name text) text)
-at_root (keys.Interface id) = None
-
--- the function whose post-return an export is
-abbrev pub post_return_function : Export → Option FunctionKey
-post_return_function (exports.WorldFuncPostReturn key) = at_root key
-post_return_function (exports.InterfaceFuncPostReturn key name) = Some (function_key key name)
-post_return_function role = None
-
--- the function whose callback an export is
-abbrev pub callback_function : Export → Option FunctionKey
-callback_function (exports.WorldFuncCallback key) = at_root key
-callback_function (exports.InterfaceFuncCallback key name) = Some (function_key key name)
-callback_function role = None
 
 -- a function in a table of functions alone
 abbrev pub alone : Option FunctionKey → List (FunctionKey × Unit {0})

@@ -1,6 +1,5 @@
 pub mod Functions
 pub mod Meaning
-pub mod Guarantees
 pub mod Exporting
 pub mod Taking
 pub mod Requiring

@@ -1,25 +1,23 @@
 -- Whether a module has the exports that are required of it: each function of a required key is a core export, and one that
 -- is asynchronous with a callback has its callback (Canonical ABI: `canon lift`).
-use Rattle.std.specs.Prelude.{ℕ, Bool, true, false, if◌then◌else◌, List, [], ◌∷◌, ◌++◌, map, Option, Some, None, Result, Ok, Err, ok_or, ⊤}
+use Rattle.std.specs.Prelude.{ℕ, Bool, true, false, if◌then◌else◌, List, [], ◌∷◌, ◌++◌, Option, Some, None, Result, Ok, Err, ok_or, ⊤}
 use Rattle.wit_data.specs.declared.functions.AbiVariant.{AbiVariant}
 use Rattle.wit_data.specs.declared.functions.AbiVariant.TheVariants as abis
-use Rattle.wit_data.specs.declared.functions.Function.{Function}
-use Rattle.wit_data.specs.declared.worlds.WorldItem.{WorldItem}
-use Rattle.wit_data.specs.declared.worlds.WorldItem.TheVariants as items
 use Rattle.wit_data.specs.declared.worlds.WorldKey.{WorldKey}
 use Rattle.comp_roles.specs.declared.metadata.FunctionKey.{FunctionKey}
-use Rattle.world_values.specs.Items.{functions_of}
+use Rattle.world_values.specs.CoreExports.{function_key}
 use Rattle.world_values.specs.declared.gathered.ExportKey.{ExportKey}
 use Rattle.world_values.specs.declared.gathered.ExportKey.TheVariants as export_keys
 use Rattle.record_resolve.specs.declared.resolving.Resolved.{Resolved}
-use Rattle.record_role_targets.specs.declared.sides.Side.TheVariants as sides
 use Rattle.record_role_targets.specs.Keys.{resolved_export_key}
-use Rattle.record_role_targets.specs.Sides.{item_at}
+use Rattle.record_core_types.specs.Asked.{exported_item}
+use Rattle.record_core_types.specs.Guarantees.{own_names}
 use Rattle.record_faults.specs.declared.fault.Failure.{Failure}
 use Rattle.record_faults.specs.declared.fault.Failure.TheVariants as failures
 use Rattle.record_faults.specs.declared.fault.Refusal.TheVariants as refusals
 use Rattle.record_faults.specs.Faults.{◌>>=◌}
-use Rattle.record_exports.specs.Functions.{Exports, Known, known, function_key}
+use Rattle.record_exports.specs.Functions.{Exports, Known, known}
+use Rattle.record_exports.specs.Meaning.{world_id}
 
 abbrev pub missing : List ℕ → Failure
 missing function = failures.Refused (refusals.ExportMissing function)
@@ -31,18 +29,9 @@ key_text (export_keys.Interface id) = id
 
 -- ---- the functions of a key
 
-abbrev pub function_names : List (List ℕ × Function) → List (List ℕ)
-function_names fs = map (λ f. f.1.name) fs
-
-abbrev pub names_in : Resolved → Option WorldItem → List (List ℕ)
-names_in r None = []
-names_in r (Some (items.Function f)) = f.name ∷ []
-names_in r (Some (items.Interface id)) = function_names (functions_of r.resolve id)
-names_in r (Some (items.NamedType t)) = []
-
 -- the names of the functions that the world exports at a key: that of the function itself, or those of an interface, in order
 abbrev pub functions_at : Resolved → WorldKey → List (List ℕ)
-functions_at r key = names_in r (item_at sides.Exported r key)
+functions_at r key = own_names r.resolve (exported_item r.resolve world_id key)
 
 -- ---- the functions that must exist
 

@@ -6,7 +6,8 @@ use Rattle.wit_data.specs.declared.functions.AbiVariant.{AbiVariant}
 use Rattle.wit_data.specs.declared.functions.AbiVariant.TheVariants as abis
 use Rattle.comp_roles.specs.declared.exports.Export.{Export}
 use Rattle.record_faults.specs.declared.fault.Failure.{Failure}
-use Rattle.record_exports.specs.Functions.{Exports, Known, known, post_return_function, callback_function}
+use Rattle.world_values.specs.CoreExports.{post_return_function, callback_function}
+use Rattle.record_exports.specs.Functions.{Exports, Known, known}
 use Rattle.record_exports.specs.Meaning.{unfit}
 
 -- a function that no export has may have both, since nothing is checked of it here

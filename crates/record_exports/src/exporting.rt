@@ -11,7 +11,6 @@ ghost use Rattle.record_core_types.specs.Guarantees.{IsLifted};
 ghost use Rattle.record_exports.specs.Causes.{ExportCause};
 ghost use Rattle.record_exports.specs.Exporting.{with_role, exports_after, exports_of};
 ghost use Rattle.record_exports.specs.Meaning.{world_id};
-ghost use Rattle.record_exports.specs.Guarantees.{IsWithin, AreInWorld};
 
 use crate::meaning::export_of;
 use crate::taking::check_taken;
@@ -67,7 +66,7 @@ fn exports_with_roles(
 
 /// The roles of all exports, none of which is a post-return or a callback of a function that can't have
 /// one.
-#[tactic(auto, using(crate::proofs::Lifting::all_in_world), unfolding(crate::specs::Exporting::exports_of))]
+#[tactic(auto, using(crate::proofs::Lifting::all_lifted), unfolding(crate::specs::Exporting::exports_of))]
 fn exports_of(
     alloc: Global,
     resolved: &Resolved,
@@ -76,7 +75,7 @@ fn exports_of(
 ) -> Result<Keyed<Text, Export>, Failure>
     requires { IsSound resolved.now.resolve }
     ensures exact { Gives (λ t. t) result (exports_of resolved.now roles.now core.now) }
-    ensures all_present { IfOk result (λ t. AreInWorld resolved.now t) }
+    ensures lifted { IfOk result (λ t. AllByRecursion (λ e. IsLifted resolved.now.resolve world_id e.1) t) }
 {
     let all = exports_with_roles(alloc, resolved, roles, core)?;
     check_taken(alloc, &all)?;
@@ -103,7 +102,6 @@ pub fn read_exports(
     requires { IsSound resolved.now.resolve }
     ensures exact { Gives (λ t. t) result (exports_of resolved.now roles.now core.now) }
     ensures lifted { IfOk result (λ t. AllByRecursion (λ e. IsLifted resolved.now.resolve world_id e.1) t) }
-    ensures within { IfOk result (λ t. AllByRecursion (λ e. IsWithin resolved.now.resolve world_id e.1) t) }
     ensures refused { IsOk result → (f : Refusal) → ExportCause resolved.now roles.now core.now f → ⊥ }
     ensures cause { IfErr result (λ e. (f : Refusal) → e ≡ failures.Refused f → ExportCause resolved.now roles.now core.now f) }
 {

@@ -3,7 +3,8 @@
 ghost use Rattle.std.specs.Prelude.{◌≡◌, [], IfOk, OnOk};
 ghost use Rattle.world_values.specs.Tables.{with_all};
 ghost use Rattle.comp_roles.specs.Functions.{is_same_function};
-ghost use Rattle.record_exports.specs.Functions.{function_key, lifted_function, at_root, post_return_function, callback_function, alone, lifted_functions, callbacks, known_by, IsOf};
+ghost use Rattle.world_values.specs.CoreExports.{function_key, lifted_function, at_root, post_return_function, callback_function};
+ghost use Rattle.record_exports.specs.Functions.{alone, lifted_functions, callbacks, known_by, IsOf};
 
 use comp_lists::{Keyed, Text, TryClone};
 use comp_roles::{Export, FunctionKey};
@@ -127,7 +128,7 @@ fn add_callback(
 }
 
 /// The functions that exports lift, of which the first counts.
-#[tactic(auto, using(crate::proofs::Entering::after_item))]
+#[tactic(auto, using(world_values::proofs::Entering::after_item))]
 fn lifted_functions(
     alloc: Global,
     exports: &Keyed<Text, Export>,
@@ -142,7 +143,7 @@ fn lifted_functions(
 }
 
 /// The functions that have callbacks.
-#[tactic(auto, using(crate::proofs::Entering::after_item))]
+#[tactic(auto, using(world_values::proofs::Entering::after_item))]
 fn callbacks(
     alloc: Global,
     exports: &Keyed<Text, Export>,

@@ -1,21 +1,18 @@
 //! The exports that are required of a module.
 
-ghost use Rattle.std.specs.Prelude.{◌≡◌, ◌≢◌, [], IfOk, IfErr, IsOk};
+ghost use Rattle.std.specs.Prelude.{◌≡◌, ◌≢◌, [], map, IfOk, IfErr, IsOk};
 ghost use Rattle.std.specs.List.{AllByRecursion};
 ghost use Rattle.std.specs.Option.{option_copied};
-ghost use Rattle.wit_data.specs.Sound.{IsSound};
 ghost use Rattle.world_values.specs.Items.{functions_of};
-ghost use Rattle.record_role_targets.specs.Sides.{item_at};
-ghost use Rattle.record_role_targets.specs.declared.sides.Side.TheVariants as sides;
 ghost use Rattle.record_faults.specs.Faults.{Gives};
 ghost use Rattle.record_faults.specs.declared.fault.Failure.TheVariants as failures;
 ghost use Rattle.record_faults.specs.declared.fault.Refusal.{Refusal};
+ghost use Rattle.record_core_types.specs.Asked.{exported_item};
 ghost use Rattle.record_core_types.specs.Guarantees.{IsKept};
 ghost use Rattle.record_exports.specs.Causes.{RequiredCause};
 ghost use Rattle.record_exports.specs.Functions.{known_by};
 ghost use Rattle.record_exports.specs.Meaning.{world_id};
-ghost use Rattle.record_exports.specs.Guarantees.{IsWithin};
-ghost use Rattle.record_exports.specs.Requiring.{missing, key_text, function_names, names_in, functions_at, suffices, is_there, function_there, all_there, required_key, required_after, required_of};
+ghost use Rattle.record_exports.specs.Requiring.{missing, key_text, functions_at, suffices, is_there, function_there, all_there, required_key, required_after, required_of};
 
 use crate::functions::{Functions, function_key};
 use comp_lists::{Keyed, Seq, Text};
@@ -89,7 +86,7 @@ fn check_functions(
     key: &WorldKey,
     all: &Keyed<Text, Function>,
 ) -> Result<(), Failure>
-    ensures { Gives (λ _. tt) result (all_there (known_by functions.now) key.now (function_names all.now)) }
+    ensures { Gives (λ _. tt) result (all_there (known_by functions.now) key.now (map (λ e. e.1.name) all.now)) }
 {
     for (_, function) in all.iter() {
         check_function(alloc, functions, key, &function.name)?;
@@ -104,7 +101,7 @@ fn check_interface(
     key: &WorldKey,
     id: InterfaceId,
 ) -> Result<(), Failure>
-    ensures { Gives (λ _. tt) result (all_there (known_by functions.now) key.now (function_names (functions_of resolved.now.resolve id))) }
+    ensures { Gives (λ _. tt) result (all_there (known_by functions.now) key.now (map (λ e. e.1.name) (functions_of resolved.now.resolve id))) }
 {
     match resolved.resolve.interfaces.as_slice().get(id.index) {
         Some(interface) => check_functions(alloc, functions, key, &interface.functions),
@@ -114,7 +111,7 @@ fn check_interface(
 
 /// What the world exports at a key.
 fn exported_item<'a>(resolved: &'a Resolved, key: &WorldKey) -> Option<&'a WorldItem>
-    ensures { option_copied result ≡ item_at sides.Exported resolved.now key.now }
+    ensures { option_copied result ≡ exported_item resolved.now.resolve world_id key.now }
 {
     let world = resolved.resolve.worlds.as_slice().get(0)?;
     world.exports.get(key)
@@ -187,9 +184,7 @@ fn required_of(
 }
 
 /// The keys of the world that the required exports have, in their order. Each function there is a core
-/// export, and one that is called with a callback has it. The exports are those that
-/// [`read_exports`](crate::read_exports) returned, or others of which none is a function of an
-/// interface at the key of a root function.
+/// export, and one that is called with a callback has it.
 ///
 /// # Errors
 ///
@@ -203,7 +198,6 @@ pub fn require_all(
     exports: &Keyed<Text, Export>,
     required: &[ExportKey],
 ) -> Result<Seq<WorldKey>, Failure>
-    requires within { AllByRecursion (λ e. IsWithin resolved.now.resolve world_id e.1) exports.now }
     ensures exact { Gives (λ ks. ks) result (required_of resolved.now exports.now required.now) }
     ensures kept { IfOk result (λ ks. AllByRecursion (IsKept resolved.now.resolve world_id exports.now) ks) }
     ensures refused { IsOk result → (f : Refusal) → RequiredCause resolved.now exports.now required.now f → ⊥ }

@@ -3,7 +3,8 @@
 ghost use Rattle.std.specs.Prelude.{◌≡◌, true, IfOk};
 ghost use Rattle.std.specs.Option.{option_map_or};
 ghost use Rattle.record_faults.specs.Faults.{Gives};
-ghost use Rattle.record_exports.specs.Functions.{known_by, post_return_function, callback_function};
+ghost use Rattle.world_values.specs.CoreExports.{post_return_function, callback_function};
+ghost use Rattle.record_exports.specs.Functions.{known_by};
 ghost use Rattle.record_exports.specs.Taking.{takes_post_return, takes_callback, is_taken, taken, all_taken};
 
 use crate::functions::{Functions, callback_function, post_return_function};

@@ -1,5 +1,5 @@
 -- What holds of an import that was read: its steps passed, and the function of its role is the world's.
-use Rattle.std.proofs.Common.{rules, ◌≡◌, ℕ, Bool, true, false, List, [], Option, Some, None, Result, Ok, Err, refl, sym, subst, ap, ◌∙◌, true≢false}
+use Rattle.std.proofs.Common.{◌≡◌, ℕ, Bool, true, false, List, [], Option, Some, None, Result, Ok, Err, refl, sym, subst, ap, ◌∙◌, true≢false}
 use Rattle.std.specs.Prelude.{⊤, ok_or, option_map, slice_get, IfSome, IsSome, if◌then◌else◌}
 use Rattle.std.specs.Map.{lookup}
 use Rattle.std.specs.Option.{option_and_then, option_map_or}
@@ -8,14 +8,11 @@ use Rattle.core_sections.specs.declared.entries.CoreImport.{CoreImport}
 use Rattle.core_sections.specs.declared.entries.EntityType.{EntityType}
 use Rattle.core_sections.specs.declared.entries.FuncType.{FuncType}
 use Rattle.wit_data.specs.Keys.{is_same_key}
-use Rattle.wit_data.specs.contracts.ids.InterfaceIdPartialEq.TheImpl as same_id
 use Rattle.wit_data.specs.declared.functions.AbiVariant.{AbiVariant}
 use Rattle.wit_data.specs.declared.functions.Function.{Function}
 use Rattle.wit_data.specs.declared.ids.InterfaceId.{InterfaceId}
 use Rattle.wit_data.specs.declared.resolve.Resolve.{Resolve}
 use Rattle.wit_data.specs.declared.worlds.World.{World}
-use Rattle.wit_data.specs.declared.worlds.WorldItem.{WorldItem}
-use Rattle.wit_data.specs.declared.worlds.WorldItem.TheVariants as items
 use Rattle.wit_data.specs.declared.worlds.WorldKey.{WorldKey}
 use Rattle.wit_data.specs.declared.worlds.WorldKey.TheVariants as keys
 use Rattle.comp_roles.specs.declared.imports.Import.{Import}
@@ -35,7 +32,7 @@ use Rattle.record_values.specs.declared.roles.PayloadOperation.TheVariants as op
 use Rattle.record_resolve.specs.declared.resolving.Resolved.{Resolved}
 use Rattle.record_role_targets.specs.declared.sides.Side.TheVariants as sides
 use Rattle.record_role_targets.specs.Sides.{interface_of, items_in}
-use Rattle.record_role_targets.specs.Keys.{is_interface, interface_key}
+use Rattle.record_role_targets.specs.Keys.{interface_key}
 use Rattle.record_role_targets.specs.Positions.{at_root, in_interface, position_of, function_at, function_position, resource_of}
 use Rattle.record_role_targets.specs.Payloads.{resolved_payload, payload_import}
 use Rattle.record_role_targets.specs.Imports.{memory_type, function_type, called, imported_drop, exported_drop, exported_rep, exported_new, task_return, intrinsic, resolved_import}
@@ -105,19 +102,10 @@ import_passes r table core i import e =
 
 -- ---- root functions have their own names, and interfaces their keys
 
-same_number : (a b : InterfaceId) → same_id.eq-value.it a b ≡ true → b ≡ a
-same_number a b e = search rules
-
-one_interface : (id : InterfaceId) (o : Option WorldItem) → option_map_or (is_interface id) o false ≡ true → option_and_then interface_in o ≡ Some id
-one_interface id (Some (items.Interface other)) e = ap Some (same_number id other e)
-one_interface id (Some (items.Function f)) e = absurd (true≢false (sym e))
-one_interface id (Some (items.NamedType t)) e = absurd (true≢false (sym e))
-one_interface id None e = absurd (true≢false (sym e))
-
-in_world : (id : InterfaceId) (key : WorldKey) (o : Option World) → option_map_or (is_interface id) (lookup (is_same_key key) (option_map_or (items_in sides.Imported) o [])) false ≡ true
-    → option_and_then (λ w. option_and_then interface_in (lookup (is_same_key key) w.imports)) o ≡ Some id
-in_world id key None e = absurd (true≢false (sym e))
-in_world id key (Some w) e = one_interface id (lookup (is_same_key key) w.imports) e
+-- the interface at a key, looked up as in this crate and as in the crate below
+same_interface : (o : Option World) (key : WorldKey) → option_and_then (λ w. option_and_then interface_in (lookup (is_same_key key) w.imports)) o ≡ option_and_then interface_in (lookup (is_same_key key) (option_map_or (items_in sides.Imported) o []))
+same_interface None key = refl
+same_interface (Some w) key = refl
 
 module _ (r : Resolved) where
   abbrev IsOwn : Import → Type 0
@@ -134,7 +122,7 @@ module _ (r : Resolved) where
   root_own name abi (Some f) = refl
 
   key_own : (id : InterfaceId) (key : WorldKey) → interface_key sides.Imported r id ≡ Some key → imported_interface r.resolve world_id key ≡ Some id
-  key_own id key e = let there = at_key r sides.Imported id key e in in_world id key (slice_get r.resolve.worlds 0) there.is
+  key_own id key e = let there = at_key r sides.Imported id key e in same_interface (slice_get r.resolve.worlds 0) key ∙ there.is
 
   interface_own : (name : List ℕ) (abi : AbiVariant) (id : InterfaceId) (key : Option WorldKey) → interface_key sides.Imported r id ≡ key
       → IfSome (option_map (called name abi) (option_and_then (λ p. option_map (λ f. p) (function_at sides.Imported r p name)) (option_map (in_interface id) key))) IsOwn

@@ -1,5 +1,5 @@
 -- A function that is found in a sound resolve is one of the resolve; and a side has an interface at its key.
-use Rattle.std.proofs.Common.{◌≡◌, ℕ, zero, suc, Bool, true, false, cond, List, [], ◌∷◌, Option, Some, None, refl, sym, subst}
+use Rattle.std.proofs.Common.{◌≡◌, ℕ, zero, suc, Bool, true, false, cond, List, [], ◌∷◌, Option, Some, None, refl, sym, ap, subst, rules, true≢false}
 use Rattle.std.specs.Prelude.{slice_get, option_map, if◌then◌else◌}
 use Rattle.std.specs.Option.{unwrap_or, option_and_then, option_map_or}
 use Rattle.std.specs.List.{AllByRecursion}
@@ -18,6 +18,7 @@ use Rattle.wit_data.specs.declared.worlds.WorldItem.TheVariants as items
 use Rattle.wit_data.specs.declared.worlds.WorldKey.{WorldKey}
 use Rattle.wit_data.specs.declared.worlds.WorldKey.TheVariants as keys
 use Rattle.world_values.specs.Items.{functions_of, function_in}
+use Rattle.world_values.specs.Mentions.{interface_in}
 use Rattle.record_resolve.specs.declared.resolving.Resolved.{Resolved}
 use Rattle.record_role_targets.specs.declared.sides.Side.{Side}
 use Rattle.record_role_targets.specs.declared.sides.Side.TheVariants as sides
@@ -78,15 +79,24 @@ function_exists r side position name f is sound = subst (IfThere (HasFunction r.
 
 -- ---- interfaces
 
+same_number : (a b : InterfaceId) → same_id.eq-value.it a b ≡ true → b ≡ a
+same_number a b e = search rules
+
+one_interface : (id : InterfaceId) (o : Option WorldItem) → option_map_or (is_interface id) o false ≡ true → option_and_then interface_in o ≡ Some id
+one_interface id (Some (items.Interface other)) e = ap Some (same_number id other e)
+one_interface id (Some (items.Function f)) e = absurd (true≢false (sym e))
+one_interface id (Some (items.NamedType t)) e = absurd (true≢false (sym e))
+one_interface id None e = absurd (true≢false (sym e))
+
 -- a side has this interface at a key
 pub record IsAtKey (r : Resolved) (side : Side) (id : InterfaceId) (key : WorldKey) : Type 0 where
-  pub is : option_map_or (is_interface id) (item_at side r key) false ≡ true
+  pub is : option_and_then interface_in (item_at side r key) ≡ Some id
 
 at_existing : (r : Resolved) (side : Side) (id : InterfaceId) (there key : WorldKey) → existing_as id side r there ≡ Some key → IsAtKey r side id key
 at_existing r side id there key e = by (option_map_or (is_interface id) (item_at side r there) false) refl e
   where
     by : (b : Bool) → option_map_or (is_interface id) (item_at side r there) false ≡ b → (if b then Some there else None) ≡ Some key → IsAtKey r side id key
-    by true is e = let same : there ≡ key = cc (e) in subst (λ (k : WorldKey). IsAtKey r side id k) same (record { is = is })
+    by true is e = let same : there ≡ key = cc (e) in subst (λ (k : WorldKey). IsAtKey r side id k) same (record { is = one_interface id (item_at side r there) is })
     by false is e = absurd cc
 
 at_first : (r : Resolved) (side : Side) (id : InterfaceId) (key : WorldKey) (o : Option WorldKey) → option_and_then (existing_as id side r) o ≡ Some key → IsAtKey r side id key
@@ -98,5 +108,5 @@ pub at_key : (r : Resolved) (side : Side) (id : InterfaceId) (key : WorldKey) �
 at_key r side id key e = by (option_map_or (is_interface id) (item_at side r (keys.Interface id)) false) refl e
   where
     by : (b : Bool) → option_map_or (is_interface id) (item_at side r (keys.Interface id)) false ≡ b → (if b then Some (keys.Interface id) else first_key side r id) ≡ Some key → IsAtKey r side id key
-    by true is e = let same : keys.Interface id ≡ key = cc (e) in subst (λ (k : WorldKey). IsAtKey r side id k) same (record { is = is })
+    by true is e = let same : keys.Interface id ≡ key = cc (e) in subst (λ (k : WorldKey). IsAtKey r side id k) same (record { is = one_interface id (item_at side r (keys.Interface id)) is })
     by false is e = at_first r side id key (lookup (same_id.eq-value.it id) (interface_keys side r)) e

@@ -36,6 +36,10 @@ one_key : (key : WorldKey) → IsDistinct is_same_key (key ∷ [])
 unfolding IsDistinct
 one_key key = (tt, tt)
 
+no_key : IsDistinct is_same_key []
+unfolding IsDistinct
+no_key = tt
+
 none : IsDistinct bytes_eq []
 unfolding IsDistinct
 none = tt
@@ -76,7 +80,10 @@ valid_of bytes core = record {
   exports = tt;
   import_keys_apart = one_key (keys.Name (codes "f"));
   import_names_apart = alone (codes "f");
+  export_keys_apart = no_key;
   export_names_apart = none;
+  exports_named = tt;
+  exported_interfaces_apart = none;
   main = record {
     core = core;
     modules_apart = alone (codes "$root");

@@ -1,7 +1,7 @@
 -- A world of which nothing is left out is one that the encoder takes.
 use Rattle.std.proofs.Common.{◌≡◌, None, refl, sym, subst}
 use Rattle.std.specs.List.{flat_map}
-use Rattle.world_values.specs.Mentions.{interfaces_of}
+use Rattle.world_values.specs.Mentions.{same_interface, interfaces_of}
 use Rattle.comp_roles.specs.CoreImports.{imports_from}
 use Rattle.comp_worlds.specs.Encodable.{IsEncodable}
 use Rattle.comp_worlds.specs.WorldTables.{whole_of}
@@ -11,7 +11,8 @@ use Rattle.comp_worlds.proofs.WholeTables.{whole_has_tables}
 use Rattle.supported_worlds.specs.Apart.{AreApart}
 use Rattle.supported_worlds.specs.Guarantees.{HasSoundParts}
 use Rattle.supported_worlds.specs.LeftOut.{items_of, left_out}
-use Rattle.supported_worlds.proofs.Order.{distinct, ordered, roles_placed}
+use Rattle.supported_worlds.proofs.Fresh.{distinct}
+use Rattle.supported_worlds.proofs.Order.{ordered, roles_placed}
 use Rattle.supported_worlds.proofs.Reporting.{IsEncoded, all_encoded, imports_pass}
 use Rattle.supported_worlds.proofs.Valid.{whole_is_world}
 
@@ -24,7 +25,7 @@ whole_is_encodable p present encoded apart =
       sound = present.sound;
       tables = whole_has_tables p (whole_of p) refl;
       resources = encoded.resources;
-      apart = distinct (interfaces_of world.imports) encoded.apart;
+      apart = distinct same_interface (interfaces_of world.imports) encoded.apart;
       types = order.types;
       imports = order.imports;
       exports = order.exports;

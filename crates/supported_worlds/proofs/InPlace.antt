@@ -14,11 +14,11 @@ use Rattle.wit_data.specs.declared.worlds.WorldItem.{WorldItem}
 use Rattle.wit_data.specs.declared.worlds.WorldItem.TheVariants as items
 use Rattle.wit_data.specs.declared.worlds.WorldKey.{WorldKey}
 use Rattle.wit_data.specs.declared.worlds.WorldKey.TheVariants as keys
-use Rattle.comp_worlds.specs.Encodable.{AscendFrom, ImportsResources}
+use Rattle.comp_worlds.specs.Encodable.{AscendFrom, ImportsResources, is_resource_kind}
 use Rattle.comp_worlds.specs.WorldContents.{items_of, interface_of_owner, interface_at}
 use Rattle.comp_worlds.specs.Worlds.{IsResource}
 use Rattle.comp_worlds.specs.declared.world.ComponentWorld.{ComponentWorld}
-use Rattle.supported_worlds.specs.Placed.{is_resource_kind, is_root_resource, imported_numbers, ascend_from, have_resources, are_in_place}
+use Rattle.supported_worlds.specs.Placed.{is_root_resource, imported_numbers, ascend_from, have_resources, are_in_place}
 use Rattle.supported_worlds.specs.Places.{Follows, FollowsImport}
 use Rattle.supported_worlds.proofs.Lists.{at_front, after}
 

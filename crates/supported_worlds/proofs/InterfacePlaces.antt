@@ -1,7 +1,6 @@
 -- The table of the places of imported interfaces.
-use Rattle.std.proofs.Common.{arith, rules, ◌≡◌, ◌<◌, ◌+◌, ◌==◌, ℕ, suc, Bool, true, false, not, cond, ◌&&◌, ◌||◌, List, [], ◌∷◌, ◌++◌, length, get_or, map, drop, Option, Some, None, refl, sym, ap, ap₂, subst, ◌∙◌, true≢false}
-use Rattle.std.specs.Prelude.{is_some, is_none, unwrap_or, if◌then◌else◌}
-use Rattle.std.specs.List.{list_all, list_any}
+use Rattle.std.proofs.Common.{arith, rules, ◌≡◌, ◌<◌, ◌+◌, ◌==◌, ℕ, suc, Bool, true, false, cond, ◌&&◌, List, [], ◌∷◌, ◌++◌, length, get_or, map, drop, Option, Some, None, refl, sym, ap, subst, ◌∙◌, true≢false}
+use Rattle.std.specs.Prelude.{unwrap_or, if◌then◌else◌}
 use Rattle.std.specs.Map.{lookup}
 use Rattle.std.proofs.lemmas.List.{length-map}
 use Rattle.wit_data.specs.declared.ids.InterfaceId.{InterfaceId}
@@ -9,8 +8,9 @@ use Rattle.wit_data.specs.declared.worlds.WorldItem.TheVariants as items
 use Rattle.wit_data.proofs.Meeting.{drop_next, drop_all}
 use Rattle.world_values.specs.Mentions.{same_interface, interface_in, interfaces_of}
 use Rattle.comp_worlds.specs.Encodable.{Entries, place_in}
-use Rattle.supported_worlds.specs.Placed.{are_apart}
+use Rattle.supported_worlds.specs.Distinct.{are_apart, are_new}
 use Rattle.supported_worlds.specs.PlaceTables.{ById, is_fresh, with_place, place_among, interfaces_in, HasPlaces, AreInterfacePlaces}
+use Rattle.supported_worlds.proofs.Fresh.{added, start, step, stop}
 
 abbrev Line : Type 0
 Line = List (Option InterfaceId)
@@ -24,10 +24,6 @@ flipped : (a b : InterfaceId) → same_interface a b ≡ same_interface b a
 flipped a b = Prim.search rules
 
 -- ---- a longer table
-
-added : {X : Type 0} (o : Option ℕ) (table longer : X) → is_none o ≡ true → (if is_some o then table else longer) ≡ longer
-added None table longer h = refl
-added (Some n) table longer h = absurd (true≢false (sym h))
 
 module _ (id other : InterfaceId) (n : ℕ) where
   place_pushed : (by_id : ById) (d : ℕ) → unwrap_or (lookup (same_interface id) (by_id ++ (other, n) ∷ [])) d ≡ unwrap_or (lookup (same_interface id) by_id) (cond (same_interface id other) n d)
@@ -43,58 +39,18 @@ module _ (id other : InterfaceId) (n : ℕ) where
       by true h = refl
       by false h = h
 
-  fresh_pushed : (by_id : ById) → is_none (lookup (same_interface id) (by_id ++ (other, n) ∷ [])) ≡ (is_none (lookup (same_interface id) by_id) && not (same_interface other id))
-  fresh_pushed [] = by (same_interface id other) (flipped id other)
-    where
-      by : (b : Bool) → b ≡ same_interface other id → is_none (cond b (Some n) None) ≡ not (same_interface other id)
-      by true h = ap not h
-      by false h = ap not h
-  fresh_pushed (e ∷ by_id) = by (same_interface id e.0) (fresh_pushed by_id)
-    where
-      by : (b : Bool) → is_none (lookup (same_interface id) (by_id ++ (other, n) ∷ [])) ≡ (is_none (lookup (same_interface id) by_id) && not (same_interface other id))
-          → is_none (cond b (Some e.1) (lookup (same_interface id) (by_id ++ (other, n) ∷ []))) ≡ (is_none (cond b (Some e.1) (lookup (same_interface id) by_id)) && not (same_interface other id))
-      by true h = refl
-      by false h = h
-
-abbrev are_fresh : ById → List InterfaceId → Bool
-are_fresh by_id ids = list_all (λ id. is_none (lookup (same_interface id) by_id)) ids
-
-regrouped : (a s l y : Bool) → ((a && not s) && (l && not y)) ≡ ((a && l) && not (s || y))
-regrouped true true l y = by l
-  where
-    by : (l : Bool) → false ≡ (l && false)
-    by true = refl
-    by false = refl
-regrouped true false l y = refl
-regrouped false s l y = refl
-
-all_fresh_pushed : (by_id : ById) (other : InterfaceId) (n : ℕ) (ids : List InterfaceId) → are_fresh (by_id ++ (other, n) ∷ []) ids ≡ (are_fresh by_id ids && not (list_any (same_interface other) ids))
-all_fresh_pushed by_id other n [] = refl
-all_fresh_pushed by_id other n (id ∷ ids) =
-    ap₂ (λ a b. a && b) (fresh_pushed id other n by_id) (all_fresh_pushed by_id other n ids)
-    ∙ regrouped (is_none (lookup (same_interface id) by_id)) (same_interface other id) (are_fresh by_id ids) (list_any (same_interface other) ids)
-
-none_placed : (ids : List InterfaceId) → are_fresh [] ids ≡ true
-none_placed [] = refl
-none_placed (id ∷ ids) = none_placed ids
-
 -- ---- from one import to the next
 
 -- the table has the places of the interfaces before a number, which are apart
 pub record PlacesSoFar (line rest : Line) (n : ℕ) (by_id : ById) : Type 0 where
   pub places : (id : InterfaceId) → unwrap_or (lookup (same_interface id) by_id) (n + place_among rest id) ≡ place_among line id
-  pub apart : are_apart (interfaces_in line) ≡ (are_fresh by_id (interfaces_in rest) && are_apart (interfaces_in rest))
+  pub apart : are_apart same_interface (interfaces_in line) ≡ (are_new same_interface by_id (interfaces_in rest) && are_apart same_interface (interfaces_in rest))
 
 pub places_start : (line : Line) → PlacesSoFar line line 0 []
 places_start line = record {
   places = λ id. let e : 0 + place_among line id ≡ place_among line id = omega arith in e;
-  apart = ap (λ b. b && are_apart (interfaces_in line)) (sym (none_placed (interfaces_in line)));
+  apart = start ℕ same_interface (interfaces_in line);
 }
-
-moved : (a l y z : Bool) → a ≡ true → ((a && l) && (not y && z)) ≡ ((l && not y) && z)
-moved true true y z h = refl
-moved true false y z h = refl
-moved false l y z h = absurd (true≢false (sym h))
 
 step_at : (line rest : Line) (n : ℕ) (o : Option InterfaceId) (by_id : ById) → PlacesSoFar line (o ∷ rest) n by_id → is_fresh by_id o ≡ true → PlacesSoFar line rest (n + 1) (with_place by_id o n)
 step_at line rest n None by_id h fresh = record {
@@ -104,10 +60,7 @@ step_at line rest n None by_id h fresh = record {
 step_at line rest n (Some other) by_id h fresh =
     subst (λ (t : ById). PlacesSoFar line rest (n + 1) t) (sym (added (lookup (same_interface other) by_id) by_id (by_id ++ (other, n) ∷ []) fresh)) (record {
       places = λ id. place_pushed id other n by_id (n + 1 + place_among rest id) ∙ ap (λ k. unwrap_or (lookup (same_interface id) by_id) k) (place id) ∙ h.places id;
-      apart =
-          h.apart
-          ∙ moved (is_none (lookup (same_interface other) by_id)) (are_fresh by_id (interfaces_in rest)) (list_any (same_interface other) (interfaces_in rest)) (are_apart (interfaces_in rest)) fresh
-          ∙ ap (λ b. b && are_apart (interfaces_in rest)) (sym (all_fresh_pushed by_id other n (interfaces_in rest)));
+      apart = h.apart ∙ step same_interface flipped other n by_id (interfaces_in rest) fresh;
     })
   where
     by : (id : InterfaceId) (b : Bool) → cond b n (n + 1 + place_among rest id) ≡ n + (if b then 0 else suc (place_among rest id))
@@ -117,9 +70,9 @@ step_at line rest n (Some other) by_id h fresh =
     place : (id : InterfaceId) → cond (same_interface id other) n (n + 1 + place_among rest id) ≡ n + (if id.index == other.index then 0 else suc (place_among rest id))
     place id = ap (λ b. cond b n (n + 1 + place_among rest id)) (same_is id other) ∙ by id (id.index == other.index)
 
-twice_at : (line rest : Line) (n : ℕ) (o : Option InterfaceId) (by_id : ById) → PlacesSoFar line (o ∷ rest) n by_id → is_fresh by_id o ≡ false → are_apart (interfaces_in line) ≡ false
+twice_at : (line rest : Line) (n : ℕ) (o : Option InterfaceId) (by_id : ById) → PlacesSoFar line (o ∷ rest) n by_id → is_fresh by_id o ≡ false → are_apart same_interface (interfaces_in line) ≡ false
 twice_at line rest n None by_id h fresh = absurd (true≢false fresh)
-twice_at line rest n (Some other) by_id h fresh = h.apart ∙ ap (λ b. (b && are_fresh by_id (interfaces_in rest)) && (not (list_any (same_interface other) (interfaces_in rest)) && are_apart (interfaces_in rest))) fresh
+twice_at line rest n (Some other) by_id h fresh = h.apart ∙ stop same_interface flipped other by_id (interfaces_in rest) fresh
 
 module _ (line : Line) (n : ℕ) (d : Option InterfaceId) (by_id : ById) (h : PlacesSoFar line (drop n line) n by_id) (l : n < length line) where
   opened : PlacesSoFar line (get_or line n d ∷ drop (n + 1) line) n by_id
@@ -130,7 +83,7 @@ pub places_step : (line : Line) (n : ℕ) (d : Option InterfaceId) (by_id new : 
 places_step line n d by_id new fresh h l is made passes =
     subst (λ (t : ById). PlacesSoFar line (drop (n + 1) line) (n + 1) t) (sym made) (step_at line (drop (n + 1) line) n (get_or line n d) by_id (opened line n d by_id h l) (sym is ∙ passes))
 
-pub places_twice : (line : Line) (n : ℕ) (d : Option InterfaceId) (by_id : ById) (fresh : Bool) → PlacesSoFar line (drop n line) n by_id → n < length line → fresh ≡ is_fresh by_id (get_or line n d) → fresh ≡ false → are_apart (interfaces_in line) ≡ false
+pub places_twice : (line : Line) (n : ℕ) (d : Option InterfaceId) (by_id : ById) (fresh : Bool) → PlacesSoFar line (drop n line) n by_id → n < length line → fresh ≡ is_fresh by_id (get_or line n d) → fresh ≡ false → are_apart same_interface (interfaces_in line) ≡ false
 places_twice line n d by_id fresh h l is fails = twice_at line (drop (n + 1) line) n (get_or line n d) by_id (opened line n d by_id h l) (sym is ∙ fails)
 
 pub places_end : (line : Line) (n : ℕ) (by_id : ById) → PlacesSoFar line (drop n line) n by_id → n ≡ length line → HasPlaces line by_id
@@ -152,13 +105,13 @@ same_interfaces ((key, items.Interface other) ∷ es) = ap (λ ids. other ∷ id
 same_interfaces ((key, items.Function f) ∷ es) = same_interfaces es
 same_interfaces ((key, items.NamedType t) ∷ es) = same_interfaces es
 
-pub not_apart : (es : Entries) (line : Line) → line ≡ map (λ e. interface_in e.1) es → are_apart (interfaces_in line) ≡ false → are_apart (interfaces_of es) ≡ false
-not_apart es line is twice = ap are_apart (sym (same_interfaces es)) ∙ ap (λ l. are_apart (interfaces_in l)) (sym is) ∙ twice
+pub not_apart : (es : Entries) (line : Line) → line ≡ map (λ e. interface_in e.1) es → are_apart same_interface (interfaces_in line) ≡ false → are_apart same_interface (interfaces_of es) ≡ false
+not_apart es line is twice = ap (are_apart same_interface) (sym (same_interfaces es)) ∙ ap (λ l. are_apart same_interface (interfaces_in l)) (sym is) ∙ twice
 
 pub all_apart : (es : Entries) (line : Line) (by_id : ById) (root size : ℕ) → line ≡ map (λ e. interface_in e.1) es → HasPlaces line by_id → root ≡ length line → size ≡ length line
     → AreInterfacePlaces es (record { by_id = by_id; root = root; behind = size + 1 })
 all_apart es line by_id root size is h first second = record {
-  apart = ap are_apart (sym (same_interfaces es)) ∙ ap (λ l. are_apart (interfaces_in l)) (sym is) ∙ h.apart;
+  apart = ap (are_apart same_interface) (sym (same_interfaces es)) ∙ ap (λ l. are_apart same_interface (interfaces_in l)) (sym is) ∙ h.apart;
   root = first ∙ ap length is ∙ length-map es (λ e. interface_in e.1);
   each = λ id. ap (λ k. unwrap_or (lookup (same_interface id) by_id) (k + 1)) second ∙ h.each id ∙ ap (λ l. place_among l id) is ∙ same_place es id;
 }

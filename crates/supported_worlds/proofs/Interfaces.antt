@@ -1,5 +1,5 @@
--- An imported interface of which nothing is left out has synchronous functions alone.
-use Rattle.std.proofs.Common.{rules, ◌≡◌, ◌<◌, ◌∙◌, ℕ, zero, suc, Bool, true, false, cond, ◌&&◌, List, [], ◌∷◌, map, length, Some, None, refl, sym, ap, subst, true≢false, arith}
+-- An interface of which nothing is left out has synchronous functions alone.
+use Rattle.std.proofs.Common.{rules, ◌≡◌, ◌<◌, ◌∙◌, ℕ, zero, suc, Bool, true, false, cond, ◌&&◌, List, [], ◌∷◌, map, length, Option, Some, None, refl, sym, ap, ap₂, subst, true≢false, arith}
 use Rattle.std.specs.Prelude.{nat_eq, slice_get, slice_index_or, option_map, Contains, IsSome}
 use Rattle.std.specs.List.{AllByRecursion}
 use Rattle.std.specs.Map.{lookup}
@@ -19,9 +19,10 @@ use Rattle.wit_data.specs.declared.worlds.WorldItem.{WorldItem}
 use Rattle.wit_data.specs.declared.worlds.WorldItem.TheVariants as items
 use Rattle.wit_data.specs.declared.worlds.WorldKey.{WorldKey}
 use Rattle.wit_data.specs.declared.worlds.WorldKey.TheVariants as keys
-use Rattle.world_values.specs.Items.{functions_of}
+use Rattle.world_values.specs.Items.{functions_of, functions_in}
 use Rattle.world_values.specs.Mentions.{interface_in}
 use Rattle.comp_worlds.specs.Worlds.{IsSynchronous, IsNamedFunction}
+use Rattle.record_core_types.specs.Guarantees.{own_names}
 use Rattle.record_resolve.specs.Resolved.{IsListed, AreListed}
 use Rattle.supported_worlds.specs.LeftOut.{kind_left_out, interface_left_out}
 use Rattle.supported_worlds.proofs.Lists.{nothing, at_front, after, none_picked}
@@ -47,6 +48,17 @@ listed_at : (is : List Interface) (n : ℕ) → AllByRecursion AreListed is → 
 listed_at [] n h = tt
 listed_at (i ∷ is) zero h = let here = h.0 in here.functions
 listed_at (i ∷ is) (suc n) h = listed_at is n h.1
+
+-- the names under which an interface lists its functions are their own
+same_names : (fs : List (List ℕ × Function)) → AllByRecursion IsListed fs → map (λ e. e.1.name) fs ≡ map (λ e. e.0) fs
+same_names [] listed = refl
+same_names (f ∷ fs) listed = ap₂ (λ (n : List ℕ) (ns : List (List ℕ)). n ∷ ns) listed.0 (same_names fs listed.1)
+
+pub own_are : (r : Resolve) (item : Option WorldItem) → AllByRecursion AreListed r.interfaces → own_names r item ≡ functions_in r item
+own_are r None listed = refl
+own_are r (Some (items.Function f)) listed = refl
+own_are r (Some (items.Interface id)) listed = same_names (functions_of r id) (listed_at r.interfaces id.index listed)
+own_are r (Some (items.NamedType id)) listed = refl
 
 pub synchronous_interface : (r : Resolve) (id : InterfaceId) → interface_left_out r id ≡ None → AllByRecursion AreListed r.interfaces → AllByRecursion IsNamedFunction (functions_of r id)
 synchronous_interface r id h listed = named_functions (functions_of r id) (none_picked (λ e. kind_left_out e.1.kind) (functions_of r id) h) (listed_at r.interfaces id.index listed)
@@ -85,6 +97,11 @@ one_item : (id : InterfaceId) (item : WorldItem) → interface_in item ≡ Some 
 one_item id (items.Interface other) h = ap items.Interface (same_Some other id h)
 one_item id (items.Function f) h = absurd (none-some id h)
 one_item id (items.NamedType t) h = absurd (none-some id h)
+
+-- an interface that is found is what was looked up
+pub one_found : (id : InterfaceId) (o : Option WorldItem) → option_and_then interface_in o ≡ Some id → o ≡ Some (items.Interface id)
+one_found id None h = absurd (none-some id h)
+one_found id (Some item) h = ap Some (one_item id item h)
 
 -- an interface that is looked up by a key is an entry with the key
 pub entry_there : (key : WorldKey) (id : InterfaceId) (es : Entries) → option_and_then interface_in (lookup (is_same_key key) es) ≡ Some id → Contains es (key, items.Interface id)

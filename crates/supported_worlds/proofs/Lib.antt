@@ -1,4 +1,6 @@
 mod Encodable
+mod ExportNames
+mod Fresh
 mod InPlace
 mod InterfacePlaces
 mod Interfaces
@@ -6,6 +8,7 @@ mod Lists
 mod Order
 mod Reporting
 mod Testing
+mod Titled
 mod TypePlaces
 mod Valid
 mod Walking

@@ -1,7 +1,7 @@
 -- What the tests of a world's order say of it.
-use Rattle.std.proofs.Common.{arith, ◌≡◌, ◌<◌, ◌≤◌, ◌==◌, nat_le, ℕ, zero, suc, Bool, true, false, not, ◌&&◌, ◌||◌, List, [], ◌∷◌, length, map, get_or, Option, Some, None, is_none, is_some, refl, sym, ap, subst, true≢false}
+use Rattle.std.proofs.Common.{arith, ◌≡◌, ◌<◌, ◌≤◌, ◌==◌, nat_le, ℕ, zero, suc, Bool, true, false, not, ◌&&◌, List, [], ◌∷◌, length, map, get_or, Option, Some, None, is_none, is_some, refl, sym, ap, subst, ◌∙◌, true≢false}
 use Rattle.std.specs.Prelude.{IsSome, codes, slice_get}
-use Rattle.std.specs.List.{AllByRecursion, IsDistinct, list_all, list_any}
+use Rattle.std.specs.List.{AllByRecursion, list_all}
 use Rattle.std.specs.Option.{option_and_then, option_map_or}
 use Rattle.std.specs.Str.{bytes_eq}
 use Rattle.std.proofs.lemmas.Bool.{leb-true, leb-false, eqb-true}
@@ -27,11 +27,12 @@ use Rattle.comp_roles.specs.CoreImports.{CoreImport}
 use Rattle.comp_roles.specs.declared.imports.Import.{Import}
 use Rattle.comp_roles.specs.declared.imports.Import.TheVariants as imports
 use Rattle.world_values.specs.Items.{functions_of}
-use Rattle.world_values.specs.Mentions.{same_interface}
-use Rattle.comp_worlds.specs.Encodable.{Entries, place_in, place, IsListedType, IsTypePlaced, IsFunctionPlaced, IsOwnType, IsInterfacePlaced, IsItemPlaced, IsRolePlaced}
+use Rattle.world_values.specs.Mentions.{interface_types}
+use Rattle.comp_worlds.specs.Encodable.{Entries, place_in, place, IsListedType, IsTypePlaced, IsFunctionPlaced, IsOwnType, IsInterfacePlaced, IsItemPlaced, IsExportPlaced, IsRolePlaced, reaches_title}
 use Rattle.comp_worlds.specs.WorldContents.{interface_of_owner, interface_at, name_at}
 use Rattle.supported_worlds.specs.LeftOut.{unless, import_left_out}
-use Rattle.supported_worlds.specs.Placed.{places_of, place_at, is_by, are_apart, is_named_as, is_listed_as, is_listed_in, is_type_placed, are_types_placed, is_function_placed, is_owned, is_own_type, ascend_from, is_interface_placed, is_item_placed, is_world_placed, is_resource, is_droppable}
+use Rattle.supported_worlds.specs.Placed.{places_of, place_at, is_by, is_named_as, is_listed_as, is_listed_in, is_type_placed, are_types_placed, is_function_placed, is_owned, is_own_type, ascend_from, is_interface_placed, is_item_placed, are_imports_placed, is_export_placed, are_exports_placed, is_world_placed, is_resource, is_droppable}
+use Rattle.supported_worlds.specs.Titles.{titles_of, title_at, is_plain}
 use Rattle.supported_worlds.proofs.InPlace.{both, ascending}
 use Rattle.supported_worlds.proofs.Lists.{nothing}
 
@@ -44,20 +45,6 @@ passes false what h = nothing what h
 all_pass : {X : Type 0} {P : X → Type 0} (test : X → Bool) → ((x : X) → test x ≡ true → P x) → (xs : List X) → list_all test xs ≡ true → AllByRecursion P xs
 all_pass test f [] h = tt
 all_pass test f (x ∷ xs) h = let b = both (test x) (list_all test xs) h in (f x b.0, all_pass test f xs b.1)
-
-none_same : (id : InterfaceId) (ids : List InterfaceId) → not (list_any (same_interface id) ids) ≡ true → AllByRecursion (λ y. same_interface id y ≡ false) ids
-none_same id [] h = tt
-none_same id (y ∷ ids) h = by (same_interface id y) refl h (none_same id ids)
-  where
-    by : (b : Bool) → same_interface id y ≡ b → not (b || list_any (same_interface id) ids) ≡ true → (not (list_any (same_interface id) ids) ≡ true → AllByRecursion (λ y. same_interface id y ≡ false) ids)
-        → (same_interface id y ≡ false) × AllByRecursion (λ y. same_interface id y ≡ false) ids
-    by true is h more = absurd (true≢false (sym h))
-    by false is h more = (is, more h)
-
-pub distinct : (ids : List InterfaceId) → are_apart ids ≡ true → IsDistinct same_interface ids
-unfolding IsDistinct
-distinct [] h = tt
-distinct (id ∷ ids) h = let b = both (not (list_any (same_interface id) ids)) (are_apart ids) h in (none_same id ids b.0, distinct ids b.1)
 
 -- ---- types
 
@@ -167,6 +154,25 @@ module _ (r : Resolve) (es : Entries) where
   items_placed : (all : Entries) → list_all (λ e. is_item_placed r (places_of r.types es) (place_in es) (length es) e.1) all ≡ true → AllByRecursion (λ e. IsItemPlaced r es e.1) all
   items_placed all h = all_pass (λ e. is_item_placed r (places_of r.types es) (place_in es) (length es) e.1) (λ e passed. item_placed e.1 passed) all h
 
+  -- ---- exports
+
+  plain_part : (part : Option Ty) → title_at (titles_of r.types) part ≡ reaches_title r.types part
+  plain_part None = refl
+  plain_part (Some (Primitive p)) = refl
+  plain_part (Some (Id id)) = refl
+
+  plain : (t : Ty) → is_plain (titles_of r.types) t ≡ true → reaches_title r.types (Some t) ≡ false
+  plain t h = sym (plain_part (Some t)) ∙ denied (title_at (titles_of r.types) (Some t)) h
+    where
+      denied : (b : Bool) → not b ≡ true → b ≡ false
+      denied true h = absurd (true≢false (sym h))
+      denied false h = refl
+
+  export_placed : (item : WorldItem) → is_export_placed r (places_of r.types es) (titles_of r.types) (place_in es) (length es) item ≡ true → IsExportPlaced r es item
+  export_placed (items.Interface id) h = all_pass (is_plain (titles_of r.types)) plain (interface_types r id) h
+  export_placed (items.Function f) h = item_placed (items.Function f) h
+  export_placed (items.NamedType id) h = item_placed (items.NamedType id) h
+
   -- ---- roles
 
   role_placed : (role : Import) → import_left_out r.types (places_of r.types es) (length es) role ≡ None → IsRolePlaced r es role
@@ -185,16 +191,18 @@ module _ (r : Resolve) (es : Entries) where
 pub record IsOrdered (r : Resolve) (w : World) : Type 0 where
   pub types : (n : ℕ) → n < length r.types → IsTypePlaced r w.imports n
   pub imports : AllByRecursion (λ e. IsItemPlaced r w.imports e.1) w.imports
-  pub exports : AllByRecursion (λ e. IsItemPlaced r w.imports e.1) w.exports
+  pub exports : AllByRecursion (λ e. IsExportPlaced r w.imports e.1) w.exports
 
 pub ordered : (r : Resolve) (w : World) → is_world_placed r w ≡ true → IsOrdered r w
 ordered r w h =
     let places = places_of r.types w.imports in
-    let placed = λ (e : WorldKey × WorldItem). is_item_placed r places (place_in w.imports) (length w.imports) e.1 in
-    let b = both (are_types_placed r places (length r.types)) (list_all placed w.imports && list_all placed w.exports) h in
-    let c = both (list_all placed w.imports) (list_all placed w.exports) b.1 in
+    let root = length w.imports in
+    let placed = λ (e : WorldKey × WorldItem). is_item_placed r places (place_in w.imports) root e.1 in
+    let exported = λ (e : WorldKey × WorldItem). is_export_placed r places (titles_of r.types) (place_in w.imports) root e.1 in
+    let b = both (are_imports_placed r places (place_in w.imports) root w) (are_exports_placed r places (titles_of r.types) (place_in w.imports) root w) h in
+    let c = both (are_types_placed r places (length r.types)) (list_all placed w.imports) b.0 in
     record {
-      types = λ n l. type_placed r w.imports n (one_of_first r w.imports (length r.types) n b.0 l);
-      imports = items_placed r w.imports w.imports c.0;
-      exports = items_placed r w.imports w.exports c.1;
+      types = λ n l. type_placed r w.imports n (one_of_first r w.imports (length r.types) n c.0 l);
+      imports = items_placed r w.imports w.imports c.1;
+      exports = all_pass exported (λ e passed. export_placed r w.imports e.1 passed) w.exports b.1;
     }

@@ -5,7 +5,7 @@ use Rattle.std.specs.List.{AllByRecursion, flat_map}
 use Rattle.std.specs.Option.{option_or}
 use Rattle.comp_lists.proofs.Lists.{AllByRecursion-contains, Contains-map}
 use Rattle.wit_data.specs.declared.worlds.World.{World}
-use Rattle.world_values.specs.Mentions.{interfaces_of}
+use Rattle.world_values.specs.Mentions.{same_interface, interfaces_of}
 use Rattle.comp_roles.specs.CoreImports.{CoreImport, imports_from}
 use Rattle.comp_roles.specs.Lookups.{first_some}
 use Rattle.comp_roles.specs.declared.imports.Import.{Import}
@@ -20,12 +20,15 @@ use Rattle.record_faults.specs.declared.fault.Failure.{Failure}
 use Rattle.record_faults.specs.declared.fault.Failure.TheVariants as failures
 use Rattle.record_faults.specs.declared.fault.Refusal.{Refusal}
 use Rattle.record_faults.specs.declared.fault.Refusal.TheVariants as refusals
-use Rattle.supported_worlds.specs.LeftOut.{items_of, unless, import_item_left_out, export_item_left_out, twice_left_out, order_left_out, resources_left_out, export_left_out, group_left_out, world_left_out, module_left_out, adapters_left_out, modules_left_out, rest_left_out, left_out, unless_left_out, encoded}
-use Rattle.supported_worlds.specs.Placed.{places_of, are_apart, is_world_placed, imported_numbers, are_in_place}
+use Rattle.supported_worlds.specs.LeftOut.{items_of, unless, import_item_left_out, export_item_left_out, twice_left_out, names_left_out, order_left_out, resources_left_out, export_left_out, group_left_out, world_left_out, module_left_out, adapters_left_out, modules_left_out, rest_left_out, named_left_out, left_out, unless_left_out, encoded}
+use Rattle.supported_worlds.specs.Distinct.{are_apart}
+use Rattle.supported_worlds.specs.Naming.{are_exports_named, AreExportsNamed}
+use Rattle.supported_worlds.specs.Placed.{places_of, is_world_placed, imported_numbers, are_in_place}
 use Rattle.supported_worlds.specs.PlaceTables.{AreInterfacePlaces, ArePlaces}
 use Rattle.supported_worlds.specs.declared.places.InterfacePlaces.{InterfacePlaces}
 use Rattle.supported_worlds.specs.declared.places.Places.{Places}
-use Rattle.supported_worlds.specs.Causes.{role_left_out, IsLeftOut, imported, exported, twice, order, resources, import_role, export_role, whole_module, adapter}
+use Rattle.supported_worlds.specs.Causes.{role_left_out, IsLeftOut, imported, exported, twice, names, order, resources, import_role, export_role, whole_module, adapter}
+use Rattle.supported_worlds.proofs.ExportNames.{exports_named, names_pass}
 use Rattle.supported_worlds.proofs.Lists.{nothing, at_front, not_there, in_flat_map, neither, one_of, none_picked, one_picked}
 use Rattle.supported_worlds.proofs.InPlace.{imports_resources, in_place}
 use Rattle.supported_worlds.proofs.Order.{passes}
@@ -35,7 +38,7 @@ use Rattle.supported_worlds.proofs.Order.{passes}
 pub same_modules : (p : WorldParts) (w : World) (t : Places) (found : Option (List ℕ)) → ArePlaces p.resolve.types w.imports t → found ≡ modules_left_out p t.types t.interfaces.root → found ≡ modules_left_out p (places_of p.resolve.types w.imports) (length w.imports)
 same_modules p w t found h is = let i = h.interfaces in is ∙ ap₂ (modules_left_out p) h.types i.root
 
-pub is_twice : (w : World) (rest : Option (List ℕ)) → are_apart (interfaces_of w.imports) ≡ false → Some (codes "interface") ≡ option_or (twice_left_out w) rest
+pub is_twice : (w : World) (rest : Option (List ℕ)) → are_apart same_interface (interfaces_of w.imports) ≡ false → Some (codes "interface") ≡ option_or (twice_left_out w) rest
 is_twice w rest met = ap (λ b. option_or (unless b (codes "interface")) rest) (sym met)
 
 pub is_apart : (w : World) (i : InterfacePlaces) (found rest : Option (List ℕ)) → AreInterfacePlaces w.imports i → found ≡ rest → found ≡ option_or (twice_left_out w) rest
@@ -70,8 +73,9 @@ no_adapters (a ∷ more) h = nothing (codes "adapter") h
 -- nothing of a world is left out
 pub record IsEncoded (p : WorldParts) : Type 0 where
   pub imports : AllByRecursion (λ e. import_item_left_out p.resolve e ≡ None) (items_of p).imports
-  pub exports : AllByRecursion (λ e. export_item_left_out e ≡ None) (items_of p).exports
-  pub apart : are_apart (interfaces_of (items_of p).imports) ≡ true
+  pub exports : AllByRecursion (λ e. export_item_left_out p.resolve e ≡ None) (items_of p).exports
+  pub apart : are_apart same_interface (interfaces_of (items_of p).imports) ≡ true
+  pub named : AreExportsNamed p.resolve (items_of p).exports
   pub order : is_world_placed p.resolve (items_of p) ≡ true
   pub resources : ImportsResources (whole_of p)
   pub groups : AllByRecursion (λ g. group_out p g ≡ None) p.main.imports.modules
@@ -86,15 +90,17 @@ all_encoded p h =
     let root = length world.imports in
     let a = neither (world_left_out p.resolve world) _ h in
     let w = neither (first_some (import_item_left_out p.resolve) world.imports) _ a.0 in
-    let t = neither (twice_left_out world) (rest_left_out p world) a.1 in
-    let o = neither (order_left_out p.resolve world) _ t.1 in
+    let t = neither (twice_left_out world) (named_left_out p world) a.1 in
+    let n = neither (names_left_out p.resolve world) (rest_left_out p world) t.1 in
+    let o = neither (order_left_out p.resolve world) _ n.1 in
     let r = neither (resources_left_out p.resolve.types world.imports) (modules_left_out p places root) o.1 in
     let b = neither (module_left_out p.resolve.types places root p.main) (adapters_left_out p.adapters) r.1 in
     let m = neither (first_some (group_out p) p.main.imports.modules) _ b.0 in
     record {
       imports = none_picked (import_item_left_out p.resolve) world.imports w.0;
-      exports = none_picked export_item_left_out world.exports w.1;
-      apart = passes (are_apart (interfaces_of world.imports)) (codes "interface") t.0;
+      exports = none_picked (export_item_left_out p.resolve) world.exports w.1;
+      apart = passes (are_apart same_interface (interfaces_of world.imports)) (codes "interface") t.0;
+      named = exports_named p.resolve world.exports (passes (are_exports_named p.resolve world.exports) (codes "interface") n.0);
       order = passes (is_world_placed p.resolve world) (codes "interface") o.0;
       resources = imports_resources (whole_of p) (passes (are_in_place p.resolve.types 0 (imported_numbers world.imports)) (codes "type") r.0);
       groups = none_picked (group_out p) p.main.imports.modules m.0;
@@ -108,8 +114,9 @@ none_of reported xs x what h m e = nothing what (sym e ∙ AllByRecursion-contai
 
 by_cases : (p : WorldParts) → IsEncoded p → (f : Refusal) → IsLeftOut p f → ⊥
 by_cases p h f (imported entry what m e) = none_of (import_item_left_out p.resolve) (items_of p).imports entry what h.imports m e
-by_cases p h f (exported entry what m e) = none_of export_item_left_out (items_of p).exports entry what h.exports m e
+by_cases p h f (exported entry what m e) = none_of (export_item_left_out p.resolve) (items_of p).exports entry what h.exports m e
 by_cases p h f (twice what e) = nothing what (sym e ∙ ap (λ b. unless b (codes "interface")) h.apart)
+by_cases p h f (names lack) = lack h.named
 by_cases p h f (order what e) = nothing what (sym e ∙ ap (λ b. unless b (codes "interface")) h.order)
 by_cases p h f (resources lack) = lack h.resources
 by_cases p h f (import_role import what m e) =
@@ -135,10 +142,14 @@ module _ (p : WorldParts) (what : List ℕ) where
       subst (λ (w : List ℕ). IsLeftOut p (refusals.LeftOut w)) (cc (e)) (adapter a (subst (λ (xs : List (List ℕ × WorldAdapter)). Contains xs a) (sym is) (at_front a more)))
 
   of_world : world_left_out p.resolve (items_of p) ≡ Some what → IsLeftOut p (refusals.LeftOut what)
-  of_world e = elim (one_of (first_some (import_item_left_out p.resolve) (items_of p).imports) (first_some export_item_left_out (items_of p).exports) what e) [
+  of_world e = elim (one_of (first_some (import_item_left_out p.resolve) (items_of p).imports) (first_some (export_item_left_out p.resolve) (items_of p).exports) what e) [
     | inl a ↦ let t = one_picked (import_item_left_out p.resolve) (items_of p).imports what a in imported t.element what t.there t.picks
-    | inr b ↦ let t = one_picked export_item_left_out (items_of p).exports what b in exported t.element what t.there t.picks
+    | inr b ↦ let t = one_picked (export_item_left_out p.resolve) (items_of p).exports what b in exported t.element what t.there t.picks
   ]
+
+  of_names : (b : Bool) → are_exports_named p.resolve (items_of p).exports ≡ b → unless b (codes "interface") ≡ Some what → IsLeftOut p (refusals.LeftOut what)
+  of_names true is e = nothing what (sym e)
+  of_names false is e = subst (λ (w : List ℕ). IsLeftOut p (refusals.LeftOut w)) (cc (e)) (names (λ h. true≢false (sym (names_pass p.resolve (items_of p).exports h) ∙ is)))
 
   of_resources : (b : Bool) → are_in_place p.resolve.types 0 (imported_numbers (items_of p).imports) ≡ b → unless b (codes "type") ≡ Some what → IsLeftOut p (refusals.LeftOut what)
   of_resources true is e = nothing what (sym e)
@@ -166,15 +177,19 @@ module _ (p : WorldParts) (what : List ℕ) where
     | inr b ↦ after_order (one_of (resources_left_out p.resolve.types (items_of p).imports) (modules_left_out p (places_of p.resolve.types (items_of p).imports) (length (items_of p).imports)) what b)
   ]
 
-  after_items : (twice_left_out (items_of p) ≡ Some what) ⊎ (rest_left_out p (items_of p) ≡ Some what) → IsLeftOut p (refusals.LeftOut what)
+  after_twice : (names_left_out p.resolve (items_of p) ≡ Some what) ⊎ (rest_left_out p (items_of p) ≡ Some what) → IsLeftOut p (refusals.LeftOut what)
+  after_twice (inl a) = of_names (are_exports_named p.resolve (items_of p).exports) refl a
+  after_twice (inr b) = of_rest b
+
+  after_items : (twice_left_out (items_of p) ≡ Some what) ⊎ (named_left_out p (items_of p) ≡ Some what) → IsLeftOut p (refusals.LeftOut what)
   after_items (inl a) = twice what a
-  after_items (inr b) = of_rest b
+  after_items (inr b) = after_twice (one_of (names_left_out p.resolve (items_of p)) (rest_left_out p (items_of p)) what b)
 
   reported : left_out p ≡ Some what → IsLeftOut p (refusals.LeftOut what)
   unfolding left_out
   reported e = elim (one_of (world_left_out p.resolve (items_of p)) _ what e) [
     | inl a ↦ of_world a
-    | inr b ↦ after_items (one_of (twice_left_out (items_of p)) (rest_left_out p (items_of p)) what b)
+    | inr b ↦ after_items (one_of (twice_left_out (items_of p)) (named_left_out p (items_of p)) what b)
   ]
 
 -- ---- the whole

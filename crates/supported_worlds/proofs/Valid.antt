@@ -1,5 +1,5 @@
 -- A world of which nothing is left out keeps the invariant of worlds.
-use Rattle.std.proofs.Common.{arith, ◌≡◌, ◌<◌, length, ℕ, zero, suc, Bool, true, false, cond, ◌&&◌, List, [], ◌∷◌, map, Option, Some, None, refl, sym, ap, subst, ◌∙◌, true≢false}
+use Rattle.std.proofs.Common.{arith, ◌≡◌, ◌<◌, length, ℕ, zero, suc, Bool, true, false, cond, ◌&&◌, List, [], ◌∷◌, Option, Some, None, refl, sym, ap, subst, ◌∙◌, true≢false}
 use Rattle.std.specs.Prelude.{is_some, slice_get, slice_index_or, get_or, nat_le, Contains, IsSome, option_map, codes}
 use Rattle.std.specs.List.{IsDistinct, AllByRecursion, flat_map}
 use Rattle.std.specs.Map.{lookup, keys_of}
@@ -31,16 +31,16 @@ use Rattle.comp_roles.specs.declared.imports.Import.TheVariants as imports
 use Rattle.comp_roles.specs.declared.imports.ImportInstance.{ImportInstance}
 use Rattle.comp_roles.specs.declared.imports.ImportInstance.TheVariants as instances
 use Rattle.comp_roles.specs.declared.offered.ImportType.{ImportType}
-use Rattle.world_values.specs.Items.{no_items, functions_of, function_in, root_function_at}
+use Rattle.world_values.specs.Items.{no_items, functions_of, functions_in, function_in, function_of_item, root_function_at}
 use Rattle.world_values.specs.Mentions.{interface_in}
 use Rattle.comp_worlds.specs.Typed.{post_return_type, type_of_import, type_of_export, FitsImport, FitsExport}
-use Rattle.comp_worlds.specs.WorldContents.{root_function, core_name_in}
-use Rattle.comp_worlds.specs.Worlds.{IsWorld, IsUserModule, IsImportItem, IsExportItem, IsResource, IsImportRole, IsImportGroup, IsExportRole, IsRequired}
+use Rattle.comp_worlds.specs.WorldContents.{root_function, exported_item, core_name_in}
+use Rattle.comp_worlds.specs.Worlds.{IsWorld, IsUserModule, IsImportItem, IsExportItem, IsResource, IsImportRole, IsImportGroup, ExportsFunctionOf, IsExportRole, IsRequired}
 use Rattle.comp_worlds.specs.WorldTables.{whole_of}
 use Rattle.comp_worlds.specs.declared.world.WorldAdapter.{WorldAdapter}
 use Rattle.comp_worlds.specs.declared.world.WorldParts.{WorldParts}
 use Rattle.comp_worlds.proofs.Roles.{role_right}
-use Rattle.record_core_types.specs.Asked.{imported_function, imported_interface, exported_function}
+use Rattle.record_core_types.specs.Asked.{imported_function, imported_interface, exported_function, exported_interface, function_of, exported_item as exported_there}
 use Rattle.record_core_types.specs.Guarantees.{IsCalled, IsLifted, IsKept}
 use Rattle.record_resolve.specs.Resolved.{IsNamed, AreListed}
 use Rattle.supported_worlds.specs.Apart.{FieldsApart, AreApart}
@@ -48,7 +48,7 @@ use Rattle.supported_worlds.specs.LeftOut.{items_of, import_item_left_out, expor
 use Rattle.supported_worlds.specs.Causes.{role_left_out}
 use Rattle.supported_worlds.specs.Placed.{places_of, is_resource, is_droppable}
 use Rattle.supported_worlds.specs.Guarantees.{HasFoundImport, OffersExport, HasSoundParts}
-use Rattle.supported_worlds.proofs.Interfaces.{synchronous, synchronous_interface, other_key, entry_there, name_there as function_there, found_there}
+use Rattle.supported_worlds.proofs.Interfaces.{synchronous, synchronous_interface, own_are, other_key, one_found, entry_there, name_there as function_there, found_there}
 use Rattle.supported_worlds.proofs.Lists.{nothing, at_front, after, none_picked}
 use Rattle.supported_worlds.proofs.InPlace.{both, resource_kind}
 use Rattle.supported_worlds.proofs.Order.{passes}
@@ -71,15 +71,16 @@ import_items : (r : Resolve) (es : Entries) → AllByRecursion (λ e. import_ite
 import_items r [] h named listed = tt
 import_items r (e ∷ es) h named listed = (import_item r e h.0 named.0 listed, import_items r es h.1 named.1 listed)
 
-export_item : (e : WorldKey × WorldItem) → export_item_left_out e ≡ None → IsNamed e → IsExportItem e
-export_item (keys.Name text, items.Function f) h named = (sym named, synchronous f.kind h)
-export_item (keys.Interface other, items.Function f) h named = nothing _ h
-export_item (key, items.NamedType id) h named = nothing _ h
-export_item (key, items.Interface id) h named = nothing _ h
+export_item : (r : Resolve) (e : WorldKey × WorldItem) → export_item_left_out r e ≡ None → IsNamed e → AllByRecursion AreListed r.interfaces → IsExportItem r e
+export_item r (keys.Name text, items.Function f) h named listed = (sym named, synchronous f.kind h)
+export_item r (keys.Interface other, items.Function f) h named listed = nothing _ h
+export_item r (key, items.NamedType id) h named listed = nothing _ h
+export_item r (keys.Name text, items.Interface id) h named listed = synchronous_interface r id h listed
+export_item r (keys.Interface other, items.Interface id) h named listed = synchronous_interface r id h listed
 
-export_items : (es : Entries) → AllByRecursion (λ e. export_item_left_out e ≡ None) es → AllByRecursion IsNamed es → AllByRecursion IsExportItem es
-export_items [] h named = tt
-export_items (e ∷ es) h named = (export_item e h.0 named.0, export_items es h.1 named.1)
+export_items : (r : Resolve) (es : Entries) → AllByRecursion (λ e. export_item_left_out r e ≡ None) es → AllByRecursion IsNamed es → AllByRecursion AreListed r.interfaces → AllByRecursion (IsExportItem r) es
+export_items r [] h named listed = tt
+export_items r (e ∷ es) h named listed = (export_item r e h.0 named.0 listed, export_items r es h.1 named.1 listed)
 
 -- ---- types
 
@@ -171,40 +172,14 @@ mapped_there : {A B : Type 0} (f : A → B) (o : Option A) → IsSome o → IsSo
 mapped_there f None h = h
 mapped_there f (Some x) h = refl
 
--- the key of a function is a name, at which the function is found
-record IsRoot (es : Entries) (key : WorldKey) : Type 0 where
-  text : List ℕ
-  function : Function
-  is : key ≡ keys.Name text
-  there : root_function_at es (keys.Name text) ≡ Some function
-
-with_entry : (m : List ℕ) (f : Function) (es : Entries) (key : WorldKey) → IsRoot es key → IsRoot ((keys.Name m, items.Function f) ∷ es) key
-with_entry m f es key r = by (bytes_eq r.text m) refl
-  where
-    found_with : Bool → Option Function
-    found_with b = option_and_then function_in (cond (b && true) (Some (items.Function f)) (lookup (is_same_key (keys.Name r.text)) es))
-
-    by : (b : Bool) → bytes_eq r.text m ≡ b → IsRoot ((keys.Name m, items.Function f) ∷ es) key
-    by true same = record { text = r.text; function = f; is = r.is; there = ap found_with same }
-    by false same = record { text = r.text; function = r.function; is = r.is; there = ap found_with same ∙ r.there }
-
-root_at : (es : Entries) (k : ℕ) (key : WorldKey) → AllByRecursion IsExportItem es → k < length (map (λ e. e.0) es) → slice_index_or (map (λ e. e.0) es) k key ≡ key → IsRoot es key
-root_at [] k key is l e = absurd (omega arith)
-root_at ((keys.Name m, items.Function f) ∷ es) zero key is l e =
-    record { text = m; function = f; is = sym e; there = ap (λ b. option_and_then function_in (cond (b && true) (Some (items.Function f)) (lookup (is_same_key (keys.Name m)) es))) ((bytes_eq-Decides m m).1 refl) }
-root_at ((keys.Name m, items.Function f) ∷ es) (suc k) key is l e = with_entry m f es key (root_at es k key is.1 (omega arith) e)
-root_at ((keys.Name m, items.NamedType id) ∷ es) k key is l e = absurd is.0
-root_at ((keys.Name m, items.Interface id) ∷ es) k key is l e = absurd is.0
-root_at ((keys.Interface id, item) ∷ es) k key is l e = absurd is.0
-
 -- ---- the world
 
 module _ (p : WorldParts) (present : HasSoundParts p) (encoded : IsEncoded p) (apart : AreApart p) where
   imports_are : AllByRecursion (IsImportItem p.resolve) (items_of p).imports
   imports_are = import_items p.resolve (items_of p).imports encoded.imports present.named.imports present.listed
 
-  exports_are : AllByRecursion IsExportItem (items_of p).exports
-  exports_are = export_items (items_of p).exports encoded.exports present.named.exports
+  exports_are : AllByRecursion (IsExportItem p.resolve) (items_of p).exports
+  exports_are = export_items p.resolve (items_of p).exports encoded.exports present.named.exports present.listed
 
   the_world : slice_get p.resolve.worlds p.world.index ≡ Some (items_of p)
   the_world = slice_get-get_or p.resolve.worlds p.world.index no_items present.present
@@ -218,6 +193,18 @@ module _ (p : WorldParts) (present : HasSoundParts p) (encoded : IsEncoded p) (a
 
   exported_is : (key : WorldKey) → exported_function p.resolve p.world key ≡ root_function_at (items_of p).exports key
   exported_is key = ap (λ (o : Option World). option_and_then (λ w. root_function_at w.exports key) o) the_world
+
+  item_is : (key : WorldKey) → exported_there p.resolve p.world key ≡ exported_item (whole_of p) key
+  item_is key = ap (λ (o : Option World). option_and_then (λ w. lookup (is_same_key key) w.exports) o) the_world
+
+  -- the interface at a key is what the world exports there
+  exported_interface_is : (key : WorldKey) (id : InterfaceId) → exported_interface p.resolve p.world key ≡ Some id → exported_item (whole_of p) key ≡ Some (items.Interface id)
+  exported_interface_is key id is =
+      one_found id (exported_item (whole_of p) key)
+      (sym (ap (λ (o : Option World). option_and_then (λ w. option_and_then interface_in (lookup (is_same_key key) w.exports)) o) the_world) ∙ is)
+
+  has_function : (key : WorldKey) (id : InterfaceId) (name : List ℕ) → exported_interface p.resolve p.world key ≡ Some id → IsSome (function_of p.resolve id name) → ExportsFunctionOf (whole_of p) key id name
+  has_function key id name is has = record { exported = exported_interface_is key id is; has = function_there name (functions_of p.resolve id) has }
 
   import_role : (role : Import) → role_left_out p role ≡ None → IsCalled p.resolve p.world role → IsImportRole (whole_of p) role
   import_role (imports.WorldFunc (keys.Name text) name GuestImport) h called =
@@ -254,6 +241,8 @@ module _ (p : WorldParts) (present : HasSoundParts p) (encoded : IsEncoded p) (a
   export_role (exports.WorldFunc (keys.Name text) name GuestExport) h lifted =
       (name_there text (items_of p).exports (subst (λ (o : Option Function). IsSome o) (exported_is (keys.Name text)) lifted.1), lifted.0, refl)
   export_role (exports.WorldFunc (keys.Interface id) name GuestExport) h lifted = nothing _ h
+  export_role (exports.InterfaceFunc key id name GuestExport) h lifted = (has_function key id name lifted.0 lifted.1, refl)
+  export_role (exports.InterfaceFuncPostReturn key name) h lifted = (lifted.0, has_function key lifted.0 name lifted.1 lifted.2)
   export_role (exports.WorldFuncPostReturn (keys.Name text)) h lifted = name_there text (items_of p).exports (subst (λ (o : Option Function). IsSome o) (exported_is (keys.Name text)) lifted)
   export_role (exports.Memory type) h lifted = tt
   export_role exports.GeneralPurposeRealloc h lifted = tt
@@ -282,9 +271,17 @@ module _ (p : WorldParts) (present : HasSoundParts p) (encoded : IsEncoded p) (a
       let typed = some_of (type_of_import p.resolve (items_of p) h.role) (import_typed h.role right) in
       record { role = h.role; has_role = h.has_role; fits = typed.1 ∙ ap Some (h.fits typed.0 typed.1) }
 
+  function_found : (key : WorldKey) (id : InterfaceId) (name : List ℕ) → ExportsFunctionOf (whole_of p) key id name → IsSome (found name (functions_of p.resolve id))
+  function_found key id name h = let has = h.has in found_there name (functions_of p.resolve id) has.0 has.1 has.2
+
   export_typed : (role : Export) → IsExportRole (whole_of p) role → IsSome (type_of_export p.resolve (items_of p) role)
   export_typed (exports.WorldFunc (keys.Name text) function abi) h =
       mapped_there (called_type p.resolve abi) (root_function_at (items_of p).exports (keys.Name text)) (name_at text (items_of p).exports h.0.0 apart.items.exports h.0.1 h.0.2)
+  export_typed (exports.InterfaceFunc key id function abi) h = mapped_there (called_type p.resolve abi) (found function (functions_of p.resolve id)) (function_found key id function h.0)
+  export_typed (exports.InterfaceFuncPostReturn key function) h =
+      let there = h.1 in
+      mapped_there (post_return_type p.resolve) (function_of_item p.resolve function (exported_item (whole_of p) key))
+      (subst (λ (o : Option WorldItem). IsSome (function_of_item p.resolve function o)) (sym there.exported) (function_found key h.0 function there))
   export_typed (exports.WorldFuncPostReturn (keys.Name text)) h =
       mapped_there (post_return_type p.resolve) (root_function_at (items_of p).exports (keys.Name text)) (name_at text (items_of p).exports h.0 apart.items.exports h.1 h.2)
   export_typed (exports.Memory type) h = refl
@@ -302,13 +299,11 @@ module _ (p : WorldParts) (present : HasSoundParts p) (encoded : IsEncoded p) (a
       let here = h.0 in (record { type = typed.0; offered = here.offered typed.0 typed.1; fits = typed.1 }, offered_exports all right.1 h.1)
 
   required : (key : WorldKey) → IsKept p.resolve p.world p.main.exports.exports key → IsRequired (whole_of p) p.main key
-  required key kept =
-      let root = root_at (items_of p).exports kept.exported.0 key exports_are kept.exported.1 kept.exported.2 in
-      let is : exported_function p.resolve p.world key ≡ Some root.function = ap (exported_function p.resolve p.world) root.is ∙ (exported_is (keys.Name root.text) ∙ root.there) in
-      record {
-        exported = kept.exported;
-        present = subst (λ (k : WorldKey). IsSome (core_name_in p.main.exports.exports k)) (sym root.is) (kept.present root.text root.function root.is is);
-      }
+  required key kept = record {
+    exported = kept.exported;
+    present = subst (λ (names : List (List ℕ)). AllByRecursion (λ name. IsSome (core_name_in p.main.exports.exports key name)) names)
+        (own_are p.resolve (exported_there p.resolve p.world key) present.listed ∙ ap (functions_in p.resolve) (item_is key)) kept.present;
+  }
 
   all_required : (ks : List WorldKey) → AllByRecursion (IsKept p.resolve p.world p.main.exports.exports) ks → AllByRecursion (IsRequired (whole_of p) p.main) ks
   all_required [] h = tt
@@ -335,7 +330,10 @@ module _ (p : WorldParts) (present : HasSoundParts p) (encoded : IsEncoded p) (a
     exports = exports_are;
     import_keys_apart = apart.items.imports;
     import_names_apart = names_apart (items_of p).imports apart.items.imports;
+    export_keys_apart = apart.items.exports;
     export_names_apart = names_apart (items_of p).exports apart.items.exports;
+    exports_named = let n = encoded.named in n.each;
+    exported_interfaces_apart = let n = encoded.named in n.apart;
     main = main_is;
     adapters = subst (λ (all : List (List ℕ × WorldAdapter)). AllByRecursion (λ a. IsUserModule (whole_of p) a.1.info a.1.required_exports) all) (sym encoded.alone) tt;
     alone = encoded.alone;

@@ -8,6 +8,7 @@ use Rattle.wit_data.specs.declared.functions.FunctionKind.{FunctionKind}
 use Rattle.wit_data.specs.declared.functions.FunctionKind.TheVariants.{Freestanding, AsyncFreestanding, Method, AsyncMethod, Static, AsyncStatic, Constructor}
 use Rattle.wit_data.specs.declared.ids.TypeId.{TypeId}
 use Rattle.wit_data.specs.declared.ids.InterfaceId.{InterfaceId}
+use Rattle.wit_data.specs.declared.names.IdName.{IdName}
 use Rattle.wit_data.specs.declared.resolve.Interface.{Interface}
 use Rattle.wit_data.specs.declared.resolve.Resolve.{Resolve}
 use Rattle.wit_data.specs.declared.types.Type.{«Type» as Ty}
@@ -27,7 +28,7 @@ use Rattle.comp_roles.specs.declared.imports.ImportInstance.TheVariants as insta
 use Rattle.comp_roles.specs.declared.libraries.Item.{Item}
 use Rattle.comp_roles.specs.declared.libraries.MainOrAdapter.TheVariants as modules
 use Rattle.supported_worlds.specs.Kinds.{import_kind}
-use Rattle.supported_worlds.specs.LeftOut.{import_item_left_out, interface_left_out, world_left_out, twice_left_out, order_left_out, resources_left_out, import_left_out, export_left_out, group_left_out}
+use Rattle.supported_worlds.specs.LeftOut.{import_item_left_out, interface_left_out, world_left_out, twice_left_out, names_left_out, order_left_out, resources_left_out, import_left_out, export_left_out, group_left_out}
 use Rattle.supported_worlds.specs.Placed.{places_of}
 
 abbrev a_type : TypeId
@@ -171,9 +172,44 @@ text_of_interface_is_encoded = refl
 any_types_of_interface_are_encoded : (types : List TypeDef) (params : List Ty) (result : Option Ty) → of_interface types [] (function Freestanding params result) ≡ None
 any_types_of_interface_are_encoded types params result = refl
 
--- an exported interface is not encoded
-interface_is_not_exported : world_left_out (resolve_of [] (record { id = None; types = []; functions = [] } ∷ [])) (record { imports = []; exports = (keys.Name (codes "i"), items.Interface an_interface) ∷ [] }) ≡ Some (codes "interface")
-interface_is_not_exported = refl
+-- an exported interface is one of synchronous functions, too
+abbrev exporting : WorldKey → InterfaceId → World
+exporting key id = record { imports = []; exports = (key, items.Interface id) ∷ [] }
+
+interface_is_exported : world_left_out (resolve_of [] (interface_of [] plain ∷ [])) (exporting (keys.Name (codes "i")) an_interface) ≡ None
+interface_is_exported = refl
+
+exported_async_member_is_reported : world_left_out (resolve_of [] (interface_of [] (function AsyncFreestanding [] None) ∷ [])) (exporting (keys.Interface an_interface) an_interface) ≡ Some (codes "async")
+exported_async_member_is_reported = refl
+
+-- ---- names of exported interfaces
+
+abbrev an_id : IdName
+an_id = record { namespace = codes "n"; «package» = codes "p"; interface = codes "i"; version = None }
+
+abbrev with_id : Option IdName → Interface
+with_id id = record { id = id; types = []; functions = [] }
+
+name_is_encoded : names_left_out (resolve_of [] (with_id None ∷ [])) (exporting (keys.Name (codes "i")) an_interface) ≡ None
+name_is_encoded = refl
+
+colon_is_reported : names_left_out (resolve_of [] (with_id None ∷ [])) (exporting (keys.Name (codes "n:p/i")) an_interface) ≡ Some (codes "interface")
+colon_is_reported = refl
+
+id_is_encoded : names_left_out (resolve_of [] (with_id (Some an_id) ∷ [])) (exporting (keys.Interface an_interface) an_interface) ≡ None
+id_is_encoded = refl
+
+missing_id_is_reported : names_left_out (resolve_of [] (with_id None ∷ [])) (exporting (keys.Interface an_interface) an_interface) ≡ Some (codes "interface")
+missing_id_is_reported = refl
+
+-- two interfaces of one id
+same_id_is_reported : names_left_out (resolve_of [] (with_id (Some an_id) ∷ with_id (Some an_id) ∷ []))
+    (record { imports = []; exports = (keys.Interface an_interface, items.Interface an_interface) ∷ (keys.Interface another_interface, items.Interface another_interface) ∷ [] }) ≡ Some (codes "interface")
+same_id_is_reported = refl
+
+-- a function's name is no interface's
+function_needs_no_id : names_left_out (resolve_of [] []) (record { imports = []; exports = (keys.Name (codes "a:b"), items.Function plain) ∷ [] }) ≡ None
+function_needs_no_id = refl
 
 -- ---- order
 
@@ -251,6 +287,20 @@ root_is_last : order_left_out (resolve_of (two_types ++ of_world (kinds.Alias (I
     (record { imports = (f, items.Function (function Freestanding (Id (record { index = 4 }) ∷ []) None)) ∷ (importing_interfaces (an_interface ∷ another_interface ∷ [])).imports; exports = [] }) ≡ None
 unfolding values_from
 root_is_last = refl
+
+-- an exported interface is made of types without names, at whatever place
+list_is_exported : order_left_out (resolve_of (unnamed (kinds.«List» (Primitive prims.U8)) ∷ []) (interface_of [] (function Freestanding (Id a_type ∷ []) (Some (Id a_type))) ∷ [])) (exporting (keys.Name (codes "i")) an_interface) ≡ None
+unfolding values_from
+list_is_exported = refl
+
+-- neither of a type of its own, nor of one that is made of such a type
+exported_type_is_reported : order_left_out (resolve_of (an_interface_type ∷ []) (interface_of ((codes "t", a_type) ∷ []) plain ∷ [])) (exporting (keys.Name (codes "i")) an_interface) ≡ Some (codes "interface")
+unfolding values_from
+exported_type_is_reported = refl
+
+list_of_names_is_reported : order_left_out (resolve_of (of_world (kinds.Stream None) ∷ unnamed (kinds.«List» (Id a_type)) ∷ []) (interface_of [] (function Freestanding (Id another_type ∷ []) None) ∷ [])) (exporting (keys.Name (codes "i")) an_interface) ≡ Some (codes "interface")
+unfolding values_from
+list_of_names_is_reported = refl
 
 -- an interface that is imported under two names
 twice_imported_is_reported : twice_left_out (record { imports = (keys.Interface an_interface, items.Interface an_interface) ∷ (keys.Name (codes "i"), items.Interface an_interface) ∷ []; exports = [] }) ≡ Some (codes "interface")
@@ -334,6 +384,16 @@ drop_of_nothing_is_reported = refl
 
 async_lift_is_reported : export_left_out (exports.WorldFunc f (codes "f") GuestExportAsync) ≡ Some (codes "async")
 async_lift_is_reported = refl
+
+-- a function of an exported interface is called synchronously, and may have a post-return
+interface_lift_is_encoded : export_left_out (exports.InterfaceFunc f an_interface (codes "f") GuestExport) ≡ None
+interface_lift_is_encoded = refl
+
+async_interface_lift_is_reported : export_left_out (exports.InterfaceFunc f an_interface (codes "f") GuestExportAsync) ≡ Some (codes "async")
+async_interface_lift_is_reported = refl
+
+interface_post_return_is_encoded : export_left_out (exports.InterfaceFuncPostReturn f (codes "f")) ≡ None
+interface_post_return_is_encoded = refl
 
 realloc_is_encoded : export_left_out exports.GeneralPurposeRealloc ≡ None
 realloc_is_encoded = refl

@@ -1,8 +1,8 @@
 -- Which parts of a world are encoded yet: synchronous functions that it imports or exports at its root, imported interfaces of
--- types and of synchronous functions, types that it imports, in their order and with all resources of the root among them, core
--- imports and exports with the role of such a function, core imports that drop a resource, and core exports that are a
--- post-return, a memory or a realloc. All else is left out, and reported by the name of its kind. (The names are those of this
--- project's record.)
+-- types and of synchronous functions, exported interfaces of synchronous functions made of types without names, types that it
+-- imports, in their order and with all resources of the root among them, core imports and exports with the role of such a
+-- function, core imports that drop a resource, and core exports that are a post-return, a memory or a realloc. All else is left
+-- out, and reported by the name of its kind. (The names are those of this project's record.)
 use Rattle.std.specs.Prelude.{ℕ, Bool, List, [], ◌∷◌, length, codes, Option, Some, None, Result, Ok, Err, get_or, if◌then◌else◌}
 use Rattle.std.specs.Option.{option_or}
 use Rattle.wit_data.specs.declared.functions.AbiVariant.TheVariants.{GuestImport, GuestExport, GuestImportAsync}
@@ -24,7 +24,7 @@ use Rattle.comp_roles.specs.declared.imports.Import.TheVariants as imports
 use Rattle.comp_roles.specs.declared.imports.ImportInstance.{ImportInstance}
 use Rattle.comp_roles.specs.declared.imports.ImportInstance.TheVariants as instances
 use Rattle.world_values.specs.Items.{no_items, functions_of}
-use Rattle.world_values.specs.Mentions.{interfaces_of}
+use Rattle.world_values.specs.Mentions.{same_interface, interfaces_of}
 use Rattle.comp_worlds.specs.WorldTables.{whole_of}
 use Rattle.comp_worlds.specs.declared.world.ComponentWorld.{ComponentWorld}
 use Rattle.comp_worlds.specs.declared.world.ValidatedModule.{ValidatedModule}
@@ -33,8 +33,10 @@ use Rattle.comp_worlds.specs.declared.world.WorldParts.{WorldParts}
 use Rattle.record_faults.specs.declared.fault.Failure.{Failure}
 use Rattle.record_faults.specs.declared.fault.Failure.TheVariants as failures
 use Rattle.record_faults.specs.declared.fault.Refusal.TheVariants as refusals
+use Rattle.supported_worlds.specs.Distinct.{are_apart}
 use Rattle.supported_worlds.specs.Kinds.{import_kind, export_kind}
-use Rattle.supported_worlds.specs.Placed.{places_of, are_apart, is_world_placed, imported_numbers, are_in_place, is_droppable}
+use Rattle.supported_worlds.specs.Naming.{are_exports_named}
+use Rattle.supported_worlds.specs.Placed.{places_of, is_world_placed, imported_numbers, are_in_place, is_droppable}
 
 -- ---- items of a world
 
@@ -45,24 +47,23 @@ kind_left_out (functions.AsyncMethod id) = Some (codes "async")
 kind_left_out (functions.AsyncStatic id) = Some (codes "async")
 kind_left_out kind = None
 
--- the first function of an imported interface that is asynchronous
+-- the first function of an interface that is asynchronous
 abbrev pub interface_left_out : Resolve → InterfaceId → Option (List ℕ)
 interface_left_out r id = first_some (λ e. kind_left_out e.1.kind) (functions_of r id)
 
--- an export of the world, unless it is a function at the root that is synchronous
-abbrev pub export_item_left_out : WorldKey × WorldItem → Option (List ℕ)
-export_item_left_out (keys.Name text, items.Function f) = kind_left_out f.kind
-export_item_left_out (keys.Interface id, items.Function f) = Some (codes "interface")
-export_item_left_out (key, items.Interface id) = Some (codes "interface")
-export_item_left_out (key, items.NamedType id) = Some (codes "type")
+-- an export of the world, unless it is a function at the root that is synchronous, or an interface of such functions
+abbrev pub export_item_left_out : Resolve → WorldKey × WorldItem → Option (List ℕ)
+export_item_left_out r (keys.Name text, items.Function f) = kind_left_out f.kind
+export_item_left_out r (keys.Interface id, items.Function f) = Some (codes "interface")
+export_item_left_out r (key, items.Interface id) = interface_left_out r id
+export_item_left_out r (key, items.NamedType id) = Some (codes "type")
 
--- an import of the world, unless it is a type under its name, an interface of synchronous functions, or a function as above
+-- an import of the world, unless it is a type under its name, or a function or an interface as above
 abbrev pub import_item_left_out : Resolve → WorldKey × WorldItem → Option (List ℕ)
 import_item_left_out r (keys.Name text, items.NamedType id) = None
-import_item_left_out r (key, items.Interface id) = interface_left_out r id
-import_item_left_out r entry = export_item_left_out entry
+import_item_left_out r entry = export_item_left_out r entry
 
--- ---- order
+-- ---- names and order
 
 -- a kind, unless a test passes
 abbrev pub unless : Bool → List ℕ → Option (List ℕ)
@@ -70,9 +71,13 @@ unless passes what = if passes then None else Some what
 
 -- the world's imports, where one interface is among them twice
 abbrev pub twice_left_out : World → Option (List ℕ)
-twice_left_out w = unless (are_apart (interfaces_of w.imports)) (codes "interface")
+twice_left_out w = unless (are_apart same_interface (interfaces_of w.imports)) (codes "interface")
 
--- the world, where a type or a function is made of types of a later place
+-- the world's exports, where an interface among them has no name, or that of another
+abbrev pub names_left_out : Resolve → World → Option (List ℕ)
+names_left_out r w = unless (are_exports_named r w.exports) (codes "interface")
+
+-- the world, where a type or a function is made of types of a later place, or an exported interface of types with names
 abbrev pub order_left_out : Resolve → World → Option (List ℕ)
 order_left_out r w = unless (is_world_placed r w) (codes "interface")
 
@@ -92,12 +97,16 @@ import_left_out types places root (imports.InterfaceFunc key id name GuestImport
 import_left_out types places root (imports.ImportedResourceDrop key interface id) = unless (is_droppable types places root id) (codes "imported-drop")
 import_left_out types places root role = Some (import_kind role)
 
--- an export of main, unless it is a root function that is called synchronously, the post-return of one, a memory, or a realloc
+-- an export of main, unless it is a function at the root or of an interface that is called synchronously, the post-return of one,
+-- a memory, or a realloc
 abbrev pub export_left_out : Export → Option (List ℕ)
 export_left_out (exports.WorldFunc (keys.Name text) name GuestExport) = None
 export_left_out (exports.WorldFunc (keys.Interface id) name GuestExport) = Some (codes "world-func")
 export_left_out (exports.WorldFunc key name abi) = Some (codes "async")
+export_left_out (exports.InterfaceFunc key id name GuestExport) = None
+export_left_out (exports.InterfaceFunc key id name abi) = Some (codes "async")
 export_left_out (exports.WorldFuncPostReturn (keys.Name text)) = None
+export_left_out (exports.InterfaceFuncPostReturn key name) = None
 export_left_out (exports.Memory type) = None
 export_left_out exports.GeneralPurposeRealloc = None
 export_left_out exports.GeneralPurposeImportRealloc = None
@@ -121,7 +130,7 @@ items_of p = get_or p.resolve.worlds p.world.index no_items
 
 -- the first of the imports that is left out, or else of the exports
 abbrev pub world_left_out : Resolve → World → Option (List ℕ)
-world_left_out r w = option_or (first_some (import_item_left_out r) w.imports) (first_some export_item_left_out w.exports)
+world_left_out r w = option_or (first_some (import_item_left_out r) w.imports) (first_some (export_item_left_out r) w.exports)
 
 -- the first import or export of a module that is left out
 abbrev pub module_left_out : List TypeDef → List ℕ → ℕ → ValidatedModule → Option (List ℕ)
@@ -137,14 +146,20 @@ adapters_left_out (a ∷ more) = Some (codes "adapter")
 abbrev pub modules_left_out : WorldParts → List ℕ → ℕ → Option (List ℕ)
 modules_left_out p places root = option_or (module_left_out p.resolve.types places root p.main) (adapters_left_out p.adapters)
 
--- what is left out of a world whose interfaces are apart: the order of its imports first, then its resources, then its modules
+-- what is left out of a world whose interfaces are apart: the order of its items first, then its resources, then its modules
+abbrev pub after_order : WorldParts → World → Option (List ℕ)
+after_order p w = option_or (resources_left_out p.resolve.types w.imports) (modules_left_out p (places_of p.resolve.types w.imports) (length w.imports))
+
 abbrev pub rest_left_out : WorldParts → World → Option (List ℕ)
-rest_left_out p w =
-    option_or (order_left_out p.resolve w) (option_or (resources_left_out p.resolve.types w.imports) (modules_left_out p (places_of p.resolve.types w.imports) (length w.imports)))
+rest_left_out p w = option_or (order_left_out p.resolve w) (after_order p w)
+
+-- the same, of one whose exported interfaces may lack names
+abbrev pub named_left_out : WorldParts → World → Option (List ℕ)
+named_left_out p w = option_or (names_left_out p.resolve w) (rest_left_out p w)
 
 -- what of a world is not encoded yet: of its items first
 unfoldable pub left_out : WorldParts → Option (List ℕ)
-left_out p = option_or (world_left_out p.resolve (items_of p)) (option_or (twice_left_out (items_of p)) (rest_left_out p (items_of p)))
+left_out p = option_or (world_left_out p.resolve (items_of p)) (option_or (twice_left_out (items_of p)) (named_left_out p (items_of p)))
 
 -- the refusal of what is left out
 abbrev pub refused : List ℕ → Failure

@@ -1,5 +1,8 @@
 pub mod Kinds
+pub mod Distinct
+pub mod Titles
 pub mod Placed
+pub mod Naming
 pub mod LeftOut
 pub mod Places
 pub mod PlaceTables

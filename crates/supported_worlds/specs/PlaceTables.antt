@@ -1,6 +1,6 @@
 -- The places of interfaces and of types as tables, which are made from the first import and the first type on. (This project's
 -- own.)
-use Rattle.std.specs.Prelude.{◌≡◌, ◌==◌, ◌+◌, ℕ, suc, Bool, true, false, List, [], ◌∷◌, length, map, Option, Some, None, unwrap_or, is_none, if◌then◌else◌}
+use Rattle.std.specs.Prelude.{◌≡◌, ◌==◌, ◌+◌, ℕ, suc, Bool, true, false, List, [], ◌∷◌, length, map, Option, Some, None, unwrap_or, if◌then◌else◌}
 use Rattle.std.specs.List.{filter_map}
 use Rattle.std.specs.Map.{lookup}
 use Rattle.comp_lists.specs.Tables.{with_first}
@@ -12,7 +12,8 @@ use Rattle.wit_data.specs.declared.types.TypeDef.{TypeDef}
 use Rattle.world_values.specs.Mentions.{same_interface, interfaces_of}
 use Rattle.comp_worlds.specs.Encodable.{Entries, place_in}
 use Rattle.comp_worlds.specs.WorldContents.{interface_of_owner, interface_at, name_at}
-use Rattle.supported_worlds.specs.Placed.{places_of, place_at, are_apart}
+use Rattle.supported_worlds.specs.Distinct.{are_apart, is_new}
+use Rattle.supported_worlds.specs.Placed.{places_of, place_at}
 use Rattle.supported_worlds.specs.declared.places.InterfacePlaces.{InterfacePlaces}
 use Rattle.supported_worlds.specs.declared.places.Places.{Places}
 
@@ -25,7 +26,7 @@ ById = List (InterfaceId × ℕ)
 -- there is no interface, or it has no place yet
 abbrev pub is_fresh : ById → Option InterfaceId → Bool
 is_fresh by_id None = true
-is_fresh by_id (Some id) = is_none (lookup (same_interface id) by_id)
+is_fresh by_id (Some id) = is_new same_interface by_id id
 
 -- these places, with this one for the interface, if there is one that has none
 abbrev pub with_place : ById → Option InterfaceId → ℕ → ById
@@ -43,12 +44,12 @@ interfaces_in line = filter_map (λ o. o) line
 
 -- the table has the places of these interfaces, which are apart
 pub record HasPlaces (line : List (Option InterfaceId)) (by_id : ById) : Type 0 where
-  pub apart : are_apart (interfaces_in line) ≡ true
+  pub apart : are_apart same_interface (interfaces_in line) ≡ true
   pub each : (id : InterfaceId) → unwrap_or (lookup (same_interface id) by_id) (length line + 1) ≡ place_among line id
 
 -- there is no table where an interface occurs twice
 abbrev pub IsInterfaceTable : List (Option InterfaceId) → Option ById → Type 0
-IsInterfaceTable line None = are_apart (interfaces_in line) ≡ false
+IsInterfaceTable line None = are_apart same_interface (interfaces_in line) ≡ false
 IsInterfaceTable line (Some by_id) = HasPlaces line by_id
 
 -- the place of an interface, by the table
@@ -57,12 +58,12 @@ place_by i id = unwrap_or (lookup (same_interface id) i.by_id) i.behind
 
 -- the interfaces among the imports are apart, and these are their places
 pub record AreInterfacePlaces (es : Entries) (i : InterfacePlaces) : Type 0 where
-  pub apart : are_apart (interfaces_of es) ≡ true
+  pub apart : are_apart same_interface (interfaces_of es) ≡ true
   pub root : i.root ≡ length es
   pub each : (id : InterfaceId) → place_by i id ≡ place_in es id
 
 abbrev pub AreApartPlaces : Entries → Option InterfacePlaces → Type 0
-AreApartPlaces es None = are_apart (interfaces_of es) ≡ false
+AreApartPlaces es None = are_apart same_interface (interfaces_of es) ≡ false
 AreApartPlaces es (Some i) = AreInterfacePlaces es i
 
 -- ---- types

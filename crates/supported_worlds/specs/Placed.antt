@@ -1,5 +1,5 @@
--- Whether a world imports interfaces and types in an order in which each type comes after those of which it is made
--- (component model, WIT: types, resources, interfaces, `use`).
+-- Whether a world imports interfaces and types in an order in which each type comes after those of which it is made, and
+-- exports interfaces of types without names alone (component model, WIT: types, resources, interfaces, `use`).
 use Rattle.std.specs.Prelude.{ℕ, zero, suc, Bool, true, false, ◌==◌, nat_le, not, ◌&&◌, ◌||◌, List, [], ◌∷◌, length, map, drop, get_or, slice_get, Option, Some, None, is_some, is_none}
 use Rattle.std.specs.List.{list_all, list_any, flat_map}
 use Rattle.std.specs.Option.{option_map_or}
@@ -21,9 +21,10 @@ use Rattle.wit_data.specs.Live.{named_types}
 use Rattle.wit_data.specs.Parts.{parts}
 use Rattle.wit_data.specs.Values.{kind_at, values}
 use Rattle.world_values.specs.Items.{functions_of}
-use Rattle.world_values.specs.Mentions.{same_interface}
-use Rattle.comp_worlds.specs.Encodable.{Entries, place_in, placing}
+use Rattle.world_values.specs.Mentions.{interface_types}
+use Rattle.comp_worlds.specs.Encodable.{Entries, place_in, placing, is_resource_kind}
 use Rattle.comp_worlds.specs.WorldContents.{world_type, interface_of_owner, interface_at, name_at}
+use Rattle.supported_worlds.specs.Titles.{titles_of, is_plain}
 
 -- ---- places
 
@@ -40,11 +41,6 @@ place_at places (Some (Id id)) = get_or places id.index 0
 -- whether a part has this place or an earlier one
 abbrev pub is_by : List ℕ → ℕ → Option Ty → Bool
 is_by places last part = nat_le (place_at places part) last
-
--- whether no interface occurs twice
-abbrev pub are_apart : List InterfaceId → Bool
-are_apart [] = true
-are_apart (id ∷ ids) = not (list_any (same_interface id) ids) && are_apart ids
 
 -- ---- types
 
@@ -101,26 +97,33 @@ is_interface_placed r places last id =
 abbrev pub is_root_type : List TypeDef → ℕ → Bool
 is_root_type types n = is_none (interface_at types n) && is_some (name_at types n)
 
--- whether an import or an export is such an interface, a function that is made of types of the root or of an earlier place, or
+-- whether an import is such an interface, a function that is made of types of the root or of an earlier place, or
 -- a type of the root; by the places of types and of interfaces, and that of the root
 abbrev pub is_item_placed : Resolve → List ℕ → (InterfaceId → ℕ) → ℕ → WorldItem → Bool
 is_item_placed r places of_interface root (items.Interface id) = is_interface_placed r places (of_interface id) id
 is_item_placed r places of_interface root (items.Function f) = is_function_placed places root f
 is_item_placed r places of_interface root (items.NamedType id) = is_root_type r.types id.index
 
--- whether all types are placed, all imports and all exports
-abbrev pub are_all_placed : Resolve → List ℕ → (InterfaceId → ℕ) → ℕ → World → Bool
-are_all_placed r places of_interface root w =
-    are_types_placed r places (length r.types) && (list_all (λ e. is_item_placed r places of_interface root e.1) w.imports && list_all (λ e. is_item_placed r places of_interface root e.1) w.exports)
+-- whether an export is an interface that names no type with a title, or made of one, or else is like an import; by the table of
+-- titles, and by places
+abbrev pub is_export_placed : Resolve → List ℕ → List Bool → (InterfaceId → ℕ) → ℕ → WorldItem → Bool
+is_export_placed r places titles of_interface root (items.Interface id) = list_all (is_plain titles) (interface_types r id)
+is_export_placed r places titles of_interface root item = is_item_placed r places of_interface root item
+
+-- whether all types are placed, and all imports
+abbrev pub are_imports_placed : Resolve → List ℕ → (InterfaceId → ℕ) → ℕ → World → Bool
+are_imports_placed r places of_interface root w = are_types_placed r places (length r.types) && list_all (λ e. is_item_placed r places of_interface root e.1) w.imports
+
+-- whether all exports are placed
+abbrev pub are_exports_placed : Resolve → List ℕ → List Bool → (InterfaceId → ℕ) → ℕ → World → Bool
+are_exports_placed r places titles of_interface root w = list_all (λ e. is_export_placed r places titles of_interface root e.1) w.exports
 
 abbrev pub is_world_placed : Resolve → World → Bool
-is_world_placed r w = are_all_placed r (places_of r.types w.imports) (place_in w.imports) (length w.imports) w
+is_world_placed r w =
+    are_imports_placed r (places_of r.types w.imports) (place_in w.imports) (length w.imports) w
+    && are_exports_placed r (places_of r.types w.imports) (titles_of r.types) (place_in w.imports) (length w.imports) w
 
 -- ---- resources
-
-abbrev pub is_resource_kind : TypeDefKind → Bool
-is_resource_kind kinds.Resource = true
-is_resource_kind kind = false
 
 abbrev pub is_resource : TypeDef → Bool
 is_resource t = is_resource_kind t.kind

@@ -10,12 +10,13 @@ ghost use Rattle.record_faults.specs.declared.fault.Failure.TheVariants as failu
 ghost use Rattle.record_faults.specs.declared.fault.Refusal.{Refusal as RefusalValue};
 ghost use Rattle.supported_worlds.specs.Apart.{AreApart, GroupsApart};
 ghost use Rattle.supported_worlds.specs.Causes.{IsLeftOut};
-ghost use Rattle.supported_worlds.specs.LeftOut.{items_of, twice_left_out, adapters_left_out, modules_left_out, rest_left_out, left_out, refused, encoded};
+ghost use Rattle.supported_worlds.specs.LeftOut.{items_of, twice_left_out, adapters_left_out, modules_left_out, after_order, rest_left_out, named_left_out, left_out, refused, encoded};
 ghost use Rattle.supported_worlds.specs.Guarantees.{HasSoundParts};
 ghost use Rattle.supported_worlds.specs.Placed.{places_of};
 ghost use Rattle.supported_worlds.specs.PlaceTables.{ArePlaces};
 
 use crate::items::world_left_out;
+use crate::naming::names_left_out;
 use crate::placed::order_left_out;
 use crate::places::{Places, interface_places, with_types};
 use crate::resources::resources_left_out;
@@ -81,20 +82,54 @@ fn modules_left_out(parts: &WorldParts, world: &World, places: &Places) -> Optio
     found
 }
 
-/// What is left out of a world whose interfaces are apart, apart from its items.
-fn rest_left_out(parts: &WorldParts, world: &World, places: &Places) -> Option<&'static str>
-    requires sound { IsSound parts.now.resolve }
+/// What is left out of the resources of a world and of its modules.
+fn after_order(parts: &WorldParts, world: &World, places: &Places) -> Option<&'static str>
     requires present { HasWorld parts.now.resolve world.now }
     requires places { ArePlaces parts.now.resolve.types world.now.imports places.now }
-    ensures reported { option_copied result ≡ rest_left_out parts.now world.now }
+    ensures reported { option_copied result ≡ after_order parts.now world.now }
     ensures apart { option_copied result ≡ None → GroupsApart parts.now.main.imports.modules }
 {
-    if let Some(what) = order_left_out(&parts.resolve, places, world) {
-        return Some(what);
-    }
     match resources_left_out(&parts.resolve, &world.imports) {
         Some(what) => Some(what),
         None => modules_left_out(parts, world, places),
+    }
+}
+
+/// What is left out of a world whose interfaces are apart, apart from its items and their names.
+fn rest_left_out(
+    alloc: Global,
+    parts: &WorldParts,
+    world: &World,
+    places: &Places,
+) -> Result<Option<&'static str>, AllocError>
+    requires sound { IsSound parts.now.resolve }
+    requires present { HasWorld parts.now.resolve world.now }
+    requires places { ArePlaces parts.now.resolve.types world.now.imports places.now }
+    ensures reported { IfOk result (λ o. option_copied o ≡ rest_left_out parts.now world.now) }
+    ensures apart { IfOk result (λ o. option_copied o ≡ None → GroupsApart parts.now.main.imports.modules) }
+{
+    match order_left_out(alloc, &parts.resolve, places, world)? {
+        Some(what) => Ok(Some(what)),
+        None => Ok(after_order(parts, world, places)),
+    }
+}
+
+/// The same, with the names of exported interfaces.
+fn named_left_out(
+    alloc: Global,
+    parts: &WorldParts,
+    world: &World,
+    places: &Places,
+) -> Result<Option<&'static str>, AllocError>
+    requires sound { IsSound parts.now.resolve }
+    requires present { HasWorld parts.now.resolve world.now }
+    requires places { ArePlaces parts.now.resolve.types world.now.imports places.now }
+    ensures reported { IfOk result (λ o. option_copied o ≡ named_left_out parts.now world.now) }
+    ensures apart { IfOk result (λ o. option_copied o ≡ None → GroupsApart parts.now.main.imports.modules) }
+{
+    match names_left_out(alloc, &parts.resolve, world)? {
+        Some(what) => Ok(Some(what)),
+        None => rest_left_out(alloc, parts, world, places),
     }
 }
 
@@ -107,13 +142,13 @@ fn parts_left_out(
 ) -> Result<Option<&'static str>, AllocError>
     requires sound { IsSound parts.now.resolve }
     requires present { HasWorld parts.now.resolve world.now }
-    ensures reported { IfOk result (λ o. option_copied o ≡ option_or (twice_left_out world.now) (rest_left_out parts.now world.now)) }
+    ensures reported { IfOk result (λ o. option_copied o ≡ option_or (twice_left_out world.now) (named_left_out parts.now world.now)) }
     ensures apart { IfOk result (λ o. option_copied o ≡ None → GroupsApart parts.now.main.imports.modules) }
 {
     match interface_places(alloc, &world.imports)? {
         Some(interfaces) => {
             let places = with_types(alloc, parts.resolve.types.as_slice(), interfaces)?;
-            let found = rest_left_out(parts, world, &places);
+            let found = named_left_out(alloc, parts, world, &places)?;
             Ok(found)
         }
         None => Ok(Some("interface")),
@@ -163,15 +198,18 @@ fn unless_left_out(alloc: Global, parts: WorldParts) -> Result<ComponentWorld, F
 /// The world of these parts, where all of it is encoded yet.
 ///
 /// It refuses with `LeftOut` and the kind of something of the world that is not encoded yet: `async`
-/// for an asynchronous function, imported, exported, or of an imported interface; `interface` or
-/// `type` for an export that is no function at the root; `interface` where an interface is imported
-/// twice, where a type or a function is made of types that come later in the order of the imports, or
-/// where an interface and its types don't name each other; `type` where the imported types are out of
-/// order or lack a resource; the kind of a role of main's imports or exports, `library`, or `adapter`.
-/// A synchronous function is encoded whatever its types are. The only other refusal is out of memory.
-/// On top of `world_of_parts` it takes time linear in the number of items, of interfaces' types and
-/// functions, of the parameters of functions, of types and their parts, of core imports and of core
-/// exports, and memory for one number a type and for an entry an import, beside the refusal's text.
+/// for an asynchronous function, imported, exported, or of an interface; `type` for an exported type;
+/// `interface` where an interface is imported twice, where an exported one has no name or that of
+/// another, or is made of types that have names or belong to interfaces, or of resources, where a type
+/// or a function is made of types that come later in the order of the imports, or where an interface
+/// and its types don't name each other; `type` where the imported types are out of order or lack a
+/// resource; the kind of a role of main's imports or exports, `library`, or `adapter`. A synchronous
+/// function at the root or of an imported interface is encoded whatever its types are. The only other
+/// refusal is out of memory. On top of `world_of_parts` it takes time linear in the number of items,
+/// of interfaces' types and functions, of the parameters of functions, of types and their parts, of
+/// core imports and of core exports, and in the names of exported interfaces; and memory for a number
+/// and a mark a type, for an entry an import and an exported interface, and for the types that an
+/// exported interface names, beside the refusal's text.
 #[tactic(auto, using(crate::proofs::Reporting::no_cause, crate::proofs::Reporting::has_cause))]
 pub fn encoded_world(alloc: Global, parts: WorldParts) -> Result<ComponentWorld, Failure>
     requires { HasSoundParts parts }

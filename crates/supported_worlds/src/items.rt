@@ -26,7 +26,7 @@ fn kind_left_out(kind: FunctionKind) -> Option<&'static str>
     }
 }
 
-/// What of the functions of an imported interface is left out.
+/// What of the functions of an interface is left out.
 fn functions_left_out(functions: &Keyed<Text, Function>) -> Option<&'static str>
     ensures { option_copied result ≡ first_some (λ e. kind_left_out e.1.kind) functions.now }
 {
@@ -38,7 +38,7 @@ fn functions_left_out(functions: &Keyed<Text, Function>) -> Option<&'static str>
     None
 }
 
-/// What of an imported interface is left out.
+/// What of an interface is left out.
 fn interface_left_out(resolve: &Resolve, id: InterfaceId) -> Option<&'static str>
     requires sound { IsSound resolve.now }
     requires present { HasInterface resolve.now id }
@@ -47,13 +47,16 @@ fn interface_left_out(resolve: &Resolve, id: InterfaceId) -> Option<&'static str
     functions_left_out(&interface_of(resolve, id).functions)
 }
 
-fn export_item_left_out(key: &WorldKey, item: &WorldItem) -> Option<&'static str>
-    ensures { option_copied result ≡ export_item_left_out (key.now, item.now) }
+fn export_item_left_out(resolve: &Resolve, key: &WorldKey, item: &WorldItem) -> Option<&'static str>
+    requires sound { IsSound resolve.now }
+    requires present { HasEntry resolve.now (key.now, item.now) }
+    ensures { option_copied result ≡ export_item_left_out resolve.now (key.now, item.now) }
 {
     match (key, item) {
         (WorldKey::Name(_), WorldItem::Function(function)) => kind_left_out(function.kind),
+        (WorldKey::Interface(_), WorldItem::Function(_)) => Some("interface"),
+        (_, WorldItem::Interface(id)) => interface_left_out(resolve, *id),
         (_, WorldItem::NamedType(_)) => Some("type"),
-        _ => Some("interface"),
     }
 }
 
@@ -64,8 +67,7 @@ fn import_item_left_out(resolve: &Resolve, key: &WorldKey, item: &WorldItem) -> 
 {
     match (key, item) {
         (WorldKey::Name(_), WorldItem::NamedType(_)) => None,
-        (_, WorldItem::Interface(id)) => interface_left_out(resolve, *id),
-        _ => export_item_left_out(key, item),
+        _ => export_item_left_out(resolve, key, item),
     }
 }
 
@@ -85,12 +87,14 @@ fn imports_left_out(resolve: &Resolve, items: &Keyed<WorldKey, WorldItem>) -> Op
 }
 
 /// What of the exports of a world is left out; their keys are apart.
-fn exports_left_out(items: &Keyed<WorldKey, WorldItem>) -> Option<&'static str>
-    ensures reported { option_copied result ≡ first_some export_item_left_out items.now }
+fn exports_left_out(resolve: &Resolve, items: &Keyed<WorldKey, WorldItem>) -> Option<&'static str>
+    requires sound { IsSound resolve.now }
+    requires all_present { AllByRecursion (HasEntry resolve.now) items.now }
+    ensures reported { option_copied result ≡ first_some (export_item_left_out resolve.now) items.now }
     ensures apart { IsDistinct is_same_key (keys_of items.now) }
 {
     for (key, item) in items.iter() {
-        if let Some(what) = export_item_left_out(key, item) {
+        if let Some(what) = export_item_left_out(resolve, key, item) {
             return Some(what);
         }
     }
@@ -104,5 +108,5 @@ pub(crate) fn world_left_out(resolve: &Resolve, world: &World) -> Option<&'stati
     ensures reported { option_copied result ≡ world_left_out resolve.now world.now }
     ensures apart { ItemsApart world.now }
 {
-    imports_left_out(resolve, &world.imports).or(exports_left_out(&world.exports))
+    imports_left_out(resolve, &world.imports).or(exports_left_out(resolve, &world.exports))
 }

@@ -1,24 +1,29 @@
-//! Whether what a world imports is made of types that come before it, and lists types of its own.
+//! Whether what a world imports is made of types that come before it, and lists types of its own; and whether the
+//! interfaces that it exports are made of types without names alone.
 
-ghost use Rattle.std.specs.Prelude.{◌≡◌, ◌<◌, ◌==◌, false, length, map, Some, IfSome};
+ghost use Rattle.std.specs.Prelude.{◌≡◌, ◌<◌, ◌==◌, false, length, map, Some, IfSome, IfOk};
 ghost use Rattle.std.specs.List.{AllByRecursion, list_all};
 ghost use Rattle.std.specs.Option.{option_copied, option_map_or};
 ghost use Rattle.std.specs.Str.{bytes_eq};
 ghost use Rattle.wit_data.specs.Parts.{parts, RefersBack};
 ghost use Rattle.wit_data.specs.Sound.{IsSound, HasInterface, HasItem, HasEntry, HasTypeId, HasWorld};
 ghost use Rattle.wit_data.specs.Values.{kind_at};
+ghost use Rattle.world_values.specs.Mentions.{interface_types};
 ghost use Rattle.comp_worlds.specs.WorldContents.{interface_of_owner, interface_at, name_at};
 ghost use Rattle.supported_worlds.specs.LeftOut.{order_left_out};
-ghost use Rattle.supported_worlds.specs.Placed.{is_by, is_named_as, is_listed_as, is_listed_in, is_type_placed, are_types_placed, is_function_placed, is_own_type, ascend_from, is_interface_placed, is_root_type, is_item_placed, are_all_placed, is_world_placed};
+ghost use Rattle.supported_worlds.specs.Placed.{is_by, is_named_as, is_listed_as, is_listed_in, is_type_placed, are_types_placed, is_function_placed, is_own_type, ascend_from, is_interface_placed, is_root_type, is_item_placed, are_imports_placed, is_export_placed, are_exports_placed, is_world_placed};
 ghost use Rattle.supported_worlds.specs.PlaceTables.{ArePlaces, place_by};
+ghost use Rattle.supported_worlds.specs.Titles.{titles_of, is_plain};
 
 use crate::places::{Places, place_at, place_of_interface};
+use crate::titles::{are_plain, type_titles};
 use comp_lists::{Keyed, Text};
+use std::alloc::{AllocError, Global};
 use wit_data::{
     Function, InterfaceId, Param, Resolve, Type, TypeDef, TypeDefKind, TypeId, TypeOwner, World,
     WorldItem, WorldKey, kind_of, part_count_of, part_of,
 };
-use world_tables::interface_of;
+use world_tables::{interface_of, interface_types};
 
 /// Whether a part of a type has this place or an earlier one.
 fn is_by(places: &[usize], last: usize, part: Option<Type>) -> bool
@@ -285,43 +290,127 @@ fn are_items_placed(resolve: &Resolve, places: &Places, items: &Keyed<WorldKey, 
     true
 }
 
-/// Whether all types are placed, all imports and all exports.
-fn are_all_placed(resolve: &Resolve, places: &Places, world: &World) -> bool
+/// Whether all types are placed, and all imports.
+fn are_imports_placed(resolve: &Resolve, places: &Places, world: &World) -> bool
     requires sound { IsSound resolve.now }
     requires present { HasWorld resolve.now world.now }
-    ensures { result ≡ are_all_placed resolve.now places.now.types (place_by places.now.interfaces) places.now.interfaces.root world.now }
+    ensures { result ≡ are_imports_placed resolve.now places.now.types (place_by places.now.interfaces) places.now.interfaces.root world.now }
 {
     are_types_placed(resolve, places.types.as_slice())
         && are_items_placed(resolve, places, &world.imports)
-        && are_items_placed(resolve, places, &world.exports)
 }
 
-/// Whether what a world imports and exports is made of types of no later place.
-#[tactic(auto, using(crate::proofs::Testing::world_placed))]
-fn is_world_placed(resolve: &Resolve, places: &Places, world: &World) -> bool
+// ---- exports
+
+/// Whether no type that an interface names has a title, or is made of one that has.
+fn is_plain_interface(
+    alloc: Global,
+    resolve: &Resolve,
+    titles: &[bool],
+    id: InterfaceId,
+) -> Result<bool, AllocError>
     requires sound { IsSound resolve.now }
-    requires present { HasWorld resolve.now world.now }
-    requires places { ArePlaces resolve.now.types world.now.imports places.now }
-    ensures { result ≡ is_world_placed resolve.now world.now }
+    requires present { HasInterface resolve.now id }
+    ensures { IfOk result (λ plain. plain ≡ list_all (is_plain titles.now) (interface_types resolve.now id)) }
 {
-    let placed = are_all_placed(resolve, places, world);
-    placed
+    let named = interface_types(alloc, resolve, id)?;
+    let plain = are_plain(titles, named.as_slice());
+    Ok(plain)
 }
 
-/// What of the order of a world's imports is left out, by the places of its interfaces and types.
-pub(crate) fn order_left_out(
+fn is_export_placed(
+    alloc: Global,
+    resolve: &Resolve,
+    places: &Places,
+    titles: &[bool],
+    item: &WorldItem,
+) -> Result<bool, AllocError>
+    requires sound { IsSound resolve.now }
+    requires present { HasItem resolve.now item.now }
+    ensures { IfOk result (λ passes. passes ≡ is_export_placed resolve.now places.now.types titles.now (place_by places.now.interfaces) places.now.interfaces.root item.now) }
+{
+    match item {
+        WorldItem::Interface(id) => is_plain_interface(alloc, resolve, titles, *id),
+        WorldItem::Function(_) => Ok(is_item_placed(resolve, places, item)),
+        WorldItem::NamedType(_) => Ok(is_item_placed(resolve, places, item)),
+    }
+}
+
+/// Whether all exports are placed, by the table of titles.
+fn all_exports_placed(
+    alloc: Global,
+    resolve: &Resolve,
+    places: &Places,
+    titles: &[bool],
+    items: &Keyed<WorldKey, WorldItem>,
+) -> Result<bool, AllocError>
+    requires sound { IsSound resolve.now }
+    requires all_present { AllByRecursion (HasEntry resolve.now) items.now }
+    ensures { IfOk result (λ passes. passes ≡ list_all (λ e. is_export_placed resolve.now places.now.types titles.now (place_by places.now.interfaces) places.now.interfaces.root e.1) items.now) }
+{
+    for (_, item) in items.iter() {
+        if !is_export_placed(alloc, resolve, places, titles, item)? {
+            return Ok(false);
+        }
+    }
+    Ok(true)
+}
+
+/// Whether all exports are placed.
+fn are_exports_placed(
+    alloc: Global,
     resolve: &Resolve,
     places: &Places,
     world: &World,
-) -> Option<&'static str>
+) -> Result<bool, AllocError>
+    requires sound { IsSound resolve.now }
+    requires present { HasWorld resolve.now world.now }
+    ensures { IfOk result (λ passes. passes ≡ are_exports_placed resolve.now places.now.types (titles_of resolve.now.types) (place_by places.now.interfaces) places.now.interfaces.root world.now) }
+{
+    let titles = type_titles(alloc, resolve.types.as_slice())?;
+    let placed = all_exports_placed(alloc, resolve, places, titles.as_slice(), &world.exports)?;
+    Ok(placed)
+}
+
+// ---- the world
+
+/// Whether what a world imports and exports is made of types of no later place, and no interface that it exports of types
+/// with titles.
+#[tactic(auto, using(crate::proofs::Testing::imports_fail, crate::proofs::Testing::exports_decide))]
+fn is_world_placed(
+    alloc: Global,
+    resolve: &Resolve,
+    places: &Places,
+    world: &World,
+) -> Result<bool, AllocError>
     requires sound { IsSound resolve.now }
     requires present { HasWorld resolve.now world.now }
     requires places { ArePlaces resolve.now.types world.now.imports places.now }
-    ensures { option_copied result ≡ order_left_out resolve.now world.now }
+    ensures { IfOk result (λ passes. passes ≡ is_world_placed resolve.now world.now) }
 {
-    if is_world_placed(resolve, places, world) {
-        None
+    if !are_imports_placed(resolve, places, world) {
+        return Ok(false);
+    }
+    let placed = are_exports_placed(alloc, resolve, places, world)?;
+    Ok(placed)
+}
+
+/// What of the order of a world's imports is left out, and of the types of its exports, by the places of its interfaces and
+/// types.
+pub(crate) fn order_left_out(
+    alloc: Global,
+    resolve: &Resolve,
+    places: &Places,
+    world: &World,
+) -> Result<Option<&'static str>, AllocError>
+    requires sound { IsSound resolve.now }
+    requires present { HasWorld resolve.now world.now }
+    requires places { ArePlaces resolve.now.types world.now.imports places.now }
+    ensures { IfOk result (λ o. option_copied o ≡ order_left_out resolve.now world.now) }
+{
+    if is_world_placed(alloc, resolve, places, world)? {
+        Ok(None)
     } else {
-        Some("interface")
+        Ok(Some("interface"))
     }
 }

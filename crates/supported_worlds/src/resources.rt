@@ -12,7 +12,7 @@ use crate::places::place_at;
 use comp_lists::Keyed;
 use wit_data::{Resolve, Type, TypeDef, TypeDefKind, TypeId, TypeOwner, WorldItem, WorldKey};
 
-fn is_resource(def: &TypeDef) -> bool
+pub(crate) fn is_resource(def: &TypeDef) -> bool
     ensures { result ≡ is_resource def.now }
 {
     match &def.kind {

@@ -49,7 +49,10 @@ fn export_left_out(role: &Export) -> Option<&'static str>
         Export::WorldFunc(WorldKey::Name(_), _, AbiVariant::GuestExport) => None,
         Export::WorldFunc(_, _, AbiVariant::GuestExport) => Some("world-func"),
         Export::WorldFunc(..) => Some("async"),
+        Export::InterfaceFunc(_, _, _, AbiVariant::GuestExport) => None,
+        Export::InterfaceFunc(..) => Some("async"),
         Export::WorldFuncPostReturn(WorldKey::Name(_))
+        | Export::InterfaceFuncPostReturn(..)
         | Export::Memory(_)
         | Export::GeneralPurposeRealloc
         | Export::GeneralPurposeImportRealloc

@@ -96,11 +96,7 @@ fn add_functions(list: &mut Vec<Type>, functions: &Keyed<Text, Function>) -> Res
 }
 
 /// Adds the types of an interface, and those that its functions name.
-pub(crate) fn add_interface(
-    list: &mut Vec<Type>,
-    resolve: &Resolve,
-    id: InterfaceId,
-) -> Result<(), AllocError>
+fn add_interface(list: &mut Vec<Type>, resolve: &Resolve, id: InterfaceId) -> Result<(), AllocError>
     requires sound { IsSound resolve.now }
     requires present { HasInterface resolve.now id }
     ensures { OnOk result (list.new.items ≡ list.old.items ++ interface_types resolve.now id) }
@@ -108,6 +104,23 @@ pub(crate) fn add_interface(
     let interface = interface_of(resolve, id);
     add_types(list, &interface.types)?;
     add_functions(list, &interface.functions)
+}
+
+/// The types of an interface, and those that its functions name.
+#[tactic(auto, using(crate::proofs::Exists::listed_types_exist))]
+pub fn interface_types(
+    alloc: Global,
+    resolve: &Resolve,
+    id: InterfaceId,
+) -> Result<Vec<Type>, AllocError>
+    requires sound { IsSound resolve.now }
+    requires present { HasInterface resolve.now id }
+    ensures named { IfOk result (λ v. v.items ≡ interface_types resolve.now id) }
+    ensures all_present { IfOk result (λ v. AllByRecursion (λ t. HasType resolve.now (Some t)) v.items) }
+{
+    let mut named = Vec::new(alloc);
+    add_interface(&mut named, resolve, id)?;
+    Ok(named)
 }
 
 /// The stream or the future of the role of a core import.

@@ -6,9 +6,9 @@ ghost use Rattle.std.specs.Map.{lookup};
 ghost use Rattle.wit_data.specs.Live.{is_live, named_types};
 ghost use Rattle.wit_data.specs.Sound.{IsSound, HasInterface, HasItem, HasEntry, HasType};
 ghost use Rattle.world_values.specs.Tables.{with_all};
-ghost use Rattle.world_values.specs.Mentions.{same_interface, interface_types, interface_in, interfaces_of, live_entry, owner_in, owners_from, names_interface, used_entry, exports_used};
+ghost use Rattle.world_values.specs.Mentions.{same_interface, interface_in, interfaces_of, live_entry, owner_in, owners_from, names_interface, used_entry, exports_used};
 
-use crate::mentions::{add_interface, interface_of};
+use crate::mentions::{interface_of, interface_types};
 use comp_lists::{Keyed, Seq};
 use std::alloc::{AllocError, Global};
 use wit_data::{
@@ -158,19 +158,6 @@ fn owning(
     Ok(list)
 }
 
-/// The types of an interface, and those that its functions name.
-#[tactic(auto, using(crate::proofs::Exists::listed_types_exist))]
-fn given_by(alloc: Global, resolve: &Resolve, id: InterfaceId) -> Result<Vec<Type>, AllocError>
-    requires sound { IsSound resolve.now }
-    requires present { HasInterface resolve.now id }
-    ensures given { IfOk result (λ v. v.items ≡ interface_types resolve.now id) }
-    ensures all_present { IfOk result (λ v. AllByRecursion (λ t. HasType resolve.now (Some t)) v.items) }
-{
-    let mut given = Vec::new(alloc);
-    add_interface(&mut given, resolve, id)?;
-    Ok(given)
-}
-
 /// The interfaces to which the types belong that are reached from the given ones.
 #[tactic(auto, using(crate::proofs::Reaching::owners_are))]
 fn owners_among(
@@ -199,7 +186,7 @@ fn named_by(
     requires present { HasInterface resolve.now id }
     ensures { IfOk result (λ v. v.items ≡ filter (λ other. names_interface resolve.now id other && not (other.index == id.index)) all.now) }
 {
-    let given = given_by(alloc, resolve, id)?;
+    let given = interface_types(alloc, resolve, id)?;
     let owners = owners_among(alloc, resolve, given.as_slice())?;
     let named = owning(alloc, id, &owners, all)?;
     Ok(named)

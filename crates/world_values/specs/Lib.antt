@@ -1,3 +1,4 @@
 pub mod Tables
 pub mod Mentions
 pub mod Items
+pub mod CoreExports

@@ -1,7 +1,7 @@
 use Rattle.std.proofs.Common.{rules, ◌≡◌, ◌∙◌, ◌∷◌, ◌++◌, ℕ, List, [], Some, None, ap, subst, sym}
 use Rattle.std.specs.Option.{option_copied}
 use Rattle.comp_lists.specs.Found.{found}
-use Rattle.wit_data.specs.Names.{canonical_id_text, id_text}
+use Rattle.wit_data.specs.Names.{id_text}
 use Rattle.comp_encoder.specs.CanonicalNames.{IsSharedIn}
 use Rattle.comp_encoder.specs.NamesMet.{Meets}
 use Rattle.comp_encoder.proofs.MeetingNames.{name_added, name_met}

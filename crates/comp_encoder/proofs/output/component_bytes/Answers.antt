@@ -16,7 +16,7 @@ returns-in_err-check_if-clause-cause c =
 
 pub returns-clause-ok : goal.returns-clause-ok
 returns-clause-ok c =
-    made_of (naming_of c.args.names) c.args.world.now c.args.validate _ c.in_ok-component.component.defs c.requires c.in_ok-finish.ensures.ok c.in_ok-component.ensures.ok c.in_ok-check_if.ensures.ok
+    made_of (naming_of c.args.names) c.args.world.now c.args.validate _ c.in_ok-component.component.defs c.requires c.in_ok-check_names.ensures.ok c.in_ok-finish.ensures.ok c.in_ok-component.ensures.ok c.in_ok-check_if.ensures.ok
 
 pub returns-clause-refused : goal.returns-clause-refused
 returns-clause-refused c =

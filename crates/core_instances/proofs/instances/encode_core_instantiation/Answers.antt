@@ -1,4 +1,7 @@
-use Rattle.std.proofs.Common.{[], ◌∷◌, Option, ℕ, sym, subst}
+use Rattle.std.proofs.Common.{◌≡◌, ◌∙◌, [], ◌∷◌, Option, ℕ, ap, sym, subst}
+use Rattle.std.specs.Option.{option_copied}
+use Rattle.comp_roles.specs.Reallocs.{is_import_realloc, realloc_for}
+use Rattle.core_options.specs.MainOptions.{memory_name}
 use Rattle.std.specs.List.{AllByRecursion}
 use Rattle.comp_items.specs.Items.{Extends}
 use Rattle.comp_items.proofs.Extending.{extends_then}
@@ -48,10 +51,14 @@ encode_indirect_lowerings-requires-clause-sources c =
     let new = c.instantiate_main_module.new.root.items in
     let e = c.in_ok-shim_instance.ensures in
     let f = c.in_ok-instance.ensures in
-    let s : FillSources = record { functions = c.args.functions; instance = c.in_ok-instance.instance } in
+    let s : FillSources = record { functions = c.args.functions; options = record { instance = c.in_ok-instance.instance; memory = c.memory_name.result; realloc = c.import_realloc_for.result } } in
     let all : Extends old new = extends_then old mid new e.extends f.extends in
+    let world : c.instantiate_main_module.new.root.world ≡ c.args.root.now.world = ap (λ (r : Root). r.world) f.same ∙ ap (λ (r : Root). r.world) e.same in
+    let memory : option_copied c.memory_name.result ≡ memory_name c.args.root.now.world.now = subst (λ x. option_copied c.memory_name.result ≡ memory_name x.now) world c.memory_name.ensures in
+    let realloc : option_copied c.import_realloc_for.result ≡ realloc_for is_import_realloc c.args.root.now.world.now.main.exports.exports =
+    subst (λ x. option_copied c.import_realloc_for.result ≡ realloc_for is_import_realloc x.now.main.exports.exports) world c.import_realloc_for.ensures in
     subst (λ (r : Root). AreFillSources r.world.now s r.last_type new.defs r.maps r.instances) (sym f.same)
-    (subst (λ (r : Root). AreFillSources r.world.now s r.last_type new.defs r.maps r.instances) (sym e.same) (fills_after all s c.requires.made f.made))
+    (subst (λ (r : Root). AreFillSources r.world.now s r.last_type new.defs r.maps r.instances) (sym e.same) (fills_after all s c.requires.made f.made memory realloc))
 
 pub encode_indirect_lowerings-requires-clause-next : goal.encode_indirect_lowerings-requires-clause-next
 encode_indirect_lowerings-requires-clause-next c =

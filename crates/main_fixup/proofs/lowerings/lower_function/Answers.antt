@@ -12,21 +12,16 @@ use Rattle.main_fixup.specs.Filling.{IsBehind}
 use Rattle.main_fixup.proofs.Lowering.{behind-kept, lower_options_right, lowering_for, options_there}
 use Rattle.main_fixup.proofs.lowerings.lower_function.Goals as goal
 
-pub options_of_main-requires-clause-offered : goal.options_of_main-requires-clause-offered
-options_of_main-requires-clause-offered c =
-    let w = c.args.root.now.world.now in
-    subst (λ (o : Option (List ℕ)). IfSome o (OffersFunction w)) (sym c.import_realloc_for-realloc.ensures) (import_realloc_if_offered w c.requires.valid.valid)
-
 pub returns-clause-grows : goal.returns-clause-grows
 returns-clause-grows c =
     let w = c.args.root.now.world.now in
     let s = c.args.shim.now in
     let mid = c.options_of_main.new.root.items.defs in
-    let name = option_copied c.import_realloc_for-realloc.result in
+    let name = option_copied c.args.sources.now.realloc in
     let b : IsBehind w mid s c.args.encoding c.args.function = behind-kept w c.args.root.now.items.defs mid (longer c.in_ok-options.ensures.extends) s c.args.encoding c.args.function c.requires.behind in
     let one : Grows w mid c.lower_function.new.self.defs [] =
     Grows-by (defs.Item (items.Lower c.args.function c.in_ok-options.options)) (ap (λ (x : Built). x.defs) c.in_ok-index.ensures.adds.1)
-    (record { origin = b.is.origin; type = b.is.type; is = b.is.is }, lower_options_right w s c.args.encoding name c.import_realloc_for-realloc.ensures mid b.import b.stands c.in_ok-options.options c.in_ok-options.ensures.named) in
+    (record { origin = b.is.origin; type = b.is.type; is = b.is.is }, lower_options_right w s c.args.encoding name c.requires.realloc mid b.import b.stands c.in_ok-options.options c.in_ok-options.ensures.named) in
     Grows-then c.in_ok-options.ensures.grows one
 
 pub returns-clause-lowered : goal.returns-clause-lowered
@@ -34,12 +29,12 @@ returns-clause-lowered c =
     let w = c.args.root.now.world.now in
     let s = c.args.shim.now in
     let mid = c.options_of_main.new.root.items.defs in
-    let name = option_copied c.import_realloc_for-realloc.result in
+    let name = option_copied c.args.sources.now.realloc in
     let b : IsBehind w mid s c.args.encoding c.args.function = behind-kept w c.args.root.now.items.defs mid (longer c.in_ok-options.ensures.extends) s c.args.encoding c.args.function c.requires.behind in
     let named = c.in_ok-options.ensures.named in
-    lowering_for w s c.args.encoding name c.import_realloc_for-realloc.ensures mid c.lower_function.new.self.defs c.args.function c.in_ok-index.index c.in_ok-options.options b named
+    lowering_for w s c.args.encoding name c.requires.realloc mid c.lower_function.new.self.defs c.args.function c.in_ok-index.index c.in_ok-options.options b named
     (c.in_ok-index.ensures.lowered b.is.origin b.is.type named.terms b.is.is named.are)
 
 pub returns-clause-offered : goal.returns-clause-offered
 returns-clause-offered c =
-    options_there c.args.root.now.world.now c.args.shim.now (option_copied c.import_realloc_for-realloc.result) c.import_realloc_for-realloc.ensures c.in_ok-options.ensures.memory c.in_ok-options.ensures.realloc
+    options_there c.args.root.now.world.now c.args.shim.now (option_copied c.args.sources.now.realloc) c.requires.realloc c.in_ok-options.ensures.memory c.in_ok-options.ensures.realloc

@@ -1,4 +1,7 @@
-use Rattle.std.proofs.Common.{[], subst, sym}
+use Rattle.std.proofs.Common.{◌≡◌, [], subst, sym}
+use Rattle.std.specs.Option.{option_copied}
+use Rattle.comp_roles.specs.Reallocs.{is_import_realloc, realloc_for}
+use Rattle.core_options.specs.MainOptions.{AreOptionSources}
 use Rattle.comp_items.proofs.Kept.{instance-kept}
 use Rattle.comp_items.proofs.Remembering.{longer}
 use Rattle.comp_terms.specs.Rules.{Grows}
@@ -16,8 +19,18 @@ pub imported_function-requires-clause-used : goal.imported_function-requires-cla
 imported_function-requires-clause-used c =
     let k = c.in-IndirectLowering in called_used c.args.root.now.world.now c.args.shim.now c.requires.stands k.interface k.function k.realloc k.encoding k.is
 
-pub lower_function-requires-clause-made : goal.lower_function-requires-clause-made
-lower_function-requires-clause-made c = instance-kept (longer c.in_ok-index-in-IndirectLowering.ensures.extends) c.requires.sources.made
+pub lower_function-requires-clause-sources : goal.lower_function-requires-clause-sources
+lower_function-requires-clause-sources c =
+    let of = c.in_ok-index-in-IndirectLowering in
+    let ds = c.imported_function.new.root.items.defs in
+    let own = c.requires.sources.options in
+    let sources : AreOptionSources c.args.root.now.world.now ds c.args.sources.now.options = record { made = instance-kept (longer of.ensures.extends) own.made; memory = own.memory; offered = own.offered } in
+    subst (λ (r : Root). AreOptionSources r.world.now ds c.args.sources.now.options) (sym of.ensures.same) sources
+
+pub lower_function-requires-clause-realloc : goal.lower_function-requires-clause-realloc
+lower_function-requires-clause-realloc c =
+    let realloc = c.args.sources.now.options.realloc in
+    subst (λ (r : Root). option_copied realloc ≡ realloc_for is_import_realloc r.world.now.main.exports.exports) (sym c.in_ok-index-in-IndirectLowering.ensures.same) c.requires.sources.realloc
 
 pub lower_function-requires-clause-behind : goal.lower_function-requires-clause-behind
 lower_function-requires-clause-behind c =

@@ -26,6 +26,7 @@ pub returns : goal.returns
 returns c =
     record {
       count = c.loop-free.count;
+      few = omega (arith, c.loop-free.auto.count-fits);
       same = c.loop-free.invariant.same;
       is_free = found_taken c.args.taken.now c.loop-free.free false (sym c.contains_key.ensures ∙ c.loop-free-test.false);
       fewer = c.loop-free.invariant.fewer;

@@ -1,4 +1,4 @@
-use Rattle.std.proofs.Common.{rules, ◌≡◌, ap, ◌∙◌, filter, map, get_or, false}
+use Rattle.std.proofs.Common.{◌≡◌, ap, ◌∙◌, filter, map, get_or, false}
 use Rattle.wit_data.specs.Live.{named_types}
 use Rattle.wit_data.proofs.Marking.{if_ok}
 use Rattle.world_tables.proofs.reached.live_in.Goals as goal

@@ -5,6 +5,7 @@ use Rattle.comp_terms.specs.Rules.{Grows, ModuleIs, exports_marked, imports_mark
 use Rattle.core_instances.specs.Instances.{AddsInstances}
 use Rattle.comp_state.specs.Encoding.{Encoding, naming_in}
 use Rattle.comp_state.proofs.Building.{built_by_steps, marked_from}
+use Rattle.comp_state.proofs.Exports.{none_exported}
 use Rattle.comp_state.proofs.state.EncodingState.encode_all.Goals as goal
 
 pub encode_core_modules-requires : goal.encode_core_modules-requires
@@ -15,16 +16,29 @@ encode_core_modules-requires c =
     let marked : landmarks new.built.defs ≡ imports_marked n w = marked_from w c.args.self.now.built.defs new.built.defs (imports_marked n w) c.requires.empty c.in_ok-encode_imports.ensures.grows in
     marked ∙ ap₂ imports_marked (sym c.in_ok-encode_imports.ensures.names) (sym c.in_ok-encode_imports.ensures.world)
 
-pub returns-clause-built : goal.returns-clause-built
-returns-clause-built c =
+pub encode_exports-requires-clause-none : goal.encode_exports-requires-clause-none
+encode_exports-requires-clause-none c =
     let w : ComponentWorld = c.args.self.now.world in
     let first : c.encode_imports.new.self.world ≡ w = c.in_ok-encode_imports.ensures.world in
     let second : c.encode_core_modules.new.self.world ≡ w = ap (λ (e : Encoding). e.world) c.in_ok-encode_core_modules.ensures.same ∙ first in
-    let third : c.encode_core_instantiation.new.self.world ≡ w = c.in_ok-encode_core_instantiation.ensures.world ∙ second in
     let main : Grows w c.encode_imports.new.self.built.defs c.encode_core_modules.new.self.built.defs (ModuleIs w.main.bytes ∷ []) = rw (← first) c.in_ok-encode_core_modules.ensures.grows in
     let instances : AddsInstances w c.encode_core_modules.new.self.built.defs c.encode_core_instantiation.new.self.built.defs = rw (← second) c.in_ok-encode_core_instantiation.ensures.added in
-    let exports : Grows w c.encode_core_instantiation.new.self.built.defs c.encode_exports.new.self.built.defs (exports_marked w) = rw (← third) c.in_ok-encode_exports.ensures.grows in
-    built_by_steps (naming_in c.args.self.now) w c.args.self.now.built.defs c.encode_imports.new.self.built.defs c.encode_core_modules.new.self.built.defs c.encode_core_instantiation.new.self.built.defs c.encode_exports.new.self.built.defs c.requires.empty
+    none_exported (naming_in c.args.self.now) w c.args.self.now.built.defs c.encode_imports.new.self.built.defs c.encode_core_modules.new.self.built.defs c.encode_core_instantiation.new.self.built.defs c.requires.empty
+    c.in_ok-encode_imports.ensures.grows main instances
+
+pub returns-clause-built : goal.returns-clause-built
+returns-clause-built c =
+    let w : ComponentWorld = c.args.self.now.world in
+    let n : Naming = naming_in c.args.self.now in
+    let first : c.encode_imports.new.self.world ≡ w = c.in_ok-encode_imports.ensures.world in
+    let second : c.encode_core_modules.new.self.world ≡ w = ap (λ (e : Encoding). e.world) c.in_ok-encode_core_modules.ensures.same ∙ first in
+    let third : c.encode_core_instantiation.new.self.world ≡ w = c.in_ok-encode_core_instantiation.ensures.world ∙ second in
+    let named : naming_in c.encode_core_instantiation.new.self ≡ n =
+    c.in_ok-encode_core_instantiation.ensures.names ∙ (ap (λ (e : Encoding). naming_in e) c.in_ok-encode_core_modules.ensures.same ∙ c.in_ok-encode_imports.ensures.names) in
+    let main : Grows w c.encode_imports.new.self.built.defs c.encode_core_modules.new.self.built.defs (ModuleIs w.main.bytes ∷ []) = rw (← first) c.in_ok-encode_core_modules.ensures.grows in
+    let instances : AddsInstances w c.encode_core_modules.new.self.built.defs c.encode_core_instantiation.new.self.built.defs = rw (← second) c.in_ok-encode_core_instantiation.ensures.added in
+    let exports : Grows w c.encode_core_instantiation.new.self.built.defs c.encode_exports.new.self.built.defs (exports_marked n w) = rw (← third, ← named) c.in_ok-encode_exports.ensures.grows in
+    built_by_steps n w c.args.self.now.built.defs c.encode_imports.new.self.built.defs c.encode_core_modules.new.self.built.defs c.encode_core_instantiation.new.self.built.defs c.encode_exports.new.self.built.defs c.requires.empty
     c.in_ok-encode_imports.ensures.grows main instances exports
 
 pub returns-clause-encoded : goal.returns-clause-encoded

@@ -24,12 +24,12 @@ encode_core_instantiation-requires-clause-alone c = subst (λ (e : Encoding). Is
 pub invariant_of-self : goal.invariant_of-self
 invariant_of-self c =
     let in' = c.self.inside in
-    subst (λ (r : Root). IsEncoding r.world.now r.last_type c.encode_core_instantiation.new.root.items.defs r.maps r.instances in'.step in'.functions in'.core_names in'.main) (sym c.in_err-main.ensures.same) (encoding-kept c.in_err-main.ensures.extends c.self.invariant)
+    subst (λ (r : Root). IsEncoding r.world.now r.last_type c.encode_core_instantiation.new.root.items.defs r.maps r.instances in'.step in'.functions in'.main) (sym c.in_err-main.ensures.same) (encoding-kept c.in_err-main.ensures.extends c.self.invariant)
 
 pub invariant_of-self-2 : goal.invariant_of-self-2
 invariant_of-self-2 c =
     let in' = c.self.inside in
-    subst (λ (r : Root). IsEncoding r.world.now r.last_type c.encode_core_instantiation.new.root.items.defs r.maps r.instances Instantiated in'.functions in'.core_names (Some c.in_ok-main.main)) (sym c.in_ok-main.ensures.same)
+    subst (λ (r : Root). IsEncoding r.world.now r.last_type c.encode_core_instantiation.new.root.items.defs r.maps r.instances Instantiated in'.functions (Some c.in_ok-main.main)) (sym c.in_ok-main.ensures.same)
     (encoding-instantiated c.in_ok-main.main c.in_ok-main.ensures.extends (subst (λ (e : Encoding). AreImported e.step) (sym c.self.view_is) c.requires.imported) c.in_ok-main.ensures.made c.self.invariant)
 
 pub returns-clause-added : goal.returns-clause-added

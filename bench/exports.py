@@ -1,0 +1,59 @@
+"""Times encoding worlds that export functions and interfaces, beside the crate (beside.py): exports.py PROGRAM FOLDER."""
+import sys
+
+from beside import table
+from modules import with_memory
+
+I32 = b"\x7f"
+TEXT = [["s", "string"]]
+MEMORY = [{"field": "memory", "role": ["memory"]}, {"field": "cabi_realloc", "role": ["realloc"]}]
+
+
+def exporting(names):
+    """A module whose exports of these names take a text. It imports a function that does too."""
+    return with_memory([("$root", "f")], b"\2" + I32 * 2, b"\0", names)
+
+
+IMPORTED = {
+    "imports": [{"func": {"name": "f", "params": TEXT}}],
+    "core-imports": [{"module": "$root", "field": "f", "role": ["world-func", "f", "sync"]}],
+}
+IMPORT = "import f: func(s: string);\n"
+
+
+def exported_functions(count):
+    names = [f"g{n}" for n in range(count)]
+    record = {
+        **IMPORTED,
+        "exports": [{"func": {"name": name, "params": TEXT}} for name in names],
+        "core-exports": MEMORY + [{"field": name, "role": ["world-func", name, "sync"]} for name in names],
+    }
+    return exporting(names), record, IMPORT + "".join(f"export {name}: func(s: string);\n" for name in names), ""
+
+
+def functions_of_an_interface(count):
+    names = [f"g{n}" for n in range(count)]
+    record = {
+        **IMPORTED,
+        "interfaces": [{"id": "a:b/i", "types": [], "functions": [{"name": name, "params": TEXT} for name in names]}],
+        "exports": [{"interface": 0}],
+        "core-exports": MEMORY + [{"field": f"a:b/i#{name}", "role": ["interface-func", 0, name, "sync"]} for name in names],
+    }
+    functions = "".join(f"{name}: func(s: string);\n" for name in names)
+    return exporting([f"a:b/i#{name}" for name in names]), record, IMPORT + "export i;", f"interface i {{\n{functions}}}\n"
+
+
+def interfaces_with_a_function(count):
+    names = [f"i{n}" for n in range(count)]
+    record = {
+        **IMPORTED,
+        "interfaces": [{"id": f"a:b/{name}", "types": [], "functions": [{"name": "f", "params": TEXT}]} for name in names],
+        "exports": [{"interface": n} for n in range(count)],
+        "core-exports": MEMORY + [{"field": f"a:b/{name}#f", "role": ["interface-func", n, "f", "sync"]} for n, name in enumerate(names)],
+    }
+    interfaces = "".join(f"interface {name} {{ f: func(s: string); }}\n" for name in names)
+    world = IMPORT + "".join(f"export {name};\n" for name in names)
+    return exporting([f"a:b/{name}#f" for name in names]), record, world, interfaces
+
+
+table(*sys.argv[1:], [exported_functions, functions_of_an_interface, interfaces_with_a_function])

@@ -1,0 +1,122 @@
+-- The instances of nested components, and what the component exports: functions, and such instances in the place of
+-- interfaces (component model, explainer: instance definitions, export definitions).
+use Rattle.std.specs.Prelude.{◌≡◌, ◌<◌, ◌&&◌, ℕ, List, [], ◌∷◌, length, map, get_or, slice_get, Option, Some, None, if◌then◌else◌}
+use Rattle.std.specs.List.{AllByRecursion, IsDistinct, flat_map}
+use Rattle.std.specs.Str.{bytes_eq}
+use Rattle.comp_bytes.specs.ItemIndices.{IsAt}
+use Rattle.comp_bytes.specs.ScopeNames.{def_export}
+use Rattle.comp_bytes.specs.Spaces.{is_space, items_in, sort_space}
+use Rattle.comp_bytes.specs.declared.space.Sort.{Sort}
+use Rattle.comp_bytes.specs.declared.space.Sort.TheVariants as sorts
+use Rattle.comp_bytes.specs.declared.space.Space.TheVariants as spaces
+use Rattle.comp_bytes.specs.declared.def.Argument.{Argument}
+use Rattle.comp_bytes.specs.declared.def.Item.{Item}
+use Rattle.comp_bytes.specs.declared.def.Item.TheVariants as items
+use Rattle.comp_bytes.specs.declared.def.Def.{Def}
+use Rattle.comp_bytes.specs.declared.def.Def.TheVariants as defs
+use Rattle.wit_data.specs.declared.functions.Function.{Function as WitFunction}
+use Rattle.wit_data.specs.declared.ids.InterfaceId.{InterfaceId}
+use Rattle.wit_data.specs.declared.worlds.WorldItem.TheVariants as world_items
+use Rattle.wit_data.specs.declared.worlds.WorldKey.{WorldKey}
+use Rattle.comp_trees.specs.DefinedTrees.{TypeTree}
+use Rattle.comp_trees.specs.DefinedScopes.{Denotes}
+use Rattle.comp_trees.specs.Inventories.{inventory, scope_of, no_function}
+use Rattle.nested_terms.specs.Nested.{NestedFunction, NestedImport, ImportedFunction, ImportedType, NestedExport, empty_scope, function_named, imports_after, exports_after, AreItemsRight}
+use Rattle.comp_worlds.specs.WorldContents.{exported_item, function_exported}
+use Rattle.comp_worlds.specs.declared.world.ComponentWorld.{ComponentWorld}
+use Rattle.comp_links.specs.Links.{lift_of}
+use Rattle.comp_links.specs.Lists.{RequiredFunction, functions_required}
+use Rattle.comp_links.specs.Targets.{Main, Target}
+use Rattle.comp_terms.specs.Planned.{type_of_function, IsLiftFor}
+
+-- the items of a nested component are right, where some types are given for its imports
+pub record IsNestedRight (definitions : List Item) : Type 0 where
+  pub given : List ℕ → TypeTree
+  pub right : AreItemsRight given empty_scope definitions
+
+-- ---- arguments
+
+-- the first argument of this sort and this name
+abbrev pub argument_named : Sort → List ℕ → List Argument → Option Argument
+argument_named sort name [] = None
+argument_named sort name (a ∷ more) = if is_space (sort_space sort) (Some (sort_space a.sort)) && bytes_eq name a.name then Some a else argument_named sort name more
+
+-- the import of a function is given a function of its type
+pub record IsFunctionGiven (earlier : List Def) (arguments : List Argument) (name : List ℕ) (type : TypeTree) : Type 0 where
+  pub argument : Argument
+  pub named : argument_named sorts.Func name arguments ≡ Some argument
+  pub typed : (get_or (inventory earlier).functions argument.index no_function).type ≡ type
+
+-- the import of a type is given a type that denotes this
+pub record IsTypeGiven (earlier : List Def) (arguments : List Argument) (name : List ℕ) (tree : TypeTree) : Type 0 where
+  pub argument : Argument
+  pub named : argument_named sorts.Type name arguments ≡ Some argument
+  pub denotes : Denotes (scope_of earlier) argument.index tree
+
+abbrev pub IsImportGiven : List Def → List Argument → NestedImport → Type 0
+IsImportGiven earlier arguments (ImportedFunction name type) = IsFunctionGiven earlier arguments name type
+IsImportGiven earlier arguments (ImportedType name tree) = IsTypeGiven earlier arguments name tree
+
+-- an argument is an earlier function or an earlier type
+abbrev pub IsArgumentIn : List Def → Sort → ℕ → Type 0
+IsArgumentIn earlier sorts.Func index = index < items_in spaces.Func earlier
+IsArgumentIn earlier sorts.Type index = index < items_in spaces.Type earlier
+IsArgumentIn earlier sort index = ⊥
+
+abbrev pub IsArgumentRight : List Def → Argument → Type 0
+IsArgumentRight earlier a = IsArgumentIn earlier a.sort a.index
+
+-- a nested component is instantiated: it is right, and each of its imports is given an argument
+pub record InstantiatesNested (earlier : List Def) (component : ℕ) (arguments : List Argument) : Type 0 where
+  pub definitions : List Item
+  pub given : List ℕ → TypeTree
+  pub made : IsAt earlier spaces.Component component (defs.Component definitions)
+  pub scoped : AllByRecursion (IsArgumentRight earlier) arguments
+  pub apart : IsDistinct bytes_eq (map (λ a. a.name) arguments)
+  pub right : AreItemsRight given empty_scope definitions
+  pub each : AllByRecursion (IsImportGiven earlier arguments) (imports_after given empty_scope definitions)
+
+-- ---- exports
+
+-- the number of exports among these definitions
+abbrev pub exports_in : List Def → ℕ
+exports_in ds = length (flat_map def_export ds)
+
+-- the function of this index is the lift that the link table names for a required function, with its type
+pub record IsRequiredLift (w : ComponentWorld) (ds : List Def) (r : RequiredFunction) (index : ℕ) : Type 0 where
+  pub target : Target
+  pub wit : WitFunction
+  pub said : lift_of w r ≡ Some target
+  pub exported : function_exported w r.key r.function ≡ Some wit
+  pub is : IsLiftFor w ds index target (type_of_function w wit)
+
+-- the next required export is a function, and the function of this index is its lift
+pub record ExportsFunction (w : ComponentWorld) (earlier : List Def) (index : ℕ) : Type 0 where
+  pub key : WorldKey
+  pub function : WitFunction
+  pub next : slice_get w.main_exports (exports_in earlier) ≡ Some key
+  pub item : exported_item w key ≡ Some (world_items.Function function)
+  pub lifted : IsRequiredLift w earlier (record { of = Main; key = key; function = function.name }) index
+
+-- an instance of a nested component that was given these arguments, and exports this, exports the lift of a required function
+-- under the name of the function
+pub record PassesOn (w : ComponentWorld) (ds : List Def) (arguments : List Argument) (exported : List NestedExport) (r : RequiredFunction) : Type 0 where
+  pub function : NestedFunction
+  pub argument : Argument
+  pub found : function_named r.function exported ≡ Some function
+  pub named : argument_named sorts.Func function.argument arguments ≡ Some argument
+  pub lifted : IsRequiredLift w ds r argument.index
+
+-- the next required export is an interface, and the instance of this index exports the lift of each of its functions
+pub record ExportsInterface (w : ComponentWorld) (earlier : List Def) (index : ℕ) : Type 0 where
+  pub key : WorldKey
+  pub id : InterfaceId
+  pub next : slice_get w.main_exports (exports_in earlier) ≡ Some key
+  pub item : exported_item w key ≡ Some (world_items.Interface id)
+  pub component : ℕ
+  pub arguments : List Argument
+  pub definitions : List Item
+  pub given : List ℕ → TypeTree
+  pub instance : IsAt earlier spaces.Instance index (defs.Item (items.Instantiate component arguments))
+  pub made : IsAt earlier spaces.Component component (defs.Component definitions)
+  pub each : AllByRecursion (PassesOn w earlier arguments (exports_after given empty_scope definitions)) (functions_required w (record { of = Main; key = key }))

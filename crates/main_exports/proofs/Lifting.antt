@@ -1,0 +1,76 @@
+-- What a lift adds, and the causes of its refusal among all functions.
+use Rattle.std.proofs.Common.{◌≡◌, ◌∙◌, ℕ, List, [], ◌∷◌, ◌++◌, refl, ap, sym, subst, Contains, Some, None, Option, Bor}
+use Rattle.std.specs.List.{AllZip, slice_get}
+use Rattle.std.specs.Option.{option_copied, option_map}
+use Rattle.standard_kinds.specs.declared.kinds.ExportKind.TheVariants as kinds
+use Rattle.comp_bytes.specs.declared.canon.CanonicalOption.{CanonicalOption}
+use Rattle.comp_bytes.specs.declared.def.Def.{Def}
+use Rattle.comp_bytes.specs.declared.def.Def.TheVariants as defs
+use Rattle.comp_bytes.specs.declared.def.Item.TheVariants as items
+use Rattle.comp_bytes.proofs.ItemIndices.{in_range}
+use Rattle.comp_trees.specs.Trees.{FunctionTree}
+use Rattle.comp_trees.specs.DefinedTrees.{OfFunctions}
+use Rattle.comp_trees.specs.Inventories.{inventory}
+use Rattle.comp_roles.specs.declared.metadata.FunctionKey.{FunctionKey}
+use Rattle.wit_data.specs.declared.functions.Function.{Function}
+use Rattle.comp_worlds.specs.WorldContents.{function_exported}
+use Rattle.comp_worlds.specs.declared.world.ComponentWorld.{ComponentWorld}
+use Rattle.comp_links.specs.Links.{lift_options}
+use Rattle.comp_links.specs.Lists.{RequiredFunction}
+use Rattle.comp_links.specs.Targets.{Main, Lifted}
+use Rattle.comp_terms.specs.Planned.{type_of_function}
+use Rattle.comp_terms.specs.Rules.{Grows}
+use Rattle.comp_terms.specs.Terms.{CoreExport, TermOption, IsExported, IsFunctionType, IsLifting, IsOption}
+use Rattle.root_imports.specs.Growing.{Grows-by}
+use Rattle.core_options.specs.Causes.{IsCauseAmong}
+use Rattle.core_options.specs.MainOptions.{of_main, NameOptions}
+use Rattle.core_options.specs.declared.fault.StateFault.{StateFault}
+use Rattle.core_options.proofs.Offered.{main_module}
+use Rattle.core_options.proofs.OptionTerms.{options_right}
+use Rattle.core_options.proofs.Refusals.{among_more}
+use Rattle.interface_needs.proofs.Lists.{contains_none, contains_one}
+use Rattle.main_exports.specs.Exports.{main_function, IsEntryOf, IsTypedLift}
+
+pub record AddsLift (w : ComponentWorld) (old new : List Def) (f : FunctionKey) (function : Function) (index : ℕ) : Type 0 where
+  pub grows : Grows w old new []
+  pub lifted : IsTypedLift w new f function index
+
+pub adds_lift : (w : ComponentWorld) (old new : List Def) (core kind index : ℕ) (options : List CanonicalOption) (f : FunctionKey) (function : Function) → NameOptions w old options (lift_options w (main_function f)) →
+    IsEntryOf w old f core → IsFunctionType old kind (type_of_function w function) → function_exported w f.key f.function ≡ Some function →
+    new ≡ old ++ defs.Item (items.Lift core options kind) ∷ [] →
+    ((entry : CoreExport) (written : List TermOption) (type : FunctionTree) → entry.kind ≡ kinds.Func → IsExported old core entry → AllZip (IsOption old) options written → IsFunctionType old kind type → IsLifting new index entry written type) →
+    ((type : FunctionTree) → IsFunctionType old kind type → slice_get (inventory new).functions index ≡ Some (record { origin = None; type = OfFunctions type })) →
+    AddsLift w old new f function index
+adds_lift w old new core kind index options f function fit entry typed exported appended lifts made = record {
+  grows = Grows-by (defs.Item (items.Lift core options kind)) appended (in_range entry.alias.made, options_right w old options fit.terms fit.are, record { type = type_of_function w function; is = typed });
+  lifted = record {
+    lifted = record {
+      target = Lifted (record { of = Main; name = entry.name }) (lift_options w (main_function f));
+      wit = function;
+      said = ap (option_map (λ n. Lifted (record { of = Main; name = n }) (lift_options w (main_function f)))) entry.said;
+      exported = exported;
+      is = record {
+        entry = of_main kinds.Func entry.name;
+        options = fit.terms;
+        is = lifts (of_main kinds.Func entry.name) fit.terms (type_of_function w function) refl entry.alias fit.are typed;
+        asked = (record { of = record { world_module = main_module w; listed = refl; same = refl }; named = refl }, fit.asked);
+      };
+    };
+    entry = made (type_of_function w function) typed;
+  };
+}
+
+-- a cause among no functions is one among any
+pub among_any : (w : ComponentWorld) (fs : List RequiredFunction) (e : StateFault) → IsCauseAmong w [] [] e → IsCauseAmong w [] fs e
+among_any w fs e h = among_more w [] [] [] fs (λ x c. contains_none x c) (λ r c. contains_none r c) e h
+
+-- and one of one of the functions is one among them
+pub among_one : (w : ComponentWorld) (r : RequiredFunction) (fs : List RequiredFunction) (e : StateFault) → Contains fs r → IsCauseAmong w [] (r ∷ []) e → IsCauseAmong w [] fs e
+among_one w r fs e there h = among_more w [] [] (r ∷ []) fs (λ x c. contains_none x c) (λ k c. subst (Contains fs) (contains_one r k c) there) e h
+
+-- a look-up that finds nothing, and one that finds something, as its caller sees it
+pub none_there : {X : Type 0} (o : Option (Bor X)) {found : Option X} → o ≡ None → option_copied o ≡ found → found ≡ None
+none_there o is same = sym same ∙ ap option_copied is
+
+pub unwrapped : {X : Type 0} (o : Option (Bor X)) (b : Bor X) → o ≡ Some b → option_copied o ≡ Some b.now
+unwrapped o b is = ap option_copied is
