@@ -5,6 +5,7 @@ ghost use Rattle.std.specs.Option.{option_copied};
 ghost use Rattle.std.specs.Map.{lookup, keys_of};
 ghost use Rattle.std.specs.Map.Iter.{ShowsInOrder, deref_pair};
 ghost use Rattle.std.specs.List.{IsDistinct};
+ghost use Rattle.indexmap.specs.IndexMap.{swap_remove_entry};
 ghost use Rattle.comp_lists.specs.Tables.{with_first};
 
 use indexmap::IndexMap;
@@ -90,5 +91,12 @@ impl<K: Eq + Hash + Drop, V: Drop> Keyed<K, V> {
             return Ok(());
         }
         self.insert(key, value)
+    }
+
+    /// Removes the entry of a key, if it has one: the last entry takes its place.
+    pub fn remove(&mut self, key: &K)
+        ensures { self.new ≡ swap_remove_entry (K.eq key.now) self.old }
+    {
+        let _ = self.map.swap_remove(key);
     }
 }

@@ -72,3 +72,21 @@ fn tables_keep_their_order(rt: HostRuntime) {
     let values = kept_in_order(rt.alloc()).expect(&rt, "memory");
     assert_eq!(rt; values.as_slice(), [1, 3].as_slice());
 }
+
+/// The values at `a` and at `b` in a table that had three entries, after that of `b` was removed.
+fn left_in_table(alloc: Global) -> Result<(Option<u32>, Option<u32>), AllocError> {
+    let mut table: Keyed<Text, u32> = Keyed::new(alloc);
+    let b = Text::from_str(alloc, "b")?;
+    table.insert_if_absent(b.clone(alloc)?, 1)?;
+    table.insert_if_absent(Text::from_str(alloc, "c")?, 2)?;
+    let a = Text::from_str(alloc, "a")?;
+    table.insert_if_absent(a.clone(alloc)?, 3)?;
+    table.remove(&b);
+    Ok((table.get(&a).copied(), table.get(&b).copied()))
+}
+
+#[test]
+fn an_entry_is_removed(rt: HostRuntime) {
+    let left = left_in_table(rt.alloc()).expect(&rt, "memory");
+    assert!(rt; left == (Some(3), None));
+}

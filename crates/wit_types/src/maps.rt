@@ -2,6 +2,7 @@
 
 ghost use Rattle.std.specs.Prelude.{◌≡◌, OnOk, OnErr};
 ghost use Rattle.std.specs.Map.{lookup};
+ghost use Rattle.indexmap.specs.IndexMap.{swap_remove_entry};
 ghost use Rattle.comp_lists.specs.Tables.{with_first};
 ghost use Rattle.wit_types.specs.Maps.{no_maps};
 
@@ -101,5 +102,13 @@ impl TypeEncodingMaps {
         ensures err { OnErr result (self.new ≡ self.old) }
     {
         self.func_type_map.insert_if_absent(key, index)
+    }
+
+    /// Forgets a type that was met: its index, and that of the types without a name of its kind.
+    pub fn forget(&mut self, id: TypeId, kind: &TypeDefKind)
+        ensures { self.new ≡ record self.old { id_to_index = swap_remove_entry (⟦<TypeId as PartialEq>⟧.eq id) self.old.id_to_index; def_to_index = swap_remove_entry (⟦<TypeDefKind as PartialEq>⟧.eq kind.now) self.old.def_to_index } }
+    {
+        self.id_to_index.remove(&id);
+        self.def_to_index.remove(kind);
     }
 }
